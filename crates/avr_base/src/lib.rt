@@ -1,0 +1,16 @@
+//! What every part of the simulated ATmega128 shares: register numbers, the flags byte SREG, the causes that stop a
+//! node, and the answer to want of memory.
+#![tactic(auto)]
+
+mod memory;
+mod reg;
+mod sreg;
+mod stop;
+
+pub use memory::NoMemory;
+pub use reg::Reg;
+pub use sreg::Sreg;
+pub use stop::StopCause;
+
+#[cfg(test)]
+mod tests;

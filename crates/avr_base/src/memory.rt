@@ -1,0 +1,12 @@
+// The answer to want of memory.
+use std::alloc::AllocError;
+
+/// An allocation was refused. Calls that answer it say what state they leave.
+#[derive(Clone, Copy, Debug, PartialEq, Eq)]
+pub struct NoMemory;
+
+impl From<AllocError> for NoMemory {
+    fn from(_error: AllocError) -> Self {
+        NoMemory
+    }
+}
