@@ -15,7 +15,7 @@ use Rattle.trace_rows.specs.declared.row.Kind.TheVariants as kind
 use Rattle.trace_rows.specs.declared.row.NodeEnd.{NodeEnd}
 use Rattle.trace_rows.specs.declared.row.NodeEnd.TheVariants as end
 use Rattle.world_core.specs.declared.air.Heard.{Heard}
-use Rattle.world_core.specs.Kind.{Kind}
+use Rattle.world_core.specs.NodeKind.{NodeKind}
 use Rattle.node_core.specs.declared.bus.NodeBus.{NodeBus}
 use Rattle.node_core.specs.State.{NodeState}
 use Rattle.node_core.specs.Execute.{executed}
@@ -119,7 +119,7 @@ abbrev pub end_row : ℕ → NodeState → Row
 end_row limit s = record { cycle = limit; node = s.number; kind = kind.End (end_of s) s.count }
 
 -- the node, as the order of all nodes sees it
-abbrev pub node_kind : Kind NodeState Row
+abbrev pub node_kind : NodeKind NodeState Row
 node_kind = record {
   asks = asks_in;
   sends = sends_in;

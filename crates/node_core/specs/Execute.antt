@@ -6,8 +6,8 @@ use Rattle.avr_base.specs.declared.stop.StopCause.{StopCause}
 use Rattle.avr_base.specs.declared.stop.StopCause.TheVariants as stop
 use Rattle.avr_decoder.specs.declared.op.Op.{Op}
 use Rattle.avr_decoder.specs.declared.op.Op.TheVariants as op
-use Rattle.avr_decoder.specs.declared.classify.Class.{Class}
-use Rattle.avr_decoder.specs.declared.classify.Class.TheVariants as class
+use Rattle.avr_decoder.specs.declared.op.Class.{Class}
+use Rattle.avr_decoder.specs.declared.op.Class.TheVariants as class
 use Rattle.avr_decoder.specs.Class.{class_of}
 use Rattle.data_space.specs.declared.cpu.Cpu.{Cpu}
 use Rattle.data_space.specs.declared.bus.Done.{Done}

@@ -1,8 +1,6 @@
 // A node that no link reaches.
 ghost use Rattle.std.specs.Prelude.{◌≡◌, ◌≤◌, ◌^◌, IfOk, OnOk, false};
-ghost use Rattle.node_core.specs.Cycle.{node_kind};
-ghost use Rattle.node_core.specs.Alone.{alone, alone_rows, node_rows, Stands};
-ghost use Rattle.node_core.specs.State.{NodeState};
+ghost use Rattle.node_core.specs.Alone.{node_rows, Went};
 
 use crate::{Node, Reached};
 use avr_base::NoMemory;
@@ -22,7 +20,7 @@ fn pass(node: &mut Node, limit: u64) -> Result<(), NoMemory>
     requires early { limit ≤ 2 ^ 40 }
     requires ahead { node.old.cycle ≤ limit }
     requires calm { node.old.asking ≡ false }
-    ensures { OnOk result ((start : NodeState) → Stands start node.old → Stands start record { cycle = limit; asking = false; state = node.new.state; rows = node.new.rows }) }
+    ensures { OnOk result (Went node.old limit node.new.state node.new.rows) }
 {
     while node.cycle() < limit {
         match node.run_until(limit) {
@@ -45,6 +43,7 @@ pub fn run_alone(alloc: Global, flash: Flash, cycles: u64) -> Result<Vec<Row>, N
     pass(&mut node, cycles)?;
     let end = node.end_row(cycles);
     let mut rows = node.into_rows();
-    rows.push(end)?;
+    rows.reserve(1)?;
+    rows.push_reserved(end);
     Ok(rows)
 }

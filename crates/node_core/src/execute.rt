@@ -1,11 +1,11 @@
 // The effect of an instruction, by its class.
-ghost use Rattle.std.specs.Prelude.{◌≡◌, Ok};
+ghost use Rattle.std.specs.Prelude.{◌≡◌, false};
 ghost use Rattle.avr_decoder.specs.Class.{class_of};
 ghost use Rattle.node_core.specs.Execute.{executed, flow_executed, memory_executed};
 
 use crate::NodeBus;
 use avr_base::StopCause;
-use avr_decoder::{Class, Op, class};
+use avr_decoder::{Class, Op};
 use data_space::{Bus, Cpu, Done};
 
 // An instruction that took so many cycles and was not SLEEP.
@@ -59,7 +59,7 @@ pub fn execute(op: Op, cpu: &mut Cpu, bus: &mut NodeBus) -> Result<Done, StopCau
     ensures cpu { cpu.new ≡ (executed op cpu.old bus.old).cpu }
     ensures bus { bus.new ≡ (executed op cpu.old bus.old).bus }
 {
-    match class(op) {
+    match op.class() {
         Class::Arith => Ok(arith_step::exec(op, cpu)),
         Class::Flow => flow(op, cpu, bus),
         Class::Memory => memory(op, cpu, bus),

@@ -1,6 +1,6 @@
 // The inside of a node.
 ghost use Rattle.std.specs.Prelude.{◌≡◌, ◌<◌, ◌≤◌, ◌+◌, ◌^◌, ◌++◌, ◌&&◌, nat_le, nat_lt, if◌then◌else◌, [], ◌∷◌, None, OnOk, OnErr, vec_len, vec_capacity, ◌||◌};
-ghost use Rattle.world_core.specs.Kind.{AllQuiet, passed, passed_rows};
+ghost use Rattle.world_core.specs.NodeRun.{AllQuiet, passed, passed_rows};
 ghost use Rattle.node_core.specs.Cycle.{node_kind, is_sei, owes, op_now, instructed, instructed_rows, cpu_cycle, cpu_rows, begun_in, begun_rows, finished_in, finished_rows};
 ghost use Rattle.node_core.specs.Shown.{shown};
 

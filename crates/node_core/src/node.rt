@@ -1,6 +1,6 @@
 // A node.
 ghost use Rattle.std.specs.Prelude.{◌≡◌, ◌<◌, ◌≤◌, ◌+◌, ◌^◌, [], true, false, IfOk};
-ghost use Rattle.world_core.specs.Kind.{answered};
+ghost use Rattle.world_core.specs.NodeRun.{answered};
 ghost use Rattle.node_core.specs.State.{reset};
 ghost use Rattle.node_core.specs.Cycle.{node_kind, end_row};
 ghost use Rattle.node_core.specs.Reached.{IsReached};
@@ -41,7 +41,7 @@ pub struct Node {
 }
 
 impl Model for Node {
-    ghost use Rattle.world_core.specs.Kind.{Timed};
+    ghost use Rattle.world_core.specs.NodeRun.{Timed};
     ghost use Rattle.trace_rows.specs.declared.row.Row.{Row};
     ghost use Rattle.node_core.specs.State.{NodeState};
     ghost use Rattle.node_core.specs.Shown.{shown};
@@ -98,13 +98,13 @@ impl Node {
                 return Reached::Stopped;
             }
             let at = self.cycle;
-            let rested = self.machine.rest(at, cycle - at);
-            self.cycle = at + rested;
-            if self.cycle < cycle {
-                if self.machine.begin(self.cycle).is_err() {
-                    return Reached::NoMemory;
-                }
-                self.cycle += 1;
+            if self.machine.wait > 0 {
+                self.cycle = at + self.machine.rest(at, cycle - at);
+                continue;
+            }
+            match self.machine.begin(at) {
+                Ok(()) => self.cycle = at + 1,
+                Err(_) => return Reached::NoMemory,
             }
         }
         if self.machine.stop.is_some() {
