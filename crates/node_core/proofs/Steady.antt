@@ -2,7 +2,7 @@
 use Rattle.std.proofs.Common.{◌≡◌, ℕ, ◌+◌, ◌≤◌, nat_lt, Bool, true, false, cond, Option, Some, None, List, [], ◌∷◌, ◌++◌, is_some, refl, sym, ap, ◌∙◌, subst, arith, ◌&&◌}
 use Rattle.std.specs.Prelude.{nat_le, Result, Ok, Err}
 use Rattle.std.specs.List.{All}
-use Rattle.std.proofs.lemmas.List.Elements.{All-nil, All-cons}
+use Rattle.std.proofs.lemmas.List.Elements.{All-nil, All-cons, All-append}
 use Rattle.std.proofs.lemmas.Bool.{false≢true}
 use Rattle.avr_base.specs.declared.stop.StopCause.{StopCause}
 use Rattle.data_space.specs.declared.bus.Done.{Done}
@@ -71,7 +71,7 @@ steady = record {
   deaf = λ t s e. never_asks t s;
   silent = λ t s e. never_sends t s;
   apart = λ t s e. never_sends t s;
-  begun_rows = λ t s. begun_is (Bears t) t (bears_none t) (bears_one t) ? s;
+  begun_rows = λ t s. begun_is (Bears t) t (bears_none t) (bears_one t) (All-append (λ (x : Row). x.cycle ≡ t)) s;
   finished_rows = λ t s h. bears_one t _ refl;
   free = λ s. 0;
   gap = λ s. 0;

@@ -11,8 +11,9 @@ use Rattle.avr_decoder.specs.declared.op.Class.TheVariants as class
 use Rattle.avr_decoder.specs.Class.{class_of}
 use Rattle.data_space.specs.declared.cpu.Cpu.{Cpu}
 use Rattle.data_space.specs.declared.bus.Done.{Done}
+use Rattle.data_space.specs.Core.{advanced}
 use Rattle.data_space.specs.Outcome.{Outcome}
-use Rattle.arith_step.specs.Arith.{arith_cpu, arith_done}
+use Rattle.arith_step.specs.Table.{arith_cpu, arith_done}
 use Rattle.node_core.specs.declared.bus.NodeBus.{NodeBus}
 use Rattle.node_core.specs.Bus.{bus_put}
 
@@ -25,12 +26,12 @@ done cycles = Ok (record { cycles = cycles; sleep = false })
 
 -- after the store of an OUT
 abbrev pub stored : Cpu → NodeBus → Result NodeBus StopCause → Outcome NodeBus
-stored cpu bus (Ok new) = record { result = done 1; cpu = record cpu { pc = (cpu.pc + 1) % 65536 }; bus = new }
+stored cpu bus (Ok new) = record { result = done 1; cpu = advanced 1 cpu; bus = new }
 stored cpu bus (Err cause) = stopped cause cpu bus
 
 -- branches, skips, calls
 abbrev pub flow_executed : Op → Cpu → NodeBus → Outcome NodeBus
-flow_executed (op.Rjmp k) cpu bus = record { result = done 2; cpu = record cpu { pc = ((cpu.pc + 1) % 65536 + cast_unsigned w16 k) % 65536 }; bus = bus }
+flow_executed (op.Rjmp k) cpu bus = record { result = done 2; cpu = advanced (cast_unsigned w16 k) (advanced 1 cpu); bus = bus }
 flow_executed _ cpu bus = stopped stop.Unbuilt cpu bus
 
 -- loads, stores, I/O

@@ -24,7 +24,8 @@ fn pass(node: &mut Node, limit: u64) -> Result<(), NoMemory>
 {
     while node.cycle() < limit {
         match node.run_until(limit) {
-            Reached::Cycle | Reached::Stopped => return Ok(()),
+            Reached::Cycle => return Ok(()),
+            Reached::Stopped => return Ok(()),
             Reached::Sent { .. } => {}
             Reached::Ask { .. } => node.answer(SILENCE),
             Reached::NoMemory => return Err(NoMemory),

@@ -1,5 +1,5 @@
 // The effect of an instruction, by its class.
-ghost use Rattle.std.specs.Prelude.{◌≡◌, false};
+ghost use Rattle.std.specs.Prelude.{◌≡◌, ◌≤◌, false, IfOk};
 ghost use Rattle.avr_decoder.specs.Class.{class_of};
 ghost use Rattle.node_core.specs.Execute.{executed, flow_executed, memory_executed};
 
@@ -24,10 +24,12 @@ fn flow(op: Op, cpu: &mut Cpu, bus: &mut NodeBus) -> Result<Done, StopCause>
     ensures result { result ≡ (flow_executed op cpu.old bus.old).result }
     ensures cpu { cpu.new ≡ (flow_executed op cpu.old bus.old).cpu }
     ensures bus { bus.new ≡ (flow_executed op cpu.old bus.old).bus }
+    ensures takes { IfOk result (λ d. 1 ≤ d.cycles) }
 {
     match op {
         Op::Rjmp { k } => {
-            cpu.pc = cpu.pc.wrapping_add(1).wrapping_add(k.cast_unsigned());
+            cpu.advance(1);
+            cpu.advance(k.cast_unsigned());
             Ok(done(2))
         }
         _ => Err(StopCause::Unbuilt),
@@ -40,11 +42,12 @@ fn memory(op: Op, cpu: &mut Cpu, bus: &mut NodeBus) -> Result<Done, StopCause>
     ensures result { result ≡ (memory_executed op cpu.old bus.old).result }
     ensures cpu { cpu.new ≡ (memory_executed op cpu.old bus.old).cpu }
     ensures bus { bus.new ≡ (memory_executed op cpu.old bus.old).bus }
+    ensures takes { IfOk result (λ d. 1 ≤ d.cycles) }
 {
     match op {
         Op::OutIo { a, r } => {
             bus.put(u16::from(a) + 32, cpu.r[usize::from(r.get())])?;
-            cpu.pc = cpu.pc.wrapping_add(1);
+            cpu.advance(1);
             Ok(done(1))
         }
         _ => Err(StopCause::Unbuilt),
@@ -58,6 +61,7 @@ pub fn execute(op: Op, cpu: &mut Cpu, bus: &mut NodeBus) -> Result<Done, StopCau
     ensures result { result ≡ (executed op cpu.old bus.old).result }
     ensures cpu { cpu.new ≡ (executed op cpu.old bus.old).cpu }
     ensures bus { bus.new ≡ (executed op cpu.old bus.old).bus }
+    ensures takes { IfOk result (λ d. 1 ≤ d.cycles) }
 {
     match op.class() {
         Class::Arith => Ok(arith_step::exec(op, cpu)),

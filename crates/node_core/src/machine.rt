@@ -136,7 +136,7 @@ impl Machine {
         ensures stop { self.new.stop ≡ None }
         ensures count { self.new.count ≡ self.old.count }
         ensures within { result ≤ most }
-        ensures done { result < most → self.new.wait ≡ 0 }
+        ensures goes_on { 0 < most → 0 < self.old.wait → 0 < result }
     {
         let wait = self.wait;
         let n = most.min(u64::from(wait));
@@ -145,6 +145,7 @@ impl Machine {
     }
 
     // The rest of a cycle that samples the air.
+    #[tactic(auto, unfolding(crate::specs::Devices::devices_finished))]
     pub fn finish(&mut self, cycle: u64, heard: Heard)
         requires room { vec_len self.old.rows < vec_capacity self.old.rows }
         ensures state { shown self.new ≡ finished_in cycle (shown self.old) heard }

@@ -8,7 +8,7 @@ pub returns-clause-quiet : goal.returns-clause-quiet
 returns-clause-quiet c = all_quiet c.args.cycle _ (shown c.args.self.now)
 
 pub returns-clause-state : goal.returns-clause-state
-returns-clause-state c = sym (waited c.args.cycle _ (shown c.args.self.now) c.requires (omega arith))
+returns-clause-state c = sym (waited c.args.cycle _ (shown c.args.self.now) c.requires.going (omega arith))
 
 pub returns-clause-rows : goal.returns-clause-rows
-returns-clause-rows c = waited_rows c.args.cycle _ (shown c.args.self.now) c.requires (omega arith)
+returns-clause-rows c = waited_rows c.args.cycle c.min-n.result (shown c.args.self.now) c.requires.going (omega arith)
