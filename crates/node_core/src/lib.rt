@@ -11,3 +11,6 @@ mod node;
 pub use alone::run_alone;
 pub use bus::NodeBus;
 pub use node::{Node, Reached};
+
+#[cfg(test)]
+mod tests;
