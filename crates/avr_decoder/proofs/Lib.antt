@@ -1,0 +1,10 @@
+pub mod Branches
+pub mod Constants
+pub mod Displaced
+pub mod Loads
+pub mod Rows
+pub mod Singles
+pub mod Spelled
+pub mod Stores
+pub mod TwoRegisters
+pub mod Words
