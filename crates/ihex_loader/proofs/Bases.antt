@@ -51,11 +51,11 @@ base_step lines n u (Record k offset bytes) e last =
     elim (cases_eq k 2) [
       | inl two ↦ rw two (last_new (SetsBase lines) n 0 _ (Segment offset bytes (rw two at e) refl))
       | inr not2 ↦ elim (cases_eq k 4) [
-          | inl four ↦ rw four (last_new (SetsBase lines) n 0 _ (Linear offset bytes (rw four at e) refl))
-          | inr not4 ↦
-              rw (≢-eqb-false k 2 not2, ≢-eqb-false k 4 not4) (last_same (SetsBase lines) n 0 u u last
-              (sets_none lines n (Record k offset bytes) e (λ o b c. not2 (record_kind k 2 _ _ _ _ c)) (λ o b c. not4 (record_kind k 4 _ _ _ _ c))) refl)
-        ]
+        | inl four ↦ rw four (last_new (SetsBase lines) n 0 _ (Linear offset bytes (rw four at e) refl))
+        | inr not4 ↦
+            rw (≢-eqb-false k 2 not2, ≢-eqb-false k 4 not4) (last_same (SetsBase lines) n 0 u u last
+            (sets_none lines n (Record k offset bytes) e (λ o b c. not2 (record_kind k 2 _ _ _ _ c)) (λ o b c. not4 (record_kind k 4 _ _ _ _ c))) refl)
+      ]
     ]
 
 pub base_is_last : (lines : List Line) (n : ℕ) → n ≤ length lines → IsBase lines n (base_after (take n lines))

@@ -36,8 +36,8 @@ no_other lines flash i =
     let all = take-length lines in
     let used = used_is_top lines n (omega arith) in (
       no_fault_to [] lines
-      (λ m line is. sound_to lines m line (let lt = slice_get_within lines m line is in omega arith) (i.sound m line is))
-      (ap (list_any is_end) (sym all) ∙ ends_to lines n (omega arith) i.ended),
+          (λ m line is. sound_to lines m line (let lt = slice_get_within lines m line is in omega arith) (i.sound m line is))
+          (ap (list_any is_end) (sym all) ∙ ends_to lines n (omega arith) i.ended),
       record {
         len = i.size;
         each = λ a lt. last_unique (PutsAt lines a) (puts_one lines a) n 255 _ _ (i.each a lt) (byte_is_last lines a n (omega arith)) ∙ ap (λ l. last_put 255 a (puts [] l)) all;

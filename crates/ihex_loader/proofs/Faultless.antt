@@ -38,6 +38,7 @@ ends_from lines (suc n) h e = pick (list_any is_end (take n lines)) refl (λ is.
   where
     later : EndsBefore lines n → EndsBefore lines (suc n)
     later p = record { m = p.m; offset = p.offset; bytes = p.bytes; before = let lt = p.before in omega arith; line_is = p.line_is }
+
     pick : (b : Bool) → list_any is_end (take n lines) ≡ b → (list_any is_end (take n lines) ≡ true → EndsBefore lines n) → EndsBefore lines (suc n)
     pick true is earlier = later (earlier is)
     pick false is earlier =
@@ -96,8 +97,7 @@ sound_from lines n (Faulty f) h e = both (list_any is_end (take n lines)) e
     both false e = cc
 sound_from lines n (Record k offset bytes) h e =
     let b = list_any is_end (take n lines) in
-    let at = base_after (take n lines) in
-    (
+    let at = base_after (take n lines) in (
       λ p. open_end b (ends_to lines n h p) (fault_open b k (length bytes) offset at e),
       λ z some. record {
         segment = fault_segment b k (length bytes) offset at e z some;
@@ -149,4 +149,4 @@ no_fault_to before (x ∷ xs) none e =
     let here : fault_behind before x ≡ None = sym (ap (λ b. fault_behind b x) (append-nil before)) ∙ none 0 x refl in
     ap (λ f. fault_or f (length before + 1) (first_fault (before ++ x ∷ []) xs)) here
     ∙ no_fault_to (before ++ x ∷ []) xs (λ n line is. ap (λ b. fault_behind b line) (append_assoc before (x ∷ []) (take n xs)) ∙ none (suc n) line is)
-      (ap (list_any is_end) (append_assoc before (x ∷ []) xs) ∙ e)
+    (ap (list_any is_end) (append_assoc before (x ∷ []) xs) ∙ e)

@@ -88,17 +88,24 @@ byte_step lines n base u a (Record k offset bytes) e is last =
       | inl above ↦ last_same (PutsAt lines a) n 255 u _ last (λ b p. let r = (read_by lines n base 0 offset bytes a b e0 is p).1 in absurd (omega (arith, r.address)))
           (placed_above u a (base + offset) bytes above)
       | inr from ↦ elim (cases_lt a (base + offset + length bytes)) [
-          | inr below ↦ last_same (PutsAt lines a) n 255 u _ last
-              (λ b p. let r = (read_by lines n base 0 offset bytes a b e0 is p).1 in absurd (omega (arith, r.address, slice_get_within bytes r.place b r.byte_is)))
-              (placed_below u a (base + offset) bytes below)
-          | inl within ↦
-              let i = a - (base + offset) in
-              let address : a ≡ base + offset + i = omega arith in
-              let byte : slice_get bytes i ≡ Some (get_or bytes i 0) = slice_get-get_or bytes i 0 (omega arith) in
-              rw (placed_at u a (base + offset) i bytes (get_or bytes i 0) byte address) (last_new (PutsAt lines a) n 255 (get_or bytes i 0) (record {
-                offset = offset; bytes = bytes; base = base; place = i; line_is = e0; base_is = is; byte_is = byte; address = address;
-              }))
-        ]
+        | inr below ↦ last_same (PutsAt lines a) n 255 u _ last
+            (λ b p. let r = (read_by lines n base 0 offset bytes a b e0 is p).1 in absurd (omega (arith, r.address, slice_get_within bytes r.place b r.byte_is)))
+            (placed_below u a (base + offset) bytes below)
+        | inl within ↦
+            let i = a - (base + offset) in
+            let address : a ≡ base + offset + i = omega arith in
+            let byte : slice_get bytes i ≡ Some (get_or bytes i 0) = slice_get-get_or bytes i 0 (omega arith) in
+            rw (placed_at u a (base + offset) i bytes (get_or bytes i 0) byte address) (last_new (PutsAt lines a) n 255 (get_or bytes i 0) (record {
+              offset = offset;
+              bytes = bytes;
+              base = base;
+              place = i;
+              line_is = e0;
+              base_is = is;
+              byte_is = byte;
+              address = address;
+            }))
+      ]
     ]
 
 pub byte_is_last : (lines : List Line) (a n : ℕ) → n ≤ length lines → IsLast (PutsAt lines a) n 255 (last_put 255 a (puts [] (take n lines)))
@@ -106,8 +113,12 @@ unfolding puts
 byte_is_last lines a zero h = last_zero (PutsAt lines a) 255 255 refl
 byte_is_last lines a (suc n) h =
     let base = base_after (take n lines) in
-    rw (take-suc lines n Blank (omega arith), puts-more (take n lines) (line_at lines n), last_put-append 255 a (puts [] (take n lines)) (puts_behind (take n lines) (line_at lines n)),
-      put_by-puts_behind (take n lines) (line_at lines n))
+    rw (
+      take-suc lines n Blank (omega arith),
+      puts-more (take n lines) (line_at lines n),
+      last_put-append 255 a (puts [] (take n lines)) (puts_behind (take n lines) (line_at lines n)),
+      put_by-puts_behind (take n lines) (line_at lines n),
+    )
     (byte_step lines n base _ a (line_at lines n) (there lines n (omega arith)) (base_is_last lines n (omega arith)) (byte_is_last lines a n (omega arith)))
 
 -- `used` is above each byte that is put, by no more than one
@@ -155,7 +166,14 @@ used_step lines n base u (Record k offset bytes) e is used =
             | inl low ↦
                 let byte = slice_get-get_or (x ∷ xs) (length xs) 0 (omega arith) in
                 Highest (base + offset + length xs) n (get_or (x ∷ xs) (length xs) 0) (record {
-                  offset = offset; bytes = x ∷ xs; base = base; place = length xs; line_is = e0; base_is = is; byte_is = byte; address = refl;
+                  offset = offset;
+                  bytes = x ∷ xs;
+                  base = base;
+                  place = length xs;
+                  line_is = e0;
+                  base_is = is;
+                  byte_is = byte;
+                  address = refl;
                 }) (omega arith)
           ];
         })
@@ -165,8 +183,12 @@ unfolding puts
 used_is_top lines zero h = used_zero lines
 used_is_top lines (suc n) h =
     let base = base_after (take n lines) in
-    rw (take-suc lines n Blank (omega arith), puts-more (take n lines) (line_at lines n), used_of-append (puts [] (take n lines)) (puts_behind (take n lines) (line_at lines n)),
-      put_by-puts_behind (take n lines) (line_at lines n))
+    rw (
+      take-suc lines n Blank (omega arith),
+      puts-more (take n lines) (line_at lines n),
+      used_of-append (puts [] (take n lines)) (puts_behind (take n lines) (line_at lines n)),
+      put_by-puts_behind (take n lines) (line_at lines n),
+    )
     (used_step lines n base _ (line_at lines n) (there lines n (omega arith)) (base_is_last lines n (omega arith)) (used_is_top lines n (omega arith)))
 
 -- two numbers that are one more than the highest address are one

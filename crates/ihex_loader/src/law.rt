@@ -10,5 +10,4 @@ ghost use Rattle.ihex_loader.specs.Accepted.{IsImage};
 pub fn accepted_image_is_determined()
     ensures accepted { (bytes : List ℕ) → hex_fault bytes ≡ None → IsImage (lines_of bytes) (image bytes) }
     ensures determined { (bytes : List ℕ) (flash : Image) → IsImage (lines_of bytes) flash → (hex_fault bytes ≡ None) × (flash ≡ image bytes) }
-{
-}
+{}

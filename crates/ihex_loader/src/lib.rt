@@ -13,3 +13,6 @@ pub use fault::HexFault;
 pub use flash::{Flash, flash_of};
 pub use law::accepted_image_is_determined;
 pub use loader::load;
+
+#[cfg(test)]
+mod tests;
