@@ -3,3 +3,8 @@ pub mod Lines
 pub mod Good
 pub mod OnePass
 pub mod Words
+pub mod LastSaid
+pub mod Bases
+pub mod Given
+pub mod Faultless
+pub mod Determined

@@ -1,12 +1,13 @@
 -- One pass over the lines finds the first fault.
-use Rattle.std.proofs.Common.{◌≡◌, ℕ, suc, ◌+◌, ◌<◌, add-one, cond, Bool, List, [], ◌∷◌, ◌++◌, length, get_or, map, take, drop, Some, None, sym, ap, ◌∙◌, subst, arith}
+use Rattle.std.proofs.Common.{◌≡◌, ℕ, suc, ◌+◌, ◌<◌, add-one, cond, Bool, List, [], ◌∷◌, ◌++◌, length, get_or, map, take, drop, Some, None, refl, sym, ap, ◌∙◌, subst, arith}
 use Rattle.std.specs.List.{list_any}
 use Rattle.std.proofs.lemmas.List.{take_more, length-take-le, get_or-map, length-map}
 use Rattle.std.proofs.Math.Seq.{drop-cons, take-length, drop-length}
 use Rattle.ihex_loader.specs.declared.fault.LineFault.{LineFault}
 use Rattle.ihex_loader.specs.declared.fault.HexFault.TheVariants.{NoEnd}
 use Rattle.ihex_loader.specs.Fault.{at_line}
-use Rattle.std.proofs.lemmas.List.FromFn.{fill_by_all}
+use Rattle.std.specs.List.{range_with_len}
+use Rattle.std.proofs.lemmas.List.FromFn.{fill_by_all, length-range_with_len, length-map-range_with_len, get_or-range_with_len}
 use Rattle.ihex_loader.specs.Flash.{Image}
 use Rattle.ihex_loader.specs.Pass.{Stands, Gives}
 use Rattle.ihex_loader.specs.Line.{Line}
@@ -73,3 +74,18 @@ unfolding image
 image_given bytes flash used g =
     let e = flash_given (lines_of bytes) 131072 flash g.len g.each in
     ap (λ f. let i : Image = record { bytes = f; used = used } in i) e ∙ ap (λ u. let i : Image = record { bytes = bytes_given 131072 (lines_of bytes); used = u } in i) g.top
+
+bytes_given-gives : (n : ℕ) (lines : List Line) → (length (bytes_given n lines) ≡ n) × ((a : ℕ) → a < n → get_or (bytes_given n lines) a 0 ≡ last_put 255 a (puts [] lines))
+unfolding bytes_given
+bytes_given-gives n lines = (
+  length-map-range_with_len (λ a. last_put 255 a (puts [] lines)) 0 n,
+  λ a lt.
+      let zero_more : 0 + a ≡ a = omega arith in
+      get_or-map (λ k. last_put 255 k (puts [] lines)) (range_with_len 0 n) a 0 0 (let e = length-range_with_len 0 n in omega arith)
+      ∙ ap (λ k. last_put 255 k (puts [] lines)) (get_or-range_with_len 0 n a 0 lt ∙ zero_more),
+)
+
+-- and that flash is one that the lines give
+pub gives_image : (bytes : List ℕ) → Gives (lines_of bytes) (image bytes).bytes (image bytes).used
+unfolding image
+gives_image bytes = let g = bytes_given-gives 131072 (lines_of bytes) in record { len = g.0; each = g.1; top = refl }

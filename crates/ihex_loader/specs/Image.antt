@@ -1,10 +1,10 @@
 -- The image of a whole Intel HEX file, or its first fault (Intel, Hexadecimal Object File Format Specification,
 -- "Data Record", "End of File Record", "Extended Segment Address Record", "Extended Linear Address Record").
 -- Each line is read with the list of all lines before it.
-use Rattle.std.specs.Prelude.{ℕ, ◌+◌, ◌*◌, ◌==◌, ◌&&◌, nat_lt, max, Bool, false, if◌then◌else◌, List, [], ◌∷◌, ◌++◌, length, slice_index, map, Option, Some, None}
+use Rattle.std.specs.Prelude.{ℕ, ◌+◌, ◌*◌, ◌==◌, ◌&&◌, nat_lt, max, Bool, false, if◌then◌else◌, List, [], ◌∷◌, ◌++◌, length, map, Option, Some, None}
 use Rattle.std.specs.List.{list_any, slice_split, flat_map, range_with_len}
 use Rattle.ihex_loader.specs.Flash.{Image}
-use Rattle.ihex_loader.specs.Line.{Line, Blank, Faulty, Record, line_of, without_cr}
+use Rattle.ihex_loader.specs.Line.{Line, Blank, Faulty, Record, line_of, without_cr, data_word}
 use Rattle.ihex_loader.specs.Fault.{at_line}
 use Rattle.ihex_loader.specs.declared.fault.LineFault.{LineFault}
 use Rattle.ihex_loader.specs.declared.fault.LineFault.TheVariants.{Crossing, PastFlash, AfterEnd}
@@ -25,9 +25,7 @@ is_end (Record kind offset bytes) = kind == 1
 abbrev pub bases : Line → List ℕ
 bases Blank = []
 bases (Faulty f) = []
-bases (Record kind offset bytes) =
-    let word = 256 * slice_index bytes 0 + slice_index bytes 1 in
-    if kind == 2 then (16 * word) ∷ [] else if kind == 4 then (65536 * word) ∷ [] else []
+bases (Record kind offset bytes) = if kind == 2 then (16 * data_word bytes) ∷ [] else if kind == 4 then (65536 * data_word bytes) ∷ [] else []
 
 -- the last of a list, or the default
 abbrev pub last_or : ℕ → List ℕ → ℕ

@@ -3,3 +3,4 @@ pub mod Flash
 pub mod Line
 pub mod Image
 pub mod Pass
+pub mod Accepted

@@ -37,6 +37,10 @@ offset_of bytes = 256 * slice_index bytes 1 + slice_index bytes 2
 abbrev pub data_of : List ℕ → List ℕ
 data_of bytes = slice_range bytes 4 (length bytes - 1)
 
+-- the word that the first two data bytes are, high byte first
+abbrev pub data_word : List ℕ → ℕ
+data_word bytes = 256 * slice_index bytes 0 + slice_index bytes 1
+
 -- the record of these bytes, or the first thing that is wrong with them
 abbrev pub record_of : List ℕ → Line
 record_of bytes =

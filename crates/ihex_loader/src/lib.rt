@@ -4,10 +4,15 @@
 
 mod fault;
 mod flash;
+mod law;
 mod line;
 mod loader;
 mod record;
 
 pub use fault::HexFault;
 pub use flash::{Flash, flash_of};
+pub use law::accepted_image_is_determined;
 pub use loader::load;
+
+#[cfg(test)]
+mod tests;

@@ -1,8 +1,8 @@
 // One pass over the lines of an image.
-ghost use Rattle.std.specs.Prelude.{◌≡◌, ◌+◌, ◌<◌, ◌≤◌, ◌++◌, ◌⊎◌, ◌*◌, false, [], ◌∷◌, None, Some, length, slice_index, IfOk, IfErr, OnOk};
+ghost use Rattle.std.specs.Prelude.{◌≡◌, ◌+◌, ◌<◌, ◌≤◌, ◌++◌, ◌⊎◌, ◌*◌, false, [], ◌∷◌, None, Some, length, IfOk, IfErr, OnOk};
 ghost use Rattle.ihex_loader.specs.declared.fault.LineFault.{LineFault};
 ghost use Rattle.ihex_loader.specs.Fault.{at_line};
-ghost use Rattle.ihex_loader.specs.Line.{Record, line_of, without_cr, kind_of, offset_of, data_of};
+ghost use Rattle.ihex_loader.specs.Line.{Record, line_of, without_cr, kind_of, offset_of, data_of, data_word};
 ghost use Rattle.ihex_loader.specs.Image.{image, hex_fault};
 ghost use Rattle.ihex_loader.specs.Pass.{shown, StandsFor, GoesOn, Refuses};
 
@@ -25,7 +25,7 @@ pub struct Loader {
 
 // A word of data, high byte first.
 fn word_of(bytes: &[u8]) -> u16
-    ensures { result ≡ 256 * slice_index bytes.now 0 + slice_index bytes.now 1 }
+    ensures { result ≡ data_word bytes.now }
 {
     let high = bytes.first().copied().unwrap_or(0);
     let low = bytes.get(1).copied().unwrap_or(0);
