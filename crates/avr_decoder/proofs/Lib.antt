@@ -1,3 +1,4 @@
+pub mod Apart
 pub mod Branches
 pub mod Constants
 pub mod Displaced
@@ -7,4 +8,5 @@ pub mod Singles
 pub mod Spelled
 pub mod Stores
 pub mod TwoRegisters
+pub mod Widths
 pub mod Words

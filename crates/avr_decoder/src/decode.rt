@@ -1,6 +1,6 @@
 // The instruction that a program word is, told by fields of its bits.
-ghost use Rattle.std.specs.Prelude.{◌≡◌, ◌≢◌, ◌/◌, ◌%◌, ◌≤◌, ◌==◌, if◌then◌else◌};
-ghost use Rattle.avr_decoder.specs.Opcodes.{op_at};
+ghost use Rattle.std.specs.Prelude.{◌≡◌, ◌≢◌, ◌/◌, ◌%◌, ◌≤◌, ◌==◌, length, if◌then◌else◌};
+ghost use Rattle.avr_decoder.specs.Opcodes.{op_at, is_two_words, rows_at};
 ghost use Rattle.avr_decoder.specs.declared.op.Op.TheVariants.{Undefined};
 
 use crate::Op;
@@ -400,3 +400,24 @@ fn register_bit(word: u16, next: u16) -> Op
         _ => Op::Sbrs { r: register, b },
     }
 }
+
+/// The words that the instruction whose first word is `word` takes: 2 for JMP, CALL, LDS and STS, else 1.
+#[inline]
+#[tactic(auto, using(crate::proofs::Widths::widths))]
+pub fn width(word: u16) -> u8
+    ensures { result ≡ (if is_two_words word then 2 else 1) }
+{
+    let is_lds_or_sts = word / 1024 == 36 && word % 16 == 0;
+    let is_jmp_or_call = word / 512 == 74 && word / 4 % 4 == 3;
+    if is_lds_or_sts || is_jmp_or_call {
+        2
+    } else {
+        1
+    }
+}
+
+/// No word matches two rows of the opcode table. A law about the table alone: the body has nothing to do.
+#[tactic(auto, using(crate::proofs::Apart::one_row))]
+pub fn one_row_at_most(word: u16)
+    ensures { length (rows_at word) ≤ 1 }
+{}
