@@ -43,7 +43,7 @@ no_other : (k m : ℕ) (l : List Send) → k ≢ m → Only m l → sends_of k l
 no_other k m [] n o = refl
 no_other k m (x ∷ xs) n o = ap (λ (b : Bool). cond b (x ∷ sends_of k xs) (sends_of k xs)) (untest x.node k (λ e. n (sym e ∙ o.0))) ∙ no_other k m xs n o.1
 
-none_past : (nodes limit k : ℕ) (xs : List Send) → nodes ≤ k → All (λ x. (x.node < nodes) × (x.cycle < limit)) xs → sends_of k xs ≡ []
+pub none_past : (nodes limit k : ℕ) (xs : List Send) → nodes ≤ k → All (λ x. (x.node < nodes) × (x.cycle < limit)) xs → sends_of k xs ≡ []
 none_past nodes limit k [] h a = refl
 none_past nodes limit k (x ∷ xs) h a =
     let here : x.node < nodes = (a 0 x (omega arith)).0 in

@@ -13,3 +13,4 @@ pub mod Kept
 pub mod More
 pub mod NextEntry
 pub mod Lawfulness
+pub mod ByNodes

@@ -33,7 +33,7 @@ pub final_more : (w : WorldFacts) (sent more : List ℕ) (x : Ask × Heard) → 
 final_more w sent more x law le f = final_from w more x.0 x.1 law f.asked f.right (reached_more w sent more x.0.node x.0.cycle le f.settled.reached)
 
 -- it is enough to look at the nodes of the topology
-none_below : (w : WorldFacts) (k c : ℕ) → IsLawful w → w.topo.nodes ≤ k → sends_below w.sends k c ≡ 0
+pub none_below : (w : WorldFacts) (k c : ℕ) → IsLawful w → w.topo.nodes ≤ k → sends_below w.sends k c ≡ 0
 unfolding sends_below
 none_below w k c law h = ap (λ (l : List Send). length (filter (λ y. nat_lt y.cycle c) l)) (no_sends_past w k law h)
 

@@ -12,3 +12,4 @@ pub mod Posted
 pub mod Settled
 pub mod Consistent
 pub mod Steps
+pub mod ByNode

@@ -15,3 +15,8 @@ pub use faults::{NoMemory, TopoFault, WorldFault};
 pub use hear::heard_of;
 pub use topo::Topo;
 pub use world::{ListWorld, World, WorldFacts};
+
+#[cfg(test)]
+mod plain;
+#[cfg(test)]
+mod tests;
