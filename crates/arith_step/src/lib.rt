@@ -6,3 +6,6 @@ mod execute;
 mod shapes;
 
 pub use execute::exec;
+
+#[cfg(test)]
+mod tests;

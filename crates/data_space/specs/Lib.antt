@@ -1,2 +1,4 @@
 pub mod Core
+pub mod Memory
 pub mod Outcome
+pub mod Space

@@ -1,9 +1,17 @@
-//! The data space of the ATmega128 as its processor sees it: the core's registers, what an instruction reports when
-//! it is done, and the bus on which everything but the core lies.
+//! The data space of the ATmega128 as its processor sees it: the core's registers, the internal SRAM, the bus on which
+//! everything but the core lies, loads, stores, pushes and pops over both, and what an instruction reports when it is
+//! done.
 #![tactic(auto)]
 
+mod access;
 mod bus;
 mod cpu;
+mod sram;
 
+pub use access::{load, pop, push, store};
 pub use bus::{Bus, Done};
 pub use cpu::Cpu;
+pub use sram::Sram;
+
+#[cfg(test)]
+mod tests;

@@ -1,0 +1,65 @@
+// The internal SRAM.
+ghost use Rattle.std.specs.Prelude.{◌≡◌, ◌-◌, ◌≤◌, ℕ, List, length, IfOk, slice_index, slice_set};
+ghost use Rattle.data_space.specs.Memory.{zeros};
+
+use avr_base::NoMemory;
+use std::alloc::{AllocError, Global};
+use std::marker::Model;
+
+const SIZE: usize = 4096;
+
+const START: u16 = 0x0100;
+
+/// The internal SRAM, 4,096 bytes at data addresses 0x0100 to 0x10FF (ATmega128 datasheet, "SRAM Data Memory"). A
+/// contract sees it as the list of its bytes.
+#[derive(Debug, Drop)]
+pub struct Sram {
+    bytes: Vec<u8>,
+}
+
+impl Model for Sram {
+    ghost Value = { List ℕ };
+
+    ghost view = { λ s. s.bytes.items };
+
+    ghost invariant = { λ s. length s.bytes.items ≡ 4096 };
+}
+
+// A vector of bytes 0.
+#[tactic(auto, unfolding(crate::specs::Memory::zeros))]
+fn zeroed(alloc: Global, len: usize) -> Result<Vec<u8>, AllocError>
+    ensures items { IfOk result (λ bytes. bytes.items ≡ zeros len) }
+    ensures len { IfOk result (λ bytes. length bytes.items ≡ len) }
+{
+    vec![in alloc; 0; len]
+}
+
+impl Sram {
+    /// An SRAM of bytes 0. `Err` only for want of memory.
+    pub fn new(alloc: Global) -> Result<Self, NoMemory>
+        ensures { IfOk result (λ sram. sram ≡ zeros 4096) }
+    {
+        let bytes = zeroed(alloc, SIZE)?;
+        Ok(Sram { bytes })
+    }
+
+    /// The byte at the data address `at`, 0x0100 to 0x10FF.
+    #[inline]
+    pub fn get(&self, at: u16) -> u8
+        requires low { 0x0100 ≤ at }
+        requires high { at ≤ 0x10FF }
+        ensures { result ≡ slice_index self.now (at - 0x0100) }
+    {
+        self.bytes[usize::from(at - START)]
+    }
+
+    /// Puts a byte at the data address `at`, 0x0100 to 0x10FF. Nothing else changes.
+    #[inline]
+    pub fn put(&mut self, at: u16, b: u8)
+        requires low { 0x0100 ≤ at }
+        requires high { at ≤ 0x10FF }
+        ensures { self.new ≡ slice_set self.old (at - 0x0100) b }
+    {
+        self.bytes[usize::from(at - START)] = b;
+    }
+}
