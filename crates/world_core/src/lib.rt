@@ -1,0 +1,17 @@
+//! The rules of the air between the nodes of a network: who hears whom, what was sent, and what a node hears that
+//! samples the air.
+#![tactic(auto)]
+
+mod air;
+mod faults;
+mod hear;
+mod laws;
+mod link_table;
+mod topo;
+mod world;
+
+pub use air::{Ask, Heard, Link, Sampled, Send};
+pub use faults::{NoMemory, TopoFault, WorldFault};
+pub use hear::heard_of;
+pub use topo::Topo;
+pub use world::{ListWorld, World, WorldFacts};
