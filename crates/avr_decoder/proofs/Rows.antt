@@ -1,5 +1,7 @@
 -- From a test that the checker computes over a range of words to the instruction at each of them.
-use Rattle.std.proofs.Common.{◌≡◌, ◌≢◌, ℕ, zero, suc, ◌+◌, ◌/◌, ◌%◌, ◌<◌, ◌≤◌, ◌==◌, Bool, true, false, refl, sym, ap, ◌∙◌, List, [], ◌∷◌, None, Some, arith, subst}
+use Rattle.std.proofs.Common.{◌≡◌, ◌≢◌, ℕ, zero, suc, ◌+◌, ◌*◌, ◌^◌, ◌/◌, ◌%◌, ◌<◌, ◌≤◌, ◌==◌, Bool, true, false, refl, sym, ap, ◌∙◌, List, [], ◌∷◌, ◌++◌, None, Some, arith, zero-add, add_comm}
+use Rattle.std.proofs.Math.Nat.{suc-add, div-div-eq-div-mul}
+use Rattle.std.proofs.lemmas.Nat.{pow-add}
 use Rattle.std.specs.Prelude.{filter, length, Option, if◌then◌else◌}
 use Rattle.std.proofs.lemmas.Bool.{false≢true, true≢false, eqb-true, eq-eqb, ne_eqb}
 use Rattle.avr_base.proofs.Computed.{all_from, all_from-at}
@@ -18,9 +20,12 @@ nth [] n = None
 nth (r ∷ rs) zero = Some r
 nth (r ∷ rs) (suc n) = nth rs n
 
--- the number of a word's row: 0 to 88, 89 for a reserved word, 90 for an undefined one
-unfoldable pub number_at : ℕ → ℕ
-number_at w = elim (matches_any undefined (bits 16 w)) [ true ↦ 90 | false ↦ first table (bits 16 w) ]
+-- the number of the row of these bits: 0 to 88, 89 for a reserved word, 90 for an undefined one
+unfoldable pub number_of : List ℕ → ℕ
+number_of bs = elim (matches_any undefined bs) [ true ↦ 90 | false ↦ first table bs ]
+
+abbrev pub number_at : ℕ → ℕ
+number_at w = number_of (bits 16 w)
 
 -- what a row, or none, makes of a word
 abbrev pub made_by : ℕ → ℕ → Option Row → Op
@@ -62,7 +67,7 @@ at_head w next (r ∷ rs) = refl
 
 -- the definition by all rows that match, and the number of the first one
 op_at-numbered : (w next : ℕ) → op_at w next ≡ numbered (number_at w) w next
-unfolding op_at rows_at number_at numbered
+unfolding op_at rows_at number_of numbered
 op_at-numbered w next =
     elim (matches_any undefined (bits 16 w)) as (λ b. elim b [ true ↦ op.Undefined w | false ↦ defined ] ≡ numbered (elim b [ true ↦ 90 | false ↦ number ]) w next) [
       | true ↦ refl
@@ -105,9 +110,24 @@ pub none_is : (ks : List ℕ) (v : ℕ) → IsNone ks v → none_of ks v ≡ 1
 none_is [] v h = refl
 none_is (k ∷ ks) v h = let ne : v ≢ k = h.0 in rw (none_of, ne_eqb v k ne) (none_is ks v h.1)
 
--- the same where each word of the range has the row
-pub in_range : (n at len w next : ℕ) → all_from (has_row n (λ w. 0) 0) at len ≡ true → at ≤ w → w < at + len → op_at w next ≡ numbered n w next
-in_range n at len w next computed low high = with_field (λ w. 0) n at len 0 w next computed low high refl
+-- the bits of a word are those of its upper part and those below
+pub bits-split : (k m w : ℕ) → bits (k + m) w ≡ bits k (w / 2 ^ m) ++ bits m w
+bits-split zero m w = ap (λ i. bits i w) (zero-add m)
+bits-split (suc k) m w =
+    let power : 2 ^ (k + m) ≡ 2 ^ m * 2 ^ k = ap (λ i. 2 ^ i) (add_comm k m) ∙ pow-add 2 m k in
+    let quotient = div-div-eq-div-mul w (2 ^ m) (2 ^ k) in
+    let below = bits-split k m w in
+    let all : (w / 2 ^ (k + m) % 2) ∷ bits (k + m) w ≡ (w / 2 ^ m / 2 ^ k % 2) ∷ (bits k (w / 2 ^ m) ++ bits m w) = cc in
+    ap (λ i. bits i w) (suc-add k m) ∙ all
+
+-- where the bits of a word are known as far as the patterns look at them
+pub by_bits : (n w next : ℕ) (bs : List ℕ) → bits 16 w ≡ bs → number_of bs ≡ n → op_at w next ≡ numbered n w next
+by_bits n w next bs e is = op_at-numbered w next ∙ ap (λ k. numbered k w next) (ap number_of e ∙ is)
+
+-- where the k upper bits of a word lead to one row, whatever the m others are
+pub by_top : (n k m v w next : ℕ) → number_of (bits k v ++ bits m w) ≡ n → k + m ≡ 16 → w / 2 ^ m ≡ v → op_at w next ≡ numbered n w next
+by_top n k m v w next is whole top =
+    by_bits n w next (bits k v ++ bits m w) (ap (λ i. bits i w) (sym whole) ∙ (bits-split k m w ∙ ap (λ u. bits k u ++ bits m w) top)) is
 
 -- the test that a word has the row of a load or store that moves a pointer, or is undefined since its register is in the pair of this number
 abbrev pub has_moving_row : ℕ → ℕ → ℕ → ℕ → Bool

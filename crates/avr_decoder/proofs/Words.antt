@@ -4,34 +4,34 @@ use Rattle.std.specs.Prelude.{if◌then◌else◌}
 use Rattle.avr_decoder.specs.declared.op.Op.TheVariants as op
 use Rattle.avr_decoder.specs.Opcodes.{op_at}
 use Rattle.avr_decoder.proofs.Spelled.{middle, split, low_third, pair, short_constant, low_address}
-use Rattle.avr_decoder.proofs.Rows.{numbered, number_at, in_range}
+use Rattle.avr_decoder.proofs.Rows.{numbered, number_of, by_top}
 
 pub adiw_at : (w next : ℕ) → w / 256 ≡ 150 → op_at w next ≡ op.Adiw (24 + 2 * pair w) (short_constant w)
-unfolding numbered number_at
-adiw_at w next e = in_range 71 38400 256 w next refl (omega arith) (omega arith)
+unfolding numbered number_of
+adiw_at w next e = by_top 71 8 8 150 w next refl refl e
 
 pub sbiw_at : (w next : ℕ) → w / 256 ≡ 151 → op_at w next ≡ op.Sbiw (24 + 2 * pair w) (short_constant w)
-unfolding numbered number_at
-sbiw_at w next e = in_range 72 38656 256 w next refl (omega arith) (omega arith)
+unfolding numbered number_of
+sbiw_at w next e = by_top 72 8 8 151 w next refl refl e
 
 pub cbi_at : (w next : ℕ) → w / 256 ≡ 152 → op_at w next ≡ op.Cbi (low_address w) (low_third w)
-unfolding numbered number_at
-cbi_at w next e = in_range 73 38912 256 w next refl (omega arith) (omega arith)
+unfolding numbered number_of
+cbi_at w next e = by_top 73 8 8 152 w next refl refl e
 
 pub sbic_at : (w next : ℕ) → w / 256 ≡ 153 → op_at w next ≡ op.Sbic (low_address w) (low_third w)
-unfolding numbered number_at
-sbic_at w next e = in_range 74 39168 256 w next refl (omega arith) (omega arith)
+unfolding numbered number_of
+sbic_at w next e = by_top 74 8 8 153 w next refl refl e
 
 pub sbi_at : (w next : ℕ) → w / 256 ≡ 154 → op_at w next ≡ op.Sbi (low_address w) (low_third w)
-unfolding numbered number_at
-sbi_at w next e = in_range 75 39424 256 w next refl (omega arith) (omega arith)
+unfolding numbered number_of
+sbi_at w next e = by_top 75 8 8 154 w next refl refl e
 
 pub sbis_at : (w next : ℕ) → w / 256 ≡ 155 → op_at w next ≡ op.Sbis (low_address w) (low_third w)
-unfolding numbered number_at
-sbis_at w next e = in_range 76 39680 256 w next refl (omega arith) (omega arith)
+unfolding numbered number_of
+sbis_at w next e = by_top 76 8 8 155 w next refl refl e
 
 pub mul_at : (w next : ℕ) → w / 1024 ≡ 39 → op_at w next ≡ op.Mul (middle w) (split w)
-unfolding numbered number_at
-mul_at w next e = in_range 77 39936 1024 w next refl (omega arith) (omega arith)
+unfolding numbered number_of
+mul_at w next e = by_top 77 6 10 39 w next refl refl e
 
 pub ruleset words_rows = (adiw_at, sbiw_at, cbi_at, sbic_at, sbi_at, sbis_at, mul_at)
