@@ -1,7 +1,7 @@
 -- Results and flags of the instructions on bytes (AVR Instruction Set Manual: ADD, ADC, SUB, SBC, AND, COM, NEG, INC,
 -- DEC, LSR, ROR, ASR). Carry, half carry and overflow are comparisons of whole-number sums and differences with a
 -- range. Flags that a rule does not name stay.
-use Rattle.std.specs.Prelude.{ℕ, ◌+◌, ◌-◌, ◌*◌, ◌/◌, ◌%◌, ◌==◌, nat_lt, nat_le, ◌&&◌, Bool, true, false, if◌then◌else◌, ℤ, pos, ◌+ℤ◌, ◌-ℤ◌}
+use Rattle.std.specs.Prelude.{ℕ, ◌+◌, ◌-◌, ◌*◌, ◌/◌, ◌%◌, ◌==◌, nat_lt, nat_le, ◌&&◌, Bool, true, false, if◌then◌else◌, pos, ◌+ℤ◌, ◌-ℤ◌}
 use Rattle.avr_base.specs.Flags.{has_flag, with_flag}
 use Rattle.avr_base.specs.declared.sreg.Sreg.{Sreg}
 use Rattle.alu_flags.specs.Whole.{one_if, xor, signed, overflows, with_sign, with_result, with_carries}

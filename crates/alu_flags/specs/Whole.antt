@@ -1,6 +1,6 @@
 -- Whole numbers behind the flags (AVR Instruction Set Manual, "Status Register (SREG)"): the number that a byte or a
 -- word is in two's complement, the range of such numbers, and the flags N, Z, V and S of a result.
-use Rattle.std.specs.Prelude.{ℕ, ◌*◌, ◌-◌, ◌==◌, nat_lt, nat_le, int_lt, not, ◌||◌, Bool, true, false, if◌then◌else◌, ℤ, pos, ◌-ℤ◌}
+use Rattle.std.specs.Prelude.{ℕ, ◌*◌, ◌-◌, ◌==◌, nat_lt, nat_le, int_lt, not, ◌||◌, Bool, if◌then◌else◌, ℤ, pos, ◌-ℤ◌}
 use Rattle.avr_base.specs.Flags.{with_flag}
 
 abbrev pub one_if : Bool → ℕ

@@ -1,7 +1,6 @@
 -- The table of the instructions on registers (AVR Instruction Set Manual, the operation, flags and cycles of each):
 -- the operands of its row in the shape of instruction that it has. A flag number and a bit number are taken modulo 8.
-use Rattle.std.specs.Prelude.{ℕ, ◌+◌, ◌%◌, true, false, bit_and, bit_or, bit_xor, slice_index, nat_le}
-use Rattle.avr_base.specs.Flags.{has_flag}
+use Rattle.std.specs.Prelude.{ℕ, ◌%◌, true, false, bit_and, bit_or, bit_xor, slice_index, nat_le}
 use Rattle.avr_decoder.specs.declared.op.Op.{Op}
 use Rattle.avr_decoder.specs.declared.op.Op.TheVariants as op
 use Rattle.alu_flags.specs.declared.products.MulKind.TheVariants as kind

@@ -1,6 +1,6 @@
 -- The data space (ATmega128 datasheet, "SRAM Data Memory" and "Stack Pointer"): which addresses are the core's own,
 -- and what a load, a store, a push and a pop give, over any bus, by what its accesses give.
-use Rattle.std.specs.Prelude.{ℕ, ◌+◌, ◌*◌, ◌/◌, ◌%◌, ◌==◌, nat_lt, Bool, if◌then◌else◌, Result, Ok, Err, slice_index}
+use Rattle.std.specs.Prelude.{ℕ, ◌+◌, ◌*◌, ◌/◌, ◌%◌, ◌==◌, nat_lt, if◌then◌else◌, Result, Ok, Err, slice_index}
 use Rattle.avr_base.specs.declared.stop.StopCause.{StopCause}
 use Rattle.data_space.specs.declared.cpu.Cpu.{Cpu}
 use Rattle.data_space.specs.Core.{with_reg}
