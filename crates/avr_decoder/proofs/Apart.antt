@@ -1,7 +1,7 @@
 -- No word matches two rows: any two patterns of the table have a 0 and a 1 at one place.
-use Rattle.std.proofs.Common.{◌≡◌, ℕ, ◌+◌, ◌≤◌, ◌==◌, Bool, true, false, refl, List, [], ◌∷◌, length, arith, inl, inr, ◌⊎◌}
-use Rattle.std.specs.Prelude.{filter, if◌then◌else◌}
-use Rattle.std.proofs.lemmas.Bool.{false≢true, true≢false, eqb-true, cases_Bool}
+use Rattle.std.proofs.Common.{◌≡◌, ℕ, ◌≤◌, ◌==◌, Bool, true, false, refl, List, [], ◌∷◌, length, arith, inl, inr, ◌⊎◌}
+use Rattle.std.specs.Prelude.{filter}
+use Rattle.std.proofs.lemmas.Bool.{false≢true, cases_Bool}
 use Rattle.std.proofs.lemmas.Bool.Decides.{nat_tests}
 use Rattle.avr_decoder.specs.Opcodes.{Row, matches, fits, bits, table, rows_at}
 

@@ -1,6 +1,5 @@
 -- Words 0x3000 to 0x7FFF and 0xC000 to 0xEFFF: constants, RJMP and RCALL.
-use Rattle.std.proofs.Common.{List, [], ◌∷◌, ◌≡◌, ℕ, ◌+◌, ◌-◌, ◌*◌, ◌/◌, ◌%◌, ◌<◌, ◌≤◌, ◌≢◌, ◌==◌, refl, arith}
-use Rattle.std.specs.Prelude.{if◌then◌else◌}
+use Rattle.std.proofs.Common.{◌≡◌, ℕ, ◌+◌, ◌/◌, refl}
 use Rattle.avr_decoder.specs.declared.op.Op.TheVariants as op
 use Rattle.avr_decoder.specs.Opcodes.{op_at, signed}
 use Rattle.avr_decoder.proofs.Spelled.{fourth, constant, jump}

@@ -1,7 +1,6 @@
 -- Words 0x8000 to 0x8FFF and 0xA000 to 0xBFFF: loads and stores with a displacement, IN and OUT.
-use Rattle.std.proofs.Common.{List, [], ◌∷◌, ◌≡◌, ℕ, ◌+◌, ◌-◌, ◌*◌, ◌/◌, ◌%◌, ◌<◌, ◌≤◌, ◌≢◌, ◌==◌, refl, arith, inl, inr}
+use Rattle.std.proofs.Common.{List, [], ◌∷◌, ◌≡◌, ℕ, ◌/◌, ◌%◌, refl, arith, inl, inr}
 use Rattle.std.proofs.lemmas.Bool.{cases_lt}
-use Rattle.std.specs.Prelude.{if◌then◌else◌}
 use Rattle.avr_decoder.specs.declared.op.Op.TheVariants as op
 use Rattle.avr_decoder.specs.Opcodes.{bits, op_at}
 use Rattle.avr_decoder.proofs.Spelled.{middle, displacement, address}

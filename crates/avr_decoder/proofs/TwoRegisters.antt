@@ -1,6 +1,5 @@
 -- Words 0x0000 to 0x2FFF: NOP, products and the instructions over two registers.
-use Rattle.std.proofs.Common.{List, [], ◌∷◌, ◌≡◌, ℕ, ◌+◌, ◌-◌, ◌*◌, ◌/◌, ◌%◌, ◌<◌, ◌≤◌, ◌≢◌, ◌==◌, refl, arith}
-use Rattle.std.specs.Prelude.{if◌then◌else◌}
+use Rattle.std.proofs.Common.{◌≡◌, ℕ, ◌+◌, ◌*◌, ◌/◌, ◌%◌, ◌≢◌, refl, arith}
 use Rattle.avr_decoder.specs.declared.op.Op.TheVariants as op
 use Rattle.avr_decoder.specs.Opcodes.{op_at}
 use Rattle.avr_decoder.proofs.Spelled.{middle, split, fourth, low_fourth, third, low_third}

@@ -176,20 +176,20 @@ table =
 -- pointer, r27:r26, r29:r28 or r31:r30, as its register
 abbrev pub undefined : List (List ℕ)
 undefined =
-    codes "10010001101d1101" ∷
-    codes "10010001101d1110" ∷
-    codes "10010001110d1001" ∷
-    codes "10010001110d1010" ∷
-    codes "10010001111d0001" ∷
-    codes "10010001111d0010" ∷
-    codes "10010011101d1101" ∷
-    codes "10010011101d1110" ∷
-    codes "10010011110d1001" ∷
-    codes "10010011110d1010" ∷
-    codes "10010011111d0001" ∷
-    codes "10010011111d0010" ∷
-    codes "10010001111d0101" ∷
-    codes "10010001111d0111" ∷
+    codes "10010001101d1101" ∷  -- LD X+
+    codes "10010001101d1110" ∷  -- LD -X
+    codes "10010001110d1001" ∷  -- LD Y+
+    codes "10010001110d1010" ∷  -- LD -Y
+    codes "10010001111d0001" ∷  -- LD Z+
+    codes "10010001111d0010" ∷  -- LD -Z
+    codes "10010011101d1101" ∷  -- ST X+
+    codes "10010011101d1110" ∷  -- ST -X
+    codes "10010011110d1001" ∷  -- ST Y+
+    codes "10010011110d1010" ∷  -- ST -Y
+    codes "10010011111d0001" ∷  -- ST Z+
+    codes "10010011111d0010" ∷  -- ST -Z
+    codes "10010001111d0101" ∷  -- LPM Z+
+    codes "10010001111d0111" ∷  -- ELPM Z+
     []
 
 -- the rows that a word matches

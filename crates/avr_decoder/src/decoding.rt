@@ -9,6 +9,13 @@ use crate::fields::{
     middle, pair_d, pair_r, short_constant, short_d, short_r, split, upper_d, upper_r, word_pair,
 };
 
+// The numbers of the pointers' pairs of registers: r27:r26, r29:r28 and r31:r30.
+const X_PAIR: u16 = 13;
+
+const Y_PAIR: u16 = 14;
+
+const Z_PAIR: u16 = 15;
+
 /// The instruction whose first word is `word`. `next` is the word behind it, which is part of the instruction where
 /// `width(word)` is 2 and is not looked at else. Total: a word of no instruction is `Reserved`, and one whose result
 /// the manual leaves undefined is `Undefined` (AVR Instruction Set Manual).
@@ -96,7 +103,7 @@ fn short_product(word: u16, next: u16) -> Op
 {
     let d = short_d(word);
     let r = short_r(word);
-    if word / 128 == 6 {
+    if word >> 7 == 6 {
         if word / 8 % 2 == 0 {
             Op::Mulsu { d, r }
         } else {
@@ -179,7 +186,7 @@ fn in_or_out(word: u16, next: u16) -> Op
     ensures { result ≡ op_at word next }
 {
     let a = address(word);
-    if word / 2048 == 22 {
+    if word >> 11 == 0x16 {
         Op::InIo { d: middle(word), a }
     } else {
         Op::OutIo { a, r: middle(word) }
@@ -231,8 +238,8 @@ fn ninth_page(word: u16, next: u16) -> Op
     }
 }
 
-/// A load or store that moves its pointer, which is undefined where its register is half of the pointer: `pair` is
-/// the number of the pointer's pair of registers, 13 for X, 14 for Y, 15 for Z.
+/// A load or store that moves its pointer: undefined where its register is half of the pointer, which is the pair of
+/// this number.
 #[inline]
 fn moving(word: u16, pair: u16, op: Op) -> Op
     ensures { result ≡ (if word / 32 % 16 == pair then Undefined word else op) }
@@ -254,17 +261,17 @@ fn load(word: u16, next: u16) -> Op
     let d = middle(word);
     match word % 16 {
         0x0 => Op::Lds { d, k: next },
-        0x1 => moving(word, 15, Op::LdZInc { d }),
-        0x2 => moving(word, 15, Op::LdZDec { d }),
+        0x1 => moving(word, Z_PAIR, Op::LdZInc { d }),
+        0x2 => moving(word, Z_PAIR, Op::LdZDec { d }),
         0x4 => Op::LpmZ { d },
-        0x5 => moving(word, 15, Op::LpmZInc { d }),
+        0x5 => moving(word, Z_PAIR, Op::LpmZInc { d }),
         0x6 => Op::ElpmZ { d },
-        0x7 => moving(word, 15, Op::ElpmZInc { d }),
-        0x9 => moving(word, 14, Op::LdYInc { d }),
-        0xA => moving(word, 14, Op::LdYDec { d }),
+        0x7 => moving(word, Z_PAIR, Op::ElpmZInc { d }),
+        0x9 => moving(word, Y_PAIR, Op::LdYInc { d }),
+        0xA => moving(word, Y_PAIR, Op::LdYDec { d }),
         0xC => Op::LdX { d },
-        0xD => moving(word, 13, Op::LdXInc { d }),
-        0xE => moving(word, 13, Op::LdXDec { d }),
+        0xD => moving(word, X_PAIR, Op::LdXInc { d }),
+        0xE => moving(word, X_PAIR, Op::LdXDec { d }),
         0xF => Op::Pop { d },
         _ => Op::Reserved { word },
     }
@@ -280,13 +287,13 @@ fn store(word: u16, next: u16) -> Op
     let r = middle(word);
     match word % 16 {
         0x0 => Op::Sts { k: next, r },
-        0x1 => moving(word, 15, Op::StZInc { r }),
-        0x2 => moving(word, 15, Op::StZDec { r }),
-        0x9 => moving(word, 14, Op::StYInc { r }),
-        0xA => moving(word, 14, Op::StYDec { r }),
+        0x1 => moving(word, Z_PAIR, Op::StZInc { r }),
+        0x2 => moving(word, Z_PAIR, Op::StZDec { r }),
+        0x9 => moving(word, Y_PAIR, Op::StYInc { r }),
+        0xA => moving(word, Y_PAIR, Op::StYDec { r }),
         0xC => Op::StX { r },
-        0xD => moving(word, 13, Op::StXInc { r }),
-        0xE => moving(word, 13, Op::StXDec { r }),
+        0xD => moving(word, X_PAIR, Op::StXInc { r }),
+        0xE => moving(word, X_PAIR, Op::StXDec { r }),
         0xF => Op::Push { r },
         _ => Op::Reserved { word },
     }
@@ -369,11 +376,11 @@ fn last_page(word: u16, next: u16) -> Op
     ensures { result ≡ op_at word next }
 {
     match word >> 10 {
-        60 => Op::Brbs {
+        0x3C => Op::Brbs {
             s: low_three(word),
             k: branch_offset(word),
         },
-        61 => Op::Brbc {
+        0x3D => Op::Brbc {
             s: low_three(word),
             k: branch_offset(word),
         },
@@ -394,9 +401,9 @@ fn register_bit(word: u16, next: u16) -> Op
     let register = middle(word);
     let b = low_three(word);
     match word >> 9 {
-        124 => Op::Bld { d: register, b },
-        125 => Op::Bst { d: register, b },
-        126 => Op::Sbrc { r: register, b },
+        0x7C => Op::Bld { d: register, b },
+        0x7D => Op::Bst { d: register, b },
+        0x7E => Op::Sbrc { r: register, b },
         _ => Op::Sbrs { r: register, b },
     }
 }

@@ -11,7 +11,7 @@ use avr_base::Reg;
 pub fn middle(word: u16) -> Reg
     ensures { result ≡ spelled d (codes "000011rdddddrrrr") word }
 {
-    Reg::numbered((word >> 4 & 31) as u8)
+    Reg::numbered((word / 16 % 32) as u8)
 }
 
 /// Bit 9 and the low four: the `r` of two registers.
