@@ -1,5 +1,5 @@
 -- A state that agrees at each node of the topology and at each sample is consistent.
-use Rattle.std.proofs.Common.{◌≡◌, ℕ, zero, suc, ◌+◌, ◌-◌, ◌<◌, ◌≤◌, true, ◌==◌, List, [], ◌∷◌, length, take, get_or, refl, sym, ◌∙◌, ap, subst, arith}
+use Rattle.std.proofs.Common.{◌≡◌, ℕ, zero, suc, ◌<◌, ◌≤◌, ◌==◌, List, length, take, get_or, sym, ◌∙◌, ap, arith}
 use Rattle.std.specs.List.{All}
 use Rattle.std.proofs.lemmas.List.Elements.{All-append, All-take, All-filter}
 use Rattle.std.proofs.lemmas.List.{get_or_past}
@@ -11,12 +11,12 @@ use Rattle.world_core.specs.declared.world.WorldFacts.{WorldFacts}
 use Rattle.world_core.specs.Each.{each_below}
 use Rattle.world_core.specs.Topology.{IsInside}
 use Rattle.world_core.specs.Lawful.{IsLawful}
-use Rattle.world_core.specs.Sends.{sends_of, sends_below}
+use Rattle.world_core.specs.Sends.{sends_of}
 use Rattle.world_core.specs.Posted.{sent_of, posted}
-use Rattle.world_core.specs.Settled.{IsFinal, IsRecorded}
+use Rattle.world_core.specs.Settled.{IsFinal}
 use Rattle.world_core.specs.Consistent.{AirState, IsConsistent, clock_of}
 use Rattle.world_core.specs.ByNode.{NodeAgrees, SampleAgrees}
-use Rattle.world_core.proofs.Counts.{no_sends_past, none_past}
+use Rattle.world_core.proofs.Counts.{none_past}
 use Rattle.world_core.proofs.Steps.{none_below, reached_in}
 
 posted_in : (w : WorldFacts) (sent : List ℕ) (n : ℕ) → IsLawful w → All (λ x. IsInside w.topo x.node x.cycle) (each_below n (λ k. take (sent_of sent k) (sends_of k w.sends)))

@@ -9,7 +9,6 @@ pub mod Counts
 pub mod Steps
 pub mod Room
 pub mod Records
-pub mod Kept
 pub mod More
 pub mod NextEntry
 pub mod Lawfulness

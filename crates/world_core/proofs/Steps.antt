@@ -1,5 +1,5 @@
 -- What each step of the record keeps.
-use Rattle.std.proofs.Common.{◌≡◌, ℕ, ◌+◌, ◌-◌, ◌<◌, ◌≤◌, ◌≢◌, Bool, true, false, cond, ◌==◌, List, [], ◌∷◌, ◌++◌, length, take, get_or, set, refl, sym, subst, ◌∙◌, ap, arith, append-nil}
+use Rattle.std.proofs.Common.{◌≡◌, ℕ, ◌+◌, ◌-◌, ◌<◌, ◌≤◌, ◌≢◌, Bool, true, false, cond, ◌==◌, List, [], ◌∷◌, ◌++◌, length, take, drop, drop-cons, get_or, set, refl, sym, subst, ◌∙◌, ap, arith, append-nil}
 use Rattle.std.specs.List.{filter, Contains}
 use Rattle.std.specs.Prelude.{nat_lt}
 use Rattle.std.proofs.lemmas.List.Elements.{filter-append}
@@ -105,3 +105,7 @@ counts_case w sent x k h counts next (no d) = let a = sent_else sent x.node k (s
 pub counts_more : (w : WorldFacts) (sent : List ℕ) (x : Send) (k : ℕ) → x.node < length sent → ((k : ℕ) → sent_of sent k ≤ length (sends_of k w.sends)) → IsSendNumber w (sent_of sent x.node) x
     → sent_of (set sent x.node (sent_of sent x.node + 1)) k ≤ length (sends_of k w.sends)
 counts_more w sent x k h counts next = counts_case w sent x k h counts next (ℕ_discrete k x.node)
+
+-- the next send of a node, as a step of the record takes it
+pub next_one : (l : List Send) (n : ℕ) (x : Send) → n < length l → get_or l n x ≡ x → take 1 (drop n l) ≡ x ∷ []
+next_one l n x lt e = ap (take 1) (drop-cons l n x lt) ∙ ap (λ (y : Send). y ∷ []) e
