@@ -1,0 +1,10 @@
+//! The text of instructions, as a trace and a listing print it.
+#![tactic(auto)]
+
+mod parts;
+mod show;
+
+pub use show::{line, put_text, text};
+
+#[cfg(test)]
+mod tests;
