@@ -7,15 +7,21 @@ use crate::flags::{C, Z};
 use crate::signed::signed_byte;
 use avr_base::Sreg;
 
-/// A multiply instruction. `s` stands for factors in two's complement, `su` for the first alone, `F` for a product of
-/// fractions with 7 bits behind the point, which is shifted left by one.
+/// A multiply instruction (AVR Instruction Set Manual): which of its factors are in two's complement, and whether its
+/// product is shifted left by one, as that of fractions with 7 bits behind the point.
 #[derive(Clone, Copy, Debug, PartialEq, Eq)]
 pub enum MulKind {
+    /// Unsigned by unsigned.
     Mul,
+    /// Signed by signed.
     Muls,
+    /// Signed by unsigned.
     Mulsu,
+    /// Unsigned by unsigned, shifted.
     Fmul,
+    /// Signed by signed, shifted.
     Fmuls,
+    /// Signed by unsigned, shifted.
     Fmulsu,
 }
 

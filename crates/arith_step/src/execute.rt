@@ -13,7 +13,8 @@ use avr_decoder::Op;
 use data_space::{Cpu, Done};
 
 /// Executes one instruction on registers and flags (AVR Instruction Set Manual): its result, its flags, and the
-/// program counter one word further, modulo 65,536. Nothing else of the core changes. Answers its clock cycles, 1 or 2.
+/// program counter one word further, modulo 65,536. Nothing else of the core changes. The answer has its clock cycles,
+/// 1 or 2; none of these is SLEEP.
 ///
 /// A flag number and a bit number count modulo 8; the pair of r31 is r31 and r0.
 #[inline]
