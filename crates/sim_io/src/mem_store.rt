@@ -61,9 +61,7 @@ impl MemStore {
             failed: None,
         }
     }
-}
 
-impl MemStore {
     // The answer of the next call, which then has to be counted.
     fn answer(&self, alloc: Global, name: &str, most: usize) -> Result<Vec<u8>, ReadFault>
         ensures fails { IsErrOf result ReadFault.Failed → fails_at self.now name.now ≡ true }
