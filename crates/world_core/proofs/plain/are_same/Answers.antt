@@ -1,4 +1,4 @@
-use Rattle.std.proofs.Common.{rules, ◌≡◌, ◌↔◌, ◌&&◌, ◌==◌, true, subst, arith}
+use Rattle.std.proofs.Common.{◌≡◌, ◌&&◌, ◌==◌, true, subst, arith}
 use Rattle.std.proofs.lemmas.Slice.Eq.{slice_eq-Decides}
 use Rattle.std.proofs.lemmas.Bool.Decides.{nat_tests}
 use Rattle.world_core.specs.declared.air.Send.{Send}

@@ -1,4 +1,4 @@
-use Rattle.std.proofs.Common.{List, sym, subst, ◌∙◌, ap}
+use Rattle.std.proofs.Common.{sym, subst}
 use Rattle.std.specs.List.{All}
 use Rattle.world_core.specs.declared.air.Send.{Send}
 use Rattle.world_core.specs.Topology.{Topology, IsInside}
