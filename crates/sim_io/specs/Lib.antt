@@ -1,0 +1,4 @@
+pub mod Bytes
+pub mod Failed
+pub mod Files
+pub mod Outside

@@ -1,0 +1,69 @@
+// The streams of the real system.
+ghost use Rattle.std.specs.Prelude.{◌≡◌, ◌<◌, ◌≤◌, None, length, IfOk};
+
+use crate::{Sink, SinkFault};
+use std::io::{ErrorKind, Write};
+use std::marker::Model;
+
+/// A stream of the process, as its standard output. A contract sees the count of its faults alone: what a real stream
+/// took is not told.
+#[derive(Drop)]
+pub struct StdSink<W: Write + Drop> {
+    writer: W,
+    count: u64,
+}
+
+impl<W: Write + Drop> Model for StdSink<W> {
+    ghost use Rattle.std.specs.Prelude.{ℕ};
+
+    ghost Value = { ℕ };
+
+    ghost view = { λ s. s.count };
+}
+
+impl<W: Write + Drop> StdSink<W> {
+    /// A sink over this writer. No write has failed yet.
+    pub fn new(writer: W) -> Self
+        ensures { result ≡ 0 }
+    {
+        StdSink { writer, count: 0 }
+    }
+}
+
+// One write, tried again where a signal cut it off. A writer that takes nothing of a piece that is not empty fails.
+fn write_some<W: Write>(writer: &mut W, piece: &[u8]) -> Result<usize, SinkFault>
+    ensures within { IfOk result (λ n. n ≤ length piece.now) }
+    ensures goes_on { IfOk result (λ n. 0 < length piece.now → 0 < n) }
+{
+    if piece.is_empty() {
+        return Ok(0);
+    }
+    for _ in 0..u64::MAX {
+        match writer.write(piece) {
+            Ok(0) => return Err(SinkFault),
+            Ok(n) => return Ok(n),
+            Err(error) => {
+                if error.kind() != ErrorKind::Interrupted {
+                    return Err(SinkFault);
+                }
+            }
+        }
+    }
+    Err(SinkFault)
+}
+
+impl<W: Write + Drop> Sink for StdSink<W> {
+    ghost taken = { λ s. None };
+
+    ghost faults = { λ s. s };
+
+    fn write(&mut self, piece: &[u8]) -> Result<usize, SinkFault> {
+        match write_some(&mut self.writer, piece) {
+            Ok(n) => Ok(n),
+            Err(fault) => {
+                self.count = self.count.saturating_add(1);
+                Err(fault)
+            }
+        }
+    }
+}
