@@ -1,5 +1,5 @@
 -- The command line: which lists of words are accepted, and what each asks for (this program's own usage).
-use Rattle.std.specs.Prelude.{ℕ, ◌==◌, ◌&&◌, nat_le, not, Bool, true, false, if◌then◌else◌, List, [], ◌∷◌, length, codes, Option, Some, None, option_map}
+use Rattle.std.specs.Prelude.{ℕ, ◌≤◌, ◌==◌, ◌&&◌, nat_le, not, Bool, true, false, if◌then◌else◌, List, [], ◌∷◌, length, codes, Option, Some, None, option_map}
 use Rattle.std.specs.Char.{is_ascii_digit}
 use Rattle.std.specs.List.{list_all}
 use Rattle.std.specs.Str.Parse.{digits_value}
@@ -52,3 +52,8 @@ or_else None other = other
 -- what the words ask for: the forms in turn; None where they are not accepted
 unfoldable pub asked_by : List (List ℕ) → Option Asked
 asked_by words = or_else (as_node words) (as_disasm words)
+
+-- the number of cycles, where there is one, is from 1 to 10,000,000
+abbrev pub IsInLimits : Asked → Type 0
+IsInLimits (Node file cycles) = (1 ≤ cycles) × (cycles ≤ 10000000)
+IsInLimits (Disasm file) = Unit {0}

@@ -1,5 +1,5 @@
 // What stands behind the name of a command: files and numbers.
-ghost use Rattle.std.specs.Prelude.{◌≡◌};
+ghost use Rattle.std.specs.Prelude.{◌≡◌, ◌≤◌, IfSome};
 ghost use Rattle.std.specs.Char.{is_ascii_digit};
 ghost use Rattle.std.specs.List.{list_all};
 ghost use Rattle.command_words.specs.Words.{cycles_of, is_file};
@@ -25,7 +25,8 @@ fn all_digits(word: &str) -> bool
 /// The number of cycles that a word gives: one to eight decimal digits, no sign, from 1 to 10,000,000.
 #[tactic(auto, unfolding(crate::specs::Words::cycles_of))]
 pub fn cycles(word: &str) -> Option<u64>
-    ensures { result ≡ cycles_of word.now }
+    ensures value { result ≡ cycles_of word.now }
+    ensures limits { IfSome result (λ n. (1 ≤ n) × (n ≤ 10000000)) }
 {
     if word.is_empty() || word.len() > 8 || !all_digits(word) {
         return None;

@@ -5,8 +5,8 @@ use Rattle.command_words.proofs.Digits.{read_few}
 use Rattle.command_words.proofs.operands.cycles.Goals as goal
 
 -- digits are read, so `parse` answers no error
-pub returns-in-Err : goal.returns-in-Err
-returns-in-Err c =
+pub returns-in-Err-clause-value : goal.returns-in-Err-clause-value
+returns-in-Err-clause-value c =
     let word = c.args.word.now in
     let digits : list_all is_ascii_digit word ≡ true = search rules in
     let some : 0 < length word = search rules in
