@@ -1,0 +1,10 @@
+pub mod Puts
+pub mod Lines
+pub mod Good
+pub mod OnePass
+pub mod Words
+pub mod LastSaid
+pub mod Bases
+pub mod Given
+pub mod Faultless
+pub mod Determined

@@ -1,0 +1,14 @@
+use Rattle.std.proofs.Common.{◌≡◌, ℕ, List, length, take, ap, ◌∙◌, arith}
+use Rattle.std.proofs.Math.Seq.{take-length}
+use Rattle.ihex_loader.specs.Flash.{bytes_of_words, padded, word_at}
+use Rattle.ihex_loader.proofs.Words.{words_read_back}
+use Rattle.ihex_loader.proofs.flash.flash_of.Goals as goal
+
+pub returns-clause-words : goal.returns-clause-words
+returns-clause-words c = λ pc lt.
+    let words = c.args.words.now in
+    let n : c.loop-word.word-index ≡ length words = omega arith in
+    let all : take c.loop-word.word-index words ≡ words = ap (λ k. take k words) n ∙ take-length words in
+    let e : c.in_ok-padded_to.field-0.items ≡ padded 131072 (bytes_of_words words) =
+    c.in_ok-padded_to.ensures.bytes ∙ ap (padded 131072) (c.loop-word.invariant.bytes ∙ ap bytes_of_words all) in
+    ap (λ (bytes : List ℕ). word_at bytes pc) e ∙ words_read_back 131072 words pc lt

@@ -1,0 +1,6 @@
+pub mod Fault
+pub mod Flash
+pub mod Line
+pub mod Image
+pub mod Pass
+pub mod Accepted

@@ -1,0 +1,18 @@
+//! Intel HEX text to the flash of an ATmega128: the accepted image byte for byte, or the first thing that is wrong
+//! with it and its line (Intel, Hexadecimal Object File Format Specification, record types 00 to 05).
+#![tactic(auto)]
+
+mod fault;
+mod flash;
+mod law;
+mod line;
+mod loader;
+mod record;
+
+pub use fault::HexFault;
+pub use flash::{Flash, flash_of};
+pub use law::accepted_image_is_determined;
+pub use loader::load;
+
+#[cfg(test)]
+mod tests;
