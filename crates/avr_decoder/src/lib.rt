@@ -2,6 +2,8 @@
 #![tactic(auto)]
 
 mod classify;
+mod decode;
+mod fields;
 mod op;
 
 pub use classify::class;

@@ -22,5 +22,5 @@ pub use sink::{Sink, SinkFault, write_all};
 pub use std_sink::StdSink;
 pub use store::{ReadFault, Store};
 
-// #[cfg(test)]
-// mod tests;
+#[cfg(test)]
+mod tests;

@@ -27,7 +27,13 @@ impl Model for MemSink {
     ghost Value = { MemorySink };
 
     ghost view = { λ s. record {
-        taken = s.bytes.items; room = s.room; step = s.step; fail = s.fail.items; calls = s.calls; faults = s.count } };
+      taken = s.bytes.items;
+      room = s.room;
+      step = s.step;
+      fail = s.fail.items;
+      calls = s.calls;
+      faults = s.count;
+    } };
 
     // A write that fits takes no memory.
     ghost invariant = { λ s. (vec_len s.bytes ≤ s.room) × (s.room ≤ vec_capacity s.bytes) };
@@ -37,7 +43,13 @@ impl MemSink {
     /// A sink that has taken nothing, with memory for `room` bytes.
     pub fn new(alloc: Global, room: usize, step: usize, fail: Vec<u64>) -> Result<Self, NoMemory>
         ensures { IfOk result (λ sink. sink ≡ record {
-            taken = []; room = room; step = step; fail = fail.items; calls = 0; faults = 0 }) }
+          taken = [];
+          room = room;
+          step = step;
+          fail = fail.items;
+          calls = 0;
+          faults = 0;
+        }) }
     {
         let bytes = Vec::with_capacity(alloc, room)?;
         Ok(MemSink {

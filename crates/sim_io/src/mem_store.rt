@@ -26,7 +26,12 @@ impl Model for MemStore {
     ghost Value = { MemoryStore };
 
     ghost view = { λ s. record {
-        files = s.files.items; fail = s.fail.items; calls = s.calls; faults = s.count; failed = last_failed s.failed } };
+      files = s.files.items;
+      fail = s.fail.items;
+      calls = s.calls;
+      faults = s.count;
+      failed = last_failed s.failed;
+    } };
 }
 
 // The bytes of the first file of this name.

@@ -1,0 +1,12 @@
+pub mod Apart
+pub mod Branches
+pub mod Constants
+pub mod Displaced
+pub mod Loads
+pub mod Rows
+pub mod Singles
+pub mod Spelled
+pub mod Stores
+pub mod TwoRegisters
+pub mod Widths
+pub mod Words

@@ -1,0 +1,7 @@
+//! The text of instructions, as a trace and a listing print it.
+#![tactic(auto)]
+
+mod parts;
+mod show;
+
+pub use show::{line, put_text, text};
