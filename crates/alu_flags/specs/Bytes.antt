@@ -25,6 +25,10 @@ subtracted a b borrow keep_z s =
     let z = (if keep_z then has_flag s.bits 1 && r == 0 else r == 0) in
     (r, record { bits = with_sign (nat_le 128 r) z v (with_carries c h s.bits) })
 
+-- 0 - a
+abbrev pub negated : ℕ → Sreg → ℕ × Sreg
+negated a s = subtracted 0 a false false s
+
 -- the flags of a bitwise result
 unfoldable pub logical : ℕ → Sreg → Sreg
 logical r s = record { bits = with_result 128 r false s.bits }

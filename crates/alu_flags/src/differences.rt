@@ -1,8 +1,8 @@
 // Differences and complements of bytes.
-ghost use Rattle.std.specs.Prelude.{◌≡◌, ◌+◌, ◌-◌, ◌%◌, ◌==◌, ◌&&◌, ◌-ℤ◌, pos, nat_lt, false, if◌then◌else◌};
+ghost use Rattle.std.specs.Prelude.{◌≡◌, ◌+◌, ◌-◌, ◌%◌, ◌==◌, ◌&&◌, ◌-ℤ◌, pos, nat_lt, if◌then◌else◌};
 ghost use Rattle.avr_base.specs.Flags.{has_flag};
 ghost use Rattle.alu_flags.specs.Whole.{one_if, signed};
-ghost use Rattle.alu_flags.specs.Bytes.{complemented, decremented, subtracted};
+ghost use Rattle.alu_flags.specs.Bytes.{complemented, decremented, negated, subtracted};
 
 use crate::flags::{C, Z, carries, signs};
 use crate::signed::{overflows_byte, signed_byte};
@@ -65,7 +65,7 @@ pub fn com(a: u8, s: Sreg) -> (u8, Sreg)
 /// NEG: `0 - a` modulo 256, with the flags of that difference; T and I stay.
 #[inline]
 pub fn neg(a: u8, s: Sreg) -> (u8, Sreg)
-    ensures { result ≡ subtracted 0 a false false s }
+    ensures { result ≡ negated a s }
 {
     sub(0, a, false, false, s)
 }

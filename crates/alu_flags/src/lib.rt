@@ -15,3 +15,6 @@ pub use products::{MulKind, mul};
 pub use shifts::{asr, lsr, ror};
 pub use sums::{add, inc, logic};
 pub use words::{adiw, sbiw};
+
+#[cfg(test)]
+mod tests;

@@ -5,12 +5,13 @@ ghost use Rattle.avr_decoder.specs.Class.{class_of};
 use crate::{Class, Op};
 use avr_base::StopCause;
 
-/// The class of an instruction.
-#[inline]
-pub fn class(op: Op) -> Class
-    ensures { result ≡ class_of op }
-{
-    match op {
+impl Op {
+    /// Its class.
+    #[inline]
+    pub fn class(&self) -> Class
+        ensures { result ≡ class_of self.now }
+    {
+        match self {
         Op::Nop => Class::Arith,
         Op::Movw { .. } => Class::Arith,
         Op::Muls { .. } => Class::Arith,
@@ -103,4 +104,13 @@ pub fn class(op: Op) -> Class
         Op::Reserved { .. } => Class::Halting(StopCause::ReservedOpcode),
         Op::Undefined { .. } => Class::Halting(StopCause::UndefinedOperands),
     }
+}
+}
+
+/// The class of an instruction.
+#[inline]
+pub fn class(op: Op) -> Class
+    ensures { result ≡ class_of op }
+{
+    op.class()
 }

@@ -2,9 +2,10 @@
 #![tactic(auto)]
 
 mod classify;
-mod decode;
+mod decoding;
 mod fields;
 mod op;
 
 pub use classify::class;
+pub use decoding::{decode, one_row_at_most, width};
 pub use op::{Class, Op};

@@ -1,1 +1,15 @@
 pub mod QuietCycles
+pub mod LinkRows
+pub mod FirstFaults
+pub mod Links
+pub mod Order
+pub mod Spaced
+pub mod Final
+pub mod Counts
+pub mod Steps
+pub mod Room
+pub mod Records
+pub mod Kept
+pub mod More
+pub mod NextEntry
+pub mod Lawfulness

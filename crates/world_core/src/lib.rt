@@ -4,6 +4,14 @@
 
 mod air;
 mod faults;
+mod hear;
+mod laws;
+mod link_table;
+mod topo;
+mod world;
 
 pub use air::{Ask, Heard, Link, Sampled, Send};
 pub use faults::{NoMemory, TopoFault, WorldFault};
+pub use hear::heard_of;
+pub use topo::Topo;
+pub use world::{ListWorld, World, WorldFacts};

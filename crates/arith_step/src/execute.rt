@@ -1,0 +1,81 @@
+// One instruction on registers.
+ghost use Rattle.std.specs.Prelude.{◌≡◌};
+ghost use Rattle.avr_decoder.specs.Class.{class_of};
+ghost use Rattle.avr_decoder.specs.declared.op.Class.TheVariants.{Arith};
+ghost use Rattle.arith_step.specs.Table.{arith_cpu, arith_cycles, arith_done, effect};
+
+use crate::shapes::{
+    C, add, compare, compare_on, copy, copy_pair, load_bit, multiply, put_bits, put_byte, put_word,
+    set_flag, store_bit, subtract, subtract_on, swap,
+};
+use alu_flags::{MulKind, adiw, asr, com, dec, inc, lsr, neg, ror, sbiw};
+use avr_decoder::Op;
+use data_space::{Cpu, Done};
+
+/// Executes one instruction on registers and flags (AVR Instruction Set Manual): its result, its flags, and the
+/// program counter one word further, modulo 65,536. Nothing else of the core changes. Answers its clock cycles, 1 or 2.
+///
+/// A flag number and a bit number count modulo 8; the pair of r31 is r31 and r0.
+#[inline]
+pub fn exec(op: Op, cpu: &mut Cpu) -> Done
+    requires { class_of op ≡ Arith }
+    ensures core { cpu.new ≡ arith_cpu op cpu.old }
+    ensures done { result ≡ arith_done op }
+{
+    let cycles = apply(op, cpu);
+    cpu.advance(1);
+    Done {
+        cycles,
+        sleep: false,
+    }
+}
+
+#[inline]
+#[tactic(auto, unfolding(crate::specs::Table::effect))]
+fn apply(op: Op, cpu: &mut Cpu) -> u8
+    requires { class_of op ≡ Arith }
+    ensures core { cpu.new ≡ effect op cpu.old }
+    ensures cycles { result ≡ arith_cycles op }
+{
+    match op {
+        Op::Add { d, r } => add(d, cpu.reg(r), false, cpu),
+        Op::Adc { d, r } => add(d, cpu.reg(r), cpu.sreg.has(C), cpu),
+        Op::Sub { d, r } => subtract(d, cpu.reg(r), cpu),
+        Op::Subi { d, k } => subtract(d, k, cpu),
+        Op::Sbc { d, r } => subtract_on(d, cpu.reg(r), cpu),
+        Op::Sbci { d, k } => subtract_on(d, k, cpu),
+        Op::Cp { d, r } => compare(d, cpu.reg(r), cpu),
+        Op::Cpi { d, k } => compare(d, k, cpu),
+        Op::Cpc { d, r } => compare_on(d, cpu.reg(r), cpu),
+        Op::And { d, r } => put_bits(d, cpu.reg(d) & cpu.reg(r), cpu),
+        Op::Andi { d, k } => put_bits(d, cpu.reg(d) & k, cpu),
+        Op::Or { d, r } => put_bits(d, cpu.reg(d) | cpu.reg(r), cpu),
+        Op::Ori { d, k } => put_bits(d, cpu.reg(d) | k, cpu),
+        Op::Eor { d, r } => put_bits(d, cpu.reg(d) ^ cpu.reg(r), cpu),
+        Op::Com { d } => put_byte(d, com(cpu.reg(d), cpu.sreg), cpu),
+        Op::Neg { d } => put_byte(d, neg(cpu.reg(d), cpu.sreg), cpu),
+        Op::Inc { d } => put_byte(d, inc(cpu.reg(d), cpu.sreg), cpu),
+        Op::Dec { d } => put_byte(d, dec(cpu.reg(d), cpu.sreg), cpu),
+        Op::Lsr { d } => put_byte(d, lsr(cpu.reg(d), cpu.sreg), cpu),
+        Op::Ror { d } => put_byte(d, ror(cpu.reg(d), cpu.sreg), cpu),
+        Op::Asr { d } => put_byte(d, asr(cpu.reg(d), cpu.sreg), cpu),
+        Op::Swap { d } => swap(d, cpu),
+        Op::Adiw { d, k } => put_word(d, adiw(cpu.pair(d), k, cpu.sreg), cpu),
+        Op::Sbiw { d, k } => put_word(d, sbiw(cpu.pair(d), k, cpu.sreg), cpu),
+        Op::Mul { d, r } => multiply(MulKind::Mul, d, r, cpu),
+        Op::Muls { d, r } => multiply(MulKind::Muls, d, r, cpu),
+        Op::Mulsu { d, r } => multiply(MulKind::Mulsu, d, r, cpu),
+        Op::Fmul { d, r } => multiply(MulKind::Fmul, d, r, cpu),
+        Op::Fmuls { d, r } => multiply(MulKind::Fmuls, d, r, cpu),
+        Op::Fmulsu { d, r } => multiply(MulKind::Fmulsu, d, r, cpu),
+        Op::Mov { d, r } => copy(d, cpu.reg(r), cpu),
+        Op::Ldi { d, k } => copy(d, k, cpu),
+        Op::Movw { d, r } => copy_pair(d, r, cpu),
+        Op::Bset { s } => set_flag(s % 8, true, cpu),
+        Op::Bclr { s } => set_flag(s % 8, false, cpu),
+        Op::Bld { d, b } => load_bit(d, b % 8, cpu),
+        Op::Bst { d, b } => store_bit(d, b % 8, cpu),
+        Op::Nop | Op::Wdr => 1,
+        _ => unreachable!(),
+    }
+}

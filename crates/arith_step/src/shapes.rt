@@ -1,0 +1,176 @@
+// The shapes of instructions on registers: each takes its operands from the core, computes a result and its flags, and
+// puts them where they go. Each gives the clock cycles that it takes. The core comes last, since the operands before
+// it are read from it.
+ghost use Rattle.std.specs.Prelude.{◌≡◌, ◌<◌};
+ghost use Rattle.data_space.specs.Core.{pair_at, with_pair, with_reg};
+ghost use Rattle.arith_step.specs.Shapes.{adds, becomes_bits, compares, compares_on, loads_bit, multiplies, sets_flag, stores_bit, subtracts, subtracts_on, swaps, to_pair, to_reg};
+
+use alu_flags::MulKind;
+use avr_base::{Reg, Sreg};
+use data_space::Cpu;
+
+// The flags that instructions read.
+pub const C: u8 = 0;
+
+const T: u8 = 6;
+
+// The register r0, the lower one of the pair that products go to.
+#[inline]
+fn r0() -> Reg
+    ensures { result ≡ 0 }
+{
+    Reg::numbered(0)
+}
+
+#[inline]
+pub fn put_byte(d: Reg, computed: (u8, Sreg), cpu: &mut Cpu) -> u8
+    ensures core { cpu.new ≡ to_reg d computed cpu.old }
+    ensures cycles { result ≡ 1 }
+{
+    cpu.set_reg(d, computed.0);
+    cpu.sreg = computed.1;
+    1
+}
+
+#[inline]
+pub fn put_word(d: Reg, computed: (u16, Sreg), cpu: &mut Cpu) -> u8
+    ensures core { cpu.new ≡ to_pair d computed cpu.old }
+    ensures cycles { result ≡ 2 }
+{
+    cpu.set_pair(d, computed.0);
+    cpu.sreg = computed.1;
+    2
+}
+
+#[inline]
+#[tactic(auto, unfolding(crate::specs::Shapes::adds))]
+pub fn add(d: Reg, b: u8, carry: bool, cpu: &mut Cpu) -> u8
+    ensures core { cpu.new ≡ adds d b carry cpu.old }
+    ensures cycles { result ≡ 1 }
+{
+    let computed = alu_flags::add(cpu.reg(d), b, carry, cpu.sreg);
+    put_byte(d, computed, cpu)
+}
+
+#[inline]
+#[tactic(auto, unfolding(crate::specs::Shapes::subtracts))]
+pub fn subtract(d: Reg, b: u8, cpu: &mut Cpu) -> u8
+    ensures core { cpu.new ≡ subtracts d b cpu.old }
+    ensures cycles { result ≡ 1 }
+{
+    let computed = alu_flags::sub(cpu.reg(d), b, false, false, cpu.sreg);
+    put_byte(d, computed, cpu)
+}
+
+#[inline]
+#[tactic(auto, unfolding(crate::specs::Shapes::subtracts_on))]
+pub fn subtract_on(d: Reg, b: u8, cpu: &mut Cpu) -> u8
+    ensures core { cpu.new ≡ subtracts_on d b cpu.old }
+    ensures cycles { result ≡ 1 }
+{
+    let computed = alu_flags::sub(cpu.reg(d), b, cpu.sreg.has(C), true, cpu.sreg);
+    put_byte(d, computed, cpu)
+}
+
+#[inline]
+#[tactic(auto, unfolding(crate::specs::Shapes::compares))]
+pub fn compare(d: Reg, b: u8, cpu: &mut Cpu) -> u8
+    ensures core { cpu.new ≡ compares d b cpu.old }
+    ensures cycles { result ≡ 1 }
+{
+    cpu.sreg = alu_flags::sub(cpu.reg(d), b, false, false, cpu.sreg).1;
+    1
+}
+
+#[inline]
+#[tactic(auto, unfolding(crate::specs::Shapes::compares_on))]
+pub fn compare_on(d: Reg, b: u8, cpu: &mut Cpu) -> u8
+    ensures core { cpu.new ≡ compares_on d b cpu.old }
+    ensures cycles { result ≡ 1 }
+{
+    cpu.sreg = alu_flags::sub(cpu.reg(d), b, cpu.sreg.has(C), true, cpu.sreg).1;
+    1
+}
+
+#[inline]
+#[tactic(auto, unfolding(crate::specs::Shapes::becomes_bits))]
+pub fn put_bits(d: Reg, bits: u8, cpu: &mut Cpu) -> u8
+    ensures core { cpu.new ≡ becomes_bits d bits cpu.old }
+    ensures cycles { result ≡ 1 }
+{
+    put_byte(d, (bits, alu_flags::logic(bits, cpu.sreg)), cpu)
+}
+
+#[inline]
+#[tactic(auto, unfolding(crate::specs::Shapes::multiplies))]
+pub fn multiply(kind: MulKind, d: Reg, r: Reg, cpu: &mut Cpu) -> u8
+    ensures core { cpu.new ≡ multiplies kind d r cpu.old }
+    ensures cycles { result ≡ 2 }
+{
+    let computed = alu_flags::mul(kind, cpu.reg(d), cpu.reg(r), cpu.sreg);
+    put_word(r0(), computed, cpu)
+}
+
+#[inline]
+#[tactic(auto, unfolding(crate::specs::Shapes::sets_flag))]
+pub fn set_flag(s: u8, on: bool, cpu: &mut Cpu) -> u8
+    requires { s < 8 }
+    ensures core { cpu.new ≡ sets_flag s on cpu.old }
+    ensures cycles { result ≡ 1 }
+{
+    cpu.sreg = cpu.sreg.with(s, on);
+    1
+}
+
+// The bits of a byte are numbered as the flags of SREG are, so they are read and written as flags.
+#[inline]
+#[tactic(auto, unfolding(crate::specs::Shapes::loads_bit))]
+pub fn load_bit(d: Reg, b: u8, cpu: &mut Cpu) -> u8
+    requires { b < 8 }
+    ensures core { cpu.new ≡ loads_bit d b cpu.old }
+    ensures cycles { result ≡ 1 }
+{
+    let byte = Sreg { bits: cpu.reg(d) };
+    cpu.set_reg(d, byte.with(b, cpu.sreg.has(T)).bits);
+    1
+}
+
+#[inline]
+pub fn store_bit(d: Reg, b: u8, cpu: &mut Cpu) -> u8
+    requires { b < 8 }
+    ensures core { cpu.new ≡ stores_bit d b cpu.old }
+    ensures cycles { result ≡ 1 }
+{
+    let byte = Sreg { bits: cpu.reg(d) };
+    set_flag(T, byte.has(b), cpu)
+}
+
+#[inline]
+#[tactic(auto, unfolding(crate::specs::Shapes::swaps))]
+pub fn swap(d: Reg, cpu: &mut Cpu) -> u8
+    ensures core { cpu.new ≡ swaps d cpu.old }
+    ensures cycles { result ≡ 1 }
+{
+    let byte = cpu.reg(d);
+    cpu.set_reg(d, byte % 16 * 16 + byte / 16);
+    1
+}
+
+#[inline]
+pub fn copy(d: Reg, value: u8, cpu: &mut Cpu) -> u8
+    ensures core { cpu.new ≡ with_reg d value cpu.old }
+    ensures cycles { result ≡ 1 }
+{
+    cpu.set_reg(d, value);
+    1
+}
+
+#[inline]
+pub fn copy_pair(d: Reg, r: Reg, cpu: &mut Cpu) -> u8
+    ensures core { cpu.new ≡ with_pair d (pair_at r cpu.old) cpu.old }
+    ensures cycles { result ≡ 1 }
+{
+    let word = cpu.pair(r);
+    cpu.set_pair(d, word);
+    1
+}

@@ -1,0 +1,5 @@
+pub mod Cycles
+pub mod Waits
+pub mod Steady
+pub mod Takes
+pub mod Lonely

@@ -1,0 +1,13 @@
+use Rattle.std.proofs.Common.{◌≡◌, ◌≤◌, ◌-◌, false}
+use Rattle.node_core.specs.Alone.{Went}
+use Rattle.node_core.proofs.alone.pass.Given as goal
+
+abbrev pub invariant-loop-node : goal.invariant-loop-node
+invariant-loop-node l = record {
+  within : l.node.cycle ≤ l.limit;
+  calm : l.node.asking ≡ false;
+  went : Went l.fn.node l.node.cycle l.node.state l.node.rows;
+}
+
+abbrev pub decreases-loop-node : goal.decreases-loop-node
+decreases-loop-node l = l.limit - l.node.cycle

@@ -1,0 +1,133 @@
+-- One cycle of a node: first the processor's part, then the devices'. A cycle is split at its sample of the air: what
+-- it does before, whether it looks, and what it does with what it heard. The effects of an instruction fall into its
+-- first cycle; its other cycles count off.
+use Rattle.std.specs.Prelude.{ℕ, ◌+◌, ◌-◌, ◌%◌, ◌==◌, ◌&&◌, ◌||◌, nat_le, nat_lt, if◌then◌else◌, List, [], ◌∷◌, ◌++◌, Bool, true, false, Option, Some, None, is_some, Result, Ok, Err}
+use Rattle.avr_base.specs.declared.stop.StopCause.{StopCause}
+use Rattle.avr_decoder.specs.declared.op.Op.{Op}
+use Rattle.avr_decoder.specs.declared.op.Op.TheVariants as op
+use Rattle.avr_decoder.specs.Opcodes.{op_at}
+use Rattle.data_space.specs.declared.cpu.Cpu.{Cpu}
+use Rattle.data_space.specs.declared.bus.Done.{Done}
+use Rattle.ihex_loader.specs.Flash.{word_at}
+use Rattle.trace_rows.specs.declared.row.Row.{Row}
+use Rattle.trace_rows.specs.declared.row.Kind.{Kind as RowKind}
+use Rattle.trace_rows.specs.declared.row.Kind.TheVariants as kind
+use Rattle.trace_rows.specs.declared.row.NodeEnd.{NodeEnd}
+use Rattle.trace_rows.specs.declared.row.NodeEnd.TheVariants as end
+use Rattle.world_core.specs.declared.air.Heard.{Heard}
+use Rattle.world_core.specs.NodeKind.{NodeKind}
+use Rattle.node_core.specs.declared.bus.NodeBus.{NodeBus}
+use Rattle.node_core.specs.State.{NodeState}
+use Rattle.node_core.specs.Execute.{executed}
+use Rattle.node_core.specs.Devices.{devices_begun, devices_ask, devices_send, devices_finished}
+
+abbrev pub row : ℕ → NodeState → RowKind → List Row
+row t s kind = (record { cycle = t; node = s.number; kind = kind }) ∷ []
+
+-- a row that exists inside the window alone
+abbrev pub row_within : ℕ → NodeState → RowKind → List Row
+row_within t s kind = if nat_le s.from t && nat_lt t s.to then row t s kind else []
+
+-- the word at the program counter, and the one after it: after word 0xFFFF comes word 0
+abbrev pub first_word : NodeState → ℕ
+first_word s = word_at s.flash s.cpu.pc
+
+abbrev pub second_word : NodeState → ℕ
+second_word s = word_at s.flash ((s.cpu.pc + 1) % 65536)
+
+abbrev pub op_now : NodeState → Op
+op_now s = op_at (first_word s) (second_word s)
+
+abbrev pub is_sei : Op → Bool
+is_sei (op.Bset s) = s == 7
+is_sei _ = false
+
+-- whether one instruction is owed: after SEI, and after one that turned the flag I from 0 to 1
+abbrev pub owes : Op → ℕ → ℕ → Bool
+owes o before after = is_sei o || (nat_lt before 128 && nat_le 128 after)
+
+-- after an instruction, by how it ended. One that stops is not counted, and leaves the wait and what is owed
+abbrev pub after_instruction : NodeState → Op → Result Done StopCause → Cpu → NodeBus → NodeState
+after_instruction s o (Ok d) cpu bus = record s {
+  cpu = cpu;
+  bus = bus;
+  wait = d.cycles - 1;
+  owed = owes o s.cpu.sreg.bits cpu.sreg.bits;
+  count = s.count + 1;
+}
+after_instruction s o (Err cause) cpu bus = record s { cpu = cpu; bus = bus; stop = Some cause }
+
+-- a Stop row stands in place of the Instr row of an instruction that stops
+abbrev pub instruction_rows : ℕ → NodeState → Result Done StopCause → List Row
+instruction_rows t s (Ok d) = row_within t s (kind.Instr s.cpu.pc (first_word s) (second_word s))
+instruction_rows t s (Err cause) = row t s (kind.Stop s.cpu.pc cause)
+
+unfoldable pub instructed : NodeState → NodeState
+instructed s = let o = executed (op_now s) s.cpu s.bus in after_instruction s (op_now s) o.result o.cpu o.bus
+
+unfoldable pub instructed_rows : ℕ → NodeState → List Row
+instructed_rows t s = instruction_rows t s (executed (op_now s) s.cpu s.bus).result
+
+-- the processor's part: cycles of the last instruction are counted off, else the next one is executed. Nothing
+-- interrupts yet, and nothing sleeps
+unfoldable pub cpu_cycle : NodeState → NodeState
+cpu_cycle s = if nat_lt 0 s.wait then record s { wait = s.wait - 1 } else instructed s
+
+unfoldable pub cpu_rows : ℕ → NodeState → List Row
+cpu_rows t s = if nat_lt 0 s.wait then [] else instructed_rows t s
+
+-- the devices' part. A node that stopped in this cycle does not reach it
+abbrev pub devices_cycle : ℕ → NodeState → NodeState
+devices_cycle t s = if is_some s.stop then s else record s { bus = devices_begun t s.bus }
+
+-- the cycle up to its sample. A stopped node does nothing more
+unfoldable pub begun_in : ℕ → NodeState → NodeState
+begun_in t s = if is_some s.stop then s else devices_cycle t (cpu_cycle s)
+
+abbrev pub sent_rows : ℕ → NodeState → Option ℕ → List Row
+sent_rows t s None = []
+sent_rows t s (Some byte) = row t s (kind.Sent byte)
+
+-- whether the devices look at the air, and what they send, once the processor's part is done
+abbrev pub asks_after : ℕ → NodeState → Bool
+asks_after t s = if is_some s.stop then false else devices_ask t s.bus
+
+abbrev pub sends_after : ℕ → NodeState → Option ℕ
+sends_after t s = if is_some s.stop then None else devices_send t s.bus
+
+unfoldable pub asks_in : ℕ → NodeState → Bool
+asks_in t s = if is_some s.stop then false else asks_after t (cpu_cycle s)
+
+unfoldable pub sends_in : ℕ → NodeState → Option ℕ
+sends_in t s = if is_some s.stop then None else sends_after t (cpu_cycle s)
+
+unfoldable pub begun_rows : ℕ → NodeState → List Row
+begun_rows t s = if is_some s.stop then [] else cpu_rows t s ++ sent_rows t s (sends_in t s)
+
+-- the rest of a cycle that looks at the air
+abbrev pub finished_in : ℕ → NodeState → Heard → NodeState
+finished_in t s heard = record s { bus = devices_finished t s.bus heard }
+
+abbrev pub finished_rows : ℕ → NodeState → Heard → List Row
+finished_rows t s heard = row t s (kind.Heard heard)
+
+abbrev pub end_of : NodeState → NodeEnd
+end_of s = if is_some s.stop then end.Stopped else if s.asleep then end.Asleep else end.Running
+
+-- the last row of a run up to a cycle limit
+abbrev pub end_row : ℕ → NodeState → Row
+end_row limit s = record { cycle = limit; node = s.number; kind = kind.End (end_of s) s.count }
+
+-- the node, as the order of all nodes sees it
+abbrev pub node_kind : NodeKind NodeState Row
+node_kind = record {
+  asks = asks_in;
+  sends = sends_in;
+  begun = begun_in;
+  begun_rows = begun_rows;
+  finished = finished_in;
+  finished_rows = finished_rows;
+  is_stopped = λ s. is_some s.stop;
+  row_cycle = λ r. r.cycle;
+  end_row = end_row;
+}

@@ -1,0 +1,9 @@
+pub mod Bus
+pub mod State
+pub mod Execute
+pub mod Devices
+pub mod Cycle
+pub mod Alone
+pub mod Shown
+pub mod Inside
+pub mod Reached

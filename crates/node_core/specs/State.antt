@@ -1,0 +1,37 @@
+-- The state of a node between two cycles: one record with a record per part (ATmega128 datasheet, "AVR CPU Core",
+-- "Memories"). A cycle's rows are no part of it.
+use Rattle.std.specs.Prelude.{ℕ, Bool, false, List, Option, None}
+use Rattle.avr_base.specs.declared.stop.StopCause.{StopCause}
+use Rattle.data_space.specs.declared.cpu.Cpu.{Cpu}
+use Rattle.data_space.specs.Core.{zero_cpu}
+use Rattle.node_core.specs.declared.bus.NodeBus.{NodeBus}
+use Rattle.node_core.specs.Bus.{reset_bus}
+
+pub record NodeState : Type 0 where
+  pub number : ℕ  -- the node's number in its network
+  pub flash : List ℕ  -- the bytes of its program memory
+  pub from : ℕ  -- its Instr and Enter rows exist from this cycle on
+  pub to : ℕ  -- and below this one
+  pub cpu : Cpu  -- the registers of the core
+  pub bus : NodeBus  -- the data space beside the core, with its devices
+  pub wait : ℕ  -- cycles left of the last instruction or entry
+  pub owed : Bool  -- whether an instruction is executed before the next interrupt is entered
+  pub asleep : Bool
+  pub stop : Option StopCause  -- why it stopped, where it did
+  pub count : ℕ  -- how many instructions it executed
+
+-- a node at reset: number, flash and window as they are given
+abbrev pub reset : ℕ → List ℕ → ℕ → ℕ → NodeState
+reset number flash from to = record {
+  number = number;
+  flash = flash;
+  from = from;
+  to = to;
+  cpu = zero_cpu;
+  bus = reset_bus;
+  wait = 0;
+  owed = false;
+  asleep = false;
+  stop = None;
+  count = 0;
+}

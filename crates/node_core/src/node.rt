@@ -1,0 +1,203 @@
+// A node.
+ghost use Rattle.std.specs.Prelude.{◌≡◌, ◌<◌, ◌≤◌, ◌+◌, ◌^◌, [], true, false, IfOk};
+ghost use Rattle.world_core.specs.NodeRun.{answered};
+ghost use Rattle.node_core.specs.State.{reset};
+ghost use Rattle.node_core.specs.Cycle.{node_kind, end_row};
+ghost use Rattle.node_core.specs.Reached.{IsReached};
+
+use crate::NodeBus;
+use crate::machine::Machine;
+use avr_base::{NoMemory, StopCause};
+use data_space::Cpu;
+use ihex_loader::Flash;
+use std::alloc::Global;
+use std::marker::Model;
+use trace_rows::{Kind, NodeEnd, Row};
+use world_core::Heard;
+
+/// Where a run of a node ended.
+#[derive(Clone, Copy, Debug, PartialEq, Eq)]
+pub enum Reached {
+    /// The cycle that was asked for: all cycles below it are finished, and none of this call sent or sampled.
+    Cycle,
+    /// The first cycle that sent a byte. It is finished.
+    Sent { cycle: u64, byte: u8 },
+    /// The first cycle that samples the air. It waits for [`Node::answer`].
+    Ask { cycle: u64 },
+    /// The node is stopped.
+    Stopped,
+    /// There was no memory for the rows of the next cycle. The node stands between two cycles, and the call may be
+    /// made again.
+    NoMemory,
+}
+
+/// One node: its processor, its memories, and the rows that it made. A contract sees the cycle that it has reached,
+/// whether it is in the middle of a cycle that samples the air, its state, and its rows.
+#[derive(Drop)]
+pub struct Node {
+    cycle: u64,
+    asking: bool,
+    machine: Machine,
+}
+
+impl Model for Node {
+    ghost use Rattle.world_core.specs.NodeRun.{Timed};
+    ghost use Rattle.trace_rows.specs.declared.row.Row.{Row};
+    ghost use Rattle.node_core.specs.State.{NodeState};
+    ghost use Rattle.node_core.specs.Shown.{shown};
+    ghost use Rattle.node_core.specs.Inside.{IsWhole};
+
+    ghost Value = { Timed NodeState Row };
+
+    ghost view = { λ a. record { cycle = a.cycle; asking = a.asking; state = shown a.machine; rows = a.machine.rows.items } };
+
+    ghost invariant = { λ a. IsWhole a.cycle a.asking a.machine };
+}
+
+impl Node {
+    /// A node at reset, before cycle 0. Its Instr rows exist in the cycles from `window.0` on and below `window.1`.
+    pub fn new(
+        alloc: Global,
+        number: u8,
+        flash: Flash,
+        window: (u64, u64),
+    ) -> Result<Node, NoMemory>
+        requires { window.0 ≤ window.1 }
+        ensures { IfOk result (λ node. node ≡ record { cycle = 0; asking = false; state = reset number flash.bytes window.0 window.1; rows = [] }) }
+    {
+        Ok(Node {
+            cycle: 0,
+            asking: false,
+            machine: Machine {
+                number,
+                flash,
+                from: window.0,
+                to: window.1,
+                cpu: Cpu::new(),
+                bus: NodeBus::new(),
+                wait: 0,
+                owed: false,
+                asleep: false,
+                stop: None,
+                count: 0,
+                rows: Vec::new(alloc),
+            },
+        })
+    }
+
+    /// Runs the cycles below `cycle` (at most 2^40), and stops early at the first one that sends, samples the air or
+    /// stops the node. An instruction is executed at once in its first cycle, and its waiting cycles are skipped.
+    pub fn run_until(&mut self, cycle: u64) -> Reached
+        requires ahead { self.old.cycle ≤ cycle }
+        requires early { cycle ≤ 2 ^ 40 }
+        requires calm { self.old.asking ≡ false }
+        ensures { IsReached self.old cycle result self.new }
+    {
+        while self.cycle < cycle {
+            if self.machine.stop.is_some() {
+                return Reached::Stopped;
+            }
+            let at = self.cycle;
+            if self.machine.wait > 0 {
+                self.cycle = at + self.machine.rest(at, cycle - at);
+                continue;
+            }
+            match self.machine.begin(at) {
+                Ok(()) => self.cycle = at + 1,
+                Err(_) => return Reached::NoMemory,
+            }
+        }
+        if self.machine.stop.is_some() {
+            Reached::Stopped
+        } else {
+            Reached::Cycle
+        }
+    }
+
+    /// Finishes the cycle that samples the air, with what was heard.
+    pub fn answer(&mut self, h: Heard)
+        requires { self.old.asking ≡ true }
+        ensures { self.new ≡ answered node_kind self.old h }
+    {
+        self.machine.finish(self.cycle, h);
+        self.asking = false;
+        self.cycle += 1;
+    }
+
+    /// How many cycles it has finished.
+    pub fn cycle(&self) -> u64
+        ensures { result ≡ self.now.cycle }
+    {
+        self.cycle
+    }
+
+    /// Whether it is in the middle of a cycle that samples the air.
+    pub fn asking(&self) -> bool
+        ensures { result ≡ self.now.asking }
+    {
+        self.asking
+    }
+
+    /// Why it stopped, where it did.
+    pub fn stopped(&self) -> Option<StopCause>
+        ensures { result ≡ self.now.state.stop }
+    {
+        self.machine.stop
+    }
+
+    /// Whether it sleeps.
+    pub fn asleep(&self) -> bool
+        ensures { result ≡ self.now.state.asleep }
+    {
+        self.machine.asleep
+    }
+
+    /// The registers of its core.
+    pub fn cpu(&self) -> &Cpu
+        ensures { result.now ≡ self.now.state.cpu }
+    {
+        &self.machine.cpu
+    }
+
+    /// How many instructions it executed. One that stops the node is not counted.
+    pub fn instructions(&self) -> u64
+        ensures { result ≡ self.now.state.count }
+    {
+        self.machine.count
+    }
+
+    /// The rows so far.
+    pub fn rows(&self) -> &[Row]
+        ensures { result.now ≡ self.now.rows }
+    {
+        &self.machine.rows
+    }
+
+    /// The last row of a run up to the cycle limit `limit`.
+    pub fn end_row(&self, limit: u64) -> Row
+        ensures { result ≡ end_row limit self.now.state }
+    {
+        let state = if self.machine.stop.is_some() {
+            NodeEnd::Stopped
+        } else if self.machine.asleep {
+            NodeEnd::Asleep
+        } else {
+            NodeEnd::Running
+        };
+        Row {
+            cycle: limit,
+            node: self.machine.number,
+            kind: Kind::End {
+                state,
+                instructions: self.machine.count,
+            },
+        }
+    }
+
+    /// Its rows, for good.
+    pub fn into_rows(self) -> Vec<Row>
+        ensures { result.items ≡ self.rows }
+    {
+        self.machine.rows
+    }
+}

@@ -1,0 +1,12 @@
+use Rattle.std.proofs.Common.{take}
+use Rattle.world_core.specs.declared.air.Send.{Send}
+use Rattle.world_core.specs.FirstFault.{KeepsBelow}
+use Rattle.world_core.specs.Lawful.{IsNextSend}
+use Rattle.world_core.proofs.NextEntry.{IsFree}
+use Rattle.world_core.proofs.laws.send_fault.Given as goal
+
+abbrev pub invariant-loop-place : goal.invariant-loop-place
+invariant-loop-place l = record {
+  free : IsFree (λ (x : Send). x.node) (λ x. x.cycle) l.topo l.topo.byte_time l.free (take l.place l.sends);
+  kept : KeepsBelow (IsNextSend l.topo) l.sends l.place;
+}

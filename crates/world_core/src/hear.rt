@@ -1,0 +1,64 @@
+// What a node hears that samples the air.
+ghost use Rattle.std.specs.Prelude.{◌≡◌, ◌<◌};
+ghost use Rattle.std.specs.List.{All};
+ghost use Rattle.world_core.specs.Topology.{IsInside};
+ghost use Rattle.world_core.specs.Heard.{heard, is_audible, age_of};
+ghost use Rattle.world_core.specs.HeardMore.{heard_with};
+
+use crate::{Heard, Send, Topo};
+
+// What is heard with one send more, of that age in steps of 16 cycles.
+fn with(so_far: Heard, send: &Send, age: u64) -> Heard
+    ensures { result ≡ heard_with (λ _. age) so_far send.now }
+{
+    if so_far.status == 0 {
+        return Heard {
+            status: 1,
+            byte: send.byte,
+            age: if age < 255 { age as u8 } else { 255 },
+        };
+    }
+    Heard {
+        status: 2,
+        byte: so_far.byte | send.byte,
+        age: 0,
+    }
+}
+
+// Whether the node hears the send in this cycle.
+fn hears(topo: &Topo, send: &Send, node: u8, cycle: u64) -> bool
+    requires { send.now.cycle < topo.now.limit }
+    ensures { result ≡ is_audible topo.now node cycle send.now }
+{
+    let first = send.cycle + topo.latency_of(send.node, node);
+    topo.linked(send.node, node) && first <= cycle && cycle < first + topo.byte_time()
+}
+
+// For how long the node has heard the send, in steps of 16 cycles.
+fn age(topo: &Topo, send: &Send, node: u8, cycle: u64) -> u64
+    ensures { result ≡ age_of topo.now node cycle send.now }
+{
+    cycle
+        .saturating_sub(send.cycle)
+        .saturating_sub(topo.latency_of(send.node, node))
+        / 16
+}
+
+/// What node `node` hears in this cycle of these sends, in any order: nothing, or one byte with its age, or a clash.
+/// A send of a node that it hears is audible from the latency on, for the byte time. It takes no memory.
+pub fn heard_of(topo: &Topo, sends: &[Send], node: u8, cycle: u64) -> Heard
+    requires { All (λ x. IsInside topo.now x.node x.cycle) sends.now }
+    ensures { result ≡ heard topo.now sends.now node cycle }
+{
+    let mut so_far = Heard {
+        status: 0,
+        byte: 0,
+        age: 0,
+    };
+    for send in sends {
+        if hears(topo, send, node, cycle) {
+            so_far = with(so_far, send, age(topo, send, node, cycle));
+        }
+    }
+    so_far
+}
