@@ -41,17 +41,18 @@ second_after flash pc s t e f = rw (add-one, e, f) refl
 -- a second word adds nothing
 left_behind_second : (flash : List ℕ) (n pc : ℕ) → is_second flash pc ≡ true → lines_left flash n pc ≡ lines_left flash n (pc + 1)
 left_behind_second flash n pc e = elim (cases_lt pc n) [
-      | inl below ↦ lines_left_word flash n pc below ∙ ap (λ x. x ++ lines_left flash n (pc + 1)) (word_lines_second flash pc e)
-      | inr past ↦ lines_left_none flash n pc past ∙ sym (lines_left_none flash n (pc + 1) (omega arith))
-    ]
+  | inl below ↦ lines_left_word flash n pc below ∙ ap (λ x. x ++ lines_left flash n (pc + 1)) (word_lines_second flash pc e)
+  | inr past ↦ lines_left_none flash n pc past ∙ sym (lines_left_none flash n (pc + 1) (omega arith))
+]
 
 step_by : (flash : List ℕ) (n pc w : ℕ) (t : Bool) → is_two_words (word_at flash pc) ≡ t → w ≡ (if t then 2 else 1) → is_second flash pc ≡ false
     → (lines_left flash n (pc + 1) ≡ lines_left flash n (pc + w)) × (is_second flash (pc + w) ≡ false)
 step_by flash n pc w true t e first =
     let second : is_second flash (pc + 1) ≡ true = second_after flash pc false true first t in
-    let two : pc + 1 + 1 ≡ pc + w = omega arith in
-    (left_behind_second flash n (pc + 1) second ∙ ap (lines_left flash n) two,
-     ap (is_second flash) (sym two) ∙ second_after flash (pc + 1) true (is_two_words (word_at flash (pc + 1))) second refl)
+    let two : pc + 1 + 1 ≡ pc + w = omega arith in (
+      left_behind_second flash n (pc + 1) second ∙ ap (lines_left flash n) two,
+      ap (is_second flash) (sym two) ∙ second_after flash (pc + 1) true (is_two_words (word_at flash (pc + 1))) second refl,
+    )
 step_by flash n pc w false t e first =
     let one : pc + 1 ≡ pc + w = omega arith in
     (ap (lines_left flash n) one, ap (is_second flash) (sym one) ∙ second_after flash pc false false first t)

@@ -12,6 +12,3 @@ mod trouble;
 
 pub use status::Status;
 pub use top::avrora_alone;
-
-#[cfg(test)]
-mod tests;

@@ -10,12 +10,12 @@ returns-in-Ok-clause-ok g c = λ next rest more.
 
 pub returns-in-Err-Failed-clause-err : goal.returns-in-Err-Failed-clause-err
 returns-in-Err-Failed-clause-err g c = λ next. (
-      record { rose = search (rules, c.read.ensures.rose); failed = search (rules, c.read.ensures.failed) },
-      record { rest = Read c.args.name.now c.args.most (refusal_of c.args.too_long) next; reached = Here _; reading = refl }
-    )
+  record { rose = search (rules, c.read.ensures.rose); failed = search (rules, c.read.ensures.failed) },
+  record { rest = Read c.args.name.now c.args.most (refusal_of c.args.too_long) next; reached = Here _; reading = refl },
+)
 
 pub returns-in-Err-TooLong-clause-err : goal.returns-in-Err-TooLong-clause-err
 returns-in-Err-TooLong-clause-err g c = λ next. (
-      search (rules, c.read.ensures.as_before),
-      TooLong c.args.name.now c.args.most (refusal_of c.args.too_long) next (search (rules, c.read.ensures.too_long))
-    )
+  search (rules, c.read.ensures.as_before),
+  TooLong c.args.name.now c.args.most (refusal_of c.args.too_long) next (search (rules, c.read.ensures.too_long)),
+)
