@@ -53,9 +53,9 @@ is_two_words-by_fields w h =
     elim (cases_lt (w / 512) 72) [
       | inl low ↦ outer w (all_from-at (misses w) 0 72 (w / 512) (below w) (omega arith) low) ∙ sym (no_fields w (λ e. absurd (omega arith)) (λ e. absurd (omega arith)))
       | inr from ↦ elim (cases_lt (w / 512) 75) [
-          | inl in_ ↦ same-true (is_two_words w) (by_fields w) (all_from-at agrees 36864 1536 w inner (omega arith) (omega arith))
-          | inr high ↦ outer w (all_from-at (misses w) 75 53 (w / 512) (above w) high (omega arith)) ∙ sym (no_fields w (λ e. absurd (omega arith)) (λ e. absurd (omega arith)))
-        ]
+        | inl in_ ↦ same-true (is_two_words w) (by_fields w) (all_from-at agrees 36864 1536 w inner (omega arith) (omega arith))
+        | inr high ↦ outer w (all_from-at (misses w) 75 53 (w / 512) (above w) high (omega arith)) ∙ sym (no_fields w (λ e. absurd (omega arith)) (λ e. absurd (omega arith)))
+      ]
     ]
 
 pub ruleset widths = (is_two_words-by_fields)

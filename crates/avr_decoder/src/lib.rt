@@ -1,4 +1,5 @@
 //! The instructions of the AVR core: which one a program word is, how many words it takes, and what class it is of.
+//! All calls are total and take no memory.
 #![tactic(auto)]
 
 mod classify;
@@ -9,3 +10,6 @@ mod op;
 pub use classify::class;
 pub use decoding::{decode, one_row_at_most, width};
 pub use op::{Class, Op};
+
+#[cfg(test)]
+mod tests;

@@ -5,3 +5,6 @@ mod parts;
 mod show;
 
 pub use show::{line, put_text, text};
+
+#[cfg(test)]
+mod tests;

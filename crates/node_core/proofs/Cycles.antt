@@ -1,10 +1,9 @@
 -- One cycle of a node, case by case: a wait, an instruction. No device asks or sends yet.
-use Rattle.std.proofs.Common.{◌≡◌, ℕ, ◌-◌, ◌<◌, ◌++◌, append-nil, nat_lt, Bool, true, false, cond, Option, None, List, [], is_some, refl, ap, ◌∙◌, arith}
+use Rattle.std.proofs.Common.{◌≡◌, ℕ, ◌-◌, ◌<◌, ◌++◌, append-nil, Bool, true, false, cond, Option, None, [], is_some, refl, ap, ◌∙◌}
 use Rattle.std.proofs.lemmas.Bool.{lt-ltb}
-use Rattle.trace_rows.specs.declared.row.Row.{Row}
 use Rattle.node_core.specs.State.{NodeState}
 use Rattle.node_core.specs.Devices.{devices_begun, devices_ask, devices_send}
-use Rattle.node_core.specs.Cycle.{cpu_cycle, cpu_rows, instructed, instructed_rows, devices_cycle, begun_in, begun_rows, sent_rows, asks_in, asks_after, sends_in, sends_after}
+use Rattle.node_core.specs.Cycle.{cpu_cycle, cpu_rows, instructed, instructed_rows, devices_cycle, begun_in, begun_rows, sent_rows, asks_in, sends_in}
 
 pub same_case : {X : Type 0} (b : Bool) (x : X) → cond b x x ≡ x
 same_case true x = refl

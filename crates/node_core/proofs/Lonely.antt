@@ -1,10 +1,9 @@
 -- A node that no link reaches, through quiet cycles, one by one, and once it is stopped.
-use Rattle.std.proofs.Common.{◌≡◌, ℕ, zero, suc, ◌+◌, ◌-◌, ◌<◌, ◌≤◌, Bool, true, false, cond, List, [], ◌∷◌, ◌++◌, is_some, refl, sym, subst, ◌∙◌, ap, arith, add-zero, append-nil, min, append_assoc}
+use Rattle.std.proofs.Common.{◌≡◌, ℕ, zero, suc, ◌+◌, ◌-◌, ◌≤◌, Bool, true, false, cond, List, [], ◌∷◌, ◌++◌, is_some, refl, sym, subst, ◌∙◌, ap, arith, add-zero, append-nil, min, append_assoc}
 use Rattle.std.proofs.Math.Nat.{sub-zero}
 use Rattle.trace_rows.specs.declared.row.Row.{Row}
 use Rattle.world_core.specs.NodeKind.{ticked, ticked_rows}
 use Rattle.world_core.specs.NodeRun.{passed, passed_rows, AllQuiet, Timed, Comes, Sends, Asks, answered}
-use Rattle.world_core.specs.Each.{each_below}
 use Rattle.node_core.specs.State.{NodeState, reset}
 use Rattle.node_core.specs.Cycle.{node_kind, asks_in, begun_in, begun_rows, finished_in, finished_rows, end_row}
 use Rattle.node_core.specs.Alone.{silence, alone, alone_rows, node_rows, Went}

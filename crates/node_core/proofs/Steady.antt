@@ -1,18 +1,16 @@
 -- This kind of node keeps what the order of all nodes asks.
-use Rattle.std.proofs.Common.{◌≡◌, ℕ, ◌+◌, ◌≤◌, nat_lt, Bool, true, false, cond, Option, Some, None, List, [], ◌∷◌, ◌++◌, is_some, refl, sym, ap, ◌∙◌, subst, arith, ◌&&◌}
+use Rattle.std.proofs.Common.{◌≡◌, ℕ, nat_lt, Bool, true, false, cond, Option, Some, None, List, [], ◌∷◌, ◌++◌, is_some, refl, sym, ap, ◌∙◌, arith, ◌&&◌}
 use Rattle.std.specs.Prelude.{nat_le, Result, Ok, Err}
 use Rattle.std.specs.List.{All}
 use Rattle.std.proofs.lemmas.List.Elements.{All-nil, All-cons, All-append}
-use Rattle.std.proofs.lemmas.Bool.{false≢true}
 use Rattle.avr_base.specs.declared.stop.StopCause.{StopCause}
 use Rattle.data_space.specs.declared.bus.Done.{Done}
 use Rattle.trace_rows.specs.declared.row.Row.{Row}
 use Rattle.trace_rows.specs.declared.row.Kind.{Kind as RowKind}
-use Rattle.world_core.specs.declared.air.Heard.{Heard}
 use Rattle.world_core.specs.NodeKind.{IsSteady}
 use Rattle.node_core.specs.State.{NodeState}
 use Rattle.node_core.specs.Execute.{executed}
-use Rattle.node_core.specs.Cycle.{node_kind, op_now, row, row_within, instruction_rows, instructed_rows, cpu_cycle, cpu_rows, devices_cycle, begun_in, begun_rows, sent_rows, asks_in, asks_after, sends_in, sends_after, finished_rows}
+use Rattle.node_core.specs.Cycle.{node_kind, op_now, row, row_within, instruction_rows, instructed_rows, cpu_cycle, cpu_rows, devices_cycle, begun_in, begun_rows, sent_rows, sends_in}
 use Rattle.node_core.proofs.Cycles.{never_asks, never_sends}
 
 stays : (t : ℕ) (s : NodeState) → is_some s.stop ≡ true → begun_in t s ≡ s

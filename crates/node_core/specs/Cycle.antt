@@ -1,7 +1,7 @@
 -- One cycle of a node: first the processor's part, then the devices'. A cycle is split at its sample of the air: what
 -- it does before, whether it looks, and what it does with what it heard. The effects of an instruction fall into its
 -- first cycle; its other cycles count off.
-use Rattle.std.specs.Prelude.{ℕ, ◌+◌, ◌-◌, ◌%◌, ◌==◌, ◌&&◌, ◌||◌, nat_le, nat_lt, if◌then◌else◌, List, [], ◌∷◌, ◌++◌, Bool, true, false, Option, Some, None, is_some, Result, Ok, Err}
+use Rattle.std.specs.Prelude.{ℕ, ◌+◌, ◌-◌, ◌%◌, ◌==◌, ◌&&◌, ◌||◌, nat_le, nat_lt, if◌then◌else◌, List, [], ◌∷◌, ◌++◌, Bool, false, Option, Some, None, is_some, Result, Ok, Err}
 use Rattle.avr_base.specs.declared.stop.StopCause.{StopCause}
 use Rattle.avr_decoder.specs.declared.op.Op.{Op}
 use Rattle.avr_decoder.specs.declared.op.Op.TheVariants as op

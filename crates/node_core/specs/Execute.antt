@@ -1,6 +1,6 @@
 -- The effect of one instruction on the core and the data space (AVR Instruction Set Manual), by its class. Register
 -- instructions are defined in arith_step. Of the others RJMP and OUT are built; the rest stop with the cause `unbuilt`.
-use Rattle.std.specs.Prelude.{ℕ, ◌+◌, ◌%◌, ℤ, false, Result, Ok, Err, slice_index}
+use Rattle.std.specs.Prelude.{ℕ, ◌+◌, false, Result, Ok, Err, slice_index}
 use Rattle.std.specs.Int.{w16, cast_unsigned}
 use Rattle.avr_base.specs.declared.stop.StopCause.{StopCause}
 use Rattle.avr_base.specs.declared.stop.StopCause.TheVariants as stop

@@ -1,4 +1,4 @@
-use Rattle.std.proofs.Common.{◌≡◌, ◌++◌, List, sym, ap, ◌∙◌}
+use Rattle.std.proofs.Common.{◌++◌, List, sym, ap, ◌∙◌}
 use Rattle.trace_rows.specs.declared.row.Row.{Row}
 use Rattle.node_core.specs.Cycle.{instructed_rows}
 use Rattle.node_core.specs.Shown.{shown}

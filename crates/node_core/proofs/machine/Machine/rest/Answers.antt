@@ -1,5 +1,4 @@
-use Rattle.std.proofs.Common.{◌≡◌, ◌-◌, sym, ap, ◌∙◌, arith}
-use Rattle.node_core.specs.State.{NodeState}
+use Rattle.std.proofs.Common.{sym, arith}
 use Rattle.node_core.specs.Shown.{shown}
 use Rattle.node_core.proofs.Waits.{all_quiet, waited, waited_rows}
 use Rattle.node_core.proofs.machine.Machine.rest.Goals as goal

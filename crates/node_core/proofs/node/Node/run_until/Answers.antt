@@ -1,11 +1,11 @@
-use Rattle.std.proofs.Common.{◌≡◌, ◌++◌, ◌+◌, ◌≤◌, ◌<◌, List, Bool, false, is_some, sym, ap, ◌∙◌, subst, arith}
+use Rattle.std.proofs.Common.{◌≡◌, ◌++◌, ◌+◌, List, Bool, false, is_some, sym, ap, ◌∙◌, subst, arith}
 use Rattle.trace_rows.specs.declared.row.Row.{Row}
 use Rattle.world_core.specs.NodeRun.{Timed, Comes}
-use Rattle.world_core.proofs.QuietCycles.{comes_none, comes_more, comes_leap, running_none, running_next, running_now}
+use Rattle.world_core.proofs.QuietCycles.{comes_none, comes_more, comes_leap, running_next, running_now}
 use Rattle.node_core.specs.State.{NodeState}
 use Rattle.node_core.specs.Shown.{shown}
 use Rattle.node_core.specs.Inside.{IsWhole}
-use Rattle.node_core.specs.Cycle.{node_kind, begun_in, begun_rows}
+use Rattle.node_core.specs.Cycle.{node_kind, begun_rows}
 use Rattle.node_core.proofs.Cycles.{never_asks, never_sends}
 use Rattle.node_core.proofs.Steady.{steady}
 use Rattle.node_core.proofs.node.Node.run_until.Goals as goal
