@@ -1,10 +1,10 @@
 -- The base behind some lines is what the last of them that sets it says.
-use Rattle.std.proofs.Common.{◌≡◌, ℕ, zero, suc, ◌+◌, ◌*◌, ◌<◌, ◌≤◌, Option, Some, None, List, [], ◌∷◌, ◌++◌, length, get_or, take, slice_get, take-suc, eqb, cond, refl, sym, ap, ◌∙◌, subst, inl, inr, arith}
+use Rattle.std.proofs.Common.{◌≡◌, ℕ, zero, suc, ◌<◌, ◌≤◌, Some, List, length, get_or, take, slice_get, take-suc, refl, sym, ◌∙◌, inl, inr, arith}
 use Rattle.std.proofs.lemmas.Bool.{cases_eq}
 use Rattle.std.proofs.lemmas.Option.{slice_get-get_or}
-use Rattle.ihex_loader.specs.Line.{Line, Blank, Faulty, Record, data_word}
+use Rattle.ihex_loader.specs.Line.{Line, Blank, Faulty, Record}
 use Rattle.ihex_loader.specs.Image.{base_after, bases, last_or}
-use Rattle.ihex_loader.specs.Accepted.{IsLast, IsBase, SetsBase, Segment, Linear}
+use Rattle.ihex_loader.specs.Accepted.{IsBase, SetsBase, Segment, Linear}
 use Rattle.ihex_loader.proofs.Lines.{base_after-more}
 use Rattle.ihex_loader.proofs.Good.{≢-eqb-false}
 use Rattle.ihex_loader.proofs.LastSaid.{SaysOne, last_zero, last_same, last_new, last_unique}

@@ -1,13 +1,11 @@
 -- An accepted image, as relations between lines and as functions of the bytes.
-use Rattle.std.proofs.Common.{◌≡◌, ℕ, ◌<◌, ◌≤◌, Option, Some, None, List, [], length, get_or, slice_get, take, take_all, refl, sym, ap, ◌∙◌, subst, arith}
+use Rattle.std.proofs.Common.{◌≡◌, ℕ, ◌<◌, None, List, [], length, take, sym, ap, ◌∙◌, subst, arith}
 use Rattle.std.proofs.Math.Seq.{take-length}
-use Rattle.std.proofs.lemmas.List.{length-map}
-use Rattle.std.proofs.lemmas.List.FromFn.{get_or-range_with_len}
 use Rattle.std.proofs.lemmas.Option.{slice_get_within}
 use Rattle.std.specs.List.{list_any}
 use Rattle.ihex_loader.specs.Flash.{Image}
 use Rattle.ihex_loader.specs.Line.{Line}
-use Rattle.ihex_loader.specs.Image.{first_fault, is_end, puts, last_put, used_of, bytes_given, image, hex_fault, lines_of}
+use Rattle.ihex_loader.specs.Image.{first_fault, is_end, puts, last_put, used_of, image, hex_fault, lines_of}
 use Rattle.ihex_loader.specs.Accepted.{IsImage, IsLast, PutsAt, IsTop}
 use Rattle.ihex_loader.specs.Pass.{Gives}
 use Rattle.ihex_loader.proofs.LastSaid.{last_unique}

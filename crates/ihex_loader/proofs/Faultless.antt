@@ -1,19 +1,17 @@
 -- No line of a file is faulty exactly where each is sound.
-use Rattle.std.proofs.Common.{◌≡◌, ℕ, zero, suc, ◌+◌, ◌<◌, ◌≤◌, ◌&&◌, ◌||◌, ◌⊎◌, Bool, true, false, Option, Some, None, List, [], ◌∷◌, ◌++◌, length, get_or, take, slice_get, take-suc, eqb, ltb, cond, append_assoc, append-nil, refl, sym, ap, ◌∙◌, subst, inl, inr, arith}
+use Rattle.std.proofs.Common.{◌≡◌, ℕ, zero, suc, ◌+◌, ◌<◌, ◌≤◌, ◌&&◌, ◌||◌, Bool, true, false, Option, Some, None, List, [], ◌∷◌, ◌++◌, length, take, slice_get, take-suc, eqb, ltb, cond, append_assoc, append-nil, refl, sym, ap, ◌∙◌, subst, inl, inr, arith}
 use Rattle.std.specs.List.{list_any}
-use Rattle.std.proofs.lemmas.Bool.{cases_eq, cases_lt}
+use Rattle.std.proofs.lemmas.Bool.{cases_lt}
 use Rattle.std.proofs.lemmas.Bool.Decides.{nat_tests}
 use Rattle.std.proofs.lemmas.List.Folds.{list_any-append}
 use Rattle.ihex_loader.specs.declared.fault.LineFault.{LineFault}
 use Rattle.ihex_loader.specs.declared.fault.LineFault.TheVariants.{Crossing, PastFlash, AfterEnd}
 use Rattle.ihex_loader.specs.declared.fault.HexFault.{HexFault}
 use Rattle.ihex_loader.specs.declared.fault.HexFault.TheVariants.{NoEnd}
-use Rattle.ihex_loader.specs.Fault.{at_line}
 use Rattle.ihex_loader.specs.Line.{Line, Blank, Faulty, Record}
 use Rattle.ihex_loader.specs.Image.{base_after, is_end, fault_behind, fault_or, first_fault}
-use Rattle.ihex_loader.specs.Accepted.{IsBase, EndsBefore, KeepsWithin, IsSound}
-use Rattle.ihex_loader.proofs.Good.{≢-eqb-false}
-use Rattle.ihex_loader.proofs.Bases.{line_at, there, same_line, record_kind, base_unique, base_is_last}
+use Rattle.ihex_loader.specs.Accepted.{EndsBefore, IsSound}
+use Rattle.ihex_loader.proofs.Bases.{line_at, there, same_line, base_unique, base_is_last}
 
 -- the test for an end record, and what it means
 end_is : (line : Line) → is_end line ≡ true → (offset : ℕ) × (bytes : List ℕ) × (line ≡ Record 1 offset bytes)
@@ -73,7 +71,7 @@ no_ends lines n h none = pick (list_any is_end (take n lines)) refl
 -- the tests of a record, and what they mean
 abbrev record_fault : Bool → ℕ → ℕ → ℕ → ℕ → Option LineFault
 record_fault e k len off at =
-    cond e (Some AfterEnd) (cond (eqb k 0 && ltb 0 len) (cond (ltb 65536 (off + len)) (Some Crossing) (cond (ltb 131072 (at + off + len)) (Some PastFlash) None)) None)
+    cond e (Some AfterEnd) (cond ((eqb k 0 && ltb 0 len) && ltb 65536 (off + len)) (Some Crossing) (cond ((eqb k 0 && ltb 0 len) && ltb 131072 (at + off + len)) (Some PastFlash) None))
 
 fault_open : (e : Bool) (k len off at : ℕ) → record_fault e k len off at ≡ None → e ≡ false
 fault_open true k len off at h = absurd (cc)

@@ -10,7 +10,7 @@ use Rattle.ihex_loader.proofs.Puts.{used_of-placed}
 use Rattle.ihex_loader.proofs.Lines.{Stands-more}
 
 no_fault : (e : Bool) (len off at : ℕ) → e ≡ false → off + len ≤ 65536 → at + off + len ≤ 131072
-    → cond e (Some AfterEnd) (cond (ltb 0 len) (cond (ltb 65536 (off + len)) (Some Crossing) (cond (ltb 131072 (at + off + len)) (Some PastFlash) None)) None) ≡ None
+    → cond e (Some AfterEnd) (cond (ltb 0 len && ltb 65536 (off + len)) (Some Crossing) (cond (ltb 0 len && ltb 131072 (at + off + len)) (Some PastFlash) None)) ≡ None
 no_fault e len off at h cross past = grind (arith, nat_tests)
 
 used_of-some : (at : ℕ) (bs : List ℕ) → 0 < length bs → used_of (placed at bs) ≡ at + length bs
@@ -57,7 +57,7 @@ other_good before f u b c kind off bytes e o s open_still none base ended = (
 )
   where
     not_data : (x : Bool) (k len w at : ℕ) → x ≡ false → (k ≡ 0 → len ≡ 0)
-        → cond x (Some AfterEnd) (cond (eqb k 0 && ltb 0 len) (cond (ltb 65536 (w + len)) (Some Crossing) (cond (ltb 131072 (at + w + len)) (Some PastFlash) None)) None) ≡ None
+        → cond x (Some AfterEnd) (cond ((eqb k 0 && ltb 0 len) && ltb 65536 (w + len)) (Some Crossing) (cond ((eqb k 0 && ltb 0 len) && ltb 131072 (at + w + len)) (Some PastFlash) None)) ≡ None
     not_data x k len w at h z = grind (arith, nat_tests)
 
 pub blank_good : (before : List Line) (f : List ℕ) (u b : ℕ) (e : Bool)

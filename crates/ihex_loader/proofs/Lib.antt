@@ -8,3 +8,4 @@ pub mod Bases
 pub mod Given
 pub mod Faultless
 pub mod Determined
+pub mod Written

@@ -1,7 +1,7 @@
 -- What an accepted Intel HEX file is and gives, as relations between its lines (Intel, Hexadecimal Object File Format
 -- Specification). Nothing here goes over the lines in order: each fact speaks of single lines, numbered from 0, and of
 -- those before or behind them.
-use Rattle.std.specs.Prelude.{◌≡◌, ℕ, ◌+◌, ◌*◌, ◌<◌, ◌≤◌, ◌⊎◌, List, length, Option, Some}
+use Rattle.std.specs.Prelude.{◌≡◌, ℕ, ◌+◌, ◌*◌, ◌<◌, ◌≤◌, List, length, Some}
 use Rattle.std.specs.List.{slice_get}
 use Rattle.ihex_loader.specs.Flash.{Image, byte_at}
 use Rattle.ihex_loader.specs.Line.{Line, Blank, Faulty, Record, data_word}

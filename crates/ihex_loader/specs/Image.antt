@@ -41,11 +41,10 @@ abbrev pub fault_behind : List Line → Line → Option LineFault
 fault_behind before Blank = None
 fault_behind before (Faulty f) = if list_any is_end before then Some AfterEnd else Some f
 fault_behind before (Record kind offset bytes) =
+    let has_data = kind == 0 && nat_lt 0 (length bytes) in
     if list_any is_end before then Some AfterEnd
-    else if kind == 0 && nat_lt 0 (length bytes) then
-    if nat_lt 65536 (offset + length bytes) then Some Crossing
-    else if nat_lt 131072 (base_after before + offset + length bytes) then Some PastFlash
-    else None
+    else if has_data && nat_lt 65536 (offset + length bytes) then Some Crossing
+    else if has_data && nat_lt 131072 (base_after before + offset + length bytes) then Some PastFlash
     else None
 
 -- what is wrong with a line of this number, or what is wrong later

@@ -4,3 +4,4 @@ pub mod Line
 pub mod Image
 pub mod Pass
 pub mod Accepted
+pub mod Written

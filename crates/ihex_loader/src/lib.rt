@@ -11,7 +11,7 @@ mod record;
 
 pub use fault::HexFault;
 pub use flash::{Flash, flash_of};
-pub use law::accepted_image_is_determined;
+pub use law::{accepted_image_is_determined, written_record_is_read};
 pub use loader::load;
 
 #[cfg(test)]

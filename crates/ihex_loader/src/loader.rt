@@ -33,6 +33,7 @@ fn word_of(bytes: &[u8]) -> u16
 }
 
 impl Loader {
+    // What no lines have given.
     #[tactic(auto, using(crate::proofs::Words::Stands_erased))]
     fn new(alloc: Global) -> Result<Loader, AllocError>
         ensures { IfOk result (λ loader. StandsFor [] loader) }
@@ -116,7 +117,7 @@ impl Loader {
 /// 65,536; 03 and 05 have no effect. Bytes that are not given are 0xFF.
 ///
 /// The first faulty line decides, and on it the first that applies in the order of `HexFault`, but `AfterEnd` before
-/// all others. `NoEnd` comes where no line is faulty and none has type 01. `NoMemory` comes at want of memory alone.
+/// all others. `NoEnd` comes where no line is faulty and none has type 01. `NoMemory` answers to want of memory.
 pub fn load(alloc: Global, bytes: &[u8]) -> Result<Flash, HexFault>
     ensures sound { OnOk result (hex_fault bytes.now ≡ None) }
     ensures image { IfOk result (λ flash. flash ≡ image bytes.now) }

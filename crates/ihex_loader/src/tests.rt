@@ -11,135 +11,142 @@ fn verdict(alloc: Global, text: &[u8]) -> (&'static str, usize) {
     }
 }
 
+// Images, what is wrong with each, and its line; "" and 0 where nothing is.
+const VERDICTS: [(&str, &str, usize, &str); 29] = [
+    (
+        ":0400000001E0FFCF4D\n:00000001FF\n",
+        "",
+        0,
+        "two instructions",
+    ),
+    (
+        ":0400000001E0FFCF4E\n:00000001FF\n",
+        "BadSum",
+        1,
+        "a wrong check byte",
+    ),
+    (":0400000001E0FFCF4D\n", "NoEnd", 0, "no end record"),
+    ("", "NoEnd", 0, "no bytes"),
+    (":00000001ff", "", 0, "lower case, no last LF"),
+    (":00000001FF\r", "", 0, "a CR at the end of the last line"),
+    (":00000001FF\r\r\n", "NotARecord", 1, "two CRs"),
+    (
+        "\r\n \t\r\n:00000001FF\r\n\t\n",
+        "",
+        0,
+        "blank lines, before and after the end",
+    ),
+    (
+        " :00000001FF\n",
+        "NotARecord",
+        1,
+        "a blank before the colon",
+    ),
+    (
+        ":00000001FF \n",
+        "NotARecord",
+        1,
+        "a blank behind the digits",
+    ),
+    ("\n00000001FF\n", "NotARecord", 2, "no colon"),
+    (":0000001FF\n", "NotARecord", 1, "an odd number of digits"),
+    (":0000000G00\n", "NotARecord", 1, "another character"),
+    (":000001FF\n", "NotARecord", 1, "four pairs"),
+    (
+        ":00000006FB\n",
+        "BadSum",
+        1,
+        "the check byte before the type",
+    ),
+    (":01000006F9\n", "BadType", 1, "type 06, before its count"),
+    (
+        ":0200000001FD\n",
+        "BadLength",
+        1,
+        "a count of 2 with one byte",
+    ),
+    (
+        ":0100000100FE\n",
+        "BadLength",
+        1,
+        "an end record with a byte",
+    ),
+    (
+        ":0100000200FD\n",
+        "BadLength",
+        1,
+        "a segment base of one byte",
+    ),
+    (
+        ":020000030000FB\n",
+        "BadLength",
+        1,
+        "a start address of two bytes",
+    ),
+    (
+        ":04FFFE0000000000FF\n",
+        "Crossing",
+        1,
+        "4 bytes at offset 0xFFFE",
+    ),
+    (
+        ":02FFFE000102FE\n:00000001FF\n",
+        "",
+        0,
+        "2 bytes at offset 0xFFFE",
+    ),
+    (
+        ":020000040002F8\n:0100000000FF\n",
+        "PastFlash",
+        2,
+        "a byte at 0x20000",
+    ),
+    (
+        ":020000040002F8\n:02FFFF00000000\n",
+        "Crossing",
+        2,
+        "crossing before the end of flash",
+    ),
+    (
+        ":020000040002F8\n:0000000000\n:00000001FF\n",
+        "",
+        0,
+        "no byte at 0x20000",
+    ),
+    (
+        ":02000004FFFFFC\n:01FFFF000001\n",
+        "PastFlash",
+        2,
+        "the last byte of 4 GiB",
+    ),
+    (
+        ":00000001FF\n:00000001FF\n",
+        "AfterEnd",
+        2,
+        "two end records",
+    ),
+    (
+        ":00000001FF\n\nx\n",
+        "AfterEnd",
+        3,
+        "text after the end, before its own fault",
+    ),
+    (
+        ":00000001FE\n:00000001FF\nx\n",
+        "BadSum",
+        1,
+        "the first faulty line",
+    ),
+];
+
 #[test]
 fn verdicts(rt: HostRuntime) {
-    for (text, name, line, why) in [
-        (
-            ":0400000001E0FFCF4D\n:00000001FF\n",
-            "",
-            0usize,
-            "two instructions",
-        ),
-        (
-            ":0400000001E0FFCF4E\n:00000001FF\n",
-            "BadSum",
-            1,
-            "a wrong check byte",
-        ),
-        (":0400000001E0FFCF4D\n", "NoEnd", 0, "no end record"),
-        ("", "NoEnd", 0, "no bytes"),
-        (":00000001ff", "", 0, "lower case, no last LF"),
-        (":00000001FF\r", "", 0, "a CR at the end of the last line"),
-        (":00000001FF\r\r\n", "NotARecord", 1, "two CRs"),
-        (
-            "\r\n \t\r\n:00000001FF\r\n\t\n",
-            "",
-            0,
-            "blank lines, before and after the end",
-        ),
-        (
-            " :00000001FF\n",
-            "NotARecord",
-            1,
-            "a blank before the colon",
-        ),
-        (
-            ":00000001FF \n",
-            "NotARecord",
-            1,
-            "a blank behind the digits",
-        ),
-        ("\n00000001FF\n", "NotARecord", 2, "no colon"),
-        (":0000001FF\n", "NotARecord", 1, "an odd number of digits"),
-        (":0000000G00\n", "NotARecord", 1, "another character"),
-        (":000001FF\n", "NotARecord", 1, "four pairs"),
-        (
-            ":00000006FB\n",
-            "BadSum",
-            1,
-            "the check byte before the type",
-        ),
-        (":01000006F9\n", "BadType", 1, "type 06, before its count"),
-        (
-            ":0200000001FD\n",
-            "BadLength",
-            1,
-            "a count of 2 with one byte",
-        ),
-        (
-            ":0100000100FE\n",
-            "BadLength",
-            1,
-            "an end record with a byte",
-        ),
-        (
-            ":0100000200FD\n",
-            "BadLength",
-            1,
-            "a segment base of one byte",
-        ),
-        (
-            ":020000030000FB\n",
-            "BadLength",
-            1,
-            "a start address of two bytes",
-        ),
-        (
-            ":04FFFE0000000000FF\n",
-            "Crossing",
-            1,
-            "4 bytes at offset 0xFFFE",
-        ),
-        (
-            ":02FFFE000102FE\n:00000001FF\n",
-            "",
-            0,
-            "2 bytes at offset 0xFFFE",
-        ),
-        (
-            ":020000040002F8\n:0100000000FF\n",
-            "PastFlash",
-            2,
-            "a byte at 0x20000",
-        ),
-        (
-            ":020000040002F8\n:02FFFF00000000\n",
-            "Crossing",
-            2,
-            "crossing before the end of flash",
-        ),
-        (
-            ":020000040002F8\n:0000000000\n:00000001FF\n",
-            "",
-            0,
-            "no byte at 0x20000",
-        ),
-        (
-            ":02000004FFFFFC\n:01FFFF000001\n",
-            "PastFlash",
-            2,
-            "the last byte of 4 GiB",
-        ),
-        (
-            ":00000001FF\n:00000001FF\n",
-            "AfterEnd",
-            2,
-            "two end records",
-        ),
-        (
-            ":00000001FF\n\nx\n",
-            "AfterEnd",
-            3,
-            "text after the end, before its own fault",
-        ),
-        (
-            ":00000001FE\n:00000001FF\nx\n",
-            "BadSum",
-            1,
-            "the first faulty line",
-        ),
-    ] {
-        assert_eq!(rt; verdict(rt.alloc(), text.as_bytes()), (name, line), "{why}");
+    for (text, name, line, why) in &VERDICTS {
+        assert_eq!(rt;
+            verdict(rt.alloc(), text.as_bytes()),
+            (*name, *line),
+            "{why}"
+        );
     }
     assert_eq!(rt; HexFault::NoMemory.name(), "NoMemory");
     assert_eq!(rt; HexFault::NoMemory.line(), None);

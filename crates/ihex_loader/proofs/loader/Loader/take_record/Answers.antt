@@ -1,4 +1,4 @@
-use Rattle.std.proofs.Common.{◌≡◌, ◌≢◌, ◌+◌, ◌*◌, get_or, refl, ap, sym, ◌∙◌, arith}
+use Rattle.std.proofs.Common.{◌≡◌, ◌≢◌, ◌*◌, refl, ap, sym, ◌∙◌, arith}
 use Rattle.ihex_loader.specs.Line.{kind_of, offset_of, data_of, data_word}
 use Rattle.ihex_loader.proofs.Good.{other_good, no_base, ≢-eqb-false}
 use Rattle.ihex_loader.proofs.loader.Loader.take_record.Goals as goal
