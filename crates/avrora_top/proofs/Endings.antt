@@ -1,8 +1,8 @@
 -- How a part of the work ends the call.
-use Rattle.std.proofs.Common.{◌≡◌, ℕ, nat_lt, ◌<◌, ◌≤◌, length, true, false, List, Option, Some, None, IfSome, Result, if◌then◌else◌, inl, inr, refl, subst, arith}
+use Rattle.std.proofs.Common.{◌≡◌, ℕ, nat_lt, ◌<◌, ◌≤◌, length, true, false, List, Option, Some, None, IfSome, Result, if◌then◌else◌, inl, refl, subst, arith}
 use Rattle.std.proofs.lemmas.Bool.Decides.{nat_tests}
-use Rattle.avrora_top.specs.Plan.{Plan, Give, Refuse, Read, Refusal, Job}
-use Rattle.avrora_top.specs.Reading.{Files, Reached, Here, Fitting, TooLong, Accepts, Refuses, Verdict, Untold, Refused, Accepted, Says, verdict, on_bytes}
+use Rattle.avrora_top.specs.Plan.{Plan, Give, Refuse, Refusal, Job}
+use Rattle.avrora_top.specs.Reading.{Files, Reached, Here, Fitting, TooLong, Accepts, Refuses, Verdict, Refused, Accepted, Says, verdict, on_bytes}
 use Rattle.avrora_top.specs.Ends.{Ends, JobEnds, Reads, Stream, StopsAt, end_at, end_of}
 use Rattle.avrora_top.specs.declared.trouble.Trouble.{Trouble}
 use Rattle.avrora_top.specs.declared.trouble.Trouble.TheVariants as trouble

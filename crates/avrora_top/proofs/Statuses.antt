@@ -1,13 +1,13 @@
 -- What each status says of a call.
-use Rattle.std.proofs.Common.{◌≡◌, ◌≢◌, ◌⊎◌, ℕ, List, Option, Some, None, inl, inr, refl, sym, ap, ◌∙◌, subst}
+use Rattle.std.proofs.Common.{◌≡◌, ◌≢◌, ◌⊎◌, ℕ, List, Option, Some, None, inl, inr, refl, sym, ◌∙◌, subst}
 use Rattle.sim_io.specs.Outside.{Rose}
 use Rattle.command_words.specs.Words.{Asked, Node, Disasm, asked_by}
 use Rattle.ihex_loader.specs.Flash.{Image}
 use Rattle.ihex_loader.specs.Image.{hex_fault, image}
 use Rattle.ihex_loader.specs.declared.fault.HexFault.{HexFault}
-use Rattle.avrora_top.specs.Plan.{Plan, Give, Refuse, Read, Refusal, BadWords, BadImage, NodeJob, DisasmJob, on_image, plan, plan_for, plan_of}
+use Rattle.avrora_top.specs.Plan.{Plan, Give, Refuse, Read, BadWords, BadImage, NodeJob, DisasmJob, on_image, plan, plan_for, plan_of}
 use Rattle.avrora_top.specs.Reading.{Files, Reached, Here, Fitting, TooLong, Verdict, Untold, Refused as RefusedVerdict, Accepted, Says, verdict}
-use Rattle.avrora_top.specs.Ends.{Ends, End, Done, OutFailed, NoMemory, ReadFailed, Refused, Reads, Stream, FailedIn, line_due, refusal_status, status_due, took}
+use Rattle.avrora_top.specs.Ends.{Ends, End, Done, OutFailed, NoMemory, ReadFailed, Refused, Reads, Stream, status_due}
 use Rattle.avrora_top.specs.TopClause.{Called, Told, Said, Unsaid, Reported, EndedSaying, EndedUnsaid, HasStatus, TopClause}
 use Rattle.avrora_top.specs.declared.trouble.ImageCause.{ImageCause}
 use Rattle.avrora_top.specs.declared.trouble.ImageCause.TheVariants as cause

@@ -1,5 +1,5 @@
 -- How a plan is read on.
-use Rattle.std.proofs.Common.{◌≡◌, ℕ, List, Option, Some, None}
+use Rattle.std.proofs.Common.{◌≡◌, ℕ, List, Some, None}
 use Rattle.ihex_loader.specs.Flash.{Image}
 use Rattle.ihex_loader.specs.Image.{hex_fault, image}
 use Rattle.ihex_loader.specs.declared.fault.HexFault.{HexFault}

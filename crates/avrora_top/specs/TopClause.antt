@@ -3,7 +3,7 @@
 use Rattle.std.specs.Prelude.{◌≡◌, ◌≢◌, ◌⊎◌, List, ℕ, None}
 use Rattle.sim_io.specs.Outside.{Rose}
 use Rattle.command_words.specs.Words.{asked_by}
-use Rattle.avrora_top.specs.Plan.{Plan, Refusal, BadWords, BadImage, Job, plan}
+use Rattle.avrora_top.specs.Plan.{Plan, BadWords, BadImage, plan}
 use Rattle.avrora_top.specs.Reading.{Files, Verdict, Untold, Refused as RefusedVerdict, Accepted, verdict}
 use Rattle.avrora_top.specs.Ends.{Reads, Stream, took, FailedIn, End, Done, OutFailed, NoMemory, ReadFailed, Refused, Ends, line_due, refusal_status, status_due}
 use Rattle.avrora_top.specs.declared.trouble.ImageCause.{ImageCause}

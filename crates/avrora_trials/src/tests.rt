@@ -23,7 +23,12 @@ const FILES: [(&str, &str); 9] = [
     ("odd.hex", ":0100000000FF\n:00000001FF\n"),
 ];
 
-fn add(files: &mut Vec<(Name, Vec<u8>)>, alloc: Global, name: &str, text: &[u8]) -> Result<(), Fail> {
+fn add(
+    files: &mut Vec<(Name, Vec<u8>)>,
+    alloc: Global,
+    name: &str,
+    text: &[u8],
+) -> Result<(), Fail> {
     let file = (Name::new(alloc, name)?, Vec::from_slice(alloc, text)?);
     files.push(file).ok().ok_or("memory")?;
     Ok(())

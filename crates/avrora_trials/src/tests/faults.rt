@@ -169,9 +169,10 @@ fn failures(rt: HostRuntime) -> Result<(), Fail> {
         let mut out = sink(alloc, trial.out.room, trial.out.step, trial.out.fail)?;
         let mut err = sink(alloc, trial.err.room, trial.err.step, trial.err.fail)?;
         let status = avrora_alone(alloc, trial.words, &mut files, &mut out, &mut err);
-        assert_eq!(rt; status, trial.status, "status of {}", trial.what);
-        assert_eq!(rt; out.taken(), trial.taken.as_bytes(), "output of {}", trial.what);
-        assert_eq!(rt; err.taken(), trial.said.as_bytes(), "error of {}", trial.what);
+        let what = trial.what;
+        assert!(rt; status == trial.status, "status of {what}");
+        assert!(rt; out.taken() == trial.taken.as_bytes(), "output of {what}");
+        assert!(rt; err.taken() == trial.said.as_bytes(), "error of {what}");
     }
     Ok(())
 }

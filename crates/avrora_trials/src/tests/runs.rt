@@ -152,7 +152,12 @@ fn runs(rt: HostRuntime) -> Result<(), Fail> {
         let mut err = sink(alloc, 1000, 1000, &[])?;
         let status = avrora_alone(alloc, run.words, &mut files, &mut out, &mut err);
         assert_eq!(rt; status, run.status, "status of {:?}", run.words);
-        assert_eq!(rt; out.taken(), run.out.as_bytes(), "output of {:?}", run.words);
+        assert_eq!(rt;
+            out.taken(),
+            run.out.as_bytes(),
+            "output of {:?}",
+            run.words
+        );
         assert_eq!(rt; err.taken(), run.err.as_bytes(), "error of {:?}", run.words);
     }
     Ok(())

@@ -1,4 +1,4 @@
-use Rattle.std.proofs.Common.{◌≡◌, ◌+◌, ◌<◌, ◌≤◌, ◌∙◌, if◌then◌else◌, arith, refl}
+use Rattle.std.proofs.Common.{◌≡◌, ◌<◌, ◌≤◌, ◌∙◌, if◌then◌else◌, arith, refl}
 use Rattle.std.proofs.lemmas.Result.{err_from_is_err_and}
 use Rattle.sim_io.proofs.Pages.{stands_first, stands_moved, stands_more, stands_front, stands_all}
 use Rattle.avr_decoder.specs.Opcodes.{is_two_words}
