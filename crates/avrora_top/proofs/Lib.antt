@@ -1,0 +1,5 @@
+pub mod Pieces
+pub mod Steps
+pub mod Lines
+pub mod Endings
+pub mod Statuses

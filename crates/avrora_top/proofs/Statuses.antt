@@ -1,0 +1,176 @@
+-- What each status says of a call.
+use Rattle.std.proofs.Common.{◌≡◌, ◌≢◌, ◌⊎◌, ℕ, List, Option, Some, None, inl, inr, refl, sym, ◌∙◌, subst}
+use Rattle.sim_io.specs.Outside.{Rose}
+use Rattle.command_words.specs.Words.{Asked, Node, Disasm, asked_by}
+use Rattle.ihex_loader.specs.Flash.{Image}
+use Rattle.ihex_loader.specs.Image.{hex_fault, image}
+use Rattle.ihex_loader.specs.declared.fault.HexFault.{HexFault}
+use Rattle.avrora_top.specs.Plan.{Plan, Give, Refuse, Read, BadWords, BadImage, NodeJob, DisasmJob, on_image, plan, plan_for, plan_of}
+use Rattle.avrora_top.specs.Reading.{Files, Reached, Here, Fitting, TooLong, Verdict, Untold, Refused as RefusedVerdict, Accepted, Says, verdict}
+use Rattle.avrora_top.specs.Ends.{Ends, End, Done, OutFailed, NoMemory, ReadFailed, Refused, Reads, Stream, status_due}
+use Rattle.avrora_top.specs.TopClause.{Called, Told, Said, Unsaid, Reported, EndedSaying, EndedUnsaid, HasStatus, TopClause}
+use Rattle.avrora_top.specs.declared.trouble.ImageCause.{ImageCause}
+use Rattle.avrora_top.specs.declared.trouble.ImageCause.TheVariants as cause
+use Rattle.avrora_top.specs.declared.status.Status.{Status}
+use Rattle.avrora_top.specs.declared.status.Status.TheVariants as case
+
+-- wherever the reading of this plan comes to, it does not refuse the words
+abbrev KeepsWords : Plan → Type 0
+KeepsWords (Give job) = Unit {0}
+KeepsWords (Refuse refusal) = refusal ≢ BadWords
+KeepsWords (Read name most too_long next) = (too_long ≢ BadWords) × ((bytes : List ℕ) → KeepsWords (next bytes))
+
+keeps_reached : (files : Files) (p q : Plan) → Reached files p q → KeepsWords p → KeepsWords q
+keeps_reached files _ q (Here p) k = k
+keeps_reached files _ q (Fitting name most too_long next bytes rest told fits more) k = keeps_reached files (next bytes) rest more (k.1 bytes)
+keeps_reached files _ _ (TooLong name most too_long next told) k = k.0
+
+image_is_no_words : (name : List ℕ) (why : ImageCause) → BadImage name why ≢ BadWords
+image_is_no_words name why e = cc
+
+keeps_image : (name : List ℕ) (o : Option HexFault) (flash : Image) (next : Image → Plan) → ((f : Image) → KeepsWords (next f)) → KeepsWords (on_image name o flash next)
+keeps_image name (Some fault) flash next k = image_is_no_words name (cause.Faulty fault)
+keeps_image name None flash next k = k flash
+
+keeps_plan : (asked : Asked) → KeepsWords (plan_of asked)
+unfolding plan_of
+keeps_plan (Node file cycles) =
+    (image_is_no_words file cause.TooLong, λ bytes. keeps_image file (hex_fault bytes) (image bytes) (λ flash. Give (NodeJob flash cycles)) (λ f. tt))
+keeps_plan (Disasm file) =
+    (image_is_no_words file cause.TooLong, λ bytes. keeps_image file (hex_fault bytes) (image bytes) (λ flash. Give (DisasmJob flash)) (λ f. tt))
+
+-- words are refused only where nothing is asked for
+asked_none : (files : Files) (asked : Option Asked) → Reached files (plan_for asked) (Refuse BadWords) → asked ≡ None
+asked_none files None r = refl
+asked_none files (Some asked) r = absurd (keeps_reached files (plan_of asked) (Refuse BadWords) r (keeps_plan asked) refl)
+
+-- the ends that have this status
+abbrev EndsWith : Status → End → Type 0
+EndsWith case.Done end = end ≡ Done
+EndsWith case.SinkFailed end = end ≡ OutFailed
+EndsWith case.BadWords end = end ≡ Refused BadWords
+EndsWith case.ReadFailed end = (name : List ℕ) × (end ≡ ReadFailed name)
+EndsWith case.BadScenario end = ⊥
+EndsWith case.BadImage end = (name : List ℕ) × ((why : ImageCause) × (end ≡ Refused (BadImage name why)))
+EndsWith case.NoMemory end = end ≡ NoMemory
+
+ends_with_due : (end : End) → EndsWith (status_due end) end
+ends_with_due Done = refl
+ends_with_due OutFailed = refl
+ends_with_due NoMemory = refl
+ends_with_due (ReadFailed name) = (name, refl)
+ends_with_due (Refused BadWords) = refl
+ends_with_due (Refused (BadImage name why)) = (name, (why, refl))
+
+ends_with : (x answer : Status) (end : End) → answer ≡ status_due end → answer ≡ x → EndsWith x end
+ends_with x answer end e f = subst (λ s. EndsWith s end) (sym e ∙ f) (ends_with_due end)
+
+has_status : (v w : Verdict) (answer : Status) → Says v w → HasStatus w answer → HasStatus v answer
+has_status Untold w answer s h = tt
+has_status (RefusedVerdict r) w answer s h = subst (λ x. HasStatus x answer) (sym s) h
+has_status (Accepted j) w answer s h = subst (λ x. HasStatus x answer) (sym s) h
+
+-- all was done; or an end was told; or it could not be told
+data How (files : Files) (plan : Plan) (store store' : Reads) (out out' err err' : Stream) (answer : Status) : Type 0 where
+  AllDone : Ends files plan store store' out out' Done → answer ≡ case.Done → err' ≡ err → How files plan store store' out out' err err' answer
+  Saying : (end : End) → end ≢ Done → answer ≡ status_due end → EndedSaying files plan store store' out out' err err' end → How files plan store store' out out' err err' answer
+  Unsaying : (end : End) → answer ≡ case.SinkFailed → EndedUnsaid files plan store store' out out' err err' end → How files plan store store' out out' err err' answer
+
+module _ (files : Files) (words : List (List ℕ)) (store store' : Reads) (out out' err err' : Stream) (answer : Status) where
+  abbrev SaidSo : End → Type 0
+  SaidSo end = EndedSaying files (plan words) store store' out out' err err' end
+
+  abbrev HowNow : Type 0
+  HowNow = How files (plan words) store store' out out' err err' answer
+
+  how_told : (end : End) → end ≢ Done → Ends files (plan words) store store' out out' end → Told end err err' answer → HowNow
+  how_told end not_done ends (Said s t) = Saying end not_done s (ends, t)
+  how_told end not_done ends (Unsaid s f) = Unsaying end s (not_done, ends, f)
+
+  how_ended : (end : End) → Ends files (plan words) store store' out out' end → Reported end err err' answer → HowNow
+  how_ended Done ends r = AllDone ends r.0 r.1
+  how_ended OutFailed ends r = how_told OutFailed (λ e. cc) ends r
+  how_ended NoMemory ends r = how_told NoMemory (λ e. cc) ends r
+  how_ended (ReadFailed name) ends r = how_told (ReadFailed name) (λ e. cc) ends r
+  how_ended (Refused refusal) ends r = how_told (Refused refusal) (λ e. cc) ends r
+
+  how : Called files (plan words) store store' out out' err err' answer → HowNow
+  how c = how_ended c.end c.ends c.reported
+
+  -- the end that was told, where the status is neither 0 nor 1
+  said : HowNow → (x : Status) → answer ≡ x → x ≢ case.Done → x ≢ case.SinkFailed → (end : End) × EndsWith x end × SaidSo end
+  said (AllDone ends s same) x e no_done no_sink = absurd (no_done (sym e ∙ s))
+  said (Saying end not_done s so) x e no_done no_sink = (end, ends_with x answer end s e, so)
+  said (Unsaying end s un) x e no_done no_sink = absurd (no_sink (sym e ∙ s))
+
+  done_from : HowNow → answer ≡ case.Done → Ends files (plan words) store store' out out' Done × (err' ≡ err)
+  done_from (AllDone ends s same) e = (ends, same)
+  done_from (Saying end not_done s so) e = absurd (not_done (ends_with case.Done answer end s e))
+  done_from (Unsaying end s un) e = absurd (cc)
+
+  sink_from : HowNow → answer ≡ case.SinkFailed
+      → SaidSo OutFailed ⊎ ((end : End) × EndedUnsaid files (plan words) store store' out out' err err' end)
+  sink_from (AllDone ends s same) e = absurd (cc)
+  sink_from (Saying end not_done s so) e = inl (subst SaidSo (ends_with case.SinkFailed answer end s e) so)
+  sink_from (Unsaying end s un) e = inr (end, un)
+
+  words_from : HowNow → answer ≡ case.BadWords → (asked_by words ≡ None) × SaidSo (Refused BadWords)
+  words_from h e =
+      let s = said h case.BadWords e (λ f. cc) (λ f. cc) in
+      let so = subst SaidSo s.1 s.2 in
+      (asked_none files (asked_by words) so.0.1.reached, so)
+
+  read_from : HowNow → answer ≡ case.ReadFailed → (name : List ℕ) × SaidSo (ReadFailed name)
+  read_from h e =
+      let s = said h case.ReadFailed e (λ f. cc) (λ f. cc) in
+      (s.1.0, subst SaidSo s.1.1 s.2)
+
+  no_scenario : HowNow → answer ≢ case.BadScenario
+  no_scenario h e = (said h case.BadScenario e (λ f. cc) (λ f. cc)).1
+
+  image_from : HowNow → answer ≡ case.BadImage → (name : List ℕ) × ((why : ImageCause) × SaidSo (Refused (BadImage name why)))
+  image_from h e =
+      let s = said h case.BadImage e (λ f. cc) (λ f. cc) in
+      (s.1.0, (s.1.1.0, subst SaidSo s.1.1.1 s.2))
+
+  memory_from : HowNow → answer ≡ case.NoMemory → SaidSo NoMemory
+  memory_from h e =
+      let s = said h case.NoMemory e (λ f. cc) (λ f. cc) in
+      subst SaidSo s.1 s.2
+
+  abbrev Expected : Type 0
+  Expected =
+      HasStatus (verdict files (plan words)) answer
+      ⊎ ((answer ≡ case.NoMemory)
+      ⊎ ((answer ≡ case.SinkFailed) × (Rose out.faults out'.faults ⊎ Rose err.faults err'.faults)))
+
+  expected_end : (end : End) → Ends files (plan words) store store' out out' end → answer ≡ status_due end → (Rose store.faults store'.faults → ⊥) → Expected
+  expected_end Done h s no_read = inl (has_status _ (Accepted h.1.0) answer h.1.1.verdict_is s)
+  expected_end OutFailed h s no_read = inr (inr (s, inl h.1.2.rose))
+  expected_end NoMemory h s no_read = inr (inl s)
+  expected_end (ReadFailed name) h s no_read = absurd (no_read h.0.rose)
+  expected_end (Refused refusal) h s no_read = inl (has_status _ (RefusedVerdict refusal) answer h.1.verdict_is s)
+
+  expected_from : HowNow → (Rose store.faults store'.faults → ⊥) → Expected
+  expected_from (AllDone ends s same) no_read = expected_end Done ends s no_read
+  expected_from (Saying end not_done s so) no_read = expected_end end so.0 s no_read
+  expected_from (Unsaying end s un) no_read = inr (inr (s, inr un.2.rose))
+
+  words_told : Told (Refused BadWords) err err' answer → (answer ≡ case.BadWords) ⊎ ((answer ≡ case.SinkFailed) × Rose err.faults err'.faults)
+  words_told (Said s t) = inl s
+  words_told (Unsaid s f) = inr (s, f.rose)
+
+  pub top_clause : Called files (plan words) store store' out out' err err' answer
+      → (asked_by words ≡ None → Reported (Refused BadWords) err err' answer)
+      → TopClause files words store store' out out' err err' answer
+  top_clause c none = record {
+    done = done_from (how c);
+    sink_failed = sink_from (how c);
+    bad_words = words_from (how c);
+    read_failed = read_from (how c);
+    bad_scenario = no_scenario (how c);
+    bad_image = image_from (how c);
+    no_memory = memory_from (how c);
+    words_first = λ e. words_told (none e);
+    complete = expected_from (how c);
+  }

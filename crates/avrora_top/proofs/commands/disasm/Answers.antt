@@ -1,0 +1,13 @@
+use Rattle.avrora_top.specs.Plan.{Give, DisasmJob, plan_of}
+use Rattle.avrora_top.proofs.Endings.{ends_stopped, ends_job}
+use Rattle.avrora_top.proofs.commands.disasm.Goals as goal
+
+pub returns-in-Err : goal.returns-in-Err
+unfolding plan_of
+returns-in-Err g c = ends_stopped _ _ _ _ _ c.in-Err.trouble (c.in-Err.ensures.err (λ flash. Give (DisasmJob flash)))
+
+pub returns-in-Ok : goal.returns-in-Ok
+unfolding plan_of
+returns-in-Ok g c =
+    ends_job _ _ (DisasmJob c.in-Ok.flash) _ _ _ _ c.write_instructions.result
+    (c.in-Ok.ensures.ok (λ flash. Give (DisasmJob flash))) c.in-Ok.ensures.same c.write_instructions.ensures

@@ -1,0 +1,5 @@
+pub mod Listing
+pub mod Plan
+pub mod Reading
+pub mod Ends
+pub mod TopClause

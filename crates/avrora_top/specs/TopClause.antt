@@ -1,0 +1,74 @@
+-- What a call of the program does, by the status that it answers: the cause of each status, what stands on each
+-- stream, and which status comes where nothing failed.
+use Rattle.std.specs.Prelude.{◌≡◌, ◌≢◌, ◌⊎◌, List, ℕ, None}
+use Rattle.sim_io.specs.Outside.{Rose}
+use Rattle.command_words.specs.Words.{asked_by}
+use Rattle.avrora_top.specs.Plan.{Plan, BadWords, BadImage, plan}
+use Rattle.avrora_top.specs.Reading.{Files, Verdict, Untold, Refused as RefusedVerdict, Accepted, verdict}
+use Rattle.avrora_top.specs.Ends.{Reads, Stream, took, FailedIn, End, Done, OutFailed, NoMemory, ReadFailed, Refused, Ends, line_due, refusal_status, status_due}
+use Rattle.avrora_top.specs.declared.trouble.ImageCause.{ImageCause}
+use Rattle.avrora_top.specs.declared.status.Status.{Status}
+use Rattle.avrora_top.specs.declared.status.Status.TheVariants as status
+
+-- an end was told: `err` took its line, or failed in the midst of it
+pub data Told (end : End) (err err' : Stream) (answer : Status) : Type 0 where
+  Said : answer ≡ status_due end → err' ≡ took err (line_due end) → Told end err err' answer
+  Unsaid : answer ≡ status.SinkFailed → FailedIn err (line_due end) err' → Told end err err' answer
+
+-- at the end of all work there is nothing to tell
+abbrev pub Reported : End → Stream → Stream → Status → Type 0
+Reported Done err err' answer = (answer ≡ status.Done) × (err' ≡ err)
+Reported OutFailed err err' answer = Told OutFailed err err' answer
+Reported NoMemory err err' answer = Told NoMemory err err' answer
+Reported (ReadFailed name) err err' answer = Told (ReadFailed name) err err' answer
+Reported (Refused refusal) err err' answer = Told (Refused refusal) err err' answer
+
+-- a call with this plan ended in some way, and reported it
+pub record Called (files : Files) (plan : Plan) (store store' : Reads) (out out' err err' : Stream) (answer : Status) : Type 0 where
+  pub end : End
+  pub ends : Ends files plan store store' out out' end
+  pub reported : Reported end err err' answer
+
+-- a call ended so, and `err` took the line of that end
+abbrev pub EndedSaying : Files → Plan → Reads → Reads → Stream → Stream → Stream → Stream → End → Type 0
+EndedSaying files plan store store' out out' err err' end = Ends files plan store store' out out' end × (err' ≡ took err (line_due end))
+
+-- a call ended so, and `err` failed within the line of that end
+abbrev pub EndedUnsaid : Files → Plan → Reads → Reads → Stream → Stream → Stream → Stream → End → Type 0
+EndedUnsaid files plan store store' out out' err err' end =
+    (end ≢ Done) × Ends files plan store store' out out' end × FailedIn err (line_due end) err'
+
+-- the answer is that of the verdict, where it is known
+abbrev pub HasStatus : Verdict → Status → Type 0
+HasStatus Untold answer = Unit {0}
+HasStatus (RefusedVerdict refusal) answer = answer ≡ refusal_status refusal
+HasStatus (Accepted job) answer = answer ≡ status.Done
+
+-- The top clause. `store`, `out` and `err` are as the call begins, `store'`, `out'` and `err'` as it returns.
+pub record TopClause (files : Files) (words : List (List ℕ)) (store store' : Reads) (out out' err err' : Stream) (answer : Status) : Type 0 where
+  -- 0: all files were accepted, and the job's whole output is written
+  pub done : answer ≡ status.Done → Ends files (plan words) store store' out out' Done × (err' ≡ err)
+  -- 1: a write to `out` failed, and `err` has the line that says so; or a write to `err` failed, of the line of some end
+  pub sink_failed : answer ≡ status.SinkFailed
+      → EndedSaying files (plan words) store store' out out' err err' OutFailed
+      ⊎ ((end : End) × EndedUnsaid files (plan words) store store' out out' err err' end)
+  -- 2: the words are not accepted
+  pub bad_words : answer ≡ status.BadWords
+      → (asked_by words ≡ None) × EndedSaying files (plan words) store store' out out' err err' (Refused BadWords)
+  -- 3: a read of the next file failed
+  pub read_failed : answer ≡ status.ReadFailed
+      → (name : List ℕ) × EndedSaying files (plan words) store store' out out' err err' (ReadFailed name)
+  -- 4: no command that is built reads a scenario
+  pub bad_scenario : answer ≢ status.BadScenario
+  -- 5: the next image is refused
+  pub bad_image : answer ≡ status.BadImage
+      → (name : List ℕ) × ((why : ImageCause) × EndedSaying files (plan words) store store' out out' err err' (Refused (BadImage name why)))
+  -- 6: want of memory
+  pub no_memory : answer ≡ status.NoMemory → EndedSaying files (plan words) store store' out out' err err' NoMemory
+  -- words that are not accepted give 2, or 1 where `err` failed
+  pub words_first : asked_by words ≡ None → (answer ≡ status.BadWords) ⊎ ((answer ≡ status.SinkFailed) × Rose err.faults err'.faults)
+  -- where no read failed, the verdict decides, but for want of memory and failed writes
+  pub complete : (Rose store.faults store'.faults → ⊥)
+      → HasStatus (verdict files (plan words)) answer
+      ⊎ ((answer ≡ status.NoMemory)
+      ⊎ ((answer ≡ status.SinkFailed) × (Rose out.faults out'.faults ⊎ Rose err.faults err'.faults)))

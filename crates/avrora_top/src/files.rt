@@ -1,0 +1,69 @@
+// Reads the files of a command.
+ghost use Rattle.std.specs.Prelude.{◌≡◌, List, ℕ, IfOk, IfErr, OnOk};
+ghost use Rattle.ihex_loader.specs.Flash.{Image};
+ghost use Rattle.avrora_top.specs.Plan.{Plan, Read, image_plan};
+ghost use Rattle.avrora_top.specs.Reading.{Reached};
+ghost use Rattle.avrora_top.specs.Ends.{StopsAt, reads, refusal_of};
+
+use crate::trouble::{Complaint, ImageCause, Trouble};
+use ihex_loader::{Flash, HexFault, load};
+use sim_io::{ReadFault, Store};
+use std::alloc::Global;
+
+// The most bytes of an image's text.
+const MOST_IMAGE_BYTES: usize = 1_048_576;
+
+// The bytes of the file `name`, at most `most`; a longer one is refused as `too_long` says.
+fn read_file<'n, S: Store>(
+    alloc: Global,
+    name: &'n str,
+    most: usize,
+    too_long: Complaint<'n>,
+    store: &mut S,
+) -> Result<Vec<u8>, Trouble<'n>>
+    ensures held { S.held store.new ≡ S.held store.old }
+    ensures same { OnOk result (reads (S.faults store.new) (S.failed store.new) ≡ reads (S.faults store.old) (S.failed store.old)) }
+
+    ensures ok { IfOk result (λ bytes. (next : List ℕ → Plan) (rest : Plan) → Reached (S.held store.old) (next bytes.items) rest
+        → Reached (S.held store.old) (Read name.entry.now most (refusal_of too_long.entry) next) rest) }
+    ensures err { IfErr result (λ t. (next : List ℕ → Plan)
+        → StopsAt (S.held store.old) (Read name.entry.now most (refusal_of too_long.entry) next)
+        (reads (S.faults store.old) (S.failed store.old)) (reads (S.faults store.new) (S.failed store.new)) t) }
+{
+    match store.read(alloc, name, most) {
+        Ok(bytes) => Ok(bytes),
+        Err(ReadFault::Failed) => Err(Trouble::ReadFailed(name)),
+        Err(ReadFault::TooLong) => Err(Trouble::Refused(too_long)),
+        Err(ReadFault::NoMemory) => Err(Trouble::NoMemory),
+    }
+}
+
+/// The flash of the image in the file `name`, which has at most 1,048,576 bytes of text.
+pub fn read_image<'n, S: Store>(
+    alloc: Global,
+    name: &'n str,
+    store: &mut S,
+) -> Result<Flash, Trouble<'n>>
+    ensures held { S.held store.new ≡ S.held store.old }
+    ensures same { OnOk result (reads (S.faults store.new) (S.failed store.new) ≡ reads (S.faults store.old) (S.failed store.old)) }
+
+    ensures ok { IfOk result (λ flash. (next : Image → Plan) → Reached (S.held store.old) (image_plan name.entry.now next) (next flash)) }
+    ensures err { IfErr result (λ t. (next : Image → Plan)
+        → StopsAt (S.held store.old) (image_plan name.entry.now next)
+        (reads (S.faults store.old) (S.failed store.old)) (reads (S.faults store.new) (S.failed store.new)) t) }
+{
+    let too_long = Complaint::BadImage(name, ImageCause::TooLong);
+    let bytes = match read_file(alloc, name, MOST_IMAGE_BYTES, too_long, store) {
+        Ok(bytes) => bytes,
+        Err(trouble) => return Err(trouble),
+    };
+    match load(alloc, bytes.as_slice()) {
+        Ok(flash) => Ok(flash),
+        Err(fault) => {
+            if fault == HexFault::NoMemory {
+                return Err(Trouble::NoMemory);
+            }
+            Err(Trouble::Refused(Complaint::BadImage(name, ImageCause::Faulty(fault))))
+        }
+    }
+}

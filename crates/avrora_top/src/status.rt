@@ -1,0 +1,40 @@
+// What a call answers.
+ghost use Rattle.std.specs.Prelude.{◌≡◌};
+ghost use Rattle.avrora_top.specs.Ends.{status_number};
+
+/// How a call of the program ended.
+#[derive(Clone, Copy, Debug, PartialEq, Eq)]
+pub enum Status {
+    /// All was read, and all was written. A node's stop is no fault.
+    Done,
+    /// A write to the output or to the error stream failed.
+    SinkFailed,
+    /// The words are not accepted.
+    BadWords,
+    /// A file could not be read.
+    ReadFailed,
+    /// The scenario is refused. No command reads one yet.
+    BadScenario,
+    /// An image is refused.
+    BadImage,
+    /// Want of memory.
+    NoMemory,
+}
+
+impl Status {
+    /// The exit status of the program: 0 to 6 in the order of the variants.
+    #[tactic(auto, unfolding(crate::specs::Ends::status_number))]
+    pub fn number(self) -> u8
+        ensures { result ≡ status_number self }
+    {
+        match self {
+            Status::Done => 0,
+            Status::SinkFailed => 1,
+            Status::BadWords => 2,
+            Status::ReadFailed => 3,
+            Status::BadScenario => 4,
+            Status::BadImage => 5,
+            Status::NoMemory => 6,
+        }
+    }
+}

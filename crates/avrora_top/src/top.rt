@@ -1,0 +1,69 @@
+// From the words to a status.
+ghost use Rattle.std.specs.Prelude.{◌≡◌, map};
+ghost use Rattle.command_words.specs.Words.{asked_by};
+ghost use Rattle.avrora_top.specs.Plan.{BadWords, plan};
+ghost use Rattle.avrora_top.specs.Ends.{Refused, reads, stream};
+ghost use Rattle.avrora_top.specs.TopClause.{Called, Reported, TopClause};
+
+use crate::Status;
+use crate::commands::{disasm, node};
+use crate::report::report;
+use crate::trouble::{Complaint, Trouble};
+use command_words::{Order, read_words};
+use sim_io::{Sink, Store};
+use std::alloc::Global;
+
+// Does what the words ask for, and says how it ended.
+fn call<'w, S: Store, O: Sink, E: Sink>(
+    alloc: Global,
+    words: &'w [&'w str],
+    store: &mut S,
+    out: &mut O,
+    err: &mut E,
+) -> Status
+    ensures called { Called (S.held store.old) (plan (map (λ w. w.now) words.entry.now))
+        (reads (S.faults store.old) (S.failed store.old)) (reads (S.faults store.new) (S.failed store.new))
+        (stream (O.taken out.old) (O.faults out.old)) (stream (O.taken out.new) (O.faults out.new))
+        (stream (E.taken err.old) (E.faults err.old)) (stream (E.taken err.new) (E.faults err.new)) result }
+    ensures words { asked_by (map (λ w. w.now) words.entry.now) ≡ None
+        → Reported (Refused BadWords) (stream (E.taken err.old) (E.faults err.old)) (stream (E.taken err.new) (E.faults err.new)) result }
+{
+    match read_words(words) {
+        None => report(err, Err(Trouble::Refused(Complaint::BadWords))),
+        Some(Order::Node { file, cycles }) => {
+            let outcome = node(alloc, file, cycles, store, out);
+            report(err, outcome)
+        }
+        Some(Order::Disasm { file }) => {
+            let outcome = disasm(alloc, file, store, out);
+            report(err, outcome)
+        }
+    }
+}
+
+/// The whole program over a store of files and two streams, on one thread: does what the words after the program's
+/// name ask for, and answers how it ended. Files are read in the order in which the command needs them, each whole and
+/// once, and `out` is written only when all of them are accepted.
+///
+/// | Words | Written to `out` with `Done` |
+/// |---|---|
+/// | `node FILE CYCLES` | the trace of one node that runs the image in FILE, with no links and no input, over CYCLES cycles; instructions are traced in the first 20,000 |
+/// | `disasm FILE` | the address and the text of each instruction of the image in FILE, a line each |
+///
+/// FILE is a word that is not empty and does not begin with `-`; CYCLES is one to eight digits, 1 to 10,000,000. All
+/// other words are `BadWords`. Where the answer is not `Done`, `err` has one line that says why, or the write of that
+/// line failed and the answer is `SinkFailed`. A node that stops is no fault.
+pub fn avrora_alone<'w, S: Store, O: Sink, E: Sink>(
+    alloc: Global,
+    words: &'w [&'w str],
+    store: &mut S,
+    out: &mut O,
+    err: &mut E,
+) -> Status
+    ensures { TopClause (S.held store.old) (map (λ w. w.now) words.entry.now)
+        (reads (S.faults store.old) (S.failed store.old)) (reads (S.faults store.new) (S.failed store.new))
+        (stream (O.taken out.old) (O.faults out.old)) (stream (O.taken out.new) (O.faults out.new))
+        (stream (E.taken err.old) (E.faults err.old)) (stream (E.taken err.new) (E.faults err.new)) result }
+{
+    call(alloc, words, store, out, err)
+}

@@ -1,0 +1,33 @@
+// Why a call does not come to its end.
+use ihex_loader::HexFault;
+
+/// Why an image is refused.
+#[derive(Clone, Copy, Debug, PartialEq, Eq)]
+pub enum ImageCause {
+    /// Its text has more than 1,048,576 bytes.
+    TooLong,
+    /// The first thing that is wrong with its text.
+    Faulty(HexFault),
+}
+
+/// What is refused.
+#[derive(Clone, Copy)]
+pub enum Complaint<'n> {
+    /// The words of the command line.
+    BadWords,
+    /// The image in this file.
+    BadImage(&'n str, ImageCause),
+}
+
+/// Why a call stops short.
+#[derive(Clone, Copy)]
+pub enum Trouble<'n> {
+    /// A write to the output failed.
+    OutFailed,
+    /// Want of memory.
+    NoMemory,
+    /// A read of this file failed.
+    ReadFailed(&'n str),
+    /// The call is refused.
+    Refused(Complaint<'n>),
+}

@@ -1,0 +1,59 @@
+-- The command line: which lists of words are accepted, and what each asks for (this program's own usage).
+use Rattle.std.specs.Prelude.{ℕ, ◌≤◌, ◌==◌, ◌&&◌, nat_le, not, Bool, false, if◌then◌else◌, List, [], ◌∷◌, length, codes, Option, Some, None, option_map}
+use Rattle.std.specs.Char.{is_ascii_digit}
+use Rattle.std.specs.List.{list_all}
+use Rattle.std.specs.Str.Parse.{digits_value}
+use Rattle.std.specs.Cmp.Lexicographic.{pointwise}
+use Rattle.command_words.specs.declared.order.Order.{Order}
+use Rattle.command_words.specs.declared.order.Order.TheVariants as order
+
+-- what an accepted list of words asks for: a constructor for each form
+pub data Asked : Type 0 where
+  -- simulate one node with the image in this file, for so many cycles
+  Node : (file : List ℕ) (cycles : ℕ) → Asked
+  -- list the instructions of the image in this file
+  Disasm : (file : List ℕ) → Asked
+
+-- the same of the code's value
+abbrev pub shown : Order → Asked
+shown (order.Node file cycles) = Node file.now cycles
+shown (order.Disasm file) = Disasm file.now
+
+abbrev pub is_word : List ℕ → List ℕ → Bool
+is_word name word = pointwise ◌==◌ word name
+
+-- FILE: a word that is not empty and does not begin with a hyphen (45)
+abbrev pub is_file : List ℕ → Bool
+is_file [] = false
+is_file (c ∷ cs) = not (c == 45)
+
+-- CYCLES: one to eight decimal digits that write a number from 1 to 10,000,000
+unfoldable pub cycles_of : List ℕ → Option ℕ
+cycles_of word =
+    if nat_le 1 (length word) && nat_le (length word) 8 && list_all is_ascii_digit word
+    && nat_le 1 (digits_value 10 word) && nat_le (digits_value 10 word) 10000000
+    then Some (digits_value 10 word) else None
+
+-- `node FILE CYCLES`
+unfoldable pub as_node : List (List ℕ) → Option Asked
+as_node (command ∷ file ∷ cycles ∷ []) =
+    if is_word (codes "node") command && is_file file then option_map (Node file) (cycles_of cycles) else None
+as_node _ = None
+
+-- `disasm FILE`
+unfoldable pub as_disasm : List (List ℕ) → Option Asked
+as_disasm (command ∷ file ∷ []) = if is_word (codes "disasm") command && is_file file then Some (Disasm file) else None
+as_disasm _ = None
+
+abbrev pub or_else : Option Asked → Option Asked → Option Asked
+or_else (Some asked) other = Some asked
+or_else None other = other
+
+-- what the words ask for: the forms in turn; None where they are not accepted
+unfoldable pub asked_by : List (List ℕ) → Option Asked
+asked_by words = or_else (as_node words) (as_disasm words)
+
+-- the number of cycles, where there is one, is from 1 to 10,000,000
+abbrev pub IsInLimits : Asked → Type 0
+IsInLimits (Node file cycles) = (1 ≤ cycles) × (cycles ≤ 10000000)
+IsInLimits (Disasm file) = Unit {0}
