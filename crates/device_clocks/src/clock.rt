@@ -19,7 +19,8 @@ pub fn clocks_in(divider: u64, cycle: u64, n: u64) -> u64
     requires fits { cycle + n ≤ 2 ^ 41 }
     ensures { result ≡ (cycle + n) / divider - cycle / divider }
 {
-    (cycle + n) / divider - cycle / divider
+    let end = cycle + n;
+    end / divider - cycle / divider
 }
 
 /// The cycle of the first clock, from `cycle` on, before which there are `clocks` others.

@@ -1,11 +1,9 @@
 -- Many clocks of a 16-bit timer: the state after them, and the first that sets a flag.
-use Rattle.std.proofs.Common.{◌≡◌, ℕ, zero, suc, ◌<◌, ◌==◌, Bool, true, false, not, ◌&&◌, ◌||◌, Option, refl, sym, ap, ◌∙◌}
+use Rattle.std.proofs.Common.{◌≡◌, ℕ, zero, suc, ◌<◌, ◌==◌, Bool, true, false, ◌&&◌, ◌||◌, Option, refl, sym, ap, ◌∙◌}
 use Rattle.std.proofs.lemmas.Bool.{ne_eqb}
-use Rattle.device_clocks.specs.declared.flags.TimerFlags.{TimerFlags}
 use Rattle.device_clocks.specs.Clock.{many, cycles}
 use Rattle.device_clocks.specs.Counter.{path}
 use Rattle.device_clocks.specs.First.{First, earlier_of, is_before, seen}
-use Rattle.device_clocks.specs.Flags.{any_flag, flags_or}
 use Rattle.device_clocks.proofs.Cycles.{cycles-halted, kept-until}
 use Rattle.device_clocks.proofs.First.{first-same, first-either, seen-first}
 use Rattle.device_clocks.proofs.Calm.{flags_or-none}

@@ -8,8 +8,11 @@ use device_clocks::any_bit;
 /// The channel of a compare value.
 #[derive(Clone, Copy, Debug, PartialEq, Eq)]
 pub enum Chan {
+    /// OCRA, the top in mode 4.
     A,
+    /// OCRB.
     B,
+    /// OCRC.
     C,
 }
 

@@ -1,14 +1,13 @@
 -- Many clocks of an 8-bit timer: the state after them, and the first that sets a flag.
-use Rattle.std.proofs.Common.{◌≡◌, ℕ, zero, suc, ◌<◌, ◌==◌, Bool, true, false, not, ◌&&◌, ◌||◌, Option, refl, sym, ap, ◌∙◌}
+use Rattle.std.proofs.Common.{◌≡◌, ℕ, zero, suc, ◌<◌, ◌==◌, Bool, true, false, ◌||◌, Option, refl, sym, ap}
 use Rattle.std.proofs.lemmas.Bool.{ne_eqb, or_parts}
-use Rattle.device_clocks.specs.declared.flags.TimerFlags.{TimerFlags}
 use Rattle.device_clocks.specs.Clock.{many, cycles}
 use Rattle.device_clocks.specs.Counter.{path}
 use Rattle.device_clocks.specs.First.{First, earlier_of, is_before, seen}
 use Rattle.device_clocks.proofs.Calm.{or-none}
 use Rattle.device_clocks.proofs.Cycles.{cycles-halted, kept-until}
 use Rattle.device_clocks.proofs.First.{first-same, first-either, seen-first}
-use Rattle.timer8.specs.Timer.{clock, divider, divider_of, flags_of, meets, sets, sets_flag_at, timer_cycle, top, way}
+use Rattle.timer8.specs.Timer.{clock, divider, divider_of, flags_of, meets, sets, sets_flag_at, timer_cycle, way}
 use Rattle.timer8.specs.declared.timer8.Timer8.{Timer8}
 use Rattle.timer8.specs.declared.timer8.Which8.TheVariants.{Zero, Two}
 

@@ -1,5 +1,5 @@
 -- The registers of the 8-bit timers (ATmega128 datasheet, "8-bit Timer/Counter Register Description").
-use Rattle.std.specs.Prelude.{ℕ, ◌%◌, nat_lt, ◌&&◌, if◌then◌else◌, Bool, true, false, Result, Ok, Err, bit_or}
+use Rattle.std.specs.Prelude.{ℕ, ◌%◌, nat_lt, if◌then◌else◌, Bool, true, false, Result, Ok, Err, bit_or}
 use Rattle.avr_base.specs.declared.stop.StopCause.{StopCause}
 use Rattle.avr_base.specs.declared.stop.StopCause.TheVariants as stop
 use Rattle.device_clocks.specs.Bits.{any_bit}

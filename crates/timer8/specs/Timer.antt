@@ -1,6 +1,6 @@
 -- The 8-bit timers, cycle by cycle (ATmega128 datasheet, "8-bit Timer/Counter0 with PWM and Asynchronous Operation"
 -- and "8-bit Timer/Counter2 with PWM"): after reset, the prescalers, what a clock does, and the flags.
-use Rattle.std.specs.Prelude.{ℕ, ◌==◌, ◌&&◌, ◌||◌, not, if◌then◌else◌, Bool, true, false}
+use Rattle.std.specs.Prelude.{ℕ, ◌==◌, ◌&&◌, ◌||◌, not, if◌then◌else◌, Bool, false}
 use Rattle.device_clocks.specs.declared.flags.TimerFlags.{TimerFlags}
 use Rattle.device_clocks.specs.Clock.{prescaled, sets_at}
 use Rattle.device_clocks.specs.Counter.{path, stepped}

@@ -1,4 +1,4 @@
-use Rattle.std.proofs.Common.{◌≡◌, ◌+◌, ◌-◌, ℕ, ◌<◌, ◌==◌, ◌⊎◌, inl, inr, Some, subst, sym, ◌∙◌, arith}
+use Rattle.std.proofs.Common.{◌≡◌, ◌+◌, ◌-◌, ℕ, ◌<◌, ◌==◌, ◌⊎◌, inl, inr, Some, subst, sym, arith}
 use Rattle.device_clocks.specs.Counter.{path}
 use Rattle.device_clocks.specs.First.{First}
 use Rattle.device_clocks.proofs.Path.{first-run, first-later, first-never}

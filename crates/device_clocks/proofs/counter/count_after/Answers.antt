@@ -1,4 +1,4 @@
-use Rattle.std.proofs.Common.{◌≡◌, ◌+◌, ◌-◌, ◌%◌, sym, ap, ◌∙◌, arith}
+use Rattle.std.proofs.Common.{sym, arith}
 use Rattle.device_clocks.proofs.Path.{path-run, path-past}
 use Rattle.device_clocks.proofs.counter.count_after.Goals as goal
 

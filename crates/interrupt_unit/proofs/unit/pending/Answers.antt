@@ -1,5 +1,5 @@
-use Rattle.std.proofs.Common.{◌≡◌, ℕ, ◌≤◌, None, Some, ap, sym, refl, arith, ◌/◌}
-use Rattle.interrupt_unit.specs.Lines.{pending_of, vector_of}
+use Rattle.std.proofs.Common.{ap, sym, refl, arith}
+use Rattle.interrupt_unit.specs.Lines.{vector_of}
 use Rattle.interrupt_unit.proofs.Lowest.{clear-below, lowest-found, lowest-none, not-clear}
 use Rattle.interrupt_unit.proofs.unit.pending.Goals as goal
 

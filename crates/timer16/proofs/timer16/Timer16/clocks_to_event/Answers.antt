@@ -1,4 +1,4 @@
-use Rattle.std.proofs.Common.{◌≡◌, ℕ, ◌-◌, zero, sym, ap, ◌∙◌, arith}
+use Rattle.std.proofs.Common.{ap, ◌∙◌, arith}
 use Rattle.device_clocks.proofs.Cycles.{first-next}
 use Rattle.timer16.specs.Timer.{clock, sets}
 use Rattle.timer16.proofs.Clocks.{clock-free, sets-blocked, sets-last}

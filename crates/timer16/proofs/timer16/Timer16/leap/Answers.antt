@@ -1,4 +1,4 @@
-use Rattle.std.proofs.Common.{◌≡◌, sym, ap, ◌∙◌, arith}
+use Rattle.std.proofs.Common.{sym, ap, ◌∙◌, arith}
 use Rattle.device_clocks.specs.Clock.{many}
 use Rattle.device_clocks.proofs.Cycles.{cycles-clocks, cycles-halted}
 use Rattle.timer16.specs.Timer.{clock, divider}

@@ -1,4 +1,4 @@
-use Rattle.std.proofs.Common.{◌≡◌, ℕ, Option, sym, subst}
+use Rattle.std.proofs.Common.{◌≡◌, ℕ, Option, subst}
 use Rattle.device_clocks.specs.First.{First, earlier_of}
 use Rattle.device_clocks.specs.Clock.{many}
 use Rattle.timer16.specs.Timer.{clock, sets}
