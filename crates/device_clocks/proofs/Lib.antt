@@ -1,4 +1,0 @@
-pub mod Calm
-pub mod Cycles
-pub mod First
-pub mod Path

@@ -1,5 +1,0 @@
-pub mod Bits
-pub mod Clock
-pub mod Counter
-pub mod First
-pub mod Flags

@@ -1,0 +1,4 @@
+pub mod Inductive
+pub mod Waiting
+pub mod Numbered
+pub mod Runs
