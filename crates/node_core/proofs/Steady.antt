@@ -36,7 +36,7 @@ module _ (P : List Row → Type 0) (t : ℕ) (none : P []) (one : (r : Row) → 
 
   instructed_is : (s : NodeState) → P (instructed_rows t s)
   unfolding instructed_rows
-  instructed_is s = instruction_is s (executed (op_now s) s.cpu s.bus).result
+  instructed_is s = instruction_is s (executed s.flash (op_now s) s.cpu s.bus).result
 
   cpu_is : (s : NodeState) → P (cpu_rows t s)
   unfolding cpu_rows

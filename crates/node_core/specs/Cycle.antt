@@ -1,7 +1,7 @@
 -- One cycle of a node: first the processor's part, then the devices'. A cycle is split at its sample of the air: what
 -- it does before, whether it looks, and what it does with what it heard. The effects of an instruction fall into its
 -- first cycle; its other cycles count off.
-use Rattle.std.specs.Prelude.{ℕ, ◌+◌, ◌-◌, ◌%◌, ◌==◌, ◌&&◌, ◌||◌, nat_le, nat_lt, if◌then◌else◌, List, [], ◌∷◌, ◌++◌, Bool, false, Option, Some, None, is_some, Result, Ok, Err}
+use Rattle.std.specs.Prelude.{ℕ, ◌+◌, ◌-◌, ◌%◌, ◌==◌, ◌&&◌, ◌||◌, nat_le, nat_lt, if◌then◌else◌, List, [], ◌∷◌, ◌++◌, Bool, true, false, Option, Some, None, is_some, Result, Ok, Err}
 use Rattle.avr_base.specs.declared.stop.StopCause.{StopCause}
 use Rattle.avr_decoder.specs.declared.op.Op.{Op}
 use Rattle.avr_decoder.specs.declared.op.Op.TheVariants as op
@@ -38,11 +38,13 @@ second_word s = word_at s.flash ((s.cpu.pc + 1) % 65536)
 abbrev pub op_now : NodeState → Op
 op_now s = op_at (first_word s) (second_word s)
 
+-- SEI and RETI: the instruction after them is executed before any interrupt
 abbrev pub is_sei : Op → Bool
 is_sei (op.Bset s) = s == 7
+is_sei op.Reti = true
 is_sei _ = false
 
--- whether one instruction is owed: after SEI, and after one that turned the flag I from 0 to 1
+-- whether one instruction is owed: after SEI and RETI, and after one that turned the flag I from 0 to 1
 abbrev pub owes : Op → ℕ → ℕ → Bool
 owes o before after = is_sei o || (nat_lt before 128 && nat_le 128 after)
 
@@ -63,10 +65,10 @@ instruction_rows t s (Ok d) = row_within t s (kind.Instr s.cpu.pc (first_word s)
 instruction_rows t s (Err cause) = row t s (kind.Stop s.cpu.pc cause)
 
 unfoldable pub instructed : NodeState → NodeState
-instructed s = let o = executed (op_now s) s.cpu s.bus in after_instruction s (op_now s) o.result o.cpu o.bus
+instructed s = let o = executed s.flash (op_now s) s.cpu s.bus in after_instruction s (op_now s) o.result o.cpu o.bus
 
 unfoldable pub instructed_rows : ℕ → NodeState → List Row
-instructed_rows t s = instruction_rows t s (executed (op_now s) s.cpu s.bus).result
+instructed_rows t s = instruction_rows t s (executed s.flash (op_now s) s.cpu s.bus).result
 
 -- the processor's part: cycles of the last instruction are counted off, else the next one is executed. Nothing
 -- interrupts yet, and nothing sleeps

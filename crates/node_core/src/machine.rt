@@ -42,11 +42,13 @@ fn is_within(from: u64, to: u64, cycle: u64) -> bool
     from <= cycle && cycle < to
 }
 
+// SEI and RETI.
 fn is_set_interrupts(op: &Op) -> bool
     ensures { result ≡ is_sei op.now }
 {
     match op {
         Op::Bset { s } => *s == 7,
+        Op::Reti => true,
         _ => false,
     }
 }
@@ -92,7 +94,7 @@ impl Machine {
         let op = decode(word, next);
         let sei = is_set_interrupts(&op);
         let before = self.cpu.sreg.bits;
-        match execute(op, &mut self.cpu, &mut self.bus) {
+        match execute(op, &self.flash, &mut self.cpu, &mut self.bus) {
             Ok(done) => {
                 let told = is_within(self.from, self.to, cycle);
                 let kind = Kind::Instr { pc, word, next };

@@ -1,5 +1,5 @@
 // A node.
-ghost use Rattle.std.specs.Prelude.{◌≡◌, ◌<◌, ◌≤◌, ◌+◌, ◌^◌, [], true, false, IfOk};
+ghost use Rattle.std.specs.Prelude.{◌≡◌, ◌<◌, ◌≤◌, ◌+◌, ◌-◌, ◌^◌, [], true, false, IfOk, slice_index};
 ghost use Rattle.world_core.specs.NodeRun.{answered};
 ghost use Rattle.node_core.specs.State.{reset};
 ghost use Rattle.node_core.specs.Cycle.{node_kind, end_row};
@@ -65,6 +65,7 @@ impl Node {
         requires { window.0 ≤ window.1 }
         ensures { IfOk result (λ node. node ≡ record { cycle = 0; asking = false; state = reset number flash.bytes window.0 window.1; rows = [] }) }
     {
+        let bus = NodeBus::new(alloc)?;
         Ok(Node {
             cycle: 0,
             asking: false,
@@ -74,7 +75,7 @@ impl Node {
                 from: window.0,
                 to: window.1,
                 cpu: Cpu::new(),
-                bus: NodeBus::new(),
+                bus,
                 wait: 0,
                 owed: false,
                 asleep: false,
@@ -157,6 +158,15 @@ impl Node {
         ensures { result.now ≡ self.now.state.cpu }
     {
         &self.machine.cpu
+    }
+
+    /// The byte of its SRAM at the data address `at`, 0x0100 to 0x10FF.
+    pub fn sram(&self, at: u16) -> u8
+        requires low { 0x0100 ≤ at }
+        requires high { at ≤ 0x10FF }
+        ensures { result ≡ slice_index self.now.state.bus.sram (at - 0x0100) }
+    {
+        self.machine.bus.sram.get(at)
     }
 
     /// How many instructions it executed. One that stops the node is not counted.

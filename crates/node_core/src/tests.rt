@@ -47,8 +47,9 @@ fn stops_have_their_causes(rt: HostRuntime) -> Result<(), Fail> {
         (0x91E1, StopCause::UndefinedOperands),
         (0x95E8, StopCause::Spm),
         (0x9598, StopCause::BreakOp),
-        (0x9588, StopCause::Unbuilt),
-        (0xBF0F, StopCause::Unbuilt),
+        // out 0x0F: no register of this node; rcall with the stack pointer at 0: its second push is past the SRAM
+        (0xB90F, StopCause::ReservedAddress),
+        (0xD000, StopCause::PastMemory),
     ] {
         let flash = flash_of(alloc, &[0x0000, word]).ok().ok_or("memory")?;
         let mut node = Node::new(alloc, 0, flash, (0, 0)).ok().ok_or("memory")?;
@@ -97,6 +98,27 @@ fn a_port_write_and_a_loop(rt: HostRuntime) -> Result<(), Fail> {
             state: NodeEnd::Running,
             instructions: 4
         }
+    );
+    Ok(())
+}
+
+#[test]
+fn a_call_and_a_return(rt: HostRuntime) -> Result<(), Fail> {
+    let alloc = rt.alloc();
+    // the stack pointer to 0x10FF; rcall .+4; sts 0x0100, r17; ldi r17, 0x5A; ret
+    let words = [
+        0xE100, 0xBF0E, 0xEF0F, 0xBF0D, 0xD002, 0x9310, 0x0100, 0xE51A, 0x9508,
+    ];
+    let flash = flash_of(alloc, &words).ok().ok_or("memory")?;
+    let mut node = Node::new(alloc, 0, flash, (0, 0)).ok().ok_or("memory")?;
+    // the second ret finds an empty stack, in cycle 15
+    assert_eq!(rt; node.run_until(100), Reached::Stopped);
+    assert_eq!(rt; (node.cycle(), node.instructions()), (16, 9));
+    assert_eq!(rt; node.stopped(), Some(StopCause::PastMemory));
+    assert_eq!(rt; (node.cpu().pc, node.cpu().sp), (8, 0x10FF));
+    assert_eq!(rt;
+        [node.sram(0x0100), node.sram(0x10FF), node.sram(0x10FE)],
+        [0x5A, 5, 0]
     );
     Ok(())
 }

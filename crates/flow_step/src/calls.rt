@@ -1,0 +1,111 @@
+// Calls and returns. Where an access to the stack stops, those before it stay.
+ghost use Rattle.std.specs.Prelude.{◌≡◌, ◌≤◌, IfOk};
+ghost use Rattle.data_space.specs.Core.{pair_at};
+ghost use Rattle.flow_step.specs.Shapes.{calls, pops_return, pushes_return, relative, returns, returns_enabling};
+
+use crate::jumps::{jump, relative_to};
+use avr_base::{Reg, StopCause};
+use data_space::{Bus, Cpu, Done, pop, push};
+
+// The flag that lets interrupts in.
+const I: u8 = 7;
+
+// The pointer Z.
+#[inline]
+pub fn z(cpu: &Cpu) -> u16
+    ensures { result ≡ pair_at 30 cpu.now }
+{
+    cpu.pair(Reg::numbered(30))
+}
+
+// Pushes the address `words` on, its low byte first.
+#[inline]
+#[tactic(auto, unfolding(crate::specs::Shapes::pushes_return))]
+fn push_return<B: Bus>(words: u16, cpu: &mut Cpu, bus: &mut B) -> Result<(), StopCause>
+    ensures result { result ≡ (pushes_return B.put_gives words cpu.old bus.old).result }
+    ensures core { cpu.new ≡ (pushes_return B.put_gives words cpu.old bus.old).cpu }
+    ensures bus { bus.new ≡ (pushes_return B.put_gives words cpu.old bus.old).bus }
+{
+    let back = cpu.pc.wrapping_add(words);
+    push(cpu, bus, (back % 256) as u8)?;
+    push(cpu, bus, (back / 256) as u8)
+}
+
+// CALL.
+#[inline]
+#[tactic(auto, unfolding(crate::specs::Shapes::calls))]
+pub fn call<B: Bus>(k: u16, cpu: &mut Cpu, bus: &mut B) -> Result<Done, StopCause>
+    ensures result { result ≡ (calls B.put_gives 4 2 (λ _. k) cpu.old bus.old).result }
+    ensures core { cpu.new ≡ (calls B.put_gives 4 2 (λ _. k) cpu.old bus.old).cpu }
+    ensures bus { bus.new ≡ (calls B.put_gives 4 2 (λ _. k) cpu.old bus.old).bus }
+    ensures takes { IfOk result (λ d. 1 ≤ d.cycles) }
+{
+    push_return(2, cpu, bus)?;
+    Ok(jump(4, k, cpu))
+}
+
+// RCALL.
+#[inline]
+#[tactic(auto, unfolding(crate::specs::Shapes::calls))]
+pub fn call_near<B: Bus>(k: i16, cpu: &mut Cpu, bus: &mut B) -> Result<Done, StopCause>
+    ensures result { result ≡ (calls B.put_gives 3 1 (relative k) cpu.old bus.old).result }
+    ensures core { cpu.new ≡ (calls B.put_gives 3 1 (relative k) cpu.old bus.old).cpu }
+    ensures bus { bus.new ≡ (calls B.put_gives 3 1 (relative k) cpu.old bus.old).bus }
+    ensures takes { IfOk result (λ d. 1 ≤ d.cycles) }
+{
+    push_return(1, cpu, bus)?;
+    Ok(jump(3, relative_to(k, cpu), cpu))
+}
+
+// ICALL. The stack may lie on Z, which is read after the pushes.
+#[inline]
+#[tactic(auto, unfolding(crate::specs::Shapes::calls))]
+pub fn call_at_z<B: Bus>(cpu: &mut Cpu, bus: &mut B) -> Result<Done, StopCause>
+    ensures result { result ≡ (calls B.put_gives 3 1 (pair_at 30) cpu.old bus.old).result }
+    ensures core { cpu.new ≡ (calls B.put_gives 3 1 (pair_at 30) cpu.old bus.old).cpu }
+    ensures bus { bus.new ≡ (calls B.put_gives 3 1 (pair_at 30) cpu.old bus.old).bus }
+    ensures takes { IfOk result (λ d. 1 ≤ d.cycles) }
+{
+    push_return(1, cpu, bus)?;
+    Ok(jump(3, z(cpu), cpu))
+}
+
+// Pops an address, its high byte first.
+#[inline]
+#[tactic(auto, unfolding(crate::specs::Shapes::pops_return))]
+fn pop_return<B: Bus>(cpu: &mut Cpu, bus: &mut B) -> Result<u16, StopCause>
+    ensures result { result ≡ (pops_return B.get_gives cpu.old bus.old).result }
+    ensures core { cpu.new ≡ (pops_return B.get_gives cpu.old bus.old).cpu }
+    ensures bus { bus.new ≡ (pops_return B.get_gives cpu.old bus.old).bus }
+{
+    let above = pop(cpu, bus)?;
+    let below = pop(cpu, bus)?;
+    Ok(256 * u16::from(above) + u16::from(below))
+}
+
+// RET.
+#[inline]
+#[tactic(auto, unfolding(crate::specs::Shapes::returns))]
+pub fn ret<B: Bus>(cpu: &mut Cpu, bus: &mut B) -> Result<Done, StopCause>
+    ensures result { result ≡ (returns B.get_gives cpu.old bus.old).result }
+    ensures core { cpu.new ≡ (returns B.get_gives cpu.old bus.old).cpu }
+    ensures bus { bus.new ≡ (returns B.get_gives cpu.old bus.old).bus }
+    ensures takes { IfOk result (λ d. 1 ≤ d.cycles) }
+{
+    let pc = pop_return(cpu, bus)?;
+    Ok(jump(4, pc, cpu))
+}
+
+// RETI.
+#[inline]
+#[tactic(auto, unfolding(crate::specs::Shapes::returns_enabling))]
+pub fn reti<B: Bus>(cpu: &mut Cpu, bus: &mut B) -> Result<Done, StopCause>
+    ensures result { result ≡ (returns_enabling B.get_gives cpu.old bus.old).result }
+    ensures core { cpu.new ≡ (returns_enabling B.get_gives cpu.old bus.old).cpu }
+    ensures bus { bus.new ≡ (returns_enabling B.get_gives cpu.old bus.old).bus }
+    ensures takes { IfOk result (λ d. 1 ≤ d.cycles) }
+{
+    let pc = pop_return(cpu, bus)?;
+    cpu.sreg = cpu.sreg.with(I, true);
+    Ok(jump(4, pc, cpu))
+}

@@ -1,0 +1,221 @@
+// The shapes of instructions that load from or store to the data space. A pointer `p` is named by the lower register of
+// its pair. Where an access stops, those before it stay, and nothing else happens.
+ghost use Rattle.std.specs.Prelude.{◌≡◌, ◌<◌, ◌≤◌, ◌+◌, false, IfOk};
+ghost use Rattle.data_space.specs.Core.{advanced};
+ghost use Rattle.memory_step.specs.Shapes.{behind, before, loads, loads_down, loads_up, pops, pushes, sets_bit, stores, stores_down, stores_up};
+
+use avr_base::{Reg, Sreg, StopCause};
+use data_space::{Bus, Cpu, Done, load, pop, push, store};
+
+// The data address of I/O address 0.
+const IO_START: u16 = 0x20;
+
+// The data address of an I/O register.
+#[inline]
+pub fn io(a: u8) -> u16
+    ensures { result ≡ a + 0x20 }
+{
+    u16::from(a) + IO_START
+}
+
+// Ends an instruction of so many words after so many cycles.
+#[inline]
+pub fn end(words: u16, cycles: u8, cpu: &mut Cpu) -> Done
+    ensures core { cpu.new ≡ advanced words cpu.old }
+    ensures reported { result ≡ record { cycles = cycles; sleep = false } }
+{
+    cpu.advance(words);
+    Done {
+        cycles,
+        sleep: false,
+    }
+}
+
+// The data address `q` bytes behind a pointer.
+#[inline]
+pub fn above(p: Reg, q: u8, cpu: &Cpu) -> u16
+    ensures { result ≡ behind p q cpu.now }
+{
+    cpu.pair(p).wrapping_add(u16::from(q))
+}
+
+// The data address before a pointer.
+#[inline]
+fn below(p: Reg, cpu: &Cpu) -> u16
+    ensures { result ≡ before p cpu.now }
+{
+    cpu.pair(p).wrapping_sub(1)
+}
+
+// Loads the byte at `at` into rD.
+#[inline]
+#[tactic(auto, unfolding(crate::specs::Shapes::loads))]
+pub fn load_at<B: Bus>(
+    d: Reg,
+    at: u16,
+    words: u16,
+    cycles: u8,
+    cpu: &mut Cpu,
+    bus: &mut B,
+) -> Result<Done, StopCause>
+    requires { 1 ≤ cycles }
+    ensures result { result ≡ (loads B.get_gives d at words cycles cpu.old bus.old).result }
+    ensures core { cpu.new ≡ (loads B.get_gives d at words cycles cpu.old bus.old).cpu }
+    ensures bus { bus.new ≡ (loads B.get_gives d at words cycles cpu.old bus.old).bus }
+    ensures takes { IfOk result (λ d. 1 ≤ d.cycles) }
+{
+    let byte = load(cpu, bus, at)?;
+    cpu.set_reg(d, byte);
+    Ok(end(words, cycles, cpu))
+}
+
+// LD rD, P+.
+#[inline]
+#[tactic(auto, unfolding(crate::specs::Shapes::loads_up))]
+pub fn load_up<B: Bus>(d: Reg, p: Reg, cpu: &mut Cpu, bus: &mut B) -> Result<Done, StopCause>
+    ensures result { result ≡ (loads_up B.get_gives d p cpu.old bus.old).result }
+    ensures core { cpu.new ≡ (loads_up B.get_gives d p cpu.old bus.old).cpu }
+    ensures bus { bus.new ≡ (loads_up B.get_gives d p cpu.old bus.old).bus }
+    ensures takes { IfOk result (λ d. 1 ≤ d.cycles) }
+{
+    let at = cpu.pair(p);
+    let next = above(p, 1, cpu);
+    let byte = load(cpu, bus, at)?;
+    cpu.set_reg(d, byte);
+    cpu.set_pair(p, next);
+    Ok(end(1, 2, cpu))
+}
+
+// A load at a pointer that is lowered for it, and stays as it was where the load stops.
+#[inline]
+#[tactic(auto, unfolding(crate::specs::Shapes::loads_down))]
+pub fn load_down<B: Bus>(d: Reg, p: Reg, cpu: &mut Cpu, bus: &mut B) -> Result<Done, StopCause>
+    ensures result { result ≡ (loads_down B.get_gives d p cpu.old bus.old).result }
+    ensures core { cpu.new ≡ (loads_down B.get_gives d p cpu.old bus.old).cpu }
+    ensures bus { bus.new ≡ (loads_down B.get_gives d p cpu.old bus.old).bus }
+    ensures takes { IfOk result (λ d. 1 ≤ d.cycles) }
+{
+    let as_it_was = *cpu;
+    let at = below(p, cpu);
+    cpu.set_pair(p, at);
+    match load(cpu, bus, at) {
+        Ok(byte) => {
+            cpu.set_reg(d, byte);
+            Ok(end(1, 2, cpu))
+        }
+        Err(cause) => {
+            *cpu = as_it_was;
+            Err(cause)
+        }
+    }
+}
+
+// Stores a byte at `at`.
+#[inline]
+#[tactic(auto, unfolding(crate::specs::Shapes::stores))]
+pub fn store_at<B: Bus>(
+    at: u16,
+    byte: u8,
+    words: u16,
+    cycles: u8,
+    cpu: &mut Cpu,
+    bus: &mut B,
+) -> Result<Done, StopCause>
+    requires { 1 ≤ cycles }
+    ensures result { result ≡ (stores B.put_gives at byte words cycles cpu.old bus.old).result }
+    ensures core { cpu.new ≡ (stores B.put_gives at byte words cycles cpu.old bus.old).cpu }
+    ensures bus { bus.new ≡ (stores B.put_gives at byte words cycles cpu.old bus.old).bus }
+    ensures takes { IfOk result (λ d. 1 ≤ d.cycles) }
+{
+    store(cpu, bus, at, byte)?;
+    Ok(end(words, cycles, cpu))
+}
+
+// ST P+, rR. The store may be to the pointer itself, which then is one higher than it was all the same.
+#[inline]
+#[tactic(auto, unfolding(crate::specs::Shapes::stores_up))]
+pub fn store_up<B: Bus>(p: Reg, r: Reg, cpu: &mut Cpu, bus: &mut B) -> Result<Done, StopCause>
+    ensures result { result ≡ (stores_up B.put_gives p r cpu.old bus.old).result }
+    ensures core { cpu.new ≡ (stores_up B.put_gives p r cpu.old bus.old).cpu }
+    ensures bus { bus.new ≡ (stores_up B.put_gives p r cpu.old bus.old).bus }
+    ensures takes { IfOk result (λ d. 1 ≤ d.cycles) }
+{
+    let at = cpu.pair(p);
+    let next = above(p, 1, cpu);
+    let byte = cpu.reg(r);
+    store(cpu, bus, at, byte)?;
+    cpu.set_pair(p, next);
+    Ok(end(1, 2, cpu))
+}
+
+// ST -P, rR: the pointer stays as it was where the store stops.
+#[inline]
+#[tactic(auto, unfolding(crate::specs::Shapes::stores_down))]
+pub fn store_down<B: Bus>(p: Reg, r: Reg, cpu: &mut Cpu, bus: &mut B) -> Result<Done, StopCause>
+    ensures result { result ≡ (stores_down B.put_gives p r cpu.old bus.old).result }
+    ensures core { cpu.new ≡ (stores_down B.put_gives p r cpu.old bus.old).cpu }
+    ensures bus { bus.new ≡ (stores_down B.put_gives p r cpu.old bus.old).bus }
+    ensures takes { IfOk result (λ d. 1 ≤ d.cycles) }
+{
+    let as_it_was = *cpu;
+    let at = below(p, cpu);
+    cpu.set_pair(p, at);
+    let byte = cpu.reg(r);
+    match store(cpu, bus, at, byte) {
+        Ok(()) => Ok(end(1, 2, cpu)),
+        Err(cause) => {
+            *cpu = as_it_was;
+            Err(cause)
+        }
+    }
+}
+
+// PUSH.
+#[inline]
+#[tactic(auto, unfolding(crate::specs::Shapes::pushes))]
+pub fn push_reg<B: Bus>(r: Reg, cpu: &mut Cpu, bus: &mut B) -> Result<Done, StopCause>
+    ensures result { result ≡ (pushes B.put_gives r cpu.old bus.old).result }
+    ensures core { cpu.new ≡ (pushes B.put_gives r cpu.old bus.old).cpu }
+    ensures bus { bus.new ≡ (pushes B.put_gives r cpu.old bus.old).bus }
+    ensures takes { IfOk result (λ d. 1 ≤ d.cycles) }
+{
+    let byte = cpu.reg(r);
+    push(cpu, bus, byte)?;
+    Ok(end(1, 2, cpu))
+}
+
+// POP.
+#[inline]
+#[tactic(auto, unfolding(crate::specs::Shapes::pops))]
+pub fn pop_reg<B: Bus>(d: Reg, cpu: &mut Cpu, bus: &mut B) -> Result<Done, StopCause>
+    ensures result { result ≡ (pops B.get_gives d cpu.old bus.old).result }
+    ensures core { cpu.new ≡ (pops B.get_gives d cpu.old bus.old).cpu }
+    ensures bus { bus.new ≡ (pops B.get_gives d cpu.old bus.old).bus }
+    ensures takes { IfOk result (λ d. 1 ≤ d.cycles) }
+{
+    let byte = pop(cpu, bus)?;
+    cpu.set_reg(d, byte);
+    Ok(end(1, 2, cpu))
+}
+
+// SBI and CBI. The bits of a byte are numbered as the flags of SREG are, so one is written as a flag.
+#[inline]
+#[tactic(auto, unfolding(crate::specs::Shapes::sets_bit))]
+pub fn set_bit<B: Bus>(
+    a: u8,
+    b: u8,
+    on: bool,
+    cpu: &mut Cpu,
+    bus: &mut B,
+) -> Result<Done, StopCause>
+    requires { b < 8 }
+    ensures result { result ≡ (sets_bit B.get_gives B.put_gives a b on cpu.old bus.old).result }
+    ensures core { cpu.new ≡ (sets_bit B.get_gives B.put_gives a b on cpu.old bus.old).cpu }
+    ensures bus { bus.new ≡ (sets_bit B.get_gives B.put_gives a b on cpu.old bus.old).bus }
+    ensures takes { IfOk result (λ d. 1 ≤ d.cycles) }
+{
+    let byte = Sreg {
+        bits: load(cpu, bus, io(a))?,
+    };
+    store_at(io(a), byte.with(b, on).bits, 1, 2, cpu, bus)
+}

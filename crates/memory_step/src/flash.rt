@@ -1,0 +1,90 @@
+// The instructions that load from the flash. They have no access that could stop.
+ghost use Rattle.std.specs.Prelude.{◌≡◌, ◌<◌, false};
+ghost use Rattle.data_space.specs.Core.{advanced};
+ghost use Rattle.memory_step.specs.Shapes.{far, reads_far, reads_far_up, reads_flash, reads_flash_up, with_far};
+
+use crate::accesses::{above, end};
+use avr_base::Reg;
+use data_space::{Cpu, Done};
+use ihex_loader::Flash;
+
+// Bytes of the flash, and of its half that Z alone can name.
+const FLASH: u32 = 0x2_0000;
+
+const HALF: u32 = 0x1_0000;
+
+// The pointer Z, by its lower register.
+#[inline]
+fn z() -> Reg
+    ensures { result ≡ 30 }
+{
+    Reg::numbered(30)
+}
+
+// The byte address that RAMPZ and Z name.
+#[inline]
+fn far_address(cpu: &Cpu) -> u32
+    ensures value { result ≡ far cpu.now }
+    ensures within { result < 131072 }
+{
+    let half = if cpu.rampz { HALF } else { 0 };
+    half + u32::from(cpu.pair(z()))
+}
+
+#[inline]
+fn set_far_address(at: u32, cpu: &mut Cpu)
+    requires { at < 131072 }
+    ensures { cpu.new ≡ with_far at cpu.old }
+{
+    cpu.set_pair(z(), (at % HALF) as u16);
+    cpu.rampz = at >= HALF;
+}
+
+// LPM rD, Z.
+#[inline]
+pub fn read(d: Reg, flash: &Flash, cpu: &mut Cpu) -> Done
+    ensures core { cpu.new ≡ advanced 1 (reads_flash flash.now.bytes d cpu.old) }
+    ensures reported { result ≡ record { cycles = 3; sleep = false } }
+{
+    let at = u32::from(cpu.pair(z()));
+    cpu.set_reg(d, flash.byte(at));
+    end(1, 3, cpu)
+}
+
+// LPM rD, Z+.
+#[inline]
+#[tactic(auto, unfolding(crate::specs::Shapes::reads_flash_up))]
+pub fn read_up(d: Reg, flash: &Flash, cpu: &mut Cpu) -> Done
+    ensures core { cpu.new ≡ advanced 1 (reads_flash_up flash.now.bytes d cpu.old) }
+    ensures reported { result ≡ record { cycles = 3; sleep = false } }
+{
+    let next = above(z(), 1, cpu);
+    let at = u32::from(cpu.pair(z()));
+    cpu.set_reg(d, flash.byte(at));
+    cpu.set_pair(z(), next);
+    end(1, 3, cpu)
+}
+
+// ELPM rD, Z.
+#[inline]
+pub fn read_far(d: Reg, flash: &Flash, cpu: &mut Cpu) -> Done
+    ensures core { cpu.new ≡ advanced 1 (reads_far flash.now.bytes d cpu.old) }
+    ensures reported { result ≡ record { cycles = 3; sleep = false } }
+{
+    let at = far_address(cpu);
+    cpu.set_reg(d, flash.byte(at));
+    end(1, 3, cpu)
+}
+
+// ELPM rD, Z+.
+#[inline]
+#[tactic(auto, unfolding(crate::specs::Shapes::reads_far_up))]
+pub fn read_far_up(d: Reg, flash: &Flash, cpu: &mut Cpu) -> Done
+    ensures core { cpu.new ≡ advanced 1 (reads_far_up flash.now.bytes d cpu.old) }
+    ensures reported { result ≡ record { cycles = 3; sleep = false } }
+{
+    let at = far_address(cpu);
+    cpu.set_reg(d, flash.byte(at));
+    set_far_address((at + 1) % FLASH, cpu);
+    end(1, 3, cpu)
+}
