@@ -6,7 +6,7 @@ top=$(cd "$(dirname "$0")/.." && pwd)
 cycles=${1:-10000000}
 program=$top/crates/avrora_program/out/avrora_program
 "$top/avrora" node "$top/examples/two.hex" 1 >/dev/null
-for image in registers; do
+for image in registers mixed; do
     best=
     for _ in 1 2 3 4 5; do
         { /usr/bin/env time -f '%e %M' "$program" node "$top/bench/$image.hex" "$cycles" >/dev/null; } 2>/tmp/avrora-bench.$$
