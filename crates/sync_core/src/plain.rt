@@ -192,7 +192,7 @@ fn drawn_step(draw: &mut Draw, asks: &[Ask]) -> Step {
     }
 }
 
-// Up to 60 steps, most of them allowed, and the place of the first that is not.
+// Up to 120 steps, most of them allowed, and the place of the first that is not.
 fn drawn_steps(
     alloc: Global,
     draw: &mut Draw,
@@ -247,7 +247,7 @@ fn samples_in(steps: &[Step]) -> usize {
 #[test]
 fn drawn_lists(rt: HostRuntime) -> Result<(), Fail> {
     let mut draw = Draw { state: 1 };
-    for list in 0..400u32 {
+    for list in 0..4000u32 {
         let mut plain = drawn_world(rt.alloc(), &mut draw)?;
         let (steps, first) = drawn_steps(rt.alloc(), &mut draw, &mut plain)?;
         let want = match first {
