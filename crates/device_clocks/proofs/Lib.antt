@@ -1,0 +1,4 @@
+pub mod Calm
+pub mod Cycles
+pub mod First
+pub mod Path

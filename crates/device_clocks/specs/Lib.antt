@@ -1,0 +1,5 @@
+pub mod Bits
+pub mod Clock
+pub mod Counter
+pub mod First
+pub mod Flags
