@@ -1,5 +1,6 @@
-/* Sorts 32 pseudo-random bytes in SRAM, sums them up, and stays in a loop. No device is used.
-   avr-gcc -mmcu=atmega128 -Os -nostartfiles -Wl,-e,start sort.c -o sort.elf
+/* Sorts 32 pseudo-random bytes in SRAM, sums them up, and stays in a loop; with FOREVER it does so again and again,
+   which is bench/mixed.hex. No device is used.
+   avr-gcc -mmcu=atmega128 -Os -nostartfiles -Wl,-e,start [-DFOREVER] sort.c -o sort.elf
    avr-objcopy -O ihex -R .eeprom sort.elf sort.hex */
 #include <stdint.h>
 static volatile uint8_t values[32];
@@ -26,5 +27,10 @@ static uint16_t __attribute__((noinline)) sum(void)
 void __attribute__((naked, noreturn, section(".init0"))) start(void)
 {
     __asm__ volatile("clr r1\n\tout 0x3f, r1\n\tldi r28, 0xff\n\tldi r29, 0x10\n\tout 0x3e, r29\n\tout 0x3d, r28\n\t");
+#ifdef FOREVER
+    uint8_t seed = 0;
+    for (;;) { fill(seed++); sort(); total = sum(); }
+#else
     for (;;) { fill(7); sort(); total = sum(); __asm__ volatile("1: rjmp 1b"); }
+#endif
 }
