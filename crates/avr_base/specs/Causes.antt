@@ -30,7 +30,6 @@ cause_number stop.MovedVectors = 23
 cause_number stop.Usart1 = 24
 cause_number stop.ReservedAddress = 25
 cause_number stop.PastMemory = 26
-cause_number stop.Unbuilt = 99
 
 unfoldable pub cause_text : StopCause → List ℕ
 cause_text stop.ReservedOpcode = codes "reserved opcode"
@@ -59,4 +58,3 @@ cause_text stop.MovedVectors = codes "moved vectors"
 cause_text stop.Usart1 = codes "usart1"
 cause_text stop.ReservedAddress = codes "reserved address"
 cause_text stop.PastMemory = codes "address past 0x10FF"
-cause_text stop.Unbuilt = codes "unbuilt"

@@ -58,12 +58,10 @@ pub enum StopCause {
     ReservedAddress,
     /// A data address above the internal SRAM.
     PastMemory,
-    /// An instruction or address that this version does not simulate yet.
-    Unbuilt,
 }
 
 impl StopCause {
-    /// The number of the cause: 1 to 26 in the order of the variants, 99 for `Unbuilt`.
+    /// The number of the cause: 1 to 26 in the order of the variants.
     #[tactic(auto, unfolding(crate::specs::Causes::cause_number))]
     pub fn number(self) -> u8
         ensures { result ≡ cause_number self }
@@ -95,7 +93,6 @@ impl StopCause {
             StopCause::Usart1 => 24,
             StopCause::ReservedAddress => 25,
             StopCause::PastMemory => 26,
-            StopCause::Unbuilt => 99,
         }
     }
 
@@ -132,7 +129,6 @@ impl StopCause {
             StopCause::Usart1 => "usart1",
             StopCause::ReservedAddress => "reserved address",
             StopCause::PastMemory => "address past 0x10FF",
-            StopCause::Unbuilt => "unbuilt",
         }
     }
 }

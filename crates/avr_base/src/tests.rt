@@ -25,7 +25,7 @@ fn causes(rt: HostRuntime) {
         (StopCause::PwmMode, 6, "pwm mode"),
         (StopCause::Usart1, 24, "usart1"),
         (StopCause::PastMemory, 26, "address past 0x10FF"),
-        (StopCause::Unbuilt, 99, "unbuilt"),
+        (StopCause::ReservedAddress, 25, "reserved address"),
     ] {
         assert_eq!(rt; cause.number(), number, "number of {text}");
         assert_eq!(rt; cause.text(), text, "text of cause {number}");
