@@ -1,0 +1,50 @@
+-- The board: the devices beside the core, and the registers that only hold a byte. After reset, and what its other
+-- parts read of it (ATmega128 datasheet, "Register Summary", "MCU Control Register - MCUCR").
+use Rattle.std.specs.Prelude.{ℕ, ◌&&◌, not, if◌then◌else◌, Bool, map, slice_index, slice_set}
+use Rattle.std.specs.List.{range_with_len}
+use Rattle.board_io.specs.declared.board.Board.{Board}
+use Rattle.board_io.specs.declared.board.Sleep.{Sleep}
+use Rattle.board_io.specs.declared.board.Sleep.TheVariants.{Off, Idle, Other}
+use Rattle.board_io.specs.Table.{start_of}
+use Rattle.byte_radio.specs.Radio.{reset_radio}
+use Rattle.device_clocks.specs.Bits.{any_bit}
+use Rattle.spi_port.specs.Spi.{reset_spi}
+use Rattle.timer16.specs.Timer as timer16
+use Rattle.timer8.specs.declared.timer8.Which8.TheVariants.{Zero, Two}
+use Rattle.timer8.specs.Timer as timer8
+use Rattle.usart_port.specs.Usart.{reset_usart}
+
+abbrev pub reset_board : ℕ → Board
+reset_board byte_time = record {
+  clock = 0;
+  kept = map start_of (range_with_len 0 256);
+  t0 = timer8.reset_timer Zero;
+  t1 = timer16.reset_timer;
+  t2 = timer8.reset_timer Two;
+  t3 = timer16.reset_timer;
+  usart = reset_usart;
+  spi = reset_spi;
+  radio = reset_radio byte_time;
+}
+
+-- the byte that a register holds, and with another one
+abbrev pub kept_at : ℕ → Board → ℕ
+kept_at at b = slice_index b.kept at
+
+abbrev pub with_kept : ℕ → ℕ → Board → Board
+with_kept at x b = record b { kept = slice_set b.kept at x }
+
+-- the cycle in which its registers are accessed
+abbrev pub clock_at : ℕ → Board → Board
+clock_at t b = record b { clock = t }
+
+-- whether the radio is selected: bit 0 of port B is an output, in DDRB 0x37, and low, in PORTB 0x38
+abbrev pub selected : Board → Bool
+selected b = any_bit (kept_at 0x37 b) 0x01 && not (any_bit (kept_at 0x38 b) 0x01)
+
+-- what SLEEP would do, by MCUCR 0x55: SE is bit 5, the sleep mode bits 4 to 2, of which 000 is idle
+abbrev pub sleep_mode : Board → Sleep
+sleep_mode b =
+    if not (any_bit (kept_at 0x55 b) 0x20) then Off
+    else if any_bit (kept_at 0x55 b) 0x1C then Other
+    else Idle

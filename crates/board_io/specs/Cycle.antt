@@ -1,0 +1,107 @@
+-- One cycle of the devices, which follows the processor's part: timers 0 to 3, then USART0 (a byte that arrives, then the
+-- transmitter), then the serial peripheral interface with the radio. Where a transfer ends that samples the air, the
+-- cycle is split there: the rest follows once it is known what was heard. This order is this simulator's own choice.
+use Rattle.std.specs.Prelude.{ℕ, ◌&&◌, not, if◌then◌else◌, Bool, true, false, Option, Some, None}
+use Rattle.board_io.specs.declared.board.Board.{Board}
+use Rattle.board_io.specs.Board.{selected}
+use Rattle.byte_radio.specs.declared.radio.Moved.{Moved}
+use Rattle.byte_radio.specs.declared.radio.Moved.TheVariants.{Answer, Send, Ask}
+use Rattle.byte_radio.specs.declared.radio.Radio.{Radio}
+use Rattle.byte_radio.specs.Radio.{radio_transfer, radio_answered}
+use Rattle.device_clocks.specs.Clock.{cycles}
+use Rattle.spi_port.specs.declared.spi.Transfer.{Transfer}
+use Rattle.spi_port.specs.Spi as spi
+use Rattle.timer16.specs.Timer as timer16
+use Rattle.timer8.specs.Timer as timer8
+use Rattle.usart_port.specs.declared.usart.Usart.{Usart}
+use Rattle.usart_port.specs.Usart as usart
+use Rattle.world_core.specs.declared.air.Heard.{Heard}
+
+abbrev pub timers_cycle : ℕ → Board → Board
+timers_cycle t b = record b {
+  t0 = timer8.timer_cycle t b.t0;
+  t1 = timer16.timer_cycle t b.t1;
+  t2 = timer8.timer_cycle t b.t2;
+  t3 = timer16.timer_cycle t b.t3;
+}
+
+-- so many cycles of the timers alone, from cycle t on
+unfoldable pub timers_leap : ℕ → ℕ → Board → Board
+timers_leap t n b = record b {
+  t0 = cycles timer8.timer_cycle t n b.t0;
+  t1 = cycles timer16.timer_cycle t n b.t1;
+  t2 = cycles timer8.timer_cycle t n b.t2;
+  t3 = cycles timer16.timer_cycle t n b.t3;
+}
+
+-- a byte that arrives at USART0, or none
+abbrev pub received : Option ℕ → Usart → Usart
+received None u = u
+received (Some b) u = usart.arrived b u
+
+abbrev pub usart_cycle : ℕ → Option ℕ → Board → Board
+usart_cycle t arrival b = record b { usart = usart.usart_cycle t (received arrival b.usart) }
+
+-- the byte of the transfer that ends in cycle t, where one does
+abbrev pub transferred : Option Transfer → ℕ → Option ℕ
+transferred None t = None
+transferred (Some f) t = if spi.is_end (Some f) t then Some f.byte else None
+
+-- what the radio makes of that byte in cycle t; nothing where no transfer ends
+abbrev pub moved_by : ℕ → Option ℕ → Board → Option (Moved × Radio)
+moved_by t None b = None
+moved_by t (Some byte) b = Some (radio_transfer t (selected b) byte b.radio)
+
+abbrev pub moved : ℕ → Board → Option (Moved × Radio)
+moved t b = moved_by t (transferred b.spi.transfer t) b
+
+-- the end of a transfer whose answer is known; a sample waits for what it hears
+abbrev pub transfer_end : Moved → Radio → Board → Board
+transfer_end (Answer miso) radio b = record b { radio = radio; spi = spi.spi_finished miso b.spi }
+transfer_end (Send byte miso) radio b = record b { radio = radio; spi = spi.spi_finished miso b.spi }
+transfer_end Ask radio b = record b { radio = radio }
+
+abbrev pub with_moved : Option (Moved × Radio) → Board → Board
+with_moved None b = b
+with_moved (Some m) b = transfer_end m.0 m.1 b
+
+-- the devices' part of cycle t, up to its sample where it has one
+unfoldable pub board_begun : ℕ → Option ℕ → Board → Board
+board_begun t arrival b = with_moved (moved t b) (usart_cycle t arrival (timers_cycle t b))
+
+-- the byte of the frame that ends in cycle t
+unfoldable pub board_serial : ℕ → Board → Option ℕ
+board_serial t b = usart.frame_ended t b.usart
+
+abbrev pub is_ask : Moved → Bool
+is_ask (Answer miso) = false
+is_ask (Send byte miso) = false
+is_ask Ask = true
+
+abbrev pub sent_by : Moved → Option ℕ
+sent_by (Answer miso) = None
+sent_by (Send byte miso) = Some byte
+sent_by Ask = None
+
+abbrev pub samples : Option (Moved × Radio) → Bool
+samples None = false
+samples (Some m) = is_ask m.0
+
+abbrev pub sends : Option (Moved × Radio) → Option ℕ
+sends None = None
+sends (Some m) = sent_by m.0
+
+-- whether the devices sample the air in cycle t, and the byte that they send in it
+unfoldable pub board_asks : ℕ → Board → Bool
+board_asks t b = samples (moved t b)
+
+unfoldable pub board_sends : ℕ → Board → Option ℕ
+board_sends t b = sends (moved t b)
+
+-- the rest of a cycle that samples: the transfer answers 0, and the radio keeps what was heard
+unfoldable pub board_answered : Heard → Board → Board
+board_answered h b = record b { radio = radio_answered h b.radio; spi = spi.spi_finished 0 b.spi }
+
+-- whether cycle t ends no frame and no transfer
+unfoldable pub board_quiet : ℕ → Board → Bool
+board_quiet t b = not (usart.ends_at t b.usart) && not (spi.ends_at t b.spi)

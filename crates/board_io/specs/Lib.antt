@@ -1,0 +1,5 @@
+pub mod Table
+pub mod Board
+pub mod Registers
+pub mod Lines
+pub mod Cycle

@@ -1,0 +1,124 @@
+-- What an access to an I/O register gives, by the rule of its address (ATmega128 datasheet, the register descriptions).
+-- Where a rule stops, the tests stand in the order in which they are made.
+use Rattle.std.specs.Prelude.{ℕ, ◌+◌, ◌&&◌, not, if◌then◌else◌, Bool, false, Result, Ok, Err, bit_and, bit_or}
+use Rattle.avr_base.specs.declared.stop.StopCause.{StopCause}
+use Rattle.avr_base.specs.declared.stop.StopCause.TheVariants as stop
+use Rattle.board_io.specs.declared.board.Board.{Board}
+use Rattle.board_io.specs.declared.rules.Rule.{Rule}
+use Rattle.board_io.specs.declared.rules.Rule.TheVariants.{Reserved, Pin, Kept, Guarded, WatchdogControl, ResetFlags, CpuControl, TimerFlags, TimerFlags3, Timer0, Timer1, Timer2, Timer3, Usart0, Spi}
+use Rattle.board_io.specs.Board.{kept_at, with_kept}
+use Rattle.board_io.specs.Table.{rule_of}
+use Rattle.device_clocks.specs.Bits.{any_bit}
+use Rattle.device_clocks.specs.declared.flags.TimerFlags.{TimerFlags as Flags}
+use Rattle.spi_port.specs.declared.spi.Spi.{Spi as SpiPort}
+use Rattle.spi_port.specs.Registers as spi
+use Rattle.timer16.specs.declared.timer16.Timer16.{Timer16}
+use Rattle.timer16.specs.Registers as reg16
+use Rattle.timer16.specs.Timer as timer16
+use Rattle.timer8.specs.declared.timer8.Timer8.{Timer8}
+use Rattle.timer8.specs.Registers as reg8
+use Rattle.timer8.specs.Timer as timer8
+use Rattle.usart_port.specs.declared.usart.Usart.{Usart}
+use Rattle.usart_port.specs.Registers as usart
+
+abbrev pub bit : Bool → ℕ → ℕ
+bit on value = if on then value else 0
+
+-- TIFR: OCF2 7, TOV2 6, ICF1 5, OCF1A 4, OCF1B 3, TOV1 2, OCF0 1, TOV0 0
+abbrev pub timer_flags : Board → ℕ
+timer_flags b =
+    bit b.t2.comp_a 0x80 + bit b.t2.over 0x40 + bit b.t1.flags.icr 0x20 + bit b.t1.flags.comp_a 0x10
+    + bit b.t1.flags.comp_b 0x08 + bit b.t1.flags.over 0x04 + bit b.t0.comp_a 0x02 + bit b.t0.over 0x01
+
+-- ETIFR: ICF3 5, OCF3A 4, OCF3B 3, TOV3 2, OCF3C 1, OCF1C 0
+abbrev pub timer_flags_3 : Board → ℕ
+timer_flags_3 b =
+    bit b.t3.flags.icr 0x20 + bit b.t3.flags.comp_a 0x10 + bit b.t3.flags.comp_b 0x08 + bit b.t3.flags.over 0x04
+    + bit b.t3.flags.comp_c 0x02 + bit b.t1.flags.comp_c 0x01
+
+-- a write of TIFR or ETIFR clears the flags whose bits are written 1
+abbrev pub flags_cleared : ℕ → Board → Board
+flags_cleared x b =
+    let f0 : Flags = record { over = any_bit x 0x01; comp_a = any_bit x 0x02; comp_b = false; comp_c = false; icr = false } in
+    let f1 : Flags = record { over = any_bit x 0x04; comp_a = any_bit x 0x10; comp_b = any_bit x 0x08; comp_c = false; icr = any_bit x 0x20 } in
+    let f2 : Flags = record { over = any_bit x 0x40; comp_a = any_bit x 0x80; comp_b = false; comp_c = false; icr = false } in
+    record b { t0 = timer8.cleared b.t0 f0; t1 = timer16.cleared b.t1 f1; t2 = timer8.cleared b.t2 f2 }
+
+abbrev pub flags_3_cleared : ℕ → Board → Board
+flags_3_cleared x b =
+    let f1 : Flags = record { over = false; comp_a = false; comp_b = false; comp_c = any_bit x 0x01; icr = false } in
+    let f3 : Flags = record { over = any_bit x 0x04; comp_a = any_bit x 0x10; comp_b = any_bit x 0x08; comp_c = any_bit x 0x02; icr = any_bit x 0x20 } in
+    record b { t1 = timer16.cleared b.t1 f1; t3 = timer16.cleared b.t3 f3 }
+
+-- a read, by the rule of its register: the byte and the board after it. A pin reads the register of its port, as by its
+-- pull-up
+abbrev pub get_by : Rule → Board → ℕ → Result (ℕ × Board) StopCause
+get_by Reserved b at = Err stop.ReservedAddress
+get_by (Pin port) b at = Ok (kept_at port b, b)
+get_by (Kept mask) b at = Ok (kept_at at b, b)
+get_by (Guarded bits cause mask) b at = Ok (kept_at at b, b)
+get_by WatchdogControl b at = Ok (0, b)
+get_by ResetFlags b at = Ok (kept_at at b, b)
+get_by CpuControl b at = Ok (kept_at at b, b)
+get_by TimerFlags b at = Ok (timer_flags b, b)
+get_by TimerFlags3 b at = Ok (timer_flags_3 b, b)
+get_by (Timer0 reg) b at = Ok (reg8.get_of b.t0 reg, b)
+get_by (Timer1 reg) b at = let got = reg16.get_of b.t1 reg in Ok (got.0, record b { t1 = got.1 })
+get_by (Timer2 reg) b at = Ok (reg8.get_of b.t2 reg, b)
+get_by (Timer3 reg) b at = let got = reg16.get_of b.t3 reg in Ok (got.0, record b { t3 = got.1 })
+get_by (Usart0 reg) b at = let got = usart.get_of b.usart reg in Ok (got.0, record b { usart = got.1 })
+get_by (Spi reg) b at = let got = spi.get_of b.spi reg in Ok (got.0, record b { spi = got.1 })
+
+-- the board with what a write made of one of its devices
+abbrev pub with_t0 : Board → Result Timer8 StopCause → Result Board StopCause
+with_t0 b (Ok t) = Ok (record b { t0 = t })
+with_t0 b (Err cause) = Err cause
+
+abbrev pub with_t1 : Board → Result Timer16 StopCause → Result Board StopCause
+with_t1 b (Ok t) = Ok (record b { t1 = t })
+with_t1 b (Err cause) = Err cause
+
+abbrev pub with_t2 : Board → Result Timer8 StopCause → Result Board StopCause
+with_t2 b (Ok t) = Ok (record b { t2 = t })
+with_t2 b (Err cause) = Err cause
+
+abbrev pub with_t3 : Board → Result Timer16 StopCause → Result Board StopCause
+with_t3 b (Ok t) = Ok (record b { t3 = t })
+with_t3 b (Err cause) = Err cause
+
+abbrev pub with_usart : Board → Result Usart StopCause → Result Board StopCause
+with_usart b (Ok u) = Ok (record b { usart = u })
+with_usart b (Err cause) = Err cause
+
+abbrev pub with_spi : Board → Result SpiPort StopCause → Result Board StopCause
+with_spi b (Ok s) = Ok (record b { spi = s })
+with_spi b (Err cause) = Err cause
+
+-- a write of the byte x, by the rule of its register. WDTCR: WDE 3 without WDCE 4 turns the watchdog on. MCUCSR: JTD 7
+-- is kept, the reset flags 4 to 0 are cleared where written 0. MCUCR: SRE 7, IVSEL 1, and bits 6 to 2 are kept
+abbrev pub put_by : Rule → Board → ℕ → ℕ → Result Board StopCause
+put_by Reserved b at x = Err stop.ReservedAddress
+put_by (Pin port) b at x = Ok b
+put_by (Kept mask) b at x = Ok (with_kept at (bit_and x mask) b)
+put_by (Guarded bits cause mask) b at x = if any_bit x bits then Err cause else Ok (with_kept at (bit_and x mask) b)
+put_by WatchdogControl b at x = if any_bit x 0x08 && not (any_bit x 0x10) then Err stop.Watchdog else Ok b
+put_by ResetFlags b at x = Ok (with_kept at (bit_or (bit_and x 0x80) (bit_and (bit_and (kept_at at b) x) 0x1F)) b)
+put_by CpuControl b at x =
+    if any_bit x 0x80 then Err stop.ExternalMemory
+    else if any_bit x 0x02 then Err stop.MovedVectors
+    else Ok (with_kept at (bit_and x 0x7C) b)
+put_by TimerFlags b at x = Ok (flags_cleared x b)
+put_by TimerFlags3 b at x = Ok (flags_3_cleared x b)
+put_by (Timer0 reg) b at x = with_t0 b (reg8.put_of b.t0 reg x)
+put_by (Timer1 reg) b at x = with_t1 b (reg16.put_of b.t1 reg x)
+put_by (Timer2 reg) b at x = with_t2 b (reg8.put_of b.t2 reg x)
+put_by (Timer3 reg) b at x = with_t3 b (reg16.put_of b.t3 reg x)
+put_by (Usart0 reg) b at x = with_usart b (usart.put_of b.clock b.usart reg x)
+put_by (Spi reg) b at x = with_spi b (spi.put_of b.clock b.spi reg x)
+
+-- a read and a write at a data address
+unfoldable pub io_get : Board → ℕ → Result (ℕ × Board) StopCause
+io_get b at = get_by (rule_of at) b at
+
+unfoldable pub io_put : Board → ℕ → ℕ → Result Board StopCause
+io_put b at x = put_by (rule_of at) b at x

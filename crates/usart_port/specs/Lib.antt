@@ -1,0 +1,3 @@
+pub mod Usart
+pub mod Registers
+pub mod Script
