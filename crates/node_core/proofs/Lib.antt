@@ -3,3 +3,4 @@ pub mod Waits
 pub mod Steady
 pub mod Takes
 pub mod Lonely
+pub mod Keeps
