@@ -5,3 +5,6 @@
 mod radio;
 
 pub use radio::{Moved, Radio, RadioState};
+
+#[cfg(test)]
+mod tests;

@@ -10,7 +10,7 @@ pub enum RadioState {
     Idle,
     /// The byte to send.
     ToSend,
-    /// None: what the air holds is still to be told, by `answer`.
+    /// Nothing: what was heard is still to be told, by `answer`.
     ToSample,
     /// Nothing: the status of what was heard is answered.
     Status {
@@ -57,8 +57,8 @@ pub struct Radio {
 }
 
 impl Radio {
-    ghost use Rattle.byte_radio.specs.Radio.{radio_answered, radio_transfer, reset_radio, idle_transfer, selected_transfer, send_transfer};
-    ghost use Rattle.byte_radio.specs.declared.radio.Moved.TheVariants.{Send};
+    ghost use Rattle.byte_radio.specs.Radio.{idle_transfer, in_state, radio_answered, radio_transfer, reset_radio, selected_transfer, send_transfer};
+    ghost use Rattle.byte_radio.specs.declared.radio.Moved.TheVariants.{Answer, Send};
 
     /// A radio after reset, idle, whose bytes are on the air for `byte_time` cycles, at most 4,096.
     pub fn new(byte_time: u64) -> Radio
@@ -72,23 +72,26 @@ impl Radio {
         }
     }
 
-    // What a command byte comes to.
+    // Answers a transfer, and makes the byte of the next one what the state says.
+    fn turn(&mut self, state: RadioState, answer: u8) -> Moved
+        ensures answered { result ≡ Answer answer }
+        ensures turned { self.new ≡ in_state state self.old }
+    {
+        self.state = state;
+        Moved::Answer(answer)
+    }
+
+    // What a command comes to.
     fn command(&mut self, mosi: u8) -> Moved
         ensures { (result, self.new) ≡ idle_transfer mosi self.old }
     {
         match mosi {
-            1 => {
-                self.state = RadioState::ToSend;
-                Moved::Answer(0)
-            }
+            1 => self.turn(RadioState::ToSend, 0),
             2 => {
                 self.state = RadioState::ToSample;
                 Moved::Ask
             }
-            _ => {
-                self.state = RadioState::Idle;
-                Moved::Answer(0)
-            }
+            _ => self.turn(RadioState::Idle, 0),
         }
     }
 
@@ -97,15 +100,15 @@ impl Radio {
         requires { cycle ≤ 2 ^ 41 }
         ensures { (result, self.new) ≡ send_transfer cycle byte self.old }
     {
-        self.state = RadioState::Idle;
         if cycle < self.free {
-            return Moved::Answer(1);
+            return self.turn(RadioState::Idle, 1);
         }
         self.free = cycle + u64::from(self.byte_time);
+        self.state = RadioState::Idle;
         Moved::Send { byte, miso: 0 }
     }
 
-    // What a byte comes to for a selected radio, by its state.
+    // What a byte comes to for a radio that is selected.
     fn selected(&mut self, cycle: u64, mosi: u8) -> Moved
         requires { cycle ≤ 2 ^ 41 }
         ensures { (result, self.new) ≡ selected_transfer cycle mosi self.old.state self.old }
@@ -113,22 +116,10 @@ impl Radio {
         match self.state {
             RadioState::Idle => self.command(mosi),
             RadioState::ToSend => self.send(cycle, mosi),
-            RadioState::ToSample => {
-                self.state = RadioState::Idle;
-                Moved::Answer(0)
-            }
-            RadioState::Status { heard } => {
-                self.state = RadioState::Byte { heard };
-                Moved::Answer(heard.status)
-            }
-            RadioState::Byte { heard } => {
-                self.state = RadioState::Age { heard };
-                Moved::Answer(heard.byte)
-            }
-            RadioState::Age { heard } => {
-                self.state = RadioState::Idle;
-                Moved::Answer(heard.age)
-            }
+            RadioState::ToSample => self.turn(RadioState::Idle, 0),
+            RadioState::Status { heard } => self.turn(RadioState::Byte { heard }, heard.status),
+            RadioState::Byte { heard } => self.turn(RadioState::Age { heard }, heard.byte),
+            RadioState::Age { heard } => self.turn(RadioState::Idle, heard.age),
         }
     }
 
@@ -146,8 +137,7 @@ impl Radio {
         if selected {
             self.selected(cycle, mosi)
         } else {
-            self.state = RadioState::Idle;
-            Moved::Answer(0xFF)
+            self.turn(RadioState::Idle, 0xFF)
         }
     }
 

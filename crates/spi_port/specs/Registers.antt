@@ -26,7 +26,7 @@ accessed s = record s {
 abbrev pub get_of : Spi → SpiReg → ℕ × Spi
 get_of s Control = (s.control, s)
 get_of s Status = (status_of s, record s { noted_spif = s.spif; noted_wcol = s.wcol })
-get_of s Spdr = (s.data, accessed s)
+get_of s Spdr = (s.«data», accessed s)
 
 -- the byte b to transfer from cycle t on: lost where SPE, bit 6 of SPCR, is clear; a collision while a transfer runs
 abbrev pub sent_out : ℕ → ℕ → Spi → Spi
