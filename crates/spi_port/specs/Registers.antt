@@ -1,6 +1,6 @@
 -- The registers of the serial peripheral interface (ATmega128 datasheet, "SPI Control Register - SPCR", "SPI Status
 -- Register - SPSR", "SPI Data Register - SPDR").
-use Rattle.std.specs.Prelude.{ℕ, ◌+◌, ◌&&◌, not, if◌then◌else◌, Bool, true, false, Option, Some, None, is_some, Result, Ok, Err}
+use Rattle.std.specs.Prelude.{ℕ, ◌+◌, ◌&&◌, not, if◌then◌else◌, true, false, Some, None, is_some, Result, Ok, Err}
 use Rattle.avr_base.specs.declared.stop.StopCause.{StopCause}
 use Rattle.avr_base.specs.declared.stop.StopCause.TheVariants as stop
 use Rattle.device_clocks.specs.Bits.{any_bit}
@@ -26,7 +26,7 @@ accessed s = record s {
 abbrev pub get_of : Spi → SpiReg → ℕ × Spi
 get_of s Control = (s.control, s)
 get_of s Status = (status_of s, record s { noted_spif = s.spif; noted_wcol = s.wcol })
-get_of s Spdr = (s.data, accessed s)
+get_of s Spdr = (s.«data», accessed s)
 
 -- the byte b to transfer from cycle t on: lost where SPE, bit 6 of SPCR, is clear; a collision while a transfer runs
 abbrev pub sent_out : ℕ → ℕ → Spi → Spi

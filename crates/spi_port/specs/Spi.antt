@@ -1,6 +1,6 @@
 -- The serial peripheral interface as a master, cycle by cycle (ATmega128 datasheet, "Serial Peripheral Interface - SPI"
 -- and "SPI Status Register - SPSR"). The cycle of a transfer's end is this simulator's own choice.
-use Rattle.std.specs.Prelude.{ℕ, ◌*◌, ◌/◌, ◌%◌, ◌==◌, ◌&&◌, not, if◌then◌else◌, Bool, true, false, Option, Some, None}
+use Rattle.std.specs.Prelude.{ℕ, ◌*◌, ◌/◌, ◌%◌, ◌==◌, ◌&&◌, if◌then◌else◌, Bool, true, false, Option, Some, None}
 use Rattle.device_clocks.specs.Bits.{any_bit}
 use Rattle.spi_port.specs.declared.spi.Spi.{Spi}
 use Rattle.spi_port.specs.declared.spi.Transfer.{Transfer}
@@ -9,7 +9,7 @@ abbrev pub reset_spi : Spi
 reset_spi = record {
   control = 0;
   double = false;
-  data = 0;
+  «data» = 0;
   spif = false;
   wcol = false;
   noted_spif = false;
@@ -47,7 +47,7 @@ byte_of (Some f) = Some f.byte
 
 -- after a transfer that brought the byte x
 abbrev pub spi_finished : ℕ → Spi → Spi
-spi_finished x s = record s { data = x; spif = true; transfer = None }
+spi_finished x s = record s { «data» = x; spif = true; transfer = None }
 
 -- one cycle, where x is what a transfer that ends in it brings
 abbrev pub spi_cycle : (ℕ → ℕ) → ℕ → Spi → Spi
