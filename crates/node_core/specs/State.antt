@@ -6,10 +6,12 @@ use Rattle.data_space.specs.declared.cpu.Cpu.{Cpu}
 use Rattle.data_space.specs.Core.{zero_cpu}
 use Rattle.node_core.specs.declared.bus.NodeBus.{NodeBus}
 use Rattle.node_core.specs.Bus.{reset_bus}
+use Rattle.usart_port.specs.Script.{ScriptBytes}
 
 pub record NodeState : Type 0 where
   pub number : ℕ  -- the node's number in its network
   pub flash : List ℕ  -- the bytes of its program memory
+  pub script : ScriptBytes  -- the bytes that arrive at its USART0
   pub from : ℕ  -- its Instr and Enter rows exist from this cycle on
   pub to : ℕ  -- and below this one
   pub cpu : Cpu  -- the registers of the core
@@ -20,15 +22,16 @@ pub record NodeState : Type 0 where
   pub stop : Option StopCause  -- why it stopped, where it did
   pub count : ℕ  -- how many instructions it executed
 
--- a node at reset: number, flash and window as they are given
-abbrev pub reset : ℕ → List ℕ → ℕ → ℕ → NodeState
-reset number flash from to = record {
+-- a node at reset: number, flash, script, window and byte time as they are given
+abbrev pub reset : ℕ → List ℕ → ScriptBytes → ℕ → ℕ → ℕ → NodeState
+reset number flash script from to byte_time = record {
   number = number;
   flash = flash;
+  script = script;
   from = from;
   to = to;
   cpu = zero_cpu;
-  bus = reset_bus;
+  bus = reset_bus byte_time;
   wait = 0;
   owed = false;
   asleep = false;
