@@ -1,5 +1,5 @@
 -- The registers of USART0 (ATmega128 datasheet, "USART Register Description").
-use Rattle.std.specs.Prelude.{ℕ, ◌+◌, ◌*◌, ◌/◌, ◌%◌, ◌&&◌, not, if◌then◌else◌, Bool, false, Option, Some, is_some, Result, Ok, Err, bit_and}
+use Rattle.std.specs.Prelude.{ℕ, ◌+◌, ◌*◌, ◌/◌, ◌%◌, ◌&&◌, not, if◌then◌else◌, false, Some, is_some, Result, Ok, Err, bit_and}
 use Rattle.avr_base.specs.declared.stop.StopCause.{StopCause}
 use Rattle.avr_base.specs.declared.stop.StopCause.TheVariants as stop
 use Rattle.device_clocks.specs.Bits.{any_bit}

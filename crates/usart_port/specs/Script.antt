@@ -1,5 +1,5 @@
 -- A script: the bytes that arrive at a USART from outside, one after another at equal distances. Own to this simulator.
-use Rattle.std.specs.Prelude.{◌≡◌, ℕ, ◌+◌, ◌-◌, ◌*◌, ◌/◌, ◌%◌, ◌<◌, ◌≤◌, ◌^◌, ◌==◌, ◌&&◌, nat_le, if◌then◌else◌, List, length, Option, Some, None, slice_get}
+use Rattle.std.specs.Prelude.{◌≡◌, ℕ, ◌+◌, ◌-◌, ◌*◌, ◌/◌, ◌%◌, ◌<◌, ◌≤◌, ◌^◌, ◌==◌, ◌&&◌, nat_le, if◌then◌else◌, List, length, Option, Some, None, slice_get, is_some, true}
 
 -- byte i arrives in cycle at + i * every
 pub record ScriptBytes : Type 0 where
@@ -20,5 +20,10 @@ script_byte s t =
 
 -- the same in the words of the rule: byte i where the cycle is its own, none where it is no byte's
 abbrev pub Arrives : ScriptBytes → ℕ → Option ℕ → Type 0
-Arrives s t (Some b) = Σ ℕ (λ i. (t ≡ s.at + i * s.every) × (slice_get s.bytes i ≡ Some b))
+Arrives s t (Some b) = (i : ℕ) × (t ≡ s.at + i * s.every) × (slice_get s.bytes i ≡ Some b)
 Arrives s t None = (i : ℕ) → i < length s.bytes → t ≡ s.at + i * s.every → ⊥
+
+-- in how many cycles from cycle t on no byte arrives: one does in the cycle after them; none where no byte comes any more
+abbrev pub IsQuiet : ScriptBytes → ℕ → Option ℕ → Type 0
+IsQuiet s t (Some n) = ((i : ℕ) → i < n → script_byte s (t + i) ≡ None) × (is_some (script_byte s (t + n)) ≡ true)
+IsQuiet s t None = (i : ℕ) → script_byte s (t + i) ≡ None
