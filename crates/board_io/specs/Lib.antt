@@ -3,3 +3,4 @@ pub mod Board
 pub mod Registers
 pub mod Lines
 pub mod Cycle
+pub mod Passing

@@ -1,0 +1,58 @@
+-- The array of rules in the code is the table, no address past it has a row, and the start values.
+use Rattle.std.proofs.Common.{◌≡◌, ℕ, ◌==◌, ◌<◌, ◌≤◌, nat_lt, ◌+◌, Bool, true, false, List, [], ◌∷◌, Err, refl, ap, ◌∙◌, arith, zero-add, get_or}
+use Rattle.std.specs.Prelude.{map, replicate, slice_set}
+use Rattle.std.specs.List.{list_all, list_any, range_with_len}
+use Rattle.std.proofs.lemmas.Bool.{and_parts}
+use Rattle.std.proofs.lemmas.Bool.Decides.{nat_tests}
+use Rattle.std.proofs.lemmas.List.FromFn.{get_or-map-range_with_len}
+use Rattle.avr_base.specs.declared.stop.StopCause.TheVariants as stop
+use Rattle.board_io.specs.declared.board.Board.{Board}
+use Rattle.board_io.specs.declared.rules.Rule.{Rule}
+use Rattle.board_io.specs.declared.rules.Rule.TheVariants.{Reserved}
+use Rattle.board_io.specs.declared.rules.TheConstants.{RULES}
+use Rattle.board_io.specs.Registers.{get_by, io_get, io_put, put_by}
+use Rattle.board_io.specs.Table.{RegisterRow, first_rule, rule_of, start_of, table}
+
+rules_are : RULES ≡ map rule_of (range_with_len 0 256)
+unfolding rule_of
+rules_are = refl
+
+pub rule_is : (at : ℕ) → at < 256 → get_or RULES at Reserved ≡ rule_of at
+rule_is at h = ap (λ (rs : List Rule). get_or rs at Reserved) rules_are ∙ get_or-map-range_with_len rule_of 0 256 at at Reserved h (zero-add at)
+
+-- ---- past the table
+abbrev is_low : RegisterRow → Bool
+is_low r = list_all (λ a. nat_lt a 256) r.ats
+
+none_at : (ats : List ℕ) (at : ℕ) → 256 ≤ at → list_all (λ a. nat_lt a 256) ats ≡ true → list_any (λ a. a == at) ats ≡ false
+none_at [] at h e = refl
+none_at (a ∷ ats) at h e =
+    let p = and_parts (nat_lt a 256) (list_all (λ b. nat_lt b 256) ats) e in
+    let off : (a == at) ≡ false = grind (arith, nat_tests, p.0) in
+    rw off (none_at ats at h p.1)
+
+rule_none : (rs : List RegisterRow) (at : ℕ) → 256 ≤ at → list_all is_low rs ≡ true → first_rule rs at ≡ Reserved
+rule_none [] at h e = refl
+rule_none (r ∷ rs) at h e =
+    let p = and_parts (is_low r) (list_all is_low rs) e in
+    let off = none_at r.ats at h p.0 in
+    rw off (rule_none rs at h p.1)
+
+all_low : list_all is_low table ≡ true
+all_low = refl
+
+rule_past : (at : ℕ) → 256 ≤ at → rule_of at ≡ Reserved
+unfolding rule_of
+rule_past at h = rule_none table at h all_low
+
+pub get_past : (b : Board) (at : ℕ) → 255 < at → get_by (rule_of at) b at ≡ Err stop.ReservedAddress
+get_past b at h = ap (λ r. get_by r b at) (rule_past at (omega arith))
+
+pub put_past : (b : Board) (at x : ℕ) → 255 < at → put_by (rule_of at) b at x ≡ Err stop.ReservedAddress
+put_past b at x h = ap (λ r. put_by r b at x) (rule_past at (omega arith))
+
+-- ---- after reset
+pub starts_are : slice_set (slice_set (slice_set (slice_set (slice_set (slice_set (replicate 256 0) 0x54 0x01) 0x71 0xF8) 0x72 0xFE) 0x73 0xFF) 0x9B 0x20) 0x9D 0x06
+    ≡ map start_of (range_with_len 0 256)
+unfolding start_of
+starts_are = refl

@@ -1,0 +1,202 @@
+-- What a cycle of the board does to its radio, and what leaves the radio alone.
+use Rattle.std.proofs.Common.{◌≡◌, ℕ, ◌+◌, ◌≤◌, ◌==◌, ◌&&◌, not, if◌then◌else◌, Bool, true, false, Option, Some, None, Result, Ok, Err, refl, sym, ap, subst, ◌∙◌, arith}
+use Rattle.std.specs.Prelude.{bit_and}
+use Rattle.avr_base.specs.declared.stop.StopCause.{StopCause}
+use Rattle.avr_base.specs.declared.stop.StopCause.TheVariants as stop
+use Rattle.board_io.specs.declared.board.Board.{Board}
+use Rattle.board_io.specs.declared.rules.Rule.{Rule}
+use Rattle.board_io.specs.declared.rules.Rule.TheVariants.{Reserved, Pin, Kept, Guarded, WatchdogControl, ResetFlags, CpuControl, TimerFlags, TimerFlags3, Timer0, Timer1, Timer2, Timer3, Usart0, Spi}
+use Rattle.board_io.specs.Board.{clock_at, selected, with_kept}
+use Rattle.board_io.specs.Cycle.{board_answered, board_asks, board_begun, board_sends, is_ask, moved, moved_by, samples, sends, sent_by, timers_cycle, timers_leap, transfer_end, transferred, usart_cycle, with_moved}
+use Rattle.board_io.specs.Lines.{entered_of}
+use Rattle.board_io.specs.Registers.{get_by, io_get, io_put, put_by, with_spi, with_t0, with_t1, with_t2, with_t3, with_usart}
+use Rattle.board_io.specs.Table.{rule_of}
+use Rattle.byte_radio.proofs.Laws.{transfer_free, transfer_gap, transfer_sends}
+use Rattle.byte_radio.specs.declared.radio.Moved.{Moved}
+use Rattle.byte_radio.specs.declared.radio.Moved.TheVariants.{Answer, Send, Ask}
+use Rattle.byte_radio.specs.declared.radio.Radio.{Radio}
+use Rattle.byte_radio.specs.Radio.{radio_transfer}
+use Rattle.device_clocks.specs.Bits.{any_bit}
+use Rattle.spi_port.specs.declared.spi.Spi.{Spi as SpiPort}
+use Rattle.spi_port.specs.Registers as spi
+use Rattle.timer16.specs.declared.timer16.Timer16.{Timer16}
+use Rattle.timer16.specs.Registers as reg16
+use Rattle.timer8.specs.declared.timer8.Timer8.{Timer8}
+use Rattle.timer8.specs.Registers as reg8
+use Rattle.usart_port.specs.declared.usart.Usart.{Usart}
+use Rattle.usart_port.specs.Registers as usart
+use Rattle.world_core.specs.declared.air.Heard.{Heard}
+
+-- ---- a cycle
+end_radio : (m : Moved) (r : Radio) (b : Board) → (transfer_end m r b).radio ≡ r
+end_radio (Answer miso) r b = refl
+end_radio (Send byte miso) r b = refl
+end_radio Ask r b = refl
+
+gap_by : (t : ℕ) (o : Option ℕ) (b c : Board) → c.radio ≡ b.radio → (with_moved (moved_by t o b) c).radio.byte_time ≡ b.radio.byte_time
+gap_by t None b c e = ap (λ (r : Radio). r.byte_time) e
+gap_by t (Some x) b c e =
+    let m = radio_transfer t (selected b) x b.radio in
+    ap (λ (r : Radio). r.byte_time) (end_radio m.0 m.1 c) ∙ transfer_gap t (selected b) x b.radio
+
+free_by : (t : ℕ) (o : Option ℕ) (b c : Board) → c.radio ≡ b.radio → b.radio.free ≤ (with_moved (moved_by t o b) c).radio.free
+free_by t None b c e = let f = ap (λ (r : Radio). r.free) e in omega (arith, f)
+free_by t (Some x) b c e =
+    let m = radio_transfer t (selected b) x b.radio in
+    let f = ap (λ (r : Radio). r.free) (end_radio m.0 m.1 c) in
+    let g = transfer_free t (selected b) x b.radio in
+    omega (arith, f, g)
+
+sent_is : (m : Moved) (x : ℕ) → sent_by m ≡ Some x → Σ ℕ (λ miso. m ≡ Send x miso)
+sent_is (Answer miso) x e = absurd (cc)
+sent_is (Send byte miso) x e = (miso, cc)
+sent_is Ask x e = absurd (cc)
+
+sends_by : (t x : ℕ) (o : Option ℕ) (b c : Board) → sends (moved_by t o b) ≡ Some x → (b.radio.free ≤ t) × (t + b.radio.byte_time ≡ (with_moved (moved_by t o b) c).radio.free)
+sends_by t x None b c e = absurd (cc)
+sends_by t x (Some y) b c e =
+    let m = radio_transfer t (selected b) y b.radio in
+    let s = sent_is m.0 x e in
+    let k = transfer_sends t (selected b) y b.radio x s.0 s.1 in
+    (k.0, k.1 ∙ sym (ap (λ (r : Radio). r.free) (end_radio m.0 m.1 c)))
+
+-- the byte time stays
+pub begun_gap : (t : ℕ) (a : Option ℕ) (b : Board) → (board_begun t a b).radio.byte_time ≡ b.radio.byte_time
+unfolding board_begun
+begun_gap t a b = gap_by t (transferred b.spi.transfer t) b (usart_cycle t a (timers_cycle t b)) refl
+
+-- the cycle from which on the radio may send never falls
+pub begun_free : (t : ℕ) (a : Option ℕ) (b : Board) → b.radio.free ≤ (board_begun t a b).radio.free
+unfolding board_begun
+begun_free t a b = free_by t (transferred b.spi.transfer t) b (usart_cycle t a (timers_cycle t b)) refl
+
+-- a byte is sent only from that cycle on, and moves it to the end of the byte
+pub sends_free : (t x : ℕ) (a : Option ℕ) (b : Board) → board_sends t b ≡ Some x → (b.radio.free ≤ t) × (t + b.radio.byte_time ≡ (board_begun t a b).radio.free)
+unfolding board_begun board_sends
+sends_free t x a b e = sends_by t x (transferred b.spi.transfer t) b (usart_cycle t a (timers_cycle t b)) e
+
+ask_apart : (m : Moved) → is_ask m ≡ true → sent_by m ≡ None
+ask_apart (Answer miso) e = refl
+ask_apart (Send byte miso) e = absurd (cc)
+ask_apart Ask e = refl
+
+apart_by : (m : Option (Moved × Radio)) → samples m ≡ true → sends m ≡ None
+apart_by None e = refl
+apart_by (Some m) e = ask_apart m.0 e
+
+-- a cycle that asks sends nothing
+pub asks_apart : (t : ℕ) (b : Board) → board_asks t b ≡ true → board_sends t b ≡ None
+unfolding board_asks board_sends
+asks_apart t b e = apart_by (moved t b) e
+
+-- ---- the rest of a cycle that asks
+pub answered_gap : (h : Heard) (b : Board) → (board_answered h b).radio.byte_time ≡ b.radio.byte_time
+unfolding board_answered
+answered_gap h b = refl
+
+pub answered_free : (h : Heard) (b : Board) → (board_answered h b).radio.free ≡ b.radio.free
+unfolding board_answered
+answered_free h b = refl
+
+-- ---- what leaves the radio alone
+pub leap_radio : (t n : ℕ) (b : Board) → (timers_leap t n b).radio ≡ b.radio
+unfolding timers_leap
+leap_radio t n b = refl
+
+pub clock_radio : (t : ℕ) (b : Board) → (clock_at t b).radio ≡ b.radio
+clock_radio t b = refl
+
+-- the radio after a read and after a write, where these do not stop
+abbrev radio_got : Result (ℕ × Board) StopCause → Radio → Radio
+radio_got (Ok p) r = p.1.radio
+radio_got (Err cause) r = r
+
+abbrev radio_put : Result Board StopCause → Radio → Radio
+radio_put (Ok b) r = b.radio
+radio_put (Err cause) r = r
+
+got_by : (rule : Rule) (b : Board) (at : ℕ) → radio_got (get_by rule b at) b.radio ≡ b.radio
+got_by Reserved b at = refl
+got_by (Pin port) b at = refl
+got_by (Kept mask) b at = refl
+got_by (Guarded bits cause mask) b at = refl
+got_by WatchdogControl b at = refl
+got_by ResetFlags b at = refl
+got_by CpuControl b at = refl
+got_by TimerFlags b at = refl
+got_by TimerFlags3 b at = refl
+got_by (Timer0 reg) b at = refl
+got_by (Timer1 reg) b at = refl
+got_by (Timer2 reg) b at = refl
+got_by (Timer3 reg) b at = refl
+got_by (Usart0 reg) b at = refl
+got_by (Spi reg) b at = refl
+
+pub get_radio : (b c : Board) (at x : ℕ) → io_get b at ≡ Ok (x, c) → c.radio ≡ b.radio
+unfolding io_get
+get_radio b c at x e = sym (ap (λ (r : Result (ℕ × Board) StopCause). radio_got r b.radio) e) ∙ got_by (rule_of at) b at
+
+choice : (c : Bool) (x y : Result Board StopCause) (r : Radio) → radio_put x r ≡ r → radio_put y r ≡ r → radio_put (if c then x else y) r ≡ r
+choice true x y r e f = e
+choice false x y r e f = f
+
+t0_radio : (b : Board) (o : Result Timer8 StopCause) → radio_put (with_t0 b o) b.radio ≡ b.radio
+t0_radio b (Ok t) = refl
+t0_radio b (Err cause) = refl
+
+t1_radio : (b : Board) (o : Result Timer16 StopCause) → radio_put (with_t1 b o) b.radio ≡ b.radio
+t1_radio b (Ok t) = refl
+t1_radio b (Err cause) = refl
+
+t2_radio : (b : Board) (o : Result Timer8 StopCause) → radio_put (with_t2 b o) b.radio ≡ b.radio
+t2_radio b (Ok t) = refl
+t2_radio b (Err cause) = refl
+
+t3_radio : (b : Board) (o : Result Timer16 StopCause) → radio_put (with_t3 b o) b.radio ≡ b.radio
+t3_radio b (Ok t) = refl
+t3_radio b (Err cause) = refl
+
+usart_radio : (b : Board) (o : Result Usart StopCause) → radio_put (with_usart b o) b.radio ≡ b.radio
+usart_radio b (Ok u) = refl
+usart_radio b (Err cause) = refl
+
+spi_radio : (b : Board) (o : Result SpiPort StopCause) → radio_put (with_spi b o) b.radio ≡ b.radio
+spi_radio b (Ok s) = refl
+spi_radio b (Err cause) = refl
+
+put_keeps : (rule : Rule) (b : Board) (at x : ℕ) → radio_put (put_by rule b at x) b.radio ≡ b.radio
+put_keeps Reserved b at x = refl
+put_keeps (Pin port) b at x = refl
+put_keeps (Kept mask) b at x = refl
+put_keeps (Guarded bits cause mask) b at x = choice (any_bit x bits) (Err cause) (Ok (with_kept at (bit_and x mask) b)) b.radio refl refl
+put_keeps WatchdogControl b at x = choice (any_bit x 0x08 && not (any_bit x 0x10)) (Err stop.Watchdog) (Ok b) b.radio refl refl
+put_keeps ResetFlags b at x = refl
+put_keeps CpuControl b at x =
+    let kept : Result Board StopCause = Ok (with_kept at (bit_and x 0x7C) b) in
+    choice (any_bit x 0x80) (Err stop.ExternalMemory) (if any_bit x 0x02 then Err stop.MovedVectors else kept) b.radio refl
+    (choice (any_bit x 0x02) (Err stop.MovedVectors) kept b.radio refl refl)
+put_keeps TimerFlags b at x = refl
+put_keeps TimerFlags3 b at x = refl
+put_keeps (Timer0 reg) b at x = t0_radio b (reg8.put_of b.t0 reg x)
+put_keeps (Timer1 reg) b at x = t1_radio b (reg16.put_of b.t1 reg x)
+put_keeps (Timer2 reg) b at x = t2_radio b (reg8.put_of b.t2 reg x)
+put_keeps (Timer3 reg) b at x = t3_radio b (reg16.put_of b.t3 reg x)
+put_keeps (Usart0 reg) b at x = usart_radio b (usart.put_of b.clock b.usart reg x)
+put_keeps (Spi reg) b at x = spi_radio b (spi.put_of b.clock b.spi reg x)
+
+pub put_radio : (b c : Board) (at x : ℕ) → io_put b at x ≡ Ok c → c.radio ≡ b.radio
+unfolding io_put
+put_radio b c at x e = sym (ap (λ (r : Result Board StopCause). radio_put r b.radio) e) ∙ put_keeps (rule_of at) b at x
+
+apart_from : (c : Bool) (x y b : Board) → x.radio ≡ b.radio → y.radio ≡ b.radio → (if c then x else y).radio ≡ b.radio
+apart_from true x y b e f = e
+apart_from false x y b e f = f
+
+pub entered_radio : (word : ℕ) (b : Board) → (entered_of word b).radio ≡ b.radio
+unfolding entered_of
+entered_radio word b =
+    apart_from (word == 0x12) _ _ b refl (apart_from (word == 0x14) _ _ b refl (apart_from (word == 0x18) _ _ b refl
+    (apart_from (word == 0x1A) _ _ b refl (apart_from (word == 0x1C) _ _ b refl (apart_from (word == 0x1E) _ _ b refl
+    (apart_from (word == 0x20) _ _ b refl (apart_from (word == 0x22) _ _ b refl (apart_from (word == 0x28) _ _ b refl
+    (apart_from (word == 0x30) _ _ b refl (apart_from (word == 0x34) _ _ b refl (apart_from (word == 0x36) _ _ b refl
+    (apart_from (word == 0x38) _ _ b refl (apart_from (word == 0x3A) _ _ b refl refl)))))))))))))

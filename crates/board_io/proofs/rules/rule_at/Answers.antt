@@ -1,0 +1,8 @@
+use Rattle.std.proofs.Common.{get_or, ap, ◌∙◌, arith}
+use Rattle.board_io.specs.declared.rules.Rule.TheVariants.{Reserved}
+use Rattle.board_io.specs.declared.rules.TheConstants.{RULES}
+use Rattle.board_io.proofs.Agree.{rule_is}
+use Rattle.board_io.proofs.rules.rule_at.Goals as goal
+
+pub returns-clause-value : goal.returns-clause-value
+returns-clause-value c = ap (λ i. get_or RULES i Reserved) c.from.ensures ∙ rule_is c.args.at (omega arith)

@@ -1,0 +1,118 @@
+// The board and what its other parts read of it.
+ghost use Rattle.std.specs.Prelude.{◌≡◌, ◌≤◌, ◌^◌, map};
+ghost use Rattle.std.specs.List.{range_with_len};
+ghost use Rattle.board_io.specs.Table.{start_of};
+
+use crate::Cycle;
+use byte_radio::Radio;
+use device_clocks::any_bit;
+use spi_port::Spi;
+use timer8::{Timer8, Which8};
+use timer16::Timer16;
+use usart_port::Usart;
+
+const DDRB: usize = 0x37;
+
+const PORTB: usize = 0x38;
+
+const MCUCR: usize = 0x55;
+
+/// What SLEEP would do (ATmega128 datasheet, "MCU Control Register - MCUCR").
+#[derive(Clone, Copy, Debug, PartialEq, Eq)]
+pub enum Sleep {
+    /// SE is clear: nothing.
+    Off,
+    /// SE is set, and the mode is idle.
+    Idle,
+    /// SE is set, and the mode is another.
+    Other,
+}
+
+/// All of a node but its core and its SRAM: the devices, and the registers that only hold a byte. As a bus it has the
+/// I/O registers at data addresses 0x0020 to 0x00FF.
+#[derive(Debug, Drop)]
+pub struct Board {
+    /// The cycle in which its registers are accessed.
+    pub clock: Cycle,
+    /// What the registers hold that no device has, by data address.
+    pub kept: [u8; 256],
+    /// Timer 0.
+    pub t0: Timer8,
+    /// Timer 1.
+    pub t1: Timer16,
+    /// Timer 2.
+    pub t2: Timer8,
+    /// Timer 3.
+    pub t3: Timer16,
+    /// USART0.
+    pub usart: Usart,
+    /// The serial peripheral interface.
+    pub spi: Spi,
+    /// The radio behind it.
+    pub radio: Radio,
+}
+
+// What the registers that no device has hold after reset.
+fn starts() -> [u8; 256]
+    ensures { result ≡ map start_of (range_with_len 0 256) }
+{
+    let mut kept = [0; 256];
+    kept[0x54] = 0x01;
+    kept[0x71] = 0xF8;
+    kept[0x72] = 0xFE;
+    kept[0x73] = 0xFF;
+    kept[0x9B] = 0x20;
+    kept[0x9D] = 0x06;
+    kept
+}
+
+impl Board {
+    ghost use Rattle.board_io.specs.Board.{clock_at, kept_at, reset_board, selected, sleep_mode};
+
+    /// The board after reset, with the byte time of its radio in cycles, at most 4,096.
+    pub fn new(byte_time: u64) -> Board
+        requires { byte_time ≤ 4096 }
+        ensures { result ≡ reset_board byte_time }
+    {
+        Board {
+            clock: Cycle::new(0),
+            kept: starts(),
+            t0: Timer8::new(Which8::Zero),
+            t1: Timer16::new(),
+            t2: Timer8::new(Which8::Two),
+            t3: Timer16::new(),
+            usart: Usart::new(),
+            spi: Spi::new(),
+            radio: Radio::new(byte_time),
+        }
+    }
+
+    /// Sets the cycle in which its registers are accessed from now on.
+    pub fn at(&mut self, cycle: u64)
+        requires { cycle ≤ 2 ^ 41 }
+        ensures { self.new ≡ clock_at cycle self.old }
+    {
+        self.clock = Cycle::new(cycle);
+    }
+
+    /// Whether the radio is selected: bit 0 of port B is an output and low.
+    pub fn selected(&self) -> bool
+        ensures { result ≡ selected self.now }
+    {
+        any_bit(self.kept[DDRB], 0x01) && !any_bit(self.kept[PORTB], 0x01)
+    }
+
+    /// What SLEEP would do.
+    pub fn sleep_mode(&self) -> Sleep
+        ensures { result ≡ sleep_mode self.now }
+    {
+        let control = self.kept[MCUCR];
+        if !any_bit(control, 0x20) {
+            Sleep::Off
+        } else if any_bit(control, 0x1C) {
+            Sleep::Other
+        } else {
+            Sleep::Idle
+        }
+    }
+}

@@ -1,0 +1,16 @@
+//! The board of a node: all I/O registers of the ATmega128 by data address, each with its rule, over the timers, USART0,
+//! the serial peripheral interface and the radio; one cycle of these devices, or many at once; and the interrupt lines.
+#![tactic(auto)]
+
+mod board;
+mod clock;
+mod lines;
+mod passing;
+mod registers;
+mod rules;
+mod turn;
+
+pub use board::{Board, Sleep};
+pub use clock::Cycle;
+pub use rules::Rule;
+pub use turn::Begun;

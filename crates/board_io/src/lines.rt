@@ -1,0 +1,131 @@
+// The interrupt lines, and what serving an interrupt clears.
+ghost use Rattle.std.specs.Prelude.{◌≡◌, ◌≤◌, ◌^◌, true};
+ghost use Rattle.board_io.specs.Lines.{line};
+
+use crate::Board;
+use device_clocks::{TimerFlags, any_bit};
+use interrupt_unit::{Lines, Vector};
+
+const TIMSK: usize = 0x57;
+
+const ETIMSK: usize = 0x7D;
+
+const OVER: TimerFlags = TimerFlags {
+    over: true,
+    ..TimerFlags::NONE
+};
+
+const COMP_A: TimerFlags = TimerFlags {
+    comp_a: true,
+    ..TimerFlags::NONE
+};
+
+const COMP_B: TimerFlags = TimerFlags {
+    comp_b: true,
+    ..TimerFlags::NONE
+};
+
+const COMP_C: TimerFlags = TimerFlags {
+    comp_c: true,
+    ..TimerFlags::NONE
+};
+
+// Line n of a source: its flag, and whether its interrupt is enabled.
+#[tactic(auto, unfolding(crate::specs::Lines::line))]
+fn line(n: u32, flag: bool, enabled: bool) -> u64
+    requires { n ≤ 29 }
+    ensures value { result ≡ line n flag enabled }
+    ensures most { result ≤ 2 ^ 29 }
+{
+    if flag && enabled { 1u64 << n } else { 0 }
+}
+
+impl Board {
+    ghost use Rattle.board_io.specs.Lines.{entered_of, etimsk, extended_timer_lines, lines_of, port_lines, timer_lines, timsk};
+
+    fn timsk(&self, mask: u8) -> bool
+        ensures { result ≡ timsk self.now mask }
+    {
+        any_bit(self.kept[TIMSK], mask)
+    }
+
+    fn etimsk(&self, mask: u8) -> bool
+        ensures { result ≡ etimsk self.now mask }
+    {
+        any_bit(self.kept[ETIMSK], mask)
+    }
+
+    // The lines of TIMSK.
+    fn timer_lines(&self) -> u64
+        ensures value { result ≡ timer_lines self.now }
+        ensures most { result ≤ 2 ^ 32 }
+    {
+        line(9, self.t2.comp_a, self.timsk(0x80))
+            + line(10, self.t2.over, self.timsk(0x40))
+            + line(12, self.t1.flags.comp_a, self.timsk(0x10))
+            + line(13, self.t1.flags.comp_b, self.timsk(0x08))
+            + line(14, self.t1.flags.over, self.timsk(0x04))
+            + line(15, self.t0.comp_a, self.timsk(0x02))
+            + line(16, self.t0.over, self.timsk(0x01))
+    }
+
+    // The lines of ETIMSK.
+    fn extended_timer_lines(&self) -> u64
+        ensures value { result ≡ extended_timer_lines self.now }
+        ensures most { result ≤ 2 ^ 32 }
+    {
+        line(24, self.t1.flags.comp_c, self.etimsk(0x01))
+            + line(26, self.t3.flags.comp_a, self.etimsk(0x10))
+            + line(27, self.t3.flags.comp_b, self.etimsk(0x08))
+            + line(28, self.t3.flags.comp_c, self.etimsk(0x02))
+            + line(29, self.t3.flags.over, self.etimsk(0x04))
+    }
+
+    // The lines of the serial peripheral interface and of USART0.
+    fn port_lines(&self) -> u64
+        ensures value { result ≡ port_lines self.now }
+        ensures most { result ≤ 2 ^ 32 }
+    {
+        let usart = self.usart.lines();
+        line(17, self.spi.line(), true)
+            + line(18, usart.rxc, true)
+            + line(19, usart.udre, true)
+            + line(20, usart.txc, true)
+    }
+
+    /// The interrupt lines: bit n is set exactly where the vector at word address 2n has a source whose flag and whose
+    /// enable bit are set.
+    #[tactic(auto, unfolding(crate::specs::Lines::lines_of))]
+    pub fn lines(&self) -> Lines
+        ensures { result ≡ lines_of self.now }
+    {
+        Lines {
+            bits: self.timer_lines() + self.extended_timer_lines() + self.port_lines(),
+        }
+    }
+
+    /// What serving the interrupt of the vector `v` does to its source: it clears its flag, but for RXC and UDRE of
+    /// USART0, which stand as long as there is a byte to read and room for one to write.
+    #[tactic(auto, unfolding(crate::specs::Lines::entered_of))]
+    pub fn entered(&mut self, v: Vector)
+        ensures { self.new ≡ entered_of v.word self.old }
+    {
+        match v.word {
+            0x12 => self.t2.clear(COMP_A),
+            0x14 => self.t2.clear(OVER),
+            0x18 => self.t1.clear(COMP_A),
+            0x1A => self.t1.clear(COMP_B),
+            0x1C => self.t1.clear(OVER),
+            0x1E => self.t0.clear(COMP_A),
+            0x20 => self.t0.clear(OVER),
+            0x22 => self.spi.clear(),
+            0x28 => self.usart.clear_txc(),
+            0x30 => self.t1.clear(COMP_C),
+            0x34 => self.t3.clear(COMP_A),
+            0x36 => self.t3.clear(COMP_B),
+            0x38 => self.t3.clear(COMP_C),
+            0x3A => self.t3.clear(OVER),
+            _ => {}
+        }
+    }
+}

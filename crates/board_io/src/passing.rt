@@ -1,0 +1,100 @@
+// Many cycles of the devices at once.
+ghost use Rattle.std.specs.Prelude.{◌≡◌, ◌≤◌, ◌<◌, ◌+◌, ◌^◌, ℕ, true, false};
+ghost use Rattle.device_clocks.specs.Clock.{cycles};
+ghost use Rattle.timer8.specs.Timer as timer8;
+ghost use Rattle.timer16.specs.Timer as timer16;
+ghost use Rattle.board_io.specs.Passing.{is_at};
+
+use crate::Board;
+use timer8::Timer8;
+use timer16::Timer16;
+
+// For how many cycles from `cycle` on, of at most `most`, the end of something does not come.
+fn cycles_before(end: Option<u64>, cycle: u64, most: u64) -> u64
+    requires { cycle + most ≤ 2 ^ 41 }
+    ensures within { result ≤ most }
+    ensures none { (i : ℕ) → i < result → is_at end (cycle + i) ≡ false }
+    ensures goes_on { 0 < most → is_at end cycle ≡ false → 0 < result }
+{
+    match end {
+        None => most,
+        Some(end) => {
+            if end < cycle {
+                most
+            } else {
+                most.min(end - cycle)
+            }
+        }
+    }
+}
+
+// For how many cycles from `cycle` on, of at most `most`, each begins with the flags that the timer has now.
+fn same_flags_8(timer: &Timer8, cycle: u64, most: u64) -> u64
+    requires { cycle ≤ 2 ^ 40 }
+    ensures within { result ≤ most }
+    ensures same { (i : ℕ) → i < result → timer8.flags_of (cycles timer8.timer_cycle cycle i timer.now) ≡ timer8.flags_of timer.now }
+    ensures goes_on { 0 < most → 0 < result }
+{
+    match timer.next_event(cycle) {
+        None => most,
+        Some(event) => most.min(event - cycle + 1),
+    }
+}
+
+// The same of a timer of sixteen bits.
+fn same_flags_16(timer: &Timer16, cycle: u64, most: u64) -> u64
+    requires { cycle ≤ 2 ^ 40 }
+    ensures within { result ≤ most }
+    ensures same { (i : ℕ) → i < result → (cycles timer16.timer_cycle cycle i timer.now).flags ≡ timer.now.flags }
+    ensures goes_on { 0 < most → 0 < result }
+{
+    match timer.next_event(cycle) {
+        None => most,
+        Some(event) => most.min(event - cycle + 1),
+    }
+}
+
+impl Board {
+    ghost use Rattle.board_io.specs.Cycle.{board_quiet, timers_leap};
+    ghost use Rattle.board_io.specs.Lines.{lines_of};
+
+    /// For how many cycles from `cycle` on, of at most `most`, no frame and no transfer ends, as far as what runs now
+    /// tells: at least one where none ends in `cycle` itself.
+    #[tactic(auto, unfolding(crate::specs::Cycle::board_quiet))]
+    pub fn quiet(&self, cycle: u64, most: u64) -> u64
+        requires { cycle + most ≤ 2 ^ 41 }
+        ensures within { result ≤ most }
+        ensures none { (i : ℕ) → i < result → board_quiet (cycle + i) self.now ≡ true }
+        ensures goes_on { 0 < most → board_quiet cycle self.now ≡ true → 0 < result }
+    {
+        let frame = cycles_before(self.usart.next_event(), cycle, most);
+        cycles_before(self.spi.done_at(), cycle, frame)
+    }
+
+    /// The timers' part of the `n` cycles from `cycle` on at once: of cycles in which no frame and no transfer ends and
+    /// no byte arrives that is all that the devices do.
+    #[tactic(auto, unfolding(crate::specs::Cycle::timers_leap))]
+    pub fn leap(&mut self, cycle: u64, n: u64)
+        requires { cycle + n ≤ 2 ^ 41 }
+        ensures { self.new ≡ timers_leap cycle n self.old }
+    {
+        self.t0.leap(cycle, n);
+        self.t1.leap(cycle, n);
+        self.t2.leap(cycle, n);
+        self.t3.leap(cycle, n);
+    }
+
+    /// For how many cycles from `cycle` on, of at most `most`, each begins with the lines of now, where the timers alone
+    /// move: up to the first cycle in which a timer sets a flag, and with it. At least one.
+    pub fn same_lines(&self, cycle: u64, most: u64) -> u64
+        requires { cycle ≤ 2 ^ 40 }
+        ensures within { result ≤ most }
+        ensures same { (i : ℕ) → i < result → lines_of (timers_leap cycle i self.now) ≡ lines_of self.now }
+        ensures goes_on { 0 < most → 0 < result }
+    {
+        let first = same_flags_8(&self.t0, cycle, most);
+        let second = same_flags_16(&self.t1, cycle, first);
+        let third = same_flags_8(&self.t2, cycle, second);
+        same_flags_16(&self.t3, cycle, third)
+    }
+}

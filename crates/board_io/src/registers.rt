@@ -1,0 +1,235 @@
+// The I/O registers as a bus.
+ghost use Rattle.std.specs.Prelude.{◌≡◌, ◌≤◌, ℕ, Ok, Err, OnOk, IfOk, OnErr, IfErr};
+ghost use Rattle.board_io.specs.Registers.{bit};
+
+use crate::Board;
+use crate::rules::{Rule, rule_at};
+use avr_base::StopCause;
+use data_space::Bus;
+use device_clocks::{TimerFlags, any_bit};
+
+// A bit of a register.
+fn bit(on: bool, value: u8) -> u8
+    ensures value { result ≡ bit on value }
+    ensures most { result ≤ value }
+{
+    if on { value } else { 0 }
+}
+
+impl Board {
+    ghost use Rattle.board_io.specs.Board.{kept_at, with_kept};
+    ghost use Rattle.board_io.specs.Registers.{flags_3_cleared, flags_cleared, get_by, put_by, timer_flags, timer_flags_3};
+
+    // TIFR as it reads.
+    fn timer_flags(&self) -> u8
+        ensures { result ≡ timer_flags self.now }
+    {
+        bit(self.t2.comp_a, 0x80)
+            + bit(self.t2.over, 0x40)
+            + bit(self.t1.flags.icr, 0x20)
+            + bit(self.t1.flags.comp_a, 0x10)
+            + bit(self.t1.flags.comp_b, 0x08)
+            + bit(self.t1.flags.over, 0x04)
+            + bit(self.t0.comp_a, 0x02)
+            + bit(self.t0.over, 0x01)
+    }
+
+    // ETIFR as it reads.
+    fn timer_flags_3(&self) -> u8
+        ensures { result ≡ timer_flags_3 self.now }
+    {
+        bit(self.t3.flags.icr, 0x20)
+            + bit(self.t3.flags.comp_a, 0x10)
+            + bit(self.t3.flags.comp_b, 0x08)
+            + bit(self.t3.flags.over, 0x04)
+            + bit(self.t3.flags.comp_c, 0x02)
+            + bit(self.t1.flags.comp_c, 0x01)
+    }
+
+    // A write of TIFR.
+    fn clear_flags(&mut self, x: u8)
+        ensures { self.new ≡ flags_cleared x self.old }
+    {
+        self.t0.clear(TimerFlags {
+            over: any_bit(x, 0x01),
+            comp_a: any_bit(x, 0x02),
+            ..TimerFlags::NONE
+        });
+        self.t1.clear(TimerFlags {
+            over: any_bit(x, 0x04),
+            comp_a: any_bit(x, 0x10),
+            comp_b: any_bit(x, 0x08),
+            comp_c: false,
+            icr: any_bit(x, 0x20),
+        });
+        self.t2.clear(TimerFlags {
+            over: any_bit(x, 0x40),
+            comp_a: any_bit(x, 0x80),
+            ..TimerFlags::NONE
+        });
+    }
+
+    // A write of ETIFR.
+    fn clear_flags_3(&mut self, x: u8)
+        ensures { self.new ≡ flags_3_cleared x self.old }
+    {
+        self.t1.clear(TimerFlags {
+            comp_c: any_bit(x, 0x01),
+            ..TimerFlags::NONE
+        });
+        self.t3.clear(TimerFlags {
+            over: any_bit(x, 0x04),
+            comp_a: any_bit(x, 0x10),
+            comp_b: any_bit(x, 0x08),
+            comp_c: any_bit(x, 0x02),
+            icr: any_bit(x, 0x20),
+        });
+    }
+
+    // The byte of a register that no device has.
+    fn kept(&self, at: u8) -> u8
+        ensures { result ≡ kept_at at self.now }
+    {
+        self.kept[usize::from(at)]
+    }
+
+    // A read of the register at a data address below 0x0100, by its rule.
+    fn get_by(&mut self, rule: Rule, at: u8) -> Result<u8, StopCause>
+        ensures ok { IfOk result (λ x. get_by rule self.old at ≡ Ok (x, self.new)) }
+        ensures err { IfErr result (λ cause. get_by rule self.old at ≡ Err cause) }
+        ensures same { OnErr result (self.new ≡ self.old) }
+    {
+        match rule {
+            Rule::Reserved => Err(StopCause::ReservedAddress),
+            Rule::Pin { port } => Ok(self.kept(port)),
+            Rule::Kept { mask: _ } => Ok(self.kept(at)),
+            Rule::Guarded {
+                bits: _,
+                cause: _,
+                mask: _,
+            } => Ok(self.kept(at)),
+            Rule::WatchdogControl => Ok(0),
+            Rule::ResetFlags => Ok(self.kept(at)),
+            Rule::CpuControl => Ok(self.kept(at)),
+            Rule::TimerFlags => Ok(self.timer_flags()),
+            Rule::TimerFlags3 => Ok(self.timer_flags_3()),
+            Rule::Timer0 { reg } => Ok(self.t0.get(reg)),
+            Rule::Timer1 { reg } => Ok(self.t1.get(reg)),
+            Rule::Timer2 { reg } => Ok(self.t2.get(reg)),
+            Rule::Timer3 { reg } => Ok(self.t3.get(reg)),
+            Rule::Usart0 { reg } => Ok(self.usart.get(reg)),
+            Rule::Spi { reg } => Ok(self.spi.get(reg)),
+        }
+    }
+
+    // Keeps a byte in a register that no device has.
+    fn keep(&mut self, at: u8, x: u8)
+        ensures { self.new ≡ with_kept at x self.old }
+    {
+        self.kept[usize::from(at)] = x;
+    }
+
+    // A write of a register that no device has: it stops where one of the bits is written 1.
+    fn put_guarded(&mut self, at: u8, x: u8, bits: u8, cause: StopCause, mask: u8) -> Result<(), StopCause>
+        ensures ok { OnOk result (put_by (Rule.Guarded bits cause mask) self.old at x ≡ Ok self.new) }
+        ensures err { IfErr result (λ cause'. put_by (Rule.Guarded bits cause mask) self.old at x ≡ Err cause') }
+        ensures same { OnErr result (self.new ≡ self.old) }
+    {
+        if any_bit(x, bits) {
+            return Err(cause);
+        }
+        self.keep(at, x & mask);
+        Ok(())
+    }
+
+    // A write of MCUCR.
+    fn put_cpu_control(&mut self, at: u8, x: u8) -> Result<(), StopCause>
+        ensures ok { OnOk result (put_by Rule.CpuControl self.old at x ≡ Ok self.new) }
+        ensures err { IfErr result (λ cause. put_by Rule.CpuControl self.old at x ≡ Err cause) }
+        ensures same { OnErr result (self.new ≡ self.old) }
+    {
+        if any_bit(x, 0x80) {
+            return Err(StopCause::ExternalMemory);
+        }
+        if any_bit(x, 0x02) {
+            return Err(StopCause::MovedVectors);
+        }
+        self.keep(at, x & 0x7C);
+        Ok(())
+    }
+
+    // A write of WDTCR: one that sets WDE, bit 3, without WDCE, bit 4, stops.
+    fn put_watchdog(&self, x: u8) -> Result<(), StopCause>
+        ensures ok { OnOk result ((at : ℕ) → put_by Rule.WatchdogControl self.now at x ≡ Ok self.now) }
+        ensures err { IfErr result (λ cause. (at : ℕ) → put_by Rule.WatchdogControl self.now at x ≡ Err cause) }
+    {
+        if any_bit(x, 0x08) && !any_bit(x, 0x10) {
+            return Err(StopCause::Watchdog);
+        }
+        Ok(())
+    }
+
+    // A write of the register at a data address below 0x0100, by its rule.
+    fn put_by(&mut self, rule: Rule, at: u8, x: u8) -> Result<(), StopCause>
+        ensures ok { OnOk result (put_by rule self.old at x ≡ Ok self.new) }
+        ensures err { IfErr result (λ cause. put_by rule self.old at x ≡ Err cause) }
+        ensures same { OnErr result (self.new ≡ self.old) }
+    {
+        match rule {
+            Rule::Reserved => Err(StopCause::ReservedAddress),
+            Rule::Pin { port: _ } => Ok(()),
+            Rule::Kept { mask } => {
+                self.keep(at, x & mask);
+                Ok(())
+            }
+            Rule::Guarded { bits, cause, mask } => self.put_guarded(at, x, bits, cause, mask),
+            Rule::WatchdogControl => self.put_watchdog(x),
+            Rule::ResetFlags => {
+                let old = self.kept(at);
+                self.keep(at, (x & 0x80) | (old & x & 0x1F));
+                Ok(())
+            }
+            Rule::CpuControl => self.put_cpu_control(at, x),
+            Rule::TimerFlags => {
+                self.clear_flags(x);
+                Ok(())
+            }
+            Rule::TimerFlags3 => {
+                self.clear_flags_3(x);
+                Ok(())
+            }
+            Rule::Timer0 { reg } => self.t0.put(reg, x),
+            Rule::Timer1 { reg } => self.t1.put(reg, x),
+            Rule::Timer2 { reg } => self.t2.put(reg, x),
+            Rule::Timer3 { reg } => self.t3.put(reg, x),
+            Rule::Usart0 { reg } => self.usart.put(self.clock.get(), reg, x),
+            Rule::Spi { reg } => self.spi.put(self.clock.get(), reg, x),
+        }
+    }
+}
+
+impl Bus for Board {
+    ghost use Rattle.board_io.specs.Registers.{io_get, io_put};
+
+    ghost get_gives = { io_get };
+
+    ghost put_gives = { io_put };
+
+    #[tactic(auto, unfolding(crate::specs::Registers::io_get), using(crate::proofs::Agree::get_past))]
+    fn get(&mut self, at: u16) -> Result<u8, StopCause> {
+        if at > 0xFF {
+            return Err(StopCause::ReservedAddress);
+        }
+        let low = at as u8;
+        self.get_by(rule_at(low), low)
+    }
+
+    #[tactic(auto, unfolding(crate::specs::Registers::io_put), using(crate::proofs::Agree::put_past))]
+    fn put(&mut self, at: u16, b: u8) -> Result<(), StopCause> {
+        if at > 0xFF {
+            return Err(StopCause::ReservedAddress);
+        }
+        let low = at as u8;
+        self.put_by(rule_at(low), low, b)
+    }
+}
