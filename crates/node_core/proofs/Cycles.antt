@@ -1,63 +1,69 @@
--- One cycle of a node, case by case: a wait, an instruction. No device asks or sends yet.
-use Rattle.std.proofs.Common.{◌≡◌, ℕ, ◌-◌, ◌<◌, ◌++◌, append-nil, Bool, true, false, cond, Option, None, [], is_some, refl, ap, ◌∙◌}
-use Rattle.std.proofs.lemmas.Bool.{lt-ltb}
+-- One cycle of a node whose processor only goes on, and in which no device ends anything and no byte arrives.
+use Rattle.std.proofs.Common.{◌≡◌, ℕ, ◌++◌, append-nil, Bool, true, false, cond, Option, Some, None, List, [], is_some, refl, ap, ◌∙◌}
+use Rattle.board_io.specs.declared.board.Board.{Board}
+use Rattle.board_io.specs.Cycle.{board_asks, board_begun, board_quiet, board_sends, board_serial, timers_leap}
+use Rattle.board_io.proofs.Leaps.{asks_quiet, begun_quiet, sends_quiet, serial_quiet}
+use Rattle.trace_rows.specs.declared.row.Row.{Row}
+use Rattle.usart_port.specs.Script.{script_byte}
+use Rattle.node_core.specs.Bus.{with_board}
 use Rattle.node_core.specs.State.{NodeState}
-use Rattle.node_core.specs.Devices.{devices_begun, devices_ask, devices_send}
-use Rattle.node_core.specs.Cycle.{cpu_cycle, cpu_rows, instructed, instructed_rows, devices_cycle, begun_in, begun_rows, sent_rows, asks_in, sends_in}
+use Rattle.node_core.specs.Cycle.{asks_after, asks_in, begun_in, begun_rows, cpu_cycle, cpu_rows, device_rows, devices_cycle, sends_after, sends_in, sent_rows, serial_rows}
 
-pub same_case : {X : Type 0} (b : Bool) (x : X) → cond b x x ≡ x
-same_case true x = refl
-same_case false x = refl
+-- ---- a node that runs: its cycle by its two parts
+module _ (t : ℕ) (s : NodeState) (going : is_some s.stop ≡ false) where
+  pub begun_parts : begun_in t s ≡ devices_cycle t (cpu_cycle t s)
+  unfolding begun_in
+  begun_parts = ap (λ (b : Bool). cond b s (devices_cycle t (cpu_cycle t s))) going
 
--- the devices leave a node as it is
-devices_idle : (t : ℕ) (s : NodeState) → devices_cycle t s ≡ s
-unfolding devices_begun
-devices_idle t s = same_case (is_some s.stop) s
+  pub rows_parts : begun_rows t s ≡ cpu_rows t s ++ device_rows t (cpu_cycle t s)
+  unfolding begun_rows
+  rows_parts = ap (λ (b : Bool). cond b [] (cpu_rows t s ++ device_rows t (cpu_cycle t s))) going
 
-pub never_asks : (t : ℕ) (s : NodeState) → asks_in t s ≡ false
-unfolding asks_in devices_ask
-never_asks t s = ap (λ (b : Bool). cond (is_some s.stop) false b) (same_case (is_some (cpu_cycle s).stop) false) ∙ same_case (is_some s.stop) false
+  pub asks_parts : asks_in t s ≡ asks_after t (cpu_cycle t s)
+  unfolding asks_in
+  asks_parts = ap (λ (b : Bool). cond b false (asks_after t (cpu_cycle t s))) going
 
-pub never_sends : (t : ℕ) (s : NodeState) → sends_in t s ≡ None
-unfolding sends_in devices_send
-never_sends t s = ap (λ (b : Option ℕ). cond (is_some s.stop) None b) (same_case (is_some (cpu_cycle s).stop) None) ∙ same_case (is_some s.stop) None
+  pub sends_parts : sends_in t s ≡ sends_after t (cpu_cycle t s)
+  unfolding sends_in
+  sends_parts = ap (λ (b : Bool). cond b None (sends_after t (cpu_cycle t s))) going
 
-running_begun : (t : ℕ) (s : NodeState) → s.stop ≡ None → begun_in t s ≡ cpu_cycle s
-unfolding begun_in
-running_begun t s going = ap (λ (b : Bool). cond b s (devices_cycle t (cpu_cycle s))) (ap is_some going) ∙ devices_idle t (cpu_cycle s)
+-- ---- the devices of a node that runs
+module _ (t : ℕ) (s : NodeState) (going : is_some s.stop ≡ false) where
+  pub devices_move : devices_cycle t s ≡ record s { bus = with_board s.bus (board_begun t (script_byte s.script t) s.bus.board) }
+  unfolding devices_cycle
+  devices_move = rw going refl
 
-running_rows : (t : ℕ) (s : NodeState) → s.stop ≡ None → begun_rows t s ≡ cpu_rows t s
-unfolding begun_rows
-running_rows t s going =
-    ap (λ (b : Bool). cond b [] (cpu_rows t s ++ sent_rows t s (sends_in t s))) (ap is_some going)
-    ∙ (ap (λ (o : Option ℕ). cpu_rows t s ++ sent_rows t s o) (never_sends t s) ∙ append-nil (cpu_rows t s))
+  pub devices_ask : asks_after t s ≡ board_asks t s.bus.board
+  unfolding asks_after
+  devices_ask = rw going refl
 
--- a cycle of a wait counts it off, and makes no row
-wait_part : (s : NodeState) → 0 < s.wait → cpu_cycle s ≡ record s { wait = s.wait - 1 }
-unfolding cpu_cycle
-wait_part s h = let l = lt-ltb 0 s.wait h in rw l refl
+  pub devices_send : sends_after t s ≡ board_sends t s.bus.board
+  unfolding sends_after
+  devices_send = rw going refl
 
-wait_rows : (t : ℕ) (s : NodeState) → 0 < s.wait → cpu_rows t s ≡ []
-unfolding cpu_rows
-wait_rows t s h = let l = lt-ltb 0 s.wait h in rw l refl
+  pub devices_tell : device_rows t s ≡ serial_rows t s (board_serial t s.bus.board) ++ sent_rows t s (board_sends t s.bus.board)
+  unfolding device_rows
+  devices_tell = rw going refl
 
-pub begun_wait : (t : ℕ) (s : NodeState) → s.stop ≡ None → 0 < s.wait → begun_in t s ≡ record s { wait = s.wait - 1 }
-begun_wait t s going h = running_begun t s going ∙ wait_part s h
+-- ---- a cycle of a node whose processor goes on to u without a row
+module _ (t : ℕ) (s u : NodeState) (going : is_some s.stop ≡ false) (still : is_some u.stop ≡ false) (part : cpu_cycle t s ≡ u) (silent : cpu_rows t s ≡ []) (quiet : board_quiet t u.bus.board ≡ true) (none : script_byte u.script t ≡ None) where
+  moved_by_timers : board_begun t (script_byte u.script t) u.bus.board ≡ timers_leap t 1 u.bus.board
+  moved_by_timers = ap (λ (a : Option ℕ). board_begun t a u.bus.board) none ∙ begun_quiet t u.bus.board quiet
 
-pub begun_wait_rows : (t : ℕ) (s : NodeState) → s.stop ≡ None → 0 < s.wait → begun_rows t s ≡ []
-begun_wait_rows t s going h = running_rows t s going ∙ wait_rows t s h
+  pub begun_calm : begun_in t s ≡ record u { bus = with_board u.bus (timers_leap t 1 u.bus.board) }
+  begun_calm =
+      begun_parts t s going ∙ (ap (devices_cycle t) part ∙ (devices_move t u still
+      ∙ ap (λ (b : Board). let v : NodeState = record u { bus = with_board u.bus b } in v) moved_by_timers))
 
--- the first cycle of an instruction
-first_part : (s : NodeState) → s.wait ≡ 0 → cpu_cycle s ≡ instructed s
-unfolding cpu_cycle
-first_part s free = rw free refl
+  no_device_rows : device_rows t u ≡ []
+  no_device_rows =
+      devices_tell t u still ∙ (λ i. serial_rows t u (serial_quiet t u.bus.board quiet i) ++ sent_rows t u (sends_quiet t u.bus.board quiet i))
 
-first_rows : (t : ℕ) (s : NodeState) → s.wait ≡ 0 → cpu_rows t s ≡ instructed_rows t s
-unfolding cpu_rows
-first_rows t s free = rw free refl
+  pub rows_calm : begun_rows t s ≡ []
+  rows_calm = rows_parts t s going ∙ (λ i. silent i ++ (ap (device_rows t) part ∙ no_device_rows) i)
 
-pub begun_first : (t : ℕ) (s : NodeState) → s.stop ≡ None → s.wait ≡ 0 → begun_in t s ≡ instructed s
-begun_first t s going free = running_begun t s going ∙ first_part s free
+  pub asks_calm : asks_in t s ≡ false
+  asks_calm = asks_parts t s going ∙ (ap (asks_after t) part ∙ (devices_ask t u still ∙ asks_quiet t u.bus.board quiet))
 
-pub begun_first_rows : (t : ℕ) (s : NodeState) → s.stop ≡ None → s.wait ≡ 0 → begun_rows t s ≡ instructed_rows t s
-begun_first_rows t s going free = running_rows t s going ∙ first_rows t s free
+  pub sends_calm : sends_in t s ≡ None
+  sends_calm = sends_parts t s going ∙ (ap (sends_after t) part ∙ (devices_send t u still ∙ sends_quiet t u.bus.board quiet))

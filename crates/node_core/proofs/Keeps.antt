@@ -30,7 +30,7 @@ module _ {B V : Type 0} (view : B → V) (get : B → ℕ → Result (ℕ × B) 
     if_kept true p q h k = h
     if_kept false p q h k = k
 
-    flow_then : {R S : Type 0} (a : Access R B) (r : Result R StopCause) (rest : R → Cpu → B → Access S B) → view a.bus ≡ v → ((value : R) (cpu : Cpu) (bus : B) → view bus ≡ v → view (rest value cpu bus).bus ≡ v) → view (flow.then_do a r rest).bus ≡ v
+    pub flow_then : {R S : Type 0} (a : Access R B) (r : Result R StopCause) (rest : R → Cpu → B → Access S B) → view a.bus ≡ v → ((value : R) (cpu : Cpu) (bus : B) → view bus ≡ v → view (rest value cpu bus).bus ≡ v) → view (flow.then_do a r rest).bus ≡ v
     flow_then a (Ok value) rest h k = k value a.cpu a.bus h
     flow_then a (Err cause) rest h k = h
 

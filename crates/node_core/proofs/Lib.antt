@@ -1,6 +1,6 @@
+pub mod Keeps
 pub mod Cycles
-pub mod Waits
+pub mod Radio
+pub mod Rests
 pub mod Steady
 pub mod Takes
-pub mod Lonely
-pub mod Keeps

@@ -4,7 +4,7 @@
 -- Time", "Sleep Modes").
 use Rattle.std.specs.Prelude.{ℕ, ◌+◌, ◌-◌, ◌%◌, ◌==◌, ◌&&◌, ◌||◌, nat_le, nat_lt, if◌then◌else◌, List, [], ◌∷◌, ◌++◌, Bool, true, false, Option, Some, None, is_some, Result, Ok, Err}
 use Rattle.avr_base.specs.declared.stop.StopCause.{StopCause}
-use Rattle.avr_base.specs.declared.stop.StopCause.TheVariants as cause
+use Rattle.avr_base.specs.declared.stop.StopCause.TheVariants as stop
 use Rattle.avr_decoder.specs.declared.op.Op.{Op}
 use Rattle.avr_decoder.specs.declared.op.Op.TheVariants as op
 use Rattle.avr_decoder.specs.Opcodes.{op_at}
@@ -97,12 +97,12 @@ instruction_rows t s (Err cause) = row t s (kind.Stop s.cpu.pc cause)
 -- an instruction whose first cycle is t
 unfoldable pub instructed : ℕ → NodeState → NodeState
 instructed t s =
-    if is_refused s (op_now s) then record s { stop = Some cause.SleepMode }
+    if is_refused s (op_now s) then record s { stop = Some stop.SleepMode }
     else (let o = executed s.flash (op_now s) s.cpu (bus_at t s.bus) in after_instruction s (op_now s) o.result o.cpu o.bus)
 
 unfoldable pub instructed_rows : ℕ → NodeState → List Row
 instructed_rows t s =
-    if is_refused s (op_now s) then row t s (kind.Stop s.cpu.pc cause.SleepMode)
+    if is_refused s (op_now s) then row t s (kind.Stop s.cpu.pc stop.SleepMode)
     else instruction_rows t s (executed s.flash (op_now s) s.cpu (bus_at t s.bus)).result
 
 -- after an interrupt was entered, by how that ended. It wakes the node; one that stops leaves the wait, what is owed and

@@ -1,9 +1,26 @@
 -- What holds of the inside of a node between two calls: an instruction takes at least a cycle, so its count cannot
--- wrap, and in the middle of a sample there is room for the row of what is heard.
-use Rattle.std.specs.Prelude.{◌≡◌, ℕ, ◌+◌, ◌^◌, ◌≤◌, ◌<◌, Bool, true, if◌then◌else◌, vec_len, vec_capacity}
+-- wrap; in the middle of a sample there is room for the row of what is heard, and the transfer that samples runs.
+use Rattle.std.specs.Prelude.{◌≡◌, ℕ, ◌+◌, ◌^◌, ◌≤◌, ◌<◌, Bool, true, false, Option, Some, None, is_some, if◌then◌else◌, vec_len, vec_capacity}
+use Rattle.node_core.specs.declared.machine.Air.{Air}
+use Rattle.node_core.specs.declared.machine.Air.TheVariants.{Quiet, Sent, Asks}
 use Rattle.node_core.specs.declared.machine.Machine.{Machine}
+use Rattle.node_core.specs.State.{NodeState}
+use Rattle.board_io.specs.Cycle.{board_quiet}
+use Rattle.usart_port.specs.Script.{script_byte}
 
 pub record IsWhole (cycle : ℕ) (asking : Bool) (m : Machine) : Type 0 where
   pub few : m.count ≤ cycle + (if asking then 1 else 0)
   pub early : asking ≡ true → cycle < 2 ^ 40
   pub room : asking ≡ true → vec_len m.rows < vec_capacity m.rows
+  pub waits : asking ≡ true → is_some m.bus.board.spi.transfer ≡ true
+
+-- what the radio does in a cycle, by whether it samples the air and what it sends
+abbrev pub IsAir : Bool → Option ℕ → Air → Type 0
+IsAir asks sends Quiet = (asks ≡ false) × (sends ≡ None)
+IsAir asks sends (Sent byte) = (asks ≡ false) × (sends ≡ Some byte)
+IsAir asks sends Asks = asks ≡ true
+
+-- n cycles from cycle t on in which the devices end nothing and no byte arrives, as far as the ends that stand now tell
+pub record IsCalm (t n : ℕ) (s : NodeState) : Type 0 where
+  pub ends : (i : ℕ) → i < n → board_quiet (t + i) s.bus.board ≡ true
+  pub none : (i : ℕ) → i < n → script_byte s.script (t + i) ≡ None

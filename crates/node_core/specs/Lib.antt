@@ -1,9 +1,8 @@
 pub mod Bus
 pub mod State
 pub mod Execute
-pub mod Devices
+pub mod Interrupts
 pub mod Cycle
-pub mod Alone
 pub mod Shown
 pub mod Inside
 pub mod Reached

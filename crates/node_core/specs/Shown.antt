@@ -6,6 +6,7 @@ abbrev pub shown : Machine → NodeState
 shown m = record {
   number = m.number;
   flash = m.flash.bytes;
+  script = m.script;
   from = m.from;
   to = m.to;
   cpu = m.cpu;

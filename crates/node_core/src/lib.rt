@@ -1,14 +1,15 @@
-//! One node of the network, cycle by cycle: its processor, what it holds beside the core, and the rows that it makes.
-//! `specs/` says what one cycle of a node is; `Node` runs many, an instruction at once and its waiting cycles in one step.
+//! One node of the network, cycle by cycle: its processor, its devices, and the rows that it makes. `specs/` says what
+//! one cycle of a node is; `Node` runs many, an instruction at once, and its waiting cycles and its sleep in leaps.
 #![tactic(auto)]
 
-mod alone;
 mod bus;
 mod execute;
+mod interrupts;
 mod machine;
 mod node;
+mod rests;
+mod rows;
 
-pub use alone::run_alone;
 pub use bus::NodeBus;
 pub use node::{Node, Reached};
 

@@ -1,46 +1,27 @@
-// The inside of a node.
-ghost use Rattle.std.specs.Prelude.{◌≡◌, ◌<◌, ◌≤◌, ◌+◌, ◌^◌, ◌++◌, ◌&&◌, nat_le, nat_lt, if◌then◌else◌, [], ◌∷◌, None, OnOk, OnErr, vec_len, vec_capacity, ◌||◌};
-ghost use Rattle.world_core.specs.NodeRun.{AllQuiet, passed, passed_rows};
-ghost use Rattle.node_core.specs.Cycle.{node_kind, is_sei, owes, op_now, instructed, instructed_rows, cpu_cycle, cpu_rows, begun_in, begun_rows, finished_in, finished_rows};
+// The inside of a node, cycle by cycle.
+ghost use Rattle.std.specs.Prelude.{◌≡◌, ◌<◌, ◌≤◌, ◌+◌, ◌^◌, ◌++◌, ◌||◌, nat_le, nat_lt, None, true, is_some, IfOk, OnOk, OnErr, vec_len, vec_capacity};
+ghost use Rattle.node_core.specs.Cycle.{acted, acted_rows, asks_after, asks_in, begun_in, begun_rows, cpu_cycle, cpu_rows, device_rows, devices_cycle, entered, entered_rows, finished_in, finished_rows, instructed, instructed_rows, is_idle, is_other, is_sei, is_sleep, owes, sends_after, sends_in, sent_rows, serial_rows};
+ghost use Rattle.node_core.specs.Inside.{IsAir};
+ghost use Rattle.node_core.specs.Interrupts.{due};
 ghost use Rattle.node_core.specs.Shown.{shown};
 
 use crate::NodeBus;
 use crate::execute::execute;
+use crate::interrupts::enter;
+use crate::rows::{is_within, put_row, tell};
 use avr_base::StopCause;
 use avr_decoder::{Op, decode};
-use data_space::{Cpu, Done};
+use board_io::Sleep;
+use data_space::Cpu;
 use ihex_loader::Flash;
+use interrupt_unit::Vector;
 use std::alloc::AllocError;
 use trace_rows::{Kind, Row};
+use usart_port::Script;
 use world_core::Heard;
 
-// Adds a row where there is room.
-fn put_row(rows: &mut Vec<Row>, row: Row)
-    requires { vec_len rows.old < vec_capacity rows.old }
-    ensures items { rows.new.items ≡ rows.old.items ++ row ∷ [] }
-    ensures len { vec_len rows.new ≡ vec_len rows.old + 1 }
-    ensures room { vec_capacity rows.new ≡ vec_capacity rows.old }
-{
-    rows.push_reserved(row);
-}
-
-// The same, where it is to be told.
-fn tell(rows: &mut Vec<Row>, told: bool, row: Row)
-    requires { vec_len rows.old < vec_capacity rows.old }
-    ensures items { rows.new.items ≡ rows.old.items ++ (if told then row ∷ [] else []) }
-    ensures len { vec_len rows.new ≤ vec_len rows.old + 1 }
-    ensures room { vec_capacity rows.new ≡ vec_capacity rows.old }
-{
-    if told {
-        put_row(rows, row);
-    }
-}
-
-fn is_within(from: u64, to: u64, cycle: u64) -> bool
-    ensures { result ≡ (nat_le from cycle && nat_lt cycle to) }
-{
-    from <= cycle && cycle < to
-}
+// The rows that a cycle makes at most: the processor's, a frame's, and one of the radio's before and after its sample.
+const ROWS_OF_A_CYCLE: usize = 4;
 
 // SEI and RETI.
 fn is_set_interrupts(op: &Op) -> bool
@@ -53,6 +34,33 @@ fn is_set_interrupts(op: &Op) -> bool
     }
 }
 
+fn is_sleep(op: &Op) -> bool
+    ensures { result ≡ is_sleep op.now }
+{
+    match op {
+        Op::Sleep => true,
+        _ => false,
+    }
+}
+
+fn is_idle(mode: Sleep) -> bool
+    ensures { result ≡ is_idle mode }
+{
+    match mode {
+        Sleep::Idle => true,
+        Sleep::Off | Sleep::Other => false,
+    }
+}
+
+fn is_other(mode: Sleep) -> bool
+    ensures { result ≡ is_other mode }
+{
+    match mode {
+        Sleep::Other => true,
+        Sleep::Off | Sleep::Idle => false,
+    }
+}
+
 // Whether an instruction is owed before the next interrupt is entered; `sei` says that SEI was executed.
 fn is_owed(sei: bool, before: u8, after: u8) -> bool
     ensures { result ≡ (sei || (nat_lt before 128 && nat_le 128 after)) }
@@ -60,10 +68,35 @@ fn is_owed(sei: bool, before: u8, after: u8) -> bool
     sei || (before < 128 && 128 <= after)
 }
 
+// What the radio does in a cycle, by whether it samples the air and what it sends.
+fn in_the_air(asks: bool, sent: Option<u8>) -> Air
+    ensures { IsAir asks sent result }
+{
+    if asks {
+        return Air::Asks;
+    }
+    match sent {
+        Some(byte) => Air::Sent { byte },
+        None => Air::Quiet,
+    }
+}
+
+/// What the radio does in a cycle.
+#[derive(Clone, Copy, Debug, PartialEq, Eq)]
+pub enum Air {
+    /// Nothing.
+    Quiet,
+    /// It sends a byte.
+    Sent { byte: u8 },
+    /// It samples the air.
+    Asks,
+}
+
 #[derive(Drop)]
 pub struct Machine {
     pub number: u8,
     pub flash: Flash,
+    pub script: Script,
     pub from: u64,
     pub to: u64,
     pub cpu: Cpu,
@@ -81,10 +114,12 @@ impl Machine {
     #[tactic(auto, unfolding(crate::specs::Cycle::instructed, crate::specs::Cycle::instructed_rows))]
     fn instruct(&mut self, cycle: u64)
         requires few { self.old.count < 2 ^ 40 }
-        requires room { vec_len self.old.rows + 2 ≤ vec_capacity self.old.rows }
-        ensures state { shown self.new ≡ instructed (shown self.old) }
+        requires early { cycle ≤ 2 ^ 41 }
+        requires room { vec_len self.old.rows < vec_capacity self.old.rows }
+        ensures state { shown self.new ≡ instructed cycle (shown self.old) }
         ensures rows { self.new.rows.items ≡ self.old.rows.items ++ instructed_rows cycle (shown self.old) }
-        ensures room { vec_len self.new.rows + 1 ≤ vec_capacity self.new.rows }
+        ensures used { vec_len self.new.rows ≤ vec_len self.old.rows + 1 }
+        ensures room { vec_capacity self.new.rows ≡ vec_capacity self.old.rows }
         ensures count { self.new.count ≤ self.old.count + 1 }
     {
         let pc = self.cpu.pc;
@@ -92,8 +127,16 @@ impl Machine {
         let next = self.flash.word(pc.wrapping_add(1));
         let node = self.number;
         let op = decode(word, next);
+        if is_sleep(&op) && is_other(self.bus.board.sleep_mode()) {
+            let cause = StopCause::SleepMode;
+            let kind = Kind::Stop { pc, cause };
+            put_row(&mut self.rows, Row { cycle, node, kind });
+            self.stop = Some(cause);
+            return;
+        }
         let sei = is_set_interrupts(&op);
         let before = self.cpu.sreg.bits;
+        self.bus.at(cycle);
         match execute(op, &self.flash, &mut self.cpu, &mut self.bus) {
             Ok(done) => {
                 let told = is_within(self.from, self.to, cycle);
@@ -101,6 +144,7 @@ impl Machine {
                 tell(&mut self.rows, told, Row { cycle, node, kind });
                 self.wait = done.cycles - 1;
                 self.owed = is_owed(sei, before, self.cpu.sreg.bits);
+                self.asleep = done.sleep && is_idle(self.bus.board.sleep_mode());
                 self.count += 1;
             }
             Err(cause) => {
@@ -111,45 +155,177 @@ impl Machine {
         }
     }
 
-    // A cycle up to its sample. No device is built: none asks or sends.
-    #[tactic(auto, unfolding(crate::specs::Cycle::begun_in, crate::specs::Cycle::begun_rows))]
-    pub fn begin(&mut self, cycle: u64) -> Result<(), AllocError>
-        requires going { self.old.stop ≡ None }
-        requires free { self.old.wait ≡ 0 }
+    // The first cycle of an interrupt, of which so many cycles more follow.
+    #[tactic(auto, unfolding(crate::specs::Cycle::entered, crate::specs::Cycle::entered_rows))]
+    fn enter(&mut self, cycle: u64, wait: u8, vector: Vector)
+        requires early { cycle ≤ 2 ^ 41 }
+        requires room { vec_len self.old.rows < vec_capacity self.old.rows }
+        ensures state { shown self.new ≡ entered cycle wait vector (shown self.old) }
+        ensures rows { self.new.rows.items ≡ self.old.rows.items ++ entered_rows cycle vector (shown self.old) }
+        ensures used { vec_len self.new.rows ≤ vec_len self.old.rows + 1 }
+        ensures room { vec_capacity self.new.rows ≡ vec_capacity self.old.rows }
+        ensures count { self.new.count ≡ self.old.count }
+    {
+        let back = self.cpu.pc;
+        let node = self.number;
+        self.bus.at(cycle);
+        match enter(vector, &mut self.cpu, &mut self.bus) {
+            Ok(()) => {
+                self.bus.board.entered(vector);
+                let told = is_within(self.from, self.to, cycle);
+                let kind = Kind::Enter {
+                    vector: vector.word,
+                    back,
+                };
+                tell(&mut self.rows, told, Row { cycle, node, kind });
+                self.wait = wait;
+                self.asleep = false;
+            }
+            Err(cause) => {
+                let kind = Kind::Stop { pc: back, cause };
+                put_row(&mut self.rows, Row { cycle, node, kind });
+                self.stop = Some(cause);
+            }
+        }
+    }
+
+    // The interrupt that is due.
+    pub fn due(&self) -> Option<Vector>
+        ensures { result ≡ due (shown self.now) }
+    {
+        if self.cpu.sreg.has(7) {
+            interrupt_unit::pending(self.bus.board.lines())
+        } else {
+            None
+        }
+    }
+
+    // What the processor does that waits for nothing.
+    fn act(&mut self, cycle: u64)
         requires few { self.old.count < 2 ^ 40 }
+        requires early { cycle ≤ 2 ^ 41 }
+        requires room { vec_len self.old.rows < vec_capacity self.old.rows }
+        ensures state { shown self.new ≡ acted cycle (shown self.old) (due (shown self.old)) }
+        ensures rows { self.new.rows.items ≡ self.old.rows.items ++ acted_rows cycle (shown self.old) (due (shown self.old)) }
+        ensures used { vec_len self.new.rows ≤ vec_len self.old.rows + 1 }
+        ensures room { vec_capacity self.new.rows ≡ vec_capacity self.old.rows }
+        ensures count { self.new.count ≤ self.old.count + 1 }
+    {
+        match self.due() {
+            None => {
+                if !self.asleep {
+                    self.instruct(cycle);
+                }
+            }
+            Some(vector) => {
+                if self.asleep {
+                    self.enter(cycle, 7, vector);
+                } else if self.owed {
+                    self.instruct(cycle);
+                } else {
+                    self.enter(cycle, 3, vector);
+                }
+            }
+        }
+    }
+
+    // The processor's part of a cycle.
+    #[tactic(auto, unfolding(crate::specs::Cycle::cpu_cycle, crate::specs::Cycle::cpu_rows))]
+    fn process(&mut self, cycle: u64)
+        requires few { self.old.count < 2 ^ 40 }
+        requires early { cycle ≤ 2 ^ 41 }
+        requires room { vec_len self.old.rows < vec_capacity self.old.rows }
+        ensures state { shown self.new ≡ cpu_cycle cycle (shown self.old) }
+        ensures rows { self.new.rows.items ≡ self.old.rows.items ++ cpu_rows cycle (shown self.old) }
+        ensures used { vec_len self.new.rows ≤ vec_len self.old.rows + 1 }
+        ensures room { vec_capacity self.new.rows ≡ vec_capacity self.old.rows }
+        ensures count { self.new.count ≤ self.old.count + 1 }
+    {
+        if self.wait > 0 {
+            self.wait -= 1;
+        } else {
+            self.act(cycle);
+        }
+    }
+
+    // The row of a frame that ended.
+    fn put_serial(&mut self, cycle: u64, serial: Option<u8>)
+        requires room { vec_len self.old.rows < vec_capacity self.old.rows }
+        ensures state { shown self.new ≡ shown self.old }
+        ensures rows { self.new.rows.items ≡ self.old.rows.items ++ serial_rows cycle (shown self.old) serial }
+        ensures used { vec_len self.new.rows ≤ vec_len self.old.rows + 1 }
+        ensures room { vec_capacity self.new.rows ≡ vec_capacity self.old.rows }
+    {
+        if let Some(byte) = serial {
+            let node = self.number;
+            let kind = Kind::Serial { byte };
+            put_row(&mut self.rows, Row { cycle, node, kind });
+        }
+    }
+
+    // The row of a byte that was sent.
+    fn put_sent(&mut self, cycle: u64, sent: Option<u8>)
+        requires room { vec_len self.old.rows < vec_capacity self.old.rows }
+        ensures state { shown self.new ≡ shown self.old }
+        ensures rows { self.new.rows.items ≡ self.old.rows.items ++ sent_rows cycle (shown self.old) sent }
+        ensures used { vec_len self.new.rows ≤ vec_len self.old.rows + 1 }
+        ensures room { vec_capacity self.new.rows ≡ vec_capacity self.old.rows }
+    {
+        if let Some(byte) = sent {
+            let node = self.number;
+            let kind = Kind::Sent { byte };
+            put_row(&mut self.rows, Row { cycle, node, kind });
+        }
+    }
+
+    // The devices' part of a cycle, up to its sample.
+    #[tactic(auto, unfolding(crate::specs::Cycle::devices_cycle, crate::specs::Cycle::device_rows, crate::specs::Cycle::asks_after, crate::specs::Cycle::sends_after))]
+    fn move_devices(&mut self, cycle: u64) -> Air
+        requires going { self.old.stop ≡ None }
+        requires early { cycle ≤ 2 ^ 41 }
+        requires room { vec_len self.old.rows + 2 ≤ vec_capacity self.old.rows }
+        ensures state { shown self.new ≡ devices_cycle cycle (shown self.old) }
+        ensures rows { self.new.rows.items ≡ self.old.rows.items ++ device_rows cycle (shown self.old) }
+        ensures air { IsAir (asks_after cycle (shown self.old)) (sends_after cycle (shown self.old)) result }
+        ensures waits { asks_after cycle (shown self.old) ≡ true → is_some self.new.bus.board.spi.transfer ≡ true }
+        ensures used { vec_len self.new.rows ≤ vec_len self.old.rows + 2 }
+        ensures room { vec_capacity self.new.rows ≡ vec_capacity self.old.rows }
+        ensures count { self.new.count ≡ self.old.count }
+    {
+        let arrival = self.script.byte_at(cycle);
+        let begun = self.bus.board.begin(cycle, arrival);
+        self.put_serial(cycle, begun.serial);
+        self.put_sent(cycle, begun.sent);
+        in_the_air(begun.asks, begun.sent)
+    }
+
+    // A cycle up to its sample. There is room for its rows, also for that of the sample.
+    #[tactic(auto, unfolding(crate::specs::Cycle::begun_in, crate::specs::Cycle::begun_rows, crate::specs::Cycle::asks_in, crate::specs::Cycle::sends_in, crate::specs::Cycle::devices_cycle, crate::specs::Cycle::device_rows, crate::specs::Cycle::asks_after, crate::specs::Cycle::sends_after))]
+    pub fn begin(&mut self, cycle: u64) -> Result<Air, AllocError>
+        requires going { self.old.stop ≡ None }
+        requires few { self.old.count < 2 ^ 40 }
+        requires early { cycle ≤ 2 ^ 41 }
         ensures state { OnOk result (shown self.new ≡ begun_in cycle (shown self.old)) }
         ensures rows { OnOk result (self.new.rows.items ≡ self.old.rows.items ++ begun_rows cycle (shown self.old)) }
+        ensures air { IfOk result (λ air. IsAir (asks_in cycle (shown self.old)) (sends_in cycle (shown self.old)) air) }
+        ensures waits { OnOk result (asks_in cycle (shown self.old) ≡ true → is_some self.new.bus.board.spi.transfer ≡ true) }
+        ensures room { OnOk result (vec_len self.new.rows < vec_capacity self.new.rows) }
         ensures same { OnErr result (shown self.new ≡ shown self.old) }
         ensures same_rows { OnErr result (self.new.rows.items ≡ self.old.rows.items) }
         ensures count { self.new.count ≤ self.old.count + 1 }
     {
-        self.rows.reserve(2)?;
-        self.instruct(cycle);
-        Ok(())
-    }
-
-    // Cycles of a wait, of at most so many: how many it were.
-    pub fn rest(&mut self, cycle: u64, most: u64) -> u64
-        requires going { self.old.stop ≡ None }
-        ensures quiet { AllQuiet node_kind cycle result (shown self.old) }
-        ensures state { shown self.new ≡ passed node_kind cycle result (shown self.old) }
-        ensures rows { passed_rows node_kind cycle result (shown self.old) ≡ [] }
-        ensures same { self.new.rows ≡ self.old.rows }
-        ensures stop { self.new.stop ≡ None }
-        ensures count { self.new.count ≡ self.old.count }
-        ensures within { result ≤ most }
-        ensures goes_on { 0 < most → 0 < self.old.wait → 0 < result }
-    {
-        let wait = self.wait;
-        let n = most.min(u64::from(wait));
-        self.wait = wait - n as u8;
-        n
+        self.rows.reserve(ROWS_OF_A_CYCLE)?;
+        self.process(cycle);
+        if self.stop.is_some() {
+            return Ok(Air::Quiet);
+        }
+        Ok(self.move_devices(cycle))
     }
 
     // The rest of a cycle that samples the air.
-    #[tactic(auto, unfolding(crate::specs::Devices::devices_finished))]
     pub fn finish(&mut self, cycle: u64, heard: Heard)
         requires room { vec_len self.old.rows < vec_capacity self.old.rows }
+        requires waits { is_some self.old.bus.board.spi.transfer ≡ true }
         ensures state { shown self.new ≡ finished_in cycle (shown self.old) heard }
         ensures rows { self.new.rows.items ≡ self.old.rows.items ++ finished_rows cycle (shown self.old) heard }
         ensures count { self.new.count ≡ self.old.count }
@@ -157,5 +333,6 @@ impl Machine {
         let node = self.number;
         let kind = Kind::Heard { heard };
         put_row(&mut self.rows, Row { cycle, node, kind });
+        self.bus.board.answer(heard);
     }
 }

@@ -1,0 +1,27 @@
+// Serving an interrupt.
+ghost use Rattle.std.specs.Prelude.{◌≡◌};
+ghost use Rattle.node_core.specs.Interrupts.{entry};
+
+use crate::NodeBus;
+use avr_base::StopCause;
+use data_space::{Cpu, push};
+use interrupt_unit::Vector;
+
+// The flag that lets interrupts in.
+const I: u8 = 7;
+
+/// Pushes the program counter, its low byte first, shuts interrupts out, and goes on at the vector. Where a push stops,
+/// the one before it stays and nothing follows.
+#[tactic(auto, unfolding(crate::specs::Interrupts::entry))]
+pub fn enter(vector: Vector, cpu: &mut Cpu, bus: &mut NodeBus) -> Result<(), StopCause>
+    ensures result { result ≡ (entry vector.word cpu.old bus.old).result }
+    ensures core { cpu.new ≡ (entry vector.word cpu.old bus.old).cpu }
+    ensures bus { bus.new ≡ (entry vector.word cpu.old bus.old).bus }
+{
+    let back = cpu.pc;
+    push(cpu, bus, (back % 256) as u8)?;
+    push(cpu, bus, (back / 256) as u8)?;
+    cpu.sreg = cpu.sreg.with(I, false);
+    cpu.pc = vector.word;
+    Ok(())
+}
