@@ -36,7 +36,7 @@ rule_none [] at h e = refl
 rule_none (r ∷ rs) at h e =
     let p = and_parts (is_low r) (list_all is_low rs) e in
     let off = none_at r.ats at h p.0 in
-    rw off (rule_none rs at h p.1)
+    rw (off, first_rule) (rule_none rs at h p.1)
 
 all_low : list_all is_low table ≡ true
 all_low = refl
@@ -45,10 +45,12 @@ rule_past : (at : ℕ) → 256 ≤ at → rule_of at ≡ Reserved
 unfolding rule_of
 rule_past at h = rule_none table at h all_low
 
-pub get_past : (b : Board) (at : ℕ) → 255 < at → get_by (rule_of at) b at ≡ Err stop.ReservedAddress
+pub get_past : (b : Board) (at : ℕ) → 255 < at → io_get b at ≡ Err stop.ReservedAddress
+unfolding io_get
 get_past b at h = ap (λ r. get_by r b at) (rule_past at (omega arith))
 
-pub put_past : (b : Board) (at x : ℕ) → 255 < at → put_by (rule_of at) b at x ≡ Err stop.ReservedAddress
+pub put_past : (b : Board) (at x : ℕ) → 255 < at → io_put b at x ≡ Err stop.ReservedAddress
+unfolding io_put
 put_past b at x h = ap (λ r. put_by r b at x) (rule_past at (omega arith))
 
 -- ---- after reset

@@ -32,8 +32,9 @@ leap_quiet u t n b = refl
 
 leap_one : (t : ℕ) (b : Board) → timers_leap t 1 b ≡ timers_cycle t b
 leap_one t b = leap_next t 0 b ∙ (λ i. timers_cycle (at i) (leap_zero t b i))
-  where at : t + 0 ≡ t
-        at = omega arith
+  where
+    at : t + 0 ≡ t
+    at = omega arith
 
 -- ---- a cycle in which nothing ends
 no_frame : (t : ℕ) (b : Board) → board_quiet t b ≡ true → usart.ends_at t b.usart ≡ false

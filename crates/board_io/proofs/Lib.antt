@@ -1,3 +1,5 @@
 pub mod Agree
+pub mod Turns
+pub mod Steady
 pub mod Leaps
 pub mod Radio

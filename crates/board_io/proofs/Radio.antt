@@ -47,7 +47,7 @@ free_by t (Some x) b c e =
     let g = transfer_free t (selected b) x b.radio in
     omega (arith, f, g)
 
-sent_is : (m : Moved) (x : ℕ) → sent_by m ≡ Some x → Σ ℕ (λ miso. m ≡ Send x miso)
+sent_is : (m : Moved) (x : ℕ) → sent_by m ≡ Some x → (miso : ℕ) × (m ≡ Send x miso)
 sent_is (Answer miso) x e = absurd (cc)
 sent_is (Send byte miso) x e = (miso, cc)
 sent_is Ask x e = absurd (cc)

@@ -1,5 +1,5 @@
 // The board and what its other parts read of it.
-ghost use Rattle.std.specs.Prelude.{◌≡◌, ◌≤◌, ◌^◌, map};
+ghost use Rattle.std.specs.Prelude.{◌≡◌, ◌≤◌, ◌^◌, map, slice_set};
 ghost use Rattle.std.specs.List.{range_with_len};
 ghost use Rattle.board_io.specs.Table.{start_of};
 
@@ -52,18 +52,24 @@ pub struct Board {
     pub radio: Radio,
 }
 
+// The bytes with this one at an address.
+fn with_byte(mut kept: [u8; 256], at: u8, byte: u8) -> [u8; 256]
+    ensures { result ≡ slice_set kept at byte }
+{
+    kept[usize::from(at)] = byte;
+    kept
+}
+
 // What the registers that no device has hold after reset.
 fn starts() -> [u8; 256]
     ensures { result ≡ map start_of (range_with_len 0 256) }
 {
-    let mut kept = [0; 256];
-    kept[0x54] = 0x01;
-    kept[0x71] = 0xF8;
-    kept[0x72] = 0xFE;
-    kept[0x73] = 0xFF;
-    kept[0x9B] = 0x20;
-    kept[0x9D] = 0x06;
-    kept
+    let kept = with_byte([0; 256], 0x54, 0x01);
+    let kept = with_byte(kept, 0x71, 0xF8);
+    let kept = with_byte(kept, 0x72, 0xFE);
+    let kept = with_byte(kept, 0x73, 0xFF);
+    let kept = with_byte(kept, 0x9B, 0x20);
+    with_byte(kept, 0x9D, 0x06)
 }
 
 impl Board {

@@ -130,7 +130,14 @@ impl Board {
     }
 
     // A write of a register that no device has: it stops where one of the bits is written 1.
-    fn put_guarded(&mut self, at: u8, x: u8, bits: u8, cause: StopCause, mask: u8) -> Result<(), StopCause>
+    fn put_guarded(
+        &mut self,
+        at: u8,
+        x: u8,
+        bits: u8,
+        cause: StopCause,
+        mask: u8,
+    ) -> Result<(), StopCause>
         ensures ok { OnOk result (put_by (Rule.Guarded bits cause mask) self.old at x ≡ Ok self.new) }
         ensures err { IfErr result (λ cause'. put_by (Rule.Guarded bits cause mask) self.old at x ≡ Err cause') }
         ensures same { OnErr result (self.new ≡ self.old) }
@@ -158,17 +165,6 @@ impl Board {
         Ok(())
     }
 
-    // A write of WDTCR: one that sets WDE, bit 3, without WDCE, bit 4, stops.
-    fn put_watchdog(&self, x: u8) -> Result<(), StopCause>
-        ensures ok { OnOk result ((at : ℕ) → put_by Rule.WatchdogControl self.now at x ≡ Ok self.now) }
-        ensures err { IfErr result (λ cause. (at : ℕ) → put_by Rule.WatchdogControl self.now at x ≡ Err cause) }
-    {
-        if any_bit(x, 0x08) && !any_bit(x, 0x10) {
-            return Err(StopCause::Watchdog);
-        }
-        Ok(())
-    }
-
     // A write of the register at a data address below 0x0100, by its rule.
     fn put_by(&mut self, rule: Rule, at: u8, x: u8) -> Result<(), StopCause>
         ensures ok { OnOk result (put_by rule self.old at x ≡ Ok self.new) }
@@ -183,7 +179,12 @@ impl Board {
                 Ok(())
             }
             Rule::Guarded { bits, cause, mask } => self.put_guarded(at, x, bits, cause, mask),
-            Rule::WatchdogControl => self.put_watchdog(x),
+            Rule::WatchdogControl => {
+                if any_bit(x, 0x08) && !any_bit(x, 0x10) {
+                    return Err(StopCause::Watchdog);
+                }
+                Ok(())
+            }
             Rule::ResetFlags => {
                 let old = self.kept(at);
                 self.keep(at, (x & 0x80) | (old & x & 0x1F));
@@ -215,7 +216,7 @@ impl Bus for Board {
 
     ghost put_gives = { io_put };
 
-    #[tactic(auto, unfolding(crate::specs::Registers::io_get), using(crate::proofs::Agree::get_past))]
+    #[tactic(auto, unfolding(crate::specs::Registers::io_get))]
     fn get(&mut self, at: u16) -> Result<u8, StopCause> {
         if at > 0xFF {
             return Err(StopCause::ReservedAddress);
@@ -224,7 +225,7 @@ impl Bus for Board {
         self.get_by(rule_at(low), low)
     }
 
-    #[tactic(auto, unfolding(crate::specs::Registers::io_put), using(crate::proofs::Agree::put_past))]
+    #[tactic(auto, unfolding(crate::specs::Registers::io_put))]
     fn put(&mut self, at: u16, b: u8) -> Result<(), StopCause> {
         if at > 0xFF {
             return Err(StopCause::ReservedAddress);

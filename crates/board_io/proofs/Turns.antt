@@ -1,0 +1,24 @@
+-- A byte that arrives leaves the frame that runs alone.
+use Rattle.std.proofs.Common.{◌≡◌, ℕ, if◌then◌else◌, Bool, true, false, refl, ap}
+use Rattle.device_clocks.specs.Bits.{any_bit}
+use Rattle.usart_port.specs.declared.inbox.Inbox.{Inbox}
+use Rattle.usart_port.specs.declared.inbox.Inbox.TheVariants.{Empty, One, Two}
+use Rattle.usart_port.specs.declared.usart.Usart.{Usart}
+use Rattle.usart_port.specs.Usart.{arrived, buffered, cut, ended_byte, frame_ended}
+
+buffered_frame : (inbox : Inbox) (x : ℕ) (u : Usart) → (buffered inbox x u).frame ≡ u.frame
+buffered_frame Empty x u = refl
+buffered_frame (One a) x u = refl
+buffered_frame (Two a b) x u = refl
+
+either_frame : (c : Bool) (u v : Usart) → u.frame ≡ v.frame → (if c then u else v).frame ≡ v.frame
+either_frame true u v e = e
+either_frame false u v e = refl
+
+arrived_frame : (x : ℕ) (u : Usart) → (arrived x u).frame ≡ u.frame
+unfolding arrived
+arrived_frame x u = either_frame (any_bit u.control_b 0x10) (buffered u.inbox (cut u x) u) u (buffered_frame u.inbox (cut u x) u)
+
+pub arrived_ended : (t x : ℕ) (u : Usart) → frame_ended t (arrived x u) ≡ frame_ended t u
+unfolding frame_ended
+arrived_ended t x u = ap (λ f. ended_byte f t) (arrived_frame x u)
