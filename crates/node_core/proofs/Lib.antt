@@ -1,6 +1,7 @@
 pub mod Keeps
 pub mod Cycles
 pub mod Radio
-pub mod Rests
+pub mod Runs
+pub mod Idling
 pub mod Steady
 pub mod Takes

@@ -1,5 +1,5 @@
 // The inside of a node, cycle by cycle.
-ghost use Rattle.std.specs.Prelude.{◌≡◌, ◌<◌, ◌≤◌, ◌+◌, ◌^◌, ◌++◌, ◌||◌, nat_le, nat_lt, None, true, is_some, IfOk, OnOk, OnErr, vec_len, vec_capacity};
+ghost use Rattle.std.specs.Prelude.{◌≡◌, ◌<◌, ◌≤◌, ◌+◌, ◌^◌, ◌++◌, ◌&&◌, ◌||◌, nat_le, nat_lt, None, true, is_some, IfOk, OnOk, OnErr, vec_len, vec_capacity};
 ghost use Rattle.node_core.specs.Cycle.{acted, acted_rows, asks_after, asks_in, begun_in, begun_rows, cpu_cycle, cpu_rows, device_rows, devices_cycle, entered, entered_rows, finished_in, finished_rows, instructed, instructed_rows, is_idle, is_other, is_sei, is_sleep, owes, sends_after, sends_in, sent_rows, serial_rows};
 ghost use Rattle.node_core.specs.Inside.{IsAir};
 ghost use Rattle.node_core.specs.Interrupts.{due};

@@ -6,13 +6,14 @@ ghost use Rattle.node_core.specs.Cycle.{node_kind, end_row};
 ghost use Rattle.node_core.specs.Reached.{IsReached};
 
 use crate::NodeBus;
-use crate::machine::Machine;
+use crate::machine::{Air, Machine};
 use avr_base::{NoMemory, StopCause};
 use data_space::Cpu;
 use ihex_loader::Flash;
 use std::alloc::Global;
 use std::marker::Model;
 use trace_rows::{Kind, NodeEnd, Row};
+use usart_port::Script;
 use world_core::Heard;
 
 /// Where a run of a node ended.
@@ -55,23 +56,29 @@ impl Model for Node {
 }
 
 impl Node {
-    /// A node at reset, before cycle 0. Its Instr rows exist in the cycles from `window.0` on and below `window.1`.
+    /// A node at reset, before cycle 0. `script` says which bytes arrive at its USART0; its Instr and Enter rows exist
+    /// in the cycles from `window.0` on and below `window.1`; a byte takes its radio `byte_time` cycles, 256 to 4,096.
     pub fn new(
         alloc: Global,
         number: u8,
         flash: Flash,
+        script: Script,
         window: (u64, u64),
+        byte_time: u64,
     ) -> Result<Node, NoMemory>
-        requires { window.0 ≤ window.1 }
-        ensures { IfOk result (λ node. node ≡ record { cycle = 0; asking = false; state = reset number flash.bytes window.0 window.1; rows = [] }) }
+        requires window { window.0 ≤ window.1 }
+        requires least { 256 ≤ byte_time }
+        requires most { byte_time ≤ 4096 }
+        ensures { IfOk result (λ node. node ≡ record { cycle = 0; asking = false; state = reset number flash.bytes script window.0 window.1 byte_time; rows = [] }) }
     {
-        let bus = NodeBus::new(alloc)?;
+        let bus = NodeBus::new(alloc, byte_time)?;
         Ok(Node {
             cycle: 0,
             asking: false,
             machine: Machine {
                 number,
                 flash,
+                script,
                 from: window.0,
                 to: window.1,
                 cpu: Cpu::new(),
@@ -87,7 +94,8 @@ impl Node {
     }
 
     /// Runs the cycles below `cycle` (at most 2^40), and stops early at the first one that sends, samples the air or
-    /// stops the node. An instruction is executed at once in its first cycle, and its waiting cycles are skipped.
+    /// stops the node. An instruction is executed at once in its first cycle; its waiting cycles, and sleep, are passed
+    /// in leaps.
     pub fn run_until(&mut self, cycle: u64) -> Reached
         requires ahead { self.old.cycle ≤ cycle }
         requires early { cycle ≤ 2 ^ 40 }
@@ -98,13 +106,21 @@ impl Node {
             if self.machine.stop.is_some() {
                 return Reached::Stopped;
             }
+            self.cycle += self.machine.rest(self.cycle, cycle - self.cycle);
             let at = self.cycle;
-            if self.machine.wait > 0 {
-                self.cycle = at + self.machine.rest(at, cycle - at);
-                continue;
+            if at == cycle {
+                return Reached::Cycle;
             }
             match self.machine.begin(at) {
-                Ok(()) => self.cycle = at + 1,
+                Ok(Air::Quiet) => self.cycle = at + 1,
+                Ok(Air::Sent { byte }) => {
+                    self.cycle = at + 1;
+                    return Reached::Sent { cycle: at, byte };
+                }
+                Ok(Air::Asks) => {
+                    self.asking = true;
+                    return Reached::Ask { cycle: at };
+                }
                 Err(_) => return Reached::NoMemory,
             }
         }

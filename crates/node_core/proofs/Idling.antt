@@ -1,5 +1,5 @@
 -- Many cycles of a node that waits or sleeps.
-use Rattle.std.proofs.Common.{◌≡◌, ℕ, zero, suc, ◌+◌, ◌-◌, ◌<◌, ◌≤◌, ◌++◌, add-zero, Bool, true, false, cond, Option, None, List, [], refl, sym, ap, ◌∙◌, arith, nat_lt}
+use Rattle.std.proofs.Common.{◌≡◌, ℕ, zero, suc, ◌+◌, ◌-◌, ◌<◌, ◌≤◌, ◌++◌, add-zero, Bool, true, false, cond, Option, None, List, [], is_some, refl, sym, ap, ◌∙◌, arith, nat_lt}
 use Rattle.std.proofs.Math.Nat.{sub-zero}
 use Rattle.std.proofs.lemmas.Bool.{lt-ltb}
 use Rattle.board_io.specs.declared.board.Board.{Board}
@@ -13,7 +13,7 @@ use Rattle.trace_rows.specs.declared.row.Row.{Row}
 use Rattle.world_core.specs.NodeRun.{passed, passed_rows, AllQuiet}
 use Rattle.node_core.specs.Bus.{with_board}
 use Rattle.node_core.specs.State.{NodeState}
-use Rattle.node_core.specs.Cycle.{node_kind, acted, acted_rows, asks_in, begun_in, begun_rows, cpu_cycle, cpu_rows, sends_in}
+use Rattle.node_core.specs.Cycle.{node_kind, acted, acted_rows, asks_in, begun_in, begun_rows, cpu_cycle, cpu_rows, instructed, instructed_rows, sends_in}
 use Rattle.node_core.specs.Inside.{IsCalm}
 use Rattle.node_core.specs.Interrupts.{due}
 use Rattle.node_core.proofs.Cycles.{asks_calm, begun_calm, rows_calm, sends_calm}
@@ -38,7 +38,10 @@ passed_next t n s = refl
 
 passed_none : (t : ℕ) (s : NodeState) → passed node_kind t 0 s ≡ rested t 0 s
 unfolding passed
-passed_none t s = (λ k. let u : NodeState = record s { wait = sub-zero s.wait (~ k); bus = with_board s.bus (leap_zero t s.bus.board (~ k)) } in u)
+passed_none t s =
+    let wait : s.wait ≡ s.wait - 0 = sym (sub-zero s.wait) in
+    let board : s.bus.board ≡ timers_leap t 0 s.bus.board = sym (leap_zero t s.bus.board) in
+    (λ k. let u : NodeState = record s { wait = wait k; bus = with_board s.bus (board k) } in u)
 
 module _ (t : ℕ) (s : NodeState) (going : is_some s.stop ≡ false) (n : ℕ) (calm : IsCalm t n s) (idles : (i : ℕ) → i < n → Idles (t + i) (rested t i s)) where
   quiet_at : (i : ℕ) → i < n → board_quiet (t + i) (timers_leap t i s.bus.board) ≡ true
@@ -92,8 +95,8 @@ sleeps_on : (t : ℕ) (s : NodeState) → s.wait ≡ 0 → s.asleep ≡ true →
 unfolding cpu_cycle cpu_rows
 sleeps_on t s free asleep none =
     let less : s.wait ≡ s.wait - 1 = omega arith in
-    let part : acted t s (due s) ≡ s = ap (acted t s) none ∙ ap (λ (b : Bool). cond b s (acted t s None)) asleep in
-    let rows : acted_rows t s (due s) ≡ [] = ap (acted_rows t s) none ∙ ap (λ (b : Bool). cond b [] (acted_rows t s None)) asleep in
+    let part : acted t s (due s) ≡ s = ap (acted t s) none ∙ ap (λ (b : Bool). cond b s (instructed t s)) asleep in
+    let rows : acted_rows t s (due s) ≡ [] = ap (acted_rows t s) none ∙ ap (λ (b : Bool). cond b [] (instructed_rows t s)) asleep in
     record {
       part = ap (λ (w : ℕ). cond (nat_lt 0 w) (let u : NodeState = record s { wait = s.wait - 1 } in u) (acted t s (due s))) free
           ∙ (part ∙ ap (λ (w : ℕ). let u : NodeState = record s { wait = w } in u) less);
@@ -104,3 +107,11 @@ pub sleeps : (t n : ℕ) (s : NodeState) → s.wait ≡ 0 → s.asleep ≡ true 
     → ((i : ℕ) → i < n → lines_of (timers_leap t i s.bus.board) ≡ lines_of s.bus.board) → (i : ℕ) → i < n → Idles (t + i) (rested t i s)
 sleeps t n s free asleep none same i l =
     sleeps_on (t + i) (rested t i s) (omega arith) asleep (ap (λ (lines : Lines). due_of s.cpu.sreg.bits lines) (same i l) ∙ none)
+
+-- ---- fewer cycles, and none
+pub calm_less : (t n m : ℕ) (s : NodeState) → n ≤ m → IsCalm t m s → IsCalm t n s
+calm_less t n m s le calm = record { ends = λ i l. calm.ends i (omega arith); none = λ i l. calm.none i (omega arith) }
+
+pub passed_zero : (t : ℕ) (s : NodeState) → s ≡ passed node_kind t 0 s
+unfolding passed
+passed_zero t s = refl
