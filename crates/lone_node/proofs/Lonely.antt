@@ -6,7 +6,7 @@ use Rattle.world_core.specs.NodeKind.{ticked, ticked_rows}
 use Rattle.world_core.specs.NodeRun.{passed, passed_rows, AllQuiet, Timed, Comes, Sends, Asks, answered}
 use Rattle.node_core.specs.State.{NodeState, reset}
 use Rattle.node_core.specs.Cycle.{node_kind, asks_in, begun_in, begun_rows, finished_in, finished_rows, end_row}
-use Rattle.node_core.specs.Alone.{silence, alone, alone_rows, node_rows, Went}
+use Rattle.lone_node.specs.Alone.{silence, no_script, alone, alone_rows, node_rows, Went}
 use Rattle.node_core.proofs.Steady.{steady}
 
 -- a cycle that does not look at the air
@@ -169,10 +169,10 @@ went_asks v new c h =
 
 -- the rows of a whole run
 pub rows_of_run : (flash : List ℕ) (limit : ℕ) (v : Timed NodeState Row) (s : NodeState) (l : List Row)
-    → v ≡ record { cycle = 0; asking = false; state = reset 0 flash 0 (min limit 20000); rows = [] } → Went v limit s l → l ++ end_row limit s ∷ [] ≡ node_rows flash limit
+    → v ≡ record { cycle = 0; asking = false; state = reset 0 flash no_script 0 (min limit 20000) 3072; rows = [] } → Went v limit s l → l ++ end_row limit s ∷ [] ≡ node_rows flash limit
 unfolding node_rows
 rows_of_run flash limit v s l e h =
-    let start : NodeState = reset 0 flash 0 (min limit 20000) in
+    let start : NodeState = reset 0 flash no_script 0 (min limit 20000) 3072 in
     let w = subst (λ (u : Timed NodeState Row). Went u limit s l) e h in
     let state : s ≡ alone 0 limit start = w.state ∙ ap (λ (n : ℕ). alone 0 n start) (sub-zero limit) in
     let rows : l ≡ alone_rows 0 limit start = w.rows ∙ ap (λ (n : ℕ). alone_rows 0 n start) (sub-zero limit) in

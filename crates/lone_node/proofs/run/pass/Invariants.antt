@@ -1,6 +1,6 @@
 use Rattle.std.proofs.Common.{◌≡◌, ◌≤◌, ◌-◌, false}
-use Rattle.node_core.specs.Alone.{Went}
-use Rattle.node_core.proofs.alone.pass.Given as goal
+use Rattle.lone_node.specs.Alone.{Went}
+use Rattle.lone_node.proofs.run.pass.Given as goal
 
 abbrev pub invariant-loop-node : goal.invariant-loop-node
 invariant-loop-node l = record {

@@ -3,10 +3,10 @@ use Rattle.trace_rows.specs.declared.row.Row.{Row}
 use Rattle.world_core.specs.NodeRun.{Timed, answered}
 use Rattle.node_core.specs.State.{NodeState}
 use Rattle.node_core.specs.Cycle.{node_kind}
-use Rattle.node_core.specs.Alone.{silence, Went}
+use Rattle.lone_node.specs.Alone.{silence, Went}
 use Rattle.node_core.specs.Reached.{IsReached}
-use Rattle.node_core.proofs.Lonely.{went_none, went_comes, went_on, went_stopped, went_sends, went_asks}
-use Rattle.node_core.proofs.alone.pass.Goals as goal
+use Rattle.lone_node.proofs.Lonely.{went_none, went_comes, went_on, went_stopped, went_sends, went_asks}
+use Rattle.lone_node.proofs.run.pass.Goals as goal
 
 pub loop-node-init : goal.loop-node-init
 loop-node-init c = record { within = c.requires.ahead; calm = c.requires.calm; went = went_none c.args.node.now }

@@ -1,13 +1,20 @@
 // A node that no link reaches.
 ghost use Rattle.std.specs.Prelude.{◌≡◌, ◌≤◌, ◌^◌, IfOk, OnOk, false};
-ghost use Rattle.node_core.specs.Alone.{node_rows, Went};
+ghost use Rattle.lone_node.specs.Alone.{node_rows, Went};
 
-use crate::{Node, Reached};
 use avr_base::NoMemory;
 use ihex_loader::Flash;
+use node_core::{Node, Reached};
 use std::alloc::Global;
 use trace_rows::Row;
+use usart_port::Script;
 use world_core::Heard;
+
+// The cycles that a byte takes the radio.
+const BYTE_TIME: u64 = 3_072;
+
+// The cycles in which instructions are told.
+const TOLD: u64 = 20_000;
 
 const SILENCE: Heard = Heard {
     status: 0,
@@ -34,13 +41,16 @@ fn pass(node: &mut Node, limit: u64) -> Result<(), NoMemory>
     Ok(())
 }
 
-/// The rows of a flash that one node alone runs up to a cycle limit, and its End row: no link reaches it, and its
-/// Instr rows exist in the first 20,000 cycles.
+/// The rows of a flash that one node alone runs up to a cycle limit, at most 10,000,000, and its End row: no link
+/// reaches it, no byte arrives at its USART0, a byte takes its radio 3,072 cycles, and its Instr and Enter rows exist in
+/// the first 20,000 cycles. `Err` only for want of memory.
 pub fn run_alone(alloc: Global, flash: Flash, cycles: u64) -> Result<Vec<Row>, NoMemory>
     requires { cycles ≤ 10000000 }
     ensures { IfOk result (λ rows. rows.items ≡ node_rows flash.bytes cycles) }
 {
-    let mut node = Node::new(alloc, 0, flash, (0, cycles.min(20_000)))?;
+    let script = Script::new(0, 1, Vec::new(alloc));
+    let window = (0, cycles.min(TOLD));
+    let mut node = Node::new(alloc, 0, flash, script, window, BYTE_TIME)?;
     pass(&mut node, cycles)?;
     let end = node.end_row(cycles);
     let mut rows = node.into_rows();
