@@ -4,7 +4,7 @@ use Rattle.command_words.specs.Words.{Asked, Node, Disasm, asked_by}
 use Rattle.ihex_loader.specs.Flash.{Image}
 use Rattle.ihex_loader.specs.Image.{hex_fault, image}
 use Rattle.ihex_loader.specs.declared.fault.HexFault.{HexFault}
-use Rattle.node_core.specs.Alone.{node_rows}
+use Rattle.lone_node.specs.Alone.{node_rows}
 use Rattle.trace_writer.specs.Line.{rows_text}
 use Rattle.avrora_top.specs.Listing.{listing}
 use Rattle.avrora_top.specs.declared.trouble.ImageCause.{ImageCause}

@@ -8,7 +8,7 @@ use crate::files::read_image;
 use crate::listing::write_listing;
 use crate::trouble::Trouble;
 use ihex_loader::Flash;
-use node_core::run_alone;
+use lone_node::run_alone;
 use sim_io::{Sink, Store};
 use std::alloc::Global;
 
