@@ -1,6 +1,7 @@
 // The inside of a node, cycle by cycle.
-ghost use Rattle.std.specs.Prelude.{◌≡◌, ◌<◌, ◌≤◌, ◌+◌, ◌^◌, ◌++◌, ◌&&◌, ◌||◌, nat_le, nat_lt, None, true, is_some, IfOk, OnOk, OnErr, vec_len, vec_capacity};
-ghost use Rattle.node_core.specs.Cycle.{acted, acted_rows, asks_after, asks_in, begun_in, begun_rows, cpu_cycle, cpu_rows, device_rows, devices_cycle, entered, entered_rows, finished_in, finished_rows, instructed, instructed_rows, is_idle, is_other, is_sei, is_sleep, owes, sends_after, sends_in, sent_rows, serial_rows};
+ghost use Rattle.std.specs.Prelude.{◌≡◌, ◌<◌, ◌≤◌, ◌+◌, ◌^◌, ◌++◌, ◌&&◌, ◌||◌, nat_le, nat_lt, None, Some, true, is_some, IfOk, OnOk, OnErr, vec_len, vec_capacity};
+ghost use Rattle.node_core.specs.Cycle.{acted, acted_rows, asks_after, asks_in, begun_in, begun_rows, cpu_cycle, cpu_rows, device_rows, devices_cycle, entered, entered_rows, finished_in, finished_rows, instructed, instructed_rows, is_idle, is_other, is_sei, is_sleep, owes, row, sends_after, sends_in, sent_rows, serial_rows};
+ghost use Rattle.trace_rows.specs.declared.row.Kind.TheVariants as kind;
 ghost use Rattle.node_core.specs.Inside.{IsAir};
 ghost use Rattle.node_core.specs.Interrupts.{due};
 ghost use Rattle.node_core.specs.Shown.{shown};
@@ -110,6 +111,21 @@ pub struct Machine {
 }
 
 impl Machine {
+    // A stop of the instruction at an address.
+    fn halt(&mut self, cycle: u64, pc: u16, cause: StopCause)
+        requires room { vec_len self.old.rows < vec_capacity self.old.rows }
+        ensures state { shown self.new ≡ record (shown self.old) { stop = Some cause } }
+        ensures rows { self.new.rows.items ≡ self.old.rows.items ++ row cycle (shown self.old) (kind.Stop pc cause) }
+        ensures used { vec_len self.new.rows ≤ vec_len self.old.rows + 1 }
+        ensures room { vec_capacity self.new.rows ≡ vec_capacity self.old.rows }
+        ensures count { self.new.count ≡ self.old.count }
+    {
+        let node = self.number;
+        let kind = Kind::Stop { pc, cause };
+        put_row(&mut self.rows, Row { cycle, node, kind });
+        self.stop = Some(cause);
+    }
+
     // The first cycle of an instruction.
     #[tactic(auto, unfolding(crate::specs::Cycle::instructed, crate::specs::Cycle::instructed_rows))]
     fn instruct(&mut self, cycle: u64)
@@ -128,10 +144,7 @@ impl Machine {
         let node = self.number;
         let op = decode(word, next);
         if is_sleep(&op) && is_other(self.bus.board.sleep_mode()) {
-            let cause = StopCause::SleepMode;
-            let kind = Kind::Stop { pc, cause };
-            put_row(&mut self.rows, Row { cycle, node, kind });
-            self.stop = Some(cause);
+            self.halt(cycle, pc, StopCause::SleepMode);
             return;
         }
         let sei = is_set_interrupts(&op);
@@ -147,11 +160,7 @@ impl Machine {
                 self.asleep = done.sleep && is_idle(self.bus.board.sleep_mode());
                 self.count += 1;
             }
-            Err(cause) => {
-                let kind = Kind::Stop { pc, cause };
-                put_row(&mut self.rows, Row { cycle, node, kind });
-                self.stop = Some(cause);
-            }
+            Err(cause) => self.halt(cycle, pc, cause),
         }
     }
 
@@ -181,11 +190,7 @@ impl Machine {
                 self.wait = wait;
                 self.asleep = false;
             }
-            Err(cause) => {
-                let kind = Kind::Stop { pc: back, cause };
-                put_row(&mut self.rows, Row { cycle, node, kind });
-                self.stop = Some(cause);
-            }
+            Err(cause) => self.halt(cycle, back, cause),
         }
     }
 
