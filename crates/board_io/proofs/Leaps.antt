@@ -30,7 +30,7 @@ pub leap_quiet : (u t n : ℕ) (b : Board) → board_quiet u (timers_leap t n b)
 unfolding timers_leap board_quiet
 leap_quiet u t n b = refl
 
-leap_one : (t : ℕ) (b : Board) → timers_leap t 1 b ≡ timers_cycle t b
+pub leap_one : (t : ℕ) (b : Board) → timers_leap t 1 b ≡ timers_cycle t b
 leap_one t b = leap_next t 0 b ∙ (λ i. timers_cycle (at i) (leap_zero t b i))
   where
     at : t + 0 ≡ t
