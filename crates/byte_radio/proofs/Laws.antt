@@ -1,6 +1,6 @@
 -- Laws of the radio's transfers: the byte time stays, the cycle from which on it may send never falls, and a byte is
 -- sent only from that cycle on and moves it by the byte time.
-use Rattle.std.proofs.Common.{◌≡◌, ℕ, ◌+◌, ◌≤◌, ◌==◌, nat_le, if◌then◌else◌, Bool, true, false, refl, ap, ◌∙◌, sym, arith}
+use Rattle.std.proofs.Common.{◌≡◌, ℕ, ◌+◌, ◌≤◌, ◌==◌, nat_le, if◌then◌else◌, Bool, true, false, refl, arith}
 use Rattle.std.proofs.lemmas.Bool.{cond_both, leb-true}
 use Rattle.byte_radio.specs.Radio.{idle_transfer, in_state, radio_transfer, selected_transfer, send_transfer}
 use Rattle.byte_radio.specs.declared.radio.Moved.{Moved}

@@ -1,5 +1,5 @@
 -- Cycles in which no transfer ends.
-use Rattle.std.proofs.Common.{◌≡◌, ℕ, zero, suc, ◌+◌, ◌<◌, Bool, false, refl, ap, ◌∙◌, arith}
+use Rattle.std.proofs.Common.{◌≡◌, ℕ, zero, suc, ◌+◌, ◌<◌, false, refl, ap, ◌∙◌, arith}
 use Rattle.std.proofs.lemmas.Bool.{cond-false}
 use Rattle.device_clocks.specs.Clock.{cycles}
 use Rattle.spi_port.specs.Spi.{ends_at, spi_cycle, spi_finished}

@@ -1,6 +1,6 @@
 -- The registers of the serial peripheral interface (ATmega128 datasheet, "SPI Control Register - SPCR", "SPI Status
 -- Register - SPSR", "SPI Data Register - SPDR").
-use Rattle.std.specs.Prelude.{ℕ, ◌+◌, ◌&&◌, not, if◌then◌else◌, Bool, true, false, Option, Some, None, is_some, Result, Ok, Err}
+use Rattle.std.specs.Prelude.{ℕ, ◌+◌, ◌&&◌, not, if◌then◌else◌, true, false, Some, None, is_some, Result, Ok, Err}
 use Rattle.avr_base.specs.declared.stop.StopCause.{StopCause}
 use Rattle.avr_base.specs.declared.stop.StopCause.TheVariants as stop
 use Rattle.device_clocks.specs.Bits.{any_bit}

@@ -1,6 +1,6 @@
 -- The serial peripheral interface as a master, cycle by cycle (ATmega128 datasheet, "Serial Peripheral Interface - SPI"
 -- and "SPI Status Register - SPSR"). The cycle of a transfer's end is this simulator's own choice.
-use Rattle.std.specs.Prelude.{ℕ, ◌*◌, ◌/◌, ◌%◌, ◌==◌, ◌&&◌, not, if◌then◌else◌, Bool, true, false, Option, Some, None}
+use Rattle.std.specs.Prelude.{ℕ, ◌*◌, ◌/◌, ◌%◌, ◌==◌, ◌&&◌, if◌then◌else◌, Bool, true, false, Option, Some, None}
 use Rattle.device_clocks.specs.Bits.{any_bit}
 use Rattle.spi_port.specs.declared.spi.Spi.{Spi}
 use Rattle.spi_port.specs.declared.spi.Transfer.{Transfer}
