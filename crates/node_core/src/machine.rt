@@ -5,6 +5,7 @@ ghost use Rattle.trace_rows.specs.declared.row.Kind.TheVariants as kind;
 ghost use Rattle.node_core.specs.Inside.{IsAir};
 ghost use Rattle.node_core.specs.Interrupts.{due};
 ghost use Rattle.node_core.specs.Shown.{shown};
+ghost use Rattle.usart_port.specs.Script.{script_byte};
 
 use crate::NodeBus;
 use crate::execute::execute;
@@ -130,7 +131,7 @@ impl Machine {
     #[tactic(auto, unfolding(crate::specs::Cycle::instructed, crate::specs::Cycle::instructed_rows))]
     fn instruct(&mut self, cycle: u64)
         requires few { self.old.count < 2 ^ 40 }
-        requires early { cycle ≤ 2 ^ 41 }
+        requires early { cycle ≤ 2 ^ 40 }
         requires room { vec_len self.old.rows < vec_capacity self.old.rows }
         ensures state { shown self.new ≡ instructed cycle (shown self.old) }
         ensures rows { self.new.rows.items ≡ self.old.rows.items ++ instructed_rows cycle (shown self.old) }
@@ -167,7 +168,7 @@ impl Machine {
     // The first cycle of an interrupt, of which so many cycles more follow.
     #[tactic(auto, unfolding(crate::specs::Cycle::entered, crate::specs::Cycle::entered_rows))]
     fn enter(&mut self, cycle: u64, wait: u8, vector: Vector)
-        requires early { cycle ≤ 2 ^ 41 }
+        requires early { cycle ≤ 2 ^ 40 }
         requires room { vec_len self.old.rows < vec_capacity self.old.rows }
         ensures state { shown self.new ≡ entered cycle wait vector (shown self.old) }
         ensures rows { self.new.rows.items ≡ self.old.rows.items ++ entered_rows cycle vector (shown self.old) }
@@ -208,7 +209,7 @@ impl Machine {
     // What the processor does that waits for nothing.
     fn act(&mut self, cycle: u64)
         requires few { self.old.count < 2 ^ 40 }
-        requires early { cycle ≤ 2 ^ 41 }
+        requires early { cycle ≤ 2 ^ 40 }
         requires room { vec_len self.old.rows < vec_capacity self.old.rows }
         ensures state { shown self.new ≡ acted cycle (shown self.old) (due (shown self.old)) }
         ensures rows { self.new.rows.items ≡ self.old.rows.items ++ acted_rows cycle (shown self.old) (due (shown self.old)) }
@@ -238,7 +239,7 @@ impl Machine {
     #[tactic(auto, unfolding(crate::specs::Cycle::cpu_cycle, crate::specs::Cycle::cpu_rows))]
     fn process(&mut self, cycle: u64)
         requires few { self.old.count < 2 ^ 40 }
-        requires early { cycle ≤ 2 ^ 41 }
+        requires early { cycle ≤ 2 ^ 40 }
         requires room { vec_len self.old.rows < vec_capacity self.old.rows }
         ensures state { shown self.new ≡ cpu_cycle cycle (shown self.old) }
         ensures rows { self.new.rows.items ≡ self.old.rows.items ++ cpu_rows cycle (shown self.old) }
@@ -250,6 +251,18 @@ impl Machine {
             self.wait -= 1;
         } else {
             self.act(cycle);
+        }
+    }
+
+    // The byte that arrives in a cycle. `quiet` only compares where none comes any more, `byte_at` divides.
+    fn arrival(&self, cycle: u64) -> Option<u8>
+        requires early { cycle ≤ 2 ^ 40 }
+        ensures { result ≡ script_byte self.now.script cycle }
+    {
+        if self.script.quiet(cycle, 1) > 0 {
+            None
+        } else {
+            self.script.byte_at(cycle)
         }
     }
 
@@ -287,7 +300,7 @@ impl Machine {
     #[tactic(auto, unfolding(crate::specs::Cycle::devices_cycle, crate::specs::Cycle::device_rows, crate::specs::Cycle::asks_after, crate::specs::Cycle::sends_after))]
     fn move_devices(&mut self, cycle: u64) -> Air
         requires going { self.old.stop ≡ None }
-        requires early { cycle ≤ 2 ^ 41 }
+        requires early { cycle ≤ 2 ^ 40 }
         requires room { vec_len self.old.rows + 2 ≤ vec_capacity self.old.rows }
         ensures state { shown self.new ≡ devices_cycle cycle (shown self.old) }
         ensures rows { self.new.rows.items ≡ self.old.rows.items ++ device_rows cycle (shown self.old) }
@@ -297,7 +310,7 @@ impl Machine {
         ensures room { vec_capacity self.new.rows ≡ vec_capacity self.old.rows }
         ensures count { self.new.count ≡ self.old.count }
     {
-        let arrival = self.script.byte_at(cycle);
+        let arrival = self.arrival(cycle);
         let begun = self.bus.board.begin(cycle, arrival);
         self.put_serial(cycle, begun.serial);
         self.put_sent(cycle, begun.sent);
@@ -309,7 +322,7 @@ impl Machine {
     pub fn begin(&mut self, cycle: u64) -> Result<Air, AllocError>
         requires going { self.old.stop ≡ None }
         requires few { self.old.count < 2 ^ 40 }
-        requires early { cycle ≤ 2 ^ 41 }
+        requires early { cycle ≤ 2 ^ 40 }
         ensures state { OnOk result (shown self.new ≡ begun_in cycle (shown self.old)) }
         ensures rows { OnOk result (self.new.rows.items ≡ self.old.rows.items ++ begun_rows cycle (shown self.old)) }
         ensures air { IfOk result (λ air. IsAir (asks_in cycle (shown self.old)) (sends_in cycle (shown self.old)) air) }

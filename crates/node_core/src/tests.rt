@@ -1,5 +1,5 @@
 // Runs of one node, over words that another program laid out and computed the ends of.
-ghost use Rattle.std.specs.Prelude.{◌≤◌, length};
+ghost use Rattle.std.specs.Prelude.{◌≡◌, ◌≤◌, false, length, IfOk};
 
 use crate::{Node, Reached};
 use avr_base::StopCause;
@@ -42,6 +42,8 @@ fn loaded(alloc: Global, text: &str) -> Result<Flash, Fail> {
 fn node_of(alloc: Global, flash: Flash, window: (u64, u64), arrivals: &[u8]) -> Result<Node, Fail>
     requires window { window.0 ≤ window.1 }
     requires few { length arrivals.now ≤ 65536 }
+    ensures cycle { IfOk result (λ node. node.cycle ≡ 0) }
+    ensures calm { IfOk result (λ node. node.asking ≡ false) }
 {
     let script = Script::new(5, 1, Vec::from_slice(alloc, arrivals)?);
     let node = Node::new(alloc, 0, flash, script, window, 512);
@@ -62,7 +64,7 @@ fn each_register_instruction_once(rt: HostRuntime) -> Result<(), Fail> {
 }
 
 // An instruction that stops the node, its second word, and the cause.
-static STOPS: [(u16, u16, StopCause); 6] = [
+const STOPS: [(u16, u16, StopCause); 6] = [
     (0xFFFF, 0, StopCause::ReservedOpcode),
     (0x91E1, 0, StopCause::UndefinedOperands),
     (0x95E8, 0, StopCause::Spm),
@@ -75,12 +77,11 @@ static STOPS: [(u16, u16, StopCause); 6] = [
 #[test]
 fn stops_have_their_causes(rt: HostRuntime) -> Result<(), Fail> {
     let alloc = rt.alloc();
-    let stops = STOPS;
-    for (word, next, cause) in stops.iter() {
-        let flash = laid_out(alloc, &[0x0000, *word, *next])?;
+    for (word, next, cause) in STOPS {
+        let flash = laid_out(alloc, &[0x0000, word, next])?;
         let mut node = node_of(alloc, flash, (0, 0), &[])?;
         assert_eq!(rt; node.run_until(9), Reached::Stopped, "{word}");
-        assert_eq!(rt; node.stopped(), Some(*cause), "{word}");
+        assert_eq!(rt; node.stopped(), Some(cause), "{word}");
         assert_eq!(rt; (node.cycle(), node.instructions()), (2, 1), "{word}");
         let end = Kind::End {
             state: NodeEnd::Stopped,
@@ -89,13 +90,7 @@ fn stops_have_their_causes(rt: HostRuntime) -> Result<(), Fail> {
         assert_eq!(rt; node.end_row(9).kind, end);
         let rows = node.into_rows();
         assert_eq!(rt; rows.len(), 1);
-        assert_eq!(rt;
-            rows[0].kind,
-            Kind::Stop {
-                pc: 1,
-                cause: *cause
-            }
-        );
+        assert_eq!(rt; rows[0].kind, Kind::Stop { pc: 1, cause });
     }
     Ok(())
 }
