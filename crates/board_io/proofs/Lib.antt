@@ -3,3 +3,4 @@ pub mod Turns
 pub mod Steady
 pub mod Leaps
 pub mod Radio
+pub mod Halted

@@ -73,11 +73,14 @@ impl Board {
 
     /// The timers' part of the `n` cycles from `cycle` on at once: of cycles in which no frame and no transfer ends and
     /// no byte arrives that is all that the devices do.
-    #[tactic(auto, unfolding(crate::specs::Cycle::timers_leap))]
+    #[tactic(auto, unfolding(crate::specs::Cycle::timers_leap), using(crate::proofs::Halted::halted_leap))]
     pub fn leap(&mut self, cycle: u64, n: u64)
         requires { cycle + n ≤ 2 ^ 41 }
         ensures { self.new ≡ timers_leap cycle n self.old }
     {
+        if self.are_timers_halted() {
+            return;
+        }
         self.t0.leap(cycle, n);
         self.t1.leap(cycle, n);
         self.t2.leap(cycle, n);

@@ -1,6 +1,7 @@
 // One cycle of the devices.
 ghost use Rattle.std.specs.Prelude.{◌≡◌, ◌≤◌, ◌^◌, true, is_some, IfSome};
 ghost use Rattle.usart_port.specs.Usart.{frame_ended};
+ghost use Rattle.board_io.specs.Passing.{AreHalted};
 
 use crate::Board;
 use byte_radio::Moved;
@@ -20,11 +21,22 @@ pub struct Begun {
 impl Board {
     ghost use Rattle.board_io.specs.Cycle.{board_answered, board_asks, board_begun, board_sends, board_serial, is_ask, moved, samples, sends, sent_by, timers_cycle, transfer_end, transferred, usart_cycle, with_moved};
 
-    // The timers' part of a cycle.
+    // Whether no timer has a clock: each one's clock select is 0.
+    pub(crate) fn are_timers_halted(&self) -> bool
+        ensures { result ≡ true → AreHalted self.now }
+    {
+        self.t0.select == 0 && self.t1.select == 0 && self.t2.select == 0 && self.t3.select == 0
+    }
+
+    // The timers' part of a cycle. Where all are halted, as in much firmware, one test stands for all four.
+    #[tactic(auto, using(crate::proofs::Halted::halted_cycle))]
     fn tick_timers(&mut self, cycle: u64)
         requires { cycle ≤ 2 ^ 41 }
         ensures { self.new ≡ timers_cycle cycle self.old }
     {
+        if self.are_timers_halted() {
+            return;
+        }
         self.t0.tick(cycle);
         self.t1.tick(cycle);
         self.t2.tick(cycle);
