@@ -1,9 +1,8 @@
 -- One cycle of a node whose processor only goes on, and in which no device ends anything and no byte arrives.
-use Rattle.std.proofs.Common.{◌≡◌, ℕ, ◌++◌, append-nil, Bool, true, false, cond, Option, Some, None, List, [], is_some, refl, ap, ◌∙◌}
+use Rattle.std.proofs.Common.{◌≡◌, ℕ, ◌++◌, Bool, true, false, cond, Option, None, [], is_some, refl, ap, ◌∙◌}
 use Rattle.board_io.specs.declared.board.Board.{Board}
 use Rattle.board_io.specs.Cycle.{board_asks, board_begun, board_quiet, board_sends, board_serial, timers_leap}
 use Rattle.board_io.proofs.Leaps.{asks_quiet, begun_quiet, sends_quiet, serial_quiet}
-use Rattle.trace_rows.specs.declared.row.Row.{Row}
 use Rattle.usart_port.specs.Script.{script_byte}
 use Rattle.node_core.specs.Bus.{with_board}
 use Rattle.node_core.specs.State.{NodeState}

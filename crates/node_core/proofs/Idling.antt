@@ -1,5 +1,5 @@
 -- Many cycles of a node that waits or sleeps.
-use Rattle.std.proofs.Common.{◌≡◌, ℕ, zero, suc, ◌+◌, ◌-◌, ◌<◌, ◌≤◌, ◌++◌, add-zero, Bool, true, false, cond, Option, None, List, [], is_some, refl, sym, ap, ◌∙◌, arith, nat_lt}
+use Rattle.std.proofs.Common.{◌≡◌, ℕ, zero, suc, ◌+◌, ◌-◌, ◌<◌, ◌≤◌, ◌++◌, add-zero, Bool, true, false, cond, None, [], is_some, refl, sym, ap, ◌∙◌, arith, nat_lt}
 use Rattle.std.proofs.Math.Nat.{sub-zero}
 use Rattle.std.proofs.lemmas.Bool.{lt-ltb}
 use Rattle.board_io.specs.declared.board.Board.{Board}
@@ -7,9 +7,7 @@ use Rattle.board_io.specs.Cycle.{board_quiet, timers_cycle, timers_leap}
 use Rattle.board_io.specs.Lines.{lines_of}
 use Rattle.board_io.proofs.Leaps.{leap_next, leap_quiet, leap_zero}
 use Rattle.interrupt_unit.specs.declared.unit.Lines.{Lines}
-use Rattle.interrupt_unit.specs.declared.unit.Vector.{Vector}
 use Rattle.interrupt_unit.specs.Lines.{due_of}
-use Rattle.trace_rows.specs.declared.row.Row.{Row}
 use Rattle.world_core.specs.NodeRun.{passed, passed_rows, AllQuiet}
 use Rattle.node_core.specs.Bus.{with_board}
 use Rattle.node_core.specs.State.{NodeState}

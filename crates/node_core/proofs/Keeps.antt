@@ -1,14 +1,13 @@
 -- What an instruction leaves as it is: whatever each load and each store of the bus leaves.
-use Rattle.std.proofs.Common.{◌≡◌, ℕ, ◌+◌, ◌/◌, ◌%◌, ◌==◌, nat_lt, Bool, true, false, cond, List, refl, sym, subst, ◌∙◌}
-use Rattle.std.specs.Prelude.{ℤ, Result, Ok, Err, slice_index}
+use Rattle.std.proofs.Common.{◌≡◌, ℕ, ◌+◌, ◌/◌, ◌%◌, ◌==◌, nat_lt, Bool, true, false, cond, List, subst}
+use Rattle.std.specs.Prelude.{Result, Ok, Err, slice_index}
 use Rattle.avr_base.specs.Flags.{with_flag}
 use Rattle.avr_base.specs.declared.stop.StopCause.{StopCause}
 use Rattle.avr_decoder.specs.declared.op.Op.{Op}
 use Rattle.avr_decoder.specs.declared.op.Op.TheVariants as op
-use Rattle.data_space.specs.declared.bus.Done.{Done}
 use Rattle.data_space.specs.declared.cpu.Cpu.{Cpu}
-use Rattle.data_space.specs.Core.{with_reg, with_pair, pair_at}
-use Rattle.data_space.specs.Space.{Access, answers, answered, loaded, takes, taken, stored, lowered, pushed, unless_stopped, popped}
+use Rattle.data_space.specs.Core.{with_pair, pair_at}
+use Rattle.data_space.specs.Space.{Access, answered, loaded, taken, stored, lowered, pushed, unless_stopped, popped}
 use Rattle.flow_step.specs.Sequence as flow
 use Rattle.flow_step.specs.Shapes.{skips_by_io, pushes_return, calls, pops_return, returns, returns_enabling}
 use Rattle.flow_step.specs.Table.{flow_effect}

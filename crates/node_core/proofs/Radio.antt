@@ -1,5 +1,5 @@
 -- The radio through a cycle: the processor leaves it as it is, and two sends lie apart.
-use Rattle.std.proofs.Common.{◌≡◌, ℕ, ◌+◌, ◌≤◌, ◌==◌, nat_lt, Bool, true, false, cond, Option, Some, None, List, is_some, refl, sym, subst, ap, ◌∙◌, arith}
+use Rattle.std.proofs.Common.{◌≡◌, ℕ, ◌+◌, ◌≤◌, nat_lt, Bool, true, false, cond, Option, Some, None, List, is_some, refl, sym, subst, ap, ◌∙◌, arith}
 use Rattle.std.specs.Prelude.{Result, Ok, Err, ◌/◌, ◌%◌}
 use Rattle.avr_base.specs.declared.stop.StopCause.{StopCause}
 use Rattle.avr_decoder.specs.Class.{class_of}
@@ -7,7 +7,6 @@ use Rattle.avr_decoder.specs.declared.op.Class.{Class}
 use Rattle.avr_decoder.specs.declared.op.Class.TheVariants as class
 use Rattle.avr_decoder.specs.declared.op.Op.{Op}
 use Rattle.board_io.specs.declared.board.Board.{Board}
-use Rattle.board_io.specs.Cycle.{board_asks, board_begun, board_sends}
 use Rattle.board_io.specs.Registers.{io_get, io_put}
 use Rattle.board_io.proofs.Radio as board
 use Rattle.byte_radio.specs.declared.radio.Radio.{Radio}

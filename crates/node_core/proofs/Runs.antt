@@ -1,5 +1,5 @@
 -- A run of a node goes on: by a rest, and by a cycle that neither samples nor sends.
-use Rattle.std.proofs.Common.{◌≡◌, ℕ, ◌+◌, ◌++◌, false, Option, None, List, [], sym, subst}
+use Rattle.std.proofs.Common.{◌≡◌, ℕ, ◌+◌, ◌++◌, false, None, List, [], sym, subst}
 use Rattle.trace_rows.specs.declared.row.Row.{Row}
 use Rattle.world_core.specs.NodeRun.{AllQuiet, Comes, Timed, passed, passed_rows}
 use Rattle.world_core.proofs.QuietCycles.{comes_leap, comes_more}

@@ -1,4 +1,4 @@
-use Rattle.std.proofs.Common.{◌≡◌, ◌-◌, ◌≤◌, is_some, sym, ap, ◌∙◌, arith}
+use Rattle.std.proofs.Common.{◌-◌, is_some, sym, ap, ◌∙◌, arith}
 use Rattle.board_io.specs.declared.board.Board.{Board}
 use Rattle.node_core.specs.Bus.{with_board}
 use Rattle.node_core.specs.Shown.{shown}
