@@ -1,5 +1,5 @@
 -- The array of rules in the code is the table, no address past it has a row, and the start values.
-use Rattle.std.proofs.Common.{◌≡◌, ℕ, ◌==◌, ◌<◌, ◌≤◌, nat_lt, ◌+◌, Bool, true, false, List, [], ◌∷◌, Err, refl, ap, ◌∙◌, arith, zero-add, get_or}
+use Rattle.std.proofs.Common.{◌≡◌, ℕ, ◌==◌, ◌<◌, ◌≤◌, nat_lt, Bool, true, false, List, [], ◌∷◌, Err, refl, ap, ◌∙◌, arith, zero-add, get_or}
 use Rattle.std.specs.Prelude.{map, replicate, slice_set}
 use Rattle.std.specs.List.{list_all, list_any, range_with_len}
 use Rattle.std.proofs.lemmas.Bool.{and_parts}

@@ -1,5 +1,5 @@
 -- Cycles of the board in which nothing ends, and leaps over them.
-use Rattle.std.proofs.Common.{◌≡◌, ℕ, zero, suc, ◌+◌, ◌<◌, ◌==◌, add-zero, Bool, true, false, ◌&&◌, not, Option, Some, None, refl, sym, ap, ◌∙◌, arith}
+use Rattle.std.proofs.Common.{◌≡◌, ℕ, suc, ◌+◌, Bool, true, false, not, Option, Some, None, refl, sym, ap, ◌∙◌, arith}
 use Rattle.std.proofs.lemmas.Bool.{and_parts}
 use Rattle.board_io.specs.declared.board.Board.{Board}
 use Rattle.board_io.specs.Cycle.{board_asks, board_begun, board_quiet, board_sends, board_serial, moved, moved_by, timers_cycle, timers_leap, transferred, usart_cycle, with_moved}
@@ -30,7 +30,7 @@ pub leap_quiet : (u t n : ℕ) (b : Board) → board_quiet u (timers_leap t n b)
 unfolding timers_leap board_quiet
 leap_quiet u t n b = refl
 
-leap_one : (t : ℕ) (b : Board) → timers_leap t 1 b ≡ timers_cycle t b
+pub leap_one : (t : ℕ) (b : Board) → timers_leap t 1 b ≡ timers_cycle t b
 leap_one t b = leap_next t 0 b ∙ (λ i. timers_cycle (at i) (leap_zero t b i))
   where
     at : t + 0 ≡ t

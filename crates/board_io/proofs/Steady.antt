@@ -1,5 +1,5 @@
 -- Cycles in which nothing ends, and in which the lines stay.
-use Rattle.std.proofs.Common.{◌≡◌, ℕ, zero, suc, ◌+◌, ◌-◌, ◌<◌, ◌≤◌, ◌==◌, Bool, true, false, ◌&&◌, not, Option, Some, None, refl, sym, ap, ◌∙◌, arith}
+use Rattle.std.proofs.Common.{◌≡◌, ℕ, ◌≤◌, true, false, Option, Some, None, refl, sym, ap, ◌∙◌, arith}
 use Rattle.board_io.specs.declared.board.Board.{Board}
 use Rattle.board_io.specs.Cycle.{board_quiet, timers_leap}
 use Rattle.board_io.specs.Lines.{lines_of}

@@ -14,3 +14,6 @@ pub use board::{Board, Sleep};
 pub use clock::Cycle;
 pub use rules::Rule;
 pub use turn::Begun;
+
+#[cfg(test)]
+mod tests;

@@ -30,12 +30,14 @@ pub returns-then-at-cycle : goal.returns-then-at-cycle
 returns-then-at-cycle c =
     let i = c.loop-self.self-inside in
     let e = c.rest.ensures in
-    let comes = rested_comes c.args.self.now i.cycle c.rest.result (shown i.machine) (shown c.rest.new.self) i.machine.rows.items c.rest.new.self.rows.items c.loop-self.invariant.comes e.quiet e.state e.rows (ap (λ v. v.items) e.same) in
-    (record {
-      cycle = c.if-at-cycle.true;
-      asking = c.loop-self.invariant.calm;
-      comes = subst (λ (t : ℕ). Comes node_kind c.args.self.now t (shown c.rest.new.self) c.rest.new.self.rows.items) c.if-at-cycle.true comes;
-    }, ap is_some e.stop)
+    let comes = rested_comes c.args.self.now i.cycle c.rest.result (shown i.machine) (shown c.rest.new.self) i.machine.rows.items c.rest.new.self.rows.items c.loop-self.invariant.comes e.quiet e.state e.rows (ap (λ v. v.items) e.same) in (
+      record {
+        cycle = c.if-at-cycle.true;
+        asking = c.loop-self.invariant.calm;
+        comes = subst (λ (t : ℕ). Comes node_kind c.args.self.now t (shown c.rest.new.self) c.rest.new.self.rows.items) c.if-at-cycle.true comes;
+      },
+      ap is_some e.stop,
+    )
 
 pub loop-self-preserved : goal.loop-self-preserved
 loop-self-preserved c =
@@ -62,15 +64,17 @@ returns-in-Ok-Sent c =
     let u : NodeState = shown c.rest.new.self in
     let b = c.in-Ok-Sent.ensures in
     let comes = rested_comes c.args.self.now i.cycle c.rest.result (shown i.machine) u i.machine.rows.items c.rest.new.self.rows.items c.loop-self.invariant.comes e.quiet e.state e.rows (ap (λ v. v.items) e.same) in
-    let air = subst (λ a. IsAir (asks_in at u) (sends_in at u) a) c.in-Ok-Sent.field-0-is b.air in
-    (omega (arith, e.within, c.if-at-cycle.false), record {
-      state = u;
-      rows = c.rest.new.self.rows.items;
-      comes = comes;
-      sends = air.1;
-      asks = air.0;
-      after = λ k. record { cycle = at + 1; asking = c.loop-self.invariant.calm k; state = b.state k; rows = b.rows k };
-    })
+    let air = subst (λ a. IsAir (asks_in at u) (sends_in at u) a) c.in-Ok-Sent.field-0-is b.air in (
+      omega (arith, e.within, c.if-at-cycle.false),
+      record {
+        state = u;
+        rows = c.rest.new.self.rows.items;
+        comes = comes;
+        sends = air.1;
+        asks = air.0;
+        after = λ k. record { cycle = at + 1; asking = c.loop-self.invariant.calm k; state = b.state k; rows = b.rows k };
+      },
+    )
 
 pub returns-in-Ok-Asks : goal.returns-in-Ok-Asks
 returns-in-Ok-Asks c =
@@ -80,14 +84,16 @@ returns-in-Ok-Asks c =
     let u : NodeState = shown c.rest.new.self in
     let b = c.in-Ok-Asks.ensures in
     let comes = rested_comes c.args.self.now i.cycle c.rest.result (shown i.machine) u i.machine.rows.items c.rest.new.self.rows.items c.loop-self.invariant.comes e.quiet e.state e.rows (ap (λ v. v.items) e.same) in
-    let air = subst (λ a. IsAir (asks_in at u) (sends_in at u) a) c.in-Ok-Asks.field-0-is b.air in
-    (omega (arith, e.within, c.if-at-cycle.false), record {
-      state = u;
-      rows = c.rest.new.self.rows.items;
-      comes = comes;
-      asks = air;
-      after = λ k. record { cycle = at; asking = true; state = b.state k; rows = b.rows k };
-    })
+    let air = subst (λ a. IsAir (asks_in at u) (sends_in at u) a) c.in-Ok-Asks.field-0-is b.air in (
+      omega (arith, e.within, c.if-at-cycle.false),
+      record {
+        state = u;
+        rows = c.rest.new.self.rows.items;
+        comes = comes;
+        asks = air;
+        after = λ k. record { cycle = at; asking = true; state = b.state k; rows = b.rows k };
+      },
+    )
 
 pub returns-in-Err : goal.returns-in-Err
 returns-in-Err c =
@@ -96,10 +102,12 @@ returns-in-Err c =
     let at : ℕ = i.cycle + c.rest.result in
     let u : NodeState = shown c.rest.new.self in
     let b = c.in-Err.ensures in
-    let comes = rested_comes c.args.self.now i.cycle c.rest.result (shown i.machine) u i.machine.rows.items c.rest.new.self.rows.items c.loop-self.invariant.comes e.quiet e.state e.rows (ap (λ v. v.items) e.same) in
-    (omega (arith, e.within), record {
-      cycle = refl;
-      asking = c.loop-self.invariant.calm;
-      comes = subst (λ (l : List Row). Comes node_kind c.args.self.now at (shown c.begin.new.self) l) (sym b.same_rows)
-          (subst (λ (w : NodeState). Comes node_kind c.args.self.now at w c.rest.new.self.rows.items) (sym b.same) comes);
-    })
+    let comes = rested_comes c.args.self.now i.cycle c.rest.result (shown i.machine) u i.machine.rows.items c.rest.new.self.rows.items c.loop-self.invariant.comes e.quiet e.state e.rows (ap (λ v. v.items) e.same) in (
+      omega (arith, e.within),
+      record {
+        cycle = refl;
+        asking = c.loop-self.invariant.calm;
+        comes = subst (λ (l : List Row). Comes node_kind c.args.self.now at (shown c.begin.new.self) l) (sym b.same_rows)
+            (subst (λ (w : NodeState). Comes node_kind c.args.self.now at w c.rest.new.self.rows.items) (sym b.same) comes);
+      },
+    )
