@@ -1,19 +1,46 @@
 #!/usr/bin/env bash
-# Simulated cycles per second of `node`, and its peak memory: bench/run.sh [CYCLES] (10,000,000 where absent).
-# It runs the program as ./avrora built it, five times, and prints the fastest run.
+# Simulated cycles per second of `node`, and its peak memory: bench/run.sh [CYCLES] (10,000,000 where absent, the most
+# that `node` takes). It runs the program as ./avrora built it, five times for each image, and prints the fastest run.
+# Where a C compiler and Debian's libsimavr-dev are installed it runs the two loops without devices on simavr as well.
 set -eu
 top=$(cd "$(dirname "$0")/.." && pwd)
 cycles=${1:-10000000}
 program=$top/crates/avrora_program/out/avrora_program
+work=$(mktemp -d)
+trap 'rm -rf "$work"' EXIT
 "$top/avrora" node "$top/examples/two.hex" 1 >/dev/null
-for image in registers mixed; do
+
+# The fastest of five runs of a command: seconds and KiB.
+fastest() {
     best=
     for _ in 1 2 3 4 5; do
-        { /usr/bin/env time -f '%e %M' "$program" node "$top/bench/$image.hex" "$cycles" >/dev/null; } 2>/tmp/avrora-bench.$$
-        read -r seconds kib </tmp/avrora-bench.$$
+        { /usr/bin/env time -f '%e %M' "$@" >/dev/null; } 2>"$work/time"
+        read -r seconds kib <"$work/time"
         if [ -z "$best" ] || awk "BEGIN { exit !($seconds < $best) }"; then best=$seconds; fi
     done
-    awk -v c="$cycles" -v s="$best" -v k="$kib" -v n="$image" \
-        'BEGIN { printf "%s: %d cycles in %.2f s, %.1f million cycles a second, %d KiB at most\n", n, c, s, c / s / 1e6, k }'
+}
+
+# A run that is too short for the clock is said to take a hundredth of a second at most.
+report() {
+    awk -v c="$cycles" -v s="$best" -v k="$kib" -v n="$1" 'BEGIN {
+        below = s < 0.01 ? "under " : ""; if (s < 0.01) s = 0.01
+        printf "%s: %d cycles in %s%.2f s, %s%.1f million cycles a second, %d KiB at most\n", n, c, below, s, below == "" ? "" : "over ", c / s / 1e6, k }'
+}
+
+for image in registers mixed ticks uart ring sleep; do
+    fastest "$program" node "$top/bench/$image.hex" "$cycles"
+    report "$image"
 done
-rm -f /tmp/avrora-bench.$$
+
+# A thousand million cycles of sleep, in runs of ten million, starts of the program included.
+start=$(date +%s.%N)
+for _ in $(seq 100); do "$program" node "$top/bench/sleep.hex" 10000000 >/dev/null; done
+awk -v a="$start" -v b="$(date +%s.%N)" 'BEGIN { printf "sleep: 100 runs of 10000000 cycles in %.2f s\n", b - a }'
+
+if cc -O2 -w -o "$work/peer" "$top/bench/peer.c" -lsimavr 2>/dev/null && command -v avr-objcopy >/dev/null; then
+    for image in registers mixed; do
+        avr-objcopy -I ihex -O binary "$top/bench/$image.hex" "$work/$image.bin"
+        fastest "$work/peer" "$work/$image.bin" "$cycles"
+        report "simavr, $image"
+    done
+fi
