@@ -12,3 +12,9 @@ pub record AreHalted (b : Board) : Type 0 where
   pub one : b.t1.select ≡ 0
   pub two : b.t2.select ≡ 0
   pub three : b.t3.select ≡ 0
+
+-- nothing of it moves by itself: no timer has a clock, no frame and no transfer runs
+pub record IsAtRest (b : Board) : Type 0 where
+  pub halted : AreHalted b
+  pub frame : b.usart.frame ≡ None
+  pub transfer : b.spi.transfer ≡ None

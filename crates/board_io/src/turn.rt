@@ -1,7 +1,7 @@
 // One cycle of the devices.
 ghost use Rattle.std.specs.Prelude.{◌≡◌, ◌≤◌, ◌^◌, true, is_some, IfSome};
 ghost use Rattle.usart_port.specs.Usart.{frame_ended};
-ghost use Rattle.board_io.specs.Passing.{AreHalted};
+ghost use Rattle.board_io.specs.Passing.{AreHalted, IsAtRest};
 
 use crate::Board;
 use byte_radio::Moved;
@@ -26,6 +26,15 @@ impl Board {
         ensures { result ≡ true → AreHalted self.now }
     {
         self.t0.select == 0 && self.t1.select == 0 && self.t2.select == 0 && self.t3.select == 0
+    }
+
+    /// Whether nothing of it moves by itself: no timer has a clock, and no frame and no transfer runs. Then a cycle in
+    /// which no byte arrives leaves it as it is, and sends and samples nothing.
+    #[inline]
+    pub fn at_rest(&self) -> bool
+        ensures { result ≡ true → IsAtRest self.now }
+    {
+        self.are_timers_halted() && self.usart.frame.is_none() && self.spi.transfer.is_none()
     }
 
     // The timers' part of a cycle. Where all are halted, as in much firmware, one test stands for all four.
