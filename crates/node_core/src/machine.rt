@@ -120,6 +120,7 @@ impl Machine {
         ensures used { vec_len self.new.rows ≤ vec_len self.old.rows + 1 }
         ensures room { vec_capacity self.new.rows ≡ vec_capacity self.old.rows }
         ensures count { self.new.count ≡ self.old.count }
+        ensures script { self.new.script ≡ self.old.script }
     {
         let node = self.number;
         let kind = Kind::Stop { pc, cause };
@@ -138,6 +139,7 @@ impl Machine {
         ensures used { vec_len self.new.rows ≤ vec_len self.old.rows + 1 }
         ensures room { vec_capacity self.new.rows ≡ vec_capacity self.old.rows }
         ensures count { self.new.count ≤ self.old.count + 1 }
+        ensures script { self.new.script ≡ self.old.script }
     {
         let pc = self.cpu.pc;
         let word = self.flash.word(pc);
@@ -175,6 +177,7 @@ impl Machine {
         ensures used { vec_len self.new.rows ≤ vec_len self.old.rows + 1 }
         ensures room { vec_capacity self.new.rows ≡ vec_capacity self.old.rows }
         ensures count { self.new.count ≡ self.old.count }
+        ensures script { self.new.script ≡ self.old.script }
     {
         let back = self.cpu.pc;
         let node = self.number;
@@ -216,6 +219,7 @@ impl Machine {
         ensures used { vec_len self.new.rows ≤ vec_len self.old.rows + 1 }
         ensures room { vec_capacity self.new.rows ≡ vec_capacity self.old.rows }
         ensures count { self.new.count ≤ self.old.count + 1 }
+        ensures script { self.new.script ≡ self.old.script }
     {
         match self.due() {
             None => {
@@ -237,7 +241,7 @@ impl Machine {
 
     // The processor's part of a cycle.
     #[tactic(auto, unfolding(crate::specs::Cycle::cpu_cycle, crate::specs::Cycle::cpu_rows))]
-    fn process(&mut self, cycle: u64)
+    pub fn process(&mut self, cycle: u64)
         requires few { self.old.count < 2 ^ 40 }
         requires early { cycle ≤ 2 ^ 40 }
         requires room { vec_len self.old.rows < vec_capacity self.old.rows }
@@ -246,6 +250,7 @@ impl Machine {
         ensures used { vec_len self.new.rows ≤ vec_len self.old.rows + 1 }
         ensures room { vec_capacity self.new.rows ≡ vec_capacity self.old.rows }
         ensures count { self.new.count ≤ self.old.count + 1 }
+        ensures script { self.new.script ≡ self.old.script }
     {
         if self.wait > 0 {
             self.wait -= 1;
@@ -317,27 +322,34 @@ impl Machine {
         in_the_air(begun.asks, begun.sent)
     }
 
-    // A cycle up to its sample. There is room for its rows, also for that of the sample.
-    #[tactic(auto, unfolding(crate::specs::Cycle::begun_in, crate::specs::Cycle::begun_rows, crate::specs::Cycle::asks_in, crate::specs::Cycle::sends_in, crate::specs::Cycle::devices_cycle, crate::specs::Cycle::device_rows, crate::specs::Cycle::asks_after, crate::specs::Cycle::sends_after))]
-    pub fn begin(&mut self, cycle: u64) -> Result<Air, AllocError>
-        requires going { self.old.stop ≡ None }
-        requires few { self.old.count < 2 ^ 40 }
-        requires early { cycle ≤ 2 ^ 40 }
-        ensures state { OnOk result (shown self.new ≡ begun_in cycle (shown self.old)) }
-        ensures rows { OnOk result (self.new.rows.items ≡ self.old.rows.items ++ begun_rows cycle (shown self.old)) }
-        ensures air { IfOk result (λ air. IsAir (asks_in cycle (shown self.old)) (sends_in cycle (shown self.old)) air) }
-        ensures waits { OnOk result (asks_in cycle (shown self.old) ≡ true → is_some self.new.bus.board.spi.transfer ≡ true) }
-        ensures room { OnOk result (vec_len self.new.rows < vec_capacity self.new.rows) }
-        ensures same { OnErr result (shown self.new ≡ shown self.old) }
-        ensures same_rows { OnErr result (self.new.rows.items ≡ self.old.rows.items) }
-        ensures count { self.new.count ≤ self.old.count + 1 }
+    /// Room for the rows of a cycle.
+    pub fn make_room(&mut self) -> Result<(), AllocError>
+        ensures state { shown self.new ≡ shown self.old }
+        ensures rows { self.new.rows.items ≡ self.old.rows.items }
+        ensures room { OnOk result (vec_len self.new.rows + 4 ≤ vec_capacity self.new.rows) }
+        ensures stop { self.new.stop ≡ self.old.stop }
+        ensures count { self.new.count ≡ self.old.count }
     {
-        self.rows.reserve(ROWS_OF_A_CYCLE)?;
-        self.process(cycle);
+        self.rows.reserve(ROWS_OF_A_CYCLE)
+    }
+
+    /// The devices' part of a cycle up to its sample, which a node that stopped in this cycle does not reach. There is
+    /// room for its rows, also for that of the sample.
+    #[tactic(auto, unfolding(crate::specs::Cycle::devices_cycle, crate::specs::Cycle::device_rows, crate::specs::Cycle::asks_after, crate::specs::Cycle::sends_after))]
+    pub fn conclude(&mut self, cycle: u64) -> Air
+        requires early { cycle ≤ 2 ^ 40 }
+        requires room { vec_len self.old.rows + 3 ≤ vec_capacity self.old.rows }
+        ensures state { shown self.new ≡ devices_cycle cycle (shown self.old) }
+        ensures rows { self.new.rows.items ≡ self.old.rows.items ++ device_rows cycle (shown self.old) }
+        ensures air { IsAir (asks_after cycle (shown self.old)) (sends_after cycle (shown self.old)) result }
+        ensures waits { asks_after cycle (shown self.old) ≡ true → is_some self.new.bus.board.spi.transfer ≡ true }
+        ensures room { vec_len self.new.rows < vec_capacity self.new.rows }
+        ensures count { self.new.count ≡ self.old.count }
+    {
         if self.stop.is_some() {
-            return Ok(Air::Quiet);
+            return Air::Quiet;
         }
-        Ok(self.move_devices(cycle))
+        self.move_devices(cycle)
     }
 
     // The rest of a cycle that samples the air.

@@ -1,0 +1,44 @@
+// Cycles of a node whose devices are at rest, one instruction after another.
+ghost use Rattle.std.specs.Prelude.{◌≡◌, ◌≤◌, ◌<◌, ◌+◌, ◌-◌, ◌^◌, None, true, false, vec_len, vec_capacity};
+ghost use Rattle.board_io.specs.Passing.{IsAtRest};
+ghost use Rattle.node_core.specs.Midway.{IsMidway};
+ghost use Rattle.node_core.specs.Shown.{shown};
+
+use crate::machine::Machine;
+
+impl Machine {
+    // Whether the devices' part of a cycle in which no byte arrives does nothing, and the cycle made no row beside the
+    // first so many. A node that stopped or sleeps is left to others.
+    #[inline]
+    fn goes_on(&self, rows: usize) -> bool
+        ensures going { result ≡ true → self.now.stop ≡ None }
+        ensures rest { result ≡ true → IsAtRest self.now.bus.board }
+        ensures room { result ≡ true → vec_len self.now.rows ≡ rows }
+    {
+        self.stop.is_none() && !self.asleep && self.rows.len() == rows && self.bus.board.at_rest()
+    }
+
+    /// Cycles from `cycle` on, of at most `most`, in which the devices are at rest and no byte arrives: how many it were.
+    /// Of the cycle after them the processor's part is done, and the devices' part is still to come.
+    pub fn stride(&mut self, cycle: u64, most: u64) -> u64
+        requires going { self.old.stop ≡ None }
+        requires few { self.old.count ≤ cycle }
+        requires early { cycle + most ≤ 2 ^ 40 }
+        requires some { 0 < most }
+        requires room { vec_len self.old.rows + 4 ≤ vec_capacity self.old.rows }
+        ensures midway { IsMidway (record { cycle = cycle; asking = false; state = shown self.old; rows = self.old.rows.items }) (cycle + result) (shown self.new) self.new.rows.items }
+        ensures room { vec_len self.new.rows + 3 ≤ vec_capacity self.new.rows }
+        ensures count { self.new.count ≤ cycle + result + 1 }
+        ensures within { result < most }
+    {
+        let last = self.script.quiet(cycle, most - 1);
+        let rows = self.rows.len();
+        let mut n = 0;
+        self.process(cycle);
+        while n < last && self.goes_on(rows) {
+            n += 1;
+            self.process(cycle + n);
+        }
+        n
+    }
+}
