@@ -17,10 +17,6 @@ use Rattle.node_core.proofs.Cycles.{asks_calm, asks_parts, begun_calm, begun_par
 use Rattle.node_core.proofs.Idling.{passed_next, passed_zero}
 use Rattle.node_core.proofs.Runs.{begun_comes}
 
--- the first processor's part
-pub midway_first : (v : Timed NodeState Row) (u : NodeState) (k : List Row) → is_some v.state.stop ≡ false → u ≡ cpu_cycle v.cycle v.state → k ≡ v.rows ++ cpu_rows v.cycle v.state → IsMidway v v.cycle u k
-midway_first v u k going part told = record { state = v.state; rows = v.rows; comes = comes_none node_kind v; going = going; part = part; told = told }
-
 -- one more, where the devices are at rest and no byte arrives
 module _ (v : Timed NodeState Row) (c : ℕ) (u : NodeState) (k : List Row) (h : IsMidway v c u k) (still : is_some u.stop ≡ false) (rest : IsAtRest u.bus.board) (none : script_byte u.script c ≡ None) where
   stands : begun_in c h.state ≡ u
@@ -32,13 +28,10 @@ module _ (v : Timed NodeState Row) (c : ℕ) (u : NodeState) (k : List Row) (h :
   told_all =
       h.told ∙ ap (λ (l : List Row). h.rows ++ l) (sym (rows_calm c h.state u h.going still (sym h.part) (rest_quiet u.bus.board rest c) none))
 
-  comes_there : Comes node_kind v (c + 1) u k
+  pub comes_there : Comes node_kind v (c + 1) u k
   comes_there =
       begun_comes v c h.state u h.rows k h.comes (asks_calm c h.state u h.going still (sym h.part) (rest_quiet u.bus.board rest c) none)
       (sends_calm c h.state u h.going still (sym h.part) (rest_quiet u.bus.board rest c) none) (sym stands) told_all
-
-  pub midway_next : (w : NodeState) (r : List Row) → w ≡ cpu_cycle (c + 1) u → r ≡ k ++ cpu_rows (c + 1) u → IsMidway v (c + 1) w r
-  midway_next w r part told = record { state = u; rows = k; comes = comes_there; going = still; part = part; told = told }
 
 -- a run goes on by many quiet cycles
 steps : (v : Timed NodeState Row) (c n : ℕ) (s : NodeState) (l : List Row) → Comes node_kind v c s l → AllQuiet node_kind c n s

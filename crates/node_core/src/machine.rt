@@ -6,6 +6,8 @@ ghost use Rattle.node_core.specs.Inside.{IsAir};
 ghost use Rattle.node_core.specs.Interrupts.{due};
 ghost use Rattle.node_core.specs.Shown.{shown};
 ghost use Rattle.usart_port.specs.Script.{script_byte};
+ghost use Rattle.board_io.specs.Lines.{lines_of};
+ghost use Rattle.interrupt_unit.specs.Lines.{pending_of};
 
 use crate::NodeBus;
 use crate::execute::execute;
@@ -129,6 +131,7 @@ impl Machine {
     }
 
     // The first cycle of an instruction.
+    #[inline(always)]
     #[tactic(auto, unfolding(crate::specs::Cycle::instructed, crate::specs::Cycle::instructed_rows))]
     fn instruct(&mut self, cycle: u64)
         requires few { self.old.count < 2 ^ 40 }
@@ -198,12 +201,21 @@ impl Machine {
         }
     }
 
+    // The interrupt that waits to be let in.
+    #[inline(never)]
+    fn pending(&self) -> Option<Vector>
+        ensures { result ≡ pending_of (lines_of self.now.bus.board) }
+    {
+        interrupt_unit::pending(self.bus.board.lines())
+    }
+
     // The interrupt that is due.
+    #[inline(always)]
     pub fn due(&self) -> Option<Vector>
         ensures { result ≡ due (shown self.now) }
     {
         if self.cpu.sreg.has(7) {
-            interrupt_unit::pending(self.bus.board.lines())
+            self.pending()
         } else {
             None
         }

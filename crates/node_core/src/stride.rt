@@ -1,8 +1,9 @@
 // Cycles of a node whose devices are at rest, one instruction after another.
-ghost use Rattle.std.specs.Prelude.{◌≡◌, ◌≤◌, ◌<◌, ◌+◌, ◌-◌, ◌^◌, None, true, false, vec_len, vec_capacity};
+ghost use Rattle.std.specs.Prelude.{◌≡◌, ◌≤◌, ◌<◌, ◌+◌, ◌-◌, ◌^◌, ℕ, None, true, false, vec_len, vec_capacity};
 ghost use Rattle.board_io.specs.Passing.{IsAtRest};
 ghost use Rattle.node_core.specs.Midway.{IsMidway};
 ghost use Rattle.node_core.specs.Shown.{shown};
+ghost use Rattle.usart_port.specs.Script.{script_byte};
 
 use crate::machine::Machine;
 
@@ -18,6 +19,21 @@ impl Machine {
         self.stop.is_none() && !self.asleep && self.rows.len() == rows && self.bus.board.at_rest()
     }
 
+    // In how many of the cycles from `cycle` on, of at most so many, no byte arrives: 0 where the devices move, since there
+    // is nothing to be gained then.
+    #[inline]
+    fn reach(&self, cycle: u64, most: u64) -> u64
+        requires { cycle + most ≤ 2 ^ 41 }
+        ensures within { result ≤ most }
+        ensures none { (i : ℕ) → i < result → script_byte self.now.script (cycle + i) ≡ None }
+    {
+        if self.bus.board.at_rest() {
+            self.script.quiet(cycle, most)
+        } else {
+            0
+        }
+    }
+
     /// Cycles from `cycle` on, of at most `most`, in which the devices are at rest and no byte arrives: how many it were.
     /// Of the cycle after them the processor's part is done, and the devices' part is still to come.
     pub fn stride(&mut self, cycle: u64, most: u64) -> u64
@@ -31,14 +47,15 @@ impl Machine {
         ensures count { self.new.count ≤ cycle + result + 1 }
         ensures within { result < most }
     {
-        let last = self.script.quiet(cycle, most - 1);
+        let last = self.reach(cycle, most - 1);
         let rows = self.rows.len();
         let mut n = 0;
-        self.process(cycle);
-        while n < last && self.goes_on(rows) {
-            n += 1;
+        loop {
             self.process(cycle + n);
+            if n >= last || !self.goes_on(rows) {
+                return n;
+            }
+            n += 1;
         }
-        n
     }
 }
