@@ -1,17 +1,15 @@
--- Timers that are halted stand as they are, and so does a board at rest.
-use Rattle.std.proofs.Common.{◌≡◌, ℕ, zero, suc, ◌+◌, ◌&&◌, not, true, None, refl, ap, ◌∙◌}
+-- Timers that are halted stand as they are, and so does a board in a cycle in which nothing ends.
+use Rattle.std.proofs.Common.{◌≡◌, ℕ, zero, suc, ◌+◌, None, refl, ap, ◌∙◌}
 use Rattle.board_io.specs.declared.board.Board.{Board}
-use Rattle.board_io.specs.Cycle.{board_begun, board_quiet, timers_cycle, timers_leap}
-use Rattle.board_io.specs.Passing.{AreHalted, IsAtRest}
+use Rattle.board_io.specs.Cycle.{board_begun, timers_cycle, timers_leap}
+use Rattle.board_io.specs.Passing.{AreHalted, IsStill}
 use Rattle.board_io.proofs.Leaps.{begun_quiet, leap_next, leap_zero}
-use Rattle.spi_port.specs.Spi as spi
 use Rattle.timer16.specs.declared.timer16.Timer16.{Timer16}
 use Rattle.timer16.specs.Timer as timer16
 use Rattle.timer8.specs.declared.timer8.Timer8.{Timer8}
 use Rattle.timer8.specs.declared.timer8.Which8.{Which8}
 use Rattle.timer8.specs.declared.timer8.Which8.TheVariants.{Zero, Two}
 use Rattle.timer8.specs.Timer as timer8
-use Rattle.usart_port.specs.Usart as usart
 
 undivided : (w : Which8) → timer8.divider_of w 0 ≡ 0
 undivided Zero = refl
@@ -33,11 +31,6 @@ module _ (b : Board) (h : AreHalted b) where
   halted_leap t zero = leap_zero t b
   halted_leap t (suc n) = leap_next t n b ∙ (ap (timers_cycle (t + n)) (halted_leap t n) ∙ halted_cycle (t + n))
 
--- ---- a board at rest stands as it is in every cycle in which no byte arrives
-module _ (b : Board) (h : IsAtRest b) (t : ℕ) where
-  pub rest_quiet : board_quiet t b ≡ true
-  unfolding board_quiet
-  rest_quiet = λ k. not (usart.is_end (h.frame k) t) && not (spi.is_end (h.transfer k) t)
-
-  pub rest_begun : board_begun t None b ≡ b
-  rest_begun = begun_quiet t b rest_quiet ∙ halted_leap b h.halted t 1
+-- ---- a board that is still stands as it is, where no byte arrives
+pub still_begun : (t : ℕ) (b : Board) → IsStill t b → board_begun t None b ≡ b
+still_begun t b h = begun_quiet t b h.quiet ∙ halted_leap b h.halted t 1

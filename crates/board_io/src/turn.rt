@@ -1,7 +1,7 @@
 // One cycle of the devices.
 ghost use Rattle.std.specs.Prelude.{◌≡◌, ◌≤◌, ◌^◌, true, is_some, IfSome};
 ghost use Rattle.usart_port.specs.Usart.{frame_ended};
-ghost use Rattle.board_io.specs.Passing.{AreHalted, IsAtRest};
+ghost use Rattle.board_io.specs.Passing.{AreHalted, IsStill};
 
 use crate::Board;
 use byte_radio::Moved;
@@ -21,20 +21,22 @@ pub struct Begun {
 impl Board {
     ghost use Rattle.board_io.specs.Cycle.{board_answered, board_asks, board_begun, board_sends, board_serial, is_ask, moved, samples, sends, sent_by, timers_cycle, transfer_end, transferred, usart_cycle, with_moved};
 
-    // Whether no timer has a clock: each one's clock select is 0.
-    pub(crate) fn are_timers_halted(&self) -> bool
+    /// Whether no timer has a clock: each one's clock select is 0.
+    #[inline]
+    pub fn are_timers_halted(&self) -> bool
         ensures { result ≡ true → AreHalted self.now }
     {
         self.t0.select == 0 && self.t1.select == 0 && self.t2.select == 0 && self.t3.select == 0
     }
 
-    /// Whether nothing of it moves by itself: no timer has a clock, and no frame and no transfer runs. Then a cycle in
-    /// which no byte arrives leaves it as it is, and sends and samples nothing.
+    /// Whether nothing of it moves by itself in `cycle`: no timer has a clock, and no frame and no transfer ends. Then
+    /// that cycle, where no byte arrives in it, leaves it as it is, and sends and samples nothing.
     #[inline]
-    pub fn at_rest(&self) -> bool
-        ensures { result ≡ true → IsAtRest self.now }
+    #[tactic(auto, unfolding(crate::specs::Cycle::board_quiet))]
+    pub fn is_still(&self, cycle: u64) -> bool
+        ensures { result ≡ true → IsStill cycle self.now }
     {
-        self.are_timers_halted() && self.usart.frame.is_none() && self.spi.transfer.is_none()
+        self.are_timers_halted() && !self.usart.ends_at(cycle) && !self.spi.ends_at(cycle)
     }
 
     // The timers' part of a cycle. Where all are halted, as in much firmware, one test stands for all four.

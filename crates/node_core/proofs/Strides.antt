@@ -1,8 +1,8 @@
 -- A run in the middle of a cycle: how it gets there, how it goes on where the devices are at rest, and how its cycle ends.
 use Rattle.std.proofs.Common.{◌≡◌, ℕ, zero, suc, ◌+◌, ◌-◌, ◌++◌, Bool, true, false, Option, None, List, [], is_some, refl, sym, subst, ap, ◌∙◌, arith, append-nil, append_assoc}
 use Rattle.board_io.specs.declared.board.Board.{Board}
-use Rattle.board_io.specs.Passing.{IsAtRest}
-use Rattle.board_io.proofs.Halted.{halted_leap, rest_quiet}
+use Rattle.board_io.specs.Passing.{IsStill}
+use Rattle.board_io.proofs.Halted.{halted_leap}
 use Rattle.trace_rows.specs.declared.row.Row.{Row}
 use Rattle.usart_port.specs.Script.{script_byte}
 use Rattle.world_core.specs.NodeRun.{AllQuiet, Comes, Timed, passed, passed_rows}
@@ -18,20 +18,20 @@ use Rattle.node_core.proofs.Idling.{passed_next, passed_zero}
 use Rattle.node_core.proofs.Runs.{begun_comes}
 
 -- one more, where the devices are at rest and no byte arrives
-module _ (v : Timed NodeState Row) (c : ℕ) (u : NodeState) (k : List Row) (h : IsMidway v c u k) (still : is_some u.stop ≡ false) (rest : IsAtRest u.bus.board) (none : script_byte u.script c ≡ None) where
+module _ (v : Timed NodeState Row) (c : ℕ) (u : NodeState) (k : List Row) (h : IsMidway v c u k) (still : is_some u.stop ≡ false) (calm : IsStill c u.bus.board) (none : script_byte u.script c ≡ None) where
   stands : begun_in c h.state ≡ u
   stands =
-      begun_calm c h.state u h.going still (sym h.part) (rest_quiet u.bus.board rest c) none
-      ∙ ap (λ (b : Board). let w : NodeState = record u { bus = with_board u.bus b } in w) (halted_leap u.bus.board rest.halted c 1)
+      begun_calm c h.state u h.going still (sym h.part) calm.quiet none
+      ∙ ap (λ (b : Board). let w : NodeState = record u { bus = with_board u.bus b } in w) (halted_leap u.bus.board calm.halted c 1)
 
   told_all : k ≡ h.rows ++ begun_rows c h.state
   told_all =
-      h.told ∙ ap (λ (l : List Row). h.rows ++ l) (sym (rows_calm c h.state u h.going still (sym h.part) (rest_quiet u.bus.board rest c) none))
+      h.told ∙ ap (λ (l : List Row). h.rows ++ l) (sym (rows_calm c h.state u h.going still (sym h.part) calm.quiet none))
 
   pub comes_there : Comes node_kind v (c + 1) u k
   comes_there =
-      begun_comes v c h.state u h.rows k h.comes (asks_calm c h.state u h.going still (sym h.part) (rest_quiet u.bus.board rest c) none)
-      (sends_calm c h.state u h.going still (sym h.part) (rest_quiet u.bus.board rest c) none) (sym stands) told_all
+      begun_comes v c h.state u h.rows k h.comes (asks_calm c h.state u h.going still (sym h.part) calm.quiet none)
+      (sends_calm c h.state u h.going still (sym h.part) calm.quiet none) (sym stands) told_all
 
 -- a run goes on by many quiet cycles
 steps : (v : Timed NodeState Row) (c n : ℕ) (s : NodeState) (l : List Row) → Comes node_kind v c s l → AllQuiet node_kind c n s

@@ -131,7 +131,6 @@ impl Machine {
     }
 
     // The first cycle of an instruction.
-    #[inline(always)]
     #[tactic(auto, unfolding(crate::specs::Cycle::instructed, crate::specs::Cycle::instructed_rows))]
     fn instruct(&mut self, cycle: u64)
         requires few { self.old.count < 2 ^ 40 }
@@ -233,21 +232,18 @@ impl Machine {
         ensures count { self.new.count ≤ self.old.count + 1 }
         ensures script { self.new.script ≡ self.old.script }
     {
-        match self.due() {
-            None => {
-                if !self.asleep {
-                    self.instruct(cycle);
-                }
+        if let Some(vector) = self.due() {
+            if self.asleep {
+                self.enter(cycle, 7, vector);
+                return;
             }
-            Some(vector) => {
-                if self.asleep {
-                    self.enter(cycle, 7, vector);
-                } else if self.owed {
-                    self.instruct(cycle);
-                } else {
-                    self.enter(cycle, 3, vector);
-                }
+            if !self.owed {
+                self.enter(cycle, 3, vector);
+                return;
             }
+        }
+        if !self.asleep {
+            self.instruct(cycle);
         }
     }
 

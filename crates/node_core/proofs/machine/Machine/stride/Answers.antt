@@ -43,7 +43,7 @@ loop-n-preserved c =
     let midway : IsMidway v (t + n) u k = record { state = s; rows = c.loop-n.self.rows.items; comes = i.comes; going = ap is_some i.going; part = e.state; told = e.rows } in
     record {
       within = omega (arith, less);
-      comes = subst (λ (at : ℕ). Comes node_kind v at u k) next (comes_there v (t + n) u k midway (ap is_some (goes.going on)) (goes.rest on) none);
+      comes = subst (λ (at : ℕ). Comes node_kind v at u k) next (comes_there v (t + n) u k midway (ap is_some (goes.going on)) (goes.still on) none);
       going = goes.going on;
       script = script;
       count = omega (arith, e.count, i.count);
