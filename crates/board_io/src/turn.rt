@@ -2,9 +2,13 @@
 ghost use Rattle.std.specs.Prelude.{◌≡◌, ◌≤◌, ◌^◌, true, is_some, IfSome};
 ghost use Rattle.usart_port.specs.Usart.{frame_ended};
 ghost use Rattle.board_io.specs.Passing.{AreHalted, IsStill};
+ghost use Rattle.timer16.specs.Timer as timer16;
+ghost use Rattle.timer8.specs.Timer as timer8;
 
 use crate::Board;
 use byte_radio::Moved;
+use timer8::Timer8;
+use timer16::Timer16;
 use world_core::Heard;
 
 /// What the devices did in a cycle.
@@ -16,6 +20,28 @@ pub struct Begun {
     pub sent: Option<u8>,
     /// Whether the radio samples the air in it: the cycle waits for `answer`.
     pub asks: bool,
+}
+
+// A cycle of a timer. Most are halted: one test.
+#[tactic(auto, using(crate::proofs::Halted::halted_8))]
+fn tick_8(timer: &mut Timer8, cycle: u64)
+    requires { cycle ≤ 2 ^ 41 }
+    ensures { timer.new ≡ timer8.timer_cycle cycle timer.old }
+{
+    if timer.select != 0 {
+        timer.tick(cycle);
+    }
+}
+
+// A cycle of a timer of sixteen bits.
+#[tactic(auto, using(crate::proofs::Halted::halted_16))]
+fn tick_16(timer: &mut Timer16, cycle: u64)
+    requires { cycle ≤ 2 ^ 41 }
+    ensures { timer.new ≡ timer16.timer_cycle cycle timer.old }
+{
+    if timer.select != 0 {
+        timer.tick(cycle);
+    }
 }
 
 impl Board {
@@ -39,19 +65,15 @@ impl Board {
         self.are_timers_halted() && !self.usart.ends_at(cycle) && !self.spi.ends_at(cycle)
     }
 
-    // The timers' part of a cycle. Where all are halted, as in much firmware, one test stands for all four.
-    #[tactic(auto, using(crate::proofs::Halted::halted_cycle))]
+    // The timers' part of a cycle.
     fn tick_timers(&mut self, cycle: u64)
         requires { cycle ≤ 2 ^ 41 }
         ensures { self.new ≡ timers_cycle cycle self.old }
     {
-        if self.are_timers_halted() {
-            return;
-        }
-        self.t0.tick(cycle);
-        self.t1.tick(cycle);
-        self.t2.tick(cycle);
-        self.t3.tick(cycle);
+        tick_8(&mut self.t0, cycle);
+        tick_16(&mut self.t1, cycle);
+        tick_8(&mut self.t2, cycle);
+        tick_16(&mut self.t3, cycle);
     }
 
     // The part of USART0: a byte that arrives, and then the transmitter, with the byte whose frame ends.
