@@ -1,12 +1,12 @@
 -- A run in the middle of a cycle: how it gets there, how it goes on where the devices are at rest, and how its cycle ends.
-use Rattle.std.proofs.Common.{◌≡◌, ℕ, zero, suc, ◌+◌, ◌-◌, ◌++◌, Bool, true, false, Option, None, List, [], is_some, refl, sym, subst, ap, ◌∙◌, arith, append-nil, append_assoc}
+use Rattle.std.proofs.Common.{◌≡◌, ℕ, zero, suc, ◌+◌, ◌-◌, ◌++◌, Bool, false, Option, None, List, [], is_some, sym, subst, ap, ◌∙◌, arith, append-nil, append_assoc}
 use Rattle.board_io.specs.declared.board.Board.{Board}
 use Rattle.board_io.specs.Passing.{IsStill}
 use Rattle.board_io.proofs.Halted.{halted_leap}
 use Rattle.trace_rows.specs.declared.row.Row.{Row}
 use Rattle.usart_port.specs.Script.{script_byte}
 use Rattle.world_core.specs.NodeRun.{AllQuiet, Comes, Timed, passed, passed_rows}
-use Rattle.world_core.proofs.QuietCycles.{comes_more, comes_none}
+use Rattle.world_core.proofs.QuietCycles.{comes_more}
 use Rattle.node_core.specs.declared.machine.Air.{Air}
 use Rattle.node_core.specs.Bus.{with_board}
 use Rattle.node_core.specs.Cycle.{asks_after, asks_in, begun_in, begun_rows, cpu_cycle, cpu_rows, device_rows, devices_cycle, node_kind, sends_after, sends_in}

@@ -16,7 +16,10 @@ impl Machine {
         ensures still { result ≡ true → IsStill cycle self.now.bus.board }
         ensures room { result ≡ true → vec_len self.now.rows ≡ rows }
     {
-        self.stop.is_none() && !self.asleep && self.rows.len() == rows && self.bus.board.is_still(cycle)
+        self.stop.is_none()
+            && !self.asleep
+            && self.rows.len() == rows
+            && self.bus.board.is_still(cycle)
     }
 
     // In how many of the cycles from `cycle` on, of at most so many, no byte arrives: 0 where a timer runs, since there

@@ -54,10 +54,10 @@ loop-self-preserved c =
     let rested = rested_comes v i.cycle c.rest.result (shown i.machine) s i.machine.rows.items c.rest.new.self.rows.items c.loop-self.invariant.comes e.quiet e.state e.rows (ap (λ x. x.items) e.same) in
     let room = c.make_room.ensures in
     let kept : Comes node_kind v at (shown c.make_room.new.self) c.make_room.new.self.rows.items =
-        subst (λ (l : List Row). Comes node_kind v at (shown c.make_room.new.self) l) (sym room.rows)
-        (subst (λ (x : NodeState). Comes node_kind v at x c.rest.new.self.rows.items) (sym room.state) rested) in
+    subst (λ (l : List Row). Comes node_kind v at (shown c.make_room.new.self) l) (sym room.rows)
+    (subst (λ (x : NodeState). Comes node_kind v at x c.rest.new.self.rows.items) (sym room.state) rested) in
     let mid : IsMidway v there u c.stride.new.self.rows.items =
-        joined v at there (shown c.make_room.new.self) u c.make_room.new.self.rows.items c.stride.new.self.rows.items kept c.stride.ensures.midway in
+    joined v at there (shown c.make_room.new.self) u c.make_room.new.self.rows.items c.stride.new.self.rows.items kept c.stride.ensures.midway in
     let b = c.conclude.ensures in
     let air = subst (λ a. IsAir (asks_in there mid.state) (sends_in there mid.state) a) c.in-Quiet.is (ended_air v there u c.stride.new.self.rows.items mid c.conclude.result b.air) in
     let state = ended v there u c.stride.new.self.rows.items mid w b.state in
@@ -83,10 +83,10 @@ returns-in-Sent c =
     let rested = rested_comes v i.cycle c.rest.result (shown i.machine) s i.machine.rows.items c.rest.new.self.rows.items c.loop-self.invariant.comes e.quiet e.state e.rows (ap (λ x. x.items) e.same) in
     let room = c.make_room.ensures in
     let kept : Comes node_kind v at (shown c.make_room.new.self) c.make_room.new.self.rows.items =
-        subst (λ (l : List Row). Comes node_kind v at (shown c.make_room.new.self) l) (sym room.rows)
-        (subst (λ (x : NodeState). Comes node_kind v at x c.rest.new.self.rows.items) (sym room.state) rested) in
+    subst (λ (l : List Row). Comes node_kind v at (shown c.make_room.new.self) l) (sym room.rows)
+    (subst (λ (x : NodeState). Comes node_kind v at x c.rest.new.self.rows.items) (sym room.state) rested) in
     let mid : IsMidway v there u c.stride.new.self.rows.items =
-        joined v at there (shown c.make_room.new.self) u c.make_room.new.self.rows.items c.stride.new.self.rows.items kept c.stride.ensures.midway in
+    joined v at there (shown c.make_room.new.self) u c.make_room.new.self.rows.items c.stride.new.self.rows.items kept c.stride.ensures.midway in
     let b = c.conclude.ensures in
     let air = subst (λ a. IsAir (asks_in there mid.state) (sends_in there mid.state) a) c.in-Sent.is (ended_air v there u c.stride.new.self.rows.items mid c.conclude.result b.air) in
     let state = ended v there u c.stride.new.self.rows.items mid w b.state in
@@ -115,10 +115,10 @@ returns-in-Asks c =
     let rested = rested_comes v i.cycle c.rest.result (shown i.machine) s i.machine.rows.items c.rest.new.self.rows.items c.loop-self.invariant.comes e.quiet e.state e.rows (ap (λ x. x.items) e.same) in
     let room = c.make_room.ensures in
     let kept : Comes node_kind v at (shown c.make_room.new.self) c.make_room.new.self.rows.items =
-        subst (λ (l : List Row). Comes node_kind v at (shown c.make_room.new.self) l) (sym room.rows)
-        (subst (λ (x : NodeState). Comes node_kind v at x c.rest.new.self.rows.items) (sym room.state) rested) in
+    subst (λ (l : List Row). Comes node_kind v at (shown c.make_room.new.self) l) (sym room.rows)
+    (subst (λ (x : NodeState). Comes node_kind v at x c.rest.new.self.rows.items) (sym room.state) rested) in
     let mid : IsMidway v there u c.stride.new.self.rows.items =
-        joined v at there (shown c.make_room.new.self) u c.make_room.new.self.rows.items c.stride.new.self.rows.items kept c.stride.ensures.midway in
+    joined v at there (shown c.make_room.new.self) u c.make_room.new.self.rows.items c.stride.new.self.rows.items kept c.stride.ensures.midway in
     let b = c.conclude.ensures in
     let air = subst (λ a. IsAir (asks_in there mid.state) (sends_in there mid.state) a) c.in-Asks.is (ended_air v there u c.stride.new.self.rows.items mid c.conclude.result b.air) in
     let state = ended v there u c.stride.new.self.rows.items mid w b.state in
