@@ -1,9 +1,9 @@
--- Timers that are halted stand as they are, and so does a board in a cycle in which nothing ends.
-use Rattle.std.proofs.Common.{◌≡◌, ℕ, zero, suc, ◌+◌, None, refl, ap, ◌∙◌}
+-- Timers that are halted stand as they are.
+use Rattle.std.proofs.Common.{◌≡◌, ℕ, zero, suc, ◌+◌, refl, ap, ◌∙◌}
 use Rattle.board_io.specs.declared.board.Board.{Board}
-use Rattle.board_io.specs.Cycle.{board_begun, timers_cycle, timers_leap}
-use Rattle.board_io.specs.Passing.{AreHalted, IsStill}
-use Rattle.board_io.proofs.Leaps.{begun_quiet, leap_next, leap_zero}
+use Rattle.board_io.specs.Cycle.{timers_cycle, timers_leap}
+use Rattle.board_io.specs.Passing.{AreHalted}
+use Rattle.board_io.proofs.Leaps.{leap_next, leap_zero}
 use Rattle.timer16.specs.declared.timer16.Timer16.{Timer16}
 use Rattle.timer16.specs.Timer as timer16
 use Rattle.timer8.specs.declared.timer8.Timer8.{Timer8}
@@ -30,7 +30,3 @@ module _ (b : Board) (h : AreHalted b) where
   pub halted_leap : (t n : ℕ) → timers_leap t n b ≡ b
   halted_leap t zero = leap_zero t b
   halted_leap t (suc n) = leap_next t n b ∙ (ap (timers_cycle (t + n)) (halted_leap t n) ∙ halted_cycle (t + n))
-
--- ---- a board that is still stands as it is, where no byte arrives
-pub still_begun : (t : ℕ) (b : Board) → IsStill t b → board_begun t None b ≡ b
-still_begun t b h = begun_quiet t b h.quiet ∙ halted_leap b h.halted t 1
