@@ -15,16 +15,16 @@ undivided : (w : Which8) → timer8.divider_of w 0 ≡ 0
 undivided Zero = refl
 undivided Two = refl
 
-halted_8 : (t : ℕ) (tm : Timer8) → tm.select ≡ 0 → timer8.timer_cycle t tm ≡ tm
+pub halted_8 : (t : ℕ) (tm : Timer8) → tm.select ≡ 0 → timer8.timer_cycle t tm ≡ tm
 unfolding timer8.divider
 halted_8 t tm e = let d : timer8.divider_of tm.which tm.select ≡ 0 = ap (timer8.divider_of tm.which) e ∙ undivided tm.which in rw d refl
 
-halted_16 : (t : ℕ) (tm : Timer16) → tm.select ≡ 0 → timer16.timer_cycle t tm ≡ tm
+pub halted_16 : (t : ℕ) (tm : Timer16) → tm.select ≡ 0 → timer16.timer_cycle t tm ≡ tm
 unfolding timer16.divider
 halted_16 t tm e = rw e refl
 
 module _ (b : Board) (h : AreHalted b) where
-  pub halted_cycle : (t : ℕ) → timers_cycle t b ≡ b
+  halted_cycle : (t : ℕ) → timers_cycle t b ≡ b
   halted_cycle t = λ k. let c : Board = record b { t0 = halted_8 t b.t0 h.zero k; t1 = halted_16 t b.t1 h.one k; t2 = halted_8 t b.t2 h.two k; t3 = halted_16 t b.t3 h.three k } in c
 
   pub halted_leap : (t n : ℕ) → timers_leap t n b ≡ b

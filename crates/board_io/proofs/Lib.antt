@@ -4,3 +4,4 @@ pub mod Steady
 pub mod Leaps
 pub mod Radio
 pub mod Halted
+pub mod Enabled

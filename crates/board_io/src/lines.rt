@@ -55,11 +55,15 @@ impl Board {
         any_bit(self.kept[ETIMSK], mask)
     }
 
-    // The lines of TIMSK.
+    // The lines of TIMSK. In much firmware none is enabled.
+    #[tactic(auto, using(crate::proofs::Enabled::no_timer_lines))]
     fn timer_lines(&self) -> u64
         ensures value { result ≡ timer_lines self.now }
         ensures most { result ≤ 2 ^ 32 }
     {
+        if self.kept[TIMSK] == 0 {
+            return 0;
+        }
         line(9, self.t2.comp_a, self.timsk(0x80))
             + line(10, self.t2.over, self.timsk(0x40))
             + line(12, self.t1.flags.comp_a, self.timsk(0x10))
@@ -69,11 +73,15 @@ impl Board {
             + line(16, self.t0.over, self.timsk(0x01))
     }
 
-    // The lines of ETIMSK.
+    // The lines of ETIMSK. In most firmware none is enabled.
+    #[tactic(auto, using(crate::proofs::Enabled::no_extended_timer_lines))]
     fn extended_timer_lines(&self) -> u64
         ensures value { result ≡ extended_timer_lines self.now }
         ensures most { result ≤ 2 ^ 32 }
     {
+        if self.kept[ETIMSK] == 0 {
+            return 0;
+        }
         line(24, self.t1.flags.comp_c, self.etimsk(0x01))
             + line(26, self.t3.flags.comp_a, self.etimsk(0x10))
             + line(27, self.t3.flags.comp_b, self.etimsk(0x08))

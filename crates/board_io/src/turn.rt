@@ -1,10 +1,14 @@
 // One cycle of the devices.
 ghost use Rattle.std.specs.Prelude.{◌≡◌, ◌≤◌, ◌^◌, true, is_some, IfSome};
 ghost use Rattle.usart_port.specs.Usart.{frame_ended};
-ghost use Rattle.board_io.specs.Passing.{AreHalted};
+ghost use Rattle.board_io.specs.Passing.{AreHalted, IsStill};
+ghost use Rattle.timer16.specs.Timer as timer16;
+ghost use Rattle.timer8.specs.Timer as timer8;
 
 use crate::Board;
 use byte_radio::Moved;
+use timer8::Timer8;
+use timer16::Timer16;
 use world_core::Heard;
 
 /// What the devices did in a cycle.
@@ -18,29 +22,58 @@ pub struct Begun {
     pub asks: bool,
 }
 
+// A cycle of a timer. Most are halted: one test.
+#[tactic(auto, using(crate::proofs::Halted::halted_8))]
+fn tick_8(timer: &mut Timer8, cycle: u64)
+    requires { cycle ≤ 2 ^ 41 }
+    ensures { timer.new ≡ timer8.timer_cycle cycle timer.old }
+{
+    if timer.select != 0 {
+        timer.tick(cycle);
+    }
+}
+
+// A cycle of a timer of sixteen bits.
+#[tactic(auto, using(crate::proofs::Halted::halted_16))]
+fn tick_16(timer: &mut Timer16, cycle: u64)
+    requires { cycle ≤ 2 ^ 41 }
+    ensures { timer.new ≡ timer16.timer_cycle cycle timer.old }
+{
+    if timer.select != 0 {
+        timer.tick(cycle);
+    }
+}
+
 impl Board {
     ghost use Rattle.board_io.specs.Cycle.{board_answered, board_asks, board_begun, board_sends, board_serial, is_ask, moved, samples, sends, sent_by, timers_cycle, transfer_end, transferred, usart_cycle, with_moved};
 
-    // Whether no timer has a clock: each one's clock select is 0.
-    pub(crate) fn are_timers_halted(&self) -> bool
+    /// Whether no timer has a clock: each one's clock select is 0.
+    #[inline]
+    pub fn are_timers_halted(&self) -> bool
         ensures { result ≡ true → AreHalted self.now }
     {
         self.t0.select == 0 && self.t1.select == 0 && self.t2.select == 0 && self.t3.select == 0
     }
 
-    // The timers' part of a cycle. Where all are halted, as in much firmware, one test stands for all four.
-    #[tactic(auto, using(crate::proofs::Halted::halted_cycle))]
+    /// Whether nothing of it moves by itself in `cycle`: no timer has a clock, and no frame and no transfer ends. Then
+    /// that cycle, where no byte arrives in it, leaves it as it is, and sends and samples nothing.
+    #[inline]
+    #[tactic(auto, unfolding(crate::specs::Cycle::board_quiet))]
+    pub fn is_still(&self, cycle: u64) -> bool
+        ensures { result ≡ true → IsStill cycle self.now }
+    {
+        self.are_timers_halted() && !self.usart.ends_at(cycle) && !self.spi.ends_at(cycle)
+    }
+
+    // The timers' part of a cycle.
     fn tick_timers(&mut self, cycle: u64)
         requires { cycle ≤ 2 ^ 41 }
         ensures { self.new ≡ timers_cycle cycle self.old }
     {
-        if self.are_timers_halted() {
-            return;
-        }
-        self.t0.tick(cycle);
-        self.t1.tick(cycle);
-        self.t2.tick(cycle);
-        self.t3.tick(cycle);
+        tick_8(&mut self.t0, cycle);
+        tick_16(&mut self.t1, cycle);
+        tick_8(&mut self.t2, cycle);
+        tick_16(&mut self.t3, cycle);
     }
 
     // The part of USART0: a byte that arrives, and then the transmitter, with the byte whose frame ends.

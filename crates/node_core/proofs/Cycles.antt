@@ -1,5 +1,5 @@
 -- One cycle of a node whose processor only goes on, and in which no device ends anything and no byte arrives.
-use Rattle.std.proofs.Common.{◌≡◌, ℕ, ◌++◌, Bool, true, false, cond, Option, None, [], is_some, refl, ap, ◌∙◌}
+use Rattle.std.proofs.Common.{◌≡◌, ℕ, ◌++◌, Bool, true, false, cond, Option, None, [], is_some, refl, ap, ◌∙◌, append-nil}
 use Rattle.board_io.specs.declared.board.Board.{Board}
 use Rattle.board_io.specs.Cycle.{board_asks, board_begun, board_quiet, board_sends, board_serial, timers_leap}
 use Rattle.board_io.proofs.Leaps.{asks_quiet, begun_quiet, sends_quiet, serial_quiet}
@@ -44,8 +44,8 @@ module _ (t : ℕ) (s : NodeState) (going : is_some s.stop ≡ false) where
   unfolding device_rows
   devices_tell = rw going refl
 
--- ---- a cycle of a node whose processor goes on to u without a row
-module _ (t : ℕ) (s u : NodeState) (going : is_some s.stop ≡ false) (still : is_some u.stop ≡ false) (part : cpu_cycle t s ≡ u) (silent : cpu_rows t s ≡ []) (quiet : board_quiet t u.bus.board ≡ true) (none : script_byte u.script t ≡ None) where
+-- ---- a cycle of a node whose processor goes on to u
+module _ (t : ℕ) (s u : NodeState) (going : is_some s.stop ≡ false) (still : is_some u.stop ≡ false) (part : cpu_cycle t s ≡ u) (quiet : board_quiet t u.bus.board ≡ true) (none : script_byte u.script t ≡ None) where
   moved_by_timers : board_begun t (script_byte u.script t) u.bus.board ≡ timers_leap t 1 u.bus.board
   moved_by_timers = ap (λ (a : Option ℕ). board_begun t a u.bus.board) none ∙ begun_quiet t u.bus.board quiet
 
@@ -58,8 +58,8 @@ module _ (t : ℕ) (s u : NodeState) (going : is_some s.stop ≡ false) (still :
   no_device_rows =
       devices_tell t u still ∙ (λ i. serial_rows t u (serial_quiet t u.bus.board quiet i) ++ sent_rows t u (sends_quiet t u.bus.board quiet i))
 
-  pub rows_calm : begun_rows t s ≡ []
-  rows_calm = rows_parts t s going ∙ (λ i. silent i ++ (ap (device_rows t) part ∙ no_device_rows) i)
+  pub rows_calm : begun_rows t s ≡ cpu_rows t s
+  rows_calm = rows_parts t s going ∙ ((λ i. cpu_rows t s ++ (ap (device_rows t) part ∙ no_device_rows) i) ∙ append-nil (cpu_rows t s))
 
   pub asks_calm : asks_in t s ≡ false
   asks_calm = asks_parts t s going ∙ (ap (asks_after t) part ∙ (devices_ask t u still ∙ asks_quiet t u.bus.board quiet))

@@ -30,7 +30,7 @@ leap_more t i b =
     let c : Board = timers_leap t i b in
     leap_next (t + i) 0 c ∙ ((λ k. timers_cycle (add-zero (t + i) k) (leap_zero (t + i) c k)) ∙ sym (leap_next t i b))
 
-passed_next : (t n : ℕ) (s : NodeState) → passed node_kind t (suc n) s ≡ begun_in (t + n) (passed node_kind t n s)
+pub passed_next : (t n : ℕ) (s : NodeState) → passed node_kind t (suc n) s ≡ begun_in (t + n) (passed node_kind t n s)
 unfolding passed
 passed_next t n s = refl
 
@@ -50,7 +50,7 @@ module _ (t : ℕ) (s : NodeState) (going : is_some s.stop ≡ false) (n : ℕ) 
       let w : NodeState = rested t i s in
       let u : NodeState = record w { wait = w.wait - 1 } in
       let less : s.wait - i - 1 ≡ s.wait - suc i = omega arith in
-      begun_calm (t + i) w u going going (idles i l).part (idles i l).rows (quiet_at i l) (calm.none i l)
+      begun_calm (t + i) w u going going (idles i l).part (quiet_at i l) (calm.none i l)
       ∙ (λ k. let v : NodeState = record s { wait = less k; bus = with_board s.bus (leap_more t i s.bus.board k) } in v)
 
   pub passed_rested : (i : ℕ) → i ≤ n → passed node_kind t i s ≡ rested t i s
@@ -62,7 +62,7 @@ module _ (t : ℕ) (s : NodeState) (going : is_some s.stop ≡ false) (n : ℕ) 
       let w : NodeState = rested t i s in
       let u : NodeState = record w { wait = w.wait - 1 } in
       ap (begun_rows (t + i)) (passed_rested i (omega arith))
-      ∙ rows_calm (t + i) w u going going (idles i l).part (idles i l).rows (quiet_at i l) (calm.none i l)
+      ∙ (rows_calm (t + i) w u going going (idles i l).part (quiet_at i l) (calm.none i l) ∙ (idles i l).rows)
 
   rested_rows : (i : ℕ) → i ≤ n → passed_rows node_kind t i s ≡ []
   rested_rows zero l = refl
@@ -76,8 +76,8 @@ module _ (t : ℕ) (s : NodeState) (going : is_some s.stop ≡ false) (n : ℕ) 
       let w : NodeState = rested t i s in
       let u : NodeState = record w { wait = w.wait - 1 } in
       let at = passed_rested i (omega arith) in (
-        ap (asks_in (t + i)) at ∙ asks_calm (t + i) w u going going (idles i l).part (idles i l).rows (quiet_at i l) (calm.none i l),
-        ap (sends_in (t + i)) at ∙ sends_calm (t + i) w u going going (idles i l).part (idles i l).rows (quiet_at i l) (calm.none i l),
+        ap (asks_in (t + i)) at ∙ asks_calm (t + i) w u going going (idles i l).part (quiet_at i l) (calm.none i l),
+        ap (sends_in (t + i)) at ∙ sends_calm (t + i) w u going going (idles i l).part (quiet_at i l) (calm.none i l),
       )
 
 -- ---- a wait

@@ -5,3 +5,4 @@ pub mod Runs
 pub mod Idling
 pub mod Steady
 pub mod Takes
+pub mod Strides

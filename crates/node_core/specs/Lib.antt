@@ -6,3 +6,4 @@ pub mod Cycle
 pub mod Shown
 pub mod Inside
 pub mod Reached
+pub mod Midway

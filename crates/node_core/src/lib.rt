@@ -9,6 +9,7 @@ mod machine;
 mod node;
 mod rests;
 mod rows;
+mod stride;
 
 pub use bus::NodeBus;
 pub use node::{Node, Reached};

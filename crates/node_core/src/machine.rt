@@ -6,6 +6,8 @@ ghost use Rattle.node_core.specs.Inside.{IsAir};
 ghost use Rattle.node_core.specs.Interrupts.{due};
 ghost use Rattle.node_core.specs.Shown.{shown};
 ghost use Rattle.usart_port.specs.Script.{script_byte};
+ghost use Rattle.board_io.specs.Lines.{lines_of};
+ghost use Rattle.interrupt_unit.specs.Lines.{pending_of};
 
 use crate::NodeBus;
 use crate::execute::execute;
@@ -120,6 +122,7 @@ impl Machine {
         ensures used { vec_len self.new.rows ≤ vec_len self.old.rows + 1 }
         ensures room { vec_capacity self.new.rows ≡ vec_capacity self.old.rows }
         ensures count { self.new.count ≡ self.old.count }
+        ensures script { self.new.script ≡ self.old.script }
     {
         let node = self.number;
         let kind = Kind::Stop { pc, cause };
@@ -138,6 +141,7 @@ impl Machine {
         ensures used { vec_len self.new.rows ≤ vec_len self.old.rows + 1 }
         ensures room { vec_capacity self.new.rows ≡ vec_capacity self.old.rows }
         ensures count { self.new.count ≤ self.old.count + 1 }
+        ensures script { self.new.script ≡ self.old.script }
     {
         let pc = self.cpu.pc;
         let word = self.flash.word(pc);
@@ -175,6 +179,7 @@ impl Machine {
         ensures used { vec_len self.new.rows ≤ vec_len self.old.rows + 1 }
         ensures room { vec_capacity self.new.rows ≡ vec_capacity self.old.rows }
         ensures count { self.new.count ≡ self.old.count }
+        ensures script { self.new.script ≡ self.old.script }
     {
         let back = self.cpu.pc;
         let node = self.number;
@@ -195,12 +200,21 @@ impl Machine {
         }
     }
 
+    // The interrupt that waits to be let in.
+    #[inline(never)]
+    fn pending(&self) -> Option<Vector>
+        ensures { result ≡ pending_of (lines_of self.now.bus.board) }
+    {
+        interrupt_unit::pending(self.bus.board.lines())
+    }
+
     // The interrupt that is due.
+    #[inline(always)]
     pub fn due(&self) -> Option<Vector>
         ensures { result ≡ due (shown self.now) }
     {
         if self.cpu.sreg.has(7) {
-            interrupt_unit::pending(self.bus.board.lines())
+            self.pending()
         } else {
             None
         }
@@ -216,28 +230,26 @@ impl Machine {
         ensures used { vec_len self.new.rows ≤ vec_len self.old.rows + 1 }
         ensures room { vec_capacity self.new.rows ≡ vec_capacity self.old.rows }
         ensures count { self.new.count ≤ self.old.count + 1 }
+        ensures script { self.new.script ≡ self.old.script }
     {
-        match self.due() {
-            None => {
-                if !self.asleep {
-                    self.instruct(cycle);
-                }
+        if let Some(vector) = self.due() {
+            if self.asleep {
+                self.enter(cycle, 7, vector);
+                return;
             }
-            Some(vector) => {
-                if self.asleep {
-                    self.enter(cycle, 7, vector);
-                } else if self.owed {
-                    self.instruct(cycle);
-                } else {
-                    self.enter(cycle, 3, vector);
-                }
+            if !self.owed {
+                self.enter(cycle, 3, vector);
+                return;
             }
+        }
+        if !self.asleep {
+            self.instruct(cycle);
         }
     }
 
     // The processor's part of a cycle.
     #[tactic(auto, unfolding(crate::specs::Cycle::cpu_cycle, crate::specs::Cycle::cpu_rows))]
-    fn process(&mut self, cycle: u64)
+    pub fn process(&mut self, cycle: u64)
         requires few { self.old.count < 2 ^ 40 }
         requires early { cycle ≤ 2 ^ 40 }
         requires room { vec_len self.old.rows < vec_capacity self.old.rows }
@@ -246,6 +258,7 @@ impl Machine {
         ensures used { vec_len self.new.rows ≤ vec_len self.old.rows + 1 }
         ensures room { vec_capacity self.new.rows ≡ vec_capacity self.old.rows }
         ensures count { self.new.count ≤ self.old.count + 1 }
+        ensures script { self.new.script ≡ self.old.script }
     {
         if self.wait > 0 {
             self.wait -= 1;
@@ -317,27 +330,34 @@ impl Machine {
         in_the_air(begun.asks, begun.sent)
     }
 
-    // A cycle up to its sample. There is room for its rows, also for that of the sample.
-    #[tactic(auto, unfolding(crate::specs::Cycle::begun_in, crate::specs::Cycle::begun_rows, crate::specs::Cycle::asks_in, crate::specs::Cycle::sends_in, crate::specs::Cycle::devices_cycle, crate::specs::Cycle::device_rows, crate::specs::Cycle::asks_after, crate::specs::Cycle::sends_after))]
-    pub fn begin(&mut self, cycle: u64) -> Result<Air, AllocError>
-        requires going { self.old.stop ≡ None }
-        requires few { self.old.count < 2 ^ 40 }
-        requires early { cycle ≤ 2 ^ 40 }
-        ensures state { OnOk result (shown self.new ≡ begun_in cycle (shown self.old)) }
-        ensures rows { OnOk result (self.new.rows.items ≡ self.old.rows.items ++ begun_rows cycle (shown self.old)) }
-        ensures air { IfOk result (λ air. IsAir (asks_in cycle (shown self.old)) (sends_in cycle (shown self.old)) air) }
-        ensures waits { OnOk result (asks_in cycle (shown self.old) ≡ true → is_some self.new.bus.board.spi.transfer ≡ true) }
-        ensures room { OnOk result (vec_len self.new.rows < vec_capacity self.new.rows) }
-        ensures same { OnErr result (shown self.new ≡ shown self.old) }
-        ensures same_rows { OnErr result (self.new.rows.items ≡ self.old.rows.items) }
-        ensures count { self.new.count ≤ self.old.count + 1 }
+    /// Room for the rows of a cycle.
+    pub fn make_room(&mut self) -> Result<(), AllocError>
+        ensures state { shown self.new ≡ shown self.old }
+        ensures rows { self.new.rows.items ≡ self.old.rows.items }
+        ensures room { OnOk result (vec_len self.new.rows + 4 ≤ vec_capacity self.new.rows) }
+        ensures stop { self.new.stop ≡ self.old.stop }
+        ensures count { self.new.count ≡ self.old.count }
     {
-        self.rows.reserve(ROWS_OF_A_CYCLE)?;
-        self.process(cycle);
+        self.rows.reserve(ROWS_OF_A_CYCLE)
+    }
+
+    /// The devices' part of a cycle up to its sample, which a node that stopped in this cycle does not reach. There is
+    /// room for its rows, also for that of the sample.
+    #[tactic(auto, unfolding(crate::specs::Cycle::devices_cycle, crate::specs::Cycle::device_rows, crate::specs::Cycle::asks_after, crate::specs::Cycle::sends_after))]
+    pub fn conclude(&mut self, cycle: u64) -> Air
+        requires early { cycle ≤ 2 ^ 40 }
+        requires room { vec_len self.old.rows + 3 ≤ vec_capacity self.old.rows }
+        ensures state { shown self.new ≡ devices_cycle cycle (shown self.old) }
+        ensures rows { self.new.rows.items ≡ self.old.rows.items ++ device_rows cycle (shown self.old) }
+        ensures air { IsAir (asks_after cycle (shown self.old)) (sends_after cycle (shown self.old)) result }
+        ensures waits { asks_after cycle (shown self.old) ≡ true → is_some self.new.bus.board.spi.transfer ≡ true }
+        ensures room { vec_len self.new.rows < vec_capacity self.new.rows }
+        ensures count { self.new.count ≡ self.old.count }
+    {
         if self.stop.is_some() {
-            return Ok(Air::Quiet);
+            return Air::Quiet;
         }
-        Ok(self.move_devices(cycle))
+        self.move_devices(cycle)
     }
 
     // The rest of a cycle that samples the air.

@@ -111,17 +111,21 @@ impl Node {
             if at == cycle {
                 return Reached::Cycle;
             }
-            match self.machine.begin(at) {
-                Ok(Air::Quiet) => self.cycle = at + 1,
-                Ok(Air::Sent { byte }) => {
+            if self.machine.make_room().is_err() {
+                return Reached::NoMemory;
+            }
+            let at = at + self.machine.stride(at, cycle - at);
+            match self.machine.conclude(at) {
+                Air::Quiet => self.cycle = at + 1,
+                Air::Sent { byte } => {
                     self.cycle = at + 1;
                     return Reached::Sent { cycle: at, byte };
                 }
-                Ok(Air::Asks) => {
+                Air::Asks => {
+                    self.cycle = at;
                     self.asking = true;
                     return Reached::Ask { cycle: at };
                 }
-                Err(_) => return Reached::NoMemory,
             }
         }
         if self.machine.stop.is_some() {

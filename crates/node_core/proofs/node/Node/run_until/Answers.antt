@@ -5,8 +5,10 @@ use Rattle.world_core.proofs.QuietCycles.{comes_none, running_next}
 use Rattle.node_core.specs.State.{NodeState}
 use Rattle.node_core.specs.Shown.{shown}
 use Rattle.node_core.specs.Inside.{IsAir, IsWhole}
+use Rattle.node_core.specs.Midway.{IsMidway}
 use Rattle.node_core.specs.Cycle.{asks_in, node_kind, sends_in}
 use Rattle.node_core.proofs.Runs.{begun_comes, rested_comes}
+use Rattle.node_core.proofs.Strides.{ended, ended_air, ended_rows, joined}
 use Rattle.node_core.proofs.Steady.{steady}
 use Rattle.node_core.proofs.node.Node.run_until.Goals as goal
 
@@ -44,70 +46,107 @@ loop-self-preserved c =
     let i = c.loop-self.self-inside in
     let e = c.rest.ensures in
     let at : ℕ = i.cycle + c.rest.result in
-    let u : NodeState = shown c.rest.new.self in
-    let b = c.in-Ok-Quiet.ensures in
-    let comes = rested_comes c.args.self.now i.cycle c.rest.result (shown i.machine) u i.machine.rows.items c.rest.new.self.rows.items c.loop-self.invariant.comes e.quiet e.state e.rows (ap (λ v. v.items) e.same) in
-    let air = subst (λ a. IsAir (asks_in at u) (sends_in at u) a) c.in-Ok-Quiet.field-0-is b.air in
+    let there : ℕ = at + c.stride.result in
+    let v = c.args.self.now in
+    let s : NodeState = shown c.rest.new.self in
+    let u : NodeState = shown c.stride.new.self in
+    let w : NodeState = shown c.conclude.new.self in
+    let rested = rested_comes v i.cycle c.rest.result (shown i.machine) s i.machine.rows.items c.rest.new.self.rows.items c.loop-self.invariant.comes e.quiet e.state e.rows (ap (λ x. x.items) e.same) in
+    let room = c.make_room.ensures in
+    let kept : Comes node_kind v at (shown c.make_room.new.self) c.make_room.new.self.rows.items =
+    subst (λ (l : List Row). Comes node_kind v at (shown c.make_room.new.self) l) (sym room.rows)
+    (subst (λ (x : NodeState). Comes node_kind v at x c.rest.new.self.rows.items) (sym room.state) rested) in
+    let mid : IsMidway v there u c.stride.new.self.rows.items =
+    joined v at there (shown c.make_room.new.self) u c.make_room.new.self.rows.items c.stride.new.self.rows.items kept c.stride.ensures.midway in
+    let b = c.conclude.ensures in
+    let air = subst (λ a. IsAir (asks_in there mid.state) (sends_in there mid.state) a) c.in-Quiet.is (ended_air v there u c.stride.new.self.rows.items mid c.conclude.result b.air) in
+    let state = ended v there u c.stride.new.self.rows.items mid w b.state in
+    let rows = ended_rows v there u c.stride.new.self.rows.items mid c.conclude.new.self.rows.items b.rows in
     record {
-      within = omega (arith, e.within);
+      within = omega (arith, e.within, c.stride.ensures.within);
       calm = c.loop-self.invariant.calm;
-      few = omega (arith, b.count, e.count);
-      comes = begun_comes c.args.self.now at u (shown c.begin.new.self) c.rest.new.self.rows.items c.begin.new.self.rows.items comes air.0 air.1 b.state b.rows;
-      running = running_next node_kind c.args.self.now at u c.rest.new.self.rows.items steady comes (ap is_some e.stop);
+      few = omega (arith, b.count, c.stride.ensures.count);
+      comes = begun_comes v there mid.state w mid.rows c.conclude.new.self.rows.items mid.comes air.0 air.1 state rows;
+      running = running_next node_kind v there mid.state mid.rows steady mid.comes mid.going;
     }
 
-pub returns-in-Ok-Sent : goal.returns-in-Ok-Sent
-returns-in-Ok-Sent c =
+pub returns-in-Sent : goal.returns-in-Sent
+returns-in-Sent c =
     let i = c.loop-self.self-inside in
     let e = c.rest.ensures in
     let at : ℕ = i.cycle + c.rest.result in
-    let u : NodeState = shown c.rest.new.self in
-    let b = c.in-Ok-Sent.ensures in
-    let comes = rested_comes c.args.self.now i.cycle c.rest.result (shown i.machine) u i.machine.rows.items c.rest.new.self.rows.items c.loop-self.invariant.comes e.quiet e.state e.rows (ap (λ v. v.items) e.same) in
-    let air = subst (λ a. IsAir (asks_in at u) (sends_in at u) a) c.in-Ok-Sent.field-0-is b.air in (
-      omega (arith, e.within, c.if-at-cycle.false),
+    let there : ℕ = at + c.stride.result in
+    let v = c.args.self.now in
+    let s : NodeState = shown c.rest.new.self in
+    let u : NodeState = shown c.stride.new.self in
+    let w : NodeState = shown c.conclude.new.self in
+    let rested = rested_comes v i.cycle c.rest.result (shown i.machine) s i.machine.rows.items c.rest.new.self.rows.items c.loop-self.invariant.comes e.quiet e.state e.rows (ap (λ x. x.items) e.same) in
+    let room = c.make_room.ensures in
+    let kept : Comes node_kind v at (shown c.make_room.new.self) c.make_room.new.self.rows.items =
+    subst (λ (l : List Row). Comes node_kind v at (shown c.make_room.new.self) l) (sym room.rows)
+    (subst (λ (x : NodeState). Comes node_kind v at x c.rest.new.self.rows.items) (sym room.state) rested) in
+    let mid : IsMidway v there u c.stride.new.self.rows.items =
+    joined v at there (shown c.make_room.new.self) u c.make_room.new.self.rows.items c.stride.new.self.rows.items kept c.stride.ensures.midway in
+    let b = c.conclude.ensures in
+    let air = subst (λ a. IsAir (asks_in there mid.state) (sends_in there mid.state) a) c.in-Sent.is (ended_air v there u c.stride.new.self.rows.items mid c.conclude.result b.air) in
+    let state = ended v there u c.stride.new.self.rows.items mid w b.state in
+    let rows = ended_rows v there u c.stride.new.self.rows.items mid c.conclude.new.self.rows.items b.rows in (
+      omega (arith, e.within, c.stride.ensures.within),
       record {
-        state = u;
-        rows = c.rest.new.self.rows.items;
-        comes = comes;
+        state = mid.state;
+        rows = mid.rows;
+        comes = mid.comes;
         sends = air.1;
         asks = air.0;
-        after = λ k. record { cycle = at + 1; asking = c.loop-self.invariant.calm k; state = b.state k; rows = b.rows k };
+        after = λ k. record { cycle = there + 1; asking = c.loop-self.invariant.calm k; state = state k; rows = rows k };
       },
     )
 
-pub returns-in-Ok-Asks : goal.returns-in-Ok-Asks
-returns-in-Ok-Asks c =
+pub returns-in-Asks : goal.returns-in-Asks
+returns-in-Asks c =
     let i = c.loop-self.self-inside in
     let e = c.rest.ensures in
     let at : ℕ = i.cycle + c.rest.result in
-    let u : NodeState = shown c.rest.new.self in
-    let b = c.in-Ok-Asks.ensures in
-    let comes = rested_comes c.args.self.now i.cycle c.rest.result (shown i.machine) u i.machine.rows.items c.rest.new.self.rows.items c.loop-self.invariant.comes e.quiet e.state e.rows (ap (λ v. v.items) e.same) in
-    let air = subst (λ a. IsAir (asks_in at u) (sends_in at u) a) c.in-Ok-Asks.field-0-is b.air in (
-      omega (arith, e.within, c.if-at-cycle.false),
+    let there : ℕ = at + c.stride.result in
+    let v = c.args.self.now in
+    let s : NodeState = shown c.rest.new.self in
+    let u : NodeState = shown c.stride.new.self in
+    let w : NodeState = shown c.conclude.new.self in
+    let rested = rested_comes v i.cycle c.rest.result (shown i.machine) s i.machine.rows.items c.rest.new.self.rows.items c.loop-self.invariant.comes e.quiet e.state e.rows (ap (λ x. x.items) e.same) in
+    let room = c.make_room.ensures in
+    let kept : Comes node_kind v at (shown c.make_room.new.self) c.make_room.new.self.rows.items =
+    subst (λ (l : List Row). Comes node_kind v at (shown c.make_room.new.self) l) (sym room.rows)
+    (subst (λ (x : NodeState). Comes node_kind v at x c.rest.new.self.rows.items) (sym room.state) rested) in
+    let mid : IsMidway v there u c.stride.new.self.rows.items =
+    joined v at there (shown c.make_room.new.self) u c.make_room.new.self.rows.items c.stride.new.self.rows.items kept c.stride.ensures.midway in
+    let b = c.conclude.ensures in
+    let air = subst (λ a. IsAir (asks_in there mid.state) (sends_in there mid.state) a) c.in-Asks.is (ended_air v there u c.stride.new.self.rows.items mid c.conclude.result b.air) in
+    let state = ended v there u c.stride.new.self.rows.items mid w b.state in
+    let rows = ended_rows v there u c.stride.new.self.rows.items mid c.conclude.new.self.rows.items b.rows in (
+      omega (arith, e.within, c.stride.ensures.within),
       record {
-        state = u;
-        rows = c.rest.new.self.rows.items;
-        comes = comes;
+        state = mid.state;
+        rows = mid.rows;
+        comes = mid.comes;
         asks = air;
-        after = λ k. record { cycle = at; asking = true; state = b.state k; rows = b.rows k };
+        after = λ k. record { cycle = there; asking = true; state = state k; rows = rows k };
       },
     )
 
-pub returns-in-Err : goal.returns-in-Err
-returns-in-Err c =
+pub returns-then-is_err : goal.returns-then-is_err
+returns-then-is_err c =
     let i = c.loop-self.self-inside in
     let e = c.rest.ensures in
     let at : ℕ = i.cycle + c.rest.result in
+    let v = c.args.self.now in
     let u : NodeState = shown c.rest.new.self in
-    let b = c.in-Err.ensures in
-    let comes = rested_comes c.args.self.now i.cycle c.rest.result (shown i.machine) u i.machine.rows.items c.rest.new.self.rows.items c.loop-self.invariant.comes e.quiet e.state e.rows (ap (λ v. v.items) e.same) in (
+    let room = c.make_room.ensures in
+    let comes = rested_comes v i.cycle c.rest.result (shown i.machine) u i.machine.rows.items c.rest.new.self.rows.items c.loop-self.invariant.comes e.quiet e.state e.rows (ap (λ x. x.items) e.same) in (
       omega (arith, e.within),
       record {
         cycle = refl;
         asking = c.loop-self.invariant.calm;
-        comes = subst (λ (l : List Row). Comes node_kind c.args.self.now at (shown c.begin.new.self) l) (sym b.same_rows)
-            (subst (λ (w : NodeState). Comes node_kind c.args.self.now at w c.rest.new.self.rows.items) (sym b.same) comes);
+        comes = subst (λ (l : List Row). Comes node_kind v at (shown c.make_room.new.self) l) (sym room.rows)
+            (subst (λ (w : NodeState). Comes node_kind v at w c.rest.new.self.rows.items) (sym room.state) comes);
       },
     )
