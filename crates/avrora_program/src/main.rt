@@ -1,6 +1,8 @@
 //! `avrora`: the program over the real files and streams.
 #![tactic(auto)]
 
+ghost use Rattle.std.specs.Prelude.{◌≡◌, length, IfOk};
+
 use avrora_top::avrora_alone;
 use sim_io::{DirStore, StdSink};
 use std::alloc::{AllocError, Global};
@@ -20,7 +22,10 @@ fn owned_words<R: Env + AllocGlobal>(rt: &R) -> Option<Vec<String>> {
     Some(words)
 }
 
-fn borrowed<'w>(alloc: Global, owned: &'w [String]) -> Result<Vec<&'w str>, AllocError> {
+// The words as the top call takes them: as many, so none is lost.
+fn borrowed<'w>(alloc: Global, owned: &'w [String]) -> Result<Vec<&'w str>, AllocError>
+    ensures { IfOk result (λ words. length words.items ≡ length owned.now) }
+{
     let mut words = Vec::new(alloc);
     for word in owned {
         words.push(word.as_str())?;
