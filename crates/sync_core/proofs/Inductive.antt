@@ -58,7 +58,7 @@ send_keeps a x i next =
       nodes = i.nodes;
       within = i.within;
       passed = λ k. let b = i.passed k in let c = sent_le a.sent x.node (n + 1) k h (omega arith) in omega arith;
-      recorded = record_posted a.world a.sent a.sends a.samples x i.lawful i.recorded next;
+      recorded = record_posted a.world a.floor a.sent a.sends a.samples x i.lawful i.recorded next;
     }
 
 pub send_posts : (a : AirState) (x : Send) → IsConsistent a → IsSendNumber a.world (sent_of a.sent x.node) x → IsConsistent (after_post a x.node)
@@ -90,8 +90,8 @@ pub all_posted : (a : AirState) (j s : ℕ) → IsConsistent a → AllPassed a j
 all_posted a j s i passed = reached_by a.world a.sent a.clocks j s i.lawful i.passed (λ k _ n. passed k n)
 
 -- what the recorded sends give is what the world gives
-pub sample_right : (a : AirState) (j s : ℕ) → IsConsistent a → AllPassed a j s → heard a.world.topo a.sends j s ≡ truth a.world j s
-sample_right a j s i passed = record_right a.world a.sent a.sends a.samples j s i.lawful i.recorded (all_posted a j s i passed)
+pub sample_right : (a : AirState) (j s : ℕ) → IsConsistent a → a.floor ≤ s → AllPassed a j s → heard a.world.topo a.sends j s ≡ truth a.world j s
+sample_right a j s i late passed = record_right a.world a.floor a.sent a.sends a.samples j s i.lawful i.recorded late (all_posted a j s i passed)
 
 pub sample_keeps : (a : AirState) (j s : ℕ) → IsConsistent a → MaySample a j s → IsConsistent (after_sample a j s)
 sample_keeps a j s i may = record {
@@ -99,7 +99,7 @@ sample_keeps a j s i may = record {
   nodes = i.nodes;
   within = i.within;
   passed = i.passed;
-  recorded = record_sampled a.world a.sent a.sends a.samples j s (heard a.world.topo a.sends j s) i.lawful i.recorded may.asked (all_posted a j s i may.passed) refl;
+  recorded = record_sampled a.world a.floor a.sent a.sends a.samples j s (heard a.world.topo a.sends j s) i.lawful i.recorded may.asked may.kept (all_posted a j s i may.passed) refl;
 }
 
 -- ---- lists of steps
@@ -116,15 +116,15 @@ post_reaches a k j s i may reached =
     reached_more a.world a.sent (after_post a k).sent j s (λ m. sent_le a.sent k (sent_of a.sent k + 1) m h (omega arith)) reached
 
 -- what is posted for it is enough for ever
-stays : (a : AirState) (x : Ask × Heard) (more : List Step) → IsConsistent a → x.1 ≡ truth a.world x.0.node x.0.cycle → AllPostedFor a.world a.sent x.0.node x.0.cycle → AllAllowed a more
+stays : (a : AirState) (x : Ask × Heard) (more : List Step) → IsConsistent a → a.floor ≤ x.0.cycle → x.1 ≡ truth a.world x.0.node x.0.cycle → AllPostedFor a.world a.sent x.0.node x.0.cycle → AllAllowed a more
     → heard a.world.topo (after_steps a more).sends x.0.node x.0.cycle ≡ x.1
-stays a x [] i right reached all = record_right a.world a.sent a.sends a.samples x.0.node x.0.cycle i.lawful i.recorded reached ∙ sym right
-stays a x (Raise k c ∷ more) i right reached all = stays (after_raise a k c) x more (raise_keeps a k c i all.0) right reached all.1
-stays a x (Post k ∷ more) i right reached all = stays (after_post a k) x more (post_keeps a k i all.0) right (post_reaches a k x.0.node x.0.cycle i all.0 reached) all.1
-stays a x (Sample j s ∷ more) i right reached all = stays (after_sample a j s) x more (sample_keeps a j s i all.0) right reached all.1
+stays a x [] i late right reached all = record_right a.world a.floor a.sent a.sends a.samples x.0.node x.0.cycle i.lawful i.recorded late reached ∙ sym right
+stays a x (Raise k c ∷ more) i late right reached all = stays (after_raise a k c) x more (raise_keeps a k c i all.0) late right reached all.1
+stays a x (Post k ∷ more) i late right reached all = stays (after_post a k) x more (post_keeps a k i all.0) late right (post_reaches a k x.0.node x.0.cycle i all.0 reached) all.1
+stays a x (Sample j s ∷ more) i late right reached all = stays (after_sample a j s) x more (sample_keeps a j s i all.0) late right reached all.1
 
 pub all_stay : (a : AirState) → IsConsistent a → All (IsUnchanged a) a.samples
-all_stay a i k d lt more all = let f = i.recorded.final k d lt in stays a (get_or a.samples k d) more i f.right f.settled.reached all
+all_stay a i k d lt more all = let f = i.recorded.final k d lt in stays a (get_or a.samples k d) more i (i.recorded.late k d lt) f.right f.settled.reached all
 
 -- ---- the opening
 none_before : (l : List Send) → length (filter (λ y. nat_lt y.cycle 0) l) ≡ 0
@@ -150,11 +150,11 @@ opens w law = record {
 }
 
 pub opens_as : (w : WorldFacts) (n : ℕ) (clocks sent : List ℕ) (sends : List Send) (samples : List (Ask × Heard)) → IsLawful w → n ≡ w.topo.nodes → clocks ≡ replicate n 0 → sent ≡ replicate n 0 → sends ≡ [] → samples ≡ []
-    → IsConsistent record { world = w; clocks = clocks; sent = sent; sends = sends; samples = samples }
+    → IsConsistent record { world = w; clocks = clocks; sent = sent; floor = 0; sends = sends; samples = samples }
 opens_as w n clocks sent sends samples law e a b d f =
     let zeros_are = ap (λ (m : ℕ). replicate m 0) e in
-    let same : opening w ≡ record { world = w; clocks = clocks; sent = sent; sends = sends; samples = samples } =
-    λ i. record { world = w; clocks = sym (a ∙ zeros_are) i; sent = sym (b ∙ zeros_are) i; sends = sym d i; samples = sym f i } in
+    let same : opening w ≡ record { world = w; clocks = clocks; sent = sent; floor = 0; sends = sends; samples = samples } =
+    λ i. record { world = w; clocks = sym (a ∙ zeros_are) i; sent = sym (b ∙ zeros_are) i; floor = 0; sends = sym d i; samples = sym f i } in
     subst IsConsistent same (opens w law)
 
 -- ---- what a post leaves in the fields

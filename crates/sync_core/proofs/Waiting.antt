@@ -3,7 +3,7 @@ use Rattle.std.proofs.Common.{◌≡◌, inl, ℕ, ◌-◌, ◌<◌, ◌≤◌, 
 use Rattle.std.specs.Prelude.{nat_le}
 use Rattle.std.proofs.lemmas.Bool.{false≢true}
 use native.Mathlib.Decide.{dec_le}
-use Rattle.world_core.specs.Topology.{Topology, IsTopology, is_linked, is_needed, latency_of}
+use Rattle.world_core.specs.Topology.{Topology, IsTopology, is_linked, is_needed, is_reached_in, place_in, latency_of}
 use Rattle.world_core.specs.Consistent.{AirState, clock_of}
 use Rattle.world_core.specs.Steps.{AllPassed}
 use Rattle.world_core.proofs.Links.{not_linked}
@@ -14,7 +14,7 @@ first_true true v e = refl
 first_true false v e = e
 
 none_case : (t : Topology) (clocks : List ℕ) (j s k : ℕ) → IsTopology t → ((m : ℕ) → m < t.nodes → ¬ IsBehind t clocks j s m) → IsBehind t clocks j s k → Dec (t.nodes ≤ k) → ⊥
-none_case t clocks j s k law h b (yes d) = false≢true (not_linked t k j law (inl d) ∙ first_true (is_linked t k j) (nat_le (latency_of t k j) s) b.0)
+none_case t clocks j s k law h b (yes d) = false≢true (not_linked t k j law (inl d) ∙ first_true (is_linked t k j) (is_reached_in t.spans (place_in t.links k j) (latency_of t k j) t.byte_time s) b.0)
 none_case t clocks j s k law h b (no d) = h k (omega arith) b
 
 -- it is enough to look at the nodes of the topology

@@ -23,14 +23,15 @@ impl<W: World> Model for Core<W> {
 
     ghost Value = { AirState };
 
-    ghost view = { λ c. record { world = W.facts c.world; clocks = c.clocks.items; sent = c.sent.items; sends = c.sends.items; samples = c.samples.items } };
+    ghost view = { λ c. record { world = W.facts c.world; clocks = c.clocks.items; sent = c.sent.items; floor = 0; sends = c.sends.items; samples = c.samples.items } };
 
-    ghost invariant = { λ c. IsConsistent record { world = W.facts c.world; clocks = c.clocks.items; sent = c.sent.items; sends = c.sends.items; samples = c.samples.items } × (room_of (W.facts c.world).topo ≤ vec_capacity c.sends) };
+    ghost invariant = { λ c. IsConsistent record { world = W.facts c.world; clocks = c.clocks.items; sent = c.sent.items; floor = 0; sends = c.sends.items; samples = c.samples.items } × (room_of (W.facts c.world).topo ≤ vec_capacity c.sends) };
 }
 
 impl<W: World> Core<W> {
     ghost use Rattle.std.specs.Prelude.{◌≡◌, ◌<◌, IfOk};
     ghost use Rattle.std.specs.List.{All, Contains};
+    ghost use Rattle.world_core.specs.Topology.{IsShort};
     ghost use Rattle.world_core.specs.Sends.{IsSendNumber};
     ghost use Rattle.world_core.specs.Posted.{sent_of};
     ghost use Rattle.world_core.specs.Settled.{truth};
@@ -40,10 +41,11 @@ impl<W: World> Core<W> {
     ghost use Rattle.sync_core.specs.Run.{IsUnchanged};
 
     /// The core before the first step: all clocks and counts are 0, and nothing is recorded.
-    /// Room for all sends that the world can have is taken here.
+    /// The limit is to be at most 10,000,000 cycles: room for all sends that the world can have is taken here.
     pub fn new(alloc: Global, world: W) -> Result<Core<W>, NoMemory>
     where
         W: Drop,
+        requires { IsShort (W.facts world).topo }
         ensures opening { IfOk result (λ c. c ≡ opening (W.facts world)) }
         ensures consistent { IfOk result IsConsistent }
     {

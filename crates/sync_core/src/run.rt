@@ -1,5 +1,6 @@
 // A list of steps, from the opening.
 ghost use Rattle.std.specs.Prelude.{◌≡◌, ◌↔◌, ◌≤◌, IsTrue, IfOk, MatchOption, MatchResult, length};
+ghost use Rattle.world_core.specs.Topology.{IsShort};
 ghost use Rattle.world_core.specs.Sends.{sends_of, sends_below, IsSendNumber};
 ghost use Rattle.world_core.specs.Consistent.{IsConsistent};
 ghost use Rattle.world_core.specs.Steps.{opening, MayRaise};
@@ -105,7 +106,7 @@ fn try_step(core: &mut Core<ListWorld>, step: Step) -> Result<bool, NoMemory>
     }
 }
 
-/// The core after all these steps, from the opening. It is `Ok` only where each step is allowed where it comes.
+/// The core after all these steps, from the opening, in a world whose limit is at most 10,000,000 cycles. It is `Ok` only where each step is allowed where it comes.
 /// `Illegal` names exactly the first step that is not: a raise that falls, passes the limit or passes a send that is not
 /// posted, a post of a node that has no further send, a sample that the world does not have or that has to wait.
 pub fn replay(
@@ -113,6 +114,7 @@ pub fn replay(
     world: ListWorld,
     steps: &[Step],
 ) -> Result<Core<ListWorld>, ReplayFault>
+    requires { IsShort world.topo }
     ensures replayed { MatchResult result (IsReplayed world steps.now) (IsReplayFault world steps.now) }
     ensures consistent { IfOk result IsConsistent }
 {

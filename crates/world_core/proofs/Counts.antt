@@ -9,7 +9,7 @@ use Rattle.world_core.specs.declared.air.Send.{Send}
 use Rattle.world_core.specs.declared.world.WorldFacts.{WorldFacts}
 use Rattle.world_core.specs.Topology.{IsInside}
 use Rattle.world_core.specs.Sends.{sends_of, sends_below, IsSendNumber}
-use Rattle.world_core.specs.Posted.{sent_of, posted, IsPosted}
+use Rattle.world_core.specs.Posted.{sent_of, posted, IsWhole}
 use Rattle.world_core.specs.Lawful.{IsLawful}
 use Rattle.world_core.specs.Each.{each_below}
 use Rattle.world_core.proofs.Order.{Only, only_own, test, untest}
@@ -95,5 +95,13 @@ posted_is_case : (w : WorldFacts) (sent : List ℕ) (k : ℕ) → Dec (w.topo.no
 posted_is_case w sent k (yes d) law = posted_miss w.sends sent w.topo.nodes k d ∙ sym (take_nil (sent_of sent k) (sends_of k w.sends) (no_sends_past w k law d))
 posted_is_case w sent k (no d) law = posted_hit w.sends sent w.topo.nodes k (omega arith)
 
-pub posted_is : (w : WorldFacts) (sent : List ℕ) → IsLawful w → IsPosted w sent (posted w sent)
+pub posted_is : (w : WorldFacts) (sent : List ℕ) → IsLawful w → IsWhole w sent (posted w sent)
 posted_is w sent law k = posted_is_case w sent k (dec_le w.topo.nodes k) law
+
+none_before : (l : List Send) → length (filter (λ y. nat_lt y.cycle 0) l) ≡ 0
+none_before [] = refl
+none_before (x ∷ xs) = let t : nat_lt x.cycle 0 ≡ false = grind (arith, nat_tests) in ap (λ (b : Bool). length (cond b (x ∷ filter (λ y. nat_lt y.cycle 0) xs) (filter (λ y. nat_lt y.cycle 0) xs))) t ∙ none_before xs
+
+pub none_at_zero : (w : WorldFacts) (k : ℕ) → sends_below w.sends k 0 ≡ 0
+unfolding sends_below
+none_at_zero w k = none_before (sends_of k w.sends)

@@ -1,15 +1,18 @@
 -- A sample that is reached hears what the world gives it, however many sends come later.
-use Rattle.std.proofs.Common.{◌≡◌, ℕ, zero, suc, ◌+◌, ◌-◌, ◌≤◌, Bool, true, false, cond, ◌&&◌, ◌==◌, List, [], ◌∷◌, ◌++◌, length, take, drop, refl, sym, subst, ◌∙◌, ap, arith, append-nil, take-append-drop}
-use Rattle.std.specs.Prelude.{nat_le, nat_lt}
-use Rattle.std.specs.List.{filter}
+use Rattle.std.proofs.Common.{◌≡◌, ℕ, zero, suc, ◌+◌, ◌-◌, ◌≤◌, Bool, true, false, cond, ◌&&◌, ◌==◌, List, [], ◌∷◌, ◌++◌, length, take, drop, refl, sym, subst, ◌∙◌, ap, arith, get_or, append-nil, take-append-drop}
+use Rattle.std.specs.Prelude.{nat_le, nat_lt, not, ◌||◌}
+use Rattle.std.specs.List.{filter, list_any}
 use Rattle.std.proofs.lemmas.List.Elements.{filter-append}
+use Rattle.std.proofs.lemmas.List.Folds.{Any-from_list_any, list_any-from_Any}
 use Rattle.std.proofs.lemmas.Bool.Decides.{nat_tests}
 use Rattle.world_core.specs.declared.air.Send.{Send}
+use Rattle.world_core.specs.declared.air.Span.{Span}
 use Rattle.world_core.specs.declared.world.WorldFacts.{WorldFacts}
-use Rattle.world_core.specs.Topology.{Topology, is_linked, is_needed, latency_of}
+use Rattle.world_core.specs.Topology.{Topology, is_linked, is_open, is_open_in, is_in_time, is_reached_in, is_needed, latency_of, place_in, greatest, reach, has_span}
 use Rattle.world_core.specs.Heard.{is_audible, age_of, heard}
 use Rattle.world_core.specs.Sends.{sends_of, sends_below}
-use Rattle.world_core.specs.Posted.{sent_of, AllPostedFor, IsPosted}
+use Rattle.world_core.specs.Posted.{sent_of, AllPostedFor, IsWhole}
+use Rattle.world_core.specs.Kept.{is_kept, IsPosted}
 use Rattle.world_core.specs.Settled.{truth}
 use Rattle.world_core.specs.Lawful.{IsLawful}
 use Rattle.world_core.proofs.Spaced.{is_spaced, spaced}
@@ -64,7 +67,7 @@ module _ (pass : Send → Bool) (k c : ℕ) (late : (x : Send) → x.node ≡ k 
   late_case gap from (suc n) x xs true t o e h next =
       let i = ap length (filter_on (λ (y : Send). nat_lt y.cycle c) x xs t) in next n (omega arith)
 
-  late_drop : (gap from n : ℕ) (l : List Send) → Only k l → is_spaced gap from l ≡ true → length (filter (λ y. nat_lt y.cycle c) l) ≤ n → filter pass (drop n l) ≡ []
+  pub late_drop : (gap from n : ℕ) (l : List Send) → Only k l → is_spaced gap from l ≡ true → length (filter (λ y. nat_lt y.cycle c) l) ≤ n → filter pass (drop n l) ≡ []
   late_drop gap from zero [] o e h = refl
   late_drop gap from (suc n) [] o e h = refl
   late_drop gap from n (x ∷ xs) o e h =
@@ -82,21 +85,71 @@ and_false : (b : Bool) → (b && false) ≡ false
 and_false true = refl
 and_false false = refl
 
-not_needed_case : (linked : Bool) (l s t d : ℕ) → (linked && nat_le l s) ≡ false → (linked && (nat_le (t + l) s && nat_lt s (t + l + d))) ≡ false
-not_needed_case false l s t d e = refl
-not_needed_case true l s t d e = let a : nat_le (t + l) s ≡ false = grind (arith, nat_tests) in ap (λ (v : Bool). v && nat_lt s (t + l + d)) a
+-- a cycle that is open and heard lies in a span that is reached
+hit_of : (p l d s c : ℕ) (y : Span) → ((y.link == p) && (nat_le y.from c && nat_lt c y.until)) ≡ true → is_in_time l d s c ≡ true → ((y.link == p) && (nat_le (y.from + l) s && nat_lt (s + 1) (y.until + l + d))) ≡ true
+hit_of p l d s c y o e = grind (arith, nat_tests)
 
-too_late_case : (linked : Bool) (l s t d : ℕ) → (linked && nat_le l s) ≡ true → s - l + 1 ≤ t → (linked && (nat_le (t + l) s && nat_lt s (t + l + d))) ≡ false
-too_late_case false l s t d e h = refl
-too_late_case true l s t d e h = let a : nat_le (t + l) s ≡ false = grind (arith, nat_tests) in ap (λ (v : Bool). v && nat_lt s (t + l + d)) a
+reached_case : (xs : List Span) (p l d s c : ℕ) (b : Bool) → (not b || list_any (λ y. (y.link == p) && (nat_le y.from c && nat_lt c y.until)) xs) ≡ true → is_in_time l d s c ≡ true
+    → cond b (list_any (λ y. (y.link == p) && (nat_le (y.from + l) s && nat_lt (s + 1) (y.until + l + d))) xs) (nat_le l s) ≡ true
+reached_case xs p l d s c false o e = grind (arith, nat_tests)
+reached_case xs p l d s c true o e =
+    let (k, y, lt, at, q) = Any-from_list_any (λ (y : Span). (y.link == p) && (nat_le y.from c && nat_lt c y.until)) xs o in
+    list_any-from_Any (λ (y : Span). (y.link == p) && (nat_le (y.from + l) s && nat_lt (s + 1) (y.until + l + d))) xs (k, y, lt, at, hit_of p l d s c y q e)
+
+pub hears_reached : (xs : List Span) (p l d s c : ℕ) → is_open_in xs p c ≡ true → is_in_time l d s c ≡ true → is_reached_in xs p l d s ≡ true
+hears_reached xs p l d s c o e = reached_case xs p l d s c (has_span xs p) o e
+
+not_needed_case : (linked reached opened in_time : Bool) → (opened ≡ true → in_time ≡ true → reached ≡ true) → (linked && reached) ≡ false → (linked && (opened && in_time)) ≡ false
+not_needed_case false reached opened in_time h e = refl
+not_needed_case true reached false in_time h e = refl
+not_needed_case true reached true false h e = refl
+not_needed_case true reached true true h e = sym (h refl refl) ∙ e
+
+too_late_case : (linked opened : Bool) (l s t d : ℕ) → s - l + 1 ≤ t → (linked && (opened && is_in_time l d s t)) ≡ false
+too_late_case false opened l s t d h = refl
+too_late_case true false l s t d h = refl
+too_late_case true true l s t d h = grind (arith, nat_tests)
 
 -- of a node that is not needed nothing is heard
-not_needed : (t : Topology) (j s : ℕ) (x : Send) → is_needed t x.node j s ≡ false → is_audible t j s x ≡ false
-not_needed t j s x e = not_needed_case (is_linked t x.node j) (latency_of t x.node j) s x.cycle t.byte_time e
+pub not_needed : (t : Topology) (j s : ℕ) (x : Send) → is_needed t x.node j s ≡ false → is_audible t j s x ≡ false
+not_needed t j s x e =
+    not_needed_case (is_linked t x.node j) (is_reached_in t.spans (place_in t.links x.node j) (latency_of t x.node j) t.byte_time s) (is_open t x.node j x.cycle) (is_in_time (latency_of t x.node j) t.byte_time s x.cycle)
+    (hears_reached t.spans (place_in t.links x.node j) (latency_of t x.node j) t.byte_time s x.cycle) e
 
--- of a needed node nothing of cycle s - L + 1 or later is heard
-too_late : (t : Topology) (j s : ℕ) (x : Send) → is_needed t x.node j s ≡ true → s - latency_of t x.node j + 1 ≤ x.cycle → is_audible t j s x ≡ false
-too_late t j s x n h = too_late_case (is_linked t x.node j) (latency_of t x.node j) s x.cycle t.byte_time n h
+-- of no node anything of cycle s - L + 1 or later is heard
+pub too_late : (t : Topology) (j s : ℕ) (x : Send) → s - latency_of t x.node j + 1 ≤ x.cycle → is_audible t j s x ≡ false
+too_late t j s x h = too_late_case (is_linked t x.node j) (is_open t x.node j x.cycle) (latency_of t x.node j) s x.cycle t.byte_time h
+
+-- what is heard at the floor or later is kept
+keeps_case : (linked opened : Bool) (l r d f s t : ℕ) → l ≤ r → f ≤ s → nat_lt f (t + r + d) ≡ false → (linked && (opened && is_in_time l d s t)) ≡ false
+keeps_case false opened l r d f s t le h e = refl
+keeps_case true false l r d f s t le h e = refl
+keeps_case true true l r d f s t le h e = grind (arith, nat_tests)
+
+greatest_base : (xs : List ℕ) (n : ℕ) → n ≤ greatest xs n
+greatest_base [] n = omega arith
+greatest_base (x ∷ xs) n = let a = greatest_base xs n in omega arith
+
+greatest_at : (xs : List ℕ) (i n : ℕ) → get_or xs i n ≤ greatest xs n
+greatest_at [] i n = omega arith
+greatest_at (x ∷ xs) zero n = omega arith
+greatest_at (x ∷ xs) (suc i) n = let a = greatest_at xs i n in omega arith
+
+pub latency-le-reach : (t : Topology) (k j : ℕ) → latency_of t k j ≤ reach t
+latency-le-reach t k j = greatest_at t.own (place_in t.links k j) t.latency
+
+pub not_kept : (t : Topology) (j s f : ℕ) (x : Send) → f ≤ s → is_kept t f x ≡ false → is_audible t j s x ≡ false
+not_kept t j s f x h e = keeps_case (is_linked t x.node j) (is_open t x.node j x.cycle) (latency_of t x.node j) (reach t) t.byte_time f s x.cycle (latency-le-reach t x.node j) h e
+
+-- a filter by p is a filter by p of what passes q, where p passes only that
+module _ (p q : Send → Bool) (h : (x : Send) → q x ≡ false → p x ≡ false) where
+  through_case : (x : Send) (xs : List Send) (b : Bool) → q x ≡ b → filter p (filter q xs) ≡ filter p xs → filter p (cond b (x ∷ filter q xs) (filter q xs)) ≡ filter p (x ∷ xs)
+  through_case x xs true t next = ap (λ (l : List Send). cond (p x) (x ∷ l) l) next
+  through_case x xs false t next = next ∙ sym (filter_off p x xs (h x t))
+
+  pub through : (xs : List Send) → filter p (filter q xs) ≡ filter p xs
+  through [] = refl
+  through (x ∷ xs) = through_case x xs (q x) refl (through xs)
 
 -- ---- each node's sends that are heard
 none_case : (p : Send → Bool) (k : ℕ) (x : Send) (xs : List Send) (b : Bool) → (x.node == k) ≡ b → ((y : Send) → y.node ≡ k → p y ≡ false) → filter p (sends_of k xs) ≡ [] → filter p (sends_of k (x ∷ xs)) ≡ []
@@ -129,21 +182,37 @@ needed_case w sent j s k false e law reached =
     nil_take p (sent_of sent k) (sends_of k w.sends) u ∙ sym u
 needed_case w sent j s k true e law reached =
     early (is_audible w.topo j s) k (s - latency_of w.topo k j + 1)
-    (λ x n h. too_late w.topo j s x (ap (λ (m : ℕ). is_needed w.topo m j s) n ∙ e) (subst (λ (m : ℕ). s - latency_of w.topo m j + 1 ≤ x.cycle) (sym n) h))
+    (λ x n h. too_late w.topo j s x (subst (λ (m : ℕ). s - latency_of w.topo m j + 1 ≤ x.cycle) (sym n) h))
     w.topo.byte_time 0 (sent_of sent k) (sends_of k w.sends) (only_own k w.sends) (spaced w k law) (reached k e)
 
 pub needed_same : (w : WorldFacts) (sent : List ℕ) (j s k : ℕ) → IsLawful w → AllPostedFor w sent j s
     → filter (is_audible w.topo j s) (take (sent_of sent k) (sends_of k w.sends)) ≡ filter (is_audible w.topo j s) (sends_of k w.sends)
 needed_same w sent j s k law reached = needed_case w sent j s k (is_needed w.topo k j s) refl law reached
 
--- the sends of each node k that are heard are the same
-same_heard : (w : WorldFacts) (sent : List ℕ) (xs : List Send) (j s : ℕ) → IsLawful w → IsPosted w sent xs → AllPostedFor w sent j s
+-- the sends of each node k that are heard are the same: what is gone is not heard at the floor or later
+same_heard : (w : WorldFacts) (floor : ℕ) (sent : List ℕ) (xs : List Send) (j s : ℕ) → IsLawful w → IsPosted w floor sent xs → floor ≤ s → AllPostedFor w sent j s
     → SameByNode (filter (is_audible w.topo j s) xs) (filter (is_audible w.topo j s) w.sends)
-same_heard w sent xs j s law post reached k =
+same_heard w floor sent xs j s law post h reached k =
     let p = is_audible w.topo j s in
-    filter_swap (λ (x : Send). x.node == k) p xs ∙ ap (filter p) (post k) ∙ needed_case w sent j s k (is_needed w.topo k j s) refl law reached ∙ filter_swap p (λ (x : Send). x.node == k) w.sends
+    filter_swap (λ (x : Send). x.node == k) p xs ∙ ap (filter p) (post k)
+    ∙ through p (is_kept w.topo floor) (λ x e. not_kept w.topo j s floor x h e) (take (sent_of sent k) (sends_of k w.sends))
+    ∙ needed_case w sent j s k (is_needed w.topo k j s) refl law reached ∙ filter_swap p (λ (x : Send). x.node == k) w.sends
 
-pub heard_final : (w : WorldFacts) (sent : List ℕ) (xs : List Send) (j s : ℕ) → IsLawful w → IsPosted w sent xs → AllPostedFor w sent j s → heard w.topo xs j s ≡ truth w j s
+-- what is heard of a kept record, at its floor or later
+pub heard_kept : (w : WorldFacts) (floor : ℕ) (sent : List ℕ) (xs : List Send) (j s : ℕ) → IsLawful w → IsPosted w floor sent xs → floor ≤ s → AllPostedFor w sent j s → heard w.topo xs j s ≡ truth w j s
+unfolding heard
+heard_kept w floor sent xs j s law post h reached =
+    heard_same (age_of w.topo j s) (filter (is_audible w.topo j s) xs) (filter (is_audible w.topo j s) w.sends) (same_heard w floor sent xs j s law post h reached)
+
+-- what is heard of all that is posted
+same_whole : (w : WorldFacts) (sent : List ℕ) (xs : List Send) (j s : ℕ) → IsLawful w → IsWhole w sent xs → AllPostedFor w sent j s
+    → SameByNode (filter (is_audible w.topo j s) xs) (filter (is_audible w.topo j s) w.sends)
+same_whole w sent xs j s law post reached k =
+    let p = is_audible w.topo j s in
+    filter_swap (λ (x : Send). x.node == k) p xs ∙ ap (filter p) (post k)
+    ∙ needed_case w sent j s k (is_needed w.topo k j s) refl law reached ∙ filter_swap p (λ (x : Send). x.node == k) w.sends
+
+pub heard_final : (w : WorldFacts) (sent : List ℕ) (xs : List Send) (j s : ℕ) → IsLawful w → IsWhole w sent xs → AllPostedFor w sent j s → heard w.topo xs j s ≡ truth w j s
 unfolding heard
 heard_final w sent xs j s law post reached =
-    heard_same (age_of w.topo j s) (filter (is_audible w.topo j s) xs) (filter (is_audible w.topo j s) w.sends) (same_heard w sent xs j s law post reached)
+    heard_same (age_of w.topo j s) (filter (is_audible w.topo j s) xs) (filter (is_audible w.topo j s) w.sends) (same_whole w sent xs j s law post reached)

@@ -2,6 +2,8 @@ pub mod QuietCycles
 pub mod LinkRows
 pub mod FirstFaults
 pub mod Links
+pub mod Latencies
+pub mod Search
 pub mod Order
 pub mod Spaced
 pub mod Final
@@ -9,6 +11,8 @@ pub mod Counts
 pub mod Steps
 pub mod Room
 pub mod Records
+pub mod Cuts
+pub mod Rows
 pub mod More
 pub mod NextEntry
 pub mod Lawfulness

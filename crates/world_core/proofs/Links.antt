@@ -1,8 +1,8 @@
 -- Links that a topology takes, and those that it refuses.
-use Rattle.std.proofs.Common.{◌≡◌, ◌≢◌, ◌⊎◌, inl, inr, ℕ, ◌+◌, ◌<◌, ◌≤◌, Bool, true, false, ◌&&◌, ◌||◌, ◌==◌, List, length, take, get_or, sym, ◌∙◌, ap, subst, arith}
+use Rattle.std.proofs.Common.{◌≡◌, ◌≢◌, ◌⊎◌, inl, inr, ℕ, ◌+◌, ◌*◌, cond, ◌<◌, ◌≤◌, Bool, true, false, ◌&&◌, ◌==◌, List, length, take, get_or, sym, ◌∙◌, ap, subst, arith}
 use Rattle.std.specs.List.{Contains, list_any}
-use Rattle.std.proofs.lemmas.List.{get_or_default}
-use Rattle.std.proofs.lemmas.List.Folds.{Any-from_list_any, list_any-from_Any, list_any_none, list_any_more}
+use Rattle.std.proofs.lemmas.List.{get_or_default, take_more, length-take-le}
+use Rattle.std.proofs.lemmas.List.Folds.{Any-from_list_any, list_any-from_Any, list_any_none}
 use Rattle.std.proofs.lemmas.Bool.{false≢true}
 use Rattle.std.proofs.lemmas.Bool.Decides.{nat_tests}
 use Rattle.world_core.specs.declared.air.Link.{Link}
@@ -10,7 +10,8 @@ use Rattle.world_core.specs.declared.faults.TopoFault.{TopoFault}
 use Rattle.world_core.specs.declared.faults.TopoFault.TheVariants.{Range, SelfLink, TwiceLinked}
 use Rattle.world_core.specs.FirstFault.{KeepsBelow}
 use Rattle.world_core.specs.Topology.{Topology, HasRanges, IsTopology, IsNewLink, IsLinkFault, IsTopoFault, is_linked}
-use Rattle.world_core.specs.LinkTable.{has_bit, IsTableOf}
+use Rattle.world_core.specs.LinkTable.{entry_at, entry_in, filled, IsTableOf}
+use Rattle.world_core.proofs.LinkRows.{entry_none, entry_some, entry_push, room_left}
 use Rattle.world_core.proofs.FirstFaults.{keeps_more, fault_excludes}
 
 -- whether l is the link between these two nodes
@@ -44,23 +45,41 @@ not_linked t from to law out =
 
 -- ---- the loop over the links
 module _ (links : List Link) (p : ℕ) (rows : List ℕ) (lt : p < length links) (old : KeepsBelow IsNewLink links p) (table : IsTableOf (take p links) rows) where
-  pub twice_at : (d : Link) → (get_or links p d).from < 64 → (get_or links p d).to < 64 → has_bit rows (get_or links p d).from (get_or links p d).to ≡ true → IsLinkFault links (TwiceLinked p)
+  pub twice_at : (d : Link) → (get_or links p d).from < 64 → (get_or links p d).to < 64 → entry_at rows (get_or links p d).from (get_or links p d).to ≢ 0 → IsLinkFault links (TwiceLinked p)
   twice_at d a b e =
+      let x = get_or links p d in
+      let some : list_any (joins x.from x.to) (take p links) ≡ true = entry_some (take p links) x.from x.to (λ z. e (table.entries x.from x.to a b ∙ z)) in
       let here : (d2 : Link) → Contains (take p links) (get_or links p d2) = λ d2.
-      subst (λ (x : Link). Contains (take p links) x) (get_or_default links p d d2 lt) (contains_from (take p links) (get_or links p d) (sym (table.bits (get_or links p d).from (get_or links p d).to a b) ∙ e)) in
+      subst (λ (y : Link). Contains (take p links) y) (get_or_default links p d d2 lt) (contains_from (take p links) x some) in
       (record { place = lt; before = old; fault = λ d2 f. f.1 (here d2) }, here)
 
-  pub new_at : (d : Link) → (get_or links p d).from < 64 → (get_or links p d).to < 64 → (get_or links p d).from ≢ (get_or links p d).to → has_bit rows (get_or links p d).from (get_or links p d).to ≡ false → KeepsBelow IsNewLink links (p + 1)
+  free : (d : Link) → (get_or links p d).from < 64 → (get_or links p d).to < 64 → entry_at rows (get_or links p d).from (get_or links p d).to ≡ 0 → list_any (joins (get_or links p d).from (get_or links p d).to) (take p links) ≡ false
+  free d a b e = let x = get_or links p d in entry_none (take p links) x.from x.to (sym (table.entries x.from x.to a b) ∙ e)
+
+  pub new_at : (d : Link) → (get_or links p d).from < 64 → (get_or links p d).to < 64 → (get_or links p d).from ≢ (get_or links p d).to → entry_at rows (get_or links p d).from (get_or links p d).to ≡ 0 → KeepsBelow IsNewLink links (p + 1)
   new_at d a b n e =
-      let here : IsNewLink (take p links) (get_or links p d) =
-      (n, λ has. false≢true (sym e ∙ table.bits (get_or links p d).from (get_or links p d).to a b ∙ any_from (take p links) (get_or links p d) has)) in
+      let here : IsNewLink (take p links) (get_or links p d) = (n, λ has. false≢true (sym (free d a b e) ∙ any_from (take p links) (get_or links p d) has)) in
       keeps_more IsNewLink links p old (λ d2. subst (λ (x : Link). IsNewLink (take p links) x) (get_or_default links p d d2 lt) here)
 
-  pub table_at : (d : Link) (new : List ℕ)
-      → ((from to : ℕ) → from < 64 → to < 64 → has_bit new from to ≡ (has_bit rows from to || joins from to (get_or links p d))) → IsTableOf (take (p + 1) links) new
-  table_at d new bits = record {
-    bits = λ from to a b. bits from to a b ∙ ap (λ (v : Bool). v || joins from to (get_or links p d)) (table.bits from to a b) ∙ sym (list_any_more (joins from to) links p d lt);
-  }
+  pub table_at : (d : Link) (new : List ℕ) → (get_or links p d).from < 64 → (get_or links p d).to < 64 → entry_at rows (get_or links p d).from (get_or links p d).to ≡ 0
+      → ((from to : ℕ) → from < 64 → to < 64 → entry_at new from to ≡ cond (joins from to (get_or links p d)) (p + 1) (entry_at rows from to))
+      → filled new ≡ filled rows + 1 → IsTableOf (take (p + 1) links) new
+  table_at d new a b e entries count =
+      let x = get_or links p d in
+      let size : length (take p links) ≡ p = length-take-le p links (omega arith) in
+      record {
+        entries = λ from to h g.
+            entries from to h g ∙ ap (λ (n : ℕ). cond (joins from to x) (p + 1) n) (table.entries from to h g) ∙ ap (λ (n : ℕ). cond (joins from to x) (n + 1) (entry_in (take p links) from to)) (sym size)
+            ∙ sym (entry_push (take p links) x from to (free d a b e)) ∙ ap (λ (l : List Link). entry_in l from to) (sym (take_more links p d lt));
+        full = let f = table.full in let s = length-take-le (p + 1) links (omega arith) in omega arith;
+      }
+
+  -- the place fits an entry
+  pub place_fits : (d : Link) → (get_or links p d).from < 64 → (get_or links p d).to < 64 → length rows ≡ 4096 → entry_at rows (get_or links p d).from (get_or links p d).to ≡ 0 → p < 4096
+  place_fits d a b n e =
+      let x = get_or links p d in
+      let r = room_left rows (64 * x.to + x.from) (omega arith) e in
+      let f = table.full in let s = length-take-le p links (omega arith) in omega arith
 
 -- ---- what a refusal says
 pub fault_of : (t : Topology) (f : TopoFault) → HasRanges t → IsLinkFault t.links f → IsTopoFault t f

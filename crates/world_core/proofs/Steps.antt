@@ -1,5 +1,5 @@
 -- What each step of the record keeps.
-use Rattle.std.proofs.Common.{◌≡◌, ℕ, ◌+◌, ◌-◌, ◌<◌, ◌≤◌, ◌≢◌, Bool, true, false, cond, ◌==◌, List, [], ◌∷◌, ◌++◌, length, take, drop, drop-cons, get_or, set, refl, sym, subst, ◌∙◌, ap, arith, append-nil}
+use Rattle.std.proofs.Common.{◌≡◌, ℕ, suc, ◌+◌, ◌-◌, ◌<◌, ◌≤◌, ◌≢◌, Bool, true, false, cond, ◌==◌, List, [], ◌∷◌, ◌++◌, length, take, drop, drop-cons, get_or, set, refl, sym, subst, ◌∙◌, ap, arith, append-nil}
 use Rattle.std.specs.List.{filter, Contains}
 use Rattle.std.specs.Prelude.{nat_lt}
 use Rattle.std.proofs.lemmas.List.Elements.{filter-append}
@@ -10,12 +10,15 @@ use Rattle.world_core.specs.declared.air.Send.{Send}
 use Rattle.world_core.specs.declared.air.Ask.{Ask}
 use Rattle.world_core.specs.declared.air.Heard.{Heard}
 use Rattle.world_core.specs.declared.world.WorldFacts.{WorldFacts}
-use Rattle.world_core.specs.Topology.{is_needed, latency_of}
+use Rattle.world_core.specs.Topology.{Topology, is_needed, latency_of, reach}
 use Rattle.world_core.specs.Sends.{sends_of, sends_below, IsSendNumber}
-use Rattle.world_core.specs.Posted.{sent_of, posted, IsPosted, AllPostedFor}
+use Rattle.world_core.specs.Posted.{sent_of, posted, AllPostedFor}
+use Rattle.world_core.specs.Kept.{is_kept, IsPosted, IsPostedTo}
 use Rattle.world_core.specs.Settled.{truth, IsFinal}
 use Rattle.world_core.specs.Lawful.{IsLawful}
-use Rattle.world_core.proofs.Final.{heard_final}
+use Rattle.world_core.proofs.Final.{heard_final, late_drop}
+use Rattle.world_core.proofs.Order.{only_own}
+use Rattle.world_core.proofs.Spaced.{spaced}
 use Rattle.world_core.proofs.Counts.{posted_is, sends_below-le, no_sends_past}
 
 -- a reached sample stays reached, and so settled, when more is posted
@@ -73,25 +76,55 @@ one x k e = let t : (x.node == k) ≡ true = grind (arith, nat_tests) in ap (λ 
 none : (x : Send) (k : ℕ) → k ≢ x.node → sends_of k (x ∷ []) ≡ []
 none x k d = let t : (x.node == k) ≡ false = grind (arith, nat_tests) in ap (λ (b : Bool). cond b (x ∷ []) []) t
 
-posted_case : (w : WorldFacts) (sent : List ℕ) (xs : List Send) (x : Send) (k : ℕ) → x.node < length sent → IsPosted w sent xs → IsSendNumber w (sent_of sent x.node) x
-    → Dec (k ≡ x.node) → sends_of k (xs ++ x ∷ []) ≡ take (sent_of (set sent x.node (sent_of sent x.node + 1)) k) (sends_of k w.sends)
-posted_case w sent xs x k h post next (yes e) =
+-- the next send of a spaced list is not below a cycle below which all are posted
+not_before : (c : ℕ) (x : Send) (xs : List Send) (b : Bool) → nat_lt x.cycle c ≡ b → filter (λ y. nat_lt y.cycle c) (x ∷ xs) ≡ [] → c ≤ x.cycle
+not_before c x xs true t e = let f : x ∷ filter (λ y. nat_lt y.cycle c) xs ≡ [] = sym (ap (λ (b : Bool). cond b (x ∷ filter (λ y. nat_lt y.cycle c) xs) (filter (λ y. nat_lt y.cycle c) xs)) t) ∙ e in absurd cc
+not_before c x xs false t e = grind (arith, nat_tests)
+
+late_off : (c : ℕ) (x : Send) → c ≤ x.cycle → nat_lt x.cycle c ≡ false
+late_off c x h = grind (arith, nat_tests)
+
+pub next_late : (w : WorldFacts) (c n : ℕ) (x : Send) → IsLawful w → IsSendNumber w n x → sends_below w.sends x.node c ≤ n → c ≤ x.cycle
+unfolding sends_below
+next_late w c n x law next below =
+    let l = sends_of x.node w.sends in
+    let p : Send → Bool = λ y. nat_lt y.cycle c in
+    let e : filter p (drop n l) ≡ [] = late_drop p x.node c (λ y _ h. late_off c y h) w.topo.byte_time 0 n l (only_own x.node w.sends) (spaced w x.node law) below in
+    let d : drop n l ≡ x ∷ drop (suc n) l = drop-cons l n x next.0 ∙ ap (λ (y : Send). y ∷ drop (suc n) l) next.1 in
+    not_before c x (drop (suc n) l) (nat_lt x.cycle c) refl (sym (ap (filter p) d) ∙ e)
+
+kept_late : (f c r d : ℕ) → 0 < d → f ≤ c → nat_lt f (c + r + d) ≡ true
+kept_late f c r d pos h = grind (arith, nat_tests)
+
+kept_one : (t : Topology) (f : ℕ) (x : Send) → 0 < t.byte_time → f ≤ x.cycle → filter (is_kept t f) (x ∷ []) ≡ x ∷ []
+kept_one t f x pos h =
+    let k : is_kept t f x ≡ true = kept_late f x.cycle (reach t) t.byte_time pos h in
+    ap (λ (b : Bool). cond b (x ∷ []) []) k
+
+posted_case : (w : WorldFacts) (floor : ℕ) (sent : List ℕ) (xs : List Send) (x : Send) (k : ℕ) → x.node < length sent → IsPosted w floor sent xs → IsSendNumber w (sent_of sent x.node) x
+    → filter (is_kept w.topo floor) (x ∷ []) ≡ x ∷ [] → Dec (k ≡ x.node) → sends_of k (xs ++ x ∷ []) ≡ filter (is_kept w.topo floor) (take (sent_of (set sent x.node (sent_of sent x.node + 1)) k) (sends_of k w.sends))
+posted_case w floor sent xs x k h post next kept (yes e) =
     let n = sent_of sent x.node in
     let l = sends_of x.node w.sends in
-    let more : take (n + 1) l ≡ take n l ++ x ∷ [] = take_more l n x next.0 ∙ ap (λ (y : Send). take n l ++ y ∷ []) next.1 in
-    let at : sends_of x.node (xs ++ x ∷ []) ≡ take (sent_of (set sent x.node (n + 1)) x.node) l =
+    let p = is_kept w.topo floor in
+    let more : filter p (take (n + 1) l) ≡ filter p (take n l) ++ x ∷ [] =
+    ap (filter p) (take_more l n x next.0 ∙ ap (λ (y : Send). take n l ++ y ∷ []) next.1) ∙ filter-append p (take n l) (x ∷ []) ∙ ap (λ (m : List Send). filter p (take n l) ++ m) kept in
+    let at : sends_of x.node (xs ++ x ∷ []) ≡ filter p (take (sent_of (set sent x.node (n + 1)) x.node) l) =
     filter-append (λ (y : Send). y.node == x.node) xs (x ∷ []) ∙ ap (λ (m : List Send). m ++ sends_of x.node (x ∷ [])) (post x.node)
-    ∙ ap (λ (m : List Send). take n l ++ m) (one x x.node refl) ∙ sym more ∙ ap (λ (m : ℕ). take m l) (sym (sent_here sent x.node (n + 1) h)) in
-    subst (λ (m : ℕ). sends_of m (xs ++ x ∷ []) ≡ take (sent_of (set sent x.node (n + 1)) m) (sends_of m w.sends)) (sym e) at
-posted_case w sent xs x k h post next (no d) =
+    ∙ ap (λ (m : List Send). filter p (take n l) ++ m) (one x x.node refl) ∙ sym more ∙ ap (λ (m : ℕ). filter p (take m l)) (sym (sent_here sent x.node (n + 1) h)) in
+    subst (λ (m : ℕ). sends_of m (xs ++ x ∷ []) ≡ filter p (take (sent_of (set sent x.node (n + 1)) m) (sends_of m w.sends))) (sym e) at
+posted_case w floor sent xs x k h post next kept (no d) =
     let n = sent_of sent x.node in
+    let p = is_kept w.topo floor in
     filter-append (λ (y : Send). y.node == k) xs (x ∷ []) ∙ ap (λ (m : List Send). m ++ sends_of k (x ∷ [])) (post k)
-    ∙ ap (λ (m : List Send). take (sent_of sent k) (sends_of k w.sends) ++ m) (none x k d) ∙ append-nil (take (sent_of sent k) (sends_of k w.sends))
-    ∙ ap (λ (m : ℕ). take m (sends_of k w.sends)) (sym (sent_else sent x.node k (n + 1) d))
+    ∙ ap (λ (m : List Send). filter p (take (sent_of sent k) (sends_of k w.sends)) ++ m) (none x k d) ∙ append-nil (filter p (take (sent_of sent k) (sends_of k w.sends)))
+    ∙ ap (λ (m : ℕ). filter p (take m (sends_of k w.sends))) (sym (sent_else sent x.node k (n + 1) d))
 
-pub posted_more : (w : WorldFacts) (sent : List ℕ) (xs : List Send) (x : Send) → x.node < length sent → IsPosted w sent xs → IsSendNumber w (sent_of sent x.node) x
-    → IsPosted w (set sent x.node (sent_of sent x.node + 1)) (xs ++ x ∷ [])
-posted_more w sent xs x h post next k = posted_case w sent xs x k h post next (ℕ_discrete k x.node)
+pub posted_more : (w : WorldFacts) (floor : ℕ) (sent : List ℕ) (xs : List Send) (x : Send) → IsLawful w → x.node < length sent → IsPostedTo w floor sent → IsPosted w floor sent xs → IsSendNumber w (sent_of sent x.node) x
+    → IsPosted w floor (set sent x.node (sent_of sent x.node + 1)) (xs ++ x ∷ [])
+posted_more w floor sent xs x law h below post next k =
+    let pos = law.topo.ranges.byte_from in
+    posted_case w floor sent xs x k h post next (kept_one w.topo floor x (omega arith) (next_late w floor (sent_of sent x.node) x law next (below x.node))) (ℕ_discrete k x.node)
 
 counts_case : (w : WorldFacts) (sent : List ℕ) (x : Send) (k : ℕ) → x.node < length sent → ((k : ℕ) → sent_of sent k ≤ length (sends_of k w.sends)) → IsSendNumber w (sent_of sent x.node) x
     → Dec (k ≡ x.node) → sent_of (set sent x.node (sent_of sent x.node + 1)) k ≤ length (sends_of k w.sends)

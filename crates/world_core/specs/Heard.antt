@@ -1,13 +1,13 @@
 -- What a node hears that samples the air in a cycle. Own to this simulator.
-use Rattle.std.specs.Prelude.{ℕ, ◌+◌, ◌-◌, ◌/◌, min, Bool, ◌&&◌, nat_le, nat_lt, bit_or, List, [], ◌∷◌}
+use Rattle.std.specs.Prelude.{ℕ, ◌-◌, ◌/◌, min, Bool, ◌&&◌, bit_or, List, [], ◌∷◌}
 use Rattle.std.specs.List.{filter}
 use Rattle.world_core.specs.declared.air.Send.{Send}
 use Rattle.world_core.specs.declared.air.Heard.{Heard}
-use Rattle.world_core.specs.Topology.{Topology, is_linked, latency_of}
+use Rattle.world_core.specs.Topology.{Topology, is_linked, is_open, is_in_time, latency_of}
 
--- node j hears the send x in cycle s: from the latency on, for the byte time
+-- node j hears the send x in cycle s: over a link that was open when it was sent, from the latency on, for the byte time
 abbrev pub is_audible : Topology → ℕ → ℕ → Send → Bool
-is_audible t j s x = is_linked t x.node j && (nat_le (x.cycle + latency_of t x.node j) s && nat_lt s (x.cycle + latency_of t x.node j + t.byte_time))
+is_audible t j s x = is_linked t x.node j && (is_open t x.node j x.cycle && is_in_time (latency_of t x.node j) t.byte_time s x.cycle)
 
 -- for how long node j has heard it, in steps of 16 cycles
 abbrev pub age_of : Topology → ℕ → ℕ → Send → ℕ

@@ -3,12 +3,14 @@ pub mod NodeKind
 pub mod NodeRun
 pub mod FirstFault
 pub mod Topology
+pub mod SpanSearch
 pub mod LinkTable
 pub mod Heard
 pub mod HeardMore
 pub mod Sends
 pub mod Lawful
 pub mod Posted
+pub mod Kept
 pub mod Settled
 pub mod Consistent
 pub mod Steps

@@ -1,12 +1,23 @@
--- The links of a topology as a table of bits: bit k of row j is set where node j hears node k.
-use Rattle.std.specs.Prelude.{◌≡◌, ℕ, ◌<◌, Bool, ◌&&◌, ◌==◌, List, slice_index}
+-- The links of a topology as a table of places: entry 64 * to + from is one more than the place of the link from node `from` to node `to`.
+use Rattle.std.specs.Prelude.{◌≡◌, ℕ, ◌+◌, ◌*◌, ◌<◌, ◌≤◌, ◌&&◌, ◌==◌, nat_lt, if◌then◌else◌, List, [], ◌∷◌, length, slice_index}
 use Rattle.std.specs.List.{list_any}
-use Rattle.std.specs.Int.{bit_at}
 use Rattle.world_core.specs.declared.air.Link.{Link}
+use Rattle.world_core.specs.Topology.{place_in}
 
-abbrev pub has_bit : List ℕ → ℕ → ℕ → Bool
-has_bit rows from to = bit_at (slice_index rows to) from == 1
+abbrev pub entry_at : List ℕ → ℕ → ℕ → ℕ
+entry_at rows from to = slice_index rows (64 * to + from)
+
+-- one more than the place of the link, and 0 where there is none
+abbrev pub entry_in : List Link → ℕ → ℕ → ℕ
+entry_in links from to = if list_any (λ l. (l.from == from) && (l.to == to)) links then place_in links from to + 1 else 0
+
+-- how many entries are not 0
+abbrev pub filled : List ℕ → ℕ
+filled [] = 0
+filled (x ∷ xs) = (if nat_lt 0 x then 1 else 0) + filled xs
 
 -- the table of these links, of at most 64 nodes
 pub record IsTableOf (links : List Link) (rows : List ℕ) : Type 0 where
-  pub bits : (from to : ℕ) → from < 64 → to < 64 → has_bit rows from to ≡ list_any (λ l. (l.from == from) && (l.to == to)) links
+  pub entries : (from to : ℕ) → from < 64 → to < 64 → entry_at rows from to ≡ entry_in links from to
+  -- each link has filled an entry of its own
+  pub full : length links ≤ filled rows

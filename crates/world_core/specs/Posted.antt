@@ -15,8 +15,8 @@ abbrev pub posted : WorldFacts → List ℕ → List Send
 posted w sent = each_below w.topo.nodes (λ k. take (sent_of sent k) (sends_of k w.sends))
 
 -- the sends xs are, of each node k and in order, the first sent[k] of the world's
-abbrev pub IsPosted : WorldFacts → List ℕ → List Send → Type 0
-IsPosted w sent xs = (k : ℕ) → sends_of k xs ≡ take (sent_of sent k) (sends_of k w.sends)
+abbrev pub IsWhole : WorldFacts → List ℕ → List Send → Type 0
+IsWhole w sent xs = (k : ℕ) → sends_of k xs ≡ take (sent_of sent k) (sends_of k w.sends)
 
 -- all sends are posted that node j could hear in cycle s
 abbrev pub AllPostedFor : WorldFacts → List ℕ → ℕ → ℕ → Type 0

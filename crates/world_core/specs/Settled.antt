@@ -8,7 +8,8 @@ use Rattle.world_core.specs.declared.world.WorldFacts.{WorldFacts}
 use Rattle.world_core.specs.Topology.{Topology, IsInside}
 use Rattle.world_core.specs.Sends.{sends_of}
 use Rattle.world_core.specs.Heard.{heard}
-use Rattle.world_core.specs.Posted.{sent_of, posted, IsPosted, AllPostedFor}
+use Rattle.world_core.specs.Posted.{sent_of, posted, AllPostedFor}
+use Rattle.world_core.specs.Kept.{IsPosted, IsPostedTo}
 
 -- the true answer to a sample of node j in cycle s: what it hears of all sends of the world
 abbrev pub truth : WorldFacts → ℕ → ℕ → Heard
@@ -25,12 +26,14 @@ pub record IsFinal (w : WorldFacts) (sent : List ℕ) (x : Ask × Heard) : Type 
   pub right : x.1 ≡ truth w x.0.node x.0.cycle
   pub settled : IsSettled w sent x
 
--- what holds of a record of sends and samples when sent[k] sends of each node k are posted
-pub record IsRecorded (w : WorldFacts) (sent : List ℕ) (sends : List Send) (samples : List (Ask × Heard)) : Type 0 where
+-- what holds of a record of sends and samples that is cut at a floor, when sent[k] sends of each node k are posted
+pub record IsRecorded (w : WorldFacts) (floor : ℕ) (sent : List ℕ) (sends : List Send) (samples : List (Ask × Heard)) : Type 0 where
   pub nodes : length sent ≡ w.topo.nodes
   pub counts : (k : ℕ) → sent_of sent k ≤ length (sends_of k w.sends)
-  pub posted : IsPosted w sent sends
+  pub below : IsPostedTo w floor sent
+  pub posted : IsPosted w floor sent sends
   pub inside : All (λ x. IsInside w.topo x.node x.cycle) sends
+  pub late : All (λ x. floor ≤ x.0.cycle) samples
   pub final : All (IsFinal w sent) samples
 
 -- room for all sends that a world can have

@@ -9,6 +9,17 @@ pub struct Link {
     pub to: u8,
 }
 
+/// A span of cycles in which a link is open.
+#[derive(Clone, Copy, Debug, PartialEq, Eq)]
+pub struct Span {
+    /// The place of the link in the list of links.
+    pub link: u32,
+    /// The first cycle.
+    pub from: u64,
+    /// The cycle after the last.
+    pub until: u64,
+}
+
 /// A byte that a node sends over the air.
 #[derive(Clone, Copy, Debug, PartialEq, Eq)]
 pub struct Send {

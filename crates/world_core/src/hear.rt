@@ -31,7 +31,10 @@ fn hears(topo: &Topo, send: &Send, node: u8, cycle: u64) -> bool
     ensures { result ≡ is_audible topo.now node cycle send.now }
 {
     let first = send.cycle + topo.latency_of(send.node, node);
-    topo.linked(send.node, node) && first <= cycle && cycle < first + topo.byte_time()
+    topo.linked(send.node, node)
+        && topo.is_open(send.node, node, send.cycle)
+        && first <= cycle
+        && cycle < first + topo.byte_time()
 }
 
 // For how long the node has heard the send, in steps of 16 cycles.

@@ -5,14 +5,17 @@
 mod air;
 mod faults;
 mod hear;
+mod kept;
 mod laws;
 mod link_table;
+mod spans;
 mod topo;
 mod world;
 
-pub use air::{Ask, Heard, Link, Sampled, Send};
+pub use air::{Ask, Heard, Link, Sampled, Send, Span};
 pub use faults::{NoMemory, TopoFault, WorldFault};
 pub use hear::heard_of;
+pub use kept::{cut_law, kept_law, needed_law, part_law, room_law};
 pub use topo::Topo;
 pub use world::{ListWorld, World, WorldFacts};
 

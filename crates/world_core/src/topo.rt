@@ -1,12 +1,13 @@
 // The topology of a network of nodes.
-ghost use Rattle.std.specs.Prelude.{◌≡◌, ◌↔◌, ◌<◌, ◌≤◌, MatchResult, IsTrue};
-ghost use Rattle.std.specs.List.{All};
+ghost use Rattle.std.specs.Prelude.{◌≡◌, ◌↔◌, ◌==◌, ◌&&◌, ◌+◌, nat_le, nat_lt, ◌<◌, ◌≤◌, MatchResult, IsTrue, length};
+ghost use Rattle.std.specs.List.{All, AllPairs, list_any};
 ghost use Rattle.world_core.specs.FirstFault.{AllKeep};
-ghost use Rattle.world_core.specs.Topology.{topology, HasRanges, IsNewLink, IsLinkFault};
+ghost use Rattle.world_core.specs.Topology.{topology, HasRanges, IsNewLink, IsLinkFault, IsSpan, IsSpanOrder, place_in, greatest, has_span};
 ghost use Rattle.world_core.specs.LinkTable.{IsTableOf};
 
 use crate::link_table::LinkTable;
-use crate::{Link, NoMemory, TopoFault};
+use crate::spans::{is_open_at, is_reached};
+use crate::{Link, NoMemory, Span, TopoFault};
 use std::marker::Model;
 
 /// Which nodes there are, how long they run, and who hears whom: what all nodes of a network share.
@@ -19,6 +20,8 @@ pub struct Topo {
     latency: u64,
     byte_time: u64,
     links: Vec<Link>,
+    own: Vec<u64>,
+    spans: Vec<Span>,
     table: LinkTable,
 }
 
@@ -28,20 +31,108 @@ impl Model for Topo {
 
     ghost Value = { Topology };
 
-    ghost view = { λ t. topology t.nodes t.limit t.latency t.byte_time t.links.items };
+    ghost view = { λ t. topology t.nodes t.limit t.latency t.byte_time t.links.items t.own.items t.spans.items };
 
-    ghost invariant = { λ t. IsTopology (topology t.nodes t.limit t.latency t.byte_time t.links.items) × IsTableOf t.links.items t.table.rows };
+    ghost invariant = { λ t. IsTopology (topology t.nodes t.limit t.latency t.byte_time t.links.items t.own.items t.spans.items) × IsTableOf t.links.items t.table.rows };
+}
+
+// Whether each link ends at nodes that there are.
+fn are_ends(nodes: u8, links: &[Link]) -> bool
+    ensures { IsTrue result ↔ All (λ l. (l.from < nodes) × (l.to < nodes)) links.now }
+{
+    links.iter().all(|l| l.from < nodes && l.to < nodes)
+}
+
+// Whether the numbers of a topology are in their ranges.
+fn are_numbers(nodes: u8, limit: u64, latency: u64, byte_time: u64) -> bool
+    ensures { IsTrue result ↔ ((1 ≤ nodes) × (nodes ≤ 64) × (1 ≤ limit) × (limit ≤ 1099511627776) × (1 ≤ latency) × (latency ≤ 65535) × (256 ≤ byte_time) × (byte_time ≤ 4096)) }
+{
+    (1..=64).contains(&nodes)
+        && (1..=1_099_511_627_776).contains(&limit)
+        && (1..=65_535).contains(&latency)
+        && (256..=4_096).contains(&byte_time)
+}
+
+// Whether there is no own latency, or one of each link.
+fn are_enough(count: usize, own: &[u64]) -> bool
+    ensures { IsTrue result ↔ (0 < length own.now → length own.now ≡ count) }
+{
+    if own.len() == 0 {
+        return true;
+    }
+    own.len() == count
+}
+
+// Whether all own latencies are in their range.
+fn are_latencies(own: &[u64]) -> bool
+    ensures { IsTrue result ↔ All (λ n. (1 ≤ n) × (n ≤ 65535)) own.now }
+{
+    own.iter().all(|n| (1..=65_535).contains(n))
+}
+
+// Whether all spans are in their ranges, where there are so many links.
+fn are_spans(count: u64, spans: &[Span]) -> bool
+    ensures { IsTrue result ↔ All (IsSpan count) spans.now }
+{
+    spans.iter().all(|s| u64::from(s.link) < count
+        && s.from < s.until
+        && s.until <= 1_099_511_627_776)
+}
+
+// Whether the span `next` may stand behind the span `last`.
+fn may_follow(last: &Span, next: &Span) -> bool
+    ensures { IsTrue result ↔ IsSpanOrder last.now next.now }
+{
+    if last.link == next.link {
+        return last.until <= next.from;
+    }
+    last.link < next.link
+}
+
+// Whether the spans stand in order.
+fn are_apart(count: u64, spans: &[Span]) -> bool
+    requires { All (IsSpan count) spans.now }
+    ensures { IsTrue result ↔ AllPairs IsSpanOrder spans.now }
+{
+    for place in 1..spans.len() {
+        if !may_follow(&spans[place - 1], &spans[place]) {
+            return false;
+        }
+    }
+    true
 }
 
 // Whether the numbers are in their ranges, and each link ends at nodes that there are.
-fn are_in_range(nodes: u8, limit: u64, latency: u64, byte_time: u64, links: &[Link]) -> bool
-    ensures { IsTrue result ↔ HasRanges (topology nodes limit latency byte_time links.now) }
+fn are_in_range(
+    nodes: u8,
+    limit: u64,
+    latency: u64,
+    byte_time: u64,
+    links: &[Link],
+    own: &[u64],
+    spans: &[Span],
+) -> bool
+    ensures { IsTrue result ↔ HasRanges (topology nodes limit latency byte_time links.now own.now spans.now) }
 {
-    (1..=64).contains(&nodes)
-        && (1..=10_000_000).contains(&limit)
-        && (1..=65_535).contains(&latency)
-        && (256..=4_096).contains(&byte_time)
-        && links.iter().all(|l| l.from < nodes && l.to < nodes)
+    if !are_numbers(nodes, limit, latency, byte_time) {
+        return false;
+    }
+    if !are_ends(nodes, links) {
+        return false;
+    }
+    if !are_enough(links.len(), own) {
+        return false;
+    }
+    if !are_latencies(own) {
+        return false;
+    }
+    if spans.len() > 4_096 {
+        return false;
+    }
+    if !are_spans(links.len() as u64, spans) {
+        return false;
+    }
+    are_apart(links.len() as u64, spans)
 }
 
 // The table of the links, or the first link that goes to its own node or equals an earlier one.
@@ -56,19 +147,31 @@ fn table_of(links: &[Link]) -> Result<LinkTable, TopoFault>
         if link.from == link.to {
             return Err(TopoFault::SelfLink { place });
         }
-        if table.has(link.from, link.to) {
+        if table.entry(link.from, link.to) != 0 {
             return Err(TopoFault::TwiceLinked { place });
         }
-        table.add(*link);
+        table.add(*link, place as u16);
     }
     Ok(table)
 }
 
-impl Topo {
-    ghost use Rattle.std.specs.Prelude.{◌≡◌, ◌↔◌, ◌≤◌, IfOk, IfErr, IsOk, IsTrue};
-    ghost use Rattle.world_core.specs.Topology.{topology, is_linked, is_needed, latency_of, IsTopology, IsTopoFault};
+// The greatest of these numbers.
+fn greatest(own: &[u64], least: u64) -> u64
+    ensures { result ≡ greatest own.now least }
+{
+    let mut most = least;
+    for n in own {
+        most = most.max(*n);
+    }
+    most
+}
 
-    /// The topology of these numbers: `limit`, `latency` and `byte_time` in cycles. It takes no memory.
+impl Topo {
+    ghost use Rattle.std.specs.Prelude.{◌≡◌, ◌↔◌, ◌≤◌, [], IfOk, IfErr, IsOk, IsTrue};
+    ghost use Rattle.world_core.specs.Topology.{topology, is_linked, is_needed, is_open, latency_of, place_in, reach, IsTopology, IsTopoFault, IsShortFault};
+
+    /// The topology of these numbers: `limit`, `latency` and `byte_time` in cycles, the limit at most 10,000,000. Each link has the
+    /// topology's latency and is always open. It takes no memory.
     /// `Range` exactly where a number is out of its range (see the type) or a link ends at a node that there is not;
     /// else the first link that goes to its own node, or equals an earlier one, is refused with its place.
     pub fn new(
@@ -78,11 +181,55 @@ impl Topo {
         byte_time: u64,
         links: Vec<Link>,
     ) -> Result<Topo, TopoFault>
-        ensures ok { IsOk result ↔ IsTopology (topology nodes limit latency byte_time links.items) }
-        ensures value { IfOk result (λ t. t ≡ topology nodes limit latency byte_time links.items) }
-        ensures fault { IfErr result (IsTopoFault (topology nodes limit latency byte_time links.items)) }
+        ensures ok { IsOk result ↔ (IsTopology (topology nodes limit latency byte_time links.items [] []) × (limit ≤ 10000000)) }
+        ensures value { IfOk result (λ t. t ≡ topology nodes limit latency byte_time links.items [] []) }
+        ensures fault { IfErr result (IsShortFault (topology nodes limit latency byte_time links.items [] [])) }
     {
-        if !are_in_range(nodes, limit, latency, byte_time, &links) {
+        let own = Vec::new(*links.allocator());
+        Topo::with_latencies(nodes, limit, latency, byte_time, links, own)
+    }
+
+    /// As `new`, where `own` is empty or has each link's own latency, in the order of the links. `Range` also where it has
+    /// another length, or a number outside 1 to 65,535.
+    pub fn with_latencies(
+        nodes: u8,
+        limit: u64,
+        latency: u64,
+        byte_time: u64,
+        links: Vec<Link>,
+        own: Vec<u64>,
+    ) -> Result<Topo, TopoFault>
+        ensures ok { IsOk result ↔ (IsTopology (topology nodes limit latency byte_time links.items own.items []) × (limit ≤ 10000000)) }
+        ensures value { IfOk result (λ t. t ≡ topology nodes limit latency byte_time links.items own.items []) }
+        ensures fault { IfErr result (IsShortFault (topology nodes limit latency byte_time links.items own.items [])) }
+    {
+        if limit > 10_000_000 {
+            return Err(TopoFault::Range);
+        }
+        let spans = Vec::new(*links.allocator());
+        match Topo::with_spans(nodes, limit, latency, byte_time, links, own, spans) {
+            Ok(topo) => Ok(topo),
+            Err(fault) => Err(fault),
+        }
+    }
+
+    /// As `with_latencies`, with a limit of up to 2^40 cycles, and the spans in which links are open: by link, and within one
+    /// link in order and apart. A link with no span is always open. `Range` also where there are more than 4,096 spans, or one
+    /// is of no link, empty, past cycle 2^40 or out of order.
+    pub fn with_spans(
+        nodes: u8,
+        limit: u64,
+        latency: u64,
+        byte_time: u64,
+        links: Vec<Link>,
+        own: Vec<u64>,
+        spans: Vec<Span>,
+    ) -> Result<Topo, TopoFault>
+        ensures ok { IsOk result ↔ IsTopology (topology nodes limit latency byte_time links.items own.items spans.items) }
+        ensures value { IfOk result (λ t. t ≡ topology nodes limit latency byte_time links.items own.items spans.items) }
+        ensures fault { IfErr result (IsTopoFault (topology nodes limit latency byte_time links.items own.items spans.items)) }
+    {
+        if !are_in_range(nodes, limit, latency, byte_time, &links, &own, &spans) {
             return Err(TopoFault::Range);
         }
         match table_of(&links) {
@@ -92,6 +239,8 @@ impl Topo {
                 latency,
                 byte_time,
                 links,
+                own,
+                spans,
                 table,
             }),
             Err(fault) => Err(fault),
@@ -103,12 +252,16 @@ impl Topo {
         ensures { IfOk result (λ t. t ≡ self.now) }
     {
         let links = self.links.clone()?;
+        let own = self.own.clone()?;
+        let spans = self.spans.clone()?;
         Ok(Topo {
             nodes: self.nodes,
             limit: self.limit,
             latency: self.latency,
             byte_time: self.byte_time,
             links,
+            own,
+            spans,
             table: self.table,
         })
     }
@@ -160,24 +313,65 @@ impl Topo {
         if from >= self.nodes || to >= self.nodes {
             return false;
         }
-        self.table.has(from, to)
+        self.table.entry(from, to) != 0
     }
 
-    /// How many cycles a byte takes from node `from` to node `to`, 1 to 65,535.
+    // The place of the link from node `from` to node `to`, and the count of links where there is none.
+    fn place_of(&self, from: u8, to: u8) -> usize
+        ensures value { result ≡ place_in self.now.links from to }
+    {
+        let count = self.links().len();
+        if from >= self.nodes() {
+            return count;
+        }
+        if to >= self.nodes() {
+            return count;
+        }
+        let entry = self.table.entry(from, to);
+        if entry == 0 {
+            return count;
+        }
+        usize::from(entry) - 1
+    }
+
+    /// How many cycles a byte takes from node `from` to node `to`, 1 to 65,535: the link's own latency, else `latency()`.
     pub fn latency_of(&self, from: u8, to: u8) -> u64
         ensures value { result ≡ latency_of self.now from to }
         ensures lawful { IsTopology self.now }
         ensures most { (1 ≤ result) × (result ≤ 65535) }
     {
-        let _ = (from, to);
-        self.latency
+        match self.own.get(self.place_of(from, to)) {
+            Some(own) => *own,
+            None => self.latency,
+        }
     }
 
-    /// Whether node `to` may hear in this cycle a byte of node `from`: it hears that node, and the cycle is not below
-    /// the latency.
-    pub fn needs(&self, from: u8, to: u8, cycle: u64) -> bool
-        ensures { result ≡ is_needed self.now from to cycle }
+    /// The greatest latency of all, 1 to 65,535.
+    pub fn reach(&self) -> u64
+        ensures value { result ≡ reach self.now }
+        ensures lawful { IsTopology self.now }
     {
-        self.linked(from, to) && self.latency_of(from, to) <= cycle
+        greatest(&self.own, self.latency)
+    }
+
+    /// Whether the link from node `from` to node `to` is open in this cycle.
+    pub fn is_open(&self, from: u8, to: u8, cycle: u64) -> bool
+        ensures { result ≡ is_open self.now from to cycle }
+    {
+        let place = self.place_of(from, to) as u64;
+        is_open_at(&self.spans, place, cycle)
+    }
+
+    /// Whether node `to` may hear in this cycle a byte of node `from`: it hears that node, and their link was open in a cycle
+    /// whose byte is heard in this one.
+    pub fn needs(&self, from: u8, to: u8, cycle: u64) -> bool
+        ensures value { result ≡ is_needed self.now from to cycle }
+    {
+        if !self.linked(from, to) {
+            return false;
+        }
+        let place = self.place_of(from, to) as u64;
+        let latency = self.latency_of(from, to);
+        is_reached(&self.spans, place, latency, self.byte_time, cycle)
     }
 }

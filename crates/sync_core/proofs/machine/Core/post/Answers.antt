@@ -9,14 +9,14 @@ use Rattle.sync_core.proofs.machine.Core.post.Given
 use Rattle.sync_core.proofs.machine.Core.post.Goals as goal
 
 abbrev before : (g : Given.Over) → Inside g.row.W.Denot → AirState
-before g s = record { world = g.W.World.facts s.world; clocks = s.clocks.items; sent = s.sent.items; sends = s.sends.items; samples = s.samples.items }
+before g s = record { world = g.W.World.facts s.world; clocks = s.clocks.items; sent = s.sent.items; floor = 0; sends = s.sends.items; samples = s.samples.items }
 
 pub push_reserved-requires : goal.push_reserved-requires
 push_reserved-requires g c =
     let a = before g c.self.inside in
     let x = c.args.send in
     let next : IsSendNumber a.world (sent_of a.sent x.node) x = subst (λ (b : AirState). IsSendNumber b.world (sent_of b.sent x.node) x) (sym c.self.view_is) c.requires in
-    let r = record_room a.world a.sent a.sends a.samples x c.self.invariant.0.lawful c.self.invariant.0.recorded next in
+    let r = record_room a.world a.floor a.sent a.sends a.samples x c.self.invariant.0.lawful c.self.invariant.0.recorded next in
     let e : vec_len c.self.inside.sends ≡ length c.self.inside.sends.items = search rules in
     let f = c.self.invariant.1 in omega arith
 

@@ -1,4 +1,4 @@
-use Rattle.std.proofs.Common.{◌≡◌, ℕ, ◌<◌, length, vec_len, List, sym, ap, ◌∙◌, refl, subst, arith, rules}
+use Rattle.std.proofs.Common.{◌≡◌, ℕ, ◌<◌, ◌≤◌, length, vec_len, List, sym, ap, ◌∙◌, refl, subst, arith, rules}
 use Rattle.std.specs.List.{Contains}
 use Rattle.world_core.specs.declared.air.Sampled.{Sampled}
 use Rattle.world_core.specs.declared.air.Sampled.TheVariants.{Heard, NoMemory}
@@ -17,7 +17,7 @@ use Rattle.sync_core.proofs.machine.Core.sample.Goals as goal
 use Rattle.sync_core.proofs.machine.Core.sample.Goals.{in-Ok, in-Err}
 
 abbrev before : (g : Given.Over) → Inside g.row.W.Denot → AirState
-before g s = record { world = g.W.World.facts s.world; clocks = s.clocks.items; sent = s.sent.items; sends = s.sends.items; samples = s.samples.items }
+before g s = record { world = g.W.World.facts s.world; clocks = s.clocks.items; sent = s.sent.items; floor = 0; sends = s.sends.items; samples = s.samples.items }
 
 is_sampled : (a old : AirState) (j s : ℕ) (r : Sampled) (h : HeardValue) (new : AirState) → a ≡ old → r ≡ Heard h → AllPassed a j s → new ≡ after_sample a j s → h ≡ truth a.world j s → IsSampled old j s r new
 is_sampled a old j s r h new e f p n t = subst (λ (o : AirState). IsSampled o j s r new) e (subst (λ (v : Sampled). IsSampled a j s v new) (sym f) (p, n, t))
@@ -31,6 +31,7 @@ passed g c = all_passed (before g c.self.inside) c.args.node c.args.cycle (rw (c
 may : (g : Given.Over) (c : goal.Joined-push g) → MaySample (before g c.self.inside) c.args.node c.args.cycle
 may g c = record {
   asked = subst (λ (a : AirState). Contains a.world.asks record { node = c.args.node; cycle = c.args.cycle }) (sym c.self.view_is) c.requires;
+  kept = omega arith;
   passed = passed g c;
 }
 
@@ -73,6 +74,6 @@ returns-clause-step g c =
     let a = before g c.self.inside in elim c.match-push.branch [
       | in-Ok w ↦ is_sampled a c.args.self.now c.args.node c.args.cycle c.match-push.result c.heard_of-heard.result (with_samples a c.push.new.self.items) c.self.view_is w.result-is (passed g c)
           (pushed a c.args.node c.args.cycle c.heard_of-heard.result c.push.new.self.items (heard_is g c) w.in-Ok.ensures.items)
-          (heard_is g c ∙ sample_right a c.args.node c.args.cycle c.self.invariant.0 (passed g c))
+          (heard_is g c ∙ sample_right a c.args.node c.args.cycle c.self.invariant.0 (omega arith) (passed g c))
       | in-Err w ↦ is_none a c.args.self.now c.args.node c.args.cycle c.match-push.result (with_samples a c.push.new.self.items) c.self.view_is w.result-is (passed g c) (ap (with_samples a) w.in-Err.ensures.items)
     ]

@@ -1,11 +1,10 @@
-use Rattle.std.proofs.Common.{arith, ◌∙◌, ℕ, ap, ◌<◌, length}
-use Rattle.world_core.specs.LinkTable.{has_bit}
-use Rattle.world_core.proofs.LinkRows.{bit_more, with_bit}
+use Rattle.std.proofs.Common.{◌≡◌, ◌+◌, ◌*◌, ◌<◌, ℕ, length, get_or, ap, ◌∙◌, arith}
+use Rattle.world_core.proofs.LinkRows.{count_set}
 use Rattle.world_core.proofs.link_table.LinkTable.add.Goals as goal
 
-pub returns : goal.returns
-returns c = λ from to _ _.
+pub returns-clause-filled : goal.returns-clause-filled
+returns-clause-filled c =
     let rows = c.args.self.now.rows in
-    let f = c.args.link.from in
-    let within : c.args.link.to < length rows = omega arith in
-    ap (λ (t : ℕ). has_bit (with_bit rows f t) from to) c.from.ensures ∙ bit_more rows f c.args.link.to from to c.requires.0 within
+    let at : 64 * c.from.result + c.from-2.result ≡ 64 * c.args.link.to + c.args.link.from = let a = c.from.ensures in let b = c.from-2.ensures in omega arith in
+    let within : 64 * c.from.result + c.from-2.result < length rows = let a = c.requires.ends.0 in let b = c.requires.ends.1 in omega arith in
+    count_set rows (64 * c.from.result + c.from-2.result) (c.args.place + 1) within (ap (λ (n : ℕ). get_or rows n 0) at ∙ c.requires.free) (omega arith)

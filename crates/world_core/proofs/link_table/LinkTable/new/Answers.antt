@@ -1,5 +1,6 @@
-use Rattle.world_core.proofs.LinkRows.{no_bit}
+use Rattle.std.proofs.Common.{◌+◌, ◌*◌}
+use Rattle.world_core.proofs.LinkRows.{zeros}
 use Rattle.world_core.proofs.link_table.LinkTable.new.Goals as goal
 
 pub returns : goal.returns
-returns c = λ from to _ _. no_bit 64 from to
+returns c = λ from to _ _. zeros 4096 (64 * to + from)

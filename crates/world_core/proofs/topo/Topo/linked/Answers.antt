@@ -7,7 +7,7 @@ use Rattle.world_core.proofs.topo.Topo.linked.Goals.{then-from-self-via-then-fro
 pub returns-then-from-self : goal.returns-then-from-self
 returns-then-from-self c =
     let i = c.self.inside in
-    let t = topology i.nodes i.limit i.latency i.byte_time i.links.items in
+    let t = topology i.nodes i.limit i.latency i.byte_time i.links.items i.own.items i.spans.items in
     let out : (i.nodes ≤ c.args.from) ⊎ (i.nodes ≤ c.args.to) = elim c.then-from-self.branch [
       | then-from-self-via-then-from-self w ↦ inl w.if-from-self.true
       | then-from-self-via-else-from-self+then-to-self w ↦ inr w.if-to-self.true
