@@ -367,6 +367,7 @@ impl Topo {
     pub fn reach(&self) -> u64
         ensures value { result ≡ reach self.now }
         ensures lawful { IsTopology self.now }
+        ensures most { (1 ≤ result) × (result ≤ 65535) }
     {
         greatest(&self.own, self.latency)
     }
