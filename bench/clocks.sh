@@ -1,27 +1,22 @@
 #!/usr/bin/env bash
 # What a call on the clock words costs on one thread: bench/clocks.sh [COUNT] (100,000,000 calls where absent). For each
-# of the three calls it makes that many in a loop, five times, and prints the fastest run, less the start of the program.
+# of the three calls the program makes that many in a loop, five times; the fastest run's processor time is printed for
+# one call, the loop around it included.
 set -eu
 top=$(cd "$(dirname "$0")/.." && pwd)
 count=${1:-100000000}
 crate=$top/crates/clock_trials
 program=$crate/out/clock_trials
+work=$(mktemp -d)
+trap 'rm -rf "$work"' EXIT
 (cd "$crate" && rt run >/dev/null)
 
-# The fastest of five runs of so many calls, in seconds.
-fastest() {
+for call in load peek raise; do
     best=
     for _ in 1 2 3 4 5; do
-        start=$(date +%s.%N)
-        "$program" "$1" "$2" >/dev/null
-        took=$(awk -v a="$start" -v b="$(date +%s.%N)" 'BEGIN { print b - a }')
-        if [ -z "$best" ] || awk "BEGIN { exit !($took < $best) }"; then best=$took; fi
+        { /usr/bin/env time -f '%U' "$program" "$call" "$count" >/dev/null; } 2>"$work/time"
+        read -r seconds <"$work/time"
+        if [ -z "$best" ] || awk "BEGIN { exit !($seconds < $best) }"; then best=$seconds; fi
     done
-}
-
-for call in load peek raise; do
-    fastest "$call" 0
-    empty=$best
-    fastest "$call" "$count"
-    awk -v c="$count" -v s="$best" -v e="$empty" -v n="$call" 'BEGIN { printf "%s: %.2f ns a call\n", n, (s - e) / c * 1e9 }'
+    awk -v c="$count" -v s="$best" -v n="$call" 'BEGIN { printf "%s: %.2f ns a call\n", n, s / c * 1e9 }'
 done
