@@ -16,4 +16,3 @@ pub mod Rows
 pub mod More
 pub mod NextEntry
 pub mod Lawfulness
-pub mod ByNodes

@@ -14,4 +14,3 @@ pub mod Kept
 pub mod Settled
 pub mod Consistent
 pub mod Steps
-pub mod ByNode

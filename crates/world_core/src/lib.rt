@@ -20,6 +20,4 @@ pub use topo::Topo;
 pub use world::{ListWorld, World, WorldFacts};
 
 #[cfg(test)]
-mod plain;
-#[cfg(test)]
 mod tests;
