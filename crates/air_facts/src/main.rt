@@ -15,12 +15,14 @@ use std::fs::Files;
 use std::process::ExitCode;
 use std::{fs, io};
 
-static FILES: [&str; 5] = [
+static FILES: [&str; 7] = [
     "topologies.txt",
     "heard.txt",
     "worlds.txt",
     "steps.txt",
+    "drawn_steps.txt",
     "states.txt",
+    "drawn_states.txt",
 ];
 
 // Asks all questions of a file. It gives the number of its cases, and `None` where one is not as the file says.

@@ -111,7 +111,7 @@ static NAMES: [(&str, Command); 44] = [
     ("sent", Command::Sent),
     ("floor", Command::Floor),
     ("record", Command::Record),
-    ("heard", Command::Heard),
+    ("samples", Command::Heard),
     ("new", Command::IsNew),
     ("with_latencies", Command::IsLatencies),
     ("with_spans", Command::IsSpans),
