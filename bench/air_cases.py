@@ -3,7 +3,7 @@
 
     bench/air_cases.py FOLDER
 
-writes drawn_steps.txt and drawn_states.txt into FOLDER, always the same bytes.
+writes drawn_steps.txt, drawn_states.txt and drawn_log.txt into FOLDER, always the same bytes.
 
 It is the rules of docs/AIR.md once more, written plainly and slowly: to be heard, to be needed, to be consistent and to be
 allowed are each asked over all cycles or all sends that there are. It shares nothing with the crates that it tests.
@@ -318,23 +318,26 @@ def state_text(state):
     )
 
 
-def world_text(world):
-    lines = [f"topo {world.nodes} {world.limit} {world.latency} {world.byte_time}"]
-    lines[0] += " " + listed("links", (f"{k}>{j}" for k, j in world.pairs))
+def topo_text(world):
+    text = f"topo {world.nodes} {world.limit} {world.latency} {world.byte_time}"
+    text += " " + listed("links", (f"{k}>{j}" for k, j in world.pairs))
     if world.own:
-        lines[0] += " " + listed("own", map(str, world.own))
+        text += " " + listed("own", map(str, world.own))
     if world.spans:
-        lines[0] += " " + listed("spans", (f"{p}:{a}-{b}" for p, a, b in world.spans))
-    lines.append(listed("sends", send_texts(world.sends)) + " " + listed("asks", (f"{a.node}@{a.cycle}" for a in world.asks)))
-    return "\n".join(lines) + "\n"
+        text += " " + listed("spans", (f"{p}:{a}-{b}" for p, a, b in world.spans))
+    return text
+
+
+def world_text(world):
+    asks = (f"{a.node}@{a.cycle}" for a in world.asks)
+    return "\n".join([topo_text(world), listed("sends", send_texts(world.sends)) + " " + listed("asks", asks), ""])
 
 
 def sample_answer(world, state, ask):
     waits = behind(world, state, *ask)
     if waits:
         return f"waits {waits[0]}:{state.clocks[waits[0]]}"
-    status, byte, age = heard(world, state.sends, *ask)
-    return ["quiet", f"byte {byte}.{age}", f"clash {byte}"][status]
+    return heard_text(heard(world, state.sends, *ask))
 
 
 def drawn_list(draw, world):
@@ -426,6 +429,92 @@ def drawn_state(draw, world):
     return f"floor {state.floor} {state_text(state)} consistent {answer}\n"
 
 
+def drawn_log(draw, world):
+    """A record of sends that is posted to, cut and listened to, line by line."""
+    log, floor = [], 0
+    last = [-1] * world.nodes
+    lines = ["log 1000\n"]
+    now = 0
+    for _ in range(draw.choice([3, 10, 25])):
+        line = drawn_push(draw, world, log, last, now)
+        now = max([now] + last)
+        for _ in range(draw.randint(1, 5)):
+            j, s = drawn_ear(draw, world, log, floor, now)
+            line += f" listen {j}@{s} {heard_text(heard(world, log, j, s))}"
+        if draw.random() < 0.3:
+            ends = [x.cycle + world.reach + world.byte_time + d for x in log for d in (-1, 0)]
+            floor = draw.choice([e for e in ends if e >= floor] or [floor])
+            log = [x for x in log if is_kept(world, floor, x)]
+            line += f" cut {floor} " + listed("record", send_texts(log)) + " kept state"
+        lines.append(line + "\n")
+    return lines
+
+
+def drawn_push(draw, world, log, last, now):
+    """Posts some sends, of one node or of all: sends of a node rise, and those of two nodes come in any order."""
+    pushed = []
+    for _ in range(draw.choice([1, 1, 2, 8, 30])):
+        k = draw.randrange(world.nodes)
+        cycle = last[k] + draw.choice([1, world.byte_time, world.byte_time + draw.randint(0, 99)])
+        if cycle >= world.limit:
+            break
+        pushed.append(Send(k, cycle, draw.choice([1, 2, 4, 8, 16, 32, 64, 128, 0])))
+        last[k] = cycle
+    log += pushed
+    return listed("push", send_texts(pushed)) if pushed else "push"
+
+
+def drawn_ear(draw, world, log, floor, now):
+    """A node and a cycle in which it listens: often at the end of a byte, and often long ago."""
+    edges = [
+        (x.target, s.cycle + x.latency + d)
+        for x in world.links
+        for s in log
+        if s.node == x.source
+        for d in (-1, 0, world.byte_time - 1, world.byte_time)
+    ]
+    if edges and draw.random() < 0.8:
+        return draw.choice(edges)
+    return draw.randrange(world.nodes), draw.randint(floor, max(floor, now) + 1000)
+
+
+def heard_text(value):
+    status, byte, age = value
+    return ["quiet", f"byte {byte}.{age}", f"clash {byte}"][status]
+
+
+def full_log(draw, world, epoch):
+    """Each node sends as often as it may, and the record, cut at the end of each epoch, has just the room that it is to need."""
+    room = world.nodes * ((world.reach + world.byte_time + epoch) // world.byte_time + 1)
+    lines, log, now, free = [f"log {room}\n"], [], 0, [draw.choice([0, 1]) for _ in range(world.nodes)]
+    for _ in range(6):
+        line = "push"
+        while min(free) < now + epoch:
+            k = free.index(min(free))
+            log.append(Send(k, free[k], 1 << (free[k] % 8)))
+            line += " " + send_texts(log[-1:])[0]
+            free[k] += world.byte_time
+        if len(log) > room:
+            raise SystemExit("a record outgrew its room")
+        now += epoch
+        log = [x for x in log if is_kept(world, now, x)]
+        lines.append(line + f" cut {now} " + listed("record", send_texts(log)) + " kept state\n")
+    return lines
+
+
+def drawn_logs(draw):
+    lines = []
+    for _ in range(LOG_WORLDS):
+        world = drawn_topology(draw)
+        world.limit = 20000
+        lines += ["\n", topo_text(world) + "\n"] + drawn_log(draw, world)
+    for epoch in (256, 1000, 3000):
+        for latency in (1, 300, 1300):
+            world = World(3, 40000, latency, 256, [(0, 1), (1, 2)], [7, latency + 5], [], [], [])
+            lines += ["\n", topo_text(world) + "\n"] + full_log(draw, world, epoch)
+    return lines
+
+
 HEAD = """# Source: drawn, and answered, by bench/air_cases.py, a slow program from the rules of docs/AIR.md that shares no code with
 # the crates. Do not edit: it writes the same bytes again.
 #
@@ -436,6 +525,12 @@ STEPS = """# Lists of steps, and what comes of each.
 # asks NODE@CYCLE; steps: r NODE:CYCLE raises a clock, p NODE posts the next send, s NODE@CYCLE samples.
 # replay asks to what they lead: illegal PLACE, or state, the one of clocks, sent, record and samples (NODE@CYCLE:STATUS.BYTE.AGE).
 # then NODE@CYCLE asks what a sample is answered after them: waits NODE:CLOCK, quiet, byte BYTE.AGE or clash BYTE.
+
+"""
+
+LOGS = """# Records of sends that are posted to, cut and listened to, line by line.
+# {head}# The words are those of drawn_steps.txt; log ROOM begins a record with room for so many sends, push posts sends, cut CYCLE cuts the
+# record at a floor, listen NODE@CYCLE asks what a node hears of it, and kept whether it is the list behind record (state).
 
 """
 
@@ -463,10 +558,12 @@ def main(folder):
         world = drawn_world(draw)
         lines += ["\n", world_text(world)] + [drawn_state(draw, world) for _ in range(8)]
     write(f"{folder}/drawn_states.txt", STATES, lines)
+    write(f"{folder}/drawn_log.txt", LOGS, drawn_logs(draw))
 
 
 STEP_WORLDS = 320
 STATE_WORLDS = 80
+LOG_WORLDS = 60
 
 if __name__ == "__main__":
     main(sys.argv[1])

@@ -1,2 +1,3 @@
 pub mod ByNodes
+pub mod Reaches
 pub mod Worlds

@@ -1,7 +1,7 @@
 // A plain, slow program that says whether a state of the air is consistent, straight from the definition.
 ghost use Rattle.std.specs.Prelude.{◌≡◌, ◌↔◌, ◌<◌, ◌≤◌, length, take, IfOk, IsTrue};
 ghost use Rattle.std.specs.List.{All, Contains, filter};
-ghost use Rattle.world_core.specs.Topology.{IsInside};
+ghost use Rattle.world_core.specs.Topology.{IsInside, reach};
 ghost use Rattle.world_core.specs.Sends.{sends_of, sends_below};
 ghost use Rattle.world_core.specs.Posted.{posted};
 ghost use Rattle.world_core.specs.Kept.{is_kept};
@@ -69,6 +69,23 @@ fn posted_of(alloc: Global, world: &ListWorld, sent: &[u64]) -> Result<Vec<Send>
     Ok(all)
 }
 
+// The greatest latency of all.
+#[tactic(auto, using(crate::proofs::Reaches::reach_most))]
+fn reach_of(topo: &Topo) -> u64
+    ensures value { result ≡ reach topo.now }
+    ensures most { result ≤ 65535 }
+{
+    topo.reach()
+}
+
+// Whether some node may hear the send from the cycle `floor` on.
+fn is_kept(topo: &Topo, floor: u64, send: &Send) -> bool
+    ensures { result ≡ is_kept topo.now floor send.now }
+{
+    let over = reach_of(topo) + topo.byte_time();
+    floor < over || floor - over < send.cycle
+}
+
 // Of the first `count` sends, those that are kept at the floor.
 fn kept_of(
     alloc: Global,
@@ -77,14 +94,12 @@ fn kept_of(
     sends: &[Send],
     count: usize,
 ) -> Result<Vec<Send>, AllocError>
-    requires inside { All (λ x. IsInside topo.now x.node x.cycle) sends.now }
-    requires count { count ≤ length sends.now }
+    requires { count ≤ length sends.now }
     ensures { IfOk result (λ v. v.items ≡ filter (is_kept topo.now floor) (take count sends.now)) }
 {
-    let after = topo.reach() + topo.byte_time();
     sends[..count]
         .iter()
-        .filter(|s| floor < s.cycle + after)
+        .filter(|s| is_kept(topo, floor, s))
         .copied()
         .collect(alloc)
 }
@@ -130,7 +145,7 @@ fn is_all_posted(world: &ListWorld, sent: &[u64], node: u8, cycle: u64) -> bool
     let topo = world.topo();
     for from in 0..topo.nodes() {
         if topo.needs(from, node, cycle) {
-            let last = cycle - topo.latency_of(from, node);
+            let last = cycle.saturating_sub(topo.latency_of(from, node));
             if count_below(world.sends(), from, last + 1) > sent[usize::from(from)] {
                 return false;
             }

@@ -95,11 +95,7 @@ fn of_reader(setting: &Setting, command: Command, numbers: &[u64]) -> Result<Ans
 }
 
 // The core after the steps, in the same world.
-fn replayed(
-    alloc: Global,
-    world: ListWorld,
-    steps: &[Step],
-) -> Result<Core<ListWorld>, ReplayFault>
+fn replayed(alloc: Global, world: ListWorld, steps: &[Step]) -> Result<Core<ListWorld>, ReplayFault>
     requires { IsShort world.topo }
     ensures { IfOk result (λ core. core.world ≡ world) }
 {

@@ -243,7 +243,7 @@ impl Setting {
 
     /// Sets what the section says, or answers false where it is a question or an answer.
     pub fn set(&mut self, alloc: Global, section: &Section) -> Result<bool, Fault> {
-        if section.command == Command::Topo {
+        if let Command::Topo = section.command {
             self.set_topo(alloc, section.numbers.as_slice())?;
             return Ok(true);
         }

@@ -3,7 +3,7 @@ use crate::fault::Fault;
 use std::alloc::Global;
 
 /// What a word of a case file says: how the numbers behind it are read, what is asked, or what the answer is to be.
-#[derive(Clone, Copy, PartialEq, Eq)]
+#[derive(Clone, Copy)]
 pub enum Command {
     /// Nodes, limit, latency and byte time of a topology; it has no links and no spans yet.
     Topo,
