@@ -563,7 +563,7 @@ def main(folder):
 
 STEP_WORLDS = 320
 STATE_WORLDS = 80
-LOG_WORLDS = 60
+LOG_WORLDS = 40
 
 if __name__ == "__main__":
     main(sys.argv[1])

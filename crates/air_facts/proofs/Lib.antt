@@ -1,3 +1,2 @@
 pub mod ByNodes
-pub mod Reaches
 pub mod Worlds

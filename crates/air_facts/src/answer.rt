@@ -26,9 +26,9 @@ pub enum Answer {
     Heard(Heard),
     /// The step at this place is the first that is not allowed.
     Illegal(u64),
-    /// The steps lead to the state that is given.
+    /// It is the state that is given, or the record.
     State,
-    /// The steps lead to another state.
+    /// It is another one.
     OtherState,
     /// The sample has to wait for this node, whose clock this is.
     Waits(u64, u64),

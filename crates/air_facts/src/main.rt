@@ -4,6 +4,7 @@
 
 mod answer;
 mod fault;
+mod logs;
 mod plain;
 mod questions;
 mod run;
@@ -15,7 +16,7 @@ use std::fs::Files;
 use std::process::ExitCode;
 use std::{fs, io};
 
-static FILES: [&str; 7] = [
+static FILES: [&str; 9] = [
     "topologies.txt",
     "heard.txt",
     "worlds.txt",
@@ -23,6 +24,8 @@ static FILES: [&str; 7] = [
     "drawn_steps.txt",
     "states.txt",
     "drawn_states.txt",
+    "log.txt",
+    "drawn_log.txt",
 ];
 
 // Asks all questions of a file. It gives the number of its cases, and `None` where one is not as the file says.

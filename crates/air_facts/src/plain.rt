@@ -1,7 +1,7 @@
 // A plain, slow program that says whether a state of the air is consistent, straight from the definition.
 ghost use Rattle.std.specs.Prelude.{◌≡◌, ◌↔◌, ◌<◌, ◌≤◌, length, take, IfOk, IsTrue};
 ghost use Rattle.std.specs.List.{All, Contains, filter};
-ghost use Rattle.world_core.specs.Topology.{IsInside, reach};
+ghost use Rattle.world_core.specs.Topology.{IsInside};
 ghost use Rattle.world_core.specs.Sends.{sends_of, sends_below};
 ghost use Rattle.world_core.specs.Posted.{posted};
 ghost use Rattle.world_core.specs.Kept.{is_kept};
@@ -69,20 +69,11 @@ fn posted_of(alloc: Global, world: &ListWorld, sent: &[u64]) -> Result<Vec<Send>
     Ok(all)
 }
 
-// The greatest latency of all.
-#[tactic(auto, using(crate::proofs::Reaches::reach_most))]
-fn reach_of(topo: &Topo) -> u64
-    ensures value { result ≡ reach topo.now }
-    ensures most { result ≤ 65535 }
-{
-    topo.reach()
-}
-
 // Whether some node may hear the send from the cycle `floor` on.
 fn is_kept(topo: &Topo, floor: u64, send: &Send) -> bool
     ensures { result ≡ is_kept topo.now floor send.now }
 {
-    let over = reach_of(topo) + topo.byte_time();
+    let over = topo.reach() + topo.byte_time();
     floor < over || floor - over < send.cycle
 }
 

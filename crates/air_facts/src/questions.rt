@@ -5,6 +5,7 @@ ghost use Rattle.world_core.specs.Topology.{IsShort};
 
 use crate::answer::Answer;
 use crate::fault::Fault;
+use crate::logs::listens;
 use crate::plain::{are_inside, is_consistent};
 use crate::setting::Setting;
 use crate::words::{Command, Section};
@@ -66,6 +67,15 @@ fn node_of(n: u64) -> Result<u8, Fault> {
     u8::try_from(n).map_err(|_| Fault::Unreadable)
 }
 
+// Whether the record of sends is the one that is given.
+fn is_record(setting: &Setting) -> Answer {
+    if setting.log.sends() == setting.record.as_slice() {
+        Answer::State
+    } else {
+        Answer::OtherState
+    }
+}
+
 // The answer of a reader of the topology, or of what is heard.
 fn of_reader(setting: &Setting, command: Command, numbers: &[u64]) -> Result<Answer, Fault> {
     let topo = setting.lawful_topo()?;
@@ -90,6 +100,8 @@ fn of_reader(setting: &Setting, command: Command, numbers: &[u64]) -> Result<Ans
             *cycle,
         ))),
         (Command::At, [node, cycle]) => hears(setting, node_of(*node)?, *cycle),
+        (Command::Listen, [node, cycle]) => listens(&setting.log, &topo, node_of(*node)?, *cycle),
+        (Command::Kept, []) => Ok(is_record(setting)),
         _ => Err(Fault::Unreadable),
     }
 }

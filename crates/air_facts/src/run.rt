@@ -34,7 +34,7 @@ fn run_line(alloc: Global, setting: &mut Setting, line: &str) -> Result<u32, Fau
 
 /// The number of cases in a file, all of which are as it says, or the first line, counted from 1, that is not.
 pub fn run_file(alloc: Global, text: &str) -> Result<u32, (u32, Fault)> {
-    let mut setting = Setting::new(alloc);
+    let mut setting = Setting::new(alloc).map_err(|fault| (0, fault))?;
     let mut number = 0u32;
     let mut count = 0u32;
     for line in text.lines() {

@@ -1,6 +1,8 @@
 // What the lines of a case file have set: a topology, a world, steps, and a state.
 use crate::fault::Fault;
+use crate::logs::push;
 use crate::words::{Command, Section};
+use send_log::SendLog;
 use std::alloc::Global;
 use sync_core::Step;
 use world_core::{Ask, Heard, Link, ListWorld, Send, Span, Topo, TopoFault, WorldFault};
@@ -23,7 +25,11 @@ pub struct Setting {
     pub floor: u64,
     pub record: Vec<Send>,
     pub samples: Vec<(Ask, Heard)>,
+    pub log: SendLog,
 }
+
+// The most sends that a record of a case file has room for.
+const MOST_ROOM: u64 = 10_000;
 
 fn links_of(alloc: Global, numbers: &[u64]) -> Result<Vec<Link>, Fault> {
     let mut links = Vec::new(alloc);
@@ -165,10 +171,15 @@ fn copy_of(alloc: Global, numbers: &[u64]) -> Result<Vec<u64>, Fault> {
     Ok(list)
 }
 
+fn new_log(alloc: Global, room: u64) -> Result<SendLog, Fault> {
+    SendLog::new(alloc, room.min(MOST_ROOM) as usize).map_err(|_| Fault::NoMemory)
+}
+
 impl Setting {
     /// Nothing is set: no nodes, and empty lists.
-    pub fn new(alloc: Global) -> Setting {
-        Setting {
+    pub fn new(alloc: Global) -> Result<Setting, Fault> {
+        let log = new_log(alloc, 0)?;
+        Ok(Setting {
             nodes: 0,
             limit: 0,
             latency: 0,
@@ -184,7 +195,8 @@ impl Setting {
             floor: 0,
             record: Vec::new(alloc),
             samples: Vec::new(alloc),
-        }
+            log,
+        })
     }
 
     // Sets the numbers of a topology that has no links and no spans yet.
@@ -241,6 +253,24 @@ impl Setting {
         }
     }
 
+    // Begins, lengthens or cuts the record of sends, or answers false where the section says nothing of it.
+    fn set_log(&mut self, alloc: Global, section: &Section) -> Result<bool, Fault> {
+        match (section.command, section.numbers.as_slice()) {
+            (Command::Log, [room]) => self.log = new_log(alloc, *room)?,
+            (Command::Push, numbers) => {
+                for numbers in numbers.chunks(3) {
+                    push(&mut self.log, send_of(numbers)?)?;
+                }
+            }
+            (Command::Cut, [floor]) => {
+                let topo = self.lawful_topo()?;
+                self.log.cut(&topo, *floor);
+            }
+            _ => return Ok(false),
+        }
+        Ok(true)
+    }
+
     /// Sets what the section says, or answers false where it is a question or an answer.
     pub fn set(&mut self, alloc: Global, section: &Section) -> Result<bool, Fault> {
         if let Command::Topo = section.command {
@@ -254,7 +284,10 @@ impl Setting {
         if self.set_list(alloc, section)? {
             return Ok(true);
         }
-        self.set_one(alloc, section)
+        if self.set_one(alloc, section)? {
+            return Ok(true);
+        }
+        self.set_log(alloc, section)
     }
 
     /// The topology of these numbers and lists, of all its links' latencies and spans.

@@ -37,6 +37,12 @@ pub enum Command {
     Record,
     /// The recorded samples of a state, each by its node and cycle, and the status, byte and age that it heard.
     Heard,
+    /// Begins a record of sends, with room for so many.
+    Log,
+    /// Posts sends to the record, each by its node, cycle and byte.
+    Push,
+    /// Cuts the record at a floor.
+    Cut,
     /// Asks whether these numbers are a topology: of `Topo::new`.
     IsNew,
     /// The same, of `Topo::with_latencies`.
@@ -61,6 +67,10 @@ pub enum Command {
     Replay,
     /// Asks what a sample is answered after the steps.
     Then,
+    /// Asks what a node hears in a cycle of the record of sends.
+    Listen,
+    /// Asks what the record of sends holds.
+    Kept,
     /// Asks whether the state is consistent.
     Consistent,
     /// The answer: it is accepted.
@@ -89,13 +99,13 @@ pub enum Command {
     Clash,
     /// The answer: the step at this place is the first that is not allowed.
     Illegal,
-    /// The answer: to the state that is given.
+    /// The answer: the state or the record that is given.
     State,
     /// The answer: the sample has to wait for this node, whose clock this is.
     Waits,
 }
 
-static NAMES: [(&str, Command); 44] = [
+static NAMES: [(&str, Command); 49] = [
     ("topo", Command::Topo),
     ("links", Command::Links),
     ("own", Command::Own),
@@ -112,6 +122,9 @@ static NAMES: [(&str, Command); 44] = [
     ("floor", Command::Floor),
     ("record", Command::Record),
     ("samples", Command::Heard),
+    ("log", Command::Log),
+    ("push", Command::Push),
+    ("cut", Command::Cut),
     ("new", Command::IsNew),
     ("with_latencies", Command::IsLatencies),
     ("with_spans", Command::IsSpans),
@@ -124,6 +137,8 @@ static NAMES: [(&str, Command); 44] = [
     ("at", Command::At),
     ("replay", Command::Replay),
     ("then", Command::Then),
+    ("listen", Command::Listen),
+    ("kept", Command::Kept),
     ("consistent", Command::Consistent),
     ("ok", Command::Ok),
     ("range", Command::Range),
