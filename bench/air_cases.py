@@ -182,12 +182,12 @@ def drawn_spans(draw, links, limit):
     return spans
 
 
-def drawn_topology(draw):
+def drawn_topology(draw, limit=None):
     nodes = draw.choice([2, 3, 3, 3, 4])
     latency, byte_time = draw.choice([1, 60, 150, 300, 500]), draw.choice([256, 257, 300, 400])
     pairs = [(k, j) for k in range(nodes) for j in range(nodes) if k != j]
     links = draw.sample(pairs, draw.randint(1, min(6, len(pairs))))
-    limit = draw.randint(900, 2000)
+    limit = limit or draw.randint(900, 2000)
     own = [draw.choice([1, 40, 150, 299, 301, 500, 700]) for _ in links] if draw.random() < 0.6 else []
     spans = drawn_spans(draw, links, limit) if draw.random() < 0.6 else []
     return World(nodes, limit, latency, byte_time, links, own, spans, [], [])
@@ -505,8 +505,7 @@ def full_log(draw, world, epoch):
 def drawn_logs(draw):
     lines = []
     for _ in range(LOG_WORLDS):
-        world = drawn_topology(draw)
-        world.limit = 20000
+        world = drawn_topology(draw, 6000)
         lines += ["\n", topo_text(world) + "\n"] + drawn_log(draw, world)
     for epoch in (256, 1000, 3000):
         for latency in (1, 300, 1300):
@@ -563,7 +562,7 @@ def main(folder):
 
 STEP_WORLDS = 320
 STATE_WORLDS = 80
-LOG_WORLDS = 40
+LOG_WORLDS = 60
 
 if __name__ == "__main__":
     main(sys.argv[1])

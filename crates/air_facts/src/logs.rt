@@ -1,30 +1,28 @@
 // A record of sends: what is posted and cut, and what a node hears of it.
-ghost use Rattle.std.specs.Prelude.{◌≡◌, ◌<◌, ◌↔◌, IsTrue};
+ghost use Rattle.std.specs.Prelude.{◌<◌, ◌↔◌, IsTrue};
 ghost use Rattle.std.specs.List.{All};
-ghost use Rattle.world_core.specs.Sends.{sends_of};
 
 use crate::answer::Answer;
 use crate::fault::Fault;
-use crate::plain::are_inside;
+use crate::plain::{are_inside, own};
 use send_log::SendLog;
+use std::alloc::Global;
 use world_core::{Send, Topo};
 
-// Whether the send lies above all sends of its node.
-fn is_later(sends: &[Send], send: &Send) -> bool
-    ensures { IsTrue result ↔ All (λ y. y.cycle < send.now.cycle) (sends_of send.now.node sends.now) }
+// Whether all these sends lie below a cycle.
+fn are_below(sends: &[Send], cycle: u64) -> bool
+    ensures { IsTrue result ↔ All (λ y. y.cycle < cycle) sends.now }
 {
-    sends
-        .iter()
-        .filter(|y| y.node == send.node)
-        .all(|y| y.cycle < send.cycle)
+    sends.iter().all(|y| y.cycle < cycle)
 }
 
 /// Posts a send; `Unreadable` where it may not come, or there is no room.
-pub fn push(log: &mut SendLog, send: Send) -> Result<(), Fault> {
+pub fn push(alloc: Global, log: &mut SendLog, send: Send) -> Result<(), Fault> {
     if send.node >= 64 || log.sends().len() >= log.room() {
         return Err(Fault::Unreadable);
     }
-    if !is_later(log.sends(), &send) {
+    let earlier = own(alloc, send.node, log.sends())?;
+    if !are_below(&earlier, send.cycle) {
         return Err(Fault::Unreadable);
     }
     log.push(send);

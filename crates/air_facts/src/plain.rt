@@ -11,8 +11,8 @@ ghost use Rattle.air_facts.specs.ByNode.{NodeAgrees, NodesPostedFor, SampleAgree
 use std::alloc::{AllocError, Global};
 use world_core::{Ask, Heard, ListWorld, Send, Topo, World, heard_of};
 
-// The sends of one node.
-fn own(alloc: Global, node: u8, sends: &[Send]) -> Result<Vec<Send>, AllocError>
+/// The sends of one node.
+pub fn own(alloc: Global, node: u8, sends: &[Send]) -> Result<Vec<Send>, AllocError>
     ensures { IfOk result (λ v. v.items ≡ sends_of node sends.now) }
 {
     sends

@@ -259,7 +259,7 @@ impl Setting {
             (Command::Log, [room]) => self.log = new_log(alloc, *room)?,
             (Command::Push, numbers) => {
                 for numbers in numbers.chunks(3) {
-                    push(&mut self.log, send_of(numbers)?)?;
+                    push(alloc, &mut self.log, send_of(numbers)?)?;
                 }
             }
             (Command::Cut, [floor]) => {
