@@ -455,7 +455,7 @@ def drawn_push(draw, world, log, last, now):
     pushed = []
     for _ in range(draw.choice([1, 1, 2, 8, 30])):
         k = draw.randrange(world.nodes)
-        cycle = last[k] + draw.choice([1, world.byte_time, world.byte_time + draw.randint(0, 99)])
+        cycle = last[k] + draw.choice([1, draw.randint(2, world.byte_time), world.byte_time + draw.randint(0, 99)])
         if cycle >= world.limit:
             break
         pushed.append(Send(k, cycle, draw.choice([1, 2, 4, 8, 16, 32, 64, 128, 0])))
