@@ -10,21 +10,37 @@ use world_core::{Ask, Heard, Link, ListWorld, Send, Span, Topo, TopoFault, World
 /// What is set, for the questions to come.
 #[derive(Drop)]
 pub struct Setting {
+    /// How many nodes there are.
     pub nodes: u8,
+    /// The cycle at which a run ends.
     pub limit: u64,
+    /// The topology's latency, in cycles.
     pub latency: u64,
+    /// The byte time, in cycles.
     pub byte_time: u64,
+    /// The links.
     pub links: Vec<Link>,
+    /// The links' own latencies, in cycles.
     pub own: Vec<u64>,
+    /// When links are open.
     pub spans: Vec<Span>,
+    /// The sends of a world.
     pub sends: Vec<Send>,
+    /// The samples of a world.
     pub asks: Vec<Ask>,
+    /// A list of steps.
     pub steps: Vec<Step>,
+    /// Of a state, each node's clock, in cycles.
     pub clocks: Vec<u64>,
+    /// Of a state, how many sends of each node are posted.
     pub sent: Vec<u64>,
+    /// Of a state, the cycle up to which it is cut.
     pub floor: u64,
+    /// Of a state or a record, the sends.
     pub record: Vec<Send>,
+    /// Of a state, the samples with what they heard.
     pub samples: Vec<(Ask, Heard)>,
+    /// A record of sends.
     pub log: SendLog,
 }
 

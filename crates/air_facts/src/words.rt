@@ -33,7 +33,7 @@ pub enum Command {
     Sent,
     /// The cycle up to which the record of a state is cut.
     Floor,
-    /// The recorded sends of a state.
+    /// The recorded sends of a state, or of a record of sends.
     Record,
     /// The recorded samples of a state, each by its node and cycle, and the status, byte and age that it heard.
     Heard,
