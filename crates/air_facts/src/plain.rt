@@ -1,17 +1,18 @@
 // A plain, slow program that says whether a state of the air is consistent, straight from the definition.
-ghost use Rattle.std.specs.Prelude.{◌≡◌, ◌↔◌, ◌<◌, length, IfOk, IsTrue};
-ghost use Rattle.std.specs.List.{All, Contains};
+ghost use Rattle.std.specs.Prelude.{◌≡◌, ◌↔◌, ◌<◌, ◌≤◌, length, take, IfOk, IsTrue};
+ghost use Rattle.std.specs.List.{All, Contains, filter};
 ghost use Rattle.world_core.specs.Topology.{IsInside};
 ghost use Rattle.world_core.specs.Sends.{sends_of, sends_below};
 ghost use Rattle.world_core.specs.Posted.{posted};
+ghost use Rattle.world_core.specs.Kept.{is_kept};
 ghost use Rattle.world_core.specs.Consistent.{IsConsistent};
-ghost use Rattle.world_core.specs.ByNode.{NodeAgrees, NodesPostedFor, SampleAgrees};
+ghost use Rattle.air_facts.specs.ByNode.{NodeAgrees, NodesPostedFor, SampleAgrees};
 
-use crate::{Ask, Heard, ListWorld, Send, Topo, World, heard_of};
 use std::alloc::{AllocError, Global};
+use world_core::{Ask, Heard, ListWorld, Send, Topo, World, heard_of};
 
-// The sends of one node.
-fn own(alloc: Global, node: u8, sends: &[Send]) -> Result<Vec<Send>, AllocError>
+/// The sends of one node.
+pub fn own(alloc: Global, node: u8, sends: &[Send]) -> Result<Vec<Send>, AllocError>
     ensures { IfOk result (λ v. v.items ≡ sends_of node sends.now) }
 {
     sends
@@ -22,7 +23,7 @@ fn own(alloc: Global, node: u8, sends: &[Send]) -> Result<Vec<Send>, AllocError>
 }
 
 // How many sends of one node lie below a cycle.
-#[tactic(auto, unfolding(crate::specs::Sends::sends_below))]
+#[tactic(auto, unfolding(world_core::specs::Sends::sends_below))]
 fn count_below(sends: &[Send], node: u8, cycle: u64) -> u64
     ensures { result ≡ sends_below sends.now node cycle }
 {
@@ -45,8 +46,8 @@ fn is_asked(asks: &[Ask], ask: &Ask) -> bool
     asks.contains(ask)
 }
 
-// Whether all sends lie inside the topology.
-fn are_inside(topo: &Topo, sends: &[Send]) -> bool
+/// Whether all sends lie inside the topology.
+pub fn are_inside(topo: &Topo, sends: &[Send]) -> bool
     ensures { IsTrue result ↔ All (λ x. IsInside topo.now x.node x.cycle) sends.now }
 {
     let nodes = topo.nodes();
@@ -68,17 +69,44 @@ fn posted_of(alloc: Global, world: &ListWorld, sent: &[u64]) -> Result<Vec<Send>
     Ok(all)
 }
 
+// Whether some node may hear the send from the cycle `floor` on.
+fn is_kept(topo: &Topo, floor: u64, send: &Send) -> bool
+    ensures { result ≡ is_kept topo.now floor send.now }
+{
+    let over = topo.reach() + topo.byte_time();
+    floor < over || floor - over < send.cycle
+}
+
+// Of the first `count` sends, those that are kept at the floor.
+fn kept_of(
+    alloc: Global,
+    topo: &Topo,
+    floor: u64,
+    sends: &[Send],
+    count: usize,
+) -> Result<Vec<Send>, AllocError>
+    requires { count ≤ length sends.now }
+    ensures { IfOk result (λ v. v.items ≡ filter (is_kept topo.now floor) (take count sends.now)) }
+{
+    sends[..count]
+        .iter()
+        .filter(|s| is_kept(topo, floor, s))
+        .copied()
+        .collect(alloc)
+}
+
 // Whether one node's clock, count and recorded sends agree with the world.
 fn node_agrees(
     alloc: Global,
     world: &ListWorld,
     clocks: &[u64],
     sent: &[u64],
+    floor: u64,
     sends: &[Send],
     node: u8,
 ) -> Result<bool, AllocError>
     requires { (node < length clocks.now) × (node < length sent.now) }
-    ensures { IfOk result (λ b. IsTrue b ↔ NodeAgrees world.now clocks.now sent.now sends.now node) }
+    ensures { IfOk result (λ b. IsTrue b ↔ NodeAgrees world.now floor clocks.now sent.now sends.now node) }
 {
     let clock = clocks[usize::from(node)];
     let count = sent[usize::from(node)];
@@ -93,7 +121,11 @@ fn node_agrees(
     if count > all.len() as u64 {
         return Ok(false);
     }
-    Ok(are_same(&recorded, &all[..count as usize]))
+    if count_below(world.sends(), node, floor) > count {
+        return Ok(false);
+    }
+    let kept = kept_of(alloc, world.topo(), floor, &all, count as usize)?;
+    Ok(are_same(&recorded, &kept))
 }
 
 // Whether all sends are posted that node `node` could hear in this cycle.
@@ -104,7 +136,7 @@ fn is_all_posted(world: &ListWorld, sent: &[u64], node: u8, cycle: u64) -> bool
     let topo = world.topo();
     for from in 0..topo.nodes() {
         if topo.needs(from, node, cycle) {
-            let last = cycle - topo.latency_of(from, node);
+            let last = cycle.saturating_sub(topo.latency_of(from, node));
             if count_below(world.sends(), from, last + 1) > sent[usize::from(from)] {
                 return false;
             }
@@ -114,28 +146,37 @@ fn is_all_posted(world: &ListWorld, sent: &[u64], node: u8, cycle: u64) -> bool
 }
 
 // Whether one sample is final, where `so_far` is what is posted.
-fn sample_agrees(world: &ListWorld, sent: &[u64], so_far: &[Send], ask: &Ask, heard: &Heard) -> bool
+fn sample_agrees(
+    world: &ListWorld,
+    floor: u64,
+    sent: &[u64],
+    so_far: &[Send],
+    ask: &Ask,
+    heard: &Heard,
+) -> bool
     requires sent { length sent.now ≡ world.now.topo.nodes }
     requires posted { so_far.now ≡ posted world.now sent.now }
-    ensures { IsTrue result ↔ SampleAgrees world.now sent.now (ask.now, heard.now) }
+    ensures { IsTrue result ↔ SampleAgrees world.now floor sent.now (ask.now, heard.now) }
 {
     let topo = world.topo();
-    is_asked(world.asks(), ask)
+    floor <= ask.cycle
+        && is_asked(world.asks(), ask)
         && *heard == heard_of(topo, world.sends(), ask.node, ask.cycle)
         && *heard == heard_of(topo, so_far, ask.node, ask.cycle)
         && is_all_posted(world, sent, ask.node, ask.cycle)
 }
 
-/// Whether these clocks, counts and records are consistent in this world.
+/// Whether these clocks, counts and records are consistent in this world, where the records are cut up to cycle `floor`.
 pub fn is_consistent(
     alloc: Global,
     world: &ListWorld,
     clocks: &[u64],
     sent: &[u64],
+    floor: u64,
     sends: &[Send],
     samples: &[(Ask, Heard)],
 ) -> Result<bool, AllocError>
-    ensures { IfOk result (λ b. IsTrue b ↔ IsConsistent record { world = world.now; clocks = clocks.now; sent = sent.now; sends = sends.now; samples = samples.now }) }
+    ensures { IfOk result (λ b. IsTrue b ↔ IsConsistent record { world = world.now; clocks = clocks.now; sent = sent.now; floor = floor; sends = sends.now; samples = samples.now }) }
 {
     let topo = world.topo();
     let nodes = topo.nodes();
@@ -146,13 +187,13 @@ pub fn is_consistent(
         return Ok(false);
     }
     for node in 0..nodes {
-        if !node_agrees(alloc, world, clocks, sent, sends, node)? {
+        if !node_agrees(alloc, world, clocks, sent, floor, sends, node)? {
             return Ok(false);
         }
     }
     let so_far = posted_of(alloc, world, sent)?;
     for (ask, heard) in samples {
-        if !sample_agrees(world, sent, &so_far, ask, heard) {
+        if !sample_agrees(world, floor, sent, &so_far, ask, heard) {
             return Ok(false);
         }
     }

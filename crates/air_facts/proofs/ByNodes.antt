@@ -16,7 +16,7 @@ use Rattle.world_core.specs.Posted.{sent_of, posted}
 use Rattle.world_core.specs.Kept.{is_kept}
 use Rattle.world_core.specs.Settled.{IsFinal}
 use Rattle.world_core.specs.Consistent.{AirState, IsConsistent, clock_of}
-use Rattle.world_core.specs.ByNode.{NodeAgrees, SampleAgrees}
+use Rattle.air_facts.specs.ByNode.{NodeAgrees, SampleAgrees}
 use Rattle.world_core.proofs.Counts.{none_past}
 use Rattle.world_core.proofs.Steps.{none_below, reached_in}
 

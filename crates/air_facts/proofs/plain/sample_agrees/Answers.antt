@@ -2,8 +2,8 @@ use Rattle.std.proofs.Common.{sym, subst}
 use Rattle.std.specs.List.{All}
 use Rattle.world_core.specs.declared.air.Send.{Send}
 use Rattle.world_core.specs.Topology.{Topology, IsInside}
-use Rattle.world_core.proofs.ByNodes.{posted_inside}
-use Rattle.world_core.proofs.plain.sample_agrees.Goals as goal
+use Rattle.air_facts.proofs.ByNodes.{posted_inside}
+use Rattle.air_facts.proofs.plain.sample_agrees.Goals as goal
 
 pub heard_of-requires-then-eq : goal.heard_of-requires-then-eq
 heard_of-requires-then-eq c =
