@@ -1,0 +1,4 @@
+pub mod Document
+pub mod Rules
+pub mod Faults
+pub mod Scenario
