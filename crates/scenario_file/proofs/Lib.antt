@@ -1,1 +1,5 @@
 pub mod Lists
+pub mod Numbers
+pub mod Scripts
+pub mod Spans
+pub mod Clean

@@ -2,3 +2,4 @@ pub mod Document
 pub mod Rules
 pub mod Faults
 pub mod Scenario
+pub mod Shown

@@ -2,7 +2,7 @@
 ghost use Rattle.std.specs.Prelude.{◌≡◌, option_map, map};
 ghost use Rattle.toml.specs.Data.{get_member};
 ghost use Rattle.toml.specs.View.{view, table_view};
-ghost use Rattle.scenario_file.specs.Document.{elements, has_key, number, number_at, text_at, pair_from, pair_in, pair_of, pair_or, pair_at};
+ghost use Rattle.scenario_file.specs.Document.{elements, has_key, members_of, number, number_at, text_at, pair_from, pair_in, pair_of, pair_or, pair_at};
 
 use toml::{Table, Value};
 
@@ -114,5 +114,35 @@ pub fn pair_at(table: &Table, key: &str) -> (u64, u64)
     match member(table, key) {
         Some(value) => pair_or_zeros(value),
         None => (0, 0),
+    }
+}
+
+/// The number at a key of a table, or the default.
+pub fn number_in(value: &Value, key: &str, default: u64) -> u64
+    ensures { result ≡ number_at key.now default (members_of (view value.now)) }
+{
+    match value.as_table() {
+        Some(table) => number_at(table, key, default),
+        None => default,
+    }
+}
+
+/// The text at a key of a table, or no text.
+pub fn text_in<'t>(value: &'t Value, key: &str) -> &'t str
+    ensures { result.now ≡ text_at key.now (members_of (view value.now)) }
+{
+    match value.as_table() {
+        Some(table) => text_at(table, key),
+        None => "",
+    }
+}
+
+/// The elements of the array at a key of a table; none where no array stands there.
+pub fn elements_in<'t>(value: &'t Value, key: &str) -> &'t [Value]
+    ensures { map view result.now ≡ elements key.now (members_of (view value.now)) }
+{
+    match value.as_table() {
+        Some(table) => elements(table, key),
+        None => &[],
     }
 }

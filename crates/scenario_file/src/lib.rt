@@ -5,9 +5,14 @@
 mod amounts;
 mod document;
 mod fault;
+mod faults;
+mod inputs;
 mod keys;
 mod kinds;
+mod links;
 mod ranges;
+mod text;
 mod unknown;
 
 pub use fault::ScenarioFault;
+pub use text::{ScenarioText, read};
