@@ -13,7 +13,7 @@ nil (x ∷ xs) = ap (λ t. x ∷ t) (nil xs)
 spans_end : (p q : ℕ) (ds : List Data) (d : Data) → p + length ds ≡ q → spans_from p (ds ++ d ∷ []) ≡ spans_from p ds ++ spans_at q d
 unfolding spans_from
 spans_end p q [] d e = let same : p ≡ q = omega (arith, e) in nil (spans_at p d) ∙ ap (λ (k : ℕ). spans_at k d) same
-spans_end p q (x ∷ ds) d e = ap (λ t. spans_at p x ++ t) (spans_end (p + 1) q ds d (omega (arith, e))) ∙ sym append_assoc
+spans_end p q (x ∷ ds) d e = ap (λ t. spans_at p x ++ t) (spans_end (p + 1) q ds d (omega (arith, e))) ∙ sym (append_assoc (spans_at p x) (spans_from (p + 1) ds) (spans_at q d))
 
 pub spans_more : {X : Type 0} (g : X → Data) (xs : List X) (i : ℕ) (d : X) → i < length xs → spans_from 0 (map g (take (i + 1) xs)) ≡ spans_from 0 (map g (take i xs)) ++ spans_at i (g (get_or xs i d))
 spans_more g xs i d h =
