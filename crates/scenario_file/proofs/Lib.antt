@@ -5,3 +5,4 @@ pub mod Spans
 pub mod LinkLists
 pub mod Clean
 pub mod Topologies
+pub mod Law

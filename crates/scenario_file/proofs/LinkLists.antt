@@ -67,14 +67,16 @@ twice_from (x ∷ xs) h = elim (cases_Bool (list_any (same_link x) xs)) [
 
 -- ---- the links that a topology takes
 pub keeps_from : (xs : List Link) → All (λ l. l.from ≢ l.to) xs → two_equal xs ≡ false → AllKeep IsNewLink xs
-keeps_from xs other h i d lt =
-    (other i d lt, λ has.
+keeps_from xs other h i d lt = (
+  other i d lt,
+  λ has.
       let k = has.0 in
       let size = length-take-le i xs (omega arith) in
       let below : k < i = let l = has.1 in omega (arith, l, size) in
       let l = get_or xs i d in
       let at : get_or xs k l ≡ l = sym (get_or-take i xs k l below) ∙ has.2 in
-      apart xs h k i d below lt (get_or_default xs k d l (omega arith) ∙ at))
+      apart xs h k i d below lt (get_or_default xs k d l (omega arith) ∙ at),
+)
 
 pub two_equal_not : (xs : List Link) → AllKeep IsNewLink xs → two_equal xs ≡ false
 two_equal_not xs keeps = elim (cases_Bool (two_equal xs)) [

@@ -165,13 +165,13 @@ unfolding all_in_range
 stands_in version nodes count ds some fits h = stands_all version nodes count 0 ds some (omega (arith, fits)) h
 
 -- ---- the topology
-record TopRow (version : Version) (ms : Members) : Type 0 where
-  cycles : at_key (fits 1 (most_cycles version)) (codes "cycles") ms ≡ true
-  latency : at_key (fits 1 65535) (codes "latency") ms ≡ true
-  byte_time : at_key (fits 256 4096) (codes "byte_time") ms ≡ true
-  window : has_window ms ≡ true
+pub record TopRow (version : Version) (ms : Members) : Type 0 where
+  pub cycles : at_key (fits 1 (most_cycles version)) (codes "cycles") ms ≡ true
+  pub latency : at_key (fits 1 65535) (codes "latency") ms ≡ true
+  pub byte_time : at_key (fits 256 4096) (codes "byte_time") ms ≡ true
+  pub window : has_window ms ≡ true
 
-top_row : (version : Version) (count : ℕ) (ms : Members) → has_ranges version count Top ms ≡ true → TopRow version ms
+pub top_row : (version : Version) (count : ℕ) (ms : Members) → has_ranges version count Top ms ≡ true → TopRow version ms
 top_row version count ms h =
     let p = and_parts (at_key (fits 1 3) (codes "version") ms && at_key (fits 1 (most_cycles version)) (codes "cycles") ms && at_key (fits 1 65535) (codes "latency") ms && at_key (fits 256 4096) (codes "byte_time") ms) (has_window ms) h in
     let q = and4 (at_key (fits 1 3) (codes "version") ms) (at_key (fits 1 (most_cycles version)) (codes "cycles") ms) (at_key (fits 1 65535) (codes "latency") ms) (at_key (fits 256 4096) (codes "byte_time") ms) p.0 in

@@ -60,7 +60,12 @@ fn bytes_in(alloc: Global, text: &str) -> Result<Vec<u8>, AllocError>
     }
 }
 
-fn script_of(alloc: Global, version: Version, count: u64, value: &Value) -> Result<Script, AllocError>
+fn script_of(
+    alloc: Global,
+    version: Version,
+    count: u64,
+    value: &Value,
+) -> Result<Script, AllocError>
     requires fits { on_table (has_ranges version count OfInput) (view value.now) ≡ true }
     requires few { amount_of OfInput (view value.now) ≤ 65536 }
     ensures { IfOk result (λ script. script ≡ script_of (view value.now)) }

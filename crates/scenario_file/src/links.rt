@@ -62,11 +62,7 @@ pub fn links_of(
 
 /// Whether two links are equal, in a document without an earlier fault. The topology tells: it takes the links, and nothing else
 /// can be wrong with it.
-pub fn any_twice_linked(
-    alloc: Global,
-    version: Version,
-    table: &Table,
-) -> Result<bool, AllocError>
+pub fn any_twice_linked(alloc: Global, version: Version, table: &Table) -> Result<bool, AllocError>
     requires version { version ≡ version_of (table_view table.now) }
     requires early { first_of (early_tests (table_view table.now)) ≡ None }
     ensures { IfOk result (λ twice. twice ≡ two_equal (map link_of (links (table_view table.now)))) }
@@ -80,11 +76,7 @@ pub fn any_twice_linked(
 }
 
 /// The latency of each link, its own or this one.
-pub fn latencies_of(
-    alloc: Global,
-    latency: u64,
-    values: &[Value],
-) -> Result<Vec<u64>, AllocError>
+pub fn latencies_of(alloc: Global, latency: u64, values: &[Value]) -> Result<Vec<u64>, AllocError>
     ensures { IfOk result (λ own. own.items ≡ map (latency_of latency) (map view values.now)) }
 {
     let mut own = Vec::new(alloc);

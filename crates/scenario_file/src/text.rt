@@ -71,6 +71,7 @@ fn topology_of(alloc: Global, table: &Table) -> Result<Topo, ScenarioFault>
 fn scenario(alloc: Global, table: &Table) -> Result<ScenarioText, ScenarioFault>
     requires { document_fault (table_view table.now) ≡ None }
     ensures ok { IfOk result (λ s. parts s ≡ parts_of (table_view table.now)) }
+    ensures lawful { IfOk result (λ s. IsScenario (parts s)) }
     ensures err { IfErr result (λ e. e ≡ ScenarioFault.NoMemory) }
 {
     let topo = topology_of(alloc, table)?;

@@ -12,7 +12,9 @@ use toml::{Table, Value};
 fn has_unknown_key(version: Version, keys: Keys, table: &Table) -> bool
     ensures { result ≡ has_unknown_key version keys (table_view table.now) }
 {
-    table.keys().any(|key| !is_known(version, keys, key.as_str()))
+    table
+        .keys()
+        .any(|key| !is_known(version, keys, key.as_str()))
 }
 
 fn is_stranger(version: Version, keys: Keys, value: &Value) -> bool
@@ -27,9 +29,7 @@ fn is_stranger(version: Version, keys: Keys, value: &Value) -> bool
 fn any_unknown_key(version: Version, keys: Keys, values: &[Value]) -> bool
     ensures { result ≡ any_unknown_key version keys (map view values.now) }
 {
-    values
-        .iter()
-        .any(|value| is_stranger(version, keys, value))
+    values.iter().any(|value| is_stranger(version, keys, value))
 }
 
 /// Whether some table has a key that it may not have.

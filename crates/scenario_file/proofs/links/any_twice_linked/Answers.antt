@@ -34,10 +34,10 @@ returns c =
           let law : IsTopology (topology (length (nodes ms)) 1 1 256 (map link_of (links ms)) [] []) = subst IsTopology shape (c.new.ensures.ok.0 ok).0 in
           rw w.result-is (sym (two_equal_not (map link_of (links ms)) law.links))
       | in-Err w ↦ elim (cases_Bool twice) [
-          | inl some ↦ rw w.result-is (sym some)
-          | inr none ↦
-              let law : IsTopology (topology c.node_count-count.result 1 1 256 c.in_ok-links.links.items [] []) = subst IsTopology (sym shape) (links_are ms (early ms c.requires.early) none) in
-              let ok : IsOk c.new.result = c.new.ensures.ok.1 (law, lit≤ tt) in
-              absurd (false≢true (rw w.in-Err.is at ok))
-        ]
+        | inl some ↦ rw w.result-is (sym some)
+        | inr none ↦
+            let law : IsTopology (topology c.node_count-count.result 1 1 256 c.in_ok-links.links.items [] []) = subst IsTopology (sym shape) (links_are ms (early ms c.requires.early) none) in
+            let ok : IsOk c.new.result = c.new.ensures.ok.1 (law, lit≤ tt) in
+            absurd (false≢true (rw w.in-Err.is at ok))
+      ]
     ]
