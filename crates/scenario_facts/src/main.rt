@@ -19,6 +19,7 @@ const MOST_BYTES: usize = 16_777_216;
 
 // The exit status where the words of the command line cannot be had, and where a file cannot be read or a line not be written.
 const NO_WORDS: u8 = 9;
+
 const CUT_SHORT: u8 = 8;
 
 // The words after the program's name.

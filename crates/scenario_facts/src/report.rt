@@ -94,7 +94,11 @@ fn write_link<R: Print>(rt: &R, topo: &Topo, link: &Link) -> io::Result<()> {
     let latency = topo.latency_of(from, to);
     print!(rt; "  link {from} to {to}: {latency} cycles, open ")?;
     for cycle in PROBES.iter() {
-        let sign = if topo.is_open(from, to, *cycle) { "1" } else { "0" };
+        let sign = if topo.is_open(from, to, *cycle) {
+            "1"
+        } else {
+            "0"
+        };
         print!(rt; "{sign}")?;
     }
     println!(rt; "")
@@ -107,7 +111,9 @@ fn write_scenario<R: Print>(rt: &R, text: &ScenarioText) -> io::Result<()> {
     let latency = topo.latency();
     let byte_time = topo.byte_time();
     let (from, until) = text.window;
-    println!(rt; "  {nodes} nodes, {limit} cycles, latency {latency}, byte time {byte_time}, window {from} to {until}")?;
+    println!(rt;
+        "  {nodes} nodes, {limit} cycles, latency {latency}, byte time {byte_time}, window {from} to {until}"
+    )?;
     for (node, image) in text.images.iter().enumerate() {
         if let Some(script) = text.scripts.get(node) {
             write_node(rt, node, image, script)?;
