@@ -1,8 +1,8 @@
 -- The topology of a document without a fault is one.
-use Rattle.std.proofs.Common.{◌≡◌, ◌≢◌, ℕ, zero, suc, ◌+◌, ◌-◌, ◌<◌, ◌≤◌, ◌==◌, ◌&&◌, nat_lt, nat_le, Bool, true, false, pos, negsuc, List, [], ◌∷◌, ◌++◌, length, map, sum, get_or, Option, Some, None, is_some, codes, refl, sym, ap, ◌∙◌, arith, lit≤}
+use Rattle.std.proofs.Common.{◌≡◌, ◌≢◌, ℕ, zero, suc, ◌+◌, ◌<◌, ◌≤◌, ◌==◌, ◌&&◌, nat_lt, nat_le, Bool, true, false, pos, negsuc, List, [], ◌∷◌, ◌++◌, length, map, sum, Option, Some, None, is_some, codes, refl, sym, ◌∙◌, arith, lit≤}
 use Rattle.std.specs.List.{All, AllPairs, list_all, list_any}
 use Rattle.std.specs.Option.{option_map_or}
-use Rattle.std.proofs.lemmas.Bool.{and_parts, false≢true}
+use Rattle.std.proofs.lemmas.Bool.{and_parts}
 use Rattle.std.proofs.lemmas.Bool.Decides.{nat_tests}
 use Rattle.std.proofs.lemmas.List.Kept.{AllPairs-cons}
 use Rattle.std.proofs.lemmas.List.{length-append}
@@ -11,9 +11,9 @@ use Rattle.std.proofs.lemmas.List.Sums.{sum_by-cons}
 use Rattle.toml.specs.Data.{Data, integer, array, table, Members, get_member}
 use Rattle.world_core.specs.declared.air.Link.{Link}
 use Rattle.world_core.specs.declared.air.Span.{Span}
-use Rattle.world_core.specs.Topology.{Topology, topology, HasRanges, IsTopology, IsSpan, IsSpanOrder}
+use Rattle.world_core.specs.Topology.{topology, IsTopology, IsSpan, IsSpanOrder}
 use Rattle.scenario_file.specs.Document.{on_table, on_array, at_key, array_elements, values_in, elements, members_of, is_whole, number_of, number_at, pair_of, pair_or}
-use Rattle.scenario_file.specs.Rules.{version_of, most_cycles, fits, is_node, is_span_behind, end_of, are_spans_behind, are_spans, has_top_ranges, has_window, has_ranges}
+use Rattle.scenario_file.specs.Rules.{version_of, most_cycles, fits, is_node, is_span_behind, end_of, are_spans_behind, are_spans, has_window, has_ranges}
 use Rattle.scenario_file.specs.Faults.{nodes, links, link_of, two_equal, goes_to_itself, any_self_link, all_in_range, amount_of, is_few}
 use Rattle.scenario_file.specs.Scenario.{latency_of, span_of, spans_at, spans_from, topology_of}
 use Rattle.scenario_file.specs.declared.keys.Keys.TheVariants.{Top, OfLink}

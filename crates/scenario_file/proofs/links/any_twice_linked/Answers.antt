@@ -1,12 +1,9 @@
-use Rattle.std.proofs.Common.{◌≡◌, length, lit≤, List, [], Bool, true, false, IfOk, IsOk, map, Ok, codes, arith, refl, inl, inr, sym, ap, subst, ◌∙◌}
+use Rattle.std.proofs.Common.{◌≡◌, length, lit≤, [], IsOk, map, arith, refl, inl, inr, sym, ap, subst, ◌∙◌}
 use Rattle.std.proofs.lemmas.Bool.{cases_Bool, false≢true}
-use Rattle.toml.specs.View.{view, table_view}
-use Rattle.world_core.specs.declared.air.Link.{Link}
-use Rattle.world_core.specs.Topology.{Topology, topology, IsTopology}
-use Rattle.scenario_file.specs.Rules.{version_of}
-use Rattle.scenario_file.specs.Faults.{nodes, links, link_of, two_equal, all_in_range}
-use Rattle.scenario_file.specs.declared.keys.Keys.TheVariants.{OfLink}
-use Rattle.scenario_file.proofs.Clean.{Early, early}
+use Rattle.toml.specs.View.{table_view}
+use Rattle.world_core.specs.Topology.{topology, IsTopology}
+use Rattle.scenario_file.specs.Faults.{nodes, links, link_of, two_equal}
+use Rattle.scenario_file.proofs.Clean.{early}
 use Rattle.scenario_file.proofs.LinkLists.{two_equal_not}
 use Rattle.scenario_file.proofs.Topologies.{links_are}
 use Rattle.scenario_file.proofs.links.any_twice_linked.Goals as goal

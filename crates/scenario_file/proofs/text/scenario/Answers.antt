@@ -1,8 +1,8 @@
-use Rattle.std.proofs.Common.{◌≡◌, map, codes, sym, ap, subst, ◌∙◌}
+use Rattle.std.proofs.Common.{◌≡◌, map, sym, ap, subst, ◌∙◌}
 use Rattle.toml.specs.View.{table_view}
-use Rattle.scenario_file.specs.Faults.{nodes, inputs}
+use Rattle.scenario_file.specs.Faults.{nodes}
 use Rattle.scenario_file.specs.Scenario.{ScenarioParts, image_of, scripts_below, parts_of, IsScenario}
-use Rattle.scenario_file.proofs.Clean.{Clean, clean}
+use Rattle.scenario_file.proofs.Clean.{clean}
 use Rattle.scenario_file.proofs.Law.{scenario_law}
 use Rattle.scenario_file.proofs.text.scenario.Goals as goal
 

@@ -1,14 +1,12 @@
-use Rattle.std.proofs.Common.{◌≡◌, ◌<◌, ◌≤◌, length, map, codes, List, IsOk, false, sym, ap, subst, ◌∙◌, arith}
-use Rattle.std.specs.List.{All}
+use Rattle.std.proofs.Common.{◌≡◌, length, map, codes, IsOk, sym, ap, subst, ◌∙◌, arith}
 use Rattle.std.proofs.lemmas.Bool.{false≢true}
 use Rattle.toml.specs.View.{view, table_view}
-use Rattle.world_core.specs.declared.air.Link.{Link}
 use Rattle.world_core.specs.Topology.{topology, IsTopology}
 use Rattle.scenario_file.specs.Document.{number_at}
 use Rattle.scenario_file.specs.Rules.{version_of}
 use Rattle.scenario_file.specs.Faults.{nodes, links, link_of}
 use Rattle.scenario_file.specs.Scenario.{latency_of, spans_from, topology_of}
-use Rattle.scenario_file.proofs.Clean.{Clean, clean}
+use Rattle.scenario_file.proofs.Clean.{clean}
 use Rattle.scenario_file.proofs.Lists.{length_map}
 use Rattle.scenario_file.proofs.LinkLists.{few_links}
 use Rattle.scenario_file.proofs.Topologies.{link_ends, topology_is}
