@@ -15,6 +15,3 @@ pub use products::{MulKind, mul};
 pub use shifts::{asr, lsr, ror};
 pub use sums::{add, inc, logic};
 pub use words::{adiw, sbiw};
-
-#[cfg(test)]
-mod tests;

@@ -10,6 +10,3 @@ mod op;
 pub use classify::class;
 pub use decoding::{decode, one_row_at_most, width};
 pub use op::{Class, Op};
-
-#[cfg(test)]
-mod tests;

@@ -9,7 +9,7 @@ use avr_base::{Reg, StopCause};
 /// number and an `s` a flag number, 0 to 7. A `q` is a displacement in bytes, 0 to 63. A signed `k` is an offset in
 /// words, and a `k` of 16 bits the instruction's second word: a data address in bytes, or of JMP and CALL a program
 /// address in words.
-#[derive(Clone, Copy, Debug, PartialEq, Eq)]
+#[derive(Clone, Copy)]
 pub enum Op {
     /// Does nothing.
     Nop,

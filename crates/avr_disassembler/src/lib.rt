@@ -5,6 +5,3 @@ mod parts;
 mod show;
 
 pub use show::{line, put_text, text};
-
-#[cfg(test)]
-mod tests;

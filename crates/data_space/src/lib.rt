@@ -12,6 +12,3 @@ pub use access::{load, pop, push, store};
 pub use bus::{Bus, Done};
 pub use cpu::Cpu;
 pub use sram::Sram;
-
-#[cfg(test)]
-mod tests;

@@ -6,6 +6,3 @@ mod execute;
 mod jumps;
 
 pub use execute::exec;
-
-#[cfg(test)]
-mod tests;

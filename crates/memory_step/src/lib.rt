@@ -7,6 +7,3 @@ mod execute;
 mod flash;
 
 pub use execute::exec;
-
-#[cfg(test)]
-mod tests;

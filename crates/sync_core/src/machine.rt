@@ -1,8 +1,9 @@
 // The state machine.
 use crate::behind::first_behind;
+use send_log::SendLog;
 use std::alloc::Global;
 use std::marker::Model;
-use world_core::{Ask, Heard, NoMemory, Sampled, Send, World, heard_of};
+use world_core::{Ask, Heard, NoMemory, Sampled, Send, World};
 
 /// The clocks of all nodes, the numbers of their posted sends, and the record of sends and samples, in one world.
 /// They are consistent at every moment: each recorded sample is what all sends of the world give, and no send that is
@@ -12,20 +13,20 @@ pub struct Core<W: World> {
     world: W,
     clocks: Vec<u64>,
     sent: Vec<u64>,
-    sends: Vec<Send>,
+    log: SendLog,
     samples: Vec<(Ask, Heard)>,
 }
 
 impl<W: World> Model for Core<W> {
-    ghost use Rattle.std.specs.Prelude.{◌≤◌, vec_capacity};
+    ghost use Rattle.std.specs.Prelude.{◌≤◌};
     ghost use Rattle.world_core.specs.Consistent.{AirState, IsConsistent};
     ghost use Rattle.world_core.specs.Settled.{room_of};
 
     ghost Value = { AirState };
 
-    ghost view = { λ c. record { world = W.facts c.world; clocks = c.clocks.items; sent = c.sent.items; floor = 0; sends = c.sends.items; samples = c.samples.items } };
+    ghost view = { λ c. record { world = W.facts c.world; clocks = c.clocks.items; sent = c.sent.items; floor = 0; sends = c.log.sends; samples = c.samples.items } };
 
-    ghost invariant = { λ c. IsConsistent record { world = W.facts c.world; clocks = c.clocks.items; sent = c.sent.items; floor = 0; sends = c.sends.items; samples = c.samples.items } × (room_of (W.facts c.world).topo ≤ vec_capacity c.sends) };
+    ghost invariant = { λ c. IsConsistent record { world = W.facts c.world; clocks = c.clocks.items; sent = c.sent.items; floor = 0; sends = c.log.sends; samples = c.samples.items } × (room_of (W.facts c.world).topo ≤ c.log.room) };
 }
 
 impl<W: World> Core<W> {
@@ -55,7 +56,7 @@ impl<W: World> Core<W> {
         Ok(Core {
             clocks: vec![in alloc; 0; nodes]?,
             sent: vec![in alloc; 0; nodes]?,
-            sends: Vec::with_capacity(alloc, room)?,
+            log: SendLog::new(alloc, room)?,
             samples: Vec::new(alloc),
             world,
         })
@@ -84,7 +85,7 @@ impl<W: World> Core<W> {
         ensures step { self.new ≡ after_post self.old send.node }
         ensures consistent { IsConsistent self.new }
     {
-        self.sends.push_reserved(send);
+        self.log.push(send);
         self.sent[usize::from(send.node)] += 1;
     }
 
@@ -104,7 +105,7 @@ impl<W: World> Core<W> {
                 clock: self.clocks[usize::from(behind)],
             };
         }
-        let heard = heard_of(topo, &self.sends, node, cycle);
+        let heard = self.log.heard(topo, node, cycle);
         match self.samples.push((Ask { node, cycle }, heard)) {
             Ok(()) => Sampled::Heard(heard),
             Err(_) => Sampled::NoMemory,
@@ -132,7 +133,7 @@ impl<W: World> Core<W> {
         ensures value { result.now ≡ self.now.sends }
         ensures consistent { IsConsistent self.now }
     {
-        &self.sends
+        self.log.sends()
     }
 
     /// The recorded samples, in the order in which they were taken. Each is what all sends of the world give, and whatever

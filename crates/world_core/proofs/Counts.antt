@@ -35,11 +35,11 @@ only_take m zero l o = tt
 only_take m (suc n) [] o = tt
 only_take m (suc n) (x ∷ xs) o = (o.0, only_take m n xs o.1)
 
-all_own : (m : ℕ) (l : List Send) → Only m l → sends_of m l ≡ l
+pub all_own : (m : ℕ) (l : List Send) → Only m l → sends_of m l ≡ l
 all_own m [] o = refl
 all_own m (x ∷ xs) o = ap (λ (b : Bool). cond b (x ∷ sends_of m xs) (sends_of m xs)) (test x.node m o.0) ∙ ap (λ (l : List Send). x ∷ l) (all_own m xs o.1)
 
-no_other : (k m : ℕ) (l : List Send) → k ≢ m → Only m l → sends_of k l ≡ []
+pub no_other : (k m : ℕ) (l : List Send) → k ≢ m → Only m l → sends_of k l ≡ []
 no_other k m [] n o = refl
 no_other k m (x ∷ xs) n o = ap (λ (b : Bool). cond b (x ∷ sends_of k xs) (sends_of k xs)) (untest x.node k (λ e. n (sym e ∙ o.0))) ∙ no_other k m xs n o.1
 

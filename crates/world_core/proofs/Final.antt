@@ -1,14 +1,14 @@
 -- A sample that is reached hears what the world gives it, however many sends come later.
 use Rattle.std.proofs.Common.{◌≡◌, ℕ, zero, suc, ◌+◌, ◌-◌, ◌≤◌, Bool, true, false, cond, ◌&&◌, ◌==◌, List, [], ◌∷◌, ◌++◌, length, take, drop, refl, sym, subst, ◌∙◌, ap, arith, get_or, append-nil, take-append-drop}
-use Rattle.std.specs.Prelude.{nat_le, nat_lt, not, ◌||◌}
-use Rattle.std.specs.List.{filter, list_any}
+use Rattle.std.specs.Prelude.{nat_le, nat_lt, not, ◌||◌, slice_index_or}
+use Rattle.std.specs.List.{All, filter, list_any}
 use Rattle.std.proofs.lemmas.List.Elements.{filter-append}
 use Rattle.std.proofs.lemmas.List.Folds.{Any-from_list_any, list_any-from_Any}
 use Rattle.std.proofs.lemmas.Bool.Decides.{nat_tests}
 use Rattle.world_core.specs.declared.air.Send.{Send}
 use Rattle.world_core.specs.declared.air.Span.{Span}
 use Rattle.world_core.specs.declared.world.WorldFacts.{WorldFacts}
-use Rattle.world_core.specs.Topology.{Topology, is_linked, is_open, is_open_in, is_in_time, is_reached_in, is_needed, latency_of, place_in, greatest, reach, has_span}
+use Rattle.world_core.specs.Topology.{Topology, IsTopology, is_linked, is_open, is_open_in, is_in_time, is_reached_in, is_needed, latency_of, place_in, greatest, reach, has_span}
 use Rattle.world_core.specs.Heard.{is_audible, age_of, heard}
 use Rattle.world_core.specs.Sends.{sends_of, sends_below}
 use Rattle.world_core.specs.Posted.{sent_of, AllPostedFor, IsWhole}
@@ -134,6 +134,15 @@ greatest_at : (xs : List ℕ) (i n : ℕ) → get_or xs i n ≤ greatest xs n
 greatest_at [] i n = omega arith
 greatest_at (x ∷ xs) zero n = omega arith
 greatest_at (x ∷ xs) (suc i) n = let a = greatest_at xs i n in omega arith
+
+number_from : (xs : List ℕ) (p n : ℕ) → All (λ m. (1 ≤ m) × (m ≤ 65535)) xs → 1 ≤ n → 1 ≤ slice_index_or xs p n
+number_from [] p n all h = h
+number_from (x ∷ xs) zero n all h = (all 0 x (omega arith)).0
+number_from (x ∷ xs) (suc p) n all h = number_from xs p n (λ i d lt. all (suc i) d (omega arith)) h
+
+-- each latency is at least 1, so that nothing is heard in the cycle in which it is sent
+pub latency_from : (t : Topology) (k j : ℕ) → IsTopology t → 1 ≤ latency_of t k j
+latency_from t k j law = number_from t.own (place_in t.links k j) t.latency law.ranges.own_in law.ranges.latency_from
 
 pub latency-le-reach : (t : Topology) (k j : ℕ) → latency_of t k j ≤ reach t
 latency-le-reach t k j = greatest_at t.own (place_in t.links k j) t.latency

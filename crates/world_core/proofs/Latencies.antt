@@ -15,6 +15,14 @@ greatest_push (x ∷ xs) y n = let a = greatest_push xs y n in omega arith
 pub greatest_more : (xs : List ℕ) (i n most : ℕ) → i < length xs → most ≡ greatest (take i xs) n → greatest (take (i + 1) xs) n ≡ max most (get_or xs i 0)
 greatest_more xs i n most lt e = ap (λ (l : List ℕ). greatest l n) (take_more xs i 0 lt) ∙ greatest_push (take i xs) (get_or xs i 0) n ∙ ap (λ (m : ℕ). max m (get_or xs i 0)) (sym e)
 
+-- the greatest of numbers in a range lies in it
+pub greatest_in : (xs : List ℕ) (n a b : ℕ) → All (λ m. (a ≤ m) × (m ≤ b)) xs → a ≤ n → n ≤ b → (a ≤ greatest xs n) × (greatest xs n ≤ b)
+greatest_in [] n a b all f t = (f, t)
+greatest_in (x ∷ xs) n a b all f t =
+    let h = greatest_in xs n a b (λ i d lt. all (suc i) d (omega arith)) f t in
+    let low = h.0 in let high = h.1 in let g = all 0 x (omega arith) in let l = g.0 in let m = g.1 in
+    (omega arith, omega arith)
+
 abbrev pub joins : ℕ → ℕ → Link → Bool
 joins k j l = (l.from == k) && (l.to == j)
 

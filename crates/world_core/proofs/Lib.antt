@@ -1,5 +1,6 @@
 pub mod QuietCycles
 pub mod LinkRows
+pub mod NeighbourRows
 pub mod FirstFaults
 pub mod Links
 pub mod Latencies

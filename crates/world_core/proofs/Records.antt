@@ -1,10 +1,10 @@
 -- A post and a sample keep the record.
-use Rattle.std.proofs.Common.{◌≡◌, ℕ, zero, suc, ◌+◌, ◌<◌, List, [], ◌∷◌, ◌++◌, length, get_or, set, take, replicate, refl, sym, ◌∙◌, ap, arith, ◌≤◌, ◌==◌, Bool, true, false, length-set, length-append}
+use Rattle.std.proofs.Common.{◌≡◌, ℕ, zero, suc, ◌+◌, ◌<◌, List, [], ◌∷◌, ◌++◌, length, get_or, set, take, replicate, refl, sym, subst, ◌∙◌, ap, arith, ◌≤◌, ◌==◌, Bool, true, false, length-set, length-append}
 use Rattle.std.specs.List.{All, Contains, filter}
 use Rattle.std.specs.Prelude.{nat_le, nat_lt}
 use Rattle.std.proofs.lemmas.List.Elements.{All-push, All-filter, filter_passes}
 use Rattle.std.proofs.lemmas.Bool.Decides.{nat_tests}
-use Rattle.std.proofs.lemmas.List.{length-replicate}
+use Rattle.std.proofs.lemmas.List.{length-replicate, length-take-le, get_or-take, get_or_default}
 use Rattle.std.proofs.Math.Nat.{div-le_self}
 use Rattle.world_core.specs.declared.air.Send.{Send}
 use Rattle.world_core.specs.declared.air.Ask.{Ask}
@@ -65,6 +65,22 @@ record_room w floor sent sends samples x law i may =
     let p = record_posted w floor sent sends samples x law i may in
     let r = room w floor (set sent x.node (sent_of sent x.node + 1)) (sends ++ x ∷ []) law p.posted p.inside in
     omega (arith, length-append sends (x ∷ []))
+
+-- it lies above the recorded sends of its node
+after_at : (w : WorldFacts) (n : ℕ) (x : Send) → IsLawful w → IsSendNumber w n x → All (λ y. y.cycle < x.cycle) (take n (sends_of x.node w.sends))
+after_at w n x law may i d lt =
+    let l = sends_of x.node w.sends in
+    let few = length-take-le n l (let h = may.0 in omega arith) in
+    let h = law.sends_apart x.node i n d (omega arith) may.0 in
+    let e = ap (λ (y : Send). y.cycle) (get_or_default l n d x may.0 ∙ may.1) in
+    let g = ap (λ (y : Send). y.cycle) (get_or-take n l i d (omega arith)) in
+    let pos = law.topo.ranges.byte_from in
+    omega arith
+
+pub record_after : (w : WorldFacts) (floor : ℕ) (sent : List ℕ) (sends : List Send) (samples : List (Ask × Heard)) (x : Send) → IsLawful w → IsRecorded w floor sent sends samples → IsSendNumber w (sent_of sent x.node) x
+    → All (λ y. y.cycle < x.cycle) (sends_of x.node sends)
+record_after w floor sent sends samples x law i may =
+    subst (All (λ y. y.cycle < x.cycle)) (sym (i.posted x.node)) (All-filter (is_kept w.topo floor) (λ y. y.cycle < x.cycle) (take (sent_of sent x.node) (sends_of x.node w.sends)) (after_at w (sent_of sent x.node) x law may))
 
 -- a node's sends are few
 pub few_sends : (w : WorldFacts) (k : ℕ) → IsLawful w → length (sends_of k w.sends) < 18446744073709551616

@@ -5,6 +5,7 @@ pub mod FirstFault
 pub mod Topology
 pub mod SpanSearch
 pub mod LinkTable
+pub mod NeighbourTable
 pub mod Heard
 pub mod HeardMore
 pub mod Sends

@@ -5,6 +5,7 @@ use Rattle.world_core.specs.declared.air.Link.{Link}
 use Rattle.world_core.specs.declared.air.Span.{Span}
 use Rattle.world_core.specs.declared.faults.TopoFault.{TopoFault}
 use Rattle.world_core.specs.declared.faults.TopoFault.TheVariants.{Range, SelfLink, TwiceLinked}
+use Rattle.world_core.specs.Each.{each_below}
 use Rattle.world_core.specs.FirstFault.{AllKeep, IsFirstFault}
 
 pub record Topology : Type 0 where
@@ -88,6 +89,10 @@ IsInside t node cycle = (node < t.nodes) × (cycle < t.limit)
 -- node `to` hears node `from`
 abbrev pub is_linked : Topology → ℕ → ℕ → Bool
 is_linked t from to = list_any (λ l. (l.from == from) && (l.to == to)) t.links
+
+-- the numbers of the nodes that node j hears, from the lowest on
+abbrev pub neighbours : Topology → ℕ → List ℕ
+neighbours t j = each_below t.nodes (λ k. if is_linked t k j then k ∷ [] else [])
 
 -- the place of the link from node k to node j, and where there is none the count of the links
 abbrev pub place_in : List Link → ℕ → ℕ → ℕ

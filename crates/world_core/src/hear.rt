@@ -7,24 +7,6 @@ ghost use Rattle.world_core.specs.HeardMore.{heard_with};
 
 use crate::{Heard, Send, Topo};
 
-// What is heard with one send more, of that age in steps of 16 cycles.
-fn with(so_far: Heard, send: &Send, age: u64) -> Heard
-    ensures { result ≡ heard_with (λ _. age) so_far send.now }
-{
-    if so_far.status == 0 {
-        return Heard {
-            status: 1,
-            byte: send.byte,
-            age: if age < 255 { age as u8 } else { 255 },
-        };
-    }
-    Heard {
-        status: 2,
-        byte: so_far.byte | send.byte,
-        age: 0,
-    }
-}
-
 // Whether the node hears the send in this cycle.
 fn hears(topo: &Topo, send: &Send, node: u8, cycle: u64) -> bool
     requires { send.now.cycle < topo.now.limit }
@@ -47,6 +29,25 @@ fn age(topo: &Topo, send: &Send, node: u8, cycle: u64) -> u64
         / 16
 }
 
+/// What node `node` hears in this cycle with one audible send more: the byte with its age, or a clash with what is heard so far.
+pub fn heard_with(topo: &Topo, so_far: Heard, send: &Send, node: u8, cycle: u64) -> Heard
+    ensures { result ≡ heard_with (age_of topo.now node cycle) so_far send.now }
+{
+    if so_far.status == 0 {
+        let age = age(topo, send, node, cycle);
+        return Heard {
+            status: 1,
+            byte: send.byte,
+            age: if age < 255 { age as u8 } else { 255 },
+        };
+    }
+    Heard {
+        status: 2,
+        byte: so_far.byte | send.byte,
+        age: 0,
+    }
+}
+
 /// What node `node` hears in this cycle of these sends, in any order: nothing, or one byte with its age, or a clash.
 /// A send of a node that it hears is audible from the latency on, for the byte time. It takes no memory.
 pub fn heard_of(topo: &Topo, sends: &[Send], node: u8, cycle: u64) -> Heard
@@ -60,7 +61,7 @@ pub fn heard_of(topo: &Topo, sends: &[Send], node: u8, cycle: u64) -> Heard
     };
     for send in sends {
         if hears(topo, send, node, cycle) {
-            so_far = with(so_far, send, age(topo, send, node, cycle));
+            so_far = heard_with(topo, so_far, send, node, cycle);
         }
     }
     so_far

@@ -8,14 +8,15 @@ mod hear;
 mod kept;
 mod laws;
 mod link_table;
+mod neighbours;
 mod spans;
 mod topo;
 mod world;
 
 pub use air::{Ask, Heard, Link, Sampled, Send, Span};
 pub use faults::{NoMemory, TopoFault, WorldFault};
-pub use hear::heard_of;
-pub use kept::{cut_law, kept_law, needed_law, part_law, room_law};
+pub use hear::{heard_of, heard_with};
+pub use kept::{EPOCH, cut_law, kept_law, needed_law, part_law, room_law};
 pub use topo::Topo;
 pub use world::{ListWorld, World, WorldFacts};
 

@@ -6,6 +6,7 @@ ghost use Rattle.world_core.specs.Topology.{topology, HasRanges, IsNewLink, IsLi
 ghost use Rattle.world_core.specs.LinkTable.{IsTableOf};
 
 use crate::link_table::LinkTable;
+use crate::neighbours::NeighbourTable;
 use crate::spans::{is_open_at, is_reached};
 use crate::{Link, NoMemory, Span, TopoFault};
 use std::marker::Model;
@@ -23,17 +24,20 @@ pub struct Topo {
     own: Vec<u64>,
     spans: Vec<Span>,
     table: LinkTable,
+    // the nodes that each node hears, of `table`
+    neighbours: NeighbourTable,
 }
 
 impl Model for Topo {
     ghost use Rattle.world_core.specs.Topology.{Topology, topology, IsTopology};
     ghost use Rattle.world_core.specs.LinkTable.{IsTableOf};
+    ghost use Rattle.world_core.specs.NeighbourTable.{AreEntered};
 
     ghost Value = { Topology };
 
     ghost view = { λ t. topology t.nodes t.limit t.latency t.byte_time t.links.items t.own.items t.spans.items };
 
-    ghost invariant = { λ t. IsTopology (topology t.nodes t.limit t.latency t.byte_time t.links.items t.own.items t.spans.items) × IsTableOf t.links.items t.table.rows };
+    ghost invariant = { λ t. IsTopology (topology t.nodes t.limit t.latency t.byte_time t.links.items t.own.items t.spans.items) × IsTableOf t.links.items t.table.rows × AreEntered t.table.rows t.nodes 64 t.neighbours.rows };
 }
 
 // Whether each link ends at nodes that there are.
@@ -168,7 +172,7 @@ fn greatest(own: &[u64], least: u64) -> u64
 
 impl Topo {
     ghost use Rattle.std.specs.Prelude.{◌≡◌, ◌↔◌, ◌≤◌, [], IfOk, IfErr, IsOk, IsTrue};
-    ghost use Rattle.world_core.specs.Topology.{topology, is_linked, is_needed, is_open, latency_of, place_in, reach, IsTopology, IsTopoFault, IsShortFault};
+    ghost use Rattle.world_core.specs.Topology.{topology, is_linked, is_needed, is_open, latency_of, neighbours, place_in, reach, IsTopology, IsTopoFault, IsShortFault};
 
     /// The topology of these numbers: `limit`, `latency` and `byte_time` in cycles, the limit at most 10,000,000. Each link has the
     /// topology's latency and is always open. It takes no memory.
@@ -241,6 +245,7 @@ impl Topo {
                 links,
                 own,
                 spans,
+                neighbours: NeighbourTable::of(&table, nodes),
                 table,
             }),
             Err(fault) => Err(fault),
@@ -263,6 +268,7 @@ impl Topo {
             own,
             spans,
             table: self.table,
+            neighbours: self.neighbours,
         })
     }
 
@@ -316,6 +322,17 @@ impl Topo {
         self.table.entry(from, to) != 0
     }
 
+    /// The numbers of the nodes that node `node` hears, from the lowest on; none where there is no such node.
+    pub fn neighbours(&self, node: u8) -> &[u8]
+        ensures value { result.now ≡ neighbours self.now node }
+        ensures lawful { IsTopology self.now }
+    {
+        if node >= self.nodes() {
+            return &[];
+        }
+        self.neighbours.of_node(node)
+    }
+
     // The place of the link from node `from` to node `to`, and the count of links where there is none.
     fn place_of(&self, from: u8, to: u8) -> usize
         ensures value { result ≡ place_in self.now.links from to }
@@ -350,6 +367,7 @@ impl Topo {
     pub fn reach(&self) -> u64
         ensures value { result ≡ reach self.now }
         ensures lawful { IsTopology self.now }
+        ensures most { (1 ≤ result) × (result ≤ 65535) }
     {
         greatest(&self.own, self.latency)
     }

@@ -1,7 +1,6 @@
-use Rattle.std.proofs.Common.{sym, ap, ◌∙◌, arith, ℕ, get_or}
+use Rattle.std.proofs.Common.{sym, ◌∙◌, arith}
 use Rattle.std.proofs.lemmas.Bool.{false≢true}
 use Rattle.world_core.specs.declared.air.Send.{Send}
-use Rattle.world_core.specs.HeardMore.{heard_with}
 use Rattle.world_core.specs.Heard.{age_of, is_audible}
 use Rattle.world_core.proofs.hear.heard_of.Goals as goal
 use Rattle.world_core.proofs.hear.heard_of.Goals.{then-hears, else-hears}
@@ -14,7 +13,7 @@ loop-send-preserved c =
     heard_step (age_of t c.args.node c.args.cycle) (is_audible t c.args.node c.args.cycle) c.args.sends.now c.loop-send.send-index none
     c.loop-send.so_far c.if-hears.so_far c.loop-send-test.true c.loop-send.invariant
     (λ b. elim c.if-hears.branch [
-      | then-hears w ↦ w.so_far-is ∙ w.with-so_far.ensures ∙ ap (λ (n : ℕ). heard_with (λ _. n) c.loop-send.so_far (get_or c.args.sends.now c.loop-send.send-index none)) w.age.ensures
+      | then-hears w ↦ w.so_far-is ∙ w.heard_with-so_far.ensures
       | else-hears w ↦ absurd (false≢true (sym w.if-hears.false ∙ c.hears.ensures ∙ b))
     ])
     (λ b. elim c.if-hears.branch [ then-hears w ↦ absurd (false≢true (sym b ∙ sym c.hears.ensures ∙ w.if-hears.true)) | else-hears w ↦ w.so_far-is ])

@@ -17,7 +17,7 @@ use Rattle.sync_core.proofs.machine.Core.sample.Goals as goal
 use Rattle.sync_core.proofs.machine.Core.sample.Goals.{in-Ok, in-Err}
 
 abbrev before : (g : Given.Over) → Inside g.row.W.Denot → AirState
-before g s = record { world = g.W.World.facts s.world; clocks = s.clocks.items; sent = s.sent.items; floor = 0; sends = s.sends.items; samples = s.samples.items }
+before g s = record { world = g.W.World.facts s.world; clocks = s.clocks.items; sent = s.sent.items; floor = 0; sends = s.log.sends; samples = s.samples.items }
 
 is_sampled : (a old : AirState) (j s : ℕ) (r : Sampled) (h : HeardValue) (new : AirState) → a ≡ old → r ≡ Heard h → AllPassed a j s → new ≡ after_sample a j s → h ≡ truth a.world j s → IsSampled old j s r new
 is_sampled a old j s r h new e f p n t = subst (λ (o : AirState). IsSampled o j s r new) e (subst (λ (v : Sampled). IsSampled a j s v new) (sym f) (p, n, t))
@@ -35,8 +35,8 @@ may g c = record {
   passed = passed g c;
 }
 
-heard_is : (g : Given.Over) (c : goal.Joined-push g) → c.heard_of-heard.result ≡ heard (before g c.self.inside).world.topo (before g c.self.inside).sends c.args.node c.args.cycle
-heard_is g c = c.heard_of-heard.ensures ∙ λ i. heard (c.topo-topo.ensures.same i) (c.deref-2.ensures.value i) c.args.node c.args.cycle
+heard_is : (g : Given.Over) (c : goal.Joined-push g) → c.heard-heard.result ≡ heard (before g c.self.inside).world.topo (before g c.self.inside).sends c.args.node c.args.cycle
+heard_is g c = c.heard-heard.ensures ∙ ap (λ (t : Topology). heard t c.self.inside.log.sends c.args.node c.args.cycle) c.topo-topo.ensures.same
 
 pub index-requires : goal.index-requires
 index-requires g c =
@@ -59,21 +59,21 @@ returns-in-Some-clause-step g c =
 
 pub invariant_of-self : goal.invariant_of-self
 invariant_of-self g c = elim c.match-push.branch [
-  | in-Ok w ↦ (pushed_keeps (before g c.self.inside) c.args.node c.args.cycle c.heard_of-heard.result c.push.new.self.items c.self.invariant.0 (may g c) (heard_is g c) w.in-Ok.ensures.items, c.self.invariant.1)
+  | in-Ok w ↦ (pushed_keeps (before g c.self.inside) c.args.node c.args.cycle c.heard-heard.result c.push.new.self.items c.self.invariant.0 (may g c) (heard_is g c) w.in-Ok.ensures.items, c.self.invariant.1)
   | in-Err w ↦ (same_keeps (before g c.self.inside) c.push.new.self.items c.self.invariant.0 w.in-Err.ensures.items, c.self.invariant.1)
 ]
 
 pub returns-clause-consistent : goal.returns-clause-consistent
 returns-clause-consistent g c = elim c.match-push.branch [
-  | in-Ok w ↦ pushed_keeps (before g c.self.inside) c.args.node c.args.cycle c.heard_of-heard.result c.push.new.self.items c.self.invariant.0 (may g c) (heard_is g c) w.in-Ok.ensures.items
+  | in-Ok w ↦ pushed_keeps (before g c.self.inside) c.args.node c.args.cycle c.heard-heard.result c.push.new.self.items c.self.invariant.0 (may g c) (heard_is g c) w.in-Ok.ensures.items
   | in-Err w ↦ same_keeps (before g c.self.inside) c.push.new.self.items c.self.invariant.0 w.in-Err.ensures.items
 ]
 
 pub returns-clause-step : goal.returns-clause-step
 returns-clause-step g c =
     let a = before g c.self.inside in elim c.match-push.branch [
-      | in-Ok w ↦ is_sampled a c.args.self.now c.args.node c.args.cycle c.match-push.result c.heard_of-heard.result (with_samples a c.push.new.self.items) c.self.view_is w.result-is (passed g c)
-          (pushed a c.args.node c.args.cycle c.heard_of-heard.result c.push.new.self.items (heard_is g c) w.in-Ok.ensures.items)
+      | in-Ok w ↦ is_sampled a c.args.self.now c.args.node c.args.cycle c.match-push.result c.heard-heard.result (with_samples a c.push.new.self.items) c.self.view_is w.result-is (passed g c)
+          (pushed a c.args.node c.args.cycle c.heard-heard.result c.push.new.self.items (heard_is g c) w.in-Ok.ensures.items)
           (heard_is g c ∙ sample_right a c.args.node c.args.cycle c.self.invariant.0 (omega arith) (passed g c))
       | in-Err w ↦ is_none a c.args.self.now c.args.node c.args.cycle c.match-push.result (with_samples a c.push.new.self.items) c.self.view_is w.result-is (passed g c) (ap (with_samples a) w.in-Err.ensures.items)
     ]

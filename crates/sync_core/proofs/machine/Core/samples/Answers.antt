@@ -9,7 +9,7 @@ use Rattle.sync_core.proofs.machine.Core.samples.Given
 use Rattle.sync_core.proofs.machine.Core.samples.Goals as goal
 
 abbrev before : (g : Given.Over) → goal.After-deref g → AirState
-before g c = record { world = g.W.World.facts c.self.inside.world; clocks = c.self.inside.clocks.items; sent = c.self.inside.sent.items; floor = 0; sends = c.self.inside.sends.items; samples = c.self.inside.samples.items }
+before g c = record { world = g.W.World.facts c.self.inside.world; clocks = c.self.inside.clocks.items; sent = c.self.inside.sent.items; floor = 0; sends = c.self.inside.log.sends; samples = c.self.inside.samples.items }
 
 pub returns-clause-unchanged : goal.returns-clause-unchanged
 returns-clause-unchanged g c =

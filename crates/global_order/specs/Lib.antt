@@ -1,0 +1,4 @@
+pub mod Order
+pub mod Sound
+pub mod Stands
+pub mod Resumed

@@ -1,0 +1,272 @@
+// The lines of a file.
+use crate::effects::{
+    Report, advance, execute, keep, keep_in_pair, keep_in_register, keep_in_sram, pop_byte,
+    push_byte,
+};
+use crate::flags::ruled;
+use crate::machine::Machine;
+use crate::numbers::{hex, hex_byte, hex_words};
+use crate::sweeps::swept;
+use crate::texts::{has_line, has_text, length_of_texts, words_at, words_of, words_of_width};
+use avr_base::Sreg;
+use ihex_loader::{Flash, flash_of};
+use std::alloc::{AllocError, Global};
+
+/// What a line comes to.
+#[derive(Clone, Copy, PartialEq, Eq)]
+pub enum Verdict {
+    /// A comment, an empty line, or a part of the machine.
+    NoCase,
+    /// What the case says is what is given.
+    Right,
+    /// It is not.
+    Wrong,
+    /// The line is none of the forms.
+    Unread,
+}
+
+impl Verdict {
+    fn of(right: bool) -> Self {
+        if right {
+            Verdict::Right
+        } else {
+            Verdict::Wrong
+        }
+    }
+
+    /// As the report says it.
+    pub fn word(self) -> &'static str {
+        match self {
+            Verdict::NoCase => "no case",
+            Verdict::Right => "right",
+            Verdict::Wrong => "wrong",
+            Verdict::Unread => "not read",
+        }
+    }
+}
+
+/// The machine on which the cases run that stand below.
+#[derive(Drop)]
+pub struct Bench {
+    start: Machine,
+    flash: Flash,
+}
+
+impl Bench {
+    /// A core after reset over no memory but address 0x0100, and an erased flash.
+    pub fn new(alloc: Global) -> Result<Self, AllocError> {
+        let Ok(flash) = flash_of(alloc, &[]) else {
+            return Err(AllocError);
+        };
+        Ok(Bench {
+            start: Machine::new(0x0100, 0x0100),
+            flash,
+        })
+    }
+
+    // `memory FROM TO`, `start SETTING ..` or `flash WORD ..`.
+    fn set(&mut self, alloc: Global, line: &str) -> Result<Option<()>, AllocError> {
+        let (part, rest) = front(line);
+        match part {
+            "memory" => {
+                let (from, to) = front(rest);
+                Ok(self.set_memory(from, to))
+            }
+            "start" => Ok(self.set_start(rest)),
+            "flash" => self.set_flash(alloc, rest),
+            _ => Ok(None),
+        }
+    }
+
+    fn set_memory(&mut self, from: &str, to: &str) -> Option<()> {
+        self.start = Machine::new(hex(from)?, hex(to)?);
+        Some(())
+    }
+
+    fn set_start(&mut self, settings: &str) -> Option<()> {
+        self.start = self.start.with(settings)?;
+        Some(())
+    }
+
+    fn set_flash(&mut self, alloc: Global, text: &str) -> Result<Option<()>, AllocError> {
+        let Some(words) = hex_words(alloc, text)? else {
+            return Ok(None);
+        };
+        if words.len() > 65_536 {
+            return Ok(None);
+        }
+        let Ok(flash) = flash_of(alloc, words.as_slice()) else {
+            return Err(AllocError);
+        };
+        self.flash = flash;
+        Ok(Some(()))
+    }
+}
+
+// The first word of a text, and what is behind its blank.
+fn front(text: &str) -> (&str, &str) {
+    match text.split_once(' ') {
+        Some(parts) => parts,
+        None => (text, ""),
+    }
+}
+
+fn byte(n: u16) -> Option<u8> {
+    u8::try_from(n).ok()
+}
+
+// Does what a case says; `None` where it is no case, or reports what none can.
+fn act(what: &str, numbers: &[u16], flash: &Flash, m: &mut Machine) -> Option<Report> {
+    match numbers {
+        [] if what == "pop" => pop_byte(m),
+        [b] if what == "push" => push_byte(byte(*b)?, m),
+        [words] if what == "advance" => Some(advance(*words, m)),
+        [at, b] if what == "keep" => keep(*at, byte(*b)?, m),
+        [d, b] if what == "reg" => keep_in_register(byte(*d)?, byte(*b)?, m),
+        [d, word] if what == "pair" => keep_in_pair(byte(*d)?, *word, m),
+        [word, next] => execute(what, *word, *next, flash, m),
+        _ => None,
+    }
+}
+
+// A byte of an SRAM, in which another one was put.
+fn judge_sram(alloc: Global, numbers: &[u16], gives: &str) -> Result<Option<Verdict>, AllocError> {
+    let [at, b, from] = numbers else {
+        return Ok(None);
+    };
+    let Some(b) = byte(*b) else {
+        return Ok(None);
+    };
+    let read = keep_in_sram(alloc, *at, b, *from)?;
+    Ok(Some(Verdict::of(read.is_some() && read == hex_byte(gives))))
+}
+
+// A case on a machine: what is done, the machine before, what is reported and how the machine is changed.
+fn judge_effect(
+    bench: &Bench,
+    what: &str,
+    numbers: &[u16],
+    settings: &str,
+    gives: &str,
+) -> Option<Verdict> {
+    let mut machine = bench.start.with(settings)?;
+    let (report, changes) = front(gives);
+    let wanted = machine.with(changes)?;
+    let reported = act(what, numbers, &bench.flash, &mut machine)?;
+    Some(Verdict::of(reported == Report::read(report)? && machine == wanted))
+}
+
+// An effect, and behind ` ; ` the text of its instruction, where that is told.
+fn judge_told_effect(
+    bench: &Bench,
+    what: &str,
+    numbers: &[u16],
+    settings: &str,
+    gives: &str,
+) -> Option<Verdict> {
+    let Some((effect, told)) = gives.split_once(" ; ") else {
+        return judge_effect(bench, what, numbers, settings, gives);
+    };
+    let [word, next] = numbers else {
+        return None;
+    };
+    if !has_text(*word, *next, told) {
+        return Some(Verdict::Wrong);
+    }
+    judge_effect(bench, what, numbers, settings, effect)
+}
+
+// A rule on its operands behind SREG gives a result and SREG.
+fn judge_rule(rule: &str, numbers: &[u16], gives: &str) -> Option<Verdict> {
+    let [sreg, operands @ ..] = numbers else {
+        return None;
+    };
+    let before = Sreg {
+        bits: u8::try_from(*sreg).ok()?,
+    };
+    let (value, after) = front(gives);
+    let (r, t) = ruled(rule, before, operands)?;
+    Some(Verdict::of(r == hex(value)? && t.bits == hex_byte(after)?))
+}
+
+// The words, the text or the line of an instruction.
+fn judge_text(numbers: &[u16], gives: &str) -> Option<Verdict> {
+    match numbers {
+        [word] => Some(Verdict::of(words_at(*word) == hex(gives)?)),
+        [word, next] => Some(Verdict::of(has_text(*word, *next, gives))),
+        [pc, word, next] => Some(Verdict::of(has_line(*pc, *word, *next, gives))),
+        _ => None,
+    }
+}
+
+// A number over all operands or all words.
+fn judge_all(what: &str, name: &str, gives: &str) -> Option<Verdict> {
+    let wanted = gives.parse::<u64>().ok()?;
+    let number = match what {
+        "every" => swept(name)?,
+        "class" => words_of(name)?,
+        "width" => words_of_width(hex(name)?),
+        _ => length_of_texts()?,
+    };
+    Some(Verdict::of(number == wanted))
+}
+
+// Whether a case has this word in front and a name behind it, in place of numbers.
+fn is_of_all(what: &str) -> bool {
+    what == "every" || what == "class" || what == "width" || what == "texts"
+}
+
+fn is_effect(what: &str) -> bool {
+    match what {
+        "arith" | "flow" | "memory" => true,
+        "keep" | "push" | "pop" | "reg" | "pair" | "advance" => true,
+        _ => false,
+    }
+}
+
+// A case by the word in front.
+fn judge_case(
+    alloc: Global,
+    bench: &Bench,
+    given: &str,
+    gives: &str,
+) -> Result<Option<Verdict>, AllocError> {
+    let (action, settings) = match given.split_once(" on ") {
+        Some(parts) => parts,
+        None => (given, ""),
+    };
+    let (what, operands) = front(action);
+    if is_of_all(what) {
+        return Ok(judge_all(what, operands, gives));
+    }
+    let Some(numbers) = hex_words(alloc, operands)? else {
+        return Ok(None);
+    };
+    if is_effect(what) {
+        return Ok(judge_told_effect(bench, what, numbers.as_slice(), settings, gives));
+    }
+    if what == "sram" {
+        return judge_sram(alloc, numbers.as_slice(), gives);
+    }
+    if what == "words" || what == "text" || what == "line" {
+        return Ok(judge_text(numbers.as_slice(), gives));
+    }
+    Ok(judge_rule(what, numbers.as_slice(), gives))
+}
+
+/// Judges one line, and keeps it where it is a part of the machine.
+pub fn judge(alloc: Global, bench: &mut Bench, line: &str) -> Result<Verdict, AllocError> {
+    if line.is_empty() || line.starts_with('#') {
+        return Ok(Verdict::NoCase);
+    }
+    match line.split_once(" gives ") {
+        Some((given, gives)) => {
+            let verdict = judge_case(alloc, bench, given, gives)?;
+            Ok(verdict.unwrap_or(Verdict::Unread))
+        }
+        None => match bench.set(alloc, line)? {
+            Some(()) => Ok(Verdict::NoCase),
+            None => Ok(Verdict::Unread),
+        },
+    }
+}

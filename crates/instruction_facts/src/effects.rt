@@ -1,0 +1,144 @@
+// Cases of one instruction, or of one access to the data space, on a machine.
+use crate::machine::Machine;
+use crate::numbers::hex;
+use avr_base::{Reg, StopCause};
+use avr_decoder::{Class, decode};
+use data_space::{Sram, load, pop, push, store};
+use ihex_loader::Flash;
+use std::alloc::{AllocError, Global};
+
+/// What an instruction or an access reports: its cycles, or the byte or word that it read, and whether it was SLEEP;
+/// `None` is the stop of an access past the memory.
+#[derive(Clone, Copy, PartialEq, Eq)]
+pub struct Report {
+    value: Option<u16>,
+    sleep: bool,
+}
+
+impl Report {
+    /// `stop`, `sleep` (of one cycle), or a number.
+    pub fn read(word: &str) -> Option<Self> {
+        if word == "stop" {
+            return Some(STOP);
+        }
+        if word == "sleep" {
+            return Some(Report {
+                value: Some(1),
+                sleep: true,
+            });
+        }
+        Some(of_number(hex(word)?))
+    }
+}
+
+const STOP: Report = Report {
+    value: None,
+    sleep: false,
+};
+
+fn of_number(n: u16) -> Report {
+    Report {
+        value: Some(n),
+        sleep: false,
+    }
+}
+
+// A stop by another cause is no report.
+fn of_stop(cause: StopCause) -> Option<Report> {
+    if cause == StopCause::PastMemory {
+        Some(STOP)
+    } else {
+        None
+    }
+}
+
+/// The instruction of a word and the word behind it, where it is of the class that `class` names.
+pub fn execute(
+    class: &str,
+    word: u16,
+    next: u16,
+    flash: &Flash,
+    m: &mut Machine,
+) -> Option<Report> {
+    let op = decode(word, next);
+    let (named, reported) = match op.class() {
+        Class::Arith => ("arith", Ok(arith_step::exec(op, &mut m.cpu))),
+        Class::Flow => (
+            "flow",
+            flow_step::exec(op, flash, &mut m.cpu, &mut m.memory),
+        ),
+        Class::Memory => (
+            "memory",
+            memory_step::exec(op, flash, &mut m.cpu, &mut m.memory),
+        ),
+        Class::Halting(cause) => ("halting", Err(cause)),
+    };
+    if class != named {
+        return None;
+    }
+    match reported {
+        Ok(done) => Some(Report {
+            value: Some(u16::from(done.cycles)),
+            sleep: done.sleep,
+        }),
+        Err(cause) => of_stop(cause),
+    }
+}
+
+/// A store, and then a load at the same address: both stop, or the byte that was loaded.
+pub fn keep(at: u16, byte: u8, m: &mut Machine) -> Option<Report> {
+    let stored = store(&mut m.cpu, &mut m.memory, at, byte);
+    match load(&mut m.cpu, &mut m.memory, at) {
+        Ok(read) if stored.is_ok() => Some(of_number(u16::from(read))),
+        Err(cause) if stored.is_err() => of_stop(cause),
+        _ => None,
+    }
+}
+
+/// A push, which reports 0.
+pub fn push_byte(byte: u8, m: &mut Machine) -> Option<Report> {
+    match push(&mut m.cpu, &mut m.memory, byte) {
+        Ok(()) => Some(of_number(0)),
+        Err(cause) => of_stop(cause),
+    }
+}
+
+/// A pop, which reports its byte.
+pub fn pop_byte(m: &mut Machine) -> Option<Report> {
+    match pop(&mut m.cpu, &mut m.memory) {
+        Ok(byte) => Some(of_number(u16::from(byte))),
+        Err(cause) => of_stop(cause),
+    }
+}
+
+/// A byte put into register `d`, and read back.
+pub fn keep_in_register(d: u8, byte: u8, m: &mut Machine) -> Option<Report> {
+    let d = Reg::new(d)?;
+    m.cpu.set_reg(d, byte);
+    Some(of_number(u16::from(m.cpu.reg(d))))
+}
+
+/// A word put into the pair of register `d`, and read back.
+pub fn keep_in_pair(d: u8, word: u16, m: &mut Machine) -> Option<Report> {
+    let d = Reg::new(d)?;
+    m.cpu.set_pair(d, word);
+    Some(of_number(m.cpu.pair(d)))
+}
+
+/// The program counter moved on by `words`, which reports 0.
+pub fn advance(words: u16, m: &mut Machine) -> Report {
+    m.cpu.advance(words);
+    of_number(0)
+}
+
+/// The byte at `from` of a new SRAM in which `byte` was put at `at`.
+pub fn keep_in_sram(alloc: Global, at: u16, byte: u8, from: u16) -> Result<Option<u8>, AllocError> {
+    if at < 0x0100 || at > 0x10FF || from < 0x0100 || from > 0x10FF {
+        return Ok(None);
+    }
+    let Ok(mut sram) = Sram::new(alloc) else {
+        return Err(AllocError);
+    };
+    sram.put(at, byte);
+    Ok(Some(sram.get(from)))
+}

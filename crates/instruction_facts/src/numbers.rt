@@ -1,0 +1,39 @@
+// Numbers as the cases write them.
+use std::alloc::{AllocError, Global};
+
+fn digit(c: u8) -> Option<u16> {
+    match c {
+        b'0'..=b'9' => Some(u16::from(c - b'0')),
+        b'A'..=b'F' => Some(u16::from(c - b'A') + 10),
+        _ => None,
+    }
+}
+
+/// One to four hexadecimal digits.
+pub fn hex(word: &str) -> Option<u16> {
+    if word.is_empty() || word.len() > 4 {
+        return None;
+    }
+    let mut n: u16 = 0;
+    for c in word.bytes() {
+        n = n.wrapping_mul(16).wrapping_add(digit(c)?);
+    }
+    Some(n)
+}
+
+/// A hexadecimal number below 256.
+pub fn hex_byte(word: &str) -> Option<u8> {
+    u8::try_from(hex(word)?).ok()
+}
+
+/// The hexadecimal numbers in a text; `None` where a word is no such number.
+pub fn hex_words(alloc: Global, text: &str) -> Result<Option<Vec<u16>>, AllocError> {
+    let mut numbers = Vec::new(alloc);
+    for word in text.split_whitespace() {
+        match hex(word) {
+            Some(n) => numbers.push(n)?,
+            None => return Ok(None),
+        }
+    }
+    Ok(Some(numbers))
+}

@@ -1,0 +1,73 @@
+// Cases of the decoder and of the texts of instructions.
+use arrayvec::ArrayString;
+use avr_base::StopCause;
+use avr_decoder::{Class, class, decode, one_row_at_most, width};
+use avr_disassembler::{line, text};
+
+/// Whether this is the text of the instruction of a word and the word behind it.
+pub fn has_text(word: u16, next: u16, wanted: &str) -> bool {
+    let mut out = ArrayString::<32>::new();
+    text(decode(word, next), &mut out);
+    out.as_str() == wanted
+}
+
+/// Whether this is its line at a word address.
+pub fn has_line(pc: u16, word: u16, next: u16, wanted: &str) -> bool {
+    let mut out = ArrayString::<40>::new();
+    line(pc, decode(word, next), &mut out);
+    out.as_str() == wanted
+}
+
+/// How many words the instruction of a word takes.
+pub fn words_at(word: u16) -> u16 {
+    one_row_at_most(word);
+    u16::from(width(word))
+}
+
+fn class_named(name: &str) -> Option<Class> {
+    match name {
+        "arith" => Some(Class::Arith),
+        "memory" => Some(Class::Memory),
+        "flow" => Some(Class::Flow),
+        "reserved" => Some(Class::Halting(StopCause::ReservedOpcode)),
+        "undefined" => Some(Class::Halting(StopCause::UndefinedOperands)),
+        "spm" => Some(Class::Halting(StopCause::Spm)),
+        "break" => Some(Class::Halting(StopCause::BreakOp)),
+        _ => None,
+    }
+}
+
+/// How many of the 65,536 words are of a class.
+pub fn words_of(name: &str) -> Option<u64> {
+    let wanted = class_named(name)?;
+    let mut count: u64 = 0;
+    for word in 0..=u16::MAX {
+        count = count.saturating_add(u64::from(class(decode(word, 0)) == wanted));
+    }
+    Some(count)
+}
+
+/// How many of the 65,536 words are the first of so many.
+pub fn words_of_width(words: u16) -> u64 {
+    let mut count: u64 = 0;
+    for word in 0..=u16::MAX {
+        count = count.saturating_add(u64::from(words_at(word) == words));
+    }
+    count
+}
+
+/// The bytes of the texts of all words, each followed by itself; `None` where a text is longer than 23 bytes or has a
+/// byte that is not printed.
+pub fn length_of_texts() -> Option<u64> {
+    let mut out = ArrayString::<32>::new();
+    let mut total: u64 = 0;
+    for word in 0..=u16::MAX {
+        text(decode(word, word), &mut out);
+        let bytes = out.as_bytes();
+        if bytes.len() > 23 || !bytes.iter().all(|b| *b >= b' ' && *b < 127) {
+            return None;
+        }
+        total = total.saturating_add(bytes.len() as u64);
+    }
+    Some(total)
+}
