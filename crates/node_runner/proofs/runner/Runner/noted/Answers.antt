@@ -1,0 +1,21 @@
+use Rattle.std.proofs.Common.{◌≡◌, ℕ, ◌+◌, ◌≤◌, min, Bool, true, false, refl, sym, subst, ◌∙◌, ap, arith}
+use Rattle.world_core.specs.NodeRun.{Timed, Rests, Sends, Asks}
+use Rattle.trace_rows.specs.declared.row.Row.{Row}
+use Rattle.node_core.specs.State.{NodeState}
+use Rattle.node_core.specs.Cycle.{node_kind}
+use Rattle.node_core.specs.Reached.{IsReached}
+use Rattle.node_core.specs.declared.node.Reached.{Reached}
+use Rattle.node_runner.specs.declared.runner.Event.{Event}
+use Rattle.node_runner.specs.declared.runner.Event.TheVariants as event
+use Rattle.node_runner.specs.Scenario.{ScenarioOf, IsScenario, fleet_of}
+use Rattle.node_runner.specs.Place.{Place, IsRunner}
+use Rattle.node_runner.specs.Event.{IsEvent}
+use Rattle.node_runner.proofs.Events.{place, few_noted}
+use Rattle.node_runner.proofs.runner.Runner.noted.Goals as goal
+
+pub overflow_add-self : goal.overflow_add-self
+overflow_add-self c =
+    let i = c.self.inside in
+    let on : i.unnoted ≡ true = ap (λ (p : Place). p.unnoted) c.self.view_is ∙ c.requires in
+    let h = few_noted i.scenario.value i.number i.since i.node i.count i.limit (subst (λ (b : Bool). IsRunner (place i.scenario.value i.number i.since i.node b) i.node i.count i.limit) on c.self.invariant) in
+    omega (arith, h)
