@@ -1,0 +1,5 @@
+pub mod Document
+pub mod Rules
+pub mod Faults
+pub mod Scenario
+pub mod Shown

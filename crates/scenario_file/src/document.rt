@@ -1,0 +1,148 @@
+// What stands at a key of a document.
+ghost use Rattle.std.specs.Prelude.{◌≡◌, option_map, map};
+ghost use Rattle.toml.specs.Data.{get_member};
+ghost use Rattle.toml.specs.View.{view, table_view};
+ghost use Rattle.scenario_file.specs.Document.{elements, has_key, members_of, number, number_at, text_at, pair_from, pair_in, pair_of, pair_or, pair_at};
+
+use toml::{Table, Value};
+
+pub fn member<'t>(table: &'t Table, key: &str) -> Option<&'t Value>
+    ensures { option_map (λ v. view v.now) result ≡ get_member key.now (table_view table.now) }
+{
+    table.get(key)
+}
+
+pub fn has_key(table: &Table, key: &str) -> bool
+    ensures { result ≡ has_key key.now (table_view table.now) }
+{
+    member(table, key).is_some()
+}
+
+/// The elements of the array at a key; none where no array stands there.
+pub fn elements<'t>(table: &'t Table, key: &str) -> &'t [Value]
+    ensures { map view result.now ≡ elements key.now (table_view table.now) }
+{
+    match member(table, key) {
+        None => &[],
+        Some(value) => match value.as_array() {
+            None => &[],
+            Some(values) => values.as_slice(),
+        },
+    }
+}
+
+fn number(value: i64) -> u64
+    ensures { result ≡ number value }
+{
+    match u64::try_from(value) {
+        Ok(n) => n,
+        Err(_) => 0,
+    }
+}
+
+/// The whole number at a key, or the default.
+pub fn number_at(table: &Table, key: &str, default: u64) -> u64
+    ensures { result ≡ number_at key.now default (table_view table.now) }
+{
+    match member(table, key) {
+        None => default,
+        Some(value) => match value.as_integer() {
+            None => default,
+            Some(n) => number(n),
+        },
+    }
+}
+
+/// The text at a key, or no text.
+pub fn text_at<'t>(table: &'t Table, key: &str) -> &'t str
+    ensures { result.now ≡ text_at key.now (table_view table.now) }
+{
+    match member(table, key) {
+        None => "",
+        Some(value) => match value.as_str() {
+            None => "",
+            Some(text) => text,
+        },
+    }
+}
+
+fn pair_from(first: i64, second: i64) -> Option<(u64, u64)>
+    ensures { result ≡ pair_from first second }
+{
+    match (u64::try_from(first), u64::try_from(second)) {
+        (Ok(a), Ok(b)) => Some((a, b)),
+        _ => None,
+    }
+}
+
+fn pair_in(values: &[Value]) -> Option<(u64, u64)>
+    ensures { result ≡ pair_in (map view values.now) }
+{
+    match values {
+        [first, second] => match (first.as_integer(), second.as_integer()) {
+            (Some(a), Some(b)) => pair_from(a, b),
+            _ => None,
+        },
+        _ => None,
+    }
+}
+
+/// The numbers of an array of two whole numbers that are not negative.
+pub fn pair_of(value: &Value) -> Option<(u64, u64)>
+    ensures { result ≡ pair_of (view value.now) }
+{
+    match value.as_array() {
+        Some(values) => pair_in(values.as_slice()),
+        None => None,
+    }
+}
+
+/// The same, and 0 and 0 for any other value.
+pub fn pair_or_zeros(value: &Value) -> (u64, u64)
+    ensures { result ≡ pair_or (pair_of (view value.now)) }
+{
+    match pair_of(value) {
+        Some(pair) => pair,
+        None => (0, 0),
+    }
+}
+
+/// The pair at a key, and 0 and 0 where none stands there.
+pub fn pair_at(table: &Table, key: &str) -> (u64, u64)
+    ensures { result ≡ pair_at key.now (table_view table.now) }
+{
+    match member(table, key) {
+        Some(value) => pair_or_zeros(value),
+        None => (0, 0),
+    }
+}
+
+/// The number at a key of a table, or the default.
+pub fn number_in(value: &Value, key: &str, default: u64) -> u64
+    ensures { result ≡ number_at key.now default (members_of (view value.now)) }
+{
+    match value.as_table() {
+        Some(table) => number_at(table, key, default),
+        None => default,
+    }
+}
+
+/// The text at a key of a table, or no text.
+pub fn text_in<'t>(value: &'t Value, key: &str) -> &'t str
+    ensures { result.now ≡ text_at key.now (members_of (view value.now)) }
+{
+    match value.as_table() {
+        Some(table) => text_at(table, key),
+        None => "",
+    }
+}
+
+/// The elements of the array at a key of a table; none where no array stands there.
+pub fn elements_in<'t>(value: &'t Value, key: &str) -> &'t [Value]
+    ensures { map view result.now ≡ elements key.now (members_of (view value.now)) }
+{
+    match value.as_table() {
+        Some(table) => elements(table, key),
+        None => &[],
+    }
+}

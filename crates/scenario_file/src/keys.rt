@@ -1,0 +1,122 @@
+// Which keys a table may have.
+ghost use Rattle.std.specs.Prelude.{◌≡◌};
+ghost use Rattle.toml.specs.View.{table_view};
+ghost use Rattle.scenario_file.specs.Rules.{version_from, version_of, has_latencies, has_spans, most_cycles, is_known, is_top_key, is_link_key, is_input_key};
+
+use crate::document::member;
+use toml::Table;
+
+/// The kind of a table.
+#[derive(Clone, Copy, Debug, PartialEq, Eq)]
+pub enum Keys {
+    Top,
+    OfNode,
+    OfLink,
+    OfInput,
+}
+
+/// The version of a text.
+#[derive(Clone, Copy, Debug, PartialEq, Eq)]
+pub enum Version {
+    First,
+    Second,
+    Third,
+}
+
+fn version_from(number: i64) -> Version
+    ensures { result ≡ version_from number }
+{
+    match u64::try_from(number) {
+        Ok(n) => {
+            if n == 3 {
+                Version::Third
+            } else if n == 2 {
+                Version::Second
+            } else {
+                Version::First
+            }
+        }
+        Err(_) => Version::First,
+    }
+}
+
+/// The version whose rules a document has. That its number is one of them is a rule by itself.
+pub fn version_of(table: &Table) -> Version
+    ensures { result ≡ version_of (table_view table.now) }
+{
+    match member(table, "version") {
+        None => Version::First,
+        Some(value) => match value.as_integer() {
+            None => Version::First,
+            Some(number) => version_from(number),
+        },
+    }
+}
+
+fn has_latencies(version: Version) -> bool
+    ensures { result ≡ has_latencies version }
+{
+    match version {
+        Version::First => false,
+        Version::Second | Version::Third => true,
+    }
+}
+
+fn has_spans(version: Version) -> bool
+    ensures { result ≡ has_spans version }
+{
+    match version {
+        Version::First | Version::Second => false,
+        Version::Third => true,
+    }
+}
+
+/// The largest number of cycles.
+pub fn most_cycles(version: Version) -> u64
+    ensures { result ≡ most_cycles version }
+{
+    match version {
+        Version::First | Version::Second => 10_000_000,
+        Version::Third => 1_099_511_627_776,
+    }
+}
+
+/// Whether a table of this kind may have this key.
+pub fn is_known(version: Version, keys: Keys, key: &str) -> bool
+    ensures { result ≡ is_known version keys key.now }
+{
+    match keys {
+        Keys::Top => is_top_key(key),
+        Keys::OfNode => key == "image",
+        Keys::OfLink => is_link_key(version, key),
+        Keys::OfInput => is_input_key(key),
+    }
+}
+
+fn is_top_key(key: &str) -> bool
+    ensures { result ≡ is_top_key key.now }
+{
+    key == "version"
+        || key == "cycles"
+        || key == "latency"
+        || key == "byte_time"
+        || key == "window"
+        || key == "node"
+        || key == "link"
+        || key == "input"
+}
+
+fn is_link_key(version: Version, key: &str) -> bool
+    ensures { result ≡ is_link_key version key.now }
+{
+    key == "from"
+        || key == "to"
+        || (has_latencies(version) && key == "latency")
+        || (has_spans(version) && key == "open")
+}
+
+fn is_input_key(key: &str) -> bool
+    ensures { result ≡ is_input_key key.now }
+{
+    key == "node" || key == "at" || key == "hex" || key == "every"
+}

@@ -1,0 +1,18 @@
+//! The text of a scenario, TOML in versions 1 to 3: who hears whom, which image each node runs, and what arrives at it. The accepted
+//! scenario number for number, or the lowest fault that applies.
+#![tactic(auto)]
+
+mod amounts;
+mod document;
+mod fault;
+mod faults;
+mod inputs;
+mod keys;
+mod kinds;
+mod links;
+mod ranges;
+mod text;
+mod unknown;
+
+pub use fault::ScenarioFault;
+pub use text::{ScenarioText, read};
