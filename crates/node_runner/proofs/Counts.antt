@@ -1,6 +1,6 @@
 -- A runner's count is its number of noted sends, and all of its node's where it has ended.
 use Rattle.std.specs.Prelude.{is_some}
-use Rattle.std.proofs.Common.{◌≡◌, ℕ, ◌+◌, ◌-◌, ◌≤◌, ◌⊎◌, ⊎_elim, Bool, true, false, cond, refl, sym, subst, ◌∙◌, ap, arith}
+use Rattle.std.proofs.Common.{◌≡◌, ℕ, ◌+◌, ◌-◌, ◌≤◌, ⊎_elim, Bool, true, false, cond, sym, ◌∙◌, ap, arith}
 use Rattle.world_core.specs.Sends.{sends_below}
 use Rattle.world_core.specs.NodeRun.{Timed}
 use Rattle.trace_rows.specs.declared.row.Row.{Row}

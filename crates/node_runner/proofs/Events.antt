@@ -1,16 +1,13 @@
 -- What a node's runs make of a runner.
-use Rattle.std.proofs.Common.{◌≡◌, ℕ, ◌+◌, ◌-◌, ◌<◌, ◌≤◌, min, Bool, true, false, cond, not, ◌&&◌, ◌||◌, Option, Some, None, List, [], ◌∷◌, length, refl, sym, subst, ◌∙◌, ap, arith, inl, inr, add-zero, length-append}
-use Rattle.std.specs.List.{Contains}
+use Rattle.std.proofs.Common.{◌≡◌, ℕ, ◌+◌, ◌-◌, ◌<◌, ◌≤◌, min, Bool, true, false, cond, not, ◌&&◌, ◌||◌, Some, [], length, refl, sym, subst, ◌∙◌, ap, arith, inl, inr, add-zero, length-append}
 use Rattle.std.specs.Prelude.{is_some, nat_lt}
 use Rattle.std.proofs.Math.Nat.{sub-zero}
-use Rattle.world_core.specs.declared.air.Send.{Send}
 use Rattle.world_core.specs.declared.air.Heard.{Heard}
 use Rattle.world_core.specs.Sends.{sends_of, sends_below, IsSendNumber}
 use Rattle.world_core.specs.Settled.{truth}
-use Rattle.world_core.specs.NodeRun.{Timed, Comes, Rests, Sends, Asks, answered}
+use Rattle.world_core.specs.NodeRun.{Timed, Rests, Sends, Asks, answered}
 use Rattle.trace_rows.specs.declared.row.Row.{Row}
 use Rattle.node_core.specs.State.{NodeState}
-use Rattle.node_core.specs.State.{reset}
 use Rattle.node_core.specs.Cycle.{node_kind}
 use Rattle.global_order.specs.Order.{Fleet, Moment, facts_of, node_at, world_at}
 use Rattle.global_order.specs.Sound.{IsSound}
@@ -18,10 +15,9 @@ use Rattle.global_order.specs.Stands.{Stands, QuietBetween}
 use Rattle.global_order.proofs.Sends.{count_is, first, sends_front}
 use Rattle.global_order.proofs.Alone.{rows_none}
 use Rattle.global_order.proofs.Steps.{stands_plain, rests_stands, sends_stands, asks_stands, answered_stands, plain_state, come_state, come_quiet, count_quiet, count_sent, sent_number, asked, count_answered}
-use Rattle.node_runner.specs.declared.runner.Event.{Event}
 use Rattle.node_runner.specs.declared.runner.Event.TheVariants.{Ask, Sent, Turn, Ended, NoMemory}
 use Rattle.node_runner.specs.Scenario.{ScenarioOf, IsScenario, fleet_of}
-use Rattle.node_runner.specs.Place.{Place, IsRunner, HasEnded, is_live, noted_of, sends_passed, state_at}
+use Rattle.node_runner.specs.Place.{Place, IsRunner, is_live, noted_of, state_at}
 use Rattle.node_runner.specs.Event.{IsEvent, GoesOn}
 use Rattle.world_core.proofs.Records.{few_sends}
 use Rattle.node_runner.proofs.Sound.{sound, scenario_lawful}

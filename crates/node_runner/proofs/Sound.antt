@@ -1,9 +1,7 @@
 -- A scenario's fleet keeps what the global order asks, so its air is a world.
-use Rattle.std.proofs.Common.{◌≡◌, ℕ, ◌+◌, ◌<◌, ◌≤◌, refl, arith}
-use Rattle.std.specs.List.{All, AllPairs}
-use Rattle.world_core.specs.declared.air.Send.{Send}
+use Rattle.std.proofs.Common.{arith}
 use Rattle.world_core.specs.Lawful.{IsLawful}
-use Rattle.node_core.proofs.Steady.{steady}
+use Rattle.node_core.proofs.Steady.{steady, steady_gap}
 use Rattle.global_order.specs.Order.{facts_of}
 use Rattle.global_order.specs.Sound.{IsSound}
 use Rattle.global_order.proofs.Laws.{lawful}
@@ -14,7 +12,7 @@ sound s i = record {
   topo = i.topo;
   kind = steady;
   start = omega arith;
-  gap = λ k. refl;
+  gap = λ k. steady_gap ((fleet_of s).begins k);
   inside = λ k d lt. absurd (omega arith);
   spaced = λ k i j d lt le. absurd (omega arith);
   free = λ k j d lt. absurd (omega arith);

@@ -1,5 +1,5 @@
 -- Where a runner stands. Its rows and counts follow from it.
-use Rattle.std.specs.Prelude.{is_some, ◌≡◌, ℕ, ◌+◌, ◌-◌, ◌≤◌, ◌<◌, ◌⊎◌, Bool, true, false, not, ◌&&◌, ◌||◌, nat_lt, if◌then◌else◌, List}
+use Rattle.std.specs.Prelude.{is_some, ◌≡◌, ℕ, ◌+◌, ◌-◌, ◌<◌, ◌⊎◌, Bool, true, false, not, ◌&&◌, ◌||◌, nat_lt, if◌then◌else◌, List}
 use Rattle.world_core.specs.Sends.{sends_below}
 use Rattle.world_core.specs.NodeRun.{Timed}
 use Rattle.trace_rows.specs.declared.row.Row.{Row}

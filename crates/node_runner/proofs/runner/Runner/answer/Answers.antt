@@ -1,20 +1,11 @@
-use Rattle.std.proofs.Common.{◌≡◌, ℕ, ◌+◌, ◌≤◌, min, Bool, true, false, refl, sym, subst, ◌∙◌, ap, arith}
-use Rattle.world_core.specs.NodeRun.{Timed, Rests, Sends, Asks}
-use Rattle.trace_rows.specs.declared.row.Row.{Row}
-use Rattle.node_core.specs.State.{NodeState}
-use Rattle.node_core.specs.Cycle.{node_kind}
-use Rattle.node_core.specs.Reached.{IsReached}
-use Rattle.node_core.specs.declared.node.Reached.{Reached}
-use Rattle.node_runner.specs.declared.runner.Event.{Event}
-use Rattle.node_runner.specs.declared.runner.Event.TheVariants as event
-use Rattle.node_runner.specs.Scenario.{ScenarioOf, IsScenario, fleet_of}
-use Rattle.node_runner.specs.Place.{Place, IsRunner}
-use Rattle.node_runner.specs.Event.{IsEvent}
+use Rattle.std.proofs.Common.{sym, ◌∙◌, ap}
+use Rattle.node_runner.specs.Scenario.{fleet_of}
+use Rattle.node_runner.specs.Place.{Place}
 use Rattle.world_core.specs.Settled.{truth}
 use Rattle.global_order.specs.Order.{facts_of}
 use Rattle.node_runner.specs.Place.{noted_of}
 use Rattle.node_runner.proofs.Counts.{noted_is}
-use Rattle.node_runner.proofs.Events.{place, answer_keeps}
+use Rattle.node_runner.proofs.Events.{answer_keeps}
 use Rattle.node_runner.proofs.runner.Runner.answer.Goals as goal
 
 pub invariant_of-self : goal.invariant_of-self

@@ -1,4 +1,4 @@
-use Rattle.std.proofs.Common.{◌≡◌, ℕ, refl, sym, subst, ap, ◌∙◌}
+use Rattle.std.proofs.Common.{◌≡◌, sym, subst}
 use Rattle.world_core.specs.Sends.{sends_below}
 use Rattle.global_order.specs.Order.{facts_of}
 use Rattle.node_runner.specs.Scenario.{fleet_of}

@@ -1,14 +1,9 @@
-use Rattle.std.proofs.Common.{◌≡◌, ℕ, ◌+◌, ◌≤◌, min, Bool, true, false, refl, sym, subst, ◌∙◌, ap, arith}
-use Rattle.world_core.specs.NodeRun.{Timed, Rests, Sends, Asks}
-use Rattle.trace_rows.specs.declared.row.Row.{Row}
-use Rattle.node_core.specs.State.{NodeState}
-use Rattle.node_core.specs.Cycle.{node_kind}
+use Rattle.std.proofs.Common.{ℕ, ◌+◌, min, true, refl, sym, subst, ◌∙◌, ap, arith}
 use Rattle.node_core.specs.Reached.{IsReached}
 use Rattle.node_core.specs.declared.node.Reached.{Reached}
 use Rattle.node_runner.specs.declared.runner.Event.{Event}
 use Rattle.node_runner.specs.declared.runner.Event.TheVariants as event
-use Rattle.node_runner.specs.Scenario.{ScenarioOf, IsScenario, fleet_of}
-use Rattle.node_runner.specs.Place.{Place, IsRunner}
+use Rattle.node_runner.specs.Place.{Place}
 use Rattle.node_runner.specs.Event.{IsEvent}
 use Rattle.node_runner.specs.Place.{noted_of}
 use Rattle.node_runner.proofs.Counts.{noted_is}
@@ -46,7 +41,7 @@ invariant_of-self-in-Stopped c =
     let r = subst (λ (r : Reached). IsReached i.node c.min-to.result r c.run_until.new.self) c.in-Stopped.is c.run_until.ensures in
     rests_keeps i.scenario.value i.number i.since i.node c.run_until.new.self i.unnoted i.count i.limit c.args.quantum c.min-to.result c.self.invariant
     (ap (λ (p : Place). p.asking) c.self.view_is ∙ c.requires.calm) (ap (λ (p : Place). p.unnoted) c.self.view_is ∙ c.requires.noted) (c.min-to.ensures ∙ ap (λ (n : ℕ). min (n + c.args.quantum) i.limit) c.cycle.ensures)
-    c.run_until.new.self.cycle r.1 r.0
+    c.run_until.new.self.cycle r.1.rests r.0
 
 pub invariant_of-self-in-NoMemory : goal.invariant_of-self-in-NoMemory
 invariant_of-self-in-NoMemory c =
@@ -81,7 +76,7 @@ returns-in-Stopped-clause-event c =
     subst (λ (old : Place). IsEvent old c.args.quantum event.Ended (place i.scenario.value i.number i.since c.run_until.new.self i.unnoted)) c.self.view_is
     (event_stopped i.scenario.value i.number i.since i.node c.run_until.new.self i.unnoted i.count i.limit c.args.quantum c.min-to.result c.self.invariant
     (ap (λ (p : Place). p.asking) c.self.view_is ∙ c.requires.calm) (ap (λ (p : Place). p.unnoted) c.self.view_is ∙ c.requires.noted) (c.min-to.ensures ∙ ap (λ (n : ℕ). min (n + c.args.quantum) i.limit) c.cycle.ensures)
-    c.run_until.new.self.cycle r.1 r.0 r.2)
+    c.run_until.new.self.cycle r.1.rests r.0 r.1.stopped)
 
 pub returns-in-NoMemory-clause-event : goal.returns-in-NoMemory-clause-event
 returns-in-NoMemory-clause-event c =

@@ -1,15 +1,5 @@
-use Rattle.std.proofs.Common.{◌≡◌, ℕ, ◌+◌, ◌≤◌, min, Bool, true, false, refl, sym, subst, ◌∙◌, ap, arith}
-use Rattle.world_core.specs.NodeRun.{Timed, Rests, Sends, Asks}
-use Rattle.trace_rows.specs.declared.row.Row.{Row}
-use Rattle.node_core.specs.State.{NodeState}
-use Rattle.node_core.specs.Cycle.{node_kind}
-use Rattle.node_core.specs.Reached.{IsReached}
-use Rattle.node_core.specs.declared.node.Reached.{Reached}
-use Rattle.node_runner.specs.declared.runner.Event.{Event}
-use Rattle.node_runner.specs.declared.runner.Event.TheVariants as event
-use Rattle.node_runner.specs.Scenario.{ScenarioOf, IsScenario, fleet_of}
+use Rattle.std.proofs.Common.{◌≡◌, Bool, true, subst, ◌∙◌, ap, arith}
 use Rattle.node_runner.specs.Place.{Place, IsRunner}
-use Rattle.node_runner.specs.Event.{IsEvent}
 use Rattle.node_runner.proofs.Events.{place, few_noted}
 use Rattle.node_runner.proofs.runner.Runner.noted.Goals as goal
 

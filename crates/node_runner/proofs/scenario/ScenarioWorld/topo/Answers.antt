@@ -1,4 +1,4 @@
-use Rattle.std.proofs.Common.{◌≡◌, subst}
+use Rattle.std.proofs.Common.{subst}
 use Rattle.world_core.specs.Lawful.{IsLawful}
 use Rattle.global_order.specs.Order.{facts_of}
 use Rattle.node_runner.specs.Scenario.{ScenarioOf, fleet_of}
