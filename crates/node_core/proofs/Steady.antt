@@ -109,3 +109,8 @@ steady = record {
   sends_free = sends_free;
   sends_next = sends_next;
 }
+
+-- the byte time that it was made with is that of its radio
+pub steady_gap : (s : NodeState) → steady.gap s ≡ s.bus.board.radio.byte_time
+unfolding steady
+steady_gap s = refl

@@ -5,6 +5,7 @@
 mod bus;
 mod execute;
 mod interrupts;
+mod law;
 mod machine;
 mod node;
 mod rests;
@@ -12,6 +13,7 @@ mod rows;
 mod stride;
 
 pub use bus::NodeBus;
+pub use law::steady_law;
 pub use node::{Node, Reached};
 
 #[cfg(test)]

@@ -12,6 +12,7 @@ use data_space::Cpu;
 use ihex_loader::Flash;
 use std::alloc::Global;
 use std::marker::Model;
+use std::mem;
 use trace_rows::{Kind, NodeEnd, Row};
 use usart_port::Script;
 use world_core::Heard;
@@ -201,6 +202,16 @@ impl Node {
         ensures { result.now ≡ self.now.rows }
     {
         &self.machine.rows
+    }
+
+    /// Its rows since they were last taken. No sample is to be unanswered.
+    pub fn take_rows(&mut self) -> Vec<Row>
+        requires { self.old.asking ≡ false }
+        ensures rows { result.items ≡ self.old.rows }
+        ensures left { self.new ≡ record self.old { rows = [] } }
+    {
+        let alloc = *self.machine.rows.allocator();
+        mem::replace(&mut self.machine.rows, Vec::new(alloc))
     }
 
     /// The last row of a run up to the cycle limit `limit`.
