@@ -10,3 +10,6 @@ mod scenario;
 
 pub use runner::{Event, Runner};
 pub use scenario::Scenario;
+
+#[cfg(test)]
+mod tests;
