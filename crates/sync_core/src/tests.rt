@@ -1,9 +1,12 @@
 // One core in a world that is given by its lists. Tables of steps and of what comes of them are case files of the crate
 // `air_facts`.
+ghost use Rattle.std.specs.Prelude.{◌↔◌, ◌≤◌, IsTrue};
+ghost use Rattle.world_core.specs.Topology.{IsShort};
+
 use crate::{Core, Step, replay};
 use std::alloc::Global;
 use std::test::Fail;
-use world_core::{Ask, Heard, Link, ListWorld, Send, Topo};
+use world_core::{Ask, Heard, Link, ListWorld, Send, Topo, World};
 
 static STEPS: [Step; 4] = [
     Step::Sample {
@@ -42,6 +45,12 @@ fn small_world(alloc: Global) -> Result<ListWorld, Fail> {
     Ok(ListWorld::new(topo, sends, asks)?)
 }
 
+fn is_short(world: &ListWorld) -> bool
+    ensures { IsTrue result ↔ IsShort world.now.topo }
+{
+    world.topo().limit() <= 10_000_000
+}
+
 // The statuses of the recorded samples, as the digits of one number.
 fn statuses(core: &Core<ListWorld>) -> u64 {
     let mut digits = 1u64;
@@ -54,6 +63,7 @@ fn statuses(core: &Core<ListWorld>) -> u64 {
 #[test]
 fn hears_after_the_post(rt: HostRuntime) -> Result<(), Fail> {
     let world = small_world(rt.alloc())?;
+    assert!(rt; is_short(&world), "a limit of 10,000 cycles");
     let core = replay(rt.alloc(), world, &STEPS)?;
     assert_eq!(rt;
         (core.sends().len(), statuses(&core)),
