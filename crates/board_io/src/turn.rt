@@ -22,6 +22,15 @@ pub struct Begun {
     pub asks: bool,
 }
 
+impl Begun {
+    /// Nothing.
+    pub const NOTHING: Begun = Begun {
+        serial: None,
+        sent: None,
+        asks: false,
+    };
+}
+
 // A cycle of a timer. Most are halted: one test.
 #[tactic(auto, using(crate::proofs::Halted::halted_8))]
 fn tick_8(timer: &mut Timer8, cycle: u64)

@@ -1,0 +1,8 @@
+use Rattle.std.proofs.Common.{sym, ap, ◌∙◌}
+use Rattle.board_io.specs.Lines.{lines_of}
+use Rattle.board_io.specs.declared.board.Board.{Board}
+use Rattle.board_io.proofs.Lags.{lines_are}
+use Rattle.board_io.proofs.lagging.LaggingBoard.lines.Goals as goal
+
+pub returns : goal.returns
+returns c = lines_are c.self.inside.ahead c.self.inside.board c.self.invariant c.args.self.now c.self.view_is
