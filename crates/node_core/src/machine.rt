@@ -208,7 +208,7 @@ impl Machine {
     // The interrupt that waits to be let in.
     #[inline]
     fn pending(&self) -> Option<Vector>
-        ensures { result ≡ pending_of (lines_of self.now.bus.board) }
+        ensures { result ≡ pending_of (lines_of (shown self.now).bus.board) }
     {
         interrupt_unit::pending(self.bus.board.lines())
     }
@@ -295,6 +295,7 @@ impl Machine {
         ensures rows { self.new.rows.items ≡ self.old.rows.items ++ serial_rows cycle (shown self.old) serial }
         ensures used { vec_len self.new.rows ≤ vec_len self.old.rows + 1 }
         ensures room { vec_capacity self.new.rows ≡ vec_capacity self.old.rows }
+        ensures clock { self.new.bus.board.clock ≡ self.old.bus.board.clock }
     {
         if let Some(byte) = serial {
             let node = self.number;
@@ -310,6 +311,7 @@ impl Machine {
         ensures rows { self.new.rows.items ≡ self.old.rows.items ++ sent_rows cycle (shown self.old) sent }
         ensures used { vec_len self.new.rows ≤ vec_len self.old.rows + 1 }
         ensures room { vec_capacity self.new.rows ≡ vec_capacity self.old.rows }
+        ensures clock { self.new.bus.board.clock ≡ self.old.bus.board.clock }
     {
         if let Some(byte) = sent {
             let node = self.number;

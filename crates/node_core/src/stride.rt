@@ -1,5 +1,5 @@
 // Whole instructions of a node up to the next event of its devices.
-ghost use Rattle.std.specs.Prelude.{◌≡◌, ◌≤◌, ◌<◌, ◌+◌, ◌-◌, ◌^◌, ℕ, None, vec_len, vec_capacity};
+ghost use Rattle.std.specs.Prelude.{◌≡◌, ◌≤◌, ◌<◌, ◌+◌, ◌-◌, ◌^◌, ℕ, None, true, false, vec_len, vec_capacity};
 ghost use Rattle.node_core.specs.Inside.{IsPassed};
 ghost use Rattle.node_core.specs.Midway.{IsMidway};
 ghost use Rattle.node_core.specs.Shown.{shown};
@@ -35,7 +35,10 @@ impl Machine {
         ensures within { result ≤ most }
     {
         let n = u64::from(self.wait) + 1;
-        if n > most || !self.goes_on(rows) || !self.bus.board.passes(n) {
+        if n > most || !self.goes_on(rows) {
+            return 0;
+        }
+        if !self.bus.board.passes(n) {
             return 0;
         }
         self.wait = 0;
