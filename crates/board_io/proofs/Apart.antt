@@ -1,5 +1,5 @@
 -- An access that looks at no timer is the same on a board whose timers lag, and leaves what is known of it.
-use Rattle.std.proofs.Common.{◌≡◌, ◌≢◌, ℕ, ◌+◌, ◌-◌, ◌==◌, ◌&&◌, not, if◌then◌else◌, Bool, true, false, Result, Ok, Err, refl, sym, ap, ◌∙◌, subst, arith, get_or}
+use Rattle.std.proofs.Common.{◌≡◌, ◌≢◌, ℕ, zero, suc, ◌+◌, ◌-◌, ◌/◌, cond, ◌==◌, ◌&&◌, not, if◌then◌else◌, Bool, true, false, Result, Ok, Err, refl, sym, ap, ◌∙◌, subst, arith, get_or}
 use Rattle.std.specs.Prelude.{bit_and, IfOk, OnOk, IfErr, OnErr}
 use Rattle.std.proofs.lemmas.Bool.{and_parts, eq-eqb}
 use Rattle.std.proofs.lemmas.List.{get_or-set_other}
@@ -11,14 +11,21 @@ use Rattle.board_io.specs.declared.rules.Rule.{Rule}
 use Rattle.board_io.specs.declared.rules.Rule.TheVariants.{Reserved, Pin, Kept, Guarded, WatchdogControl, ResetFlags, CpuControl, TimerFlags, TimerFlags3, Timer0, Timer1, Timer2, Timer3, Usart0, Spi}
 use Rattle.board_io.specs.Board.{kept_at, with_kept}
 use Rattle.board_io.specs.Cycle.{board_quiet, timers_leap}
-use Rattle.board_io.specs.Lagging.{IsAhead, caught_up, is_no_mask, reads_apart, writes_apart}
+use Rattle.board_io.specs.Lagging.{IsAhead, caught_up, is_no_mask, reads_apart, reads_timer, writes_apart}
 use Rattle.board_io.specs.Lines.{lines_of}
 use Rattle.board_io.specs.Registers.{get_by, put_by}
 use Rattle.board_io.proofs.Radio.{get_by_clock, put_by_clock}
 use Rattle.device_clocks.specs.Bits.{any_bit}
+use Rattle.device_clocks.specs.Clock.{clocked, cycles}
 use Rattle.interrupt_unit.specs.declared.unit.Lines.{Lines}
 use Rattle.spi_port.specs.declared.registers.SpiReg.TheVariants as spi
+use Rattle.timer16.specs.declared.registers.Reg16.TheVariants as reg16
+use Rattle.timer16.specs.declared.timer16.Timer16.{Timer16}
+use Rattle.timer16.specs.Timer as timer16
 use Rattle.usart_port.specs.declared.registers.UsartReg.TheVariants as usart
+
+abbrev with_temp : ℕ → Timer16 → Timer16
+with_temp x u = record u { temp = x }
 
 -- what a board has of lines and ends, now and later, another one has
 record IsLike (b c : Board) : Type 0 where
@@ -75,6 +82,59 @@ got_apart (Spi spi.Control) b at s n e = (refl, itself b)
 got_apart (Spi spi.Status) b at s n e = (refl, record { clock = refl; quiet = λ t. refl; same = λ t i. refl })
 got_apart (Spi spi.Spdr) b at s n e = absurd (false_true e)
 
+
+-- reads of the timers: TEMP alone may change
+temp_clocked : (c : Bool) (x : ℕ) (u : Timer16) → cond c (timer16.clock (with_temp x u)) (with_temp x u) ≡ with_temp x (cond c (timer16.clock u) u)
+unfolding timer16.clock
+temp_clocked true x u = refl
+temp_clocked false x u = refl
+
+temp_cycle : (t x : ℕ) (u : Timer16) → timer16.timer_cycle t (with_temp x u) ≡ with_temp x (timer16.timer_cycle t u)
+unfolding timer16.divider
+temp_cycle t x u = temp_clocked (clocked (timer16.divider u) t) x u
+
+temp_cycles : (t n x : ℕ) (u : Timer16) → cycles timer16.timer_cycle t n (with_temp x u) ≡ with_temp x (cycles timer16.timer_cycle t n u)
+unfolding cycles
+temp_cycles t zero x u = refl
+temp_cycles t (suc n) x u = ap (timer16.timer_cycle (t + n)) (temp_cycles t n x u) ∙ temp_cycle (t + n) x (cycles timer16.timer_cycle t n u)
+
+like_t1 : (x : ℕ) (b : Board) → IsLike b (let c : Board = record b { t1 = with_temp x b.t1 } in c)
+unfolding timers_leap board_quiet lines_of
+like_t1 x b = record { clock = refl; quiet = λ t. refl; same = λ t i. (let e = ap (λ (u : Timer16). u.flags) (temp_cycles t i x b.t1) in rw e refl) }
+
+like_t3 : (x : ℕ) (b : Board) → IsLike b (let c : Board = record b { t3 = with_temp x b.t3 } in c)
+unfolding timers_leap board_quiet lines_of
+like_t3 x b = record { clock = refl; quiet = λ t. refl; same = λ t i. (let e = ap (λ (u : Timer16). u.flags) (temp_cycles t i x b.t3) in rw e refl) }
+
+abbrev LikeGot : Board → Result (ℕ × Board) StopCause → Type 0
+LikeGot b (Ok p) = IsLike b p.1
+LikeGot b (Err cause) = Unit {0}
+
+timer_like : (rule : Rule) (b : Board) (at : ℕ) → reads_timer rule ≡ true → LikeGot b (get_by rule b at)
+timer_like Reserved b at e = absurd (false_true e)
+timer_like (Pin port) b at e = absurd (false_true e)
+timer_like (Kept mask) b at e = absurd (false_true e)
+timer_like (Guarded bits cause mask) b at e = absurd (false_true e)
+timer_like WatchdogControl b at e = absurd (false_true e)
+timer_like ResetFlags b at e = absurd (false_true e)
+timer_like CpuControl b at e = absurd (false_true e)
+timer_like TimerFlags b at e = itself b
+timer_like TimerFlags3 b at e = itself b
+timer_like (Timer0 reg) b at e = itself b
+timer_like (Timer2 reg) b at e = itself b
+timer_like (Timer1 reg16.CountL) b at e = like_t1 (b.t1.count / 256) b
+timer_like (Timer1 reg16.IcrL) b at e = like_t1 (b.t1.icr / 256) b
+timer_like (Timer1 _) b at e = itself b
+timer_like (Timer3 reg16.CountL) b at e = like_t3 (b.t3.count / 256) b
+timer_like (Timer3 reg16.IcrL) b at e = like_t3 (b.t3.icr / 256) b
+timer_like (Timer3 _) b at e = itself b
+timer_like (Usart0 reg) b at e = absurd (false_true e)
+timer_like (Spi reg) b at e = absurd (false_true e)
+
+pub timer_ahead : (rule : Rule) (b c : Board) (at : ℕ) (a : Ahead) (r : Result ℕ StopCause) → reads_timer rule ≡ true
+    → IfOk r (λ x. get_by rule b at ≡ Ok (x, c)) → OnErr r (c ≡ b) → IsAhead a b → IsAhead a c
+timer_ahead rule b c at a (Ok x) e h same k = like_ahead a b c (subst (LikeGot b) h (timer_like rule b at e)) k
+timer_ahead rule b c at a (Err cause) e h same k = subst (IsAhead a) (sym same) k
 
 module _ (rule : Rule) (b : Board) (at s : ℕ) (e : reads_apart rule ≡ true) where
   got : (g : Result (ℕ × Board) StopCause) → get_by rule b at ≡ g → GotApart b s (b.clock - s) g (get_by rule (caught_up s b) at)

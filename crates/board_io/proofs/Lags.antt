@@ -140,6 +140,19 @@ module _ (a : Ahead) (b : Board) (h : IsAhead a b) where
       idle_clock n v
       (subst (λ (w : Board). IsIdle w.clock n w) e (subst (λ (t : ℕ). IsIdle t n (caught_up a.settled b)) (sym (caught_clock a.settled b)) (idle_by n le)))
 
+  -- the same is known of the board that caught up
+  pub settled_ahead : IsAhead (let c : Ahead = record a { settled = b.clock } in c) (caught_up a.settled b)
+  settled_ahead =
+      let at = caught_clock a.settled b in
+      let m = h.next in
+      record {
+        settled = omega (arith, at);
+        next = omega (arith, at, m);
+        early = h.early;
+        quiet = λ t from below. quiet_by t from below;
+        same = λ i le. lines_by i le;
+      }
+
   -- n cycles on the same is known
   pub later : (n : ℕ) → b.clock + n ≤ a.next → IsAhead a (clock_at (b.clock + n) b)
   later n le =

@@ -60,6 +60,24 @@ reads_apart (Timer3 reg) = false
 reads_apart (Usart0 reg) = not (is_udr reg)
 reads_apart (Spi reg) = not (is_spdr reg)
 
+-- whether a read by a rule looks at a timer
+abbrev pub reads_timer : Rule → Bool
+reads_timer Reserved = false
+reads_timer (Pin port) = false
+reads_timer (Kept mask) = false
+reads_timer (Guarded bits cause mask) = false
+reads_timer WatchdogControl = false
+reads_timer ResetFlags = false
+reads_timer CpuControl = false
+reads_timer TimerFlags = true
+reads_timer TimerFlags3 = true
+reads_timer (Timer0 reg) = true
+reads_timer (Timer1 reg) = true
+reads_timer (Timer2 reg) = true
+reads_timer (Timer3 reg) = true
+reads_timer (Usart0 reg) = false
+reads_timer (Spi reg) = false
+
 -- neither TIMSK nor ETIMSK, which enable the timers' lines
 abbrev pub is_no_mask : ℕ → Bool
 is_no_mask at = not (at == 0x57) && not (at == 0x7D)

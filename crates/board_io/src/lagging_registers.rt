@@ -1,6 +1,6 @@
 // The I/O registers of a board that lags.
 ghost use Rattle.std.specs.Prelude.{◌≡◌, true, Ok, Err, OnOk, IfOk, OnErr, IfErr};
-ghost use Rattle.board_io.specs.Lagging.{is_spdr, is_udr, reads_apart, writes_apart};
+ghost use Rattle.board_io.specs.Lagging.{is_spdr, is_udr, reads_apart, reads_timer, writes_apart};
 
 use crate::LaggingBoard;
 use crate::rules::{Rule, rule_at};
@@ -58,6 +58,29 @@ fn reads_apart(rule: Rule) -> bool
     }
 }
 
+// Whether a read by a rule looks at a timer. It leaves the lines, and what may end.
+fn reads_timer(rule: Rule) -> bool
+    ensures { result ≡ reads_timer rule }
+{
+    match rule {
+        Rule::TimerFlags
+        | Rule::TimerFlags3
+        | Rule::Timer0 { .. }
+        | Rule::Timer1 { .. }
+        | Rule::Timer2 { .. }
+        | Rule::Timer3 { .. } => true,
+        Rule::Reserved
+        | Rule::Pin { .. }
+        | Rule::Kept { .. }
+        | Rule::Guarded { .. }
+        | Rule::WatchdogControl
+        | Rule::ResetFlags
+        | Rule::CpuControl
+        | Rule::Usart0 { .. }
+        | Rule::Spi { .. } => false,
+    }
+}
+
 // So a write of the register at an address.
 fn writes_apart(rule: Rule, at: u8) -> bool
     ensures { result ≡ writes_apart rule at }
@@ -89,6 +112,19 @@ impl LaggingBoard {
         ensures err { IfErr result (λ cause. get_by rule self.old at ≡ Err cause) }
         ensures same { OnErr result (self.new ≡ self.old) }
     {
+        self.board.get_by(rule, at)
+    }
+
+    // A read that looks at a timer.
+    #[inline(never)]
+    fn get_timer(&mut self, rule: Rule, at: u8) -> Result<u8, StopCause>
+        requires { reads_timer rule ≡ true }
+        ensures ok { IfOk result (λ x. get_by rule self.old at ≡ Ok (x, self.new)) }
+        ensures err { IfErr result (λ cause. get_by rule self.old at ≡ Err cause) }
+        ensures same { OnErr result (self.new ≡ self.old) }
+    {
+        self.board.catch_up(self.ahead.settled);
+        self.ahead.settled = self.board.clock.get();
         self.board.get_by(rule, at)
     }
 
@@ -146,6 +182,9 @@ impl Bus for LaggingBoard {
         let rule = rule_at(low);
         if reads_apart(rule) {
             return self.get_apart(rule, low);
+        }
+        if reads_timer(rule) {
+            return self.get_timer(rule, low);
         }
         self.get_moving(rule, low)
     }
