@@ -13,6 +13,7 @@ const TIMSK: u8 = 0x57;
 
 const ETIMSK: u8 = 0x7D;
 
+#[inline]
 fn is_udr(reg: UsartReg) -> bool
     ensures { result ≡ is_udr reg }
 {
@@ -26,6 +27,7 @@ fn is_udr(reg: UsartReg) -> bool
     }
 }
 
+#[inline]
 fn is_spdr(reg: SpiReg) -> bool
     ensures { result ≡ is_spdr reg }
 {
@@ -36,6 +38,7 @@ fn is_spdr(reg: SpiReg) -> bool
 }
 
 // Whether a read by a rule looks at no timer, and leaves the lines and what may end.
+#[inline]
 fn reads_apart(rule: Rule) -> bool
     ensures { result ≡ reads_apart rule }
 {
@@ -59,6 +62,7 @@ fn reads_apart(rule: Rule) -> bool
 }
 
 // Whether a read by a rule looks at a timer. It leaves the lines, and what may end.
+#[inline]
 fn reads_timer(rule: Rule) -> bool
     ensures { result ≡ reads_timer rule }
 {
@@ -82,6 +86,7 @@ fn reads_timer(rule: Rule) -> bool
 }
 
 // So a write of the register at an address.
+#[inline]
 fn writes_apart(rule: Rule, at: u8) -> bool
     ensures { result ≡ writes_apart rule at }
 {
