@@ -1,10 +1,9 @@
 -- An access that looks at no timer is the same on a board whose timers lag, and leaves what is known of it.
-use Rattle.std.proofs.Common.{◌≡◌, ◌≢◌, ℕ, zero, suc, ◌+◌, ◌-◌, ◌/◌, cond, ◌==◌, ◌&&◌, not, if◌then◌else◌, Bool, true, false, Result, Ok, Err, refl, sym, ap, ◌∙◌, subst, arith, get_or}
+use Rattle.std.proofs.Common.{◌≡◌, ◌≢◌, ℕ, zero, suc, ◌+◌, ◌-◌, ◌/◌, cond, ◌==◌, ◌&&◌, not, if◌then◌else◌, Bool, true, false, Result, Ok, Err, refl, sym, ap, ◌∙◌, subst, arith}
 use Rattle.std.specs.Prelude.{bit_and, IfOk, OnOk, IfErr, OnErr}
 use Rattle.std.proofs.lemmas.Bool.{and_parts, eq-eqb}
 use Rattle.std.proofs.lemmas.List.{get_or-set_other}
 use Rattle.avr_base.specs.declared.stop.StopCause.{StopCause}
-use Rattle.avr_base.specs.declared.stop.StopCause.TheVariants as stop
 use Rattle.board_io.specs.declared.ahead.Ahead.{Ahead}
 use Rattle.board_io.specs.declared.board.Board.{Board}
 use Rattle.board_io.specs.declared.rules.Rule.{Rule}
@@ -81,7 +80,6 @@ got_apart (Usart0 usart.Udr) b at s n e = absurd (false_true e)
 got_apart (Spi spi.Control) b at s n e = (refl, itself b)
 got_apart (Spi spi.Status) b at s n e = (refl, record { clock = refl; quiet = λ t. refl; same = λ t i. refl })
 got_apart (Spi spi.Spdr) b at s n e = absurd (false_true e)
-
 
 -- reads of the timers: TEMP alone may change
 temp_clocked : (c : Bool) (x : ℕ) (u : Timer16) → cond c (timer16.clock (with_temp x u)) (with_temp x u) ≡ with_temp x (cond c (timer16.clock u) u)

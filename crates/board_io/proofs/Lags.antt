@@ -1,5 +1,5 @@
 -- A board that lags: what its value is, and what stays known of it.
-use Rattle.std.proofs.Common.{◌≡◌, ℕ, ◌+◌, ◌-◌, ◌<◌, ◌≤◌, ◌==◌, ◌&&◌, not, Bool, true, false, Option, Some, None, refl, sym, ap, ◌∙◌, subst, arith}
+use Rattle.std.proofs.Common.{◌≡◌, ℕ, ◌+◌, ◌-◌, ◌<◌, ◌≤◌, true, Option, Some, None, refl, sym, ap, ◌∙◌, subst, arith}
 use Rattle.board_io.specs.declared.ahead.Ahead.{Ahead}
 use Rattle.board_io.specs.declared.board.Board.{Board}
 use Rattle.board_io.specs.Board.{clock_at, sleep_mode, unclocked}
@@ -12,7 +12,6 @@ use Rattle.board_io.specs.Lagging.{IsAhead, IsIdle, caught_up}
 use Rattle.board_io.specs.Lines.{lines_of}
 use Rattle.board_io.proofs.Leaps.{leap_quiet, leap_zero}
 use Rattle.device_clocks.proofs.Cycles.{cycles-add}
-use Rattle.device_clocks.specs.Clock.{cycles}
 use Rattle.interrupt_unit.specs.declared.unit.Lines.{Lines}
 use Rattle.timer16.specs.Timer as timer16
 use Rattle.timer8.specs.Timer as timer8

@@ -1,12 +1,12 @@
 -- The clock of a node's board runs on, and its state does not show it.
-use Rattle.std.proofs.Common.{◌≡◌, ℕ, ◌+◌, ◌<◌, None, true, List, sym, subst, ap, ◌∙◌}
+use Rattle.std.proofs.Common.{◌≡◌, ℕ, ◌+◌, ◌<◌, None, List, subst}
 use Rattle.avr_decoder.specs.declared.op.Op.{Op}
 use Rattle.board_io.specs.declared.board.Board.{Board}
-use Rattle.board_io.specs.Board.{clock_at, unclocked}
-use Rattle.board_io.specs.Cycle.{board_quiet, timers_leap}
+use Rattle.board_io.specs.Board.{unclocked}
+use Rattle.board_io.specs.Cycle.{timers_leap}
 use Rattle.board_io.specs.Lagging.{IsIdle}
-use Rattle.board_io.specs.Lines.{entered_of, lines_of}
-use Rattle.board_io.proofs.Radio.{entered_clock, get_clock, put_clock}
+use Rattle.board_io.specs.Lines.{lines_of}
+use Rattle.board_io.proofs.Radio.{get_clock, put_clock}
 use Rattle.data_space.specs.declared.cpu.Cpu.{Cpu}
 use Rattle.usart_port.specs.Script.{script_byte}
 use Rattle.node_core.specs.declared.bus.NodeBus.{NodeBus}

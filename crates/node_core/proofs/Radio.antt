@@ -1,25 +1,21 @@
 -- The radio through a cycle: the processor leaves it as it is, and two sends lie apart.
 use Rattle.std.proofs.Common.{◌≡◌, ℕ, ◌+◌, ◌≤◌, nat_lt, Bool, true, false, cond, Option, Some, None, List, is_some, refl, sym, subst, ap, ◌∙◌, arith}
-use Rattle.std.specs.Prelude.{Result, Ok, Err, ◌/◌, ◌%◌}
+use Rattle.std.specs.Prelude.{Result, Ok, Err}
 use Rattle.avr_base.specs.declared.stop.StopCause.{StopCause}
-use Rattle.avr_decoder.specs.Class.{class_of}
-use Rattle.avr_decoder.specs.declared.op.Class.{Class}
-use Rattle.avr_decoder.specs.declared.op.Class.TheVariants as class
 use Rattle.avr_decoder.specs.declared.op.Op.{Op}
 use Rattle.board_io.specs.declared.board.Board.{Board}
-use Rattle.board_io.specs.Registers.{io_get, io_put}
 use Rattle.board_io.proofs.Radio as board
 use Rattle.byte_radio.specs.declared.radio.Radio.{Radio}
 use Rattle.data_space.specs.declared.bus.Done.{Done}
 use Rattle.data_space.specs.declared.cpu.Cpu.{Cpu}
-use Rattle.data_space.specs.Space.{Access, pushed}
+use Rattle.data_space.specs.Space.{Access}
 use Rattle.interrupt_unit.specs.declared.unit.Vector.{Vector}
 use Rattle.usart_port.specs.Script.{script_byte}
 use Rattle.world_core.specs.declared.air.Heard.{Heard}
 use Rattle.node_core.specs.declared.bus.NodeBus.{NodeBus}
-use Rattle.node_core.specs.Bus.{board_got, board_put, bus_at, bus_get, bus_put}
+use Rattle.node_core.specs.Bus.{bus_at}
 use Rattle.node_core.specs.State.{NodeState}
-use Rattle.node_core.specs.Execute.{executed, executed_by}
+use Rattle.node_core.specs.Execute.{executed}
 use Rattle.node_core.specs.Interrupts.{due, entry}
 use Rattle.node_core.specs.Cycle.{acted, after_entry, after_instruction, asks_after, asks_in, begun_in, cpu_cycle, devices_cycle, entered, finished_in, instructed, is_refused, op_now, sends_after, sends_in}
 use Rattle.node_core.proofs.Cycles.{asks_parts, begun_parts, devices_ask, devices_move, devices_send, sends_parts}

@@ -1,6 +1,5 @@
 use Rattle.std.proofs.Common.{◌≡◌, ℕ, ◌+◌, ◌-◌, true, sym, ap, ◌∙◌, subst, arith}
-use Rattle.board_io.specs.Cycle.{board_quiet, timers_leap}
-use Rattle.board_io.specs.Lines.{lines_of}
+use Rattle.board_io.specs.Cycle.{board_quiet}
 use Rattle.board_io.specs.declared.board.Board.{Board}
 use Rattle.interrupt_unit.specs.declared.unit.Lines.{Lines}
 use Rattle.board_io.proofs.board.Board.ahead.Goals as goal

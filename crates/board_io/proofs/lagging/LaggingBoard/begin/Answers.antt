@@ -1,4 +1,4 @@
-use Rattle.std.proofs.Common.{◌≡◌, ◌+◌, ℕ, Option, sym, ap, ◌∙◌}
+use Rattle.std.proofs.Common.{◌+◌, ℕ, Option, sym, ap, ◌∙◌}
 use Rattle.board_io.specs.Board.{unclocked}
 use Rattle.board_io.specs.Cycle.{board_begun, timers_leap}
 use Rattle.board_io.specs.declared.board.Board.{Board}

@@ -1,4 +1,4 @@
-use Rattle.std.proofs.Common.{◌≡◌, ◌≤◌, ap, ◌∙◌, arith}
+use Rattle.std.proofs.Common.{ap, ◌∙◌, arith}
 use Rattle.board_io.specs.Lines.{entered_of}
 use Rattle.board_io.specs.declared.board.Board.{Board}
 use Rattle.board_io.proofs.Lags.{caught_clock, caught_zero}

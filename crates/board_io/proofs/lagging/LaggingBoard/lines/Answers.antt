@@ -1,6 +1,3 @@
-use Rattle.std.proofs.Common.{sym, ap, ◌∙◌}
-use Rattle.board_io.specs.Lines.{lines_of}
-use Rattle.board_io.specs.declared.board.Board.{Board}
 use Rattle.board_io.proofs.Lags.{lines_are}
 use Rattle.board_io.proofs.lagging.LaggingBoard.lines.Goals as goal
 

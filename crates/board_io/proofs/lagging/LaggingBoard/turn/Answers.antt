@@ -1,4 +1,4 @@
-use Rattle.std.proofs.Common.{◌≡◌, ◌+◌, true, is_some, sym, ap, ◌∙◌}
+use Rattle.std.proofs.Common.{◌+◌, is_some, sym, ap, ◌∙◌}
 use Rattle.board_io.specs.Board.{clock_at, unclocked}
 use Rattle.board_io.specs.Cycle.{board_asks, board_begun, board_sends, board_serial}
 use Rattle.board_io.specs.declared.board.Board.{Board}

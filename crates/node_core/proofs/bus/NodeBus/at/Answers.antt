@@ -1,4 +1,3 @@
-use Rattle.std.proofs.Common.{sym}
 use Rattle.board_io.specs.Board.{clock_at}
 use Rattle.node_core.specs.Bus.{with_board}
 use Rattle.node_core.specs.declared.bus.NodeBus.{NodeBus}

@@ -1,5 +1,4 @@
-use Rattle.std.proofs.Common.{◌≡◌, ℕ, ◌-◌, ◌+◌, is_some, sym, ap, ◌∙◌, arith}
-use Rattle.board_io.specs.declared.board.Board.{Board}
+use Rattle.std.proofs.Common.{◌≡◌, ℕ, ◌-◌, is_some, sym, ap, ◌∙◌, arith}
 use Rattle.board_io.specs.Board.{unclocked}
 use Rattle.board_io.specs.Cycle.{timers_leap}
 use Rattle.node_core.specs.Bus.{with_board}

@@ -1,4 +1,4 @@
-use Rattle.std.proofs.Common.{◌≡◌, ℕ, ◌-◌, ◌+◌, is_some, sym, ap, ◌∙◌, arith}
+use Rattle.std.proofs.Common.{ℕ, ◌-◌, is_some, sym, ap, ◌∙◌, arith}
 use Rattle.board_io.specs.declared.board.Board.{Board}
 use Rattle.board_io.specs.Board.{unclocked}
 use Rattle.board_io.specs.Cycle.{timers_leap}
