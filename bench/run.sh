@@ -1,7 +1,9 @@
 #!/usr/bin/env bash
 # Simulated cycles per second of `node`, and its peak memory: bench/run.sh [CYCLES] (10,000,000 where absent, the most
 # that `node` takes). It runs the program as ./avrora built it, five times for each image, and prints the fastest run.
-# Where a C compiler and Debian's libsimavr-dev are installed it runs the two loops without devices on simavr as well.
+# Where a C compiler, Debian's libsimavr-dev and avr-objcopy are installed, each image but those of the radio and of
+# sleep, at which simavr idles by the clock, runs on simavr right after, with the ratio of the two. Where valgrind is
+# installed, host instructions per AVR instruction follow, counted between 100,000 and 300,000 cycles; they hardly vary.
 set -eu
 top=$(cd "$(dirname "$0")/.." && pwd)
 cycles=${1:-10000000}
@@ -27,9 +29,19 @@ report() {
         printf "%s: %d cycles in %s%.2f s, %s%.1f million cycles a second, %d KiB at most\n", n, c, below, s, below == "" ? "" : "over ", c / s / 1e6, k }'
 }
 
-for image in registers mixed ticks uart ring sleep; do
+peer=
+if cc -O2 -w -o "$work/peer" "$top/bench/peer.c" -lsimavr 2>/dev/null && command -v avr-objcopy >/dev/null; then peer=$work/peer; fi
+
+for image in registers mixed floats ticks ticks400 kernel counter uart ring sleep; do
     fastest "$program" node "$top/bench/$image.hex" "$cycles"
     report "$image"
+    ours=$best
+    if [ -n "$peer" ] && [ "$image" != ring ] && [ "$image" != sleep ]; then
+        avr-objcopy -I ihex -O binary "$top/bench/$image.hex" "$work/$image.bin"
+        fastest "$peer" "$work/$image.bin" "$cycles"
+        report "simavr, $image"
+        awk -v o="$ours" -v p="$best" 'BEGIN { if (o > 0) printf "ratio: %.2f\n", p / o }'
+    fi
 done
 
 # A thousand million cycles of sleep, in runs of ten million, starts of the program included.
@@ -37,10 +49,17 @@ start=$(date +%s.%N)
 for _ in $(seq 100); do "$program" node "$top/bench/sleep.hex" 10000000 >/dev/null; done
 awk -v a="$start" -v b="$(date +%s.%N)" 'BEGIN { printf "sleep: 100 runs of 10000000 cycles in %.2f s\n", b - a }'
 
-if cc -O2 -w -o "$work/peer" "$top/bench/peer.c" -lsimavr 2>/dev/null && command -v avr-objcopy >/dev/null; then
-    for image in registers mixed; do
-        avr-objcopy -I ihex -O binary "$top/bench/$image.hex" "$work/$image.bin"
-        fastest "$work/peer" "$work/$image.bin" "$cycles"
-        report "simavr, $image"
+# Host instructions of a run, and the AVR instructions that it executed.
+count() {
+    host=$(valgrind --tool=callgrind --callgrind-out-file=/dev/null "$program" node "$1" "$2" 2>&1 >"$work/rows" | awk '/Collected/ { print $4 }')
+    executed=$(awk 'END { print $(NF - 1) }' "$work/rows")
+}
+
+if command -v valgrind >/dev/null; then
+    for image in registers mixed floats ticks ticks400 kernel counter uart ring sleep; do
+        count "$top/bench/$image.hex" 100000
+        h=$host e=$executed
+        count "$top/bench/$image.hex" 300000
+        awk -v n="$image" -v h="$((host - h))" -v e="$((executed - e))" 'BEGIN { printf "%s: %.0f host instructions an instruction\n", n, h / e }'
     done
 fi

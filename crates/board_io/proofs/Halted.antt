@@ -1,9 +1,5 @@
--- Timers that are halted stand as they are.
-use Rattle.std.proofs.Common.{◌≡◌, ℕ, zero, suc, ◌+◌, refl, ap, ◌∙◌}
-use Rattle.board_io.specs.declared.board.Board.{Board}
-use Rattle.board_io.specs.Cycle.{timers_cycle, timers_leap}
-use Rattle.board_io.specs.Passing.{AreHalted}
-use Rattle.board_io.proofs.Leaps.{leap_next, leap_zero}
+-- A timer that is halted stands as it is.
+use Rattle.std.proofs.Common.{◌≡◌, ℕ, refl, ap, ◌∙◌}
 use Rattle.timer16.specs.declared.timer16.Timer16.{Timer16}
 use Rattle.timer16.specs.Timer as timer16
 use Rattle.timer8.specs.declared.timer8.Timer8.{Timer8}
@@ -22,11 +18,3 @@ halted_8 t tm e = let d : timer8.divider_of tm.which tm.select ≡ 0 = ap (timer
 pub halted_16 : (t : ℕ) (tm : Timer16) → tm.select ≡ 0 → timer16.timer_cycle t tm ≡ tm
 unfolding timer16.divider
 halted_16 t tm e = rw e refl
-
-module _ (b : Board) (h : AreHalted b) where
-  halted_cycle : (t : ℕ) → timers_cycle t b ≡ b
-  halted_cycle t = λ k. let c : Board = record b { t0 = halted_8 t b.t0 h.zero k; t1 = halted_16 t b.t1 h.one k; t2 = halted_8 t b.t2 h.two k; t3 = halted_16 t b.t3 h.three k } in c
-
-  pub halted_leap : (t n : ℕ) → timers_leap t n b ≡ b
-  halted_leap t zero = leap_zero t b
-  halted_leap t (suc n) = leap_next t n b ∙ (ap (timers_cycle (t + n)) (halted_leap t n) ∙ halted_cycle (t + n))

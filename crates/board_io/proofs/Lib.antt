@@ -5,3 +5,5 @@ pub mod Leaps
 pub mod Radio
 pub mod Halted
 pub mod Enabled
+pub mod Lags
+pub mod Apart

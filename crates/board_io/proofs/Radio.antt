@@ -106,16 +106,22 @@ leap_radio t n b = refl
 pub clock_radio : (t : ℕ) (b : Board) → (clock_at t b).radio ≡ b.radio
 clock_radio t b = refl
 
--- the radio after a read and after a write, where these do not stop
-abbrev radio_got : Result (ℕ × Board) StopCause → Radio → Radio
-radio_got (Ok p) r = p.1.radio
-radio_got (Err cause) r = r
+-- the radio and the clock: after a read and after a write, where these do not stop
+abbrev Aside : Type 0
+Aside = Radio × ℕ
 
-abbrev radio_put : Result Board StopCause → Radio → Radio
-radio_put (Ok b) r = b.radio
-radio_put (Err cause) r = r
+abbrev aside : Board → Aside
+aside b = (b.radio, b.clock)
 
-got_by : (rule : Rule) (b : Board) (at : ℕ) → radio_got (get_by rule b at) b.radio ≡ b.radio
+abbrev aside_got : Result (ℕ × Board) StopCause → Aside → Aside
+aside_got (Ok p) r = aside p.1
+aside_got (Err cause) r = r
+
+abbrev aside_put : Result Board StopCause → Aside → Aside
+aside_put (Ok b) r = aside b
+aside_put (Err cause) r = r
+
+got_by : (rule : Rule) (b : Board) (at : ℕ) → aside_got (get_by rule b at) (aside b) ≡ aside b
 got_by Reserved b at = refl
 got_by (Pin port) b at = refl
 got_by (Kept mask) b at = refl
@@ -132,71 +138,105 @@ got_by (Timer3 reg) b at = refl
 got_by (Usart0 reg) b at = refl
 got_by (Spi reg) b at = refl
 
-pub get_radio : (b c : Board) (at x : ℕ) → io_get b at ≡ Ok (x, c) → c.radio ≡ b.radio
-unfolding io_get
-get_radio b c at x e = sym (ap (λ (r : Result (ℕ × Board) StopCause). radio_got r b.radio) e) ∙ got_by (rule_of at) b at
+pub get_by_aside : (rule : Rule) (b c : Board) (at x : ℕ) → get_by rule b at ≡ Ok (x, c) → aside c ≡ aside b
+get_by_aside rule b c at x e = sym (ap (λ (r : Result (ℕ × Board) StopCause). aside_got r (aside b)) e) ∙ got_by rule b at
 
-choice : (c : Bool) (x y : Result Board StopCause) (r : Radio) → radio_put x r ≡ r → radio_put y r ≡ r → radio_put (if c then x else y) r ≡ r
+get_aside : (b c : Board) (at x : ℕ) → io_get b at ≡ Ok (x, c) → aside c ≡ aside b
+unfolding io_get
+get_aside b c at x e = get_by_aside (rule_of at) b c at x e
+
+pub get_radio : (b c : Board) (at x : ℕ) → io_get b at ≡ Ok (x, c) → c.radio ≡ b.radio
+get_radio b c at x e = ap (λ (p : Aside). p.0) (get_aside b c at x e)
+
+pub get_clock : (b c : Board) (at x : ℕ) → io_get b at ≡ Ok (x, c) → c.clock ≡ b.clock
+get_clock b c at x e = ap (λ (p : Aside). p.1) (get_aside b c at x e)
+
+pub get_by_clock : (rule : Rule) (b c : Board) (at x : ℕ) → get_by rule b at ≡ Ok (x, c) → c.clock ≡ b.clock
+get_by_clock rule b c at x e = ap (λ (p : Aside). p.1) (get_by_aside rule b c at x e)
+
+choice : (c : Bool) (x y : Result Board StopCause) (r : Aside) → aside_put x r ≡ r → aside_put y r ≡ r → aside_put (if c then x else y) r ≡ r
 choice true x y r e f = e
 choice false x y r e f = f
 
-t0_radio : (b : Board) (o : Result Timer8 StopCause) → radio_put (with_t0 b o) b.radio ≡ b.radio
-t0_radio b (Ok t) = refl
-t0_radio b (Err cause) = refl
+t0_aside : (b : Board) (o : Result Timer8 StopCause) → aside_put (with_t0 b o) (aside b) ≡ aside b
+t0_aside b (Ok t) = refl
+t0_aside b (Err cause) = refl
 
-t1_radio : (b : Board) (o : Result Timer16 StopCause) → radio_put (with_t1 b o) b.radio ≡ b.radio
-t1_radio b (Ok t) = refl
-t1_radio b (Err cause) = refl
+t1_aside : (b : Board) (o : Result Timer16 StopCause) → aside_put (with_t1 b o) (aside b) ≡ aside b
+t1_aside b (Ok t) = refl
+t1_aside b (Err cause) = refl
 
-t2_radio : (b : Board) (o : Result Timer8 StopCause) → radio_put (with_t2 b o) b.radio ≡ b.radio
-t2_radio b (Ok t) = refl
-t2_radio b (Err cause) = refl
+t2_aside : (b : Board) (o : Result Timer8 StopCause) → aside_put (with_t2 b o) (aside b) ≡ aside b
+t2_aside b (Ok t) = refl
+t2_aside b (Err cause) = refl
 
-t3_radio : (b : Board) (o : Result Timer16 StopCause) → radio_put (with_t3 b o) b.radio ≡ b.radio
-t3_radio b (Ok t) = refl
-t3_radio b (Err cause) = refl
+t3_aside : (b : Board) (o : Result Timer16 StopCause) → aside_put (with_t3 b o) (aside b) ≡ aside b
+t3_aside b (Ok t) = refl
+t3_aside b (Err cause) = refl
 
-usart_radio : (b : Board) (o : Result Usart StopCause) → radio_put (with_usart b o) b.radio ≡ b.radio
-usart_radio b (Ok u) = refl
-usart_radio b (Err cause) = refl
+usart_aside : (b : Board) (o : Result Usart StopCause) → aside_put (with_usart b o) (aside b) ≡ aside b
+usart_aside b (Ok u) = refl
+usart_aside b (Err cause) = refl
 
-spi_radio : (b : Board) (o : Result SpiPort StopCause) → radio_put (with_spi b o) b.radio ≡ b.radio
-spi_radio b (Ok s) = refl
-spi_radio b (Err cause) = refl
+spi_aside : (b : Board) (o : Result SpiPort StopCause) → aside_put (with_spi b o) (aside b) ≡ aside b
+spi_aside b (Ok s) = refl
+spi_aside b (Err cause) = refl
 
-put_keeps : (rule : Rule) (b : Board) (at x : ℕ) → radio_put (put_by rule b at x) b.radio ≡ b.radio
+put_keeps : (rule : Rule) (b : Board) (at x : ℕ) → aside_put (put_by rule b at x) (aside b) ≡ aside b
 put_keeps Reserved b at x = refl
 put_keeps (Pin port) b at x = refl
 put_keeps (Kept mask) b at x = refl
-put_keeps (Guarded bits cause mask) b at x = choice (any_bit x bits) (Err cause) (Ok (with_kept at (bit_and x mask) b)) b.radio refl refl
-put_keeps WatchdogControl b at x = choice (any_bit x 0x08 && not (any_bit x 0x10)) (Err stop.Watchdog) (Ok b) b.radio refl refl
+put_keeps (Guarded bits cause mask) b at x = choice (any_bit x bits) (Err cause) (Ok (with_kept at (bit_and x mask) b)) (aside b) refl refl
+put_keeps WatchdogControl b at x = choice (any_bit x 0x08 && not (any_bit x 0x10)) (Err stop.Watchdog) (Ok b) (aside b) refl refl
 put_keeps ResetFlags b at x = refl
 put_keeps CpuControl b at x =
     let kept : Result Board StopCause = Ok (with_kept at (bit_and x 0x7C) b) in
-    choice (any_bit x 0x80) (Err stop.ExternalMemory) (if any_bit x 0x02 then Err stop.MovedVectors else kept) b.radio refl
-    (choice (any_bit x 0x02) (Err stop.MovedVectors) kept b.radio refl refl)
+    choice (any_bit x 0x80) (Err stop.ExternalMemory) (if any_bit x 0x02 then Err stop.MovedVectors else kept) (aside b) refl
+    (choice (any_bit x 0x02) (Err stop.MovedVectors) kept (aside b) refl refl)
 put_keeps TimerFlags b at x = refl
 put_keeps TimerFlags3 b at x = refl
-put_keeps (Timer0 reg) b at x = t0_radio b (reg8.put_of b.t0 reg x)
-put_keeps (Timer1 reg) b at x = t1_radio b (reg16.put_of b.t1 reg x)
-put_keeps (Timer2 reg) b at x = t2_radio b (reg8.put_of b.t2 reg x)
-put_keeps (Timer3 reg) b at x = t3_radio b (reg16.put_of b.t3 reg x)
-put_keeps (Usart0 reg) b at x = usart_radio b (usart.put_of b.clock b.usart reg x)
-put_keeps (Spi reg) b at x = spi_radio b (spi.put_of b.clock b.spi reg x)
+put_keeps (Timer0 reg) b at x = t0_aside b (reg8.put_of b.t0 reg x)
+put_keeps (Timer1 reg) b at x = t1_aside b (reg16.put_of b.t1 reg x)
+put_keeps (Timer2 reg) b at x = t2_aside b (reg8.put_of b.t2 reg x)
+put_keeps (Timer3 reg) b at x = t3_aside b (reg16.put_of b.t3 reg x)
+put_keeps (Usart0 reg) b at x = usart_aside b (usart.put_of b.clock b.usart reg x)
+put_keeps (Spi reg) b at x = spi_aside b (spi.put_of b.clock b.spi reg x)
+
+pub put_by_aside : (rule : Rule) (b c : Board) (at x : ℕ) → put_by rule b at x ≡ Ok c → aside c ≡ aside b
+put_by_aside rule b c at x e = sym (ap (λ (r : Result Board StopCause). aside_put r (aside b)) e) ∙ put_keeps rule b at x
+
+put_aside : (b c : Board) (at x : ℕ) → io_put b at x ≡ Ok c → aside c ≡ aside b
+unfolding io_put
+put_aside b c at x e = put_by_aside (rule_of at) b c at x e
 
 pub put_radio : (b c : Board) (at x : ℕ) → io_put b at x ≡ Ok c → c.radio ≡ b.radio
-unfolding io_put
-put_radio b c at x e = sym (ap (λ (r : Result Board StopCause). radio_put r b.radio) e) ∙ put_keeps (rule_of at) b at x
+put_radio b c at x e = ap (λ (p : Aside). p.0) (put_aside b c at x e)
 
-apart_from : (c : Bool) (x y b : Board) → x.radio ≡ b.radio → y.radio ≡ b.radio → (if c then x else y).radio ≡ b.radio
+pub put_clock : (b c : Board) (at x : ℕ) → io_put b at x ≡ Ok c → c.clock ≡ b.clock
+put_clock b c at x e = ap (λ (p : Aside). p.1) (put_aside b c at x e)
+
+pub put_by_clock : (rule : Rule) (b c : Board) (at x : ℕ) → put_by rule b at x ≡ Ok c → c.clock ≡ b.clock
+put_by_clock rule b c at x e = ap (λ (p : Aside). p.1) (put_by_aside rule b c at x e)
+
+apart_from : (c : Bool) (x y b : Board) → aside x ≡ aside b → aside y ≡ aside b → aside (if c then x else y) ≡ aside b
 apart_from true x y b e f = e
 apart_from false x y b e f = f
 
-pub entered_radio : (word : ℕ) (b : Board) → (entered_of word b).radio ≡ b.radio
+entered_aside : (word : ℕ) (b : Board) → aside (entered_of word b) ≡ aside b
 unfolding entered_of
-entered_radio word b =
+entered_aside word b =
     apart_from (word == 0x12) _ _ b refl (apart_from (word == 0x14) _ _ b refl (apart_from (word == 0x18) _ _ b refl
     (apart_from (word == 0x1A) _ _ b refl (apart_from (word == 0x1C) _ _ b refl (apart_from (word == 0x1E) _ _ b refl
     (apart_from (word == 0x20) _ _ b refl (apart_from (word == 0x22) _ _ b refl (apart_from (word == 0x28) _ _ b refl
     (apart_from (word == 0x30) _ _ b refl (apart_from (word == 0x34) _ _ b refl (apart_from (word == 0x36) _ _ b refl
     (apart_from (word == 0x38) _ _ b refl (apart_from (word == 0x3A) _ _ b refl refl)))))))))))))
+
+pub entered_radio : (word : ℕ) (b : Board) → (entered_of word b).radio ≡ b.radio
+entered_radio word b = ap (λ (p : Aside). p.0) (entered_aside word b)
+
+pub entered_clock : (word : ℕ) (b : Board) → (entered_of word b).clock ≡ b.clock
+entered_clock word b = ap (λ (p : Aside). p.1) (entered_aside word b)
+
+pub answered_clock : (h : Heard) (b : Board) → (board_answered h b).clock ≡ b.clock
+unfolding board_answered
+answered_clock h b = refl

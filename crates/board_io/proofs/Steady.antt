@@ -41,6 +41,12 @@ halted_8 t n tm e = ap timer8.flags_of (clocks8.cycles-stopped t n tm e)
 pub halted_16 : (t n : ℕ) (tm : Timer16) → tm.select ≡ 0 → (cycles timer16.timer_cycle t n tm).flags ≡ tm.flags
 halted_16 t n tm e = ap (λ (u : Timer16). u.flags) (clocks16.cycles-stopped t n tm e)
 
+pub stopped_8 : (t n : ℕ) (tm : Timer8) → tm.select ≡ 0 → cycles timer8.timer_cycle t n tm ≡ tm
+stopped_8 t n tm e = clocks8.cycles-stopped t n tm e
+
+pub stopped_16 : (t n : ℕ) (tm : Timer16) → tm.select ≡ 0 → cycles timer16.timer_cycle t n tm ≡ tm
+stopped_16 t n tm e = clocks16.cycles-stopped t n tm e
+
 -- up to the first cycle that sets a flag, and with it
 pub before_8 : (t w n : ℕ) (tm : Timer8) → First (timer8.sets_flag_at t tm) (Some w) → n ≤ w → timer8.flags_of (cycles timer8.timer_cycle t n tm) ≡ timer8.flags_of tm
 before_8 t w n tm first le = clocks8.flags-until t n tm (λ i l. first.1 i (omega arith))

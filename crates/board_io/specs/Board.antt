@@ -38,6 +38,10 @@ with_kept at x b = record b { kept = slice_set b.kept at x }
 abbrev pub clock_at : ℕ → Board → Board
 clock_at t b = record b { clock = t }
 
+-- a board whose clock is not shown, as between two accesses
+abbrev pub unclocked : Board → Board
+unclocked b = clock_at 0 b
+
 -- whether the radio is selected: bit 0 of port B is an output, in DDRB 0x37, and low, in PORTB 0x38
 abbrev pub selected : Board → Bool
 selected b = any_bit (kept_at 0x37 b) 0x01 && not (any_bit (kept_at 0x38 b) 0x01)

@@ -4,3 +4,4 @@ pub mod Registers
 pub mod Lines
 pub mod Cycle
 pub mod Passing
+pub mod Lagging

@@ -2,8 +2,11 @@
 //! the serial peripheral interface and the radio; one cycle of these devices, or many at once; and the interrupt lines.
 #![tactic(auto)]
 
+mod ahead;
 mod board;
 mod clock;
+mod lagging;
+mod lagging_registers;
 mod lines;
 mod passing;
 mod registers;
@@ -12,6 +15,7 @@ mod turn;
 
 pub use board::{Board, Sleep};
 pub use clock::Cycle;
+pub use lagging::LaggingBoard;
 pub use rules::Rule;
 pub use turn::Begun;
 

@@ -28,13 +28,42 @@ fn cycles_before(end: Option<u64>, cycle: u64, most: u64) -> u64
     }
 }
 
+// The cycles of a timer at once. Most are halted: one test.
+#[inline]
+#[tactic(auto, using(crate::proofs::Steady::stopped_8))]
+fn leap_8(timer: &mut Timer8, cycle: u64, n: u64)
+    requires { cycle + n ≤ 2 ^ 41 }
+    ensures { timer.new ≡ cycles timer8.timer_cycle cycle n timer.old }
+{
+    if timer.select != 0 {
+        timer.leap(cycle, n);
+    }
+}
+
+// The cycles of a timer of sixteen bits at once.
+#[inline]
+#[tactic(auto, using(crate::proofs::Steady::stopped_16))]
+fn leap_16(timer: &mut Timer16, cycle: u64, n: u64)
+    requires { cycle + n ≤ 2 ^ 41 }
+    ensures { timer.new ≡ cycles timer16.timer_cycle cycle n timer.old }
+{
+    if timer.select != 0 {
+        timer.leap(cycle, n);
+    }
+}
+
 // For how many cycles from `cycle` on, of at most `most`, each begins with the flags that the timer has now.
+#[inline]
+#[tactic(auto, using(crate::proofs::Steady::halted_8))]
 fn same_flags_8(timer: &Timer8, cycle: u64, most: u64) -> u64
     requires { cycle ≤ 2 ^ 40 }
     ensures within { result ≤ most }
     ensures same { (i : ℕ) → i < result → timer8.flags_of (cycles timer8.timer_cycle cycle i timer.now) ≡ timer8.flags_of timer.now }
     ensures goes_on { 0 < most → 0 < result }
 {
+    if timer.select == 0 {
+        return most;
+    }
     match timer.next_event(cycle) {
         None => most,
         Some(event) => most.min(event - cycle + 1),
@@ -42,12 +71,17 @@ fn same_flags_8(timer: &Timer8, cycle: u64, most: u64) -> u64
 }
 
 // The same of a timer of sixteen bits.
+#[inline]
+#[tactic(auto, using(crate::proofs::Steady::halted_16))]
 fn same_flags_16(timer: &Timer16, cycle: u64, most: u64) -> u64
     requires { cycle ≤ 2 ^ 40 }
     ensures within { result ≤ most }
     ensures same { (i : ℕ) → i < result → (cycles timer16.timer_cycle cycle i timer.now).flags ≡ timer.now.flags }
     ensures goes_on { 0 < most → 0 < result }
 {
+    if timer.select == 0 {
+        return most;
+    }
     match timer.next_event(cycle) {
         None => most,
         Some(event) => most.min(event - cycle + 1),
@@ -73,18 +107,15 @@ impl Board {
 
     /// The timers' part of the `n` cycles from `cycle` on at once: of cycles in which no frame and no transfer ends and
     /// no byte arrives that is all that the devices do.
-    #[tactic(auto, unfolding(crate::specs::Cycle::timers_leap), using(crate::proofs::Halted::halted_leap))]
+    #[tactic(auto, unfolding(crate::specs::Cycle::timers_leap))]
     pub fn leap(&mut self, cycle: u64, n: u64)
         requires { cycle + n ≤ 2 ^ 41 }
         ensures { self.new ≡ timers_leap cycle n self.old }
     {
-        if self.are_timers_halted() {
-            return;
-        }
-        self.t0.leap(cycle, n);
-        self.t1.leap(cycle, n);
-        self.t2.leap(cycle, n);
-        self.t3.leap(cycle, n);
+        leap_8(&mut self.t0, cycle, n);
+        leap_16(&mut self.t1, cycle, n);
+        leap_8(&mut self.t2, cycle, n);
+        leap_16(&mut self.t3, cycle, n);
     }
 
     /// For how many cycles from `cycle` on, of at most `most`, each begins with the lines of now, where the timers alone

@@ -93,8 +93,8 @@ impl Board {
         self.kept[usize::from(at)]
     }
 
-    // A read of the register at a data address below 0x0100, by its rule.
-    fn get_by(&mut self, rule: Rule, at: u8) -> Result<u8, StopCause>
+    /// A read of the register at a data address below 0x0100, by its rule.
+    pub fn get_by(&mut self, rule: Rule, at: u8) -> Result<u8, StopCause>
         ensures ok { IfOk result (λ x. get_by rule self.old at ≡ Ok (x, self.new)) }
         ensures err { IfErr result (λ cause. get_by rule self.old at ≡ Err cause) }
         ensures same { OnErr result (self.new ≡ self.old) }
@@ -165,8 +165,8 @@ impl Board {
         Ok(())
     }
 
-    // A write of the register at a data address below 0x0100, by its rule.
-    fn put_by(&mut self, rule: Rule, at: u8, x: u8) -> Result<(), StopCause>
+    /// A write of the register at a data address below 0x0100, by its rule.
+    pub fn put_by(&mut self, rule: Rule, at: u8, x: u8) -> Result<(), StopCause>
         ensures ok { OnOk result (put_by rule self.old at x ≡ Ok self.new) }
         ensures err { IfErr result (λ cause. put_by rule self.old at x ≡ Err cause) }
         ensures same { OnErr result (self.new ≡ self.old) }

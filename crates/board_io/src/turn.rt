@@ -1,7 +1,6 @@
 // One cycle of the devices.
 ghost use Rattle.std.specs.Prelude.{◌≡◌, ◌≤◌, ◌^◌, true, is_some, IfSome};
 ghost use Rattle.usart_port.specs.Usart.{frame_ended};
-ghost use Rattle.board_io.specs.Passing.{AreHalted, IsStill};
 ghost use Rattle.timer16.specs.Timer as timer16;
 ghost use Rattle.timer8.specs.Timer as timer8;
 
@@ -20,6 +19,15 @@ pub struct Begun {
     pub sent: Option<u8>,
     /// Whether the radio samples the air in it: the cycle waits for `answer`.
     pub asks: bool,
+}
+
+impl Begun {
+    /// Nothing.
+    pub const NOTHING: Begun = Begun {
+        serial: None,
+        sent: None,
+        asks: false,
+    };
 }
 
 // A cycle of a timer. Most are halted: one test.
@@ -46,24 +54,6 @@ fn tick_16(timer: &mut Timer16, cycle: u64)
 
 impl Board {
     ghost use Rattle.board_io.specs.Cycle.{board_answered, board_asks, board_begun, board_sends, board_serial, is_ask, moved, samples, sends, sent_by, timers_cycle, transfer_end, transferred, usart_cycle, with_moved};
-
-    /// Whether no timer has a clock: each one's clock select is 0.
-    #[inline]
-    pub fn are_timers_halted(&self) -> bool
-        ensures { result ≡ true → AreHalted self.now }
-    {
-        self.t0.select == 0 && self.t1.select == 0 && self.t2.select == 0 && self.t3.select == 0
-    }
-
-    /// Whether nothing of it moves by itself in `cycle`: no timer has a clock, and no frame and no transfer ends. Then
-    /// that cycle, where no byte arrives in it, leaves it as it is, and sends and samples nothing.
-    #[inline]
-    #[tactic(auto, unfolding(crate::specs::Cycle::board_quiet))]
-    pub fn is_still(&self, cycle: u64) -> bool
-        ensures { result ≡ true → IsStill cycle self.now }
-    {
-        self.are_timers_halted() && !self.usart.ends_at(cycle) && !self.spi.ends_at(cycle)
-    }
 
     // The timers' part of a cycle.
     fn tick_timers(&mut self, cycle: u64)

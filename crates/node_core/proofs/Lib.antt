@@ -6,3 +6,5 @@ pub mod Idling
 pub mod Steady
 pub mod Takes
 pub mod Strides
+pub mod Untouched
+pub mod Clocks

@@ -1,29 +1,25 @@
 -- The radio through a cycle: the processor leaves it as it is, and two sends lie apart.
 use Rattle.std.proofs.Common.{◌≡◌, ℕ, ◌+◌, ◌≤◌, nat_lt, Bool, true, false, cond, Option, Some, None, List, is_some, refl, sym, subst, ap, ◌∙◌, arith}
-use Rattle.std.specs.Prelude.{Result, Ok, Err, ◌/◌, ◌%◌}
+use Rattle.std.specs.Prelude.{Result, Ok, Err}
 use Rattle.avr_base.specs.declared.stop.StopCause.{StopCause}
-use Rattle.avr_decoder.specs.Class.{class_of}
-use Rattle.avr_decoder.specs.declared.op.Class.{Class}
-use Rattle.avr_decoder.specs.declared.op.Class.TheVariants as class
 use Rattle.avr_decoder.specs.declared.op.Op.{Op}
 use Rattle.board_io.specs.declared.board.Board.{Board}
-use Rattle.board_io.specs.Registers.{io_get, io_put}
 use Rattle.board_io.proofs.Radio as board
 use Rattle.byte_radio.specs.declared.radio.Radio.{Radio}
 use Rattle.data_space.specs.declared.bus.Done.{Done}
 use Rattle.data_space.specs.declared.cpu.Cpu.{Cpu}
-use Rattle.data_space.specs.Space.{Access, pushed}
+use Rattle.data_space.specs.Space.{Access}
 use Rattle.interrupt_unit.specs.declared.unit.Vector.{Vector}
 use Rattle.usart_port.specs.Script.{script_byte}
 use Rattle.world_core.specs.declared.air.Heard.{Heard}
 use Rattle.node_core.specs.declared.bus.NodeBus.{NodeBus}
-use Rattle.node_core.specs.Bus.{board_got, board_put, bus_at, bus_get, bus_put}
+use Rattle.node_core.specs.Bus.{bus_at}
 use Rattle.node_core.specs.State.{NodeState}
-use Rattle.node_core.specs.Execute.{executed, executed_by}
+use Rattle.node_core.specs.Execute.{executed}
 use Rattle.node_core.specs.Interrupts.{due, entry}
 use Rattle.node_core.specs.Cycle.{acted, after_entry, after_instruction, asks_after, asks_in, begun_in, cpu_cycle, devices_cycle, entered, finished_in, instructed, is_refused, op_now, sends_after, sends_in}
 use Rattle.node_core.proofs.Cycles.{asks_parts, begun_parts, devices_ask, devices_move, devices_send, sends_parts}
-use Rattle.node_core.proofs.Keeps.{Got, Put, flow_keeps, flow_then, memory_keeps, pushed_kept}
+use Rattle.node_core.proofs.Untouched.{entry_keeps, executed_keeps}
 
 abbrev bus_radio : NodeBus → Radio
 bus_radio bus = bus.board.radio
@@ -31,45 +27,9 @@ bus_radio bus = bus.board.radio
 abbrev radio_of : NodeState → Radio
 radio_of s = s.bus.board.radio
 
--- ---- accesses leave the radio
-got_case : (v : Radio) (b : Bool) (p q : Result (ℕ × NodeBus) StopCause) → Got bus_radio bus_get bus_put v p → Got bus_radio bus_get bus_put v q → Got bus_radio bus_get bus_put v (cond b p q)
-got_case v true p q h k = h
-got_case v false p q h k = k
-
-put_case : (v : Radio) (b : Bool) (p q : Result NodeBus StopCause) → Put bus_radio bus_get bus_put v p → Put bus_radio bus_get bus_put v q → Put bus_radio bus_get bus_put v (cond b p q)
-put_case v true p q h k = h
-put_case v false p q h k = k
-
-got_board : (bus : NodeBus) (at : ℕ) (r : Result (ℕ × Board) StopCause) → io_get bus.board at ≡ r → Got bus_radio bus_get bus_put (bus_radio bus) (board_got bus r)
-got_board bus at (Ok given) e = board.get_radio bus.board given.1 at given.0 e
-got_board bus at (Err cause) e = tt
-
-put_board : (bus : NodeBus) (at x : ℕ) (r : Result Board StopCause) → io_put bus.board at x ≡ r → Put bus_radio bus_get bus_put (bus_radio bus) (board_put bus r)
-put_board bus at x (Ok given) e = board.put_radio bus.board given at x e
-put_board bus at x (Err cause) e = tt
-
-get_keeps : (bus : NodeBus) (at : ℕ) → Got bus_radio bus_get bus_put (bus_radio bus) (bus_get bus at)
-unfolding bus_get
-get_keeps bus at =
-    got_case (bus_radio bus) (nat_lt 0x10FF at) _ _ tt
-    (got_case (bus_radio bus) (nat_lt 0xFF at) _ _ refl (got_board bus at (io_get bus.board at) refl))
-
-put_keeps : (bus : NodeBus) (at x : ℕ) → Put bus_radio bus_get bus_put (bus_radio bus) (bus_put bus at x)
-unfolding bus_put
-put_keeps bus at x =
-    put_case (bus_radio bus) (nat_lt 0x10FF at) _ _ tt
-    (put_case (bus_radio bus) (nat_lt 0xFF at) _ _ refl (put_board bus at x (io_put bus.board at x) refl))
-
--- ---- so does the processor
-by_class : (k : Class) (flash : List ℕ) (o : Op) (cpu : Cpu) (bus : NodeBus) → bus_radio (executed_by k flash o cpu bus).bus ≡ bus_radio bus
-by_class class.Arith flash o cpu bus = refl
-by_class class.Flow flash o cpu bus = flow_keeps bus_radio bus_get bus_put get_keeps put_keeps (bus_radio bus) flash o cpu bus refl
-by_class class.Memory flash o cpu bus = memory_keeps bus_radio bus_get bus_put get_keeps put_keeps (bus_radio bus) flash o cpu bus refl
-by_class (class.Halting cause) flash o cpu bus = refl
-
+-- ---- accesses leave the radio, so does the processor
 executed_radio : (flash : List ℕ) (o : Op) (cpu : Cpu) (bus : NodeBus) → bus_radio (executed flash o cpu bus).bus ≡ bus_radio bus
-unfolding executed
-executed_radio flash o cpu bus = by_class (class_of o) flash o cpu bus
+executed_radio flash o cpu bus = executed_keeps (λ (b : Board). b.radio) board.get_radio board.put_radio flash o cpu bus
 
 state_case : (v : Radio) (b : Bool) (p q : NodeState) → radio_of p ≡ v → radio_of q ≡ v → radio_of (cond b p q) ≡ v
 state_case v true p q h k = h
@@ -87,14 +47,7 @@ instructed_radio t s =
     (after_radio s (op_now s) o.result o.cpu o.bus ∙ (executed_radio s.flash (op_now s) s.cpu (bus_at t s.bus) ∙ board.clock_radio t s.bus.board))
 
 entry_radio : (word : ℕ) (cpu : Cpu) (bus : NodeBus) → bus_radio (entry word cpu bus).bus ≡ bus_radio bus
-unfolding entry
-entry_radio word cpu bus =
-    let v : Radio = bus_radio bus in
-    let low = pushed bus_put (cpu.pc % 256) cpu bus in
-    flow_then bus_radio bus_get bus_put get_keeps put_keeps v low low.result _ (pushed_kept bus_radio bus_get bus_put get_keeps put_keeps v (cpu.pc % 256) cpu bus refl)
-    (λ done c b h.
-    (let high = pushed bus_put (cpu.pc / 256) c b in
-    flow_then bus_radio bus_get bus_put get_keeps put_keeps v high high.result _ (pushed_kept bus_radio bus_get bus_put get_keeps put_keeps v (cpu.pc / 256) c b h) (λ d e f k. k)))
+entry_radio word cpu bus = entry_keeps (λ (b : Board). b.radio) board.get_radio board.put_radio word cpu bus
 
 after_entry_radio : (wait : ℕ) (v : Vector) (s : NodeState) (a : Access (Unit {0}) NodeBus) (r : Result (Unit {0}) StopCause) → radio_of (after_entry wait v s a r) ≡ bus_radio a.bus
 after_entry_radio wait v s a (Ok done) = board.entered_radio v.word a.bus.board

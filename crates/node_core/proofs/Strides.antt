@@ -1,8 +1,8 @@
--- A run in the middle of a cycle: how it gets there, how it goes on where the devices are at rest, and how its cycle ends.
-use Rattle.std.proofs.Common.{◌≡◌, ℕ, zero, suc, ◌+◌, ◌-◌, ◌++◌, Bool, false, Option, None, List, [], is_some, sym, subst, ap, ◌∙◌, arith, append-nil, append_assoc}
-use Rattle.board_io.specs.declared.board.Board.{Board}
-use Rattle.board_io.specs.Passing.{IsStill}
-use Rattle.board_io.proofs.Halted.{halted_leap}
+-- A run in the middle of a cycle: how it gets there, how it goes on where the devices end nothing, and how its cycle ends.
+use Rattle.std.proofs.Common.{◌≡◌, ℕ, zero, suc, ◌+◌, ◌-◌, ◌++◌, ◌<◌, Bool, true, false, Option, None, List, [], is_some, refl, sym, subst, ap, ◌∙◌, arith, append-nil, append_assoc}
+use Rattle.board_io.specs.Cycle.{board_quiet, timers_leap}
+use Rattle.board_io.proofs.Lags.{leap_add}
+use Rattle.board_io.proofs.Leaps.{leap_quiet}
 use Rattle.trace_rows.specs.declared.row.Row.{Row}
 use Rattle.usart_port.specs.Script.{script_byte}
 use Rattle.world_core.specs.NodeRun.{AllQuiet, Comes, Timed, passed, passed_rows}
@@ -10,28 +10,74 @@ use Rattle.world_core.proofs.QuietCycles.{comes_more}
 use Rattle.node_core.specs.declared.machine.Air.{Air}
 use Rattle.node_core.specs.Bus.{with_board}
 use Rattle.node_core.specs.Cycle.{asks_after, asks_in, begun_in, begun_rows, cpu_cycle, cpu_rows, device_rows, devices_cycle, node_kind, sends_after, sends_in}
-use Rattle.node_core.specs.Inside.{IsAir}
+use Rattle.node_core.specs.Inside.{IsAir, IsCalm, IsPassed}
 use Rattle.node_core.specs.Midway.{IsMidway}
 use Rattle.node_core.specs.State.{NodeState}
 use Rattle.node_core.proofs.Cycles.{asks_calm, asks_parts, begun_calm, begun_parts, rows_calm, rows_parts, sends_calm, sends_parts}
-use Rattle.node_core.proofs.Idling.{passed_next, passed_zero}
-use Rattle.node_core.proofs.Runs.{begun_comes}
+use Rattle.node_core.proofs.Idling.{Idles, all_quiet, no_rows, passed_next, passed_rested, passed_zero, rested, waits}
+use Rattle.node_core.proofs.Runs.{begun_comes, rested_comes}
 
--- one more, where the devices are at rest and no byte arrives
-module _ (v : Timed NodeState Row) (c : ℕ) (u : NodeState) (k : List Row) (h : IsMidway v c u k) (still : is_some u.stop ≡ false) (calm : IsStill c u.bus.board) (none : script_byte u.script c ≡ None) where
-  stands : begun_in c h.state ≡ u
-  stands =
-      begun_calm c h.state u h.going still (sym h.part) calm.quiet none
-      ∙ ap (λ (b : Board). let w : NodeState = record u { bus = with_board u.bus b } in w) (halted_leap u.bus.board calm.halted c 1)
+-- one more, where nothing ends and no byte arrives: the timers alone move
+module _ (v : Timed NodeState Row) (c : ℕ) (u : NodeState) (k : List Row) (h : IsMidway v c u k) (still : is_some u.stop ≡ false) (calm : board_quiet c u.bus.board ≡ true) (none : script_byte u.script c ≡ None) where
+  abbrev moved : NodeState
+  moved = record u { bus = with_board u.bus (timers_leap c 1 u.bus.board) }
+
+  stands : begun_in c h.state ≡ moved
+  stands = begun_calm c h.state u h.going still (sym h.part) calm none
 
   told_all : k ≡ h.rows ++ begun_rows c h.state
   told_all =
-      h.told ∙ ap (λ (l : List Row). h.rows ++ l) (sym (rows_calm c h.state u h.going still (sym h.part) calm.quiet none))
+      h.told ∙ ap (λ (l : List Row). h.rows ++ l) (sym (rows_calm c h.state u h.going still (sym h.part) calm none))
 
-  pub comes_there : Comes node_kind v (c + 1) u k
+  comes_there : Comes node_kind v (c + 1) (let w : NodeState = record u { bus = with_board u.bus (timers_leap c 1 u.bus.board) } in w) k
   comes_there =
-      begun_comes v c h.state u h.rows k h.comes (asks_calm c h.state u h.going still (sym h.part) calm.quiet none)
-      (sends_calm c h.state u h.going still (sym h.part) calm.quiet none) (sym stands) told_all
+      begun_comes v c h.state moved h.rows k h.comes (asks_calm c h.state u h.going still (sym h.part) calm none)
+      (sends_calm c h.state u h.going still (sym h.part) calm none) (sym stands) told_all
+
+-- and the cycles that its instruction waits
+module _ (v : Timed NodeState Row) (c n : ℕ) (u w : NodeState) (k : List Row) (h : IsMidway v c u k) (p : IsPassed c n u w) where
+  abbrev begun : NodeState
+  begun = record u { bus = with_board u.bus (timers_leap c 1 u.bus.board) }
+
+  first : Comes node_kind v (c + 1) begun k
+  first =
+      let some = p.wait in
+      let here : c + 0 ≡ c = omega arith in
+      let quiet = subst (λ (t : ℕ). board_quiet t u.bus.board ≡ true) here (p.calm.ends 0 (omega (arith, some))) in
+      let none = subst (λ (t : ℕ). script_byte u.script t ≡ None) here (p.calm.none 0 (omega (arith, some))) in
+      comes_there v c u k h (ap is_some p.going) quiet none
+
+  calm_after : IsCalm (c + 1) u.wait begun
+  calm_after =
+      let some = p.wait in
+      record {
+        ends = λ i l.
+            (let there : c + (i + 1) ≡ c + 1 + i = omega arith in
+            leap_quiet (c + 1 + i) c 1 u.bus.board ∙ subst (λ (t : ℕ). board_quiet t u.bus.board ≡ true) there (p.calm.ends (i + 1) (omega (arith, some, l))));
+        none = λ i l.
+            (let there : c + (i + 1) ≡ c + 1 + i = omega arith in
+            subst (λ (t : ℕ). script_byte u.script t ≡ None) there (p.calm.none (i + 1) (omega (arith, some, l))));
+      }
+
+  idles : (i : ℕ) → i < u.wait → Idles (c + 1 + i) (rested (c + 1) i begun)
+  idles = waits (c + 1) u.wait begun (omega arith)
+
+  over : rested (c + 1) u.wait begun ≡ w
+  over =
+      let less : u.wait - u.wait ≡ 0 = omega arith in
+      let all : 1 + u.wait ≡ n = omega (arith, p.wait) in
+      let board = sym (leap_add c 1 u.wait u.bus.board) ∙ ap (λ (m : ℕ). timers_leap c m u.bus.board) all in
+      (λ i. let x : NodeState = record u { wait = less i; bus = with_board u.bus (board i) } in x) ∙ sym p.after
+
+  pub passed_there : Comes node_kind v (c + n) w k
+  passed_there =
+      let still : is_some u.stop ≡ false = ap is_some p.going in
+      let some = p.wait in
+      let there : c + 1 + u.wait ≡ c + n = omega (arith, some) in
+      let quiet = all_quiet (c + 1) begun still u.wait calm_after idles in
+      let state = sym over ∙ sym (passed_rested (c + 1) begun still u.wait calm_after idles u.wait (omega arith)) in
+      subst (λ (t : ℕ). Comes node_kind v t w k) there
+      (rested_comes v (c + 1) u.wait begun w k k first quiet state (no_rows (c + 1) begun still u.wait calm_after idles) refl)
 
 -- a run goes on by many quiet cycles
 steps : (v : Timed NodeState Row) (c n : ℕ) (s : NodeState) (l : List Row) → Comes node_kind v c s l → AllQuiet node_kind c n s

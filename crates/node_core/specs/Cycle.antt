@@ -77,17 +77,18 @@ is_other Other = true
 abbrev pub is_refused : NodeState → Op → Bool
 is_refused s o = is_sleep o && is_other (sleep_mode s.bus.board)
 
--- after an instruction, by how it ended. One that stops is not counted, and leaves the wait and what is owed
+-- after an instruction, by how it ended. One that stops is not counted, and leaves the wait and what is owed. The board's
+-- clock is set for the accesses of an instruction, and shows 0 otherwise
 abbrev pub after_instruction : NodeState → Op → Result Done StopCause → Cpu → NodeBus → NodeState
 after_instruction s o (Ok d) cpu bus = record s {
   cpu = cpu;
-  bus = bus;
+  bus = bus_at 0 bus;
   wait = d.cycles - 1;
   owed = owes o s.cpu.sreg.bits cpu.sreg.bits;
   asleep = d.sleep && is_idle (sleep_mode bus.board);
   count = s.count + 1;
 }
-after_instruction s o (Err cause) cpu bus = record s { cpu = cpu; bus = bus; stop = Some cause }
+after_instruction s o (Err cause) cpu bus = record s { cpu = cpu; bus = bus_at 0 bus; stop = Some cause }
 
 -- a Stop row stands in place of the Instr row of an instruction that stops
 abbrev pub instruction_rows : ℕ → NodeState → Result Done StopCause → List Row
@@ -108,8 +109,8 @@ instructed_rows t s =
 -- after an interrupt was entered, by how that ended. It wakes the node; one that stops leaves the wait, what is owed and
 -- the sleep
 abbrev pub after_entry : ℕ → Vector → NodeState → Access (Unit {0}) NodeBus → Result (Unit {0}) StopCause → NodeState
-after_entry wait v s a (Ok done) = record s { cpu = a.cpu; bus = with_board a.bus (entered_of v.word a.bus.board); wait = wait; asleep = false }
-after_entry wait v s a (Err cause) = record s { cpu = a.cpu; bus = a.bus; stop = Some cause }
+after_entry wait v s a (Ok done) = record s { cpu = a.cpu; bus = bus_at 0 (with_board a.bus (entered_of v.word a.bus.board)); wait = wait; asleep = false }
+after_entry wait v s a (Err cause) = record s { cpu = a.cpu; bus = bus_at 0 a.bus; stop = Some cause }
 
 abbrev pub entry_rows : ℕ → Vector → NodeState → Result (Unit {0}) StopCause → List Row
 entry_rows t v s (Ok done) = row_within t s (kind.Enter v.word s.cpu.pc)

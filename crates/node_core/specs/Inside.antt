@@ -1,15 +1,17 @@
 -- What holds of the inside of a node between two calls: an instruction takes at least a cycle, so its count cannot
--- wrap; in the middle of a sample there is room for the row of what is heard, and the transfer that samples runs.
+-- wrap; the clock of its board shows the next cycle of the devices; in the middle of a sample there is room for the row of what is heard, and the transfer that samples runs.
 use Rattle.std.specs.Prelude.{◌≡◌, ℕ, ◌+◌, ◌^◌, ◌≤◌, ◌<◌, Bool, true, false, Option, Some, None, is_some, if◌then◌else◌, vec_len, vec_capacity}
 use Rattle.node_core.specs.declared.machine.Air.{Air}
 use Rattle.node_core.specs.declared.machine.Air.TheVariants.{Quiet, Sent, Asks}
 use Rattle.node_core.specs.declared.machine.Machine.{Machine}
+use Rattle.node_core.specs.Bus.{with_board}
 use Rattle.node_core.specs.State.{NodeState}
-use Rattle.board_io.specs.Cycle.{board_quiet}
+use Rattle.board_io.specs.Cycle.{board_quiet, timers_leap}
 use Rattle.usart_port.specs.Script.{script_byte}
 
 pub record IsWhole (cycle : ℕ) (asking : Bool) (m : Machine) : Type 0 where
-  pub few : m.count ≤ cycle + (if asking then 1 else 0)
+  pub few : m.count ≤ 2 ^ 40 + cycle + (if asking then 1 else 0)
+  pub clock : m.stop ≡ None → m.bus.board.clock ≡ cycle + (if asking then 1 else 0)
   pub early : asking ≡ true → cycle < 2 ^ 40
   pub room : asking ≡ true → vec_len m.rows < vec_capacity m.rows
   pub waits : asking ≡ true → is_some m.bus.board.spi.transfer ≡ true
@@ -24,3 +26,11 @@ IsAir asks sends Asks = asks ≡ true
 pub record IsCalm (t n : ℕ) (s : NodeState) : Type 0 where
   pub ends : (i : ℕ) → i < n → board_quiet (t + i) s.bus.board ≡ true
   pub none : (i : ℕ) → i < n → script_byte s.script (t + i) ≡ None
+
+-- in the middle of cycle t the node at s, which neither stopped nor sleeps, went on to the beginning of the next instruction's
+-- first cycle, n cycles later, and is at u: of these cycles the devices' part is done, and they ended nothing
+pub record IsPassed (t n : ℕ) (s u : NodeState) : Type 0 where
+  pub going : s.stop ≡ None
+  pub calm : IsCalm t n s
+  pub wait : n ≡ s.wait + 1
+  pub after : u ≡ record s { wait = 0; bus = with_board s.bus (timers_leap t n s.bus.board) }

@@ -1,5 +1,6 @@
--- What the code's node stands for.
+-- What the code's node stands for. Its board has a clock that runs, which is no part of the state.
 use Rattle.node_core.specs.declared.machine.Machine.{Machine}
+use Rattle.node_core.specs.Bus.{bus_at}
 use Rattle.node_core.specs.State.{NodeState}
 
 abbrev pub shown : Machine → NodeState
@@ -10,7 +11,7 @@ shown m = record {
   from = m.from;
   to = m.to;
   cpu = m.cpu;
-  bus = m.bus;
+  bus = bus_at 0 m.bus;
   wait = m.wait;
   owed = m.owed;
   asleep = m.asleep;

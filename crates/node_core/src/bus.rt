@@ -2,7 +2,7 @@
 ghost use Rattle.std.specs.Prelude.{◌≡◌, ◌≤◌, ◌^◌, IfOk};
 
 use avr_base::{NoMemory, StopCause};
-use board_io::Board;
+use board_io::LaggingBoard;
 use data_space::{Bus, Sram};
 use std::alloc::Global;
 
@@ -14,7 +14,7 @@ pub struct NodeBus {
     /// The internal SRAM.
     pub sram: Sram,
     /// The I/O registers and the devices.
-    pub board: Board,
+    pub board: LaggingBoard,
 }
 
 impl NodeBus {
@@ -29,17 +29,16 @@ impl NodeBus {
         let sram = Sram::new(alloc)?;
         Ok(NodeBus {
             sram,
-            board: Board::new(byte_time),
+            board: LaggingBoard::new(byte_time),
         })
     }
 
-    /// Sets the cycle in which its registers are accessed from now on.
+    /// Its registers are accessed in this cycle: that of its clock already.
+    #[inline]
     pub fn at(&mut self, cycle: u64)
-        requires { cycle ≤ 2 ^ 41 }
+        requires { self.old.board.clock ≡ cycle }
         ensures { self.new ≡ bus_at cycle self.old }
-    {
-        self.board.at(cycle);
-    }
+    {}
 }
 
 impl Bus for NodeBus {

@@ -1,5 +1,5 @@
 //! One node of the network, cycle by cycle: its processor, its devices, and the rows that it makes. `specs/` says what
-//! one cycle of a node is; `Node` runs many, an instruction at once, and its waiting cycles and its sleep in leaps.
+//! one cycle of a node is; `Node` runs many, whole instructions and sleep up to the next event of its devices.
 #![tactic(auto)]
 
 mod bus;

@@ -123,6 +123,7 @@ impl Machine {
         ensures room { vec_capacity self.new.rows ≡ vec_capacity self.old.rows }
         ensures count { self.new.count ≡ self.old.count }
         ensures script { self.new.script ≡ self.old.script }
+        ensures clock { self.new.bus.board.clock ≡ self.old.bus.board.clock }
     {
         let node = self.number;
         let kind = Kind::Stop { pc, cause };
@@ -133,7 +134,8 @@ impl Machine {
     // The first cycle of an instruction.
     #[tactic(auto, unfolding(crate::specs::Cycle::instructed, crate::specs::Cycle::instructed_rows))]
     fn instruct(&mut self, cycle: u64)
-        requires few { self.old.count < 2 ^ 40 }
+        requires few { self.old.count ≤ 2 ^ 41 }
+        requires now { self.old.bus.board.clock ≡ cycle }
         requires early { cycle ≤ 2 ^ 40 }
         requires room { vec_len self.old.rows < vec_capacity self.old.rows }
         ensures state { shown self.new ≡ instructed cycle (shown self.old) }
@@ -142,6 +144,7 @@ impl Machine {
         ensures room { vec_capacity self.new.rows ≡ vec_capacity self.old.rows }
         ensures count { self.new.count ≤ self.old.count + 1 }
         ensures script { self.new.script ≡ self.old.script }
+        ensures clock { self.new.bus.board.clock ≡ self.old.bus.board.clock }
     {
         let pc = self.cpu.pc;
         let word = self.flash.word(pc);
@@ -172,6 +175,7 @@ impl Machine {
     // The first cycle of an interrupt, of which so many cycles more follow.
     #[tactic(auto, unfolding(crate::specs::Cycle::entered, crate::specs::Cycle::entered_rows))]
     fn enter(&mut self, cycle: u64, wait: u8, vector: Vector)
+        requires now { self.old.bus.board.clock ≡ cycle }
         requires early { cycle ≤ 2 ^ 40 }
         requires room { vec_len self.old.rows < vec_capacity self.old.rows }
         ensures state { shown self.new ≡ entered cycle wait vector (shown self.old) }
@@ -180,6 +184,7 @@ impl Machine {
         ensures room { vec_capacity self.new.rows ≡ vec_capacity self.old.rows }
         ensures count { self.new.count ≡ self.old.count }
         ensures script { self.new.script ≡ self.old.script }
+        ensures clock { self.new.bus.board.clock ≡ self.old.bus.board.clock }
     {
         let back = self.cpu.pc;
         let node = self.number;
@@ -201,9 +206,9 @@ impl Machine {
     }
 
     // The interrupt that waits to be let in.
-    #[inline(never)]
+    #[inline]
     fn pending(&self) -> Option<Vector>
-        ensures { result ≡ pending_of (lines_of self.now.bus.board) }
+        ensures { result ≡ pending_of (lines_of (shown self.now).bus.board) }
     {
         interrupt_unit::pending(self.bus.board.lines())
     }
@@ -222,7 +227,8 @@ impl Machine {
 
     // What the processor does that waits for nothing.
     fn act(&mut self, cycle: u64)
-        requires few { self.old.count < 2 ^ 40 }
+        requires few { self.old.count ≤ 2 ^ 41 }
+        requires now { self.old.bus.board.clock ≡ cycle }
         requires early { cycle ≤ 2 ^ 40 }
         requires room { vec_len self.old.rows < vec_capacity self.old.rows }
         ensures state { shown self.new ≡ acted cycle (shown self.old) (due (shown self.old)) }
@@ -231,6 +237,7 @@ impl Machine {
         ensures room { vec_capacity self.new.rows ≡ vec_capacity self.old.rows }
         ensures count { self.new.count ≤ self.old.count + 1 }
         ensures script { self.new.script ≡ self.old.script }
+        ensures clock { self.new.bus.board.clock ≡ self.old.bus.board.clock }
     {
         if let Some(vector) = self.due() {
             if self.asleep {
@@ -250,7 +257,8 @@ impl Machine {
     // The processor's part of a cycle.
     #[tactic(auto, unfolding(crate::specs::Cycle::cpu_cycle, crate::specs::Cycle::cpu_rows))]
     pub fn process(&mut self, cycle: u64)
-        requires few { self.old.count < 2 ^ 40 }
+        requires few { self.old.count ≤ 2 ^ 41 }
+        requires now { self.old.bus.board.clock ≡ cycle }
         requires early { cycle ≤ 2 ^ 40 }
         requires room { vec_len self.old.rows < vec_capacity self.old.rows }
         ensures state { shown self.new ≡ cpu_cycle cycle (shown self.old) }
@@ -259,6 +267,7 @@ impl Machine {
         ensures room { vec_capacity self.new.rows ≡ vec_capacity self.old.rows }
         ensures count { self.new.count ≤ self.old.count + 1 }
         ensures script { self.new.script ≡ self.old.script }
+        ensures clock { self.new.bus.board.clock ≡ self.old.bus.board.clock }
     {
         if self.wait > 0 {
             self.wait -= 1;
@@ -286,6 +295,7 @@ impl Machine {
         ensures rows { self.new.rows.items ≡ self.old.rows.items ++ serial_rows cycle (shown self.old) serial }
         ensures used { vec_len self.new.rows ≤ vec_len self.old.rows + 1 }
         ensures room { vec_capacity self.new.rows ≡ vec_capacity self.old.rows }
+        ensures clock { self.new.bus.board.clock ≡ self.old.bus.board.clock }
     {
         if let Some(byte) = serial {
             let node = self.number;
@@ -301,6 +311,7 @@ impl Machine {
         ensures rows { self.new.rows.items ≡ self.old.rows.items ++ sent_rows cycle (shown self.old) sent }
         ensures used { vec_len self.new.rows ≤ vec_len self.old.rows + 1 }
         ensures room { vec_capacity self.new.rows ≡ vec_capacity self.old.rows }
+        ensures clock { self.new.bus.board.clock ≡ self.old.bus.board.clock }
     {
         if let Some(byte) = sent {
             let node = self.number;
@@ -313,7 +324,8 @@ impl Machine {
     #[tactic(auto, unfolding(crate::specs::Cycle::devices_cycle, crate::specs::Cycle::device_rows, crate::specs::Cycle::asks_after, crate::specs::Cycle::sends_after))]
     fn move_devices(&mut self, cycle: u64) -> Air
         requires going { self.old.stop ≡ None }
-        requires early { cycle ≤ 2 ^ 40 }
+        requires now { self.old.bus.board.clock ≡ cycle }
+        requires early { cycle < 2 ^ 40 }
         requires room { vec_len self.old.rows + 2 ≤ vec_capacity self.old.rows }
         ensures state { shown self.new ≡ devices_cycle cycle (shown self.old) }
         ensures rows { self.new.rows.items ≡ self.old.rows.items ++ device_rows cycle (shown self.old) }
@@ -322,6 +334,7 @@ impl Machine {
         ensures used { vec_len self.new.rows ≤ vec_len self.old.rows + 2 }
         ensures room { vec_capacity self.new.rows ≡ vec_capacity self.old.rows }
         ensures count { self.new.count ≡ self.old.count }
+        ensures clock { self.new.bus.board.clock ≡ cycle + 1 }
     {
         let arrival = self.arrival(cycle);
         let begun = self.bus.board.begin(cycle, arrival);
@@ -335,6 +348,7 @@ impl Machine {
         ensures state { shown self.new ≡ shown self.old }
         ensures rows { self.new.rows.items ≡ self.old.rows.items }
         ensures room { OnOk result (vec_len self.new.rows + 4 ≤ vec_capacity self.new.rows) }
+        ensures clock { self.new.bus.board.clock ≡ self.old.bus.board.clock }
         ensures stop { self.new.stop ≡ self.old.stop }
         ensures count { self.new.count ≡ self.old.count }
     {
@@ -345,7 +359,8 @@ impl Machine {
     /// room for its rows, also for that of the sample.
     #[tactic(auto, unfolding(crate::specs::Cycle::devices_cycle, crate::specs::Cycle::device_rows, crate::specs::Cycle::asks_after, crate::specs::Cycle::sends_after))]
     pub fn conclude(&mut self, cycle: u64) -> Air
-        requires early { cycle ≤ 2 ^ 40 }
+        requires now { self.old.bus.board.clock ≡ cycle }
+        requires early { cycle < 2 ^ 40 }
         requires room { vec_len self.old.rows + 3 ≤ vec_capacity self.old.rows }
         ensures state { shown self.new ≡ devices_cycle cycle (shown self.old) }
         ensures rows { self.new.rows.items ≡ self.old.rows.items ++ device_rows cycle (shown self.old) }
@@ -353,6 +368,8 @@ impl Machine {
         ensures waits { asks_after cycle (shown self.old) ≡ true → is_some self.new.bus.board.spi.transfer ≡ true }
         ensures room { vec_len self.new.rows < vec_capacity self.new.rows }
         ensures count { self.new.count ≡ self.old.count }
+        ensures stop { self.new.stop ≡ self.old.stop }
+        ensures clock { self.old.stop ≡ None → self.new.bus.board.clock ≡ cycle + 1 }
     {
         if self.stop.is_some() {
             return Air::Quiet;
@@ -367,6 +384,7 @@ impl Machine {
         ensures state { shown self.new ≡ finished_in cycle (shown self.old) heard }
         ensures rows { self.new.rows.items ≡ self.old.rows.items ++ finished_rows cycle (shown self.old) heard }
         ensures count { self.new.count ≡ self.old.count }
+        ensures clock { self.new.bus.board.clock ≡ self.old.bus.board.clock }
     {
         let node = self.number;
         let kind = Kind::Heard { heard };

@@ -2,26 +2,16 @@
 ghost use Rattle.std.specs.Prelude.{◌≡◌, ◌≤◌, ◌<◌, ◌+◌, ◌^◌, [], None, true, false};
 ghost use Rattle.world_core.specs.NodeRun.{AllQuiet, passed, passed_rows};
 ghost use Rattle.node_core.specs.Cycle.{node_kind};
-ghost use Rattle.node_core.specs.Inside.{IsCalm};
 ghost use Rattle.node_core.specs.Interrupts.{due};
 ghost use Rattle.node_core.specs.Shown.{shown};
 
 use crate::machine::Machine;
 
 impl Machine {
-    // For how many of the cycles from `cycle` on, of at most `most`, the devices end nothing and no byte arrives.
-    fn undisturbed(&self, cycle: u64, most: u64) -> u64
-        requires { cycle + most ≤ 2 ^ 41 }
-        ensures within { result ≤ most }
-        ensures calm { IsCalm cycle result (shown self.now) }
-    {
-        let ends = self.bus.board.quiet(cycle, most);
-        self.script.quiet(cycle, ends)
-    }
-
     // Cycles of an instruction or an entry that are counted off, of at most so many: how many it were.
     fn wait_out(&mut self, cycle: u64, most: u64) -> u64
         requires going { self.old.stop ≡ None }
+        requires now { self.old.bus.board.clock ≡ cycle }
         requires early { cycle + most ≤ 2 ^ 40 }
         ensures quiet { AllQuiet node_kind cycle result (shown self.old) }
         ensures state { shown self.new ≡ passed node_kind cycle result (shown self.old) }
@@ -29,11 +19,12 @@ impl Machine {
         ensures same { self.new.rows ≡ self.old.rows }
         ensures stop { self.new.stop ≡ None }
         ensures count { self.new.count ≡ self.old.count }
+        ensures clock { self.new.bus.board.clock ≡ cycle + result }
         ensures within { result ≤ most }
     {
         let wait = self.wait;
-        let n = self.undisturbed(cycle, most.min(u64::from(wait)));
-        self.bus.board.leap(cycle, n);
+        let calm = self.script.quiet(cycle, most.min(u64::from(wait)));
+        let n = self.bus.board.pass(calm);
         self.wait = wait - n as u8;
         n
     }
@@ -41,6 +32,7 @@ impl Machine {
     // Cycles of sleep, of at most so many, in which no interrupt becomes due.
     fn sleep_on(&mut self, cycle: u64, most: u64) -> u64
         requires going { self.old.stop ≡ None }
+        requires now { self.old.bus.board.clock ≡ cycle }
         requires early { cycle + most ≤ 2 ^ 40 }
         requires free { self.old.wait ≡ 0 }
         requires asleep { self.old.asleep ≡ true }
@@ -51,18 +43,18 @@ impl Machine {
         ensures same { self.new.rows ≡ self.old.rows }
         ensures stop { self.new.stop ≡ None }
         ensures count { self.new.count ≡ self.old.count }
+        ensures clock { self.new.bus.board.clock ≡ cycle + result }
         ensures within { result ≤ most }
     {
-        let calm = self.undisturbed(cycle, most);
-        let n = self.bus.board.same_lines(cycle, calm);
-        self.bus.board.leap(cycle, n);
-        n
+        let calm = self.script.quiet(cycle, most);
+        self.bus.board.pass(calm)
     }
 
     /// Cycles in which the node only waits or sleeps, from `cycle` on and of at most `most`: how many it were, 0 where
     /// the next one is to be taken by itself.
     pub fn rest(&mut self, cycle: u64, most: u64) -> u64
         requires going { self.old.stop ≡ None }
+        requires now { self.old.bus.board.clock ≡ cycle }
         requires early { cycle + most ≤ 2 ^ 40 }
         ensures quiet { AllQuiet node_kind cycle result (shown self.old) }
         ensures state { shown self.new ≡ passed node_kind cycle result (shown self.old) }
@@ -70,6 +62,7 @@ impl Machine {
         ensures same { self.new.rows ≡ self.old.rows }
         ensures stop { self.new.stop ≡ None }
         ensures count { self.new.count ≡ self.old.count }
+        ensures clock { self.new.bus.board.clock ≡ cycle + result }
         ensures within { result ≤ most }
     {
         if self.wait > 0 {

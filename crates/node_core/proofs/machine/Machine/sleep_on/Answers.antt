@@ -1,33 +1,43 @@
-use Rattle.std.proofs.Common.{◌≡◌, ◌-◌, is_some, sym, ap, ◌∙◌, arith}
+use Rattle.std.proofs.Common.{◌≡◌, ℕ, ◌-◌, is_some, sym, ap, ◌∙◌, arith}
+use Rattle.board_io.specs.Board.{unclocked}
+use Rattle.board_io.specs.Cycle.{timers_leap}
 use Rattle.node_core.specs.Bus.{with_board}
 use Rattle.node_core.specs.Inside.{IsCalm}
 use Rattle.node_core.specs.Shown.{shown}
 use Rattle.node_core.specs.State.{NodeState}
-use Rattle.node_core.proofs.Idling.{all_quiet, calm_less, no_rows, passed_rested, sleeps}
+use Rattle.node_core.proofs.Clocks.{calm_of, lines_stay}
+use Rattle.node_core.proofs.Idling.{all_quiet, no_rows, passed_rested, sleeps}
 use Rattle.node_core.proofs.machine.Machine.sleep_on.Goals as goal
 
 pub returns-clause-quiet : goal.returns-clause-quiet
 returns-clause-quiet c =
     let s : NodeState = shown c.args.self.now in
     let r = c.requires in
-    let n = c.same_lines-n.result in
-    let calm : IsCalm c.args.cycle n s = calm_less c.args.cycle n c.undisturbed-calm.result s c.same_lines-n.ensures.within c.undisturbed-calm.ensures.calm in
-    all_quiet c.args.cycle s (ap is_some r.going) n calm (sleeps c.args.cycle n s r.free r.asleep r.none c.same_lines-n.ensures.same)
+    let n = c.pass.result in
+    let within = c.pass.ensures.within in
+    let calm : IsCalm c.args.cycle n s = calm_of c.args.cycle n c.args.self.now r.now c.pass.ensures.idle (λ i l. c.quiet-calm.ensures.none i (omega (arith, within, l))) in
+    let lines = lines_stay c.args.cycle n c.args.self.now r.now c.pass.ensures.idle in
+    all_quiet c.args.cycle s (ap is_some r.going) n calm (sleeps c.args.cycle n s r.free r.asleep r.none lines)
 
 pub returns-clause-state : goal.returns-clause-state
 returns-clause-state c =
     let s : NodeState = shown c.args.self.now in
     let r = c.requires in
-    let n = c.same_lines-n.result in
-    let calm : IsCalm c.args.cycle n s = calm_less c.args.cycle n c.undisturbed-calm.result s c.same_lines-n.ensures.within c.undisturbed-calm.ensures.calm in
+    let n = c.pass.result in
+    let within = c.pass.ensures.within in
+    let calm : IsCalm c.args.cycle n s = calm_of c.args.cycle n c.args.self.now r.now c.pass.ensures.idle (λ i l. c.quiet-calm.ensures.none i (omega (arith, within, l))) in
+    let lines = lines_stay c.args.cycle n c.args.self.now r.now c.pass.ensures.idle in
+    let board = c.pass.ensures.state ∙ ap (λ (t : ℕ). timers_leap t n (unclocked c.args.self.now.bus.board)) r.now in
     let wait : s.wait ≡ s.wait - n = omega (arith, r.free) in
-    (λ k. let u : NodeState = record s { wait = wait k; bus = with_board s.bus (c.leap.ensures k) } in u)
-    ∙ sym (passed_rested c.args.cycle s (ap is_some r.going) n calm (sleeps c.args.cycle n s r.free r.asleep r.none c.same_lines-n.ensures.same) n (omega arith))
+    (λ k. let u : NodeState = record s { wait = wait k; bus = with_board s.bus (board k) } in u)
+    ∙ sym (passed_rested c.args.cycle s (ap is_some r.going) n calm (sleeps c.args.cycle n s r.free r.asleep r.none lines) n (omega arith))
 
 pub returns-clause-rows : goal.returns-clause-rows
 returns-clause-rows c =
     let s : NodeState = shown c.args.self.now in
     let r = c.requires in
-    let n = c.same_lines-n.result in
-    let calm : IsCalm c.args.cycle n s = calm_less c.args.cycle n c.undisturbed-calm.result s c.same_lines-n.ensures.within c.undisturbed-calm.ensures.calm in
-    no_rows c.args.cycle s (ap is_some r.going) n calm (sleeps c.args.cycle n s r.free r.asleep r.none c.same_lines-n.ensures.same)
+    let n = c.pass.result in
+    let within = c.pass.ensures.within in
+    let calm : IsCalm c.args.cycle n s = calm_of c.args.cycle n c.args.self.now r.now c.pass.ensures.idle (λ i l. c.quiet-calm.ensures.none i (omega (arith, within, l))) in
+    let lines = lines_stay c.args.cycle n c.args.self.now r.now c.pass.ensures.idle in
+    no_rows c.args.cycle s (ap is_some r.going) n calm (sleeps c.args.cycle n s r.free r.asleep r.none lines)

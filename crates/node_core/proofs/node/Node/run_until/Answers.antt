@@ -1,4 +1,4 @@
-use Rattle.std.proofs.Common.{◌≡◌, ℕ, ◌+◌, List, Bool, true, false, is_some, refl, sym, ap, ◌∙◌, subst, arith}
+use Rattle.std.proofs.Common.{◌≡◌, ℕ, ◌+◌, List, Bool, true, false, is_some, refl, add-zero, sym, ap, ◌∙◌, subst, arith}
 use Rattle.trace_rows.specs.declared.row.Row.{Row}
 use Rattle.world_core.specs.NodeRun.{Timed, Comes}
 use Rattle.world_core.proofs.QuietCycles.{comes_none, running_next}
@@ -23,7 +23,8 @@ loop-self-init c =
     record {
       within = omega arith;
       calm = calm;
-      few = omega arith;
+      few = omega (arith, few);
+      clock = λ going. whole.clock going ∙ add-zero i.cycle;
       comes = subst (λ (u : Timed NodeState Row). Comes node_kind u i.cycle (shown i.machine) i.machine.rows.items) c.self.view_is (comes_none node_kind v);
       running = λ k l. absurd (omega arith);
     }
@@ -66,6 +67,7 @@ loop-self-preserved c =
       within = omega (arith, e.within, c.stride.ensures.within);
       calm = c.loop-self.invariant.calm;
       few = omega (arith, b.count, c.stride.ensures.count);
+      clock = λ going. b.clock (sym b.stop ∙ going);
       comes = begun_comes v there mid.state w mid.rows c.conclude.new.self.rows.items mid.comes air.0 air.1 state rows;
       running = running_next node_kind v there mid.state mid.rows steady mid.comes mid.going;
     }

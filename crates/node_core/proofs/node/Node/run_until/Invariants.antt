@@ -1,4 +1,4 @@
-use Rattle.std.proofs.Common.{◌≡◌, ◌≤◌, ◌-◌, false}
+use Rattle.std.proofs.Common.{◌≡◌, ◌≤◌, ◌+◌, ◌-◌, ◌^◌, None, false}
 use Rattle.world_core.specs.NodeRun.{Comes, AllRunning}
 use Rattle.node_core.specs.Cycle.{node_kind}
 use Rattle.node_core.specs.Shown.{shown}
@@ -8,7 +8,8 @@ abbrev pub invariant-loop-self : goal.invariant-loop-self
 invariant-loop-self l = record {
   within : l.self-inside.cycle ≤ l.cycle;
   calm : l.self-inside.asking ≡ false;
-  few : l.self-inside.machine.count ≤ l.self-inside.cycle;
+  few : l.self-inside.machine.count ≤ 2 ^ 40 + l.self-inside.cycle;
+  clock : l.self-inside.machine.stop ≡ None → l.self-inside.machine.bus.board.clock ≡ l.self-inside.cycle;
   comes : Comes node_kind l.fn.self l.self-inside.cycle (shown l.self-inside.machine) l.self-inside.machine.rows.items;
   running : AllRunning node_kind l.fn.self l.self-inside.cycle;
 }

@@ -1,0 +1,235 @@
+-- An access that looks at no timer is the same on a board whose timers lag, and leaves what is known of it.
+use Rattle.std.proofs.Common.{◌≡◌, ◌≢◌, ℕ, zero, suc, ◌+◌, ◌-◌, ◌/◌, cond, ◌==◌, ◌&&◌, not, if◌then◌else◌, Bool, true, false, Result, Ok, Err, refl, sym, ap, ◌∙◌, subst, arith}
+use Rattle.std.specs.Prelude.{bit_and, IfOk, OnOk, IfErr, OnErr}
+use Rattle.std.proofs.lemmas.Bool.{and_parts, eq-eqb}
+use Rattle.std.proofs.lemmas.List.{get_or-set_other}
+use Rattle.avr_base.specs.declared.stop.StopCause.{StopCause}
+use Rattle.board_io.specs.declared.ahead.Ahead.{Ahead}
+use Rattle.board_io.specs.declared.board.Board.{Board}
+use Rattle.board_io.specs.declared.rules.Rule.{Rule}
+use Rattle.board_io.specs.declared.rules.Rule.TheVariants.{Reserved, Pin, Kept, Guarded, WatchdogControl, ResetFlags, CpuControl, TimerFlags, TimerFlags3, Timer0, Timer1, Timer2, Timer3, Usart0, Spi}
+use Rattle.board_io.specs.Board.{kept_at, with_kept}
+use Rattle.board_io.specs.Cycle.{board_quiet, timers_leap}
+use Rattle.board_io.specs.Lagging.{IsAhead, caught_up, is_no_mask, reads_apart, reads_timer, writes_apart}
+use Rattle.board_io.specs.Lines.{lines_of}
+use Rattle.board_io.specs.Registers.{get_by, put_by}
+use Rattle.board_io.proofs.Radio.{get_by_clock, put_by_clock}
+use Rattle.device_clocks.specs.Bits.{any_bit}
+use Rattle.device_clocks.specs.Clock.{clocked, cycles}
+use Rattle.interrupt_unit.specs.declared.unit.Lines.{Lines}
+use Rattle.spi_port.specs.declared.registers.SpiReg.TheVariants as spi
+use Rattle.timer16.specs.declared.registers.Reg16.TheVariants as reg16
+use Rattle.timer16.specs.declared.timer16.Timer16.{Timer16}
+use Rattle.timer16.specs.Timer as timer16
+use Rattle.usart_port.specs.declared.registers.UsartReg.TheVariants as usart
+
+abbrev with_temp : ℕ → Timer16 → Timer16
+with_temp x u = record u { temp = x }
+
+-- what a board has of lines and ends, now and later, another one has
+record IsLike (b c : Board) : Type 0 where
+  pub clock : c.clock ≡ b.clock
+  pub quiet : (t : ℕ) → board_quiet t c ≡ board_quiet t b
+  pub same : (t i : ℕ) → lines_of (timers_leap t i c) ≡ lines_of (timers_leap t i b)
+
+itself : (b : Board) → IsLike b b
+itself b = record { clock = refl; quiet = λ t. refl; same = λ t i. refl }
+
+like_ahead : (a : Ahead) (b c : Board) → IsLike b c → IsAhead a b → IsAhead a c
+like_ahead a b c like h =
+    let e = like.clock in
+    let s = h.settled in
+    let n = h.next in
+    record {
+      settled = omega (arith, e, s);
+      next = omega (arith, e, n);
+      early = h.early;
+      quiet = λ t from below. like.quiet t ∙ h.quiet t from below;
+      same = λ i k. ap (λ (l : Lines). l.bits) (like.same a.settled i) ∙ h.same i k;
+    }
+
+-- ---- reads
+abbrev GotApart : Board → ℕ → ℕ → Result (ℕ × Board) StopCause → Result (ℕ × Board) StopCause → Type 0
+GotApart b s n (Ok p) late = (late ≡ Ok (p.0, timers_leap s n p.1)) × IsLike b p.1
+GotApart b s n (Err cause) late = late ≡ Err cause
+
+false_true : false ≡ true → ⊥
+false_true e = cc
+
+got_apart : (rule : Rule) (b : Board) (at s n : ℕ) → reads_apart rule ≡ true → GotApart b s n (get_by rule b at) (get_by rule (timers_leap s n b) at)
+unfolding timers_leap board_quiet lines_of
+got_apart Reserved b at s n e = refl
+got_apart (Pin port) b at s n e = (refl, itself b)
+got_apart (Kept mask) b at s n e = (refl, itself b)
+got_apart (Guarded bits cause mask) b at s n e = (refl, itself b)
+got_apart WatchdogControl b at s n e = (refl, itself b)
+got_apart ResetFlags b at s n e = (refl, itself b)
+got_apart CpuControl b at s n e = (refl, itself b)
+got_apart TimerFlags b at s n e = absurd (false_true e)
+got_apart TimerFlags3 b at s n e = absurd (false_true e)
+got_apart (Timer0 reg) b at s n e = absurd (false_true e)
+got_apart (Timer1 reg) b at s n e = absurd (false_true e)
+got_apart (Timer2 reg) b at s n e = absurd (false_true e)
+got_apart (Timer3 reg) b at s n e = absurd (false_true e)
+got_apart (Usart0 usart.StatusA) b at s n e = (refl, itself b)
+got_apart (Usart0 usart.ControlB) b at s n e = (refl, itself b)
+got_apart (Usart0 usart.ControlC) b at s n e = (refl, itself b)
+got_apart (Usart0 usart.BaudL) b at s n e = (refl, itself b)
+got_apart (Usart0 usart.BaudH) b at s n e = (refl, itself b)
+got_apart (Usart0 usart.Udr) b at s n e = absurd (false_true e)
+got_apart (Spi spi.Control) b at s n e = (refl, itself b)
+got_apart (Spi spi.Status) b at s n e = (refl, record { clock = refl; quiet = λ t. refl; same = λ t i. refl })
+got_apart (Spi spi.Spdr) b at s n e = absurd (false_true e)
+
+-- reads of the timers: TEMP alone may change
+temp_clocked : (c : Bool) (x : ℕ) (u : Timer16) → cond c (timer16.clock (with_temp x u)) (with_temp x u) ≡ with_temp x (cond c (timer16.clock u) u)
+unfolding timer16.clock
+temp_clocked true x u = refl
+temp_clocked false x u = refl
+
+temp_cycle : (t x : ℕ) (u : Timer16) → timer16.timer_cycle t (with_temp x u) ≡ with_temp x (timer16.timer_cycle t u)
+unfolding timer16.divider
+temp_cycle t x u = temp_clocked (clocked (timer16.divider u) t) x u
+
+temp_cycles : (t n x : ℕ) (u : Timer16) → cycles timer16.timer_cycle t n (with_temp x u) ≡ with_temp x (cycles timer16.timer_cycle t n u)
+unfolding cycles
+temp_cycles t zero x u = refl
+temp_cycles t (suc n) x u = ap (timer16.timer_cycle (t + n)) (temp_cycles t n x u) ∙ temp_cycle (t + n) x (cycles timer16.timer_cycle t n u)
+
+like_t1 : (x : ℕ) (b : Board) → IsLike b (let c : Board = record b { t1 = with_temp x b.t1 } in c)
+unfolding timers_leap board_quiet lines_of
+like_t1 x b = record { clock = refl; quiet = λ t. refl; same = λ t i. (let e = ap (λ (u : Timer16). u.flags) (temp_cycles t i x b.t1) in rw e refl) }
+
+like_t3 : (x : ℕ) (b : Board) → IsLike b (let c : Board = record b { t3 = with_temp x b.t3 } in c)
+unfolding timers_leap board_quiet lines_of
+like_t3 x b = record { clock = refl; quiet = λ t. refl; same = λ t i. (let e = ap (λ (u : Timer16). u.flags) (temp_cycles t i x b.t3) in rw e refl) }
+
+abbrev LikeGot : Board → Result (ℕ × Board) StopCause → Type 0
+LikeGot b (Ok p) = IsLike b p.1
+LikeGot b (Err cause) = Unit {0}
+
+timer_like : (rule : Rule) (b : Board) (at : ℕ) → reads_timer rule ≡ true → LikeGot b (get_by rule b at)
+timer_like Reserved b at e = absurd (false_true e)
+timer_like (Pin port) b at e = absurd (false_true e)
+timer_like (Kept mask) b at e = absurd (false_true e)
+timer_like (Guarded bits cause mask) b at e = absurd (false_true e)
+timer_like WatchdogControl b at e = absurd (false_true e)
+timer_like ResetFlags b at e = absurd (false_true e)
+timer_like CpuControl b at e = absurd (false_true e)
+timer_like TimerFlags b at e = itself b
+timer_like TimerFlags3 b at e = itself b
+timer_like (Timer0 reg) b at e = itself b
+timer_like (Timer2 reg) b at e = itself b
+timer_like (Timer1 reg16.CountL) b at e = like_t1 (b.t1.count / 256) b
+timer_like (Timer1 reg16.IcrL) b at e = like_t1 (b.t1.icr / 256) b
+timer_like (Timer1 _) b at e = itself b
+timer_like (Timer3 reg16.CountL) b at e = like_t3 (b.t3.count / 256) b
+timer_like (Timer3 reg16.IcrL) b at e = like_t3 (b.t3.icr / 256) b
+timer_like (Timer3 _) b at e = itself b
+timer_like (Usart0 reg) b at e = absurd (false_true e)
+timer_like (Spi reg) b at e = absurd (false_true e)
+
+pub timer_ahead : (rule : Rule) (b c : Board) (at : ℕ) (a : Ahead) (r : Result ℕ StopCause) → reads_timer rule ≡ true
+    → IfOk r (λ x. get_by rule b at ≡ Ok (x, c)) → OnErr r (c ≡ b) → IsAhead a b → IsAhead a c
+timer_ahead rule b c at a (Ok x) e h same k = like_ahead a b c (subst (LikeGot b) h (timer_like rule b at e)) k
+timer_ahead rule b c at a (Err cause) e h same k = subst (IsAhead a) (sym same) k
+
+module _ (rule : Rule) (b : Board) (at s : ℕ) (e : reads_apart rule ≡ true) where
+  got : (g : Result (ℕ × Board) StopCause) → get_by rule b at ≡ g → GotApart b s (b.clock - s) g (get_by rule (caught_up s b) at)
+  got g h = subst (λ r. GotApart b s (b.clock - s) r (get_by rule (caught_up s b) at)) h (got_apart rule b at s (b.clock - s) e)
+
+  read_ok : (x : ℕ) (c v : Board) → get_by rule b at ≡ Ok (x, c) → caught_up s b ≡ v → get_by rule v at ≡ Ok (x, caught_up s c)
+  read_ok x c v h is =
+      let g = got (Ok (x, c)) h in
+      let later : timers_leap s (b.clock - s) c ≡ caught_up s c = ap (λ (t : ℕ). timers_leap s (t - s) c) (sym g.1.clock) in
+      subst (λ (w : Board). get_by rule w at ≡ Ok (x, caught_up s c)) is (g.0 ∙ ap (λ (w : Board). let r : Result (ℕ × Board) StopCause = Ok (x, w) in r) later)
+
+  pub read_ok_by : (r : Result ℕ StopCause) (c v : Board) → caught_up s b ≡ v → IfOk r (λ x. get_by rule b at ≡ Ok (x, c)) → IfOk r (λ x. get_by rule v at ≡ Ok (x, caught_up s c))
+  read_ok_by (Ok x) c v is h = read_ok x c v h is
+  read_ok_by (Err cause) c v is h = tt
+
+  pub read_err_by : (r : Result ℕ StopCause) (v : Board) → caught_up s b ≡ v → IfErr r (λ cause. get_by rule b at ≡ Err cause) → IfErr r (λ cause. get_by rule v at ≡ Err cause)
+  read_err_by (Ok x) v is h = tt
+  read_err_by (Err cause) v is h = subst (λ (w : Board). get_by rule w at ≡ Err cause) is (got (Err cause) h)
+
+  pub read_ahead_by : (r : Result ℕ StopCause) (a : Ahead) (c : Board) → IfOk r (λ x. get_by rule b at ≡ Ok (x, c)) → OnErr r (c ≡ b) → IsAhead a b → IsAhead a c
+  read_ahead_by (Ok x) a c h same k = like_ahead a b c (got (Ok (x, c)) h).1 k
+  read_ahead_by (Err cause) a c h same k = subst (IsAhead a) (sym same) k
+
+pub same_by : {R : Type 0} (r : Result R StopCause) (s : ℕ) (b c v : Board) → caught_up s b ≡ v → OnErr r (c ≡ b) → OnErr r (caught_up s c ≡ v)
+same_by (Ok x) s b c v is h = tt
+same_by (Err cause) s b c v is h = ap (caught_up s) h ∙ is
+
+pub read_clock : (rule : Rule) (b c : Board) (at : ℕ) (r : Result ℕ StopCause) → IfOk r (λ x. get_by rule b at ≡ Ok (x, c)) → OnErr r (c ≡ b) → c.clock ≡ b.clock
+read_clock rule b c at (Ok x) h same = get_by_clock rule b c at x h
+read_clock rule b c at (Err cause) h same = ap (λ (d : Board). d.clock) same
+
+-- ---- writes
+abbrev PutApart : Board → ℕ → ℕ → Result Board StopCause → Result Board StopCause → Type 0
+PutApart b s n (Ok c) late = (late ≡ Ok (timers_leap s n c)) × IsLike b c
+PutApart b s n (Err cause) late = late ≡ Err cause
+
+not_at : (at k : ℕ) → not (at == k) ≡ true → k ≢ at
+not_at at k e same = false_true (sym (ap (λ (b : Bool). not b) (eq-eqb at k (sym same))) ∙ e)
+
+-- a register that only holds a byte, and enables nothing
+like_kept : (at y : ℕ) (b : Board) → is_no_mask at ≡ true → IsLike b (with_kept at y b)
+unfolding timers_leap board_quiet lines_of
+like_kept at y b e =
+    let parts = and_parts (not (at == 0x57)) (not (at == 0x7D)) e in
+    let m : kept_at 0x57 (with_kept at y b) ≡ kept_at 0x57 b = get_or-set_other b.kept at 0x57 y 0 (not_at at 0x57 parts.0) in
+    let x : kept_at 0x7D (with_kept at y b) ≡ kept_at 0x7D b = get_or-set_other b.kept at 0x7D y 0 (not_at at 0x7D parts.1) in
+    record { clock = refl; quiet = λ t. refl; same = λ t i. rw (m, x) refl }
+
+either : (b : Board) (s n : ℕ) (c : Bool) (p q u w : Result Board StopCause) → PutApart b s n p u → PutApart b s n q w → PutApart b s n (if c then p else q) (if c then u else w)
+either b s n true p q u w h k = h
+either b s n false p q u w h k = k
+
+kept_apart : (b : Board) (at y s n : ℕ) → is_no_mask at ≡ true → PutApart b s n (Ok (with_kept at y b)) (Ok (with_kept at y (timers_leap s n b)))
+unfolding timers_leap
+kept_apart b at y s n e = (refl, like_kept at y b e)
+
+put_apart : (rule : Rule) (b : Board) (at x s n : ℕ) → writes_apart rule at ≡ true → PutApart b s n (put_by rule b at x) (put_by rule (timers_leap s n b) at x)
+unfolding timers_leap
+put_apart Reserved b at x s n e = refl
+put_apart (Pin port) b at x s n e = (refl, itself b)
+put_apart (Kept mask) b at x s n e = kept_apart b at (bit_and x mask) s n e
+put_apart (Guarded bits cause mask) b at x s n e = either b s n (any_bit x bits) _ _ _ _ refl (kept_apart b at (bit_and x mask) s n e)
+put_apart WatchdogControl b at x s n e = either b s n (any_bit x 0x08 && not (any_bit x 0x10)) _ _ _ _ refl (refl, itself b)
+put_apart ResetFlags b at x s n e = kept_apart b at _ s n e
+put_apart CpuControl b at x s n e =
+    either b s n (any_bit x 0x80) _ _ _ _ refl (either b s n (any_bit x 0x02) _ _ _ _ refl (kept_apart b at (bit_and x 0x7C) s n e))
+put_apart TimerFlags b at x s n e = absurd (false_true e)
+put_apart TimerFlags3 b at x s n e = absurd (false_true e)
+put_apart (Timer0 reg) b at x s n e = absurd (false_true e)
+put_apart (Timer1 reg) b at x s n e = absurd (false_true e)
+put_apart (Timer2 reg) b at x s n e = absurd (false_true e)
+put_apart (Timer3 reg) b at x s n e = absurd (false_true e)
+put_apart (Usart0 reg) b at x s n e = absurd (false_true e)
+put_apart (Spi reg) b at x s n e = absurd (false_true e)
+
+module _ (rule : Rule) (b : Board) (at x s : ℕ) (e : writes_apart rule at ≡ true) where
+  done : (g : Result Board StopCause) → put_by rule b at x ≡ g → PutApart b s (b.clock - s) g (put_by rule (caught_up s b) at x)
+  done g h = subst (λ r. PutApart b s (b.clock - s) r (put_by rule (caught_up s b) at x)) h (put_apart rule b at x s (b.clock - s) e)
+
+  write_ok : (c v : Board) → put_by rule b at x ≡ Ok c → caught_up s b ≡ v → put_by rule v at x ≡ Ok (caught_up s c)
+  write_ok c v h is =
+      let g = done (Ok c) h in
+      let later : timers_leap s (b.clock - s) c ≡ caught_up s c = ap (λ (t : ℕ). timers_leap s (t - s) c) (sym g.1.clock) in
+      subst (λ (w : Board). put_by rule w at x ≡ Ok (caught_up s c)) is (g.0 ∙ ap (λ (w : Board). let r : Result Board StopCause = Ok w in r) later)
+
+  pub write_ok_by : (r : Result (Unit {0}) StopCause) (c v : Board) → caught_up s b ≡ v → OnOk r (put_by rule b at x ≡ Ok c) → OnOk r (put_by rule v at x ≡ Ok (caught_up s c))
+  write_ok_by (Ok u) c v is h = write_ok c v h is
+  write_ok_by (Err cause) c v is h = tt
+
+  pub write_err_by : (r : Result (Unit {0}) StopCause) (v : Board) → caught_up s b ≡ v → IfErr r (λ cause. put_by rule b at x ≡ Err cause) → IfErr r (λ cause. put_by rule v at x ≡ Err cause)
+  write_err_by (Ok u) v is h = tt
+  write_err_by (Err cause) v is h = subst (λ (w : Board). put_by rule w at x ≡ Err cause) is (done (Err cause) h)
+
+  pub write_ahead_by : (r : Result (Unit {0}) StopCause) (a : Ahead) (c : Board) → OnOk r (put_by rule b at x ≡ Ok c) → OnErr r (c ≡ b) → IsAhead a b → IsAhead a c
+  write_ahead_by (Ok u) a c h same k = like_ahead a b c (done (Ok c) h).1 k
+  write_ahead_by (Err cause) a c h same k = subst (IsAhead a) (sym same) k
+
+pub write_clock : (rule : Rule) (b c : Board) (at x : ℕ) (r : Result (Unit {0}) StopCause) → OnOk r (put_by rule b at x ≡ Ok c) → OnErr r (c ≡ b) → c.clock ≡ b.clock
+write_clock rule b c at x (Ok u) h same = put_by_clock rule b c at x h
+write_clock rule b c at x (Err cause) h same = ap (λ (d : Board). d.clock) same

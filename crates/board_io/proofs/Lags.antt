@@ -1,0 +1,189 @@
+-- A board that lags: what its value is, and what stays known of it.
+use Rattle.std.proofs.Common.{◌≡◌, ℕ, ◌+◌, ◌-◌, ◌<◌, ◌≤◌, true, Option, Some, None, refl, sym, ap, ◌∙◌, subst, arith}
+use Rattle.board_io.specs.declared.ahead.Ahead.{Ahead}
+use Rattle.board_io.specs.declared.board.Board.{Board}
+use Rattle.board_io.specs.Board.{clock_at, sleep_mode, unclocked}
+use Rattle.board_io.specs.Cycle.{board_answered, board_asks, board_begun, board_quiet, board_sends, board_serial, moved, moved_by, samples, sends, timers_cycle, timers_leap, transfer_end, transferred, usart_cycle, with_moved}
+use Rattle.byte_radio.specs.declared.radio.Moved.{Moved}
+use Rattle.byte_radio.specs.declared.radio.Moved.TheVariants.{Answer, Send, Ask}
+use Rattle.byte_radio.specs.declared.radio.Radio.{Radio}
+use Rattle.world_core.specs.declared.air.Heard.{Heard}
+use Rattle.board_io.specs.Lagging.{IsAhead, IsIdle, caught_up}
+use Rattle.board_io.specs.Lines.{lines_of}
+use Rattle.board_io.proofs.Leaps.{leap_quiet, leap_zero}
+use Rattle.device_clocks.proofs.Cycles.{cycles-add}
+use Rattle.interrupt_unit.specs.declared.unit.Lines.{Lines}
+use Rattle.timer16.specs.Timer as timer16
+use Rattle.timer8.specs.Timer as timer8
+
+-- ---- leaps
+-- they add up
+pub leap_add : (t n m : ℕ) (b : Board) → timers_leap t (n + m) b ≡ timers_leap (t + n) m (timers_leap t n b)
+unfolding timers_leap
+leap_add t n m b =
+    λ k. let c : Board = record b {
+      t0 = cycles-add timer8.timer_cycle t n m b.t0 k;
+      t1 = cycles-add timer16.timer_cycle t n m b.t1 k;
+      t2 = cycles-add timer8.timer_cycle t n m b.t2 k;
+      t3 = cycles-add timer16.timer_cycle t n m b.t3 k;
+    } in c
+
+-- and do not look at the clock
+pub leap_clock : (u t n : ℕ) (b : Board) → timers_leap t n (clock_at u b) ≡ clock_at u (timers_leap t n b)
+unfolding timers_leap
+leap_clock u t n b = refl
+
+pub clock_leap : (t n : ℕ) (b : Board) → (timers_leap t n b).clock ≡ b.clock
+unfolding timers_leap
+clock_leap t n b = refl
+
+pub lines_clock : (u : ℕ) (b : Board) → lines_of (clock_at u b) ≡ lines_of b
+unfolding lines_of
+lines_clock u b = refl
+
+pub quiet_clock : (u t : ℕ) (b : Board) → board_quiet t (clock_at u b) ≡ board_quiet t b
+unfolding board_quiet
+quiet_clock u t b = refl
+
+pub sleep_leap : (t : ℕ) (b : Board) → sleep_mode b ≡ sleep_mode (caught_up t b)
+unfolding timers_leap
+sleep_leap t b = refl
+
+-- nor does a cycle
+moved_by_clock : (u t : ℕ) (o : Option ℕ) (b : Board) → moved_by t o (clock_at u b) ≡ moved_by t o b
+moved_by_clock u t None b = refl
+moved_by_clock u t (Some byte) b = refl
+
+moved_same : (u t : ℕ) (b : Board) → moved t (clock_at u b) ≡ moved t b
+moved_same u t b = moved_by_clock u t (transferred b.spi.transfer t) b
+
+moved_clock : (m : Option (Moved × Radio)) (u : ℕ) (b : Board) → with_moved m (clock_at u b) ≡ clock_at u (with_moved m b)
+moved_clock None u b = refl
+moved_clock (Some m) u b = ended_clock m.0 m.1 u b
+  where
+    ended_clock : (m : Moved) (r : Radio) (u : ℕ) (b : Board) → transfer_end m r (clock_at u b) ≡ clock_at u (transfer_end m r b)
+    ended_clock (Answer miso) r u b = refl
+    ended_clock (Send byte miso) r u b = refl
+    ended_clock Ask r u b = refl
+
+pub begun_clock : (u t : ℕ) (a : Option ℕ) (b : Board) → board_begun t a (clock_at u b) ≡ clock_at u (board_begun t a b)
+unfolding board_begun
+begun_clock u t a b =
+    let c : Board = usart_cycle t a (timers_cycle t b) in
+    ap (λ (m : Option (Moved × Radio)). with_moved m (clock_at u c)) (moved_same u t b) ∙ moved_clock (moved t b) u c
+
+pub serial_clock : (u t : ℕ) (b : Board) → board_serial t (clock_at u b) ≡ board_serial t b
+unfolding board_serial
+serial_clock u t b = refl
+
+pub sends_clock : (u t : ℕ) (b : Board) → board_sends t (clock_at u b) ≡ board_sends t b
+unfolding board_sends
+sends_clock u t b = ap sends (moved_same u t b)
+
+pub asks_clock : (u t : ℕ) (b : Board) → board_asks t (clock_at u b) ≡ board_asks t b
+unfolding board_asks
+asks_clock u t b = ap samples (moved_same u t b)
+
+pub answered_unclocked : (u : ℕ) (h : Heard) (b : Board) → board_answered h (clock_at u b) ≡ clock_at u (board_answered h b)
+unfolding board_answered
+answered_unclocked u h b = refl
+
+-- ---- a board that does not lag is its value
+pub caught_zero : (t : ℕ) (b : Board) → t ≡ b.clock → caught_up t b ≡ b
+caught_zero t b e = let none : b.clock - t ≡ 0 = omega (arith, e) in ap (λ (n : ℕ). timers_leap t n b) none ∙ leap_zero t b
+
+pub caught_clock : (t : ℕ) (b : Board) → (caught_up t b).clock ≡ b.clock
+caught_clock t b = clock_leap t (b.clock - t) b
+
+bits_same : (l m : Lines) → l.bits ≡ m.bits → l ≡ m
+bits_same l m e = λ k. let n : Lines = record { bits = e k } in n
+
+idle_clock : (n : ℕ) (v : Board) → IsIdle v.clock n v → IsIdle v.clock n (unclocked v)
+idle_clock n v h = record {
+  quiet = λ i l. quiet_clock 0 (v.clock + i) v ∙ h.quiet i l;
+  same = λ i l. ap lines_of (leap_clock 0 v.clock i v) ∙ (lines_clock 0 (timers_leap v.clock i v) ∙ (h.same i l ∙ sym (lines_clock 0 v)));
+}
+
+-- ---- a board that lags
+module _ (a : Ahead) (b : Board) (h : IsAhead a b) where
+  pub lines_now : (lines_of (caught_up a.settled b)).bits ≡ a.lines
+  lines_now = let l = h.settled in let m = h.next in h.same (b.clock - a.settled) (omega (arith, l, m))
+
+  pub lines_are : (v : Board) → caught_up a.settled b ≡ v → (let l : Lines = record { bits = a.lines } in l) ≡ lines_of v
+  lines_are v e = bits_same _ (lines_of v) (sym lines_now ∙ ap (λ (c : Board). (lines_of c).bits) e)
+
+  -- i cycles on from now
+  further : (i : ℕ) → timers_leap b.clock i (caught_up a.settled b) ≡ timers_leap a.settled (b.clock - a.settled + i) b
+  further i =
+      let l = h.settled in
+      let at : a.settled + (b.clock - a.settled) ≡ b.clock = omega (arith, l) in
+      ap (λ (t : ℕ). timers_leap t i (caught_up a.settled b)) (sym at) ∙ sym (leap_add a.settled (b.clock - a.settled) i b)
+
+  quiet_by : (t : ℕ) → b.clock ≤ t → t < a.next → board_quiet t (caught_up a.settled b) ≡ true
+  quiet_by t from below = let l = h.settled in leap_quiet t a.settled (b.clock - a.settled) b ∙ h.quiet t (omega (arith, l, from)) below
+
+  lines_by : (i : ℕ) → b.clock + i ≤ a.next → (lines_of (timers_leap b.clock i (caught_up a.settled b))).bits ≡ a.lines
+  lines_by i le =
+      let l = h.settled in
+      ap (λ (c : Board). (lines_of c).bits) (further i) ∙ h.same (b.clock - a.settled + i) (omega (arith, l, le))
+
+  idle_by : (n : ℕ) → b.clock + n ≤ a.next → IsIdle b.clock n (caught_up a.settled b)
+  idle_by n le = record {
+    quiet = λ i k. quiet_by (b.clock + i) (omega arith) (omega (arith, le, k));
+    same = λ i k. bits_same (lines_of (timers_leap b.clock i (caught_up a.settled b))) (lines_of (caught_up a.settled b)) (lines_by i (omega (arith, le, k)) ∙ sym lines_now);
+  }
+
+  -- nothing happens up to the next event
+  pub idle : (n : ℕ) (v : Board) → caught_up a.settled b ≡ v → b.clock + n ≤ a.next → IsIdle v.clock n (unclocked v)
+  idle n v e le =
+      idle_clock n v
+      (subst (λ (w : Board). IsIdle w.clock n w) e (subst (λ (t : ℕ). IsIdle t n (caught_up a.settled b)) (sym (caught_clock a.settled b)) (idle_by n le)))
+
+  -- the same is known of the board that caught up
+  pub settled_ahead : IsAhead (let c : Ahead = record a { settled = b.clock } in c) (caught_up a.settled b)
+  settled_ahead =
+      let at = caught_clock a.settled b in
+      let m = h.next in
+      record {
+        settled = omega (arith, at);
+        next = omega (arith, at, m);
+        early = h.early;
+        quiet = λ t from below. quiet_by t from below;
+        same = λ i le. lines_by i le;
+      }
+
+  -- n cycles on the same is known
+  pub later : (n : ℕ) → b.clock + n ≤ a.next → IsAhead a (clock_at (b.clock + n) b)
+  later n le =
+      let l = h.settled in
+      record {
+        settled = omega (arith, l);
+        next = le;
+        early = h.early;
+        quiet = λ t from below. quiet_clock (b.clock + n) t b ∙ h.quiet t from below;
+        same = λ i k. ap (λ (c : Board). (lines_of c).bits) (leap_clock (b.clock + n) a.settled i b)
+            ∙ (ap (λ (m : Lines). m.bits) (lines_clock (b.clock + n) (timers_leap a.settled i b)) ∙ h.same i k);
+      }
+
+  passed_by : (n : ℕ) → caught_up a.settled (clock_at (b.clock + n) b) ≡ clock_at (b.clock + n) (timers_leap b.clock n (caught_up a.settled b))
+  passed_by n =
+      let l = h.settled in
+      let more : b.clock + n - a.settled ≡ b.clock - a.settled + n = omega (arith, l) in
+      leap_clock (b.clock + n) a.settled (b.clock + n - a.settled) b
+      ∙ ap (clock_at (b.clock + n)) (ap (λ (m : ℕ). timers_leap a.settled m b) more ∙ sym (further n))
+
+  -- and its value is n cycles further
+  pub passed : (n : ℕ) (v : Board) → caught_up a.settled b ≡ v → unclocked (caught_up a.settled (clock_at (b.clock + n) b)) ≡ timers_leap v.clock n (unclocked v)
+  passed n v e =
+      ap unclocked (passed_by n)
+      ∙ (ap (λ (t : ℕ). unclocked (timers_leap t n (caught_up a.settled b))) (sym (caught_clock a.settled b))
+      ∙ (ap (λ (w : Board). unclocked (timers_leap w.clock n w)) e ∙ sym (leap_clock 0 v.clock n v)))
+
+  pub passed_clock : (n : ℕ) (v : Board) → caught_up a.settled b ≡ v → (caught_up a.settled (clock_at (b.clock + n) b)).clock ≡ v.clock + n
+  passed_clock n v e =
+      caught_clock a.settled (clock_at (b.clock + n) b)
+      ∙ ap (λ (t : ℕ). t + n) (sym (caught_clock a.settled b) ∙ ap (λ (w : Board). w.clock) e)
+
+-- the cycle of its clock is quiet, where one is passed
+pub quiet_now : (t : ℕ) (v : Board) → v.clock ≡ t → IsIdle v.clock 1 (unclocked v) → board_quiet t (unclocked v) ≡ true
+quiet_now t v e h = let at : v.clock + 0 ≡ t = omega (arith, e) in ap (λ (u : ℕ). board_quiet u (unclocked v)) (sym at) ∙ h.quiet 0 (omega arith)

@@ -1,0 +1,27 @@
+use Rattle.std.proofs.Common.{◌≡◌, ℕ, ◌+◌, ◌-◌, true, sym, ap, ◌∙◌, subst, arith}
+use Rattle.board_io.specs.Cycle.{board_quiet}
+use Rattle.board_io.specs.declared.board.Board.{Board}
+use Rattle.interrupt_unit.specs.declared.unit.Lines.{Lines}
+use Rattle.board_io.proofs.board.Board.ahead.Goals as goal
+
+pub returns-clause-ahead : goal.returns-clause-ahead
+returns-clause-ahead c =
+    let b : Board = c.args.self.now in
+    let t : ℕ = c.get-settled.result in
+    let at = c.get-settled.ensures.value in
+    let calm = c.quiet-calm.ensures in
+    let same = c.same_lines-same.ensures in
+    let some = same.goes_on (omega arith) in
+    let early = c.requires in
+    let within = calm.within in
+    let most = same.within in
+    record {
+      settled = omega (arith, at);
+      next = omega (arith, at);
+      early = omega (arith, at, early, within, most, some);
+      quiet = λ u from below.
+          (let i : ℕ = u - t in
+          let here : t + i ≡ u = omega (arith, from) in
+          subst (λ (w : ℕ). board_quiet w b ≡ true) here (calm.none i (omega (arith, from, below, most, some))));
+      same = λ i le. ap (λ (l : Lines). l.bits) (same.same i (omega (arith, le, some)) ∙ sym c.lines.ensures);
+    }

@@ -1,0 +1,5 @@
+use Rattle.board_io.proofs.Agree.{put_past}
+use Rattle.board_io.proofs.lagging_registers.LaggingBoardBus.put.Goals as goal
+
+pub returns-then-at-gt255-clause-err : goal.returns-then-at-gt255-clause-err
+returns-then-at-gt255-clause-err c = put_past c.args.self.now c.args.at c.args.b c.if-at-gt255.true

@@ -1,0 +1,101 @@
+-- A board that lags behind its clock: the timers' cycles from `settled` on are still to be made up for, and until `next`
+-- nothing of it ends and its interrupt lines stay, so that they can be told without a look at the timers.
+use Rattle.std.specs.Prelude.{◌≡◌, ℕ, ◌+◌, ◌-◌, ◌^◌, ◌<◌, ◌≤◌, ◌==◌, ◌&&◌, not, Bool, true, false}
+use Rattle.board_io.specs.declared.board.Board.{Board}
+use Rattle.board_io.specs.declared.ahead.Ahead.{Ahead}
+use Rattle.board_io.specs.Cycle.{board_quiet, timers_leap}
+use Rattle.board_io.specs.Lines.{lines_of}
+use Rattle.board_io.specs.declared.rules.Rule.{Rule}
+use Rattle.board_io.specs.declared.rules.Rule.TheVariants.{Reserved, Pin, Kept, Guarded, WatchdogControl, ResetFlags, CpuControl, TimerFlags, TimerFlags3, Timer0, Timer1, Timer2, Timer3, Usart0, Spi}
+use Rattle.spi_port.specs.declared.registers.SpiReg.{SpiReg}
+use Rattle.spi_port.specs.declared.registers.SpiReg.TheVariants as spi
+use Rattle.usart_port.specs.declared.registers.UsartReg.{UsartReg}
+use Rattle.usart_port.specs.declared.registers.UsartReg.TheVariants as usart
+
+-- the board of its clock's cycle, where its timers have done the cycles below `settled` alone
+abbrev pub caught_up : ℕ → Board → Board
+caught_up settled b = timers_leap settled (b.clock - settled) b
+
+-- what is kept of a board that lags is true of it
+pub record IsAhead (a : Ahead) (b : Board) : Type 0 where
+  pub settled : a.settled ≤ b.clock
+  pub next : b.clock ≤ a.next
+  pub early : a.next ≤ 2 ^ 40
+  pub quiet : (t : ℕ) → a.settled ≤ t → t < a.next → board_quiet t b ≡ true
+  pub same : (i : ℕ) → a.settled + i ≤ a.next → (lines_of (timers_leap a.settled i b)).bits ≡ a.lines
+
+-- n cycles from cycle t on in which nothing of a board ends, and each of which begins with the lines of now
+pub record IsIdle (t n : ℕ) (b : Board) : Type 0 where
+  pub quiet : (i : ℕ) → i < n → board_quiet (t + i) b ≡ true
+  pub same : (i : ℕ) → i < n → lines_of (timers_leap t i b) ≡ lines_of b
+
+abbrev pub is_udr : UsartReg → Bool
+is_udr usart.StatusA = false
+is_udr usart.ControlB = false
+is_udr usart.ControlC = false
+is_udr usart.BaudL = false
+is_udr usart.BaudH = false
+is_udr usart.Udr = true
+
+abbrev pub is_spdr : SpiReg → Bool
+is_spdr spi.Control = false
+is_spdr spi.Status = false
+is_spdr spi.Spdr = true
+
+-- whether a read by a rule looks at no timer, and leaves the lines and what may end
+abbrev pub reads_apart : Rule → Bool
+reads_apart Reserved = true
+reads_apart (Pin port) = true
+reads_apart (Kept mask) = true
+reads_apart (Guarded bits cause mask) = true
+reads_apart WatchdogControl = true
+reads_apart ResetFlags = true
+reads_apart CpuControl = true
+reads_apart TimerFlags = false
+reads_apart TimerFlags3 = false
+reads_apart (Timer0 reg) = false
+reads_apart (Timer1 reg) = false
+reads_apart (Timer2 reg) = false
+reads_apart (Timer3 reg) = false
+reads_apart (Usart0 reg) = not (is_udr reg)
+reads_apart (Spi reg) = not (is_spdr reg)
+
+-- whether a read by a rule looks at a timer
+abbrev pub reads_timer : Rule → Bool
+reads_timer Reserved = false
+reads_timer (Pin port) = false
+reads_timer (Kept mask) = false
+reads_timer (Guarded bits cause mask) = false
+reads_timer WatchdogControl = false
+reads_timer ResetFlags = false
+reads_timer CpuControl = false
+reads_timer TimerFlags = true
+reads_timer TimerFlags3 = true
+reads_timer (Timer0 reg) = true
+reads_timer (Timer1 reg) = true
+reads_timer (Timer2 reg) = true
+reads_timer (Timer3 reg) = true
+reads_timer (Usart0 reg) = false
+reads_timer (Spi reg) = false
+
+-- neither TIMSK nor ETIMSK, which enable the timers' lines
+abbrev pub is_no_mask : ℕ → Bool
+is_no_mask at = not (at == 0x57) && not (at == 0x7D)
+
+-- so a write of the register at an address
+abbrev pub writes_apart : Rule → ℕ → Bool
+writes_apart Reserved at = true
+writes_apart (Pin port) at = true
+writes_apart (Kept mask) at = is_no_mask at
+writes_apart (Guarded bits cause mask) at = is_no_mask at
+writes_apart WatchdogControl at = true
+writes_apart ResetFlags at = is_no_mask at
+writes_apart CpuControl at = is_no_mask at
+writes_apart TimerFlags at = false
+writes_apart TimerFlags3 at = false
+writes_apart (Timer0 reg) at = false
+writes_apart (Timer1 reg) at = false
+writes_apart (Timer2 reg) at = false
+writes_apart (Timer3 reg) at = false
+writes_apart (Usart0 reg) at = false
+writes_apart (Spi reg) at = false

@@ -1,0 +1,52 @@
+// What is known of a board's next cycles.
+ghost use Rattle.std.specs.Prelude.{◌≡◌, ◌≤◌, ◌^◌};
+ghost use Rattle.board_io.specs.Lagging.{IsAhead};
+
+use crate::Board;
+
+// The last cycle that anything is told of.
+const LAST: u64 = 1 << 40;
+
+/// What is known of a board whose timers have done the cycles below one.
+#[derive(Clone, Copy, Debug, PartialEq, Eq)]
+pub struct Ahead {
+    /// That cycle.
+    pub settled: u64,
+    /// Below this cycle, 2^40 at most, no frame and no transfer ends, and up to its beginning the lines stay.
+    pub next: u64,
+    /// The interrupt lines.
+    pub lines: u64,
+}
+
+impl Board {
+    ghost use Rattle.board_io.specs.Lagging.{caught_up};
+
+    /// What is known of it from the cycle of its clock on, which its timers have come to.
+    #[inline(never)]
+    pub fn ahead(&self) -> Ahead
+        requires { self.now.clock ≤ 2 ^ 40 }
+        ensures settled { result.settled ≡ self.now.clock }
+        ensures ahead { IsAhead result self.now }
+    {
+        let settled = self.clock.get();
+        let calm = self.quiet(settled, LAST - settled);
+        let same = self.same_lines(settled, calm + 1);
+        Ahead {
+            settled,
+            next: settled + (same - 1),
+            lines: self.lines().bits,
+        }
+    }
+
+    /// Makes up for the timers' cycles from `settled` on and below its clock.
+    #[inline]
+    pub fn catch_up(&mut self, settled: u64)
+        requires { settled ≤ self.old.clock }
+        ensures { self.new ≡ caught_up settled self.old }
+    {
+        let clock = self.clock.get();
+        if settled < clock {
+            self.leap(settled, clock - settled);
+        }
+    }
+}

@@ -1,0 +1,158 @@
+// A board that does its timers' cycles once somebody looks at them.
+ghost use Rattle.std.specs.Prelude.{◌≡◌, ◌≤◌, ◌<◌, ◌+◌, ◌^◌, true, false, is_some};
+ghost use Rattle.board_io.specs.Lagging.{IsIdle};
+
+use crate::ahead::Ahead;
+use crate::{Begun, Board, Cycle, Sleep};
+use interrupt_unit::{Lines, Vector};
+use std::marker::Model;
+use world_core::Heard;
+
+/// A board, as the node runs it. Contracts see the board of its clock's cycle; behind that its timers lag, since most
+/// cycles only count: they are made up for at an access to a timer and at an event, and until the next event the
+/// interrupt lines are those that are kept.
+#[derive(Debug, Drop)]
+pub struct LaggingBoard {
+    pub(crate) board: Board,
+    pub(crate) ahead: Ahead,
+}
+
+impl Model for LaggingBoard {
+    ghost use Rattle.board_io.specs.declared.board.Board.{Board};
+    ghost use Rattle.board_io.specs.Lagging.{IsAhead, caught_up};
+
+    ghost Value = { Board };
+
+    ghost view = { λ a. caught_up a.ahead.settled a.board };
+
+    ghost invariant = { λ a. IsAhead a.ahead a.board };
+}
+
+impl LaggingBoard {
+    ghost use Rattle.board_io.specs.Board.{reset_board, sleep_mode, unclocked};
+    ghost use Rattle.board_io.specs.Cycle.{board_answered, board_asks, board_begun, board_sends, board_serial, timers_leap};
+    ghost use Rattle.board_io.specs.Lines.{entered_of, lines_of};
+
+    /// The board after reset, at cycle 0, with the byte time of its radio in cycles, at most 4,096.
+    pub fn new(byte_time: u64) -> LaggingBoard
+        requires { byte_time ≤ 4096 }
+        ensures { result ≡ reset_board byte_time }
+    {
+        let board = Board::new(byte_time);
+        let ahead = board.ahead();
+        LaggingBoard { board, ahead }
+    }
+
+    /// The interrupt lines.
+    #[inline]
+    pub fn lines(&self) -> Lines
+        ensures { result ≡ lines_of self.now }
+    {
+        Lines {
+            bits: self.ahead.lines,
+        }
+    }
+
+    /// What SLEEP would do.
+    #[inline]
+    pub fn sleep_mode(&self) -> Sleep
+        ensures { result ≡ sleep_mode self.now }
+    {
+        self.board.sleep_mode()
+    }
+
+    /// Passes cycles, of at most `most`, in which no frame and no transfer ends and each of which begins with the lines
+    /// of now, as far as what runs now tells: how many it were.
+    #[inline]
+    pub fn pass(&mut self, most: u64) -> u64
+        ensures within { result ≤ most }
+        ensures idle { IsIdle self.old.clock result (unclocked self.old) }
+        ensures state { unclocked self.new ≡ timers_leap self.old.clock result (unclocked self.old) }
+        ensures clock { self.new.clock ≡ self.old.clock + result }
+    {
+        let clock = self.board.clock.get();
+        let n = most.min(self.ahead.next - clock);
+        self.board.clock = Cycle::new(clock + n);
+        n
+    }
+
+    /// Passes `n` cycles, if all of them are such ones.
+    #[inline]
+    pub fn passes(&mut self, n: u64) -> bool
+        ensures idle { result ≡ true → IsIdle self.old.clock n (unclocked self.old) }
+        ensures state { result ≡ true → unclocked self.new ≡ timers_leap self.old.clock n (unclocked self.old) }
+        ensures clock { result ≡ true → self.new.clock ≡ self.old.clock + n }
+        ensures same { result ≡ false → self.new ≡ self.old }
+    {
+        let clock = self.board.clock.get();
+        if n > self.ahead.next - clock {
+            return false;
+        }
+        self.board.clock = Cycle::new(clock + n);
+        true
+    }
+
+    // The devices' part of a cycle in which something may end.
+    #[inline(never)]
+    fn turn(&mut self, cycle: u64, arrival: Option<u8>) -> Begun
+        requires now { self.old.clock ≡ cycle }
+        requires early { cycle < 2 ^ 40 }
+        ensures state { unclocked self.new ≡ board_begun cycle arrival (unclocked self.old) }
+        ensures clock { self.new.clock ≡ cycle + 1 }
+        ensures serial { result.serial ≡ board_serial cycle (unclocked self.old) }
+        ensures sent { result.sent ≡ board_sends cycle (unclocked self.old) }
+        ensures asks { result.asks ≡ board_asks cycle (unclocked self.old) }
+        ensures waits { result.asks ≡ true → is_some self.new.spi.transfer ≡ true }
+    {
+        self.board.catch_up(self.ahead.settled);
+        let begun = self.board.begin(cycle, arrival);
+        self.board.at(cycle + 1);
+        self.ahead = self.board.ahead();
+        begun
+    }
+
+    /// The devices' part of the cycle `cycle`, which is that of its clock: as [`Board::begin`] does it. Its clock goes
+    /// on to the next cycle.
+    #[inline]
+    pub fn begin(&mut self, cycle: u64, arrival: Option<u8>) -> Begun
+        requires now { self.old.clock ≡ cycle }
+        requires early { cycle < 2 ^ 40 }
+        ensures state { unclocked self.new ≡ board_begun cycle arrival (unclocked self.old) }
+        ensures clock { self.new.clock ≡ cycle + 1 }
+        ensures serial { result.serial ≡ board_serial cycle (unclocked self.old) }
+        ensures sent { result.sent ≡ board_sends cycle (unclocked self.old) }
+        ensures asks { result.asks ≡ board_asks cycle (unclocked self.old) }
+        ensures waits { result.asks ≡ true → is_some self.new.spi.transfer ≡ true }
+    {
+        match arrival {
+            None => {
+                if self.passes(1) {
+                    Begun::NOTHING
+                } else {
+                    self.turn(cycle, None)
+                }
+            }
+            Some(byte) => self.turn(cycle, Some(byte)),
+        }
+    }
+
+    /// The rest of a cycle that samples, with what is heard: the transfer that sampled ends, and answers 0.
+    pub fn answer(&mut self, h: Heard)
+        requires { is_some self.old.spi.transfer ≡ true }
+        ensures state { unclocked self.new ≡ board_answered h (unclocked self.old) }
+        ensures clock { self.new.clock ≡ self.old.clock }
+    {
+        self.board.catch_up(self.ahead.settled);
+        self.board.answer(h);
+        self.ahead = self.board.ahead();
+    }
+
+    /// What serving the interrupt of the vector `v` does to its source.
+    pub fn entered(&mut self, v: Vector)
+        ensures { self.new ≡ entered_of v.word self.old }
+    {
+        self.board.catch_up(self.ahead.settled);
+        self.board.entered(v);
+        self.ahead = self.board.ahead();
+    }
+}
