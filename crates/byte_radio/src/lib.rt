@@ -5,6 +5,3 @@
 mod radio;
 
 pub use radio::{Moved, Radio, RadioState};
-
-#[cfg(test)]
-mod tests;

@@ -13,6 +13,3 @@ pub use clock::{clocks_in, cycle_of_clock, has_clock};
 pub use counter::{clocks_until, count_after, stepped};
 pub use event::{earlier, flag_after};
 pub use flags::TimerFlags;
-
-#[cfg(test)]
-mod tests;

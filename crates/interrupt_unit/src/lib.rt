@@ -4,6 +4,3 @@
 mod unit;
 
 pub use unit::{Lines, Vector, due, pending};
-
-#[cfg(test)]
-mod tests;

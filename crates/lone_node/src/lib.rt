@@ -5,6 +5,3 @@
 mod run;
 
 pub use run::run_alone;
-
-#[cfg(test)]
-mod tests;

@@ -7,6 +7,3 @@ mod spi;
 
 pub use registers::SpiReg;
 pub use spi::{Spi, Transfer};
-
-#[cfg(test)]
-mod tests;

@@ -11,6 +11,3 @@ pub use device_clocks::TimerFlags;
 pub use mode::Mode16;
 pub use registers::{Chan, Reg16};
 pub use timer16::Timer16;
-
-#[cfg(test)]
-mod tests;

@@ -8,6 +8,3 @@ mod timer8;
 pub use device_clocks::TimerFlags;
 pub use registers::Reg8;
 pub use timer8::{Timer8, Which8};
-
-#[cfg(test)]
-mod tests;

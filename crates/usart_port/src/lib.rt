@@ -11,6 +11,3 @@ pub use inbox::Inbox;
 pub use registers::UsartReg;
 pub use script::Script;
 pub use usart::{Frame, Usart, UsartLines};
-
-#[cfg(test)]
-mod tests;

@@ -1,0 +1,107 @@
+// The devices, and the lines that do something to them.
+use crate::answers::{Answer, text_of};
+use crate::clocks::{do_clocks, do_interrupts};
+use crate::radio::do_radio;
+use crate::serial::{do_script, do_usart};
+use crate::timers::{do_timer8, do_timer16};
+use crate::transfers::do_spi;
+use byte_radio::Radio;
+use spi_port::Spi;
+use std::alloc::{AllocError, Global};
+use timer8::{Timer8, Which8};
+use timer16::Timer16;
+use usart_port::Usart;
+
+/// What a line comes to.
+#[derive(Clone, Copy, PartialEq, Eq)]
+pub enum Verdict {
+    /// It is empty, or a comment.
+    Comment,
+    /// What it says is what the device answers.
+    Right,
+    /// It is not, or the line is none of the forms.
+    Wrong,
+}
+
+/// One device of each kind, and a timer of each kind that was kept.
+#[derive(Drop)]
+pub struct Bench {
+    alloc: Global,
+    timer8: Timer8,
+    kept8: Timer8,
+    timer16: Timer16,
+    kept16: Timer16,
+    spi: Spi,
+    usart: Usart,
+    radio: Radio,
+}
+
+impl Bench {
+    /// All at reset.
+    pub fn new(alloc: Global) -> Self {
+        Bench {
+            alloc,
+            timer8: Timer8::new(Which8::Zero),
+            kept8: Timer8::new(Which8::Zero),
+            timer16: Timer16::new(),
+            kept16: Timer16::new(),
+            spi: Spi::new(),
+            usart: Usart::new(),
+            radio: Radio::new(512),
+        }
+    }
+
+    // Keeps a timer, or takes the kept one back.
+    fn keep(&mut self, device: &str, what: &str) -> Option<Answer> {
+        match (device, what) {
+            ("timer8", "keep") => self.kept8 = self.timer8,
+            ("timer8", "back") => self.timer8 = self.kept8,
+            ("timer16", "keep") => self.kept16 = self.timer16,
+            ("timer16", "back") => self.timer16 = self.kept16,
+            _ => return None,
+        }
+        Some(Answer::Done)
+    }
+
+    fn act(&mut self, device: &str, words: &[&str]) -> Option<Answer> {
+        match device {
+            "timer8" => do_timer8(&mut self.timer8, words),
+            "timer16" => do_timer16(&mut self.timer16, words),
+            "spi" => do_spi(&mut self.spi, words),
+            "usart" => do_usart(&mut self.usart, words),
+            "script" => do_script(self.alloc, words),
+            "radio" => do_radio(&mut self.radio, words),
+            "clocks" => do_clocks(words),
+            "interrupts" => do_interrupts(words),
+            _ => None,
+        }
+    }
+
+    fn answer(&mut self, words: &[&str]) -> Option<Answer> {
+        match words {
+            [device, what] if *what == "keep" || *what == "back" => self.keep(device, what),
+            [device, rest @ ..] => self.act(device, rest),
+            [] => None,
+        }
+    }
+}
+
+/// Does what a line says, `DEVICE WORD .. gives ANSWER`. Without an answer it is to be done.
+pub fn judge(alloc: Global, bench: &mut Bench, line: &str) -> Result<Verdict, AllocError> {
+    if line.is_empty() || line.starts_with('#') {
+        return Ok(Verdict::Comment);
+    }
+    let (does, gives) = line.split_once(" gives ").unwrap_or((line, "done"));
+    let mut words = Vec::new(alloc);
+    for word in does.split_whitespace() {
+        words.push(word)?;
+    }
+    let Some(answer) = bench.answer(words.as_slice()) else {
+        return Ok(Verdict::Wrong);
+    };
+    if text_of(alloc, answer)?.as_str() == gives {
+        Ok(Verdict::Right)
+    } else {
+        Ok(Verdict::Wrong)
+    }
+}

@@ -1,0 +1,49 @@
+// What is done to the radio.
+ghost use Rattle.std.specs.Prelude.{◌≤◌, ◌^◌};
+
+use crate::answers::Answer;
+use crate::numbers::{byte, cycle, short};
+use byte_radio::{Moved, Radio};
+use world_core::Heard;
+
+// A sample hears one byte.
+const HEARD: Heard = Heard {
+    status: 1,
+    byte: 0x5A,
+    age: 3,
+};
+
+// A transfer that ends in a cycle; where the radio asks the air, it is answered.
+fn moved(radio: &mut Radio, at: u64, selected: bool, mosi: u8) -> Answer
+    requires { at ≤ 2 ^ 41 }
+{
+    match radio.transfer(at, selected, mosi) {
+        Moved::Answer(b) => Answer::Byte(b),
+        Moved::Send { byte, miso } => Answer::Sent(byte, miso),
+        Moved::Ask => {
+            radio.answer(HEARD);
+            Answer::Asks
+        }
+    }
+}
+
+fn new_radio(word: &str) -> Option<Radio> {
+    let byte_time = short(word)?;
+    if byte_time > 4096 {
+        return None;
+    }
+    Some(Radio::new(u64::from(byte_time)))
+}
+
+/// The radio.
+pub fn do_radio(radio: &mut Radio, words: &[&str]) -> Option<Answer> {
+    match words {
+        ["new", byte_time] => {
+            *radio = new_radio(byte_time)?;
+            Some(Answer::Done)
+        }
+        [at, "selected", b] => Some(moved(radio, cycle(at)?, true, byte(b)?)),
+        [at, "released", b] => Some(moved(radio, cycle(at)?, false, byte(b)?)),
+        _ => None,
+    }
+}

@@ -1,0 +1,127 @@
+// What is done to a timer.
+use crate::answers::Answer;
+use crate::numbers::{byte, cycle};
+use device_clocks::TimerFlags;
+use timer8::{Reg8, Timer8, Which8};
+use timer16::{Chan, Reg16, Timer16};
+
+fn flag(name: &str) -> Option<TimerFlags> {
+    let none = TimerFlags::NONE;
+    match name {
+        "over" => Some(TimerFlags { over: true, ..none }),
+        "a" => Some(TimerFlags {
+            comp_a: true,
+            ..none
+        }),
+        "b" => Some(TimerFlags {
+            comp_b: true,
+            ..none
+        }),
+        "c" => Some(TimerFlags {
+            comp_c: true,
+            ..none
+        }),
+        "icr" => Some(TimerFlags { icr: true, ..none }),
+        _ => None,
+    }
+}
+
+fn reg8(name: &str) -> Option<Reg8> {
+    match name {
+        "control" => Some(Reg8::Control),
+        "count" => Some(Reg8::Count),
+        "compare" => Some(Reg8::Compare),
+        _ => None,
+    }
+}
+
+fn new8(which: &str) -> Option<Timer8> {
+    match which {
+        "0" => Some(Timer8::new(Which8::Zero)),
+        "2" => Some(Timer8::new(Which8::Two)),
+        _ => None,
+    }
+}
+
+fn ticks8(timer: &mut Timer8, from: &str, n: &str) -> Option<Answer> {
+    let (from, n) = (cycle(from)?, cycle(n)?);
+    for i in 0..n {
+        timer.tick(from + i);
+    }
+    Some(Answer::Done)
+}
+
+/// A timer of eight bits.
+pub fn do_timer8(timer: &mut Timer8, words: &[&str]) -> Option<Answer> {
+    match words {
+        ["new", which] => {
+            *timer = new8(which)?;
+            Some(Answer::Done)
+        }
+        ["put", reg, b] => Some(Answer::of_put(timer.put(reg8(reg)?, byte(b)?))),
+        ["get", reg] => Some(Answer::Byte(timer.get(reg8(reg)?))),
+        ["tick", from, n] => ticks8(timer, from, n),
+        ["leap", from, n] => {
+            timer.leap(cycle(from)?, cycle(n)?);
+            Some(Answer::Done)
+        }
+        ["next", from] => Some(Answer::perhaps(timer.next_event(cycle(from)?))),
+        ["flags"] => Some(Answer::Flags(timer.flags())),
+        ["clear", name] => {
+            timer.clear(flag(name)?);
+            Some(Answer::Done)
+        }
+        _ => None,
+    }
+}
+
+fn reg16(name: &str) -> Option<Reg16> {
+    match name {
+        "control_a" => Some(Reg16::ControlA),
+        "control_b" => Some(Reg16::ControlB),
+        "control_c" => Some(Reg16::ControlC),
+        "count_l" => Some(Reg16::CountL),
+        "count_h" => Some(Reg16::CountH),
+        "icr_l" => Some(Reg16::IcrL),
+        "icr_h" => Some(Reg16::IcrH),
+        "a_l" => Some(Reg16::CompL(Chan::A)),
+        "a_h" => Some(Reg16::CompH(Chan::A)),
+        "b_l" => Some(Reg16::CompL(Chan::B)),
+        "b_h" => Some(Reg16::CompH(Chan::B)),
+        "c_l" => Some(Reg16::CompL(Chan::C)),
+        "c_h" => Some(Reg16::CompH(Chan::C)),
+        _ => None,
+    }
+}
+
+fn ticks16(timer: &mut Timer16, from: &str, n: &str) -> Option<Answer> {
+    let (from, n) = (cycle(from)?, cycle(n)?);
+    for i in 0..n {
+        timer.tick(from + i);
+    }
+    Some(Answer::Done)
+}
+
+/// A timer of sixteen bits.
+pub fn do_timer16(timer: &mut Timer16, words: &[&str]) -> Option<Answer> {
+    match words {
+        ["new"] => {
+            *timer = Timer16::new();
+            Some(Answer::Done)
+        }
+        ["put", reg, b] => Some(Answer::of_put(timer.put(reg16(reg)?, byte(b)?))),
+        ["get", reg] => Some(Answer::Byte(timer.get(reg16(reg)?))),
+        ["tick", from, n] => ticks16(timer, from, n),
+        ["leap", from, n] => {
+            timer.leap(cycle(from)?, cycle(n)?);
+            Some(Answer::Done)
+        }
+        ["next", from] => Some(Answer::perhaps(timer.next_event(cycle(from)?))),
+        ["flags"] => Some(Answer::Flags(timer.flags())),
+        ["clear", name] => {
+            timer.clear(flag(name)?);
+            Some(Answer::Done)
+        }
+        _ => None,
+    }
+}
