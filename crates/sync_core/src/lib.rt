@@ -12,6 +12,4 @@ pub use run::replay;
 pub use steps::{ReplayFault, Step};
 
 #[cfg(test)]
-mod plain;
-#[cfg(test)]
 mod tests;

@@ -55,7 +55,7 @@ fn may_raise(core: &Core<ListWorld>, node: u8, clock: u64) -> bool
 }
 
 // Raises the clock, or answers false where that is not allowed.
-pub(crate) fn try_raise(core: &mut Core<ListWorld>, node: u8, clock: u64) -> bool
+fn try_raise(core: &mut Core<ListWorld>, node: u8, clock: u64) -> bool
     ensures { IsStepped core.old (Step.Raise node clock) result core.new }
 {
     if !may_raise(core, node, clock) {
@@ -66,7 +66,7 @@ pub(crate) fn try_raise(core: &mut Core<ListWorld>, node: u8, clock: u64) -> boo
 }
 
 // Posts the next send of the node, or answers false where it has none.
-pub(crate) fn try_post(core: &mut Core<ListWorld>, node: u8) -> bool
+fn try_post(core: &mut Core<ListWorld>, node: u8) -> bool
     ensures { IsStepped core.old (Step.Post node) result core.new }
 {
     if node >= core.world().topo().nodes() {

@@ -17,4 +17,3 @@ pub mod Rows
 pub mod More
 pub mod NextEntry
 pub mod Lawfulness
-pub mod ByNodes

@@ -15,4 +15,3 @@ pub mod Kept
 pub mod Settled
 pub mod Consistent
 pub mod Steps
-pub mod ByNode

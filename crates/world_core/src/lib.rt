@@ -21,6 +21,4 @@ pub use topo::Topo;
 pub use world::{ListWorld, World, WorldFacts};
 
 #[cfg(test)]
-mod plain;
-#[cfg(test)]
 mod tests;

@@ -1,0 +1,2 @@
+pub mod ByNodes
+pub mod Worlds

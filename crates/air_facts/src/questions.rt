@@ -1,0 +1,226 @@
+// What the crates answer to the questions of a case file.
+ghost use Rattle.std.specs.Prelude.{◌≡◌, ◌↔◌, ◌≤◌, IfOk, IsTrue};
+ghost use Rattle.std.specs.List.{Contains};
+ghost use Rattle.world_core.specs.Topology.{IsShort};
+
+use crate::answer::Answer;
+use crate::fault::Fault;
+use crate::logs::listens;
+use crate::plain::{are_inside, is_consistent};
+use crate::setting::Setting;
+use crate::words::{Command, Section};
+use std::alloc::Global;
+use sync_core::{Core, ReplayFault, Step, replay};
+use world_core::{Ask, ListWorld, Sampled, Topo, TopoFault, World, WorldFault, heard_of};
+
+fn of_topo(got: Result<Topo, TopoFault>) -> Answer {
+    match got {
+        Ok(_) => Answer::Accepted,
+        Err(TopoFault::Range) => Answer::Range,
+        Err(TopoFault::SelfLink { place }) => Answer::SelfLink(place as u64),
+        Err(TopoFault::TwiceLinked { place }) => Answer::TwiceLinked(place as u64),
+    }
+}
+
+fn of_world(got: Result<ListWorld, WorldFault>) -> Answer {
+    match got {
+        Ok(_) => Answer::Accepted,
+        Err(WorldFault::SendOrder { place }) => Answer::SendOrder(place as u64),
+        Err(WorldFault::AskOrder { place }) => Answer::AskOrder(place as u64),
+    }
+}
+
+fn by_new(setting: &Setting) -> Result<Answer, Fault> {
+    let links = setting.links.clone()?;
+    Ok(of_topo(Topo::new(
+        setting.nodes,
+        setting.limit,
+        setting.latency,
+        setting.byte_time,
+        links,
+    )))
+}
+
+fn by_latencies(setting: &Setting) -> Result<Answer, Fault> {
+    let links = setting.links.clone()?;
+    let own = setting.own.clone()?;
+    Ok(of_topo(Topo::with_latencies(
+        setting.nodes,
+        setting.limit,
+        setting.latency,
+        setting.byte_time,
+        links,
+        own,
+    )))
+}
+
+// What a node hears of all the sends, which are to lie inside the topology.
+fn hears(setting: &Setting, node: u8, cycle: u64) -> Result<Answer, Fault> {
+    let topo = setting.lawful_topo()?;
+    if !are_inside(&topo, &setting.sends) {
+        return Err(Fault::Unreadable);
+    }
+    Ok(Answer::Heard(heard_of(&topo, &setting.sends, node, cycle)))
+}
+
+fn node_of(n: u64) -> Result<u8, Fault> {
+    u8::try_from(n).map_err(|_| Fault::Unreadable)
+}
+
+// Whether the record of sends is the one that is given.
+fn is_record(setting: &Setting) -> Answer {
+    if setting.log.sends() == setting.record.as_slice() {
+        Answer::State
+    } else {
+        Answer::OtherState
+    }
+}
+
+// The answer of a reader of the topology, or of what is heard.
+fn of_reader(setting: &Setting, command: Command, numbers: &[u64]) -> Result<Answer, Fault> {
+    let topo = setting.lawful_topo()?;
+    match (command, numbers) {
+        (Command::Reach, []) => Ok(Answer::Number(topo.reach())),
+        (Command::Linked, [from, to]) => Ok(Answer::Holds(topo.linked(
+            node_of(*from)?,
+            node_of(*to)?,
+        ))),
+        (Command::Latency, [from, to]) => Ok(Answer::Number(topo.latency_of(
+            node_of(*from)?,
+            node_of(*to)?,
+        ))),
+        (Command::Open, [from, to, cycle]) => Ok(Answer::Holds(topo.is_open(
+            node_of(*from)?,
+            node_of(*to)?,
+            *cycle,
+        ))),
+        (Command::Needs, [from, to, cycle]) => Ok(Answer::Holds(topo.needs(
+            node_of(*from)?,
+            node_of(*to)?,
+            *cycle,
+        ))),
+        (Command::At, [node, cycle]) => hears(setting, node_of(*node)?, *cycle),
+        (Command::Listen, [node, cycle]) => listens(&setting.log, &topo, node_of(*node)?, *cycle),
+        (Command::Kept, []) => Ok(is_record(setting)),
+        _ => Err(Fault::Unreadable),
+    }
+}
+
+// The core after the steps, in the same world.
+fn replayed(alloc: Global, world: ListWorld, steps: &[Step]) -> Result<Core<ListWorld>, ReplayFault>
+    requires { IsShort world.topo }
+    ensures { IfOk result (λ core. core.world ≡ world) }
+{
+    match replay(alloc, world, steps) {
+        Ok(core) => Ok(core),
+        Err(fault) => Err(fault),
+    }
+}
+
+fn is_short(world: &ListWorld) -> bool
+    ensures { IsTrue result ↔ IsShort world.now.topo }
+{
+    world.topo().limit() <= 10_000_000
+}
+
+// Whether the clocks and counts of so many nodes are these.
+fn are_numbers(core: &Core<ListWorld>, nodes: u8, clocks: &[u64], sent: &[u64]) -> bool
+    requires { nodes ≤ core.now.world.topo.nodes }
+{
+    if clocks.len() != usize::from(nodes) || sent.len() != usize::from(nodes) {
+        return false;
+    }
+    for node in 0..nodes {
+        let place = usize::from(node);
+        if core.clock(node) != clocks[place] || core.sent(node) != sent[place] {
+            return false;
+        }
+    }
+    true
+}
+
+// Whether the core is in the state that is given.
+fn is_given(core: &Core<ListWorld>, nodes: u8, setting: &Setting) -> bool
+    requires { nodes ≤ core.now.world.topo.nodes }
+{
+    are_numbers(core, nodes, &setting.clocks, &setting.sent)
+        && core.sends() == setting.record.as_slice()
+        && core.samples() == setting.samples.as_slice()
+}
+
+// To what the steps lead.
+fn leads_to(alloc: Global, setting: &Setting) -> Result<Answer, Fault> {
+    let world = setting.lawful_world()?;
+    if !is_short(&world) {
+        return Err(Fault::Unreadable);
+    }
+    let nodes = world.topo().nodes();
+    match replayed(alloc, world, &setting.steps) {
+        Ok(core) => Ok(if is_given(&core, nodes, setting) {
+            Answer::State
+        } else {
+            Answer::OtherState
+        }),
+        Err(ReplayFault::Illegal { place }) => Ok(Answer::Illegal(place as u64)),
+        Err(ReplayFault::NoMemory) => Err(Fault::NoMemory),
+    }
+}
+
+fn of_sample(got: Sampled) -> Result<Answer, Fault> {
+    match got {
+        Sampled::Heard(heard) => Ok(Answer::Heard(heard)),
+        Sampled::NotYet { node, clock } => Ok(Answer::Waits(u64::from(node), clock)),
+        Sampled::NoMemory => Err(Fault::NoMemory),
+    }
+}
+
+fn is_asked(world: &ListWorld, ask: &Ask) -> bool
+    ensures { IsTrue result ↔ Contains world.now.asks ask.now }
+{
+    world.asks().contains(ask)
+}
+
+// What a sample of the world is answered after the steps.
+fn sampled(alloc: Global, setting: &Setting, node: u8, cycle: u64) -> Result<Answer, Fault> {
+    let world = setting.lawful_world()?;
+    if !is_short(&world) {
+        return Err(Fault::Unreadable);
+    }
+    if !is_asked(&world, &Ask { node, cycle }) {
+        return Err(Fault::Unreadable);
+    }
+    match replayed(alloc, world, &setting.steps) {
+        Ok(mut core) => of_sample(core.sample(node, cycle)),
+        Err(ReplayFault::Illegal { place }) => Ok(Answer::Illegal(place as u64)),
+        Err(ReplayFault::NoMemory) => Err(Fault::NoMemory),
+    }
+}
+
+// Whether the state that is given is consistent.
+fn agrees(alloc: Global, setting: &Setting) -> Result<Answer, Fault> {
+    let world = setting.lawful_world()?;
+    let so = is_consistent(
+        alloc,
+        &world,
+        &setting.clocks,
+        &setting.sent,
+        setting.floor,
+        &setting.record,
+        &setting.samples,
+    )?;
+    Ok(Answer::Holds(so))
+}
+
+/// What the crates answer to a question; `Unreadable` where the section is none.
+pub fn ask_crates(alloc: Global, setting: &Setting, section: &Section) -> Result<Answer, Fault> {
+    match (section.command, section.numbers.as_slice()) {
+        (Command::IsNew, []) => by_new(setting),
+        (Command::IsLatencies, []) => by_latencies(setting),
+        (Command::IsSpans, []) => Ok(of_topo(setting.topo()?)),
+        (Command::IsWorld, []) => Ok(of_world(setting.world()?)),
+        (Command::Replay, []) => leads_to(alloc, setting),
+        (Command::Then, [node, cycle]) => sampled(alloc, setting, node_of(*node)?, *cycle),
+        (Command::Consistent, []) => agrees(alloc, setting),
+        (command, numbers) => of_reader(setting, command, numbers),
+    }
+}

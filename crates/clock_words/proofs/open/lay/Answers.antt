@@ -1,0 +1,15 @@
+use Rattle.std.proofs.Common.{◌≡◌, ℕ, List, [], replicate, sym, ◌∙◌, ap, subst, arith, rules}
+use Rattle.world_core.specs.declared.world.WorldFacts.{WorldFacts}
+use Rattle.atomic_table.specs.Table.{opening}
+use Rattle.clock_words.specs.Layout.{word_count}
+use Rattle.clock_words.specs.Rule.{KeepsRule, air_view}
+use Rattle.clock_words.proofs.Opening.{opens}
+use Rattle.clock_words.proofs.open.lay.Goals as goal
+
+pub of_words-requires : goal.of_words-requires
+of_words-requires g c =
+    let w = g.W.World.facts c.of-about.result.value in
+    let same : w ≡ g.W.World.facts c.args.world.now = ap g.W.World.facts c.of-about.ensures in
+    let n : word_count w.topo.nodes ≡ c.count_words.result = let a = ap (λ (x : WorldFacts). x.topo.nodes) same in omega (arith, c.requires, c.count_words.ensures) in
+    let items : c.as_slice.result.now ≡ replicate (word_count w.topo.nodes) 0 = c.as_slice.ensures.value ∙ search rules ∙ ap (λ (m : ℕ). replicate m 0) (sym n) in
+    subst (λ (l : List ℕ). KeepsRule w (opening l [] (air_view w 0))) (sym items) (opens w)

@@ -1,0 +1,81 @@
+// One line of a file of trials.
+use std::alloc::{AllocError, Global};
+
+/// A run: an image, the cycle limit, how many cycles its instructions and entries are told, and the bytes that arrive at
+/// USART0: the cycle of the first, how many cycles one comes after another, and the bytes; and whether two bytes of its
+/// SRAM are told.
+#[derive(Drop)]
+pub struct Trial<'l> {
+    pub image: &'l str,
+    pub limit: u32,
+    pub told: u32,
+    pub from: u32,
+    pub every: u16,
+    pub bytes: Vec<u8>,
+    pub sram: bool,
+}
+
+fn digit(c: u8) -> Option<u8> {
+    match c {
+        b'0'..=b'9' => Some(c - b'0'),
+        b'A'..=b'F' => Some(c - b'A' + 10),
+        _ => None,
+    }
+}
+
+fn pair(digits: &[u8]) -> Option<u8> {
+    let [high, low] = digits else {
+        return None;
+    };
+    Some(digit(*high)?.wrapping_mul(16).wrapping_add(digit(*low)?))
+}
+
+// Pairs of hexadecimal digits; `-` is none.
+fn bytes_of(alloc: Global, word: &str) -> Result<Option<Vec<u8>>, AllocError> {
+    let mut bytes = Vec::new(alloc);
+    if word == "-" {
+        return Ok(Some(bytes));
+    }
+    for digits in word.as_bytes().chunks(2) {
+        match pair(digits) {
+            Some(byte) => bytes.push(byte)?,
+            None => return Ok(None),
+        }
+    }
+    Ok(Some(bytes))
+}
+
+// The numbers of a line, without its bytes.
+fn numbered<'l>(words: &[&'l str], bytes: Vec<u8>, sram: bool) -> Option<Trial<'l>> {
+    let [image, limit, told, from, every, _] = words else {
+        return None;
+    };
+    Some(Trial {
+        image: *image,
+        limit: limit.parse().ok()?,
+        told: told.parse().ok()?,
+        from: from.parse().ok()?,
+        every: every.parse().ok()?,
+        bytes,
+        sram,
+    })
+}
+
+/// `IMAGE LIMIT TOLD FROM EVERY BYTES`, and perhaps `sram`.
+pub fn read_trial<'l>(alloc: Global, line: &'l str) -> Result<Option<Trial<'l>>, AllocError> {
+    let mut words = Vec::new(alloc);
+    for word in line.split_whitespace() {
+        words.push(word)?;
+    }
+    let (words, sram) = match words.as_slice() {
+        [front @ .., last] if *last == "sram" => (front, true),
+        all => (all, false),
+    };
+    let [.., last] = words else {
+        return Ok(None);
+    };
+    match bytes_of(alloc, *last)? {
+        Some(bytes) => Ok(numbered(words, bytes, sram)),
+        None => Ok(None),
+    }
+}

@@ -1,0 +1,43 @@
+// What is written of a run.
+use crate::running::Run;
+use arrayvec::ArrayString;
+use sim_io::{Sink, SinkFault, write_all};
+use text_pieces::{put_decimal, put_hex2};
+use trace_rows::{Kind, Row};
+
+fn is_instruction(row: &Row) -> bool {
+    match row.kind {
+        Kind::Instr { .. } => true,
+        _ => false,
+    }
+}
+
+fn write_sram<O: Sink>(low: u8, high: u8, out: &mut O) -> Result<(), SinkFault> {
+    let mut line = ArrayString::<32>::new();
+    line.push_str("SRAM 0100 ");
+    put_hex2(low, &mut line);
+    line.push_str(" ");
+    put_hex2(high, &mut line);
+    line.push_str("\n");
+    write_all(out, line.as_str().as_bytes())
+}
+
+/// Its rows but those of instructions, the row of its end, a line `N rows, cycle C`, and its two bytes of SRAM.
+pub fn write_run<O: Sink>(run: &Run, out: &mut O) -> Result<(), SinkFault> {
+    for row in run.rows.iter() {
+        if !is_instruction(row) {
+            trace_writer::write(&[*row], out)?;
+        }
+    }
+    trace_writer::write(&[run.end], out)?;
+    let mut line = ArrayString::<64>::new();
+    put_decimal(run.rows.len() as u64, &mut line);
+    line.push_str(" rows, cycle ");
+    put_decimal(run.cycle, &mut line);
+    line.push_str("\n");
+    write_all(out, line.as_str().as_bytes())?;
+    match run.sram {
+        Some((low, high)) => write_sram(low, high, out),
+        None => Ok(()),
+    }
+}

@@ -1,5 +1,0 @@
-use Rattle.world_core.specs.ByNode.{NodesPostedFor}
-use Rattle.world_core.proofs.plain.is_all_posted.Given as goal
-
-abbrev pub invariant-loop-from : goal.invariant-loop-from
-invariant-loop-from l = NodesPostedFor l.world l.sent l.from l.node l.cycle

@@ -1,8 +1,0 @@
-use Rattle.std.proofs.Common.{◌≡◌, take}
-use Rattle.world_core.specs.Each.{each_below}
-use Rattle.world_core.specs.Sends.{sends_of}
-use Rattle.world_core.specs.Posted.{sent_of}
-use Rattle.world_core.proofs.plain.posted_of.Given as goal
-
-abbrev pub invariant-loop-node : goal.invariant-loop-node
-invariant-loop-node l = l.all.items ≡ each_below l.node (λ k. take (sent_of l.sent k) (sends_of k l.world.sends))
