@@ -1,7 +1,7 @@
 -- What each call makes of the record is sound again.
-use Rattle.std.proofs.Common.{◌≡◌, ℕ, ◌+◌, ◌*◌, ◌<◌, ◌≤◌, List, [], ◌∷◌, ◌++◌, length, set, replicate, refl, sym, subst, ◌∙◌, ap, arith, length-append}
+use Rattle.std.proofs.Common.{◌≡◌, ℕ, ◌+◌, ◌<◌, ◌≤◌, List, [], ◌∷◌, ◌++◌, length, replicate, sym, subst, ◌∙◌, ap, arith, length-append}
 use Rattle.std.specs.Prelude.{nat_le}
-use Rattle.std.specs.List.{All, Contains, filter}
+use Rattle.std.specs.List.{Contains, filter}
 use Rattle.std.proofs.lemmas.List.Elements.{All-push, All-filter, All-weaker}
 use Rattle.world_core.specs.declared.air.Send.{Send}
 use Rattle.world_core.specs.declared.air.Ask.{Ask}
@@ -19,7 +19,7 @@ use Rattle.world_core.proofs.Records.{record_opens, record_posted, record_sample
 use Rattle.send_log.specs.Chain.{LogFacts, log_of}
 use Rattle.clock_words.specs.Seats.{AirFacts, air_counted}
 use Rattle.air_record.specs.Looks.{looked}
-use Rattle.air_record.specs.Record.{AirRecord, IsSound, epoch, with_send, with_sample, cut_at}
+use Rattle.air_record.specs.Record.{AirRecord, IsSound, epoch, with_send}
 use Rattle.air_record.specs.Held.{record_of, IsHeld}
 
 posted_sound : (r : AirRecord) (x : Send) → IsSound r → IsSendNumber r.world (sent_of r.sent x.node) x → x.cycle < r.floor + epoch → IsSound (with_send r x)
@@ -40,7 +40,7 @@ pub held_posted : (a new : AirFacts) (t : Topology) (l m : LogFacts) (floor : �
     → new ≡ air_counted a x.node → m ≡ log_of (l.sends ++ x ∷ []) l.room → IsHeld new t m floor samples
 held_posted a new t l m floor samples x h next early is grown =
     subst (λ (b : AirFacts). IsHeld b t m floor samples) (sym is) (subst (λ (n : LogFacts). IsHeld (air_counted a x.node) t n floor samples) (sym grown)
-      record { topo = h.topo; sound = posted_sound (record_of a floor l.sends samples) x h.sound next early; room = h.room })
+    record { topo = h.topo; sound = posted_sound (record_of a floor l.sends samples) x h.sound next early; room = h.room })
 
 -- what the seat has loaded is no matter
 pub held_looked : (a new : AirFacts) (t : Topology) (l : LogFacts) (floor : ℕ) (samples : List (Ask × Heard)) (more : List (ℕ × ℕ)) → IsHeld a t l floor samples → new ≡ looked a more → IsHeld new t l floor samples

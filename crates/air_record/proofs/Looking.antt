@@ -1,45 +1,43 @@
 -- What the loads of clocks show.
-use Rattle.std.proofs.Common.{◌≡◌, ℕ, zero, suc, ◌+◌, ◌-◌, ◌*◌, ◌<◌, ◌≤◌, Bool, true, false, cond, ◌&&◌, List, [], ◌∷◌, ◌++◌, length, get_or, take, refl, sym, subst, ◌∙◌, ap, arith, append_assoc, append-nil, length-append, take_all}
-use Rattle.std.proofs.lemmas.Bool.{false≢true}
-use Rattle.std.proofs.lemmas.List.{get_or_append_left, get_or-append_right}
+use Rattle.std.proofs.Common.{◌≡◌, ℕ, zero, suc, ◌+◌, ◌<◌, ◌≤◌, Bool, true, false, cond, ◌&&◌, List, [], ◌∷◌, ◌++◌, length, get_or, refl, sym, subst, ◌∙◌, ap, arith, append_assoc, append-nil, length-append}
 use Rattle.std.specs.List.{All}
 use native.Mathlib.Decide.{ℕ_discrete, dec_le}
 use Rattle.world_core.specs.declared.world.WorldFacts.{WorldFacts}
 use Rattle.world_core.specs.Each.{each_below}
-use Rattle.world_core.specs.Topology.{Topology, is_linked, is_reached_in, place_in, is_needed, latency_of, neighbours}
+use Rattle.world_core.specs.Topology.{Topology, is_linked, is_reached_in, place_in, latency_of, neighbours}
 use Rattle.world_core.specs.Sends.{sends_below}
 use Rattle.world_core.specs.Posted.{sent_of, AllPostedFor}
 use Rattle.world_core.specs.Kept.{IsPostedTo}
 use Rattle.world_core.specs.Lawful.{IsLawful}
 use Rattle.world_core.proofs.Counts.{sends_below-le}
-use Rattle.world_core.proofs.Steps.{none_below, reached_in, passed_by}
+use Rattle.world_core.proofs.Steps.{none_below, reached_in}
 use Rattle.clock_words.specs.Seats.{AirFacts}
 use Rattle.air_record.specs.Looks.{looked, IsReached, AreReached}
 
 -- ---- every linked node stands among the neighbours
-all_left : {P : ℕ → Type 0} (xs ys : List ℕ) → All P (xs ++ ys) → All P xs
-all_left [] ys a i d h = absurd (omega arith)
-all_left (x ∷ xs) ys a zero d h = a 0 d (omega arith)
-all_left {P} (x ∷ xs) ys a (suc i) d h = all_left {P} xs ys (λ n e g. a (suc n) e (omega arith)) i d (omega arith)
-
-all_right : {P : ℕ → Type 0} (xs ys : List ℕ) → All P (xs ++ ys) → All P ys
-all_right [] ys a = a
-all_right {P} (x ∷ xs) ys a = all_right {P} xs ys (λ n e g. a (suc n) e (omega arith))
-
 abbrev one : Topology → ℕ → ℕ → List ℕ
 one t j k = cond (is_linked t k j) (k ∷ []) []
 
-among_case : {P : ℕ → Type 0} (t : Topology) (j n k : ℕ) → Dec (k ≡ n) → All P (each_below n (one t j) ++ one t j n) → k < suc n → is_linked t k j ≡ true → (k < n → P k) → P k
-among_case {P} t j n k (yes e) a lt linked next =
-    let here : is_linked t n j ≡ true = subst (λ (m : ℕ). is_linked t m j ≡ true) e linked in
-    let last : All P (n ∷ []) = subst (λ (b : Bool). All P (cond b (n ∷ []) [])) here (all_right {P} (each_below n (one t j)) (one t j n) a) in
-    subst P (sym e) (last 0 0 (omega arith))
-among_case t j n k (no d) a lt linked next = next (omega arith)
+module _ (P : ℕ → Type 0) where
+  all_left : (xs ys : List ℕ) → All P (xs ++ ys) → All P xs
+  all_left [] ys a i d h = absurd (omega arith)
+  all_left (x ∷ xs) ys a zero d h = a 0 d (omega arith)
+  all_left (x ∷ xs) ys a (suc i) d h = all_left xs ys (λ n e g. a (suc n) e (omega arith)) i d (omega arith)
 
-among : {P : ℕ → Type 0} (t : Topology) (j n k : ℕ) → All P (each_below n (one t j)) → k < n → is_linked t k j ≡ true → P k
-among t j zero k a lt linked = absurd (omega arith)
-among {P} t j (suc n) k a lt linked =
-    among_case {P} t j n k (ℕ_discrete k n) a lt linked (λ less. among {P} t j n k (all_left {P} (each_below n (one t j)) (one t j n) a) less linked)
+  all_right : (xs ys : List ℕ) → All P (xs ++ ys) → All P ys
+  all_right [] ys a = a
+  all_right (x ∷ xs) ys a = all_right xs ys (λ n e g. a (suc n) e (omega arith))
+
+  among_case : (t : Topology) (j n k : ℕ) → Dec (k ≡ n) → All P (each_below n (one t j) ++ one t j n) → k < suc n → is_linked t k j ≡ true → (k < n → P k) → P k
+  among_case t j n k (yes e) a lt linked next =
+      let here : is_linked t n j ≡ true = subst (λ (m : ℕ). is_linked t m j ≡ true) e linked in
+      let last : All P (n ∷ []) = subst (λ (b : Bool). All P (cond b (n ∷ []) [])) here (all_right (each_below n (one t j)) (one t j n) a) in
+      subst P (sym e) (last 0 0 (omega arith))
+  among_case t j n k (no d) a lt linked next = next (omega arith)
+
+  among : (t : Topology) (j n k : ℕ) → All P (each_below n (one t j)) → k < n → is_linked t k j ≡ true → P k
+  among t j zero k a lt linked = absurd (omega arith)
+  among t j (suc n) k a lt linked = among_case t j n k (ℕ_discrete k n) a lt linked (λ less. among t j n k (all_left (each_below n (one t j)) (one t j n) a) less linked)
 
 left_of : (a b : Bool) → (a && b) ≡ true → a ≡ true
 left_of true b e = refl
@@ -49,7 +47,7 @@ left_of false b e = e
 pub all_reached : (w : WorldFacts) (sent : List ℕ) (j s : ℕ) → IsLawful w → All (IsReached w sent j s) (neighbours w.topo j) → AllPostedFor w sent j s
 all_reached w sent j s law all =
     reached_in w sent j s law (λ k lt needed.
-      among {IsReached w sent j s} w.topo j w.topo.nodes k all lt (left_of (is_linked w.topo k j) (is_reached_in w.topo.spans (place_in w.topo.links k j) (latency_of w.topo k j) w.topo.byte_time s) needed) needed)
+    among (IsReached w sent j s) w.topo j w.topo.nodes k all lt (left_of (is_linked w.topo k j) (is_reached_in w.topo.spans (place_in w.topo.links k j) (latency_of w.topo k j) w.topo.byte_time s) needed) needed)
 
 -- ---- what a seat has loaded, one look after another
 pub look_more : (a b c : AirFacts) (m n : List (ℕ × ℕ)) → b ≡ looked a m → c ≡ looked b n → c ≡ looked a (m ++ n)
