@@ -83,7 +83,8 @@ impl Air {
         requires table { self.old.table ≡ clocks.now.table }
         requires number { IsSendNumber self.old.world number send }
         requires early { send.cycle < self.old.floor + epoch }
-        ensures { IsPost self.old send number result self.new }
+        ensures step { IsPost self.old send number result self.new }
+        ensures same { (self.new.table ≡ self.old.table) × (self.new.world ≡ self.old.world) × (self.new.floor ≡ self.old.floor) }
     {
         let count = self.seat.sent(send.node);
         if number < count {
@@ -104,7 +105,8 @@ impl Air {
         requires table { self.old.table ≡ clocks.now.table }
         requires asked { Contains self.old.world.asks record { node = node; cycle = cycle } }
         requires floor { self.old.floor ≤ cycle }
-        ensures { IsSample self.old node cycle result self.new }
+        ensures step { IsSample self.old node cycle result self.new }
+        ensures same { (self.new.table ≡ self.old.table) × (self.new.world ≡ self.old.world) × (self.new.floor ≡ self.old.floor) }
     {
         if let Some(behind) = first_behind(clocks, &mut self.seat, &self.topo, node, cycle) {
             return Sampled::NotYet {
@@ -127,6 +129,7 @@ impl Air {
         requires table { self.old.table ≡ clocks.now.table }
         requires rises { self.old.floor ≤ floor }
         requires within { floor ≤ self.old.world.topo.limit }
+        ensures same { (self.new.table ≡ self.old.table) × (self.new.world ≡ self.old.world) }
         ensures posted { IfOk result (λ _. IsPostedTo self.old.world floor self.old.sent) }
         ensures cut { IfOk result (λ _. (more : List (ℕ × ℕ)) × AreReached self.old.world.topo.nodes floor more × (self.new ≡ cut_at (with_loads self.old more) floor)) }
         ensures behind { IfErr result (λ b. b.clock < floor) }
