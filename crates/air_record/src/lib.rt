@@ -9,3 +9,6 @@ mod record;
 
 pub use answers::{Behind, Posted};
 pub use record::Air;
+
+#[cfg(test)]
+mod tests;
