@@ -62,7 +62,7 @@ impl Runner {
         requires { node < scenario.now.topo.nodes }
         ensures { IfOk result (λ r. r ≡ record { scenario = scenario.now; number = node; since = 0; cycle = 0; asking = false; unnoted = false }) }
     {
-        let topo = scenario.topo_of();
+        let topo = scenario.lawful_topo();
         let flash = scenario.image(node).copy()?;
         let script = scenario.script(node).copy()?;
         let window = scenario.window();

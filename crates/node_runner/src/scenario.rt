@@ -77,8 +77,8 @@ impl Scenario {
         self.window
     }
 
-    /// Its topology, as `World::topo` gives it, and that it is a scenario.
-    pub(crate) fn topo_of(&self) -> &Topo
+    /// Its topology, as `World::topo` gives it; who asks for it learns that this is a scenario.
+    pub fn lawful_topo(&self) -> &Topo
         ensures value { result.now ≡ self.now.topo }
         ensures sound { IsScenario self.now }
     {

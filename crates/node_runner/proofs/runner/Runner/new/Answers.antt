@@ -12,7 +12,7 @@ pub invariant_of-result : goal.invariant_of-result
 invariant_of-result c =
     let sc : ScenarioOf = c.args.scenario.now in
     let num : ℕ = c.args.node in
-    let topo = c.topo_of-topo.ensures.value in
+    let topo = c.lawful_topo-topo.ensures.value in
     let flash : c.in_ok-flash.flash ≡ image_at sc num = c.in_ok-flash.ensures ∙ c.image.ensures in
     let script : c.in_ok-script.script ≡ script_at sc num = c.in_ok-script.ensures ∙ c.script.ensures in
     let window = c.window-window.ensures in
@@ -22,4 +22,4 @@ invariant_of-result c =
     subst (λ (s : ScenarioOf). IsRunner (place s num 0 c.in_ok-new.field-0 false) c.in_ok-new.field-0 0 c.limit.result) (sym c.of.ensures)
     (subst (λ (l : ℕ). IsRunner (place sc num 0 c.in_ok-new.field-0 false) c.in_ok-new.field-0 0 l) lim
     (subst (λ (w : Timed NodeState Row). IsRunner (place sc num 0 w false) w 0 sc.topo.limit) v
-    (begins sc num c.topo_of-topo.ensures.sound c.requires)))
+    (begins sc num c.lawful_topo-topo.ensures.sound c.requires)))

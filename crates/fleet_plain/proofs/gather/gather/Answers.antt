@@ -1,0 +1,19 @@
+use Rattle.std.proofs.Common.{◌≡◌, ℕ, ◌<◌, ◌++◌, List, length, sym, ap, ◌∙◌, arith}
+use Rattle.std.proofs.Common.{length-append, length-take, length-drop}
+use Rattle.std.specs.List.{flat_map}
+use Rattle.trace_rows.specs.declared.row.Row.{Row}
+use Rattle.node_runner.specs.Place.{Place, rows_of}
+use Rattle.fleet_plain.specs.Gather.{taken}
+use Rattle.fleet_plain.proofs.Gathered.{gathers_on}
+use Rattle.fleet_plain.proofs.gather.gather.Goals as goal
+
+pub loop-runner-preserved : goal.loop-runner-preserved
+loop-runner-preserved c =
+    let old : List Place = c.args.runners.now.items in
+    let i : ℕ = c.loop-runner.runner-index in
+    let h : i < length old = omega (arith, c.loop-runner-test.true, c.loop-runner.auto.runner-items, c.deref_mut-runner-items.ensures.len, c.deref_mut-runner-items.ensures.value) in
+    let g = gathers_on old c.loop-runner.runner-items i c.runner-item.result c.take_rows.new.self h c.loop-runner.invariant.left c.runner-item.is (c.take_rows.ensures.left ∙ ap taken (sym c.runner-item.is)) in
+    record {
+      rows = c.in_ok-append.ensures.items ∙ (λ j. c.loop-runner.invariant.rows j ++ (c.take_rows.ensures.rows ∙ ap rows_of (sym c.runner-item.is)) j) ∙ sym g.rows;
+      left = g.left;
+    }

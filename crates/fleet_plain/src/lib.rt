@@ -1,0 +1,11 @@
+//! All nodes of a scenario on one thread: always the runner that is furthest behind is stepped, so that whenever a node
+//! samples, all that it could hear is in the record. A run goes in epochs, whose rows are given as they are complete.
+#![tactic(auto)]
+
+mod fleet;
+mod gather;
+mod plain;
+#[cfg(test)]
+mod tests;
+
+pub use plain::{PlainRun, run_plain};

@@ -1,0 +1,126 @@
+// A run in epochs, and the whole run.
+ghost use Rattle.std.specs.Prelude.{◌≡◌, ◌<◌, ◌≤◌, ◌+◌, ◌++◌, ◌==◌, min, true, false, IfOk, OnOk};
+ghost use Rattle.world_core.specs.Kept.{kept_room_of};
+ghost use Rattle.global_order.specs.Order.{run_rows};
+ghost use Rattle.node_runner.specs.Scenario.{fleet_of, IsScenario};
+ghost use Rattle.fleet_plain.specs.Flight.{epoch};
+ghost use Rattle.fleet_plain.specs.Run.{rows_upto};
+
+use crate::fleet::run_to;
+use crate::gather::{ends_at, gather, sort, start};
+use avr_base::NoMemory;
+use node_runner::{Runner, Scenario};
+use send_log::SendLog;
+use std::alloc::Global;
+use std::marker::Model;
+use std::snapshot::Snapshot;
+use trace_rows::Row;
+use world_core::{EPOCH, Topo};
+
+// Room for the sends of an epoch, and those before it that can still be heard.
+fn room_for(topo: &Topo) -> usize
+    ensures { result ≡ kept_room_of topo.now epoch }
+{
+    let byte_time = topo.byte_time();
+    let each = (topo.reach() + byte_time + EPOCH) / byte_time + 1;
+    usize::from(topo.nodes()) * each as usize
+}
+
+/// A run of all nodes of a scenario on one thread, epoch by epoch. It has a record of sends of bounded room; the rows of an
+/// epoch are given as it ends.
+#[derive(Drop)]
+pub struct PlainRun {
+    alloc: Global,
+    scenario: Snapshot<Scenario>,
+    limit: u64,
+    floor: u64,
+    failed: bool,
+    runners: Vec<Runner>,
+    log: SendLog,
+}
+
+impl Model for PlainRun {
+    ghost use Rattle.fleet_plain.specs.Run.{RunAt, IsRun};
+
+    ghost Value = { RunAt };
+
+    ghost view = { λ r. record { scenario = r.scenario.value; floor = r.floor; failed = r.failed } };
+
+    ghost invariant = { λ r. IsRun record { scenario = r.scenario.value; floor = r.floor; failed = r.failed } r.limit r.runners.items r.log };
+}
+
+impl PlainRun {
+    /// The run before its first epoch: all nodes at reset.
+    pub fn new(alloc: Global, scenario: &Scenario) -> Result<PlainRun, NoMemory>
+        ensures run { IfOk result (λ r. r ≡ record { scenario = scenario.now; floor = 0; failed = false }) }
+        ensures sound { IsScenario scenario.now }
+    {
+        let topo = scenario.lawful_topo();
+        let runners = start(alloc, scenario)?;
+        let Ok(log) = SendLog::new(alloc, room_for(topo)) else {
+            return Err(NoMemory);
+        };
+        Ok(PlainRun {
+            alloc,
+            scenario: Snapshot::of(scenario),
+            limit: topo.limit(),
+            floor: 0,
+            failed: false,
+            runners,
+            log,
+        })
+    }
+
+    /// Whether the limit is reached, so that no epoch is left.
+    pub fn done(&self) -> bool
+        ensures value { result ≡ (self.now.floor == self.now.scenario.topo.limit) }
+        ensures within { self.now.floor ≤ self.now.scenario.topo.limit }
+        ensures sound { IsScenario self.now.scenario }
+    {
+        self.floor == self.limit
+    }
+
+    /// The cycle that all nodes have reached, or stopped before: 0 at first, and the end of the last epoch after it.
+    pub fn floor(&self) -> u64
+        ensures { result ≡ self.now.floor }
+    {
+        self.floor
+    }
+
+    /// The rows of the next epoch, cycle by cycle and in a cycle node by node, with the last row of each node after the last
+    /// epoch. The scenario is the one of `new`. After `NoMemory` the run can only be dropped.
+    pub fn epoch(&mut self, scenario: &Scenario) -> Result<Vec<Row>, NoMemory>
+        requires same { scenario.now ≡ self.old.scenario }
+        requires more { self.old.floor < self.old.scenario.topo.limit }
+        requires sound { self.old.failed ≡ false }
+        ensures rows { IfOk result (λ v. rows_upto (fleet_of scenario.now) self.new.floor ≡ rows_upto (fleet_of scenario.now) self.old.floor ++ v.items) }
+        ensures after { OnOk result (self.new ≡ record self.old { floor = min (self.old.floor + epoch) self.old.scenario.topo.limit }) }
+        ensures scenario { self.new.scenario ≡ self.old.scenario }
+    {
+        self.failed = true;
+        let floor = self.floor;
+        let end = (floor + EPOCH).min(self.limit);
+        run_to(&mut self.runners, &mut self.log, scenario, floor, end)?;
+        let last = ends_at(self.alloc, &self.runners, end == self.limit)?;
+        let mut rows = gather(self.alloc, &mut self.runners)?;
+        sort(&mut rows)?;
+        rows.extend_from_slice(&last)?;
+        self.log.cut(scenario.lawful_topo(), end);
+        self.floor = end;
+        self.failed = false;
+        Ok(rows)
+    }
+}
+
+/// The rows of a whole run of all nodes in the single global order of cycles: cycle by cycle, in a cycle node by node, then
+/// the last row of each node. It waits for nobody. `Err` only for want of memory.
+pub fn run_plain(alloc: Global, scenario: &Scenario) -> Result<Vec<Row>, NoMemory>
+    ensures { IfOk result (λ rows. rows.items ≡ run_rows (fleet_of scenario.now)) }
+{
+    let mut run = PlainRun::new(alloc, scenario)?;
+    let mut rows = Vec::new(alloc);
+    while !run.done() {
+        rows.append(&mut run.epoch(scenario)?)?;
+    }
+    Ok(rows)
+}
