@@ -1,9 +1,10 @@
 #!/usr/bin/env python3
-"""Draws the case files of crates/air_facts that are too long to write by hand, with their answers.
+"""Draws the case files of crates/air_facts and crates/record_facts that are too long to write by hand, with their answers.
 
     bench/air_cases.py FOLDER
 
-writes drawn_steps.txt, drawn_states.txt and drawn_log.txt into FOLDER, always the same bytes.
+writes drawn_steps.txt, drawn_states.txt and drawn_log.txt, which are of air_facts, and drawn_record.txt, which is of
+record_facts, into FOLDER, always the same bytes.
 
 It is the rules of docs/AIR.md once more, written plainly and slowly: to be heard, to be needed, to be consistent and to be
 allowed are each asked over all cycles or all sends that there are. It shares nothing with the crates that it tests.
@@ -514,6 +515,144 @@ def drawn_logs(draw):
     return lines
 
 
+EPOCH = 262144
+
+
+class Record:
+    """A record of a world with the nodes' clocks, as it is stepped on, and the lines that say so."""
+
+    def __init__(self, world):
+        self.world, self.state, self.lines, self.words = world, State(world), [], ["open"]
+
+    def end_line(self):
+        self.lines.append(" ".join(self.words) + "\n")
+        self.words = []
+
+    def tell(self):
+        """What the record holds."""
+        self.words += [
+            listed("record", send_texts(self.state.sends)),
+            listed("samples", sample_texts(self.state.samples)),
+            f"floor {self.state.floor}",
+        ]
+        self.end_line()
+
+    def raise_clock(self, node, clock):
+        if is_allowed(self.world, self.state, ("r", node, clock)):
+            take(self.world, self.state, ("r", node, clock))
+            self.words.append(f"r {node}:{clock}")
+
+    def post(self, node, number):
+        sends, count = self.world.sends_of(node), self.state.sent[node]
+        if number >= len(sends) or sends[number].cycle >= self.state.floor + EPOCH:
+            return
+        if number == count:
+            take(self.world, self.state, ("p", node, 0))
+            answer = "added"
+        else:
+            answer = "there" if number < count else f"early {count}"
+        self.words.append(f"p {node}.{number} {answer}")
+
+    def sample(self, ask):
+        if ask.cycle < self.state.floor:
+            return
+        answer = sample_answer(self.world, self.state, ask)
+        if not answer.startswith("waits"):
+            true = heard(self.world, self.world.sends, *ask)
+            if answer != heard_text(true):
+                raise SystemExit("a sample is not what all sends give")
+            self.state.samples.append((ask, true))
+        self.words.append(f"s {ask.node}@{ask.cycle} {answer}")
+
+    def cut(self, floor):
+        if not self.state.floor <= floor <= self.world.limit:
+            return
+        late = [k for k in range(self.world.nodes) if self.state.clocks[k] < floor]
+        if late:
+            answer = f"behind {late[0]}:{self.state.clocks[late[0]]}"
+        else:
+            cut(self.world, self.state, floor)
+            answer = "done"
+        self.words.append(f"cut {floor} {answer}")
+
+
+def drawn_floor(draw, record):
+    """A floor beside one at which a send is dropped, beside a clock, or anywhere."""
+    world, state = record.world, record.state
+    edges = [x.cycle + world.reach + world.byte_time + d for x in state.sends for d in (-1, 0)]
+    edges += [c + d for c in state.clocks for d in (0, 0, 1)] + [x[0].cycle + d for x in state.samples for d in (0, 1)]
+    edges = [e for e in edges if state.floor <= e <= min(state.clocks)] * 3 + [e for e in edges if state.floor <= e]
+    return draw.choice(edges) if edges and draw.random() < 0.9 else draw.randrange(world.limit)
+
+
+def drawn_record(draw, world):
+    """A record of the world, on which steps are taken in a drawn order."""
+    record = Record(world)
+    cuts = draw.choice(["", "", "c", "cc"])
+    for _ in range(draw.choice([10, 25, 60, 120])):
+        kind, node = draw.choice("rrrppsss" + cuts), draw.randrange(world.nodes)
+        taken = [x[0] for x in record.state.samples]
+        if kind == "r":
+            record.raise_clock(node, drawn_clock(draw, world, record.state, node))
+        elif kind == "p":
+            record.post(node, max(0, record.state.sent[node] + draw.choice([-2, -1, 0, 0, 0, 0, 1, 2])))
+        elif kind == "s" and world.asks:
+            ask = draw.choice(world.asks)
+            if ask not in taken or draw.random() < 0.05:
+                record.sample(ask)
+        elif kind == "c":
+            record.cut(drawn_floor(draw, record))
+            if draw.random() < 0.3:
+                record.tell()
+        if draw.random() < 0.05:
+            record.tell()
+    record.tell()
+    return record.lines
+
+
+def full_record(world):
+    """Each node sends as often as it may. Its sends are posted as soon as they may be, and the record is cut at the end of
+    each epoch, so that it comes to hold as many sends as it ever can."""
+    record = Record(world)
+    while True:
+        posted = list(record.state.sent)
+        for k in range(world.nodes):
+            for number in range(posted[k], len(world.sends_of(k)) + 1):
+                record.post(k, number)
+        record.tell()
+        floor = min(world.limit, record.state.floor + EPOCH)
+        if floor == record.state.floor:
+            return record.lines
+        for k in range(world.nodes):
+            record.raise_clock(k, floor)
+        for ask in world.asks:
+            record.sample(ask)
+        record.cut(floor)
+        record.tell()
+
+
+def crowded_world(nodes, latency, byte_time):
+    """A world whose nodes send as often as they may, through three epochs and a part of one. They begin in cycle 100, so that
+    the first send that a cut keeps lies close behind the last one that it drops, and the room is used to the last place."""
+    limit = 3 * EPOCH + 10000
+    sends = [Send(k, t, (t // byte_time + k) % 256) for k in range(nodes) for t in range(100 + k, limit, byte_time)]
+    links = [(k, k + 1) for k in range(nodes - 1)]
+    asks = [Ask(j, t) for j in range(nodes) for t in range(j, limit, 99991)]
+    return World(nodes, limit, latency, byte_time, links, [], [], sends, asks)
+
+
+def drawn_records(draw):
+    lines = []
+    for _ in range(RECORD_WORLDS):
+        world = drawn_world(draw)
+        lines += ["\n", world_text(world)]
+        for _ in range(4):
+            lines += drawn_record(draw, world)
+    for world in (crowded_world(2, 65535, 4096), crowded_world(3, 1, 4096), crowded_world(1, 1000, 1024)):
+        lines += ["\n", world_text(world)] + full_record(world)
+    return lines
+
+
 HEAD = """# Source: drawn, and answered, by bench/air_cases.py, a slow program from the rules of docs/AIR.md that shares no code with
 # the crates. Do not edit: it writes the same bytes again.
 #
@@ -538,6 +677,14 @@ STATES = """# States of clocks, sends and samples, cut up to a floor, and whethe
 
 """
 
+RECORDS = """# Records of the air: what each step is answered, and what the record then holds.
+# {head}# topo NODES LIMIT LATENCY BYTE_TIME, links FROM>TO, own LATENCY of each link, spans LINK:FROM-UNTIL, sends NODE@CYCLE:BYTE,
+# asks NODE@CYCLE. open begins the record of this world. Steps: r NODE:CYCLE raises a clock; p NODE.NUMBER posts a send, counted from 0:
+# added, there, or early COUNT; s NODE@CYCLE samples: waits NODE:CLOCK, quiet, byte BYTE.AGE or clash BYTE; cut CYCLE: done, or
+# behind NODE:CLOCK. record, samples (NODE@CYCLE:STATUS.BYTE.AGE) and floor are what the record holds.
+
+"""
+
 
 def write(path, head, lines):
     with open(path, "w", encoding="ascii", newline="\n") as out:
@@ -558,11 +705,13 @@ def main(folder):
         lines += ["\n", world_text(world)] + [drawn_state(draw, world) for _ in range(8)]
     write(f"{folder}/drawn_states.txt", STATES, lines)
     write(f"{folder}/drawn_log.txt", LOGS, drawn_logs(draw))
+    write(f"{folder}/drawn_record.txt", RECORDS, drawn_records(random.Random(16)))
 
 
 STEP_WORLDS = 320
 STATE_WORLDS = 80
 LOG_WORLDS = 60
+RECORD_WORLDS = 160
 
 if __name__ == "__main__":
     main(sys.argv[1])

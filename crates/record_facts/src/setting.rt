@@ -1,0 +1,200 @@
+// What the lines of a case file have set: a topology, with the sends and samples of a world.
+use crate::fault::Fault;
+use crate::words::{Command, Section, byte_of};
+use std::alloc::Global;
+use world_core::{Ask, Heard, Link, ListWorld, Send, Span, Topo};
+
+/// What is set, for the records to come.
+#[derive(Drop)]
+pub struct Setting {
+    nodes: u8,
+    limit: u64,
+    latency: u64,
+    byte_time: u64,
+    links: Vec<Link>,
+    own: Vec<u64>,
+    spans: Vec<Span>,
+    sends: Vec<Send>,
+    asks: Vec<Ask>,
+}
+
+fn link_of(numbers: &[u64]) -> Result<Link, Fault> {
+    match numbers {
+        [from, to] => Ok(Link {
+            from: byte_of(*from)?,
+            to: byte_of(*to)?,
+        }),
+        _ => Err(Fault::Unreadable),
+    }
+}
+
+fn links_of(alloc: Global, numbers: &[u64]) -> Result<Vec<Link>, Fault> {
+    let mut links = Vec::new(alloc);
+    for numbers in numbers.chunks(2) {
+        links.push(link_of(numbers)?)?;
+    }
+    Ok(links)
+}
+
+fn span_of(numbers: &[u64]) -> Result<Span, Fault> {
+    match numbers {
+        [link, from, until] => Ok(Span {
+            link: u32::try_from(*link).map_err(|_| Fault::Unreadable)?,
+            from: *from,
+            until: *until,
+        }),
+        _ => Err(Fault::Unreadable),
+    }
+}
+
+fn spans_of(alloc: Global, numbers: &[u64]) -> Result<Vec<Span>, Fault> {
+    let mut spans = Vec::new(alloc);
+    for numbers in numbers.chunks(3) {
+        spans.push(span_of(numbers)?)?;
+    }
+    Ok(spans)
+}
+
+fn send_of(numbers: &[u64]) -> Result<Send, Fault> {
+    match numbers {
+        [node, cycle, byte] => Ok(Send {
+            node: byte_of(*node)?,
+            cycle: *cycle,
+            byte: byte_of(*byte)?,
+        }),
+        _ => Err(Fault::Unreadable),
+    }
+}
+
+/// A list of sends, each by its node, cycle and byte.
+pub fn sends_of(alloc: Global, numbers: &[u64]) -> Result<Vec<Send>, Fault> {
+    let mut sends = Vec::new(alloc);
+    for numbers in numbers.chunks(3) {
+        sends.push(send_of(numbers)?)?;
+    }
+    Ok(sends)
+}
+
+fn ask_of(numbers: &[u64]) -> Result<Ask, Fault> {
+    match numbers {
+        [node, cycle] => Ok(Ask {
+            node: byte_of(*node)?,
+            cycle: *cycle,
+        }),
+        _ => Err(Fault::Unreadable),
+    }
+}
+
+fn asks_of(alloc: Global, numbers: &[u64]) -> Result<Vec<Ask>, Fault> {
+    let mut asks = Vec::new(alloc);
+    for numbers in numbers.chunks(2) {
+        asks.push(ask_of(numbers)?)?;
+    }
+    Ok(asks)
+}
+
+fn sample_of(numbers: &[u64]) -> Result<(Ask, Heard), Fault> {
+    match numbers {
+        [node, cycle, status, byte, age] => {
+            let ask = Ask {
+                node: byte_of(*node)?,
+                cycle: *cycle,
+            };
+            let heard = Heard {
+                status: byte_of(*status)?,
+                byte: byte_of(*byte)?,
+                age: byte_of(*age)?,
+            };
+            Ok((ask, heard))
+        }
+        _ => Err(Fault::Unreadable),
+    }
+}
+
+/// A list of samples, each by its node and cycle, and the status, byte and age that it heard.
+pub fn samples_of(alloc: Global, numbers: &[u64]) -> Result<Vec<(Ask, Heard)>, Fault> {
+    let mut samples = Vec::new(alloc);
+    for numbers in numbers.chunks(5) {
+        samples.push(sample_of(numbers)?)?;
+    }
+    Ok(samples)
+}
+
+fn copy_of(alloc: Global, numbers: &[u64]) -> Result<Vec<u64>, Fault> {
+    let mut list = Vec::new(alloc);
+    list.extend_from_slice(numbers)?;
+    Ok(list)
+}
+
+impl Setting {
+    /// Nothing is set: no nodes, and empty lists.
+    pub fn new(alloc: Global) -> Setting {
+        Setting {
+            nodes: 0,
+            limit: 0,
+            latency: 0,
+            byte_time: 0,
+            links: Vec::new(alloc),
+            own: Vec::new(alloc),
+            spans: Vec::new(alloc),
+            sends: Vec::new(alloc),
+            asks: Vec::new(alloc),
+        }
+    }
+
+    // Sets the numbers of a topology that has no links and no spans yet.
+    fn set_topo(&mut self, alloc: Global, numbers: &[u64]) -> Result<(), Fault> {
+        match numbers {
+            [nodes, limit, latency, byte_time] => {
+                self.nodes = byte_of(*nodes)?;
+                self.limit = *limit;
+                self.latency = *latency;
+                self.byte_time = *byte_time;
+                self.links = Vec::new(alloc);
+                self.own = Vec::new(alloc);
+                self.spans = Vec::new(alloc);
+                Ok(())
+            }
+            _ => Err(Fault::Unreadable),
+        }
+    }
+
+    /// Sets what the section says, or answers false where it says nothing of a world.
+    pub fn set(&mut self, alloc: Global, section: &Section) -> Result<bool, Fault> {
+        let numbers = section.numbers.as_slice();
+        match section.command {
+            Command::Topo => self.set_topo(alloc, numbers)?,
+            Command::Links => self.links = links_of(alloc, numbers)?,
+            Command::Own => self.own = copy_of(alloc, numbers)?,
+            Command::Spans => self.spans = spans_of(alloc, numbers)?,
+            Command::Sends => self.sends = sends_of(alloc, numbers)?,
+            Command::Asks => self.asks = asks_of(alloc, numbers)?,
+            _ => return Ok(false),
+        }
+        Ok(true)
+    }
+
+    fn topo(&self) -> Result<Topo, Fault> {
+        let links = self.links.clone()?;
+        let own = self.own.clone()?;
+        let spans = self.spans.clone()?;
+        let made = Topo::with_spans(
+            self.nodes,
+            self.limit,
+            self.latency,
+            self.byte_time,
+            links,
+            own,
+            spans,
+        );
+        made.map_err(|_| Fault::Unreadable)
+    }
+
+    /// The world that is set.
+    pub fn world(&self) -> Result<ListWorld, Fault> {
+        let topo = self.topo()?;
+        let sends = self.sends.clone()?;
+        let asks = self.asks.clone()?;
+        ListWorld::new(topo, sends, asks).map_err(|_| Fault::Unreadable)
+    }
+}
