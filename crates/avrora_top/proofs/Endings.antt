@@ -1,5 +1,5 @@
 -- How a part of the work ends the call.
-use Rattle.std.proofs.Common.{◌≡◌, ℕ, nat_lt, ◌<◌, ◌≤◌, length, true, false, List, Option, Some, None, IfSome, Result, if◌then◌else◌, inl, refl, subst, arith}
+use Rattle.std.proofs.Common.{◌≡◌, ℕ, nat_lt, ◌<◌, ◌≤◌, length, true, false, List, Option, Some, None, IfSome, Result, if◌then◌else◌, inl, inr, refl, subst, arith}
 use Rattle.std.proofs.lemmas.Bool.Decides.{nat_tests}
 use Rattle.avrora_top.specs.Plan.{Plan, Give, Refuse, Refusal, Job}
 use Rattle.avrora_top.specs.Reading.{Files, Reached, Here, Fitting, TooLong, Accepts, Refuses, Verdict, Refused, Accepted, Says, verdict, on_bytes}
@@ -57,6 +57,6 @@ pub ends_job : {A : Type 0} (files : Files) (plan : Plan) (job : Job) (store sto
     → Reached files plan (Give job) → store' ≡ store → JobEnds job out out' r → Ends files plan store store' out out' (end_of r)
 ends_job files plan job store store' out out' (Result.Ok x) reached same h = (same, (job, accepts files plan job reached, h))
 ends_job files plan job store store' out out' (Result.Err trouble.OutFailed) reached same h = (same, (job, accepts files plan job reached, h))
-ends_job files plan job store store' out out' (Result.Err trouble.NoMemory) reached same h = (same, inl h)
+ends_job files plan job store store' out out' (Result.Err trouble.NoMemory) reached same h = (same, inr (job, accepts files plan job reached, h))
 ends_job files plan job store store' out out' (Result.Err (trouble.ReadFailed name)) reached same h = absurd h
 ends_job files plan job store store' out out' (Result.Err (trouble.Refused c)) reached same h = absurd h

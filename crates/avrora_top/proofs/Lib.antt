@@ -2,4 +2,5 @@ pub mod Pieces
 pub mod Steps
 pub mod Lines
 pub mod Endings
+pub mod Traces
 pub mod Statuses

@@ -1,16 +1,22 @@
 -- What each status says of a call.
-use Rattle.std.proofs.Common.{◌≡◌, ◌≢◌, ◌⊎◌, ℕ, List, Option, Some, None, inl, inr, refl, sym, ◌∙◌, subst}
+use Rattle.std.proofs.Common.{◌≡◌, ◌≢◌, ◌⊎◌, ℕ, List, [], ◌∷◌, Option, Some, None, Result, Ok, Err, inl, inr, refl, sym, ◌∙◌, subst}
 use Rattle.sim_io.specs.Outside.{Rose}
-use Rattle.command_words.specs.Words.{Asked, Node, Disasm, asked_by}
+use Rattle.command_words.specs.Words.{Asked, Node, Run, RunPlain, Check, Disasm, asked_by}
 use Rattle.ihex_loader.specs.Flash.{Image}
 use Rattle.ihex_loader.specs.Image.{hex_fault, image}
 use Rattle.ihex_loader.specs.declared.fault.HexFault.{HexFault}
-use Rattle.avrora_top.specs.Plan.{Plan, Give, Refuse, Read, BadWords, BadImage, NodeJob, DisasmJob, on_image, plan, plan_for, plan_of}
+use Rattle.scenario_file.specs.Scenario.{ScenarioParts, scenario_in}
+use Rattle.scenario_file.specs.declared.fault.ScenarioFault.{ScenarioFault}
+use Rattle.node_runner.specs.Scenario.{ScenarioOf}
+use Rattle.avrora_top.specs.Network.{lone_node, network_of}
+use Rattle.avrora_top.specs.Plan.{Plan, Give, Refuse, Read, BadWords, BadScenario, BadImage, Job, TraceJob, SizeJob, DisasmJob, image_plan, images_plan, network_plan, on_image, on_scenario, plan, plan_for, plan_of}
 use Rattle.avrora_top.specs.Reading.{Files, Reached, Here, Fitting, TooLong, Verdict, Untold, Refused as RefusedVerdict, Accepted, Says, verdict}
 use Rattle.avrora_top.specs.Ends.{Ends, End, Done, OutFailed, NoMemory, ReadFailed, Refused, Reads, Stream, status_due}
 use Rattle.avrora_top.specs.TopClause.{Called, Told, Said, Unsaid, Reported, EndedSaying, EndedUnsaid, HasStatus, TopClause}
 use Rattle.avrora_top.specs.declared.trouble.ImageCause.{ImageCause}
 use Rattle.avrora_top.specs.declared.trouble.ImageCause.TheVariants as cause
+use Rattle.avrora_top.specs.declared.trouble.ScenarioCause.{ScenarioCause}
+use Rattle.avrora_top.specs.declared.trouble.ScenarioCause.TheVariants as scenario_cause
 use Rattle.avrora_top.specs.declared.status.Status.{Status}
 use Rattle.avrora_top.specs.declared.status.Status.TheVariants as case
 
@@ -28,16 +34,39 @@ keeps_reached files _ _ (TooLong name most too_long next told) k = k.0
 image_is_no_words : (name : List ℕ) (why : ImageCause) → BadImage name why ≢ BadWords
 image_is_no_words name why e = cc
 
-keeps_image : (name : List ℕ) (o : Option HexFault) (flash : Image) (next : Image → Plan) → ((f : Image) → KeepsWords (next f)) → KeepsWords (on_image name o flash next)
-keeps_image name (Some fault) flash next k = image_is_no_words name (cause.Faulty fault)
-keeps_image name None flash next k = k flash
+scenario_is_no_words : (name : List ℕ) (why : ScenarioCause) → BadScenario name why ≢ BadWords
+scenario_is_no_words name why e = cc
+
+keeps_on_image : (name : List ℕ) (o : Option HexFault) (flash : Image) (next : Image → Plan) → ((f : Image) → KeepsWords (next f)) → KeepsWords (on_image name o flash next)
+keeps_on_image name (Some fault) flash next k = image_is_no_words name (cause.Faulty fault)
+keeps_on_image name None flash next k = k flash
+
+keeps_image : (name : List ℕ) (next : Image → Plan) → ((f : Image) → KeepsWords (next f)) → KeepsWords (image_plan name next)
+keeps_image name next k = (image_is_no_words name cause.TooLong, λ bytes. keeps_on_image name (hex_fault bytes) (image bytes) next k)
+
+keeps_images : (names : List (List ℕ)) (next : List Image → Plan) → ((fs : List Image) → KeepsWords (next fs)) → KeepsWords (images_plan names next)
+unfolding images_plan
+keeps_images [] next k = k []
+keeps_images (name ∷ names) next k =
+    keeps_image name (λ flash. images_plan names (λ flashes. next (flash ∷ flashes))) (λ f. keeps_images names (λ flashes. next (f ∷ flashes)) (λ fs. k (f ∷ fs)))
+
+keeps_on_scenario : (name : List ℕ) (r : Result ScenarioParts ScenarioFault) (next : ScenarioParts → Plan) → ((p : ScenarioParts) → KeepsWords (next p)) → KeepsWords (on_scenario name r next)
+keeps_on_scenario name (Ok parts) next k = k parts
+keeps_on_scenario name (Err fault) next k = scenario_is_no_words name (scenario_cause.Faulty fault)
+
+keeps_network : (name : List ℕ) (job : ScenarioOf → Job) → KeepsWords (network_plan name (λ network. Give (job network)))
+keeps_network name job =
+    let rest : ScenarioParts → Plan = λ parts. images_plan parts.images (λ images. Give (job (network_of parts images))) in
+    (scenario_is_no_words name scenario_cause.TooLong,
+     λ bytes. keeps_on_scenario name (scenario_in bytes) rest (λ parts. keeps_images parts.images (λ images. Give (job (network_of parts images))) (λ fs. tt)))
 
 keeps_plan : (asked : Asked) → KeepsWords (plan_of asked)
 unfolding plan_of
-keeps_plan (Node file cycles) =
-    (image_is_no_words file cause.TooLong, λ bytes. keeps_image file (hex_fault bytes) (image bytes) (λ flash. Give (NodeJob flash cycles)) (λ f. tt))
-keeps_plan (Disasm file) =
-    (image_is_no_words file cause.TooLong, λ bytes. keeps_image file (hex_fault bytes) (image bytes) (λ flash. Give (DisasmJob flash)) (λ f. tt))
+keeps_plan (Node file cycles) = keeps_image file (λ flash. Give (TraceJob (lone_node flash cycles))) (λ f. tt)
+keeps_plan (Run file) = keeps_network file TraceJob
+keeps_plan (RunPlain file) = keeps_network file TraceJob
+keeps_plan (Check file) = keeps_network file SizeJob
+keeps_plan (Disasm file) = keeps_image file (λ flash. Give (DisasmJob flash)) (λ f. tt)
 
 -- words are refused only where nothing is asked for
 asked_none : (files : Files) (asked : Option Asked) → Reached files (plan_for asked) (Refuse BadWords) → asked ≡ None
@@ -50,7 +79,7 @@ EndsWith case.Done end = end ≡ Done
 EndsWith case.SinkFailed end = end ≡ OutFailed
 EndsWith case.BadWords end = end ≡ Refused BadWords
 EndsWith case.ReadFailed end = (name : List ℕ) × (end ≡ ReadFailed name)
-EndsWith case.BadScenario end = ⊥
+EndsWith case.BadScenario end = (name : List ℕ) × ((why : ScenarioCause) × (end ≡ Refused (BadScenario name why)))
 EndsWith case.BadImage end = (name : List ℕ) × ((why : ImageCause) × (end ≡ Refused (BadImage name why)))
 EndsWith case.NoMemory end = end ≡ NoMemory
 
@@ -60,6 +89,7 @@ ends_with_due OutFailed = refl
 ends_with_due NoMemory = refl
 ends_with_due (ReadFailed name) = (name, refl)
 ends_with_due (Refused BadWords) = refl
+ends_with_due (Refused (BadScenario name why)) = (name, (why, refl))
 ends_with_due (Refused (BadImage name why)) = (name, (why, refl))
 
 ends_with : (x answer : Status) (end : End) → answer ≡ status_due end → answer ≡ x → EndsWith x end
@@ -125,8 +155,10 @@ module _ (files : Files) (words : List (List ℕ)) (store store' : Reads) (out o
       let s = said h case.ReadFailed e (λ f. cc) (λ f. cc) in
       (s.1.0, subst SaidSo s.1.1 s.2)
 
-  no_scenario : HowNow → answer ≢ case.BadScenario
-  no_scenario h e = (said h case.BadScenario e (λ f. cc) (λ f. cc)).1
+  scenario_from : HowNow → answer ≡ case.BadScenario → (name : List ℕ) × ((why : ScenarioCause) × SaidSo (Refused (BadScenario name why)))
+  scenario_from h e =
+      let s = said h case.BadScenario e (λ f. cc) (λ f. cc) in
+      (s.1.0, (s.1.1.0, subst SaidSo s.1.1.1 s.2))
 
   image_from : HowNow → answer ≡ case.BadImage → (name : List ℕ) × ((why : ImageCause) × SaidSo (Refused (BadImage name why)))
   image_from h e =
@@ -168,7 +200,7 @@ module _ (files : Files) (words : List (List ℕ)) (store store' : Reads) (out o
     sink_failed = sink_from (how c);
     bad_words = words_from (how c);
     read_failed = read_from (how c);
-    bad_scenario = no_scenario (how c);
+    bad_scenario = scenario_from (how c);
     bad_image = image_from (how c);
     no_memory = memory_from (how c);
     words_first = λ e. words_told (none e);

@@ -2,10 +2,13 @@
 use Rattle.std.specs.Prelude.{◌≡◌, ℕ, ◌⊎◌, List, [], ◌++◌, codes, decimal, Option, Some, None, Result, Ok, Err}
 use Rattle.sim_io.specs.Outside.{Rose, extended, TookFront}
 use Rattle.ihex_loader.specs.Fault.{fault_name, fault_line}
-use Rattle.avrora_top.specs.Plan.{Plan, Refuse, Refusal, BadWords, BadImage, Job, output}
+use Rattle.scenario_file.specs.Faults.{fault_name as scenario_fault_name}
+use Rattle.avrora_top.specs.Plan.{Plan, Refuse, Refusal, BadWords, BadScenario, BadImage, Job, output}
 use Rattle.avrora_top.specs.Reading.{Files, Reached, Accepts, Refuses, IsNext}
 use Rattle.avrora_top.specs.declared.trouble.ImageCause.{ImageCause}
 use Rattle.avrora_top.specs.declared.trouble.ImageCause.TheVariants as cause
+use Rattle.avrora_top.specs.declared.trouble.ScenarioCause.{ScenarioCause}
+use Rattle.avrora_top.specs.declared.trouble.ScenarioCause.TheVariants as scenario_cause
 use Rattle.avrora_top.specs.declared.trouble.Complaint.{Complaint}
 use Rattle.avrora_top.specs.declared.trouble.Complaint.TheVariants as complaint
 use Rattle.avrora_top.specs.declared.trouble.Trouble.{Trouble}
@@ -76,6 +79,10 @@ unfoldable pub cause_text : ImageCause → List ℕ
 cause_text cause.TooLong = codes "TooLong"
 cause_text (cause.Faulty fault) = fault_name fault ++ place_text (fault_line fault)
 
+unfoldable pub scenario_cause_text : ScenarioCause → List ℕ
+scenario_cause_text scenario_cause.TooLong = codes "TooLong"
+scenario_cause_text (scenario_cause.Faulty fault) = scenario_fault_name fault
+
 -- the line on `err` that each end owes
 unfoldable pub line_due : End → List ℕ
 line_due Done = []
@@ -83,10 +90,12 @@ line_due OutFailed = codes "avrora: write failed\n"
 line_due NoMemory = codes "avrora: out of memory\n"
 line_due (ReadFailed name) = codes "avrora: cannot read " ++ name ++ codes "\n"
 line_due (Refused BadWords) = codes "avrora: bad command line\n"
+line_due (Refused (BadScenario name why)) = codes "avrora: " ++ name ++ (codes ": scenario refused: " ++ scenario_cause_text why ++ codes "\n")
 line_due (Refused (BadImage name why)) = codes "avrora: " ++ name ++ (codes ": image refused: " ++ cause_text why ++ codes "\n")
 
 abbrev pub refusal_status : Refusal → Status
 refusal_status BadWords = status.BadWords
+refusal_status (BadScenario name why) = status.BadScenario
 refusal_status (BadImage name why) = status.BadImage
 
 abbrev pub status_due : End → Status
@@ -99,6 +108,7 @@ status_due (Refused refusal) = refusal_status refusal
 -- the same of the code's values
 abbrev pub refusal_of : Complaint → Refusal
 refusal_of complaint.BadWords = BadWords
+refusal_of (complaint.BadScenario name why) = BadScenario name.now why
 refusal_of (complaint.BadImage name why) = BadImage name.now why
 
 abbrev pub end_at : Trouble → End
@@ -118,11 +128,11 @@ StopsAt files plan store store' trouble.NoMemory = store' ≡ store
 StopsAt files plan store store' (trouble.ReadFailed name) = FailedRead store name.now store' × IsNext files plan name.now
 StopsAt files plan store store' (trouble.Refused c) = (store' ≡ store) × Reached files plan (Refuse (refusal_of c))
 
--- the work of a job ended so: its whole output was written, or a write failed, or there was no memory to begin it
+-- the work of a job ended so: its whole output was written, or a write failed, or there was want of memory behind a front of it
 abbrev pub JobEnds : {A : Type 0} → Job → Stream → Stream → Result A Trouble → Type 0
 JobEnds job out out' (Ok x) = out' ≡ took out (output job)
 JobEnds job out out' (Err trouble.OutFailed) = FailedIn out (output job) out'
-JobEnds job out out' (Err trouble.NoMemory) = out' ≡ out
+JobEnds job out out' (Err trouble.NoMemory) = TookFront out.taken (output job) out'.taken × (out'.faults ≡ out.faults)
 JobEnds job out out' (Err (trouble.ReadFailed name)) = ⊥
 JobEnds job out out' (Err (trouble.Refused c)) = ⊥
 

@@ -1,4 +1,5 @@
 pub mod Listing
+pub mod Network
 pub mod Plan
 pub mod Reading
 pub mod Ends

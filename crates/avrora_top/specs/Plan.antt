@@ -1,31 +1,40 @@
 -- What a command reads, in order, what comes of it, and what it writes.
-use Rattle.std.specs.Prelude.{ℕ, List, Option, Some, None}
-use Rattle.command_words.specs.Words.{Asked, Node, Disasm, asked_by}
+use Rattle.std.specs.Prelude.{ℕ, List, [], ◌∷◌, Option, Some, None, Result, Ok, Err}
+use Rattle.command_words.specs.Words.{Asked, Node, Run, RunPlain, Check, Disasm, asked_by}
 use Rattle.ihex_loader.specs.Flash.{Image}
 use Rattle.ihex_loader.specs.Image.{hex_fault, image}
 use Rattle.ihex_loader.specs.declared.fault.HexFault.{HexFault}
-use Rattle.lone_node.specs.Alone.{node_rows}
-use Rattle.trace_writer.specs.Line.{rows_text}
+use Rattle.scenario_file.specs.Scenario.{ScenarioParts, scenario_in}
+use Rattle.scenario_file.specs.declared.fault.ScenarioFault.{ScenarioFault}
+use Rattle.node_runner.specs.Scenario.{ScenarioOf}
 use Rattle.avrora_top.specs.Listing.{listing}
+use Rattle.avrora_top.specs.Network.{lone_node, network_of, size_line, trace_of}
 use Rattle.avrora_top.specs.declared.trouble.ImageCause.{ImageCause}
 use Rattle.avrora_top.specs.declared.trouble.ImageCause.TheVariants as cause
+use Rattle.avrora_top.specs.declared.trouble.ScenarioCause.{ScenarioCause}
+use Rattle.avrora_top.specs.declared.trouble.ScenarioCause.TheVariants as scenario_cause
 
 -- what a call is to do, once all its files are accepted
 pub data Job : Type 0 where
-  -- the trace of one node that runs this image for so many cycles
-  NodeJob : (flash : Image) (cycles : ℕ) → Job
+  -- the trace of this network
+  TraceJob : (network : ScenarioOf) → Job
+  -- the size of this network
+  SizeJob : (network : ScenarioOf) → Job
   -- the listing of this image
   DisasmJob : (flash : Image) → Job
 
 -- what a job writes to `out`
 unfoldable pub output : Job → List ℕ
-output (NodeJob flash cycles) = rows_text (node_rows flash.bytes cycles)
+output (TraceJob network) = trace_of network
+output (SizeJob network) = size_line network
 output (DisasmJob flash) = listing flash
 
 -- why a call is refused
 pub data Refusal : Type 0 where
   -- the words are not accepted
   BadWords : Refusal
+  -- the scenario in this file is not
+  BadScenario : (name : List ℕ) (why : ScenarioCause) → Refusal
   -- the image in this file is not
   BadImage : (name : List ℕ) (why : ImageCause) → Refusal
 
@@ -45,9 +54,30 @@ abbrev pub image_plan : List ℕ → (Image → Plan) → Plan
 image_plan name next =
     Read name 1048576 (BadImage name cause.TooLong) (λ bytes. on_image name (hex_fault bytes) (image bytes) next)
 
+-- read the images of these files in their order, each accepted before the next is read, and go on with all of them
+unfoldable pub images_plan : List (List ℕ) → (List Image → Plan) → Plan
+images_plan [] next = next []
+images_plan (name ∷ names) next = image_plan name (λ flash. images_plan names (λ flashes. next (flash ∷ flashes)))
+
+-- a scenario is accepted where nothing is wrong with its text
+abbrev pub on_scenario : List ℕ → Result ScenarioParts ScenarioFault → (ScenarioParts → Plan) → Plan
+on_scenario name (Ok parts) next = next parts
+on_scenario name (Err fault) next = Refuse (BadScenario name (scenario_cause.Faulty fault))
+
+-- read a scenario, of at most 524,288 bytes of text, and go on with what it says
+abbrev pub scenario_plan : List ℕ → (ScenarioParts → Plan) → Plan
+scenario_plan name next = Read name 524288 (BadScenario name scenario_cause.TooLong) (λ bytes. on_scenario name (scenario_in bytes) next)
+
+-- read a scenario and then the image of each of its nodes, and go on with the network
+abbrev pub network_plan : List ℕ → (ScenarioOf → Plan) → Plan
+network_plan name next = scenario_plan name (λ parts. images_plan parts.images (λ images. next (network_of parts images)))
+
 -- what each command reads
 unfoldable pub plan_of : Asked → Plan
-plan_of (Node file cycles) = image_plan file (λ flash. Give (NodeJob flash cycles))
+plan_of (Node file cycles) = image_plan file (λ flash. Give (TraceJob (lone_node flash cycles)))
+plan_of (Run file) = network_plan file (λ network. Give (TraceJob network))
+plan_of (RunPlain file) = network_plan file (λ network. Give (TraceJob network))
+plan_of (Check file) = network_plan file (λ network. Give (SizeJob network))
 plan_of (Disasm file) = image_plan file (λ flash. Give (DisasmJob flash))
 
 -- the plan of what the words ask for

@@ -3,10 +3,11 @@
 use Rattle.std.specs.Prelude.{◌≡◌, ◌≢◌, ◌⊎◌, List, ℕ, None}
 use Rattle.sim_io.specs.Outside.{Rose}
 use Rattle.command_words.specs.Words.{asked_by}
-use Rattle.avrora_top.specs.Plan.{Plan, BadWords, BadImage, plan}
+use Rattle.avrora_top.specs.Plan.{Plan, BadWords, BadScenario, BadImage, plan}
 use Rattle.avrora_top.specs.Reading.{Files, Verdict, Untold, Refused as RefusedVerdict, Accepted, verdict}
 use Rattle.avrora_top.specs.Ends.{Reads, Stream, took, FailedIn, End, Done, OutFailed, NoMemory, ReadFailed, Refused, Ends, line_due, refusal_status, status_due}
 use Rattle.avrora_top.specs.declared.trouble.ImageCause.{ImageCause}
+use Rattle.avrora_top.specs.declared.trouble.ScenarioCause.{ScenarioCause}
 use Rattle.avrora_top.specs.declared.status.Status.{Status}
 use Rattle.avrora_top.specs.declared.status.Status.TheVariants as status
 
@@ -58,8 +59,9 @@ pub record TopClause (files : Files) (words : List (List ℕ)) (store store' : R
   -- 3: a read of the next file failed
   pub read_failed : answer ≡ status.ReadFailed
       → (name : List ℕ) × EndedSaying files (plan words) store store' out out' err err' (ReadFailed name)
-  -- 4: no command that is built reads a scenario
-  pub bad_scenario : answer ≢ status.BadScenario
+  -- 4: the scenario is refused
+  pub bad_scenario : answer ≡ status.BadScenario
+      → (name : List ℕ) × ((why : ScenarioCause) × EndedSaying files (plan words) store store' out out' err err' (Refused (BadScenario name why)))
   -- 5: the next image is refused
   pub bad_image : answer ≡ status.BadImage
       → (name : List ℕ) × ((why : ImageCause) × EndedSaying files (plan words) store store' out out' err err' (Refused (BadImage name why)))

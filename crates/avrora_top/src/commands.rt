@@ -1,37 +1,20 @@
 // The commands, behind the words that ask for them.
 ghost use Rattle.std.specs.Prelude.{◌≤◌};
-ghost use Rattle.command_words.specs.Words.{Node, Disasm};
-ghost use Rattle.avrora_top.specs.Plan.{DisasmJob, NodeJob, plan_of};
+ghost use Rattle.command_words.specs.Words.{Node, Run, Check, Disasm};
+ghost use Rattle.avrora_top.specs.Plan.{DisasmJob, plan_of};
 ghost use Rattle.avrora_top.specs.Ends.{Ends, JobEnds, end_of, reads, stream};
+ghost use Rattle.avrora_top.specs.TopClause.{Called};
 
-use crate::files::read_image;
+use crate::Status;
+use crate::files::{read_image, read_images, read_scenario};
 use crate::listing::write_listing;
+use crate::network::{lone_node, write_size, write_trace};
+use crate::report::report;
 use crate::trouble::Trouble;
 use ihex_loader::Flash;
-use lone_node::run_alone;
+use node_runner::Scenario;
 use sim_io::{Sink, Store};
 use std::alloc::Global;
-
-// Runs one node and writes its trace.
-#[tactic(auto, unfolding(crate::specs::Plan::output))]
-fn write_trace<'n, O: Sink>(
-    alloc: Global,
-    flash: Flash,
-    cycles: u64,
-    out: &mut O,
-) -> Result<(), Trouble<'n>>
-    requires { cycles ≤ 10000000 }
-    ensures { JobEnds (NodeJob flash cycles) (stream (O.taken out.old) (O.faults out.old)) (stream (O.taken out.new) (O.faults out.new)) result }
-{
-    let rows = match run_alone(alloc, flash, cycles) {
-        Ok(rows) => rows,
-        Err(_) => return Err(Trouble::NoMemory),
-    };
-    match trace_writer::write(rows.as_slice(), out) {
-        Ok(()) => Ok(()),
-        Err(_) => Err(Trouble::OutFailed),
-    }
-}
 
 // Writes the listing of an image.
 #[tactic(auto, unfolding(crate::specs::Plan::output))]
@@ -44,7 +27,7 @@ fn write_instructions<'n, O: Sink>(flash: &Flash, out: &mut O) -> Result<(), Tro
     }
 }
 
-/// `node FILE CYCLES`: the trace of one node with the image in `file`, over `cycles` cycles, at most 10,000,000.
+/// `node FILE CYCLES`: the trace of one node with the image in `file`, over `cycles` cycles, 1 to 10,000,000.
 pub fn node<'w, S: Store, O: Sink>(
     alloc: Global,
     file: &'w str,
@@ -52,14 +35,19 @@ pub fn node<'w, S: Store, O: Sink>(
     store: &mut S,
     out: &mut O,
 ) -> Result<(), Trouble<'w>>
-    requires { cycles ≤ 10000000 }
+    requires some { 1 ≤ cycles }
+    requires limit { cycles ≤ 10000000 }
     ensures { Ends (S.held store.old) (plan_of (Node file.entry.now cycles))
         (reads (S.faults store.old) (S.failed store.old)) (reads (S.faults store.new) (S.failed store.new))
         (stream (O.taken out.old) (O.faults out.old)) (stream (O.taken out.new) (O.faults out.new)) (end_of result) }
 {
-    match read_image(alloc, file, store) {
-        Ok(flash) => write_trace(alloc, flash, cycles, out),
-        Err(trouble) => Err(trouble),
+    let flash = match read_image(alloc, file, store) {
+        Ok(flash) => flash,
+        Err(trouble) => return Err(trouble),
+    };
+    match lone_node(alloc, flash, cycles) {
+        Ok(network) => write_trace(alloc, &network, out),
+        Err(_) => Err(Trouble::NoMemory),
     }
 }
 
@@ -78,4 +66,57 @@ pub fn disasm<'w, S: Store, O: Sink>(
         Ok(flash) => write_instructions(&flash, out),
         Err(trouble) => Err(trouble),
     }
+}
+
+/// `run FILE`: the trace of the network of the scenario in `file`. It says itself how it ended, since the line on `err` may name a
+/// file of the scenario's own.
+pub fn run<'w, S: Store, O: Sink, E: Sink>(
+    alloc: Global,
+    file: &'w str,
+    store: &mut S,
+    out: &mut O,
+    err: &mut E,
+) -> Status
+    ensures { Called (S.held store.old) (plan_of (Run file.entry.now))
+        (reads (S.faults store.old) (S.failed store.old)) (reads (S.faults store.new) (S.failed store.new))
+        (stream (O.taken out.old) (O.faults out.old)) (stream (O.taken out.new) (O.faults out.new))
+        (stream (E.taken err.old) (E.faults err.old)) (stream (E.taken err.new) (E.faults err.new)) result }
+{
+    let text = match read_scenario(alloc, file, store) {
+        Ok(text) => text,
+        Err(trouble) => return report(err, Err(trouble)),
+    };
+    let images = match read_images(alloc, text.images.as_slice(), store) {
+        Ok(images) => images,
+        Err(trouble) => return report(err, Err(trouble)),
+    };
+    let network = Scenario::new(text, images);
+    let outcome = write_trace(alloc, &network, out);
+    report(err, outcome)
+}
+
+/// `check FILE`: the size of the network of the scenario in `file`; the scenario and its images are read as `run` reads them.
+pub fn check<'w, S: Store, O: Sink, E: Sink>(
+    alloc: Global,
+    file: &'w str,
+    store: &mut S,
+    out: &mut O,
+    err: &mut E,
+) -> Status
+    ensures { Called (S.held store.old) (plan_of (Check file.entry.now))
+        (reads (S.faults store.old) (S.failed store.old)) (reads (S.faults store.new) (S.failed store.new))
+        (stream (O.taken out.old) (O.faults out.old)) (stream (O.taken out.new) (O.faults out.new))
+        (stream (E.taken err.old) (E.faults err.old)) (stream (E.taken err.new) (E.faults err.new)) result }
+{
+    let text = match read_scenario(alloc, file, store) {
+        Ok(text) => text,
+        Err(trouble) => return report(err, Err(trouble)),
+    };
+    let images = match read_images(alloc, text.images.as_slice(), store) {
+        Ok(images) => images,
+        Err(trouble) => return report(err, Err(trouble)),
+    };
+    let network = Scenario::new(text, images);
+    let outcome = write_size(&network, out);
+    report(err, outcome)
 }

@@ -1,17 +1,23 @@
 // Reads the files of a command.
-ghost use Rattle.std.specs.Prelude.{◌≡◌, List, ℕ, IfOk, IfErr, OnOk};
+ghost use Rattle.std.specs.Prelude.{◌≡◌, List, ℕ, length, IfOk, IfErr, OnOk};
 ghost use Rattle.ihex_loader.specs.Flash.{Image};
-ghost use Rattle.avrora_top.specs.Plan.{Plan, Read, image_plan};
+ghost use Rattle.scenario_file.specs.Scenario.{ScenarioParts, IsScenario};
+ghost use Rattle.scenario_file.specs.Shown.{parts};
+ghost use Rattle.avrora_top.specs.Plan.{Plan, Read, image_plan, images_plan, scenario_plan};
 ghost use Rattle.avrora_top.specs.Reading.{Reached};
 ghost use Rattle.avrora_top.specs.Ends.{StopsAt, reads, refusal_of};
 
-use crate::trouble::{Complaint, ImageCause, Trouble};
+use crate::trouble::{Complaint, ImageCause, ScenarioCause, Trouble};
 use ihex_loader::{Flash, HexFault, load};
-use sim_io::{ReadFault, Store};
+use scenario_file::{ScenarioFault, ScenarioText};
+use sim_io::{Name, ReadFault, Store};
 use std::alloc::Global;
 
 // The most bytes of an image's text.
 const MOST_IMAGE_BYTES: usize = 1_048_576;
+
+// The most bytes of a scenario's text.
+const MOST_SCENARIO_BYTES: usize = 524_288;
 
 // The bytes of the file `name`, at most `most`; a longer one is refused as `too_long` says.
 fn read_file<'n, S: Store>(
@@ -64,6 +70,66 @@ pub fn read_image<'n, S: Store>(
                 return Err(Trouble::NoMemory);
             }
             Err(Trouble::Refused(Complaint::BadImage(name, ImageCause::Faulty(fault))))
+        }
+    }
+}
+
+/// The images in the files of these names, each read and accepted before the next is read.
+pub fn read_images<'n, S: Store>(
+    alloc: Global,
+    names: &'n [Name],
+    store: &mut S,
+) -> Result<Vec<Flash>, Trouble<'n>>
+    ensures held { S.held store.new ≡ S.held store.old }
+    ensures same { OnOk result (reads (S.faults store.new) (S.failed store.new) ≡ reads (S.faults store.old) (S.failed store.old)) }
+
+    ensures count { IfOk result (λ images. length images.items ≡ length names.entry.now) }
+    ensures ok { IfOk result (λ images. (next : List Image → Plan) → Reached (S.held store.old) (images_plan names.entry.now next) (next images.items)) }
+    ensures err { IfErr result (λ t. (next : List Image → Plan)
+        → StopsAt (S.held store.old) (images_plan names.entry.now next)
+        (reads (S.faults store.old) (S.failed store.old)) (reads (S.faults store.new) (S.failed store.new)) t) }
+{
+    let mut images = Vec::new(alloc);
+    for name in names {
+        let flash = match read_image(alloc, name.as_str(), store) {
+            Ok(flash) => flash,
+            Err(trouble) => return Err(trouble),
+        };
+        match images.push(flash) {
+            Ok(()) => {}
+            Err(_) => return Err(Trouble::NoMemory),
+        }
+    }
+    Ok(images)
+}
+
+/// What the scenario in the file `name` says, which has at most 524,288 bytes of text.
+pub fn read_scenario<'n, S: Store>(
+    alloc: Global,
+    name: &'n str,
+    store: &mut S,
+) -> Result<ScenarioText, Trouble<'n>>
+    ensures held { S.held store.new ≡ S.held store.old }
+    ensures same { OnOk result (reads (S.faults store.new) (S.failed store.new) ≡ reads (S.faults store.old) (S.failed store.old)) }
+
+    ensures lawful { IfOk result (λ text. IsScenario (parts text)) }
+    ensures ok { IfOk result (λ text. (next : ScenarioParts → Plan) → Reached (S.held store.old) (scenario_plan name.entry.now next) (next (parts text))) }
+    ensures err { IfErr result (λ t. (next : ScenarioParts → Plan)
+        → StopsAt (S.held store.old) (scenario_plan name.entry.now next)
+        (reads (S.faults store.old) (S.failed store.old)) (reads (S.faults store.new) (S.failed store.new)) t) }
+{
+    let too_long = Complaint::BadScenario(name, ScenarioCause::TooLong);
+    let bytes = match read_file(alloc, name, MOST_SCENARIO_BYTES, too_long, store) {
+        Ok(bytes) => bytes,
+        Err(trouble) => return Err(trouble),
+    };
+    match scenario_file::read(alloc, bytes.as_slice()) {
+        Ok(text) => Ok(text),
+        Err(fault) => {
+            if fault == ScenarioFault::NoMemory {
+                return Err(Trouble::NoMemory);
+            }
+            Err(Trouble::Refused(Complaint::BadScenario(name, ScenarioCause::Faulty(fault))))
         }
     }
 }

@@ -5,6 +5,7 @@
 mod commands;
 mod files;
 mod listing;
+mod network;
 mod report;
 mod status;
 mod top;

@@ -1,11 +1,11 @@
 // What is said on the error stream.
-ghost use Rattle.std.specs.Prelude.{◌≡◌, ◌≤◌, ◌+◌, ◌++◌, codes, OnOk, OnErr};
+ghost use Rattle.std.specs.Prelude.{◌≡◌, ◌≤◌, ◌+◌, ◌++◌, codes, length, OnOk, OnErr};
 ghost use Rattle.arrayvec.specs.ArrayString.{array_string_len};
-ghost use Rattle.avrora_top.specs.Ends.{FailedIn, cause_text, end_at, end_of, line_due, place_text, status_due, stream, took};
+ghost use Rattle.avrora_top.specs.Ends.{FailedIn, cause_text, end_at, end_of, line_due, place_text, scenario_cause_text, status_due, stream, took};
 ghost use Rattle.avrora_top.specs.TopClause.{Reported, Told};
 
 use crate::Status;
-use crate::trouble::{Complaint, ImageCause, Trouble};
+use crate::trouble::{Complaint, ImageCause, ScenarioCause, Trouble};
 use arrayvec::ArrayString;
 use sim_io::{Sink, SinkFault, write_all};
 use text_pieces::put_decimal;
@@ -88,6 +88,28 @@ fn behind_image(cause: ImageCause) -> ArrayString<64>
     text
 }
 
+#[tactic(auto, unfolding(crate::specs::Ends::scenario_cause_text))]
+fn scenario_cause_text(cause: ScenarioCause) -> &'static str
+    ensures text { result.now ≡ scenario_cause_text cause }
+    ensures short { length result.now ≤ 13 }
+{
+    match cause {
+        ScenarioCause::TooLong => "TooLong",
+        ScenarioCause::Faulty(fault) => fault.name(),
+    }
+}
+
+// What stands behind the name of a scenario that is refused.
+fn behind_scenario(cause: ScenarioCause) -> ArrayString<64>
+    ensures { result.bytes ≡ codes ": scenario refused: " ++ scenario_cause_text cause ++ codes "\n" }
+{
+    let mut text = ArrayString::new();
+    text.push_str(": scenario refused: ");
+    text.push_str(scenario_cause_text(cause));
+    text.push_str("\n");
+    text
+}
+
 fn plain(text: &'static str) -> Line<'static>
     ensures { result.before.now ++ result.name.now ++ result.after.bytes ≡ text.now }
 {
@@ -119,6 +141,11 @@ fn line_at<'n>(trouble: Trouble<'n>) -> Line<'n>
             after: newline(),
         },
         Trouble::Refused(Complaint::BadWords) => plain("avrora: bad command line\n"),
+        Trouble::Refused(Complaint::BadScenario(name, cause)) => Line {
+            before: "avrora: ",
+            name,
+            after: behind_scenario(cause),
+        },
         Trouble::Refused(Complaint::BadImage(name, cause)) => Line {
             before: "avrora: ",
             name,
@@ -135,6 +162,7 @@ fn status_at(trouble: Trouble) -> Status
         Trouble::NoMemory => Status::NoMemory,
         Trouble::ReadFailed(_) => Status::ReadFailed,
         Trouble::Refused(Complaint::BadWords) => Status::BadWords,
+        Trouble::Refused(Complaint::BadScenario(_, _)) => Status::BadScenario,
         Trouble::Refused(Complaint::BadImage(_, _)) => Status::BadImage,
     }
 }

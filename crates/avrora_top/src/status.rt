@@ -13,7 +13,7 @@ pub enum Status {
     BadWords,
     /// A file could not be read.
     ReadFailed,
-    /// The scenario is refused. No command reads one yet.
+    /// The scenario is refused.
     BadScenario,
     /// An image is refused.
     BadImage,

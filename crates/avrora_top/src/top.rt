@@ -6,7 +6,7 @@ ghost use Rattle.avrora_top.specs.Ends.{Refused, reads, stream};
 ghost use Rattle.avrora_top.specs.TopClause.{Called, Reported, TopClause};
 
 use crate::Status;
-use crate::commands::{disasm, node};
+use crate::commands::{check, disasm, node, run};
 use crate::report::report;
 use crate::trouble::{Complaint, Trouble};
 use command_words::{Order, read_words};
@@ -34,6 +34,9 @@ fn call<'w, S: Store, O: Sink, E: Sink>(
             let outcome = node(alloc, file, cycles, store, out);
             report(err, outcome)
         }
+        Some(Order::Run { file }) => run(alloc, file, store, out, err),
+        Some(Order::RunPlain { file }) => run(alloc, file, store, out, err),
+        Some(Order::Check { file }) => check(alloc, file, store, out, err),
         Some(Order::Disasm { file }) => {
             let outcome = disasm(alloc, file, store, out);
             report(err, outcome)
@@ -42,12 +45,15 @@ fn call<'w, S: Store, O: Sink, E: Sink>(
 }
 
 /// The whole program over a store of files and two streams, on one thread: does what the words after the program's
-/// name ask for, and answers how it ended. Files are read in the order in which the command needs them, each whole and
-/// once, and `out` is written only when all of them are accepted.
+/// name ask for, and answers how it ended. Files are read in the order in which the command needs them, each whole, and
+/// `out` is written only when all of them are accepted: a scenario first, then the image of each node in order of number.
 ///
 /// | Words | Written to `out` with `Done` |
 /// |---|---|
 /// | `node FILE CYCLES` | the trace of one node that runs the image in FILE, with no links and no input, over CYCLES cycles; instructions are traced in the first 20,000 |
+/// | `run FILE` | the trace of the network of the scenario in FILE, in the single global order of cycles |
+/// | `run --plain FILE` | the same, on one thread |
+/// | `check FILE` | how many nodes, links and cycles the network of the scenario in FILE has; it is not run |
 /// | `disasm FILE` | the address and the text of each instruction of the image in FILE, a line each |
 ///
 /// FILE is a word that is not empty and does not begin with `-`; CYCLES is one to eight digits, 1 to 10,000,000. All

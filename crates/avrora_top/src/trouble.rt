@@ -1,5 +1,15 @@
 // Why a call does not come to its end.
 use ihex_loader::HexFault;
+use scenario_file::ScenarioFault;
+
+/// Why a scenario is refused.
+#[derive(Clone, Copy, Debug, PartialEq, Eq)]
+pub enum ScenarioCause {
+    /// Its text has more than 524,288 bytes.
+    TooLong,
+    /// The lowest fault of its text.
+    Faulty(ScenarioFault),
+}
 
 /// Why an image is refused.
 #[derive(Clone, Copy, Debug, PartialEq, Eq)]
@@ -15,6 +25,8 @@ pub enum ImageCause {
 pub enum Complaint<'n> {
     /// The words of the command line.
     BadWords,
+    /// The scenario in this file.
+    BadScenario(&'n str, ScenarioCause),
     /// The image in this file.
     BadImage(&'n str, ImageCause),
 }

@@ -11,12 +11,21 @@ use Rattle.command_words.specs.declared.order.Order.TheVariants as order
 pub data Asked : Type 0 where
   -- simulate one node with the image in this file, for so many cycles
   Node : (file : List ℕ) (cycles : ℕ) → Asked
+  -- simulate the network of the scenario in this file
+  Run : (file : List ℕ) → Asked
+  -- the same on one thread
+  RunPlain : (file : List ℕ) → Asked
+  -- read the scenario in this file and its images, and run nothing
+  Check : (file : List ℕ) → Asked
   -- list the instructions of the image in this file
   Disasm : (file : List ℕ) → Asked
 
 -- the same of the code's value
 abbrev pub shown : Order → Asked
 shown (order.Node file cycles) = Node file.now cycles
+shown (order.Run file) = Run file.now
+shown (order.RunPlain file) = RunPlain file.now
+shown (order.Check file) = Check file.now
 shown (order.Disasm file) = Disasm file.now
 
 abbrev pub is_word : List ℕ → List ℕ → Bool
@@ -40,10 +49,16 @@ as_node (command ∷ file ∷ cycles ∷ []) =
     if is_word (codes "node") command && is_file file then option_map (Node file) (cycles_of cycles) else None
 as_node _ = None
 
--- `disasm FILE`
-unfoldable pub as_disasm : List (List ℕ) → Option Asked
-as_disasm (command ∷ file ∷ []) = if is_word (codes "disasm") command && is_file file then Some (Disasm file) else None
-as_disasm _ = None
+-- the FILE of a command that has nothing else: `run FILE`, `check FILE`, `disasm FILE`
+unfoldable pub file_behind : List ℕ → List (List ℕ) → Option (List ℕ)
+file_behind name (command ∷ file ∷ []) = if is_word name command && is_file file then Some file else None
+file_behind name _ = None
+
+-- `run --plain FILE`
+unfoldable pub as_plain_run : List (List ℕ) → Option Asked
+as_plain_run (command ∷ option ∷ file ∷ []) =
+    if is_word (codes "run") command && is_word (codes "--plain") option && is_file file then Some (RunPlain file) else None
+as_plain_run _ = None
 
 abbrev pub or_else : Option Asked → Option Asked → Option Asked
 or_else (Some asked) other = Some asked
@@ -51,9 +66,17 @@ or_else None other = other
 
 -- what the words ask for: the forms in turn; None where they are not accepted
 unfoldable pub asked_by : List (List ℕ) → Option Asked
-asked_by words = or_else (as_node words) (as_disasm words)
+asked_by words =
+    or_else (as_node words)
+    (or_else (option_map Run (file_behind (codes "run") words))
+    (or_else (as_plain_run words)
+    (or_else (option_map Check (file_behind (codes "check") words))
+    (option_map Disasm (file_behind (codes "disasm") words)))))
 
 -- the number of cycles, where there is one, is from 1 to 10,000,000
 abbrev pub IsInLimits : Asked → Type 0
 IsInLimits (Node file cycles) = (1 ≤ cycles) × (cycles ≤ 10000000)
+IsInLimits (Run file) = Unit {0}
+IsInLimits (RunPlain file) = Unit {0}
+IsInLimits (Check file) = Unit {0}
 IsInLimits (Disasm file) = Unit {0}

@@ -5,6 +5,12 @@
 pub enum Order<'w> {
     /// `node FILE CYCLES`: simulate one node with this image for so many cycles, 1 to 10,000,000.
     Node { file: &'w str, cycles: u64 },
+    /// `run FILE`: simulate the network of this scenario.
+    Run { file: &'w str },
+    /// `run --plain FILE`: the same on one thread.
+    RunPlain { file: &'w str },
+    /// `check FILE`: read this scenario and its images, and run nothing.
+    Check { file: &'w str },
     /// `disasm FILE`: list the instructions of this image.
     Disasm { file: &'w str },
 }

@@ -4,7 +4,7 @@ use crate::{Order, read_words};
 #[test]
 fn words(rt: HostRuntime) {
     let none: Option<Order<'static>> = None;
-    let rows: [(&[&str], Option<Order<'static>>, &str); 20] = [
+    let rows: [(&[&str], Option<Order<'static>>, &str); 28] = [
         (
             &["node", "a.hex", "8"],
             Some(Order::Node {
@@ -59,7 +59,27 @@ fn words(rt: HostRuntime) {
         (&["node", "a.hex", "8", "8"], none, "too many words"),
         (&["disasm", "a.hex", "8"], none, "a number for disasm"),
         (&["Node", "a.hex", "8"], none, "a capital letter"),
-        (&["run"], none, "another command"),
+        (
+            &["run", "a.toml"],
+            Some(Order::Run { file: "a.toml" }),
+            "run",
+        ),
+        (
+            &["run", "--plain", "a.toml"],
+            Some(Order::RunPlain { file: "a.toml" }),
+            "on one thread",
+        ),
+        (
+            &["check", "a.toml"],
+            Some(Order::Check { file: "a.toml" }),
+            "check",
+        ),
+        (&["run", "a.toml", "--plain"], none, "an option behind the file"),
+        (&["run", "--plain"], none, "an option for a file"),
+        (&["run", "--plain", "--plain", "a.toml"], none, "an option twice"),
+        (&["check", "--plain", "a.toml"], none, "an option that check has not"),
+        (&["run"], none, "no file"),
+        (&["walk", "a.toml"], none, "another command"),
         (&[], none, "no words"),
     ];
     for (words, want, why) in rows.iter() {
