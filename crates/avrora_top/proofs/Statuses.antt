@@ -56,9 +56,10 @@ keeps_on_scenario name (Err fault) next k = scenario_is_no_words name (scenario_
 
 keeps_network : (name : List ℕ) (job : ScenarioOf → Job) → KeepsWords (network_plan name (λ network. Give (job network)))
 keeps_network name job =
-    let rest : ScenarioParts → Plan = λ parts. images_plan parts.images (λ images. Give (job (network_of parts images))) in
-    (scenario_is_no_words name scenario_cause.TooLong,
-     λ bytes. keeps_on_scenario name (scenario_in bytes) rest (λ parts. keeps_images parts.images (λ images. Give (job (network_of parts images))) (λ fs. tt)))
+    let rest : ScenarioParts → Plan = λ parts. images_plan parts.images (λ images. Give (job (network_of parts images))) in (
+      scenario_is_no_words name scenario_cause.TooLong,
+      λ bytes. keeps_on_scenario name (scenario_in bytes) rest (λ parts. keeps_images parts.images (λ images. Give (job (network_of parts images))) (λ fs. tt)),
+    )
 
 keeps_plan : (asked : Asked) → KeepsWords (plan_of asked)
 unfolding plan_of
