@@ -1,5 +1,5 @@
 -- The trace of a run, epoch by epoch.
-use Rattle.std.proofs.Common.{◌≡◌, ◌≢◌, ℕ, zero, suc, ◌+◌, ◌-◌, ◌<◌, ◌≤◌, Bool, true, false, cond, ◌==◌, List, [], ◌++◌, Option, refl, sym, subst, ap, ◌∙◌, arith, append-nil, append_assoc}
+use Rattle.std.proofs.Common.{◌≡◌, ◌≢◌, ℕ, zero, suc, ◌+◌, ◌-◌, ◌<◌, ◌≤◌, Bool, true, false, cond, ◌==◌, List, [], ◌++◌, Option, Some, None, refl, sym, subst, ap, ◌∙◌, arith, append-nil, append_assoc}
 use Rattle.std.specs.List.{flat_map}
 use Rattle.std.proofs.lemmas.Grind.{flat_map-append}
 use Rattle.std.proofs.lemmas.Bool.Decides.{nat_tests}
@@ -13,8 +13,9 @@ use Rattle.node_core.specs.State.{NodeState}
 use Rattle.world_core.specs.NodeKind.{ticked_rows}
 use Rattle.world_core.specs.Each.{each_below}
 use Rattle.global_order.specs.Order.{Fleet, Moment, world_after, world_at, hears, end_rows, run_rows}
-use Rattle.node_runner.specs.Scenario.{ScenarioOf, fleet_of}
+use Rattle.node_runner.specs.Scenario.{ScenarioOf, IsScenario, fleet_of}
 use Rattle.fleet_plain.specs.Run.{rows_upto}
+use Rattle.fleet_plain.proofs.Epoch.{first_rows}
 use Rattle.avrora_top.specs.Network.{trace_of}
 
 -- a list begins with another one
@@ -79,9 +80,19 @@ text_parts : (a b : List Row) → rows_text (a ++ b) ≡ rows_text a ++ rows_tex
 unfolding rows_text
 text_parts a b = flat_map-append row_line a b
 
-pub text_none : rows_text [] ≡ []
+nothing_taken : (o : Option (List ℕ)) → o ≡ extended o []
+nothing_taken None = refl
+nothing_taken (Some old) = ap Some (sym (append-nil old))
+
+text_none : rows_text [] ≡ []
 unfolding rows_text
 text_none = refl
+
+-- before the first epoch a sink took no row
+pub taken_first : (o : Option (List ℕ)) (sc : ScenarioOf) (c : ℕ) → IsScenario sc → c ≡ 0 → o ≡ extended o (rows_text (rows_upto (fleet_of sc) c))
+taken_first o sc c ok e =
+    let none : rows_upto (fleet_of sc) c ≡ [] = ap (rows_upto (fleet_of sc)) e ∙ first_rows sc ok in
+    nothing_taken o ∙ ap (extended o) (sym (ap rows_text none ∙ text_none))
 
 -- a sink took the text of these rows, and now that of the next ones
 pub taken_next : (o p q : Option (List ℕ)) (before rows after : List Row) → p ≡ extended o (rows_text before) → after ≡ before ++ rows → q ≡ extended p (rows_text rows)
