@@ -28,17 +28,21 @@ made : Fleet NodeState Row → ℕ → List Row
 made f n = each_below f.topo.nodes (λ k. ticked_rows f.kind (f.start + n) ((world_after f n).state k) (hears f (f.start + n) (world_after f n) k))
 
 rows_next : (f : Fleet NodeState Row) (n : ℕ) → (world_after f (suc n)).rows ≡ (world_after f n).rows ++ made f n
-unfolding world_after
+unfolding world_after made
 rows_next f n = refl
 
 -- what happened so far is not altered by what comes
 rows_later : (f : Fleet NodeState Row) (n m : ℕ) → Begins (world_after f n).rows (world_after f (m + n)).rows
-rows_later f n zero = record { rest = []; parts = sym (append-nil (world_after f n).rows) }
+rows_later f n zero =
+    let e : 0 + n ≡ n = omega arith in
+    record { rest = []; parts = ap (λ k. (world_after f k).rows) e ∙ sym (append-nil (world_after f n).rows) }
 rows_later f n (suc m) =
     let h = rows_later f n m in
+    let e : suc m + n ≡ suc (m + n) = omega arith in
     record {
       rest = h.rest ++ made f (m + n);
-      parts = rows_next f (m + n) ∙ ap (λ l. l ++ made f (m + n)) h.parts ∙ append_assoc (world_after f n).rows h.rest (made f (m + n));
+      parts = ap (λ k. (world_after f k).rows) e ∙ rows_next f (m + n) ∙ ap (λ l. l ++ made f (m + n)) h.parts
+          ∙ append_assoc (world_after f n).rows h.rest (made f (m + n));
     }
 
 equal : (a b : ℕ) → a ≡ b → (a == b) ≡ true
@@ -46,6 +50,9 @@ equal a b e = grind (arith, nat_tests)
 
 differ : (a b : ℕ) → a ≢ b → (a == b) ≡ false
 differ a b e = grind (arith, nat_tests)
+
+pub meets : (m n : ℕ) → true ≡ (m == n) → m ≡ n
+meets m n e = grind (arith, nat_tests)
 
 -- at the limit the rows are those of the whole run
 pub rows_whole : (sc : ScenarioOf) (c : ℕ) → c ≡ sc.topo.limit → rows_upto (fleet_of sc) c ≡ run_rows (fleet_of sc)

@@ -25,7 +25,7 @@ returns-in-Err-read_images g c =
     record {
       end = end_at c.in-Err-read_images.trouble;
       ends = ends_at_image _ _ c.args.file.now SizeJob (parts c.in-Ok.text) _ _ _ _ c.in-Err-read_images.trouble c.in-Ok.ensures.held c.in-Ok.ensures.same c.in-Ok.ensures.ok stops;
-      reported = c.report-2.ensures;
+      reported = c.report-in-Err-read_images.ensures;
     }
 
 pub returns : goal.returns
@@ -37,5 +37,5 @@ returns g c =
       end = end_of c.write_size-outcome.result;
       ends = ends_with_job _ _ c.args.file.now SizeJob (parts c.in-Ok.text) c.in-Ok-read_images.images.items _ _ _ _ _ _ c.write_size-outcome.result
           c.in-Ok.ensures.held c.in-Ok.ensures.same c.in-Ok-read_images.ensures.same c.in-Ok.ensures.ok reached c.new-network.ensures c.write_size-outcome.ensures;
-      reported = c.report-3.ensures;
+      reported = c.report-2.ensures;
     }

@@ -1,4 +1,4 @@
-use Rattle.std.proofs.Common.{◌≡◌, ℕ, ◌+◌, ◌∷◌, [], ◌++◌, List, length, refl, sym, ap, ◌∙◌, arith, rules}
+use Rattle.std.proofs.Common.{◌≡◌, ℕ, ◌+◌, ◌∷◌, [], ◌++◌, List, length, length-append, refl, sym, ap, ◌∙◌, arith, rules}
 use Rattle.ihex_loader.specs.Flash.{Image}
 use Rattle.avrora_top.specs.Plan.{Plan, image_plan}
 use Rattle.avrora_top.specs.Reading.{Reached}
@@ -27,7 +27,7 @@ loop-name-preserved g c =
     record {
       held = c.in-Ok.ensures.held ∙ i.held;
       same = c.in-Ok.ensures.same ∙ i.same;
-      count = omega (arith, ap length pushed, i.count);
+      count = ap length pushed ∙ length-append c.loop-name.images.items (c.in-Ok.flash ∷ []) ∙ ap (λ n. n + 1) i.count;
       left = images_pushed _ c.args.names.now (c.loop-name.name-index + 1) _ _ pushed
           (images_step _ c.args.names.now c.loop-name.name-index c.loop-name.images.items c.name-item.result c.in-Ok.flash (omega arith) c.name-item.is i.left
           (λ next. reached_moved _ _ _ _ i.held (rw (← c.as_str.ensures) (c.in-Ok.ensures.ok next))));

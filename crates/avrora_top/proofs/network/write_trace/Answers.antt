@@ -7,7 +7,7 @@ use Rattle.node_runner.specs.Scenario.{ScenarioOf, fleet_of}
 use Rattle.fleet_plain.specs.Run.{RunAt, rows_upto}
 use Rattle.avrora_top.specs.Ends.{stream}
 use Rattle.avrora_top.specs.Plan.{output}
-use Rattle.avrora_top.proofs.Traces.{front_taken, front_failed, rows_whole, taken_first, taken_next}
+use Rattle.avrora_top.proofs.Traces.{front_taken, front_failed, meets, rows_whole, taken_first, taken_next}
 use Rattle.avrora_top.proofs.network.write_trace.Goals as goal
 
 pub loop-run-init : goal.loop-run-init
@@ -55,7 +55,7 @@ loop-run-preserved g c =
 pub returns : goal.returns
 unfolding output
 returns g c =
-    let over : c.loop-run.run.floor ≡ c.loop-run.run.scenario.topo.limit = omega arith in
+    let over : c.loop-run.run.floor ≡ c.loop-run.run.scenario.topo.limit = meets _ _ c.loop-run-test.ensures.value in
     let limit : c.loop-run.run.floor ≡ c.args.network.now.topo.limit = over ∙ ap (λ (s : ScenarioOf). s.topo.limit) c.loop-run.invariant.same in
     let taken = c.loop-run.invariant.taken ∙ ap (λ (l : List Row). extended (g.O.Sink.taken c.args.out.now) (rows_text l)) (rows_whole c.args.network.now c.loop-run.run.floor limit) in
     λ i. stream (taken i) (c.loop-run.invariant.count i)
