@@ -72,13 +72,13 @@ class Node:
         self.timers = {0: Timer(8, (1, 8, 32, 64, 128, 256, 1024)), 2: Timer(8, (1, 8, 64, 256, 1024))}
         self.timers |= {n: Timer(16, (1, 8, 64, 256, 1024)) for n in (1, 3)}
         self.usart, self.spi, self.radio = Usart(), Spi(), Radio(byte_time)
-        self.now = 0
+        self.now, self.rests = 0, False
 
     # ---- a cycle
 
     def tick(self, now, hear):
-        """Cycle `now`; `hear(cycle)` is what a sample hears. The byte that is sent in it, or None."""
-        if self.stopped:
+        """Cycle `now`; `hear(number, cycle)` is what a sample hears. The byte that is sent in it, or None."""
+        if self.stopped or (self.rests and now not in self.script):
             return None
         self.now = now
         self.processor()
@@ -93,16 +93,22 @@ class Node:
         byte = self.usart.tick(now)
         if byte is not None:
             self.row(f"serial {byte:02X}")
-        if self.spi.ends_at(now):
-            return self.transfer(hear)
-        return None
+        sent = self.transfer(hear) if self.spi.ends_at(now) else None
+        self.rests = self.asleep and self.is_quiet()
+        return sent
+
+    def is_quiet(self):
+        """Whether nothing happens any more before a byte arrives, while the node sleeps."""
+        running = any(timer.control & 7 for timer in self.timers.values())
+        busy = running or self.usart.frame is not None or self.spi.end is not None
+        return not busy and (not self.sreg >> I & 1 or self.due() is None)
 
     def transfer(self, hear):
         selected = self.io[0x37] & 1 == 1 and self.io[0x38] & 1 == 0
         answer, sent, samples = self.radio.transfer(self.now, selected, self.spi.out)
         self.spi.finish(answer)
         if samples:
-            heard = hear(self.now)
+            heard = hear(self.number, self.now)
             self.radio.heard(heard)
             self.row("heard %d %02X %d" % heard)
         if sent is not None:

@@ -173,7 +173,7 @@ class Network:
         for cycle in range(self.limit):
             for node in self.nodes:
                 if not node.stopped:
-                    sent = node.tick(cycle, lambda at, k=node.number: self.sample(k, at))
+                    sent = node.tick(cycle, self.sample)
                     if sent is not None:
                         self.sends.append((node.number, cycle, sent))
         for node in self.nodes:
