@@ -3,10 +3,11 @@
 
     bench/network/compare.py PROGRAM [COUNT [FIRST]]
 
-runs `PROGRAM run FILE` and `PROGRAM run --plain FILE` on COUNT drawn networks (100), from number FIRST (0) on (each tenth a
-long one), and on another of each in which one byte is just heard, or just not. It ends with the counts of what was compared. Where a trace
-differs it tells the first line that does, keeps the files, and its exit status is 1.
+runs `PROGRAM run FILE` and `PROGRAM run --plain FILE` on COUNT drawn networks (100), from number FIRST (0) on, each tenth a
+long one, and on another of each, in which one byte is just heard, or just not. It ends with the counts of what was
+compared. Where a trace differs it tells the first line that does, keeps the files, and its exit status is 1.
 """
+import shutil
 import subprocess
 import sys
 import tempfile
@@ -79,7 +80,7 @@ def main():
         print(f"{name}: {value}")
     print(f"different: {different}" + (f" (files in {top})" if different else ""))
     if not different:
-        subprocess.run(["rm", "-r", str(top)], check=True)
+        shutil.rmtree(top)
     sys.exit(1 if different else 0)
 
 
