@@ -35,8 +35,8 @@ pub fn made(
         Limits::Read(number) => held.store(alloc, &[number])?,
         _ => held.store(alloc, &[])?,
     };
-    let mut out = sink(alloc, if let Limits::Out(room) = limits { room } else { AMPLE })?;
-    let mut err = sink(alloc, if let Limits::Err(room) = limits { room } else { AMPLE })?;
+    let mut out = sink(alloc, limits.out_room(AMPLE))?;
+    let mut err = sink(alloc, limits.err_room(AMPLE))?;
     let status = avrora_alone(alloc, words, &mut store, &mut out, &mut err);
     Ok(Outcome {
         status: status.number(),
