@@ -3,6 +3,7 @@
 The generators of stored cases (bench/machine_cases.py) take their expected values from it. It shares nothing with the
 crates: instructions come from a table of patterns, flags from their arithmetic meaning, and no cycle is leapt over.
 """
+import functools
 import re
 
 CAUSES = ["reserved opcode", "undefined operands", "spm", "break", "sleep mode", "pwm mode", "external timer clock",
@@ -544,6 +545,7 @@ def fields_of(pattern, text, first, second):
     return f
 
 
+@functools.cache
 def decoded(first, second):
     """The row of a word and its fields; None where there is none."""
     for value, mask, pattern, text, cycles, effect in ROWS:
@@ -644,12 +646,16 @@ class Core:
         at = at % 65536 * 2
         return self.flash[at] | self.flash[at + 1] << 8
 
-    def execute(self, first, second):
-        """One instruction at the program counter: its cycles. A stop leaves what its accesses did, and the rest as it was."""
+    def execute(self, first, second, instead=None):
+        """One instruction at the program counter: its cycles. A stop leaves what its accesses did, and the rest as it was.
+
+        `instead` has other cycles, or None, and another effect, to be tried in place of its own."""
         row = decoded(first, second)
         if row is None:
             raise Stop("reserved opcode")
         text, f, cycles, effect = row
+        if instead:
+            cycles, effect = (cycles if instead[0] is None else instead[0]), instead[1]
         old = self.pc
         self.pc = (old + (2 if text.split()[0] in TWO_WORDS else 1)) % 65536
         try:
