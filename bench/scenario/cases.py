@@ -328,6 +328,21 @@ def alone(out):
             out(f"alone {name} {edit}", t.bytes(), wanted if version == 3 else None)
 
 
+def strangers(out):
+    """Each key of any table in each table that has none of that name."""
+    every = sorted(TOP | {"image", "from", "to", "open", "at", "hex", "every", "name", "rate", "script"})
+    for version in (None, 1, 2, 3):
+        for kind, rows_of in (("top", None), ("node", "nodes"), ("link", "links"), ("input", "inputs")):
+            for key in every:
+                t = Text(version)
+                row = t.top if rows_of is None else getattr(t, rows_of)[0]
+                known = TOP if kind == "top" else keys_of(version or 1, kind)
+                if key in known:
+                    continue
+                row[key] = "1"
+                out(f"stranger {version or 'none'} {kind} {key}", t.bytes(), "UnknownKey")
+
+
 def pairs(out):
     done = list(edits())
     for i, (a, _, first) in enumerate(done):
@@ -548,7 +563,7 @@ class Cases:
 
 
 def main(folder):
-    groups = {"alone": alone, "pairs": pairs, "kinds": kinds, "bounds": bounds, "prefixes": prefixes, "forms": forms}
+    groups = {"alone": alone, "strangers": strangers, "pairs": pairs, "kinds": kinds, "bounds": bounds, "prefixes": prefixes, "forms": forms}
     data = folder / "data"
     data.mkdir(exist_ok=True)
     wanted = []

@@ -1,5 +1,6 @@
 // The devices, and the lines that do something to them.
 use crate::answers::{Answer, text_of};
+use crate::board::{CoreAndBoard, do_board};
 use crate::clocks::{do_clocks, do_interrupts};
 use crate::radio::do_radio;
 use crate::serial::{do_script, do_usart};
@@ -34,6 +35,7 @@ pub struct Bench {
     spi: Spi,
     usart: Usart,
     radio: Radio,
+    board: CoreAndBoard,
 }
 
 impl Bench {
@@ -48,6 +50,7 @@ impl Bench {
             spi: Spi::new(),
             usart: Usart::new(),
             radio: Radio::new(512),
+            board: CoreAndBoard::new(),
         }
     }
 
@@ -71,6 +74,7 @@ impl Bench {
             "usart" => do_usart(&mut self.usart, words),
             "script" => do_script(self.alloc, words),
             "radio" => do_radio(&mut self.radio, words),
+            "board" => do_board(&mut self.board, words),
             "clocks" => do_clocks(words),
             "interrupts" => do_interrupts(words),
             _ => None,

@@ -5,6 +5,7 @@
 
 mod answers;
 mod bench;
+mod board;
 mod clocks;
 mod numbers;
 mod radio;

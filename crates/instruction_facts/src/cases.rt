@@ -7,7 +7,9 @@ use crate::flags::ruled;
 use crate::machine::Machine;
 use crate::numbers::{hex, hex_byte, hex_words};
 use crate::sweeps::swept;
-use crate::texts::{has_line, has_text, length_of_texts, words_at, words_of, words_of_width};
+use crate::texts::{
+    has_cause, has_line, has_text, length_of_texts, words_at, words_of, words_of_width,
+};
 use avr_base::Sreg;
 use ihex_loader::{Flash, flash_of};
 use std::alloc::{AllocError, Global};
@@ -199,6 +201,12 @@ fn judge_text(numbers: &[u16], gives: &str) -> Option<Verdict> {
     }
 }
 
+// The text of a cause by its number.
+fn judge_cause(number: &str, gives: &str) -> Option<Verdict> {
+    let number = number.parse::<u8>().ok()?;
+    Some(Verdict::of(has_cause(number, gives)))
+}
+
 // A number over all operands or all words.
 fn judge_all(what: &str, name: &str, gives: &str) -> Option<Verdict> {
     let wanted = gives.parse::<u64>().ok()?;
@@ -238,6 +246,9 @@ fn judge_case(
     let (what, operands) = front(action);
     if is_of_all(what) {
         return Ok(judge_all(what, operands, gives));
+    }
+    if what == "cause" {
+        return Ok(judge_cause(operands, gives));
     }
     let Some(numbers) = hex_words(alloc, operands)? else {
         return Ok(None);

@@ -26,13 +26,23 @@ pub fn hex_byte(word: &str) -> Option<u8> {
     u8::try_from(hex(word)?).ok()
 }
 
-/// The hexadecimal numbers in a text; `None` where a word is no such number.
+// A word: a number, or `COUNT*NUMBER`, which is the number so many times.
+fn counted(word: &str) -> Option<(u16, u16)> {
+    match word.split_once('*') {
+        Some((count, n)) => Some((hex(count)?, hex(n)?)),
+        None => Some((1, hex(word)?)),
+    }
+}
+
+/// The hexadecimal numbers in a text, `COUNT*NUMBER` as often as it says; `None` where a word is no such number.
 pub fn hex_words(alloc: Global, text: &str) -> Result<Option<Vec<u16>>, AllocError> {
     let mut numbers = Vec::new(alloc);
     for word in text.split_whitespace() {
-        match hex(word) {
-            Some(n) => numbers.push(n)?,
-            None => return Ok(None),
+        let Some((count, n)) = counted(word) else {
+            return Ok(None);
+        };
+        for _ in 0..count {
+            numbers.push(n)?;
         }
     }
     Ok(Some(numbers))

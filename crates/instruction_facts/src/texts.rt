@@ -1,8 +1,47 @@
-// Cases of the decoder and of the texts of instructions.
+// Cases of the decoder, of the texts of instructions and of the causes of a stop.
 use arrayvec::ArrayString;
 use avr_base::StopCause;
 use avr_decoder::{Class, class, decode, one_row_at_most, width};
 use avr_disassembler::{line, text};
+
+// The causes by their numbers, from 1 on.
+static CAUSES: [StopCause; 26] = [
+    StopCause::ReservedOpcode,
+    StopCause::UndefinedOperands,
+    StopCause::Spm,
+    StopCause::BreakOp,
+    StopCause::SleepMode,
+    StopCause::PwmMode,
+    StopCause::ExternalTimerClock,
+    StopCause::CompareOutput,
+    StopCause::ForcedCompare,
+    StopCause::InputCapture,
+    StopCause::Prescaler,
+    StopCause::UsartMode,
+    StopCause::SpiSlave,
+    StopCause::ExternalMemory,
+    StopCause::Watchdog,
+    StopCause::Eeprom,
+    StopCause::Adc,
+    StopCause::Comparator,
+    StopCause::Twi,
+    StopCause::ExternalInterrupt,
+    StopCause::ClockDivision,
+    StopCause::AsyncTimer,
+    StopCause::MovedVectors,
+    StopCause::Usart1,
+    StopCause::ReservedAddress,
+    StopCause::PastMemory,
+];
+
+/// Whether the cause in this place has its number, and this text.
+pub fn has_cause(number: u8, wanted: &str) -> bool {
+    let causes = CAUSES;
+    match causes.get(usize::from(number).wrapping_sub(1)) {
+        Some(cause) => cause.number() == number && cause.text() == wanted,
+        None => false,
+    }
+}
 
 /// Whether this is the text of the instruction of a word and the word behind it.
 pub fn has_text(word: u16, next: u16, wanted: &str) -> bool {
