@@ -1,17 +1,13 @@
 -- What one try adds to the looks before it.
-use Rattle.std.proofs.Common.{◌≡◌, ℕ, suc, true, false, List, [], ◌∷◌, ◌++◌, replicate, sym, ◌∙◌, ap, subst, append_assoc, append-nil}
+use Rattle.std.proofs.Common.{◌≡◌, ℕ, suc, List, [], ◌∷◌, ◌++◌, replicate, sym, ◌∙◌, ap, subst, append_assoc}
 use Rattle.world_core.specs.declared.world.WorldFacts.{WorldFacts}
-use Rattle.world_core.specs.Settled.{truth}
-use Rattle.clock_words.specs.Seats.{NodeFacts, node_asked}
+use Rattle.clock_words.specs.Seats.{NodeFacts}
 use Rattle.air_record.specs.Looks.{IsBehind}
 use Rattle.neighbour_sync.specs.Looks.{peeked, looked, AreSeenPast}
 use Rattle.neighbour_sync.specs.Waits.{IsEnd}
 use Rattle.neighbour_sync.proofs.Seeing.{all_after, look_peek, look_more, zeros_more}
 
 -- ---- within a try: a is the seat before it, b after some looks, c after one more round of looks
-pub asked_once : (a b : NodeFacts) → b ≡ node_asked a false → b ≡ looked a [] (0 ∷ [])
-asked_once a b e = e ∙ ap (λ (l : List (ℕ × ℕ)). record a { loads = l; halts = a.halts ++ 0 ∷ [] }) (sym (append-nil a.loads))
-
 -- that b is a but for its looks, and of the world w
 on_first : (P : WorldFacts → ℕ → Type 0) (w : WorldFacts) (a b : NodeFacts) (m : List (ℕ × ℕ)) (h : List ℕ) → a.world ≡ w → b ≡ looked a m h → P b.world b.number → P w a.number
 on_first P w a b m h scene e p = subst (λ (v : WorldFacts). P v a.number) scene (subst (λ (x : NodeFacts). P x.world x.number) e p)
@@ -32,9 +28,6 @@ far_enough w s a b c m n scene e seen f =
     (m ++ n, all_after w a.number s m n (on_first (λ v j. AreSeenPast v j s n) w a b m (0 ∷ []) scene e seen), look_peek a b c m n (0 ∷ []) e f)
 
 -- ---- within a wait: a is the seat before it, b after some tries, c after one more
-pub waits_none : (a : NodeFacts) → (tries : ℕ) × (loads : List (ℕ × ℕ)) × (a ≡ looked a loads (replicate tries 0))
-waits_none a = (0, [], (λ i. record a { loads = sym (append-nil a.loads) i; halts = sym (append-nil a.halts) i }))
-
 one_more : (a b c : NodeFacts) (tries : ℕ) (m n : List (ℕ × ℕ)) → b ≡ looked a m (replicate tries 0) → c ≡ looked b n (0 ∷ []) → c ≡ looked a (m ++ n) (replicate (suc tries) 0)
 one_more a b c tries m n e f = look_more a b c m n (replicate tries 0) (0 ∷ []) e f ∙ ap (looked a (m ++ n)) (zeros_more tries)
 
@@ -45,11 +38,3 @@ pub waits_end : (w : WorldFacts) (s : ℕ) (a b c : NodeFacts) (tries : ℕ) (m 
     → (loads : List (ℕ × ℕ)) × AreSeenPast w b.number s loads × (c ≡ looked b loads (0 ∷ [])) → IsEnd w a s c
 waits_end w s a b c tries m e (n, seen, f) =
     (tries, m ++ n, all_after w a.number s m n (subst (λ (x : NodeFacts). AreSeenPast w x.number s n) e seen), one_more a b c tries m n e f)
-
-pub waits_halted : (a b c : NodeFacts) (tries : ℕ) (m : List (ℕ × ℕ)) → b ≡ looked a m (replicate tries 0) → c ≡ node_asked b true
-    → (tries : ℕ) × (loads : List (ℕ × ℕ)) × (c ≡ looked a loads (replicate tries 0 ++ 1 ∷ []))
-waits_halted a b c tries m e f = (
-  tries,
-  m,
-  f ∙ ap (λ (x : NodeFacts). node_asked x true) e ∙ ap (λ (l : List ℕ). record a { loads = a.loads ++ m; halts = l }) (append_assoc a.halts (replicate tries 0) (1 ∷ [])),
-)

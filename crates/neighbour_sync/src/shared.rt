@@ -1,4 +1,6 @@
 // The lock, and the words beside it.
+ghost use Rattle.std.specs.Prelude.{◌≡◌};
+
 use crate::session::Session;
 use air_record::{Air, Posted};
 use clock_words::Clocks;
