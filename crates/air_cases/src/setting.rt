@@ -1,6 +1,5 @@
 // What the lines of a case file have set: a topology, with the sends and samples of a world.
-use crate::CaseFault;
-use crate::{Command, Section, byte_of};
+use crate::{CaseFault, Command, Section, byte_of};
 use std::alloc::Global;
 use world_core::{Ask, Heard, Link, ListWorld, Send, Span, Topo};
 

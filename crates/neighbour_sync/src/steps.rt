@@ -17,12 +17,7 @@ use std::sync::Wait;
 use world_core::{Sampled, Send, Topo, World};
 
 /// Posts a send under the lock until it stands in the record.
-pub fn record<W: World, N: Session, R: Wait>(
-    rt: &R,
-    shared: &Shared<W, N>,
-    send: Send,
-    number: u64,
-)
+pub fn record<W: World, N: Session, R: Wait>(rt: &R, shared: &Shared<W, N>, send: Send, number: u64)
     requires number { IsSendNumber N.world number send }
     requires early { send.cycle < N.floor + epoch }
 {

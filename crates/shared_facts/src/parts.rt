@@ -100,15 +100,21 @@ impl Parts {
     }
 
     /// Takes the steps of a line in a session of its own, and compares the answers. It gives the number of answers.
-    pub fn go<R: Wait>(self, rt: &R, alloc: Global, line: &[Section]) -> (Parts, Result<u32, Fault>) {
+    pub fn go<R: Wait>(
+        self,
+        rt: &R,
+        alloc: Global,
+        line: &[Section],
+    ) -> (Parts, Result<u32, Fault>) {
         let Parts {
             world,
             clocks,
             air,
             nodes,
         } = self;
-        let (clocks, air, nodes, ran) =
-            in_session::<Brand, R>(rt, alloc, clocks, air, nodes, &world, line);
+        let (clocks, air, nodes, ran) = in_session::<Brand, R>(
+            rt, alloc, clocks, air, nodes, &world, line,
+        );
         let parts = Parts {
             world,
             clocks,

@@ -15,11 +15,19 @@ struct Reader {
 
 // Whether a line that begins with this command has the steps of a session.
 fn is_step(command: Command) -> bool {
-    matches!(command, Command::Raise | Command::Post | Command::Try | Command::Wait | Command::Halt)
+    matches!(
+        command,
+        Command::Raise | Command::Post | Command::Try | Command::Wait | Command::Halt
+    )
 }
 
 // Cuts the record, or compares what it holds.
-fn stand<R: Wait>(rt: &R, alloc: Global, parts: &mut Parts, section: &Section) -> Result<(), Fault> {
+fn stand<R: Wait>(
+    rt: &R,
+    alloc: Global,
+    parts: &mut Parts,
+    section: &Section,
+) -> Result<(), Fault> {
     match (section.command, section.numbers.as_slice()) {
         (Command::Cut, [floor]) => parts.cut(rt, *floor),
         (Command::Record, numbers) => parts.expect_sends(&sends_of(alloc, numbers)?),

@@ -49,8 +49,10 @@ fn run_rounds<R: AllocGlobal + Threads + Wait + Sync>(
 fn main(rt: HostRuntime) -> io::Result<()> {
     let (work, count) = asked(&rt).unwrap_or((Work::Both, 1));
     match run_rounds(&rt, work, count) {
-        Some(round) => println!(rt; "{} sends and {} samples recorded, {} of them heard a byte",
-            round.sends, round.samples, round.heard),
+        Some(round) => println!(rt;
+            "{} sends and {} samples recorded, {} of them heard a byte",
+            round.sends, round.samples, round.heard
+        ),
         None => println!(rt; "there was no memory"),
     }
 }

@@ -40,10 +40,7 @@ pub struct Round {
 }
 
 // The parts of the nodes 0 and 1.
-fn two_of(
-    clocks: &Clocks<ListWorld>,
-    mut nodes: Vec<NodeAir>,
-) -> Option<(NodeAir, NodeAir)>
+fn two_of(clocks: &Clocks<ListWorld>, mut nodes: Vec<NodeAir>) -> Option<(NodeAir, NodeAir)>
     requires { AreFirstNodes clocks.now.table clocks.now.world nodes.items }
     ensures first { IfSome result (λ p. p.0 ≡ first_node clocks.now.table clocks.now.world 0) }
     ensures second { IfSome result (λ p. p.1 ≡ first_node clocks.now.table clocks.now.world 1) }
@@ -145,8 +142,7 @@ pub fn run_round<R: Threads + Wait + Sync>(
         return None;
     }
     let nodes = two_of(&clocks, nodes)?;
-    let (air, heard) =
-        in_session::<Brand, R>(rt, clocks, air, world, nodes, &sends, work);
+    let (air, heard) = in_session::<Brand, R>(rt, clocks, air, world, nodes, &sends, work);
     Some(Round {
         sends: air.sends().len(),
         samples: air.samples().len(),

@@ -1,10 +1,10 @@
-use Rattle.std.proofs.Common.{◌≡◌, ℕ, ◌<◌, ◌++◌, List, true, get_or, take, take_all, sym, ◌∙◌, ap, subst, arith}
+use Rattle.std.proofs.Common.{◌≡◌, ℕ, ◌<◌, ◌++◌, true, get_or, take, take_all, sym, ◌∙◌, ap, subst, arith}
 use Rattle.std.specs.List.{All}
 use Rattle.std.proofs.lemmas.List.Elements.{All-more}
 use Rattle.world_core.specs.Topology.{Topology, is_linked, neighbours}
 use Rattle.send_log.proofs.Neighbours.{are_linked}
 use Rattle.clock_words.specs.Seats.{NodeFacts}
-use Rattle.neighbour_sync.specs.Looks.{peeked, IsSeenPast}
+use Rattle.neighbour_sync.specs.Looks.{IsSeenPast}
 use Rattle.neighbour_sync.proofs.Seeing.{peek_more, all_before, seen_after}
 use Rattle.neighbour_sync.proofs.looking.first_behind.Goals as goal
 
@@ -25,8 +25,8 @@ loop-from-preserved g c =
       l.0 ++ n.0,
       peek_more old c.loop-from.seat c.late_clock.new.seat l.0 n.0 l.1 n.1,
       All-more (IsSeenPast old.world old.number c.args.cycle (l.0 ++ n.0)) xs i 0 c.loop-from-test.true
-      (all_before old.world old.number c.args.cycle (take i xs) l.0 n.0 l.2)
-      (seen_after old.world old.number c.args.cycle (get_or xs i 0) l.0 n.0 here),
+          (all_before old.world old.number c.args.cycle (take i xs) l.0 n.0 l.2)
+          (seen_after old.world old.number c.args.cycle (get_or xs i 0) l.0 n.0 here),
     )
 
 pub returns-clause-none : goal.returns-clause-none

@@ -1,4 +1,4 @@
-use Rattle.std.proofs.Common.{◌≡◌, ℕ, ◌∷◌, [], ◌++◌, ◌∙◌, ap, subst}
+use Rattle.std.proofs.Common.{◌∷◌, [], ◌++◌, ◌∙◌, ap, subst}
 use Rattle.world_core.specs.Settled.{truth}
 use Rattle.clock_words.specs.Seats.{NodeFacts}
 use Rattle.neighbour_sync.specs.declared.answers.Tried.{Tried}
