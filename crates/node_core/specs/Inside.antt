@@ -27,6 +27,13 @@ pub record IsCalm (t n : ℕ) (s : NodeState) : Type 0 where
   pub ends : (i : ℕ) → i < n → board_quiet (t + i) s.bus.board ≡ true
   pub none : (i : ℕ) → i < n → script_byte s.script (t + i) ≡ None
 
+-- a node that goes on with an instruction or an entry of n cycles, whose first cycle this is: of that the processor's part
+-- is done
+pub record IsGoing (n : ℕ) (s : NodeState) : Type 0 where
+  pub going : s.stop ≡ None
+  pub awake : s.asleep ≡ false
+  pub wait : n ≡ s.wait + 1
+
 -- in the middle of cycle t the node at s, which neither stopped nor sleeps, went on to the beginning of the next instruction's
 -- first cycle, n cycles later, and is at u: of these cycles the devices' part is done, and they ended nothing
 pub record IsPassed (t n : ℕ) (s u : NodeState) : Type 0 where

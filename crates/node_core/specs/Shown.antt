@@ -6,7 +6,7 @@ use Rattle.node_core.specs.State.{NodeState}
 abbrev pub shown : Machine → NodeState
 shown m = record {
   number = m.number;
-  flash = m.flash.bytes;
+  flash = m.program.bytes;
   script = m.script;
   from = m.from;
   to = m.to;

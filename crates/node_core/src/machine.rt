@@ -1,8 +1,8 @@
 // The inside of a node, cycle by cycle.
-ghost use Rattle.std.specs.Prelude.{◌≡◌, ◌<◌, ◌≤◌, ◌+◌, ◌^◌, ◌++◌, ◌&&◌, ◌||◌, nat_le, nat_lt, None, Some, true, is_some, IfOk, OnOk, OnErr, vec_len, vec_capacity};
+ghost use Rattle.std.specs.Prelude.{◌≡◌, ◌<◌, ◌≤◌, ◌+◌, ◌^◌, ◌++◌, ◌&&◌, ◌||◌, nat_le, nat_lt, None, Some, true, false, is_some, IfOk, OnOk, OnErr, vec_len, vec_capacity};
 ghost use Rattle.node_core.specs.Cycle.{acted, acted_rows, asks_after, asks_in, begun_in, begun_rows, cpu_cycle, cpu_rows, device_rows, devices_cycle, entered, entered_rows, finished_in, finished_rows, instructed, instructed_rows, is_idle, is_other, is_sei, is_sleep, owes, row, sends_after, sends_in, sent_rows, serial_rows};
 ghost use Rattle.trace_rows.specs.declared.row.Kind.TheVariants as kind;
-ghost use Rattle.node_core.specs.Inside.{IsAir};
+ghost use Rattle.node_core.specs.Inside.{IsAir, IsGoing};
 ghost use Rattle.node_core.specs.Interrupts.{due};
 ghost use Rattle.node_core.specs.Shown.{shown};
 ghost use Rattle.usart_port.specs.Script.{script_byte};
@@ -12,12 +12,12 @@ ghost use Rattle.interrupt_unit.specs.Lines.{pending_of};
 use crate::NodeBus;
 use crate::execute::execute;
 use crate::interrupts::enter;
-use crate::rows::{is_within, put_row, tell};
+use crate::rows::{is_within, put_row, tell, tell_instruction, unless_told};
 use avr_base::StopCause;
-use avr_decoder::{Op, decode};
+use avr_decoder::Op;
+use avr_program::Program;
 use board_io::Sleep;
 use data_space::Cpu;
-use ihex_loader::Flash;
 use interrupt_unit::Vector;
 use std::alloc::AllocError;
 use trace_rows::{Kind, Row};
@@ -99,7 +99,7 @@ pub enum Air {
 #[derive(Drop)]
 pub struct Machine {
     pub number: u8,
-    pub flash: Flash,
+    pub program: Program,
     pub script: Script,
     pub from: u64,
     pub to: u64,
@@ -131,15 +131,20 @@ impl Machine {
         self.stop = Some(cause);
     }
 
-    // The first cycle of an instruction.
+    // The first cycle of an instruction: how many it takes, or 0 where the node stopped, executed SLEEP, or has a row
+    // more.
     #[tactic(auto, unfolding(crate::specs::Cycle::instructed, crate::specs::Cycle::instructed_rows))]
-    fn instruct(&mut self, cycle: u64)
+    fn instruct(&mut self, cycle: u64) -> u8
+        requires going { self.old.stop ≡ None }
+        requires awake { self.old.asleep ≡ false }
         requires few { self.old.count ≤ 2 ^ 41 }
         requires now { self.old.bus.board.clock ≡ cycle }
         requires early { cycle ≤ 2 ^ 40 }
         requires room { vec_len self.old.rows < vec_capacity self.old.rows }
         ensures state { shown self.new ≡ instructed cycle (shown self.old) }
         ensures rows { self.new.rows.items ≡ self.old.rows.items ++ instructed_rows cycle (shown self.old) }
+        ensures going { 0 < result → IsGoing result (shown self.new) }
+        ensures same { 0 < result → vec_len self.new.rows ≡ vec_len self.old.rows }
         ensures used { vec_len self.new.rows ≤ vec_len self.old.rows + 1 }
         ensures room { vec_capacity self.new.rows ≡ vec_capacity self.old.rows }
         ensures count { self.new.count ≤ self.old.count + 1 }
@@ -147,39 +152,47 @@ impl Machine {
         ensures clock { self.new.bus.board.clock ≡ self.old.bus.board.clock }
     {
         let pc = self.cpu.pc;
-        let word = self.flash.word(pc);
-        let next = self.flash.word(pc.wrapping_add(1));
-        let node = self.number;
-        let op = decode(word, next);
+        let op = self.program.op(pc);
         if is_sleep(&op) && is_other(self.bus.board.sleep_mode()) {
             self.halt(cycle, pc, StopCause::SleepMode);
-            return;
+            return 0;
         }
         let sei = is_set_interrupts(&op);
         let before = self.cpu.sreg.bits;
         self.bus.at(cycle);
-        match execute(op, &self.flash, &mut self.cpu, &mut self.bus) {
+        match execute(op, self.program.flash(), &mut self.cpu, &mut self.bus) {
             Ok(done) => {
                 let told = is_within(self.from, self.to, cycle);
-                let kind = Kind::Instr { pc, word, next };
-                tell(&mut self.rows, told, Row { cycle, node, kind });
+                tell_instruction(&mut self.rows, told, &self.program, pc, cycle, self.number);
                 self.wait = done.cycles - 1;
                 self.owed = is_owed(sei, before, self.cpu.sreg.bits);
-                self.asleep = done.sleep && is_idle(self.bus.board.sleep_mode());
                 self.count += 1;
+                if done.sleep {
+                    self.asleep = is_idle(self.bus.board.sleep_mode());
+                    return 0;
+                }
+                unless_told(told, done.cycles)
             }
-            Err(cause) => self.halt(cycle, pc, cause),
+            Err(cause) => {
+                self.halt(cycle, pc, cause);
+                0
+            }
         }
     }
 
-    // The first cycle of an interrupt, of which so many cycles more follow.
+    // The first cycle of an interrupt, of which so many cycles more follow: how many it takes, or 0 where the node stopped
+    // or has a row more.
     #[tactic(auto, unfolding(crate::specs::Cycle::entered, crate::specs::Cycle::entered_rows))]
-    fn enter(&mut self, cycle: u64, wait: u8, vector: Vector)
+    fn enter(&mut self, cycle: u64, wait: u8, vector: Vector) -> u8
+        requires short { wait ≤ 7 }
+        requires going { self.old.stop ≡ None }
         requires now { self.old.bus.board.clock ≡ cycle }
         requires early { cycle ≤ 2 ^ 40 }
         requires room { vec_len self.old.rows < vec_capacity self.old.rows }
         ensures state { shown self.new ≡ entered cycle wait vector (shown self.old) }
         ensures rows { self.new.rows.items ≡ self.old.rows.items ++ entered_rows cycle vector (shown self.old) }
+        ensures going { 0 < result → IsGoing result (shown self.new) }
+        ensures same { 0 < result → vec_len self.new.rows ≡ vec_len self.old.rows }
         ensures used { vec_len self.new.rows ≤ vec_len self.old.rows + 1 }
         ensures room { vec_capacity self.new.rows ≡ vec_capacity self.old.rows }
         ensures count { self.new.count ≡ self.old.count }
@@ -200,8 +213,12 @@ impl Machine {
                 tell(&mut self.rows, told, Row { cycle, node, kind });
                 self.wait = wait;
                 self.asleep = false;
+                unless_told(told, wait + 1)
             }
-            Err(cause) => self.halt(cycle, back, cause),
+            Err(cause) => {
+                self.halt(cycle, back, cause);
+                0
+            }
         }
     }
 
@@ -225,14 +242,18 @@ impl Machine {
         }
     }
 
-    // What the processor does that waits for nothing.
-    fn act(&mut self, cycle: u64)
+    // What the processor does that waits for nothing: how many cycles its instruction or its entry takes, or 0 where the
+    // node stopped, sleeps, executed SLEEP, or has a row more.
+    fn act(&mut self, cycle: u64) -> u8
         requires few { self.old.count ≤ 2 ^ 41 }
         requires now { self.old.bus.board.clock ≡ cycle }
+        requires going { self.old.stop ≡ None }
         requires early { cycle ≤ 2 ^ 40 }
         requires room { vec_len self.old.rows < vec_capacity self.old.rows }
         ensures state { shown self.new ≡ acted cycle (shown self.old) (due (shown self.old)) }
         ensures rows { self.new.rows.items ≡ self.old.rows.items ++ acted_rows cycle (shown self.old) (due (shown self.old)) }
+        ensures going { 0 < result → IsGoing result (shown self.new) }
+        ensures same { 0 < result → vec_len self.new.rows ≡ vec_len self.old.rows }
         ensures used { vec_len self.new.rows ≤ vec_len self.old.rows + 1 }
         ensures room { vec_capacity self.new.rows ≡ vec_capacity self.old.rows }
         ensures count { self.new.count ≤ self.old.count + 1 }
@@ -241,28 +262,27 @@ impl Machine {
     {
         if let Some(vector) = self.due() {
             if self.asleep {
-                self.enter(cycle, 7, vector);
-                return;
+                return self.enter(cycle, 7, vector);
             }
             if !self.owed {
-                self.enter(cycle, 3, vector);
-                return;
+                return self.enter(cycle, 3, vector);
             }
         }
-        if !self.asleep {
-            self.instruct(cycle);
-        }
+        if self.asleep { 0 } else { self.instruct(cycle) }
     }
 
-    // The processor's part of a cycle.
+    // The processor's part of a cycle. The answer is as that of `act`, and 0 where it only waits.
     #[tactic(auto, unfolding(crate::specs::Cycle::cpu_cycle, crate::specs::Cycle::cpu_rows))]
-    pub fn process(&mut self, cycle: u64)
+    pub fn process(&mut self, cycle: u64) -> u8
         requires few { self.old.count ≤ 2 ^ 41 }
         requires now { self.old.bus.board.clock ≡ cycle }
+        requires going { self.old.stop ≡ None }
         requires early { cycle ≤ 2 ^ 40 }
         requires room { vec_len self.old.rows < vec_capacity self.old.rows }
         ensures state { shown self.new ≡ cpu_cycle cycle (shown self.old) }
         ensures rows { self.new.rows.items ≡ self.old.rows.items ++ cpu_rows cycle (shown self.old) }
+        ensures going { 0 < result → IsGoing result (shown self.new) }
+        ensures same { 0 < result → vec_len self.new.rows ≡ vec_len self.old.rows }
         ensures used { vec_len self.new.rows ≤ vec_len self.old.rows + 1 }
         ensures room { vec_capacity self.new.rows ≡ vec_capacity self.old.rows }
         ensures count { self.new.count ≤ self.old.count + 1 }
@@ -271,8 +291,9 @@ impl Machine {
     {
         if self.wait > 0 {
             self.wait -= 1;
+            0
         } else {
-            self.act(cycle);
+            self.act(cycle)
         }
     }
 

@@ -8,6 +8,7 @@ ghost use Rattle.node_core.specs.Reached.{IsReached};
 use crate::NodeBus;
 use crate::machine::{Air, Machine};
 use avr_base::{NoMemory, StopCause};
+use avr_program::Program;
 use data_space::Cpu;
 use ihex_loader::Flash;
 use std::alloc::Global;
@@ -72,13 +73,14 @@ impl Node {
         requires most { byte_time ≤ 4096 }
         ensures { IfOk result (λ node. node ≡ record { cycle = 0; asking = false; state = reset number flash.bytes script window.0 window.1 byte_time; rows = [] }) }
     {
+        let program = Program::new(alloc, flash)?;
         let bus = NodeBus::new(alloc, byte_time)?;
         Ok(Node {
             cycle: 0,
             asking: false,
             machine: Machine {
                 number,
-                flash,
+                program,
                 script,
                 from: window.0,
                 to: window.1,

@@ -1,7 +1,10 @@
 // Rows, where there is room for them.
-ghost use Rattle.std.specs.Prelude.{◌≡◌, ◌<◌, ◌≤◌, ◌+◌, ◌++◌, ◌&&◌, nat_le, nat_lt, if◌then◌else◌, [], ◌∷◌, vec_len, vec_capacity};
+ghost use Rattle.std.specs.Prelude.{◌≡◌, ◌<◌, ◌≤◌, ◌+◌, ◌%◌, ◌++◌, ◌&&◌, nat_le, nat_lt, if◌then◌else◌, [], ◌∷◌, false, vec_len, vec_capacity};
+ghost use Rattle.ihex_loader.specs.Flash.{word_at};
+ghost use Rattle.trace_rows.specs.declared.row.Kind.TheVariants as kind;
 
-use trace_rows::Row;
+use avr_program::Program;
+use trace_rows::{Kind, Row};
 
 // Adds a row where there is room.
 pub fn put_row(rows: &mut Vec<Row>, row: Row)
@@ -18,6 +21,7 @@ pub fn tell(rows: &mut Vec<Row>, told: bool, row: Row)
     requires { vec_len rows.old < vec_capacity rows.old }
     ensures items { rows.new.items ≡ rows.old.items ++ (if told then row ∷ [] else []) }
     ensures len { vec_len rows.new ≤ vec_len rows.old + 1 }
+    ensures same { told ≡ false → vec_len rows.new ≡ vec_len rows.old }
     ensures room { vec_capacity rows.new ≡ vec_capacity rows.old }
 {
     if told {
@@ -25,9 +29,42 @@ pub fn tell(rows: &mut Vec<Row>, told: bool, row: Row)
     }
 }
 
-// Whether a cycle lies in a window, which is from its first number on and below its second.
+// The row of the instruction at an address, where it is to be told: its words are read only then.
+#[inline]
+pub fn tell_instruction(
+    rows: &mut Vec<Row>,
+    told: bool,
+    program: &Program,
+    pc: u16,
+    cycle: u64,
+    node: u8,
+)
+    requires { vec_len rows.old < vec_capacity rows.old }
+    ensures items { rows.new.items ≡ rows.old.items ++ (if told then (record { cycle = cycle; node = node; kind = kind.Instr pc (word_at program.now.bytes pc) (word_at program.now.bytes ((pc + 1) % 65536)) }) ∷ [] else []) }
+    ensures len { vec_len rows.new ≤ vec_len rows.old + 1 }
+    ensures same { told ≡ false → vec_len rows.new ≡ vec_len rows.old }
+    ensures room { vec_capacity rows.new ≡ vec_capacity rows.old }
+{
+    if told {
+        let word = program.word(pc);
+        let next = program.word(pc.wrapping_add(1));
+        let kind = Kind::Instr { pc, word, next };
+        put_row(rows, Row { cycle, node, kind });
+    }
+}
+
+// So many cycles, or 0 where there is a row.
+#[inline]
+pub fn unless_told(told: bool, cycles: u8) -> u8
+    ensures cycles { 0 < result → result ≡ cycles }
+    ensures told { 0 < result → told ≡ false }
+{
+    if told { 0 } else { cycles }
+}
+
+// Whether a cycle lies in a window, which is from its first number on and below its second. Most lie behind it.
 pub fn is_within(from: u64, to: u64, cycle: u64) -> bool
     ensures { result ≡ (nat_le from cycle && nat_lt cycle to) }
 {
-    from <= cycle && cycle < to
+    cycle < to && from <= cycle
 }

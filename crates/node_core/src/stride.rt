@@ -1,6 +1,6 @@
 // Whole instructions of a node up to the next event of its devices.
 ghost use Rattle.std.specs.Prelude.{◌≡◌, ◌≤◌, ◌<◌, ◌+◌, ◌-◌, ◌^◌, ℕ, None, true, false, vec_len, vec_capacity};
-ghost use Rattle.node_core.specs.Inside.{IsPassed};
+ghost use Rattle.node_core.specs.Inside.{IsGoing, IsPassed};
 ghost use Rattle.node_core.specs.Midway.{IsMidway};
 ghost use Rattle.node_core.specs.Shown.{shown};
 ghost use Rattle.usart_port.specs.Script.{script_byte};
@@ -8,25 +8,17 @@ ghost use Rattle.usart_port.specs.Script.{script_byte};
 use crate::machine::Machine;
 
 impl Machine {
-    // Whether a node neither stopped nor sleeps, and there are no rows beside the first so many.
+    // The devices' part of the cycle `cycle`, in which an instruction begins that takes `taken` cycles, and its other cycles,
+    // if they are no more than `most`, in none of which a byte arrives, and the devices end nothing in them: how many it
+    // were. 0 where it is not so, and where `taken` is 0.
     #[inline]
-    fn goes_on(&self, rows: usize) -> bool
-        ensures going { result ≡ true → self.now.stop ≡ None }
-        ensures room { result ≡ true → vec_len self.now.rows ≡ rows }
-    {
-        self.stop.is_none() && !self.asleep && self.rows.len() == rows
-    }
-
-    // The devices' part of the cycle `cycle`, and the cycles that its instruction still waits, if they are fewer than
-    // `most`, in none of which a byte arrives, and nothing happens in them: how many it were. None for a node that
-    // stopped or sleeps, or has rows beside the first so many: it is left to others.
-    #[inline]
-    fn finish_instruction(&mut self, cycle: u64, most: u64, rows: usize) -> u64
+    fn finish_instruction(&mut self, cycle: u64, most: u64, taken: u8) -> u64
+        requires going { 0 < taken → IsGoing taken (shown self.old) }
         requires now { self.old.bus.board.clock ≡ cycle }
         requires none { (i : ℕ) → i < most → script_byte self.old.script (cycle + i) ≡ None }
         ensures passed { 0 < result → IsPassed cycle result (shown self.old) (shown self.new) }
         ensures same { result ≡ 0 → self.new ≡ self.old }
-        ensures room { 0 < result → vec_len self.old.rows ≡ rows }
+        ensures some { 0 < result → 0 < taken }
         ensures rows { self.new.rows ≡ self.old.rows }
         ensures stop { self.new.stop ≡ self.old.stop }
         ensures script { self.new.script ≡ self.old.script }
@@ -34,8 +26,8 @@ impl Machine {
         ensures clock { self.new.bus.board.clock ≡ cycle + result }
         ensures within { result ≤ most }
     {
-        let n = u64::from(self.wait) + 1;
-        if n > most || !self.goes_on(rows) {
+        let n = u64::from(taken);
+        if n == 0 || n > most {
             return 0;
         }
         if !self.bus.board.passes(n) {
@@ -61,11 +53,10 @@ impl Machine {
         ensures within { result < most }
     {
         let last = self.script.quiet(cycle, most - 1);
-        let rows = self.rows.len();
         let mut n = 0;
         loop {
-            self.process(cycle + n);
-            let more = self.finish_instruction(cycle + n, last - n, rows);
+            let taken = self.process(cycle + n);
+            let more = self.finish_instruction(cycle + n, last - n, taken);
             if more == 0 {
                 return n;
             }

@@ -22,7 +22,7 @@ loop-cycle-init c =
       clock = c.requires.now ∙ sym (add-zero t);
       script = refl;
       count = omega (arith, c.requires.few);
-      len = sym c.len-rows.ensures;
+      len = refl;
       capacity = refl;
     }
 
@@ -33,9 +33,9 @@ loop-cycle-preserved c =
     let i = c.loop-cycle.invariant in
     let v : Timed NodeState Row = record { cycle = t; asking = false; state = shown c.args.self.now; rows = c.args.self.now.rows.items } in
     let s : NodeState = shown c.loop-cycle.self in
-    let u : NodeState = shown c.process.new.self in
-    let k = c.process.new.self.rows.items in
-    let e = c.process.ensures in
+    let u : NodeState = shown c.process-taken.new.self in
+    let k = c.process-taken.new.self.rows.items in
+    let e = c.process-taken.ensures in
     let f = c.finish_instruction-more.ensures in
     let more : ℕ = c.finish_instruction-more.result in
     let some : 0 < more = omega (arith, c.if-more-eq0.false) in
@@ -52,7 +52,7 @@ loop-cycle-preserved c =
       clock = f.clock ∙ next;
       script = f.script ∙ (e.script ∙ i.script);
       count = omega (arith, f.count, e.count, i.count);
-      len = ap (λ x. vec_len x) f.rows ∙ f.room some;
+      len = ap (λ x. vec_len x) f.rows ∙ (e.same (f.some some) ∙ i.len);
       capacity = ap (λ x. vec_capacity x) f.rows ∙ (e.room ∙ i.capacity);
     }
 
@@ -60,7 +60,7 @@ pub finish_instruction-more-requires-clause-none : goal.finish_instruction-more-
 finish_instruction-more-requires-clause-none c i l =
     let t : ℕ = c.args.cycle in
     let n : ℕ = c.loop-cycle.n in
-    let script = c.process.ensures.script ∙ c.loop-cycle.invariant.script in
+    let script = c.process-taken.ensures.script ∙ c.loop-cycle.invariant.script in
     let there : t + (n + i) ≡ t + n + i = omega arith in
     ap (λ (x : ScriptBytes). script_byte x (t + n + i)) script
     ∙ subst (λ (at : ℕ). script_byte c.args.self.now.script at ≡ None) there (c.quiet-last.ensures.none (n + i) (omega (arith, l)))

@@ -13,7 +13,7 @@ invariant-loop-cycle l = record {
   clock : l.self.bus.board.clock ≡ l.cycle + l.n;
   script : l.self.script ≡ l.fn.self.script;
   count : l.self.count ≤ 2 ^ 40 + l.cycle + l.n;
-  len : vec_len l.self.rows ≡ l.rows;
+  len : vec_len l.self.rows ≡ vec_len l.fn.self.rows;
   capacity : vec_capacity l.self.rows ≡ vec_capacity l.fn.self.rows;
 }
 

@@ -1,0 +1,7 @@
+//! A program as a processor reads it: its flash, and beside it the instructions of the words that the image gave, decoded
+//! once. A node cannot write its program memory, so they never change.
+#![tactic(auto)]
+
+mod program;
+
+pub use program::Program;
