@@ -1,5 +1,6 @@
 // What the lines of a case file have set: a topology, with the sends and samples of a world.
-use crate::{CaseFault, Command, Section, byte_of};
+use crate::fault::Fault;
+use crate::words::{Command, Section, byte_of};
 use std::alloc::Global;
 use world_core::{Ask, Heard, Link, ListWorld, Send, Span, Topo};
 
@@ -17,17 +18,17 @@ pub struct Setting {
     asks: Vec<Ask>,
 }
 
-fn link_of(numbers: &[u64]) -> Result<Link, CaseFault> {
+fn link_of(numbers: &[u64]) -> Result<Link, Fault> {
     match numbers {
         [from, to] => Ok(Link {
             from: byte_of(*from)?,
             to: byte_of(*to)?,
         }),
-        _ => Err(CaseFault::Unreadable),
+        _ => Err(Fault::Unreadable),
     }
 }
 
-fn links_of(alloc: Global, numbers: &[u64]) -> Result<Vec<Link>, CaseFault> {
+fn links_of(alloc: Global, numbers: &[u64]) -> Result<Vec<Link>, Fault> {
     let mut links = Vec::new(alloc);
     for numbers in numbers.chunks(2) {
         links.push(link_of(numbers)?)?;
@@ -35,18 +36,18 @@ fn links_of(alloc: Global, numbers: &[u64]) -> Result<Vec<Link>, CaseFault> {
     Ok(links)
 }
 
-fn span_of(numbers: &[u64]) -> Result<Span, CaseFault> {
+fn span_of(numbers: &[u64]) -> Result<Span, Fault> {
     match numbers {
         [link, from, until] => Ok(Span {
-            link: u32::try_from(*link).map_err(|_| CaseFault::Unreadable)?,
+            link: u32::try_from(*link).map_err(|_| Fault::Unreadable)?,
             from: *from,
             until: *until,
         }),
-        _ => Err(CaseFault::Unreadable),
+        _ => Err(Fault::Unreadable),
     }
 }
 
-fn spans_of(alloc: Global, numbers: &[u64]) -> Result<Vec<Span>, CaseFault> {
+fn spans_of(alloc: Global, numbers: &[u64]) -> Result<Vec<Span>, Fault> {
     let mut spans = Vec::new(alloc);
     for numbers in numbers.chunks(3) {
         spans.push(span_of(numbers)?)?;
@@ -54,19 +55,19 @@ fn spans_of(alloc: Global, numbers: &[u64]) -> Result<Vec<Span>, CaseFault> {
     Ok(spans)
 }
 
-fn send_of(numbers: &[u64]) -> Result<Send, CaseFault> {
+fn send_of(numbers: &[u64]) -> Result<Send, Fault> {
     match numbers {
         [node, cycle, byte] => Ok(Send {
             node: byte_of(*node)?,
             cycle: *cycle,
             byte: byte_of(*byte)?,
         }),
-        _ => Err(CaseFault::Unreadable),
+        _ => Err(Fault::Unreadable),
     }
 }
 
 /// A list of sends, each by its node, cycle and byte.
-pub fn sends_of(alloc: Global, numbers: &[u64]) -> Result<Vec<Send>, CaseFault> {
+pub fn sends_of(alloc: Global, numbers: &[u64]) -> Result<Vec<Send>, Fault> {
     let mut sends = Vec::new(alloc);
     for numbers in numbers.chunks(3) {
         sends.push(send_of(numbers)?)?;
@@ -74,17 +75,17 @@ pub fn sends_of(alloc: Global, numbers: &[u64]) -> Result<Vec<Send>, CaseFault> 
     Ok(sends)
 }
 
-fn ask_of(numbers: &[u64]) -> Result<Ask, CaseFault> {
+fn ask_of(numbers: &[u64]) -> Result<Ask, Fault> {
     match numbers {
         [node, cycle] => Ok(Ask {
             node: byte_of(*node)?,
             cycle: *cycle,
         }),
-        _ => Err(CaseFault::Unreadable),
+        _ => Err(Fault::Unreadable),
     }
 }
 
-fn asks_of(alloc: Global, numbers: &[u64]) -> Result<Vec<Ask>, CaseFault> {
+fn asks_of(alloc: Global, numbers: &[u64]) -> Result<Vec<Ask>, Fault> {
     let mut asks = Vec::new(alloc);
     for numbers in numbers.chunks(2) {
         asks.push(ask_of(numbers)?)?;
@@ -92,7 +93,7 @@ fn asks_of(alloc: Global, numbers: &[u64]) -> Result<Vec<Ask>, CaseFault> {
     Ok(asks)
 }
 
-fn sample_of(numbers: &[u64]) -> Result<(Ask, Heard), CaseFault> {
+fn sample_of(numbers: &[u64]) -> Result<(Ask, Heard), Fault> {
     match numbers {
         [node, cycle, status, byte, age] => {
             let ask = Ask {
@@ -106,12 +107,12 @@ fn sample_of(numbers: &[u64]) -> Result<(Ask, Heard), CaseFault> {
             };
             Ok((ask, heard))
         }
-        _ => Err(CaseFault::Unreadable),
+        _ => Err(Fault::Unreadable),
     }
 }
 
 /// A list of samples, each by its node and cycle, and the status, byte and age that it heard.
-pub fn samples_of(alloc: Global, numbers: &[u64]) -> Result<Vec<(Ask, Heard)>, CaseFault> {
+pub fn samples_of(alloc: Global, numbers: &[u64]) -> Result<Vec<(Ask, Heard)>, Fault> {
     let mut samples = Vec::new(alloc);
     for numbers in numbers.chunks(5) {
         samples.push(sample_of(numbers)?)?;
@@ -119,7 +120,7 @@ pub fn samples_of(alloc: Global, numbers: &[u64]) -> Result<Vec<(Ask, Heard)>, C
     Ok(samples)
 }
 
-fn copy_of(alloc: Global, numbers: &[u64]) -> Result<Vec<u64>, CaseFault> {
+fn copy_of(alloc: Global, numbers: &[u64]) -> Result<Vec<u64>, Fault> {
     let mut list = Vec::new(alloc);
     list.extend_from_slice(numbers)?;
     Ok(list)
@@ -142,7 +143,7 @@ impl Setting {
     }
 
     // Sets the numbers of a topology that has no links and no spans yet.
-    fn set_topo(&mut self, alloc: Global, numbers: &[u64]) -> Result<(), CaseFault> {
+    fn set_topo(&mut self, alloc: Global, numbers: &[u64]) -> Result<(), Fault> {
         match numbers {
             [nodes, limit, latency, byte_time] => {
                 self.nodes = byte_of(*nodes)?;
@@ -154,12 +155,12 @@ impl Setting {
                 self.spans = Vec::new(alloc);
                 Ok(())
             }
-            _ => Err(CaseFault::Unreadable),
+            _ => Err(Fault::Unreadable),
         }
     }
 
     /// Sets what the section says, or answers false where it says nothing of a world.
-    pub fn set(&mut self, alloc: Global, section: &Section) -> Result<bool, CaseFault> {
+    pub fn set(&mut self, alloc: Global, section: &Section) -> Result<bool, Fault> {
         let numbers = section.numbers.as_slice();
         match section.command {
             Command::Topo => self.set_topo(alloc, numbers)?,
@@ -173,7 +174,7 @@ impl Setting {
         Ok(true)
     }
 
-    fn topo(&self) -> Result<Topo, CaseFault> {
+    fn topo(&self) -> Result<Topo, Fault> {
         let links = self.links.clone()?;
         let own = self.own.clone()?;
         let spans = self.spans.clone()?;
@@ -186,14 +187,14 @@ impl Setting {
             own,
             spans,
         );
-        made.map_err(|_| CaseFault::Unreadable)
+        made.map_err(|_| Fault::Unreadable)
     }
 
     /// The world that is set.
-    pub fn world(&self) -> Result<ListWorld, CaseFault> {
+    pub fn world(&self) -> Result<ListWorld, Fault> {
         let topo = self.topo()?;
         let sends = self.sends.clone()?;
         let asks = self.asks.clone()?;
-        ListWorld::new(topo, sends, asks).map_err(|_| CaseFault::Unreadable)
+        ListWorld::new(topo, sends, asks).map_err(|_| Fault::Unreadable)
     }
 }
