@@ -24,7 +24,7 @@ HEAD = """\
 # without the carry, Z kept or not, signed or unsigned, another pointer, another flag, RAMPZ used or not, ..), in as few rows as do it.
 #
 # Source: the table of instructions and the rules of flags of the AVR Instruction Set Manual, as bench/machine.py has them;
-# bench/instruction_cases.py draws the operands and writes this file. The first rows of each section were asked for by hand.
+# bench/instruction_cases.py draws the operands and writes this file. The operands of the first section were chosen by hand.
 #
 # The forms are those of flow.txt; COUNT*WORD of a flash is a word so many times. The flash has bytes of its own around 0x00000,
 # 0x0FFFF, 0x10004 and 0x1FFFF.
@@ -527,7 +527,7 @@ def z_at(at):
     return {30: at % 256, 31: at // 256}
 
 
-# What was asked for by hand: settings, words. SBCI and the like with Z clear and a carry; a product over its own operand;
+# Chosen by hand: what a row shows, settings, words. SBCI and the like with Z clear and a carry; a product over its own operand;
 # flash above 0xFFFF; displacements that wrap.
 BY_HAND = [
     ("SBCI keeps a clear Z", {16: 0x05, 0x5F: 0x01}, 0x4004, 0),
