@@ -1,0 +1,153 @@
+// What a node does with the shared air.
+use crate::answers::{Passed, Tried};
+use crate::session::Session;
+use crate::shared::Shared;
+use crate::steps::{record, see_posted, try_once};
+use clock_words::NodeSeat;
+use crossbeam_utils::Backoff;
+use std::marker::Model;
+use std::sync::Wait;
+use world_core::{Send, Topo, World};
+
+/// A node's part of the air: its seat at the clock words, and the topology, by which it sees for whom it has to wait.
+#[derive(Drop)]
+pub struct NodeAir {
+    seat: NodeSeat,
+    topo: Topo,
+}
+
+impl Model for NodeAir {
+    ghost use Rattle.std.specs.Prelude.{◌≡◌};
+    ghost use Rattle.clock_words.specs.Seats.{NodeFacts};
+
+    ghost Value = { NodeFacts };
+
+    ghost view = { λ n. n.seat };
+
+    ghost invariant = { λ n. n.topo ≡ n.seat.world.topo };
+}
+
+impl NodeAir {
+    ghost use Rattle.std.specs.Prelude.{◌≡◌, ◌+◌, ◌≤◌, ◌<◌};
+    ghost use Rattle.std.specs.List.{Contains};
+    ghost use Rattle.world_core.specs.Sends.{sends_below, IsSendNumber};
+    ghost use Rattle.clock_words.specs.Seats.{node_raised, node_told, node_stopped};
+    ghost use Rattle.air_record.specs.Record.{epoch};
+    ghost use Rattle.neighbour_sync.specs.Tries.{IsTried};
+    ghost use Rattle.neighbour_sync.specs.Waits.{IsPassed};
+
+    pub(crate) fn of(seat: NodeSeat, topo: Topo) -> NodeAir
+        requires { topo ≡ seat.world.topo }
+        ensures { result ≡ seat }
+    {
+        NodeAir { seat, topo }
+    }
+
+    /// The number of the node.
+    pub fn number(&self) -> u8
+        ensures { result ≡ self.now.number }
+    {
+        self.seat.number()
+    }
+
+    /// The node's clock: a cycle, 0 to the limit.
+    pub fn clock(&self) -> u64
+        ensures { result ≡ self.now.clock }
+    {
+        self.seat.clock()
+    }
+
+    /// How many of the node's sends it last saw to be posted. There may be more by now, and never less.
+    pub fn told(&self) -> u64
+        ensures { result ≡ self.now.told }
+    {
+        self.seat.told()
+    }
+
+    /// Raises the node's clock to this cycle, so that others need not wait for its sends below it. It takes no lock.
+    /// The clock may not fall or pass the limit, and the node has to have seen that all its sends below it are posted.
+    pub fn raise<W: World, N: Session>(&mut self, shared: &Shared<W, N>, clock: u64)
+        requires session { (self.old.table ≡ N.table) × (self.old.world ≡ N.world) }
+        requires rises { self.old.clock ≤ clock }
+        requires within { clock ≤ N.world.topo.limit }
+        requires told { sends_below N.world.sends self.old.number clock ≤ self.old.told }
+        ensures { self.new ≡ node_raised self.old clock }
+    {
+        shared.clocks().raise(&mut self.seat, clock);
+    }
+
+    /// Posts a send of the node, which is number `number` of its sends, counted from 0, and lies below the session's floor and
+    /// an epoch. It posts under the lock until the send stands in the record, and then looks until it sees that, so that the
+    /// node's next raise may pass it. It takes no memory.
+    pub fn post<W: World, N: Session, R: Wait>(
+        &mut self,
+        rt: &R,
+        shared: &Shared<W, N>,
+        send: Send,
+        number: u64,
+    )
+        requires session { (self.old.table ≡ N.table) × (self.old.world ≡ N.world) }
+        requires node { send.node ≡ self.old.number }
+        requires number { IsSendNumber N.world number send }
+        requires early { send.cycle < N.floor + epoch }
+        ensures told { number < self.new.told }
+        ensures rises { self.old.told ≤ self.new.told }
+        ensures same { self.new ≡ node_told self.old self.new.told }
+    {
+        record(rt, shared, send, number);
+        see_posted(rt, shared.clocks(), &mut self.seat, number);
+    }
+
+    /// Tries to take one of the node's samples, not below the session's floor. It looks at the halt first, then at the clocks
+    /// of the nodes that it may hear, and takes the lock only where it has seen all of them far enough; but for the lock it
+    /// waits for nobody. What is heard is what all sends of the world give, and is recorded.
+    /// `Halted` exactly where its look at the halt gave 1. `NotYet` only where the clock that it names was looked at last, is of
+    /// a node that may be heard, and is not past the last cycle whose sends may be heard.
+    pub fn try_sample<W: World, N: Session, R: Wait>(
+        &mut self,
+        rt: &R,
+        shared: &Shared<W, N>,
+        cycle: u64,
+    ) -> Tried
+        requires session { (self.old.table ≡ N.table) × (self.old.world ≡ N.world) }
+        requires asked { Contains N.world.asks record { node = self.old.number; cycle = cycle } }
+        requires floor { N.floor ≤ cycle }
+        ensures { IsTried N.world self.old cycle result self.new }
+    {
+        try_once(rt, shared, &mut self.seat, &self.topo, cycle)
+    }
+
+    /// Takes one of the node's samples, not below the session's floor, as soon as the nodes that it may hear are far enough.
+    /// While it waits it looks at words, and at the lock not at all. `Halted` only where its last look at the halt gave 1, and
+    /// no earlier one did.
+    pub fn sample_when_passed<W: World, N: Session, R: Wait>(
+        &mut self,
+        rt: &R,
+        shared: &Shared<W, N>,
+        cycle: u64,
+    ) -> Passed
+        requires session { (self.old.table ≡ N.table) × (self.old.world ≡ N.world) }
+        requires asked { Contains N.world.asks record { node = self.old.number; cycle = cycle } }
+        requires floor { N.floor ≤ cycle }
+        ensures { IsPassed N.world self.old cycle result self.new }
+    {
+        let backoff = Backoff::new();
+        for _ in rt.forever() {
+            match self.try_sample(rt, shared, cycle) {
+                Tried::Heard(heard) => return Passed::Heard(heard),
+                Tried::NotYet { .. } => backoff.snooze(),
+                Tried::Halted => return Passed::Halted,
+                Tried::NoMemory => return Passed::NoMemory,
+            }
+        }
+        unreachable!()
+    }
+
+    /// Tells all nodes to halt, for good. It takes no lock.
+    pub fn halt<W: World, N: Session>(&mut self, shared: &Shared<W, N>)
+        requires session { (self.old.table ≡ N.table) × (self.old.world ≡ N.world) }
+        ensures { self.new ≡ node_stopped self.old }
+    {
+        shared.clocks().halt(&mut self.seat);
+    }
+}
