@@ -3,31 +3,14 @@
 #![tactic(auto)]
 
 use avrora_top::{Status, avrora_alone};
+use real_program::{borrowed, owned_words};
 use sim_io::{DirStore, Sink, SinkFault, StdSink, Store, write_all};
-use std::alloc::{AllocError, Global};
-use std::env::{self, Env};
+use std::alloc::Global;
 use std::io;
 use std::process::ExitCode;
 
 // The exit status where the words of the command line cannot be had: for want of memory, or where one is no UTF-8.
 const NO_WORDS: u8 = 9;
-
-// The words after the program's name.
-fn owned_words<R: Env + AllocGlobal>(rt: &R) -> Option<Vec<String>> {
-    let mut words = Vec::new(rt.alloc());
-    for word in env::args(rt).ok()?.skip(1) {
-        words.push(word).ok()?;
-    }
-    Some(words)
-}
-
-fn borrowed<'w>(alloc: Global, owned: &'w [String]) -> Result<Vec<&'w str>, AllocError> {
-    let mut words = Vec::new(alloc);
-    for word in owned {
-        words.push(word.as_str())?;
-    }
-    Ok(words)
-}
 
 // The line `== FILE CYCLES` before a trace.
 fn write_heading<O: Sink>(file: &str, cycles: &str, out: &mut O) -> Result<(), SinkFault> {

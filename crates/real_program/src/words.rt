@@ -1,0 +1,25 @@
+// The words of the command line.
+ghost use Rattle.std.specs.Prelude.{◌≡◌, IfOk, map, string_bytes};
+
+use std::alloc::{AllocError, Global};
+use std::env::{self, Env};
+
+/// The words after the program's name; `None` where they cannot be had: for want of memory, or where one is no UTF-8.
+pub fn owned_words<R: Env + AllocGlobal>(rt: &R) -> Option<Vec<String>> {
+    let mut words = Vec::new(rt.alloc());
+    for word in env::args(rt).ok()?.skip(1) {
+        words.push(word).ok()?;
+    }
+    Some(words)
+}
+
+/// The words as the top call takes them: the same, in their order.
+pub fn borrowed<'w>(alloc: Global, owned: &'w [String]) -> Result<Vec<&'w str>, AllocError>
+    ensures { IfOk result (λ words. map (λ w. w.now) words.items ≡ map string_bytes owned.entry.now) }
+{
+    let mut words = Vec::new(alloc);
+    for word in owned {
+        words.push(word.as_str())?;
+    }
+    Ok(words)
+}
