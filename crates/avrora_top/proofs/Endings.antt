@@ -57,6 +57,6 @@ pub ends_job : {A : Type 0} (files : Files) (plan : Plan) (job : Job) (store sto
     → Reached files plan (Give job) → store' ≡ store → JobEnds job out out' r → Ends files plan store store' out out' (end_of r)
 ends_job files plan job store store' out out' (Result.Ok x) reached same h = (same, (job, accepts files plan job reached, h))
 ends_job files plan job store store' out out' (Result.Err trouble.OutFailed) reached same h = (same, (job, accepts files plan job reached, h))
-ends_job files plan job store store' out out' (Result.Err trouble.NoMemory) reached same h = (same, inr (job, accepts files plan job reached, h))
+ends_job files plan job store store' out out' (Result.Err trouble.NoMemory) reached same h = (same, inr (job, accepts files plan job reached, h.0, h.1))
 ends_job files plan job store store' out out' (Result.Err (trouble.ReadFailed name)) reached same h = absurd h
 ends_job files plan job store store' out out' (Result.Err (trouble.Refused c)) reached same h = absurd h

@@ -102,3 +102,11 @@ images_stop files names i done name store store' t h at left one next =
 
 pub images_pushed : (files : Files) (names : List (List ℕ)) (i : ℕ) (done new : List Image) → new ≡ done → Left files names i done → Left files names i new
 images_pushed files names i done new e left = subst (λ (d : List Image). Left files names i d) (sym e) left
+
+-- the store tells the same, and no read failed so far
+pub stops_moved : (files files' : Files) (p : Plan) (store mid store' : Reads) (t : Trouble) → files' ≡ files → mid ≡ store
+    → StopsAt files' p mid store' t → StopsAt files p store store' t
+stops_moved files files' p store mid store' t e f h = subst (λ m. StopsAt files p m store' t) f (subst (λ (fs : Files). StopsAt fs p mid store' t) e h)
+
+pub reached_moved : (files files' : Files) (p q : Plan) → files' ≡ files → Reached files' p q → Reached files p q
+reached_moved files files' p q e h = subst (λ (fs : Files). Reached fs p q) e h

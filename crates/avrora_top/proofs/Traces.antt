@@ -1,5 +1,5 @@
 -- The trace of a run, epoch by epoch.
-use Rattle.std.proofs.Common.{◌≡◌, ◌≢◌, ℕ, zero, suc, ◌+◌, ◌-◌, ◌<◌, ◌≤◌, Bool, true, false, cond, ◌==◌, List, [], ◌++◌, Option, refl, sym, subst, ap, ◌∙◌, arith, append-nil, append_assoc}
+use Rattle.std.proofs.Common.{◌≡◌, ◌≢◌, ℕ, zero, suc, ◌+◌, ◌-◌, ◌<◌, ◌≤◌, Bool, true, false, cond, ◌==◌, List, [], ◌++◌, Option, Some, None, refl, sym, subst, ap, ◌∙◌, arith, append-nil, append_assoc}
 use Rattle.std.specs.List.{flat_map}
 use Rattle.std.proofs.lemmas.Grind.{flat_map-append}
 use Rattle.std.proofs.lemmas.Bool.Decides.{nat_tests}
@@ -13,8 +13,9 @@ use Rattle.node_core.specs.State.{NodeState}
 use Rattle.world_core.specs.NodeKind.{ticked_rows}
 use Rattle.world_core.specs.Each.{each_below}
 use Rattle.global_order.specs.Order.{Fleet, Moment, world_after, world_at, hears, end_rows, run_rows}
-use Rattle.node_runner.specs.Scenario.{ScenarioOf, fleet_of}
+use Rattle.node_runner.specs.Scenario.{ScenarioOf, IsScenario, fleet_of}
 use Rattle.fleet_plain.specs.Run.{rows_upto}
+use Rattle.fleet_plain.proofs.Epoch.{first_rows}
 use Rattle.avrora_top.specs.Network.{trace_of}
 
 -- a list begins with another one
@@ -27,17 +28,21 @@ made : Fleet NodeState Row → ℕ → List Row
 made f n = each_below f.topo.nodes (λ k. ticked_rows f.kind (f.start + n) ((world_after f n).state k) (hears f (f.start + n) (world_after f n) k))
 
 rows_next : (f : Fleet NodeState Row) (n : ℕ) → (world_after f (suc n)).rows ≡ (world_after f n).rows ++ made f n
-unfolding world_after
+unfolding world_after made
 rows_next f n = refl
 
 -- what happened so far is not altered by what comes
 rows_later : (f : Fleet NodeState Row) (n m : ℕ) → Begins (world_after f n).rows (world_after f (m + n)).rows
-rows_later f n zero = record { rest = []; parts = sym (append-nil (world_after f n).rows) }
+rows_later f n zero =
+    let e : 0 + n ≡ n = omega arith in
+    record { rest = []; parts = ap (λ k. (world_after f k).rows) e ∙ sym (append-nil (world_after f n).rows) }
 rows_later f n (suc m) =
     let h = rows_later f n m in
+    let e : suc m + n ≡ suc (m + n) = omega arith in
     record {
       rest = h.rest ++ made f (m + n);
-      parts = rows_next f (m + n) ∙ ap (λ l. l ++ made f (m + n)) h.parts ∙ append_assoc (world_after f n).rows h.rest (made f (m + n));
+      parts = ap (λ k. (world_after f k).rows) e ∙ rows_next f (m + n) ∙ ap (λ l. l ++ made f (m + n)) h.parts
+          ∙ append_assoc (world_after f n).rows h.rest (made f (m + n));
     }
 
 equal : (a b : ℕ) → a ≡ b → (a == b) ≡ true
@@ -45,6 +50,9 @@ equal a b e = grind (arith, nat_tests)
 
 differ : (a b : ℕ) → a ≢ b → (a == b) ≡ false
 differ a b e = grind (arith, nat_tests)
+
+pub meets : (m n : ℕ) → true ≡ (m == n) → m ≡ n
+meets m n e = grind (arith, nat_tests)
 
 -- at the limit the rows are those of the whole run
 pub rows_whole : (sc : ScenarioOf) (c : ℕ) → c ≡ sc.topo.limit → rows_upto (fleet_of sc) c ≡ run_rows (fleet_of sc)
@@ -79,9 +87,19 @@ text_parts : (a b : List Row) → rows_text (a ++ b) ≡ rows_text a ++ rows_tex
 unfolding rows_text
 text_parts a b = flat_map-append row_line a b
 
-pub text_none : rows_text [] ≡ []
+nothing_taken : (o : Option (List ℕ)) → o ≡ extended o []
+nothing_taken None = refl
+nothing_taken (Some old) = ap Some (sym (append-nil old))
+
+text_none : rows_text [] ≡ []
 unfolding rows_text
 text_none = refl
+
+-- before the first epoch a sink took no row
+pub taken_first : (o : Option (List ℕ)) (sc : ScenarioOf) (c : ℕ) → IsScenario sc → c ≡ 0 → o ≡ extended o (rows_text (rows_upto (fleet_of sc) c))
+taken_first o sc c ok e =
+    let none : rows_upto (fleet_of sc) c ≡ [] = ap (rows_upto (fleet_of sc)) e ∙ first_rows sc ok in
+    nothing_taken o ∙ ap (extended o) (sym (ap rows_text none ∙ text_none))
 
 -- a sink took the text of these rows, and now that of the next ones
 pub taken_next : (o p q : Option (List ℕ)) (before rows after : List Row) → p ≡ extended o (rows_text before) → after ≡ before ++ rows → q ≡ extended p (rows_text rows)

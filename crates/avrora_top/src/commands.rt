@@ -1,6 +1,6 @@
 // The commands, behind the words that ask for them.
 ghost use Rattle.std.specs.Prelude.{◌≤◌};
-ghost use Rattle.command_words.specs.Words.{Node, Run, Check, Disasm};
+ghost use Rattle.command_words.specs.Words.{Node, Run, RunPlain, Check, Disasm};
 ghost use Rattle.avrora_top.specs.Plan.{DisasmJob, plan_of};
 ghost use Rattle.avrora_top.specs.Ends.{Ends, JobEnds, end_of, reads, stream};
 ghost use Rattle.avrora_top.specs.TopClause.{Called};
@@ -68,16 +68,16 @@ pub fn disasm<'w, S: Store, O: Sink>(
     }
 }
 
-/// `run FILE`: the trace of the network of the scenario in `file`. It says itself how it ended, since the line on `err` may name a
+/// `run --plain FILE`: the trace of the network of the scenario in `file`, on one thread. It says itself how it ended, since the line on `err` may name a
 /// file of the scenario's own.
-pub fn run<'w, S: Store, O: Sink, E: Sink>(
+pub fn run_plain<'w, S: Store, O: Sink, E: Sink>(
     alloc: Global,
     file: &'w str,
     store: &mut S,
     out: &mut O,
     err: &mut E,
 ) -> Status
-    ensures { Called (S.held store.old) (plan_of (Run file.entry.now))
+    ensures { Called (S.held store.old) (plan_of (RunPlain file.entry.now))
         (reads (S.faults store.old) (S.failed store.old)) (reads (S.faults store.new) (S.failed store.new))
         (stream (O.taken out.old) (O.faults out.old)) (stream (O.taken out.new) (O.faults out.new))
         (stream (E.taken err.old) (E.faults err.old)) (stream (E.taken err.new) (E.faults err.new)) result }
@@ -93,6 +93,23 @@ pub fn run<'w, S: Store, O: Sink, E: Sink>(
     let network = Scenario::new(text, images);
     let outcome = write_trace(alloc, &network, out);
     report(err, outcome)
+}
+
+/// `run FILE`: the same trace. On one thread too, until nodes have threads of their own.
+#[tactic(auto, unfolding(crate::specs::Plan::plan_of))]
+pub fn run<'w, S: Store, O: Sink, E: Sink>(
+    alloc: Global,
+    file: &'w str,
+    store: &mut S,
+    out: &mut O,
+    err: &mut E,
+) -> Status
+    ensures { Called (S.held store.old) (plan_of (Run file.entry.now))
+        (reads (S.faults store.old) (S.failed store.old)) (reads (S.faults store.new) (S.failed store.new))
+        (stream (O.taken out.old) (O.faults out.old)) (stream (O.taken out.new) (O.faults out.new))
+        (stream (E.taken err.old) (E.faults err.old)) (stream (E.taken err.new) (E.faults err.new)) result }
+{
+    run_plain(alloc, file, store, out, err)
 }
 
 /// `check FILE`: the size of the network of the scenario in `file`; the scenario and its images are read as `run` reads them.

@@ -6,7 +6,7 @@ ghost use Rattle.avrora_top.specs.Ends.{Refused, reads, stream};
 ghost use Rattle.avrora_top.specs.TopClause.{Called, Reported, TopClause};
 
 use crate::Status;
-use crate::commands::{check, disasm, node, run};
+use crate::commands::{check, disasm, node, run, run_plain};
 use crate::report::report;
 use crate::trouble::{Complaint, Trouble};
 use command_words::{Order, read_words};
@@ -35,7 +35,7 @@ fn call<'w, S: Store, O: Sink, E: Sink>(
             report(err, outcome)
         }
         Some(Order::Run { file }) => run(alloc, file, store, out, err),
-        Some(Order::RunPlain { file }) => run(alloc, file, store, out, err),
+        Some(Order::RunPlain { file }) => run_plain(alloc, file, store, out, err),
         Some(Order::Check { file }) => check(alloc, file, store, out, err),
         Some(Order::Disasm { file }) => {
             let outcome = disasm(alloc, file, store, out);

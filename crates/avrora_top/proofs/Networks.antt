@@ -1,0 +1,48 @@
+-- How a command over a network ends: at the scenario, at an image, or with its job.
+use Rattle.std.proofs.Common.{◌≡◌, ℕ, List, Result, ◌∙◌, subst}
+use Rattle.ihex_loader.specs.Flash.{Image}
+use Rattle.scenario_file.specs.Scenario.{ScenarioParts}
+use Rattle.node_runner.specs.Scenario.{ScenarioOf}
+use Rattle.avrora_top.specs.Network.{network_of}
+use Rattle.avrora_top.specs.Plan.{Plan, Give, Job, images_plan, network_plan, scenario_plan}
+use Rattle.avrora_top.specs.Reading.{Files, Reached}
+use Rattle.avrora_top.specs.Ends.{Ends, JobEnds, Reads, Stream, StopsAt, end_at, end_of}
+use Rattle.avrora_top.specs.declared.trouble.Trouble.{Trouble}
+use Rattle.avrora_top.proofs.Steps.{both, stops_on, stops_moved, reached_moved}
+use Rattle.avrora_top.proofs.Endings.{ends_stopped, ends_job}
+
+module _ (files files' : Files) (name : List ℕ) (job : ScenarioOf → Job) where
+  -- what is left behind the scenario
+  abbrev Rest : ScenarioParts → Plan
+  Rest parts = images_plan parts.images (λ images. Give (job (network_of parts images)))
+
+  abbrev Whole : Plan
+  Whole = network_plan name (λ network. Give (job network))
+
+  pub ends_at_scenario : (store store' : Reads) (out : Stream) (t : Trouble)
+      → ((next : ScenarioParts → Plan) → StopsAt files (scenario_plan name next) store store' t)
+      → Ends files Whole store store' out out (end_at t)
+  ends_at_scenario store store' out t stops = ends_stopped files Whole store store' out t (stops Rest)
+
+  pub ends_at_image : (parts : ScenarioParts) (store mid store' : Reads) (out : Stream) (t : Trouble) → files' ≡ files → mid ≡ store
+      → ((next : ScenarioParts → Plan) → Reached files (scenario_plan name next) (next parts))
+      → ((next : List Image → Plan) → StopsAt files' (images_plan parts.images next) mid store' t)
+      → Ends files Whole store store' out out (end_at t)
+  ends_at_image parts store mid store' out t e f reached stops =
+      ends_stopped files Whole store store' out t
+      (stops_on files Whole (Rest parts) store store' t (reached Rest)
+      (stops_moved files files' (Rest parts) store mid store' t e f (stops (λ images. Give (job (network_of parts images))))))
+
+  pub ends_with_job : {A : Type 0} (parts : ScenarioParts) (images : List Image) (network : ScenarioOf) (store mid store' : Reads) (out out' : Stream) (r : Result A Trouble)
+      → files' ≡ files → mid ≡ store → store' ≡ mid
+      → ((next : ScenarioParts → Plan) → Reached files (scenario_plan name next) (next parts))
+      → ((next : List Image → Plan) → Reached files' (images_plan parts.images next) (next images))
+      → network ≡ network_of parts images → JobEnds (job network) out out' r
+      → Ends files Whole store store' out out' (end_of r)
+  ends_with_job parts images network store mid store' out out' r e f h reached more same ends =
+      let made : ScenarioOf = network_of parts images in
+      ends_job files Whole (job made) store store' out out' r
+      (both files Whole (Rest parts) (Give (job made)) (reached Rest)
+      (reached_moved files files' (Rest parts) (Give (job made)) e (more (λ it. Give (job (network_of parts it))))))
+      (h ∙ f)
+      (subst (λ n. JobEnds (job n) out out' r) same ends)
