@@ -48,7 +48,7 @@ fn no_scripts(alloc: Global, nodes: u8) -> Result<Vec<Script>, NoMemory>
     ensures { IfOk result (λ scripts. scripts.items ≡ map (λ k. no_script) (range_with_len 0 nodes)) }
 {
     let mut scripts = Vec::new(alloc);
-    for _k in 0..nodes {
+    for _node in 0..nodes {
         let script = Script::new(0, EVERY, Vec::new(alloc));
         if scripts.push(script).is_err() {
             return Err(NoMemory);
