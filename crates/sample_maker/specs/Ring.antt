@@ -6,7 +6,7 @@ use Rattle.std.specs.Prelude.{ℕ, ◌+◌, ◌-◌, ◌*◌, ◌/◌, ◌%◌, 
 abbrev pub ldi : ℕ → ℕ → ℕ
 ldi d k = 0xE000 + 256 * (k / 16) + 16 * (d - 16) + k % 16
 
--- The words of the firmware, whose first byte to be sent and whose rounds of waiting are given.
+-- The words of the firmware, with the first byte that it gives the radio to send, and its rounds of waiting.
 unfoldable pub ring_words : ℕ → ℕ → List ℕ
 ring_words byte rounds =
     -- the stack pointer to 0x10FF, the end of the SRAM

@@ -1,4 +1,5 @@
--- The sample of a number: a network in a ring, each node of which sends and samples without end. Own to this simulator.
+-- The sample of a number: a network in a ring, each node of which sends and samples the air without end. Own to this
+-- simulator.
 use Rattle.std.specs.Prelude.{ℕ, ◌+◌, ◌*◌, ◌%◌, List, map}
 use Rattle.std.specs.List.{range_with_len}
 use Rattle.ihex_loader.specs.Flash.{Image, image_of_words}
@@ -7,7 +8,7 @@ use Rattle.node_runner.specs.Scenario.{ScenarioOf}
 use Rattle.sample_maker.specs.Ring.{ring_words}
 use Rattle.sample_maker.specs.Network.{ring_topology}
 
--- the first byte that node k sends
+-- the first byte that node k gives its radio to send
 abbrev pub first_byte : ℕ → ℕ → ℕ
 first_byte number k = (number + 37 * k) % 256
 

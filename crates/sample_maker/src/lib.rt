@@ -1,4 +1,4 @@
-//! A large network from a number, the same on every machine: a ring of nodes that send and sample without end. And how
+//! A large network from a number, the same on every machine: a ring of nodes that send and sample the air without end. And how
 //! often the nodes of a run sent, and what they heard: four counts by which two runs of a sample are compared.
 #![tactic(auto)]
 

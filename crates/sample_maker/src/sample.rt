@@ -57,10 +57,10 @@ fn no_scripts(alloc: Global, nodes: u8) -> Result<Vec<Script>, NoMemory>
     Ok(scripts)
 }
 
-/// The sample of `number` with so many nodes, 1 to 64: a ring in which each node is heard by the next one, over 1,000,000
+/// The sample of `number`, with so many nodes, 1 to 64: a ring in which each node is heard by the next one, over 1,000,000
 /// cycles. A byte is heard for 512 cycles, from 1 to 4,096 cycles after its send on, as the number says; so it says of each
-/// node what it sends first and when. No byte arrives from outside, and no instruction is traced. `Err` only for want of
-/// memory.
+/// node which byte is its first and how long it waits before it. No byte arrives from outside, and no instruction is traced.
+/// `Err` only for want of memory.
 #[tactic(auto, unfolding(crate::specs::Sample::sample))]
 pub fn make(alloc: Global, number: u16, nodes: u8) -> Result<Scenario, NoMemory>
     requires some { 1 ≤ nodes }
