@@ -4,7 +4,7 @@ use crate::{Order, read_words};
 #[test]
 fn words(rt: HostRuntime) {
     let none: Option<Order<'static>> = None;
-    let rows: [(&[&str], Option<Order<'static>>, &str); 28] = [
+    let rows: [(&[&str], Option<Order<'static>>, &str); 38] = [
         (
             &["node", "a.hex", "8"],
             Some(Order::Node {
@@ -92,9 +92,27 @@ fn words(rt: HostRuntime) {
         ),
         (&["run"], none, "no file"),
         (&["walk", "a.toml"], none, "another command"),
+        (&["make", "0"], Some(Order::Make { number: 0 }), "a sample"),
+        (
+            &["make", "65535"],
+            Some(Order::Make { number: 65_535 }),
+            "the last sample",
+        ),
+        (
+            &["make", "00007"],
+            Some(Order::Make { number: 7 }),
+            "leading zeros of a sample",
+        ),
+        (&["make", "65536"], none, "no such sample"),
+        (&["make", "000007"], none, "six digits"),
+        (&["make", "+7"], none, "a sign of a sample"),
+        (&["make"], none, "no number"),
+        (&["make", "7", "8"], none, "a word too many for make"),
+        (&["help"], none, "a word of the library that splits"),
+        (&["node", "--help", "8"], none, "an option of that library"),
         (&[], none, "no words"),
     ];
     for (words, want, why) in rows.iter() {
-        assert!(rt; read_words(words) == *want, "{why}");
+        assert!(rt; read_words(rt.alloc(), words).ok() == Some(*want), "{why}");
     }
 }
