@@ -1,0 +1,214 @@
+#!/usr/bin/env python3
+"""Runs a scenario (docs/FORMATS.md) and writes the trace of the whole network, by the definitions: all nodes make one
+cycle after the other in order of their numbers, and a sample hears what the list of all sends gives.
+
+    bench/network/network.py FILE
+
+It shares nothing with the crates: it is written from docs/ and the AVR Instruction Set Manual, and reads TOML by Python's
+tomllib. It takes some microseconds for each cycle of a node, so it is for short runs. Exit status and error stream are
+those of `avrora run FILE`.
+"""
+import sys
+from pathlib import Path
+
+sys.path.insert(0, str(Path(__file__).resolve().parent.parent / "scenario"))
+
+import cases as scenario_rules  # noqa: E402
+from machine import Node  # noqa: E402
+
+MOST_SCENARIO, MOST_IMAGE, FLASH = 524_288, 1_048_576, 131_072
+
+
+class Refused(Exception):
+    """No run: the exit status, and the line for the error stream."""
+
+    def __init__(self, status, line):
+        super().__init__(line)
+        self.status, self.line = status, line
+
+
+# ---- Intel HEX
+
+
+def pairs(line):
+    """The bytes of a record, or None where the line is none."""
+    digits = line[1:]
+    if line[:1] != b":" or len(digits) % 2 or len(digits) < 10:
+        return None
+    if any(c not in b"0123456789abcdefABCDEF" for c in digits):
+        return None
+    return bytes.fromhex(digits.decode())
+
+
+def line_fault(line, base, ended):
+    if ended:
+        return "AfterEnd"
+    record = pairs(line)
+    if record is None:
+        return "NotARecord"
+    if sum(record) % 256:
+        return "BadSum"
+    count, offset, kind, data = record[0], record[1] << 8 | record[2], record[3], record[4:-1]
+    if kind > 5:
+        return "BadType"
+    if count != len(data) or kind in (1, 2, 3, 4, 5) and count != {1: 0, 2: 2, 3: 4, 4: 2, 5: 4}[kind]:
+        return "BadLength"
+    if kind == 0 and count and offset + count > 65_536:
+        return "Crossing"
+    if kind == 0 and count and base + offset + count > FLASH:
+        return "PastFlash"
+    return None
+
+
+def load(text):
+    """The flash of an image, or its first fault with its line (0 where the fault has none)."""
+    flash, base, ended = bytearray(b"\xff" * FLASH), 0, False
+    for number, line in enumerate(text.split(b"\n"), 1):
+        line = line.removesuffix(b"\r")
+        if not line.strip(b" \t"):
+            continue
+        fault = line_fault(line, base, ended)
+        if fault:
+            return None, fault, number
+        record = pairs(line)
+        at, kind, data = base + (record[1] << 8 | record[2]), record[3], record[4:-1]
+        if kind == 0:
+            flash[at : at + len(data)] = data
+        elif kind == 1:
+            ended = True
+        elif kind in (2, 4):
+            base = int.from_bytes(data, "big") << (4 if kind == 2 else 16)
+    return (flash, None, 0) if ended else (None, "NoEnd", 0)
+
+
+# ---- files
+
+
+class Folder:
+    """Files by their names. `reads` are the names in the order of reading."""
+
+    def __init__(self, path):
+        self.path, self.reads = path, []
+
+    def read(self, name):
+        self.reads.append(name)
+        try:
+            return Path(self.path, name).read_bytes()
+        except OSError:
+            raise Refused(3, f"avrora: cannot read {name}") from None
+
+
+def read_image(files, name):
+    text = files.read(name)
+    if len(text) > MOST_IMAGE:
+        raise Refused(5, f"avrora: {name}: image refused: TooLong")
+    flash, fault, line = load(text)
+    if fault:
+        place = f", line {line}" if line else ""
+        raise Refused(5, f"avrora: {name}: image refused: {fault}{place}")
+    return flash
+
+
+def read_scenario(files, name):
+    text = files.read(name)
+    fault = None
+    if len(text) > MOST_SCENARIO:
+        fault = "TooLong"
+    else:
+        document = scenario_rules.parse(text)
+        fault = "NotToml" if document is None else scenario_rules.fault_of(document)
+    if fault:
+        raise Refused(4, f"avrora: {name}: scenario refused: {fault}")
+    return document
+
+
+# ---- the network
+
+
+class Network:
+    """A scenario's numbers, and its nodes at reset."""
+
+    def __init__(self, document, flashes):
+        self.limit = document["cycles"]
+        self.byte_time = document.get("byte_time", 3072)
+        latency = document.get("latency", 3072)
+        self.links = {
+            (link["from"], link["to"]): (link.get("latency", latency), link.get("open"))
+            for link in document.get("link", [])
+        }
+        scripts = [{} for _ in flashes]
+        for it in document.get("input", []):
+            for place, byte in enumerate(bytes.fromhex(it["hex"])):
+                scripts[it["node"]][it["at"] + place * it.get("every", 7680)] = byte
+        window = document.get("window", [0, 0])
+        self.rows, self.sends, self.samples = [], [], []
+        self.nodes = [
+            Node(k, flash, scripts[k], window, self.byte_time, self.rows) for k, flash in enumerate(flashes)
+        ]
+
+    def audible(self, send, listener, cycle):
+        """Since when the send is heard by a sample of this node in this cycle, or None."""
+        node, sent, _ = send
+        if (node, listener) not in self.links:
+            return None
+        latency, spans = self.links[node, listener]
+        if spans is not None and not any(a <= sent < b for a, b in spans):
+            return None
+        return sent + latency if sent + latency <= cycle < sent + latency + self.byte_time else None
+
+    def heard(self, listener, cycle):
+        """What all sends so far give a sample: its status, byte and age."""
+        found = [(send, since) for send in self.sends if (since := self.audible(send, listener, cycle)) is not None]
+        if not found:
+            return (0, 0, 0)
+        if len(found) == 1:
+            (_, _, byte), since = found[0]
+            return (1, byte, min(255, (cycle - since) // 16))
+        both = 0
+        for (_, _, byte), _ in found:
+            both |= byte
+        return (2, both, 0)
+
+    def run(self):
+        for cycle in range(self.limit):
+            for node in self.nodes:
+                if not node.stopped:
+                    sent = node.tick(cycle, self.sample)
+                    if sent is not None:
+                        self.sends.append((node.number, cycle, sent))
+        for node in self.nodes:
+            self.rows.append(node.last_row(self.limit))
+
+    def sample(self, node, cycle):
+        heard = self.heard(node, cycle)
+        self.samples.append((node, cycle, heard))
+        return heard
+
+    def check(self):
+        """Whether what each sample heard is what the sends of the whole run give it."""
+        return all(self.heard(node, cycle) == heard for node, cycle, heard in self.samples)
+
+    def trace(self):
+        return "".join(f"{cycle} {node} {text}\n" for cycle, node, text in self.rows).encode()
+
+
+def open_network(files, name):
+    document = read_scenario(files, name)
+    flashes = [read_image(files, node["image"]) for node in document["node"]]
+    return Network(document, flashes)
+
+
+def main():
+    if len(sys.argv) != 2:
+        sys.exit("usage: network.py FILE")
+    try:
+        network = open_network(Folder("."), sys.argv[1])
+    except Refused as refused:
+        print(refused.line, file=sys.stderr)
+        sys.exit(refused.status)
+    network.run()
+    sys.stdout.buffer.write(network.trace())
+
+
+if __name__ == "__main__":
+    main()

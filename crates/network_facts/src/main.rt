@@ -1,0 +1,95 @@
+//! Runs of whole networks: for each that a text file tells, the status, the trace and the error stream of `run FILE`, and
+//! whether those of `run --plain FILE` are the same. Its stored run compares them with what a slow simulator that shares
+//! nothing with this one gives (`bench/network`).
+#![tactic(auto)]
+
+mod files;
+mod lines;
+mod runs;
+mod writing;
+
+use files::Held;
+use lines::{Line, read_line};
+use runs::{Outcome, made};
+use sim_io::{Sink, SinkFault, StdSink, write_all};
+use std::alloc::AllocError;
+use std::process::ExitCode;
+use std::{env, fs, io};
+use writing::{write_outcome, write_plain};
+
+// Why no more is written: a line that is none, a file that cannot be read, want of memory, or an output that fails.
+struct Failed;
+
+impl From<SinkFault> for Failed {
+    fn from(_fault: SinkFault) -> Self {
+        Failed
+    }
+}
+
+impl From<AllocError> for Failed {
+    fn from(_error: AllocError) -> Self {
+        Failed
+    }
+}
+
+fn hold_file(rt: &HostRuntime, name: &str, held: &mut Held) -> Result<(), Failed> {
+    let Ok(bytes) = fs::read(rt, name) else {
+        return Err(Failed);
+    };
+    Ok(held.add(rt.alloc(), name, bytes)?)
+}
+
+// A line of a case file, which is written too, but for the lines of files.
+fn do_line<O: Sink>(
+    rt: &HostRuntime,
+    text: &str,
+    held: &mut Held,
+    out: &mut O,
+) -> Result<(), Failed> {
+    let alloc = rt.alloc();
+    let Some(line) = read_line(text) else {
+        return Err(Failed);
+    };
+    if let Line::Content(content) = line {
+        return Ok(held.extend(content)?);
+    }
+    write_all(out, text.as_bytes())?;
+    write_all(out, b"\n")?;
+    match line {
+        Line::Comment | Line::Content(_) => Ok(()),
+        Line::File(name) => Ok(held.add(alloc, name, Vec::new(alloc))?),
+        Line::Copy(name) => hold_file(rt, name, held),
+        Line::Blank(name, length) => Ok(held.add_blank(alloc, name, length)?),
+        Line::Run(name, limits) => {
+            let outcome = made(alloc, &["run", name], limits, held)?;
+            let plain = made(alloc, &["run", "--plain", name], limits, held)?;
+            write_outcome(&outcome, out)?;
+            Ok(write_plain(&outcome, &plain, out)?)
+        }
+    }
+}
+
+// Each file that is named, line after line.
+fn do_files<O: Sink>(rt: &HostRuntime, out: &mut O) -> Result<(), Failed> {
+    let Ok(names) = env::args(rt) else {
+        return Err(Failed);
+    };
+    for name in names.skip(1) {
+        let Ok(text) = fs::read_to_string(rt, name.as_str()) else {
+            return Err(Failed);
+        };
+        let mut held = Held::none(rt.alloc());
+        for line in text.as_str().lines() {
+            do_line(rt, line, &mut held, out)?;
+        }
+    }
+    Ok(())
+}
+
+fn main(rt: HostRuntime) -> ExitCode {
+    let mut out = StdSink::new(io::writer(&rt));
+    match do_files(&rt, &mut out) {
+        Ok(()) => ExitCode::SUCCESS,
+        Err(Failed) => ExitCode::FAILURE,
+    }
+}
