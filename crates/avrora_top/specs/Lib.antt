@@ -1,5 +1,6 @@
 pub mod Listing
 pub mod Network
+pub mod Sample
 pub mod Plan
 pub mod Reading
 pub mod Ends

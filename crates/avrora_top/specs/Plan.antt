@@ -1,6 +1,6 @@
 -- What a command reads, in order, what comes of it, and what it writes.
 use Rattle.std.specs.Prelude.{ℕ, List, [], ◌∷◌, Option, Some, None, Result, Ok, Err}
-use Rattle.command_words.specs.Words.{Asked, Node, Run, RunPlain, Check, Disasm, asked_by}
+use Rattle.command_words.specs.Words.{Asked, Node, Run, RunPlain, Check, Disasm, Make, asked_by}
 use Rattle.ihex_loader.specs.Flash.{Image}
 use Rattle.ihex_loader.specs.Image.{hex_fault, image}
 use Rattle.ihex_loader.specs.declared.fault.HexFault.{HexFault}
@@ -9,6 +9,7 @@ use Rattle.scenario_file.specs.declared.fault.ScenarioFault.{ScenarioFault}
 use Rattle.node_runner.specs.Scenario.{ScenarioOf}
 use Rattle.avrora_top.specs.Listing.{listing}
 use Rattle.avrora_top.specs.Network.{lone_node, network_of, size_line, trace_of}
+use Rattle.avrora_top.specs.Sample.{sample_line}
 use Rattle.avrora_top.specs.declared.trouble.ImageCause.{ImageCause}
 use Rattle.avrora_top.specs.declared.trouble.ImageCause.TheVariants as cause
 use Rattle.avrora_top.specs.declared.trouble.ScenarioCause.{ScenarioCause}
@@ -22,12 +23,15 @@ pub data Job : Type 0 where
   SizeJob : (network : ScenarioOf) → Job
   -- the listing of this image
   DisasmJob : (flash : Image) → Job
+  -- what came out of the sample of this number
+  SampleJob : (number : ℕ) → Job
 
 -- what a job writes to `out`
 unfoldable pub output : Job → List ℕ
 output (TraceJob network) = trace_of network
 output (SizeJob network) = size_line network
 output (DisasmJob flash) = listing flash
+output (SampleJob number) = sample_line number
 
 -- why a call is refused
 pub data Refusal : Type 0 where
@@ -79,6 +83,7 @@ plan_of (Run file) = network_plan file (λ network. Give (TraceJob network))
 plan_of (RunPlain file) = network_plan file (λ network. Give (TraceJob network))
 plan_of (Check file) = network_plan file (λ network. Give (SizeJob network))
 plan_of (Disasm file) = image_plan file (λ flash. Give (DisasmJob flash))
+plan_of (Make number) = Give (SampleJob number)
 
 -- the plan of what the words ask for
 abbrev pub plan_for : Option Asked → Plan

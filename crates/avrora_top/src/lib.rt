@@ -7,6 +7,7 @@ mod files;
 mod listing;
 mod network;
 mod report;
+mod sample;
 mod status;
 mod top;
 mod trouble;

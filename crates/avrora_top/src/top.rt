@@ -1,17 +1,51 @@
 // From the words to a status.
 ghost use Rattle.std.specs.Prelude.{◌≡◌, map};
-ghost use Rattle.command_words.specs.Words.{asked_by};
-ghost use Rattle.avrora_top.specs.Plan.{BadWords, plan};
+ghost use Rattle.command_words.specs.Words.{IsInLimits, asked_by, shown};
+ghost use Rattle.avrora_top.specs.Plan.{BadWords, plan, plan_of};
 ghost use Rattle.avrora_top.specs.Ends.{Refused, reads, stream};
 ghost use Rattle.avrora_top.specs.TopClause.{Called, Reported, TopClause};
 
 use crate::Status;
 use crate::commands::{check, disasm, node, run, run_plain};
 use crate::report::report;
+use crate::sample::write_sample;
 use crate::trouble::{Complaint, Trouble};
 use command_words::{Order, read_words};
 use sim_io::{Sink, Store};
 use std::alloc::Global;
+
+// Does what an order asks for, and says how it ended.
+fn obey<'w, S: Store, O: Sink, E: Sink>(
+    alloc: Global,
+    order: Order<'w>,
+    store: &mut S,
+    out: &mut O,
+    err: &mut E,
+) -> Status
+    requires { IsInLimits (shown order) }
+    ensures { Called (S.held store.old) (plan_of (shown order.entry))
+        (reads (S.faults store.old) (S.failed store.old)) (reads (S.faults store.new) (S.failed store.new))
+        (stream (O.taken out.old) (O.faults out.old)) (stream (O.taken out.new) (O.faults out.new))
+        (stream (E.taken err.old) (E.faults err.old)) (stream (E.taken err.new) (E.faults err.new)) result }
+{
+    match order {
+        Order::Node { file, cycles } => {
+            let outcome = node(alloc, file, cycles, store, out);
+            report(err, outcome)
+        }
+        Order::Run { file } => run(alloc, file, store, out, err),
+        Order::RunPlain { file } => run_plain(alloc, file, store, out, err),
+        Order::Check { file } => check(alloc, file, store, out, err),
+        Order::Disasm { file } => {
+            let outcome = disasm(alloc, file, store, out);
+            report(err, outcome)
+        }
+        Order::Make { number } => {
+            let outcome = write_sample(alloc, number, out);
+            report(err, outcome)
+        }
+    }
+}
 
 // Does what the words ask for, and says how it ended.
 fn call<'w, S: Store, O: Sink, E: Sink>(
@@ -28,19 +62,13 @@ fn call<'w, S: Store, O: Sink, E: Sink>(
     ensures words { asked_by (map (λ w. w.now) words.entry.now) ≡ None
         → Reported (Refused BadWords) (stream (E.taken err.old) (E.faults err.old)) (stream (E.taken err.new) (E.faults err.new)) result }
 {
-    match read_words(words) {
+    let asked = match read_words(alloc, words) {
+        Ok(asked) => asked,
+        Err(_) => return report(err, Err(Trouble::NoMemory)),
+    };
+    match asked {
+        Some(order) => obey(alloc, order, store, out, err),
         None => report(err, Err(Trouble::Refused(Complaint::BadWords))),
-        Some(Order::Node { file, cycles }) => {
-            let outcome = node(alloc, file, cycles, store, out);
-            report(err, outcome)
-        }
-        Some(Order::Run { file }) => run(alloc, file, store, out, err),
-        Some(Order::RunPlain { file }) => run_plain(alloc, file, store, out, err),
-        Some(Order::Check { file }) => check(alloc, file, store, out, err),
-        Some(Order::Disasm { file }) => {
-            let outcome = disasm(alloc, file, store, out);
-            report(err, outcome)
-        }
     }
 }
 
@@ -55,9 +83,10 @@ fn call<'w, S: Store, O: Sink, E: Sink>(
 /// | `run --plain FILE` | the same, on one thread |
 /// | `check FILE` | how many nodes, links and cycles the network of the scenario in FILE has; it is not run |
 /// | `disasm FILE` | the address and the text of each instruction of the image in FILE, a line each |
+/// | `make NUMBER` | what came out of the sample network of NUMBER: how often its nodes sent, and what they heard |
 ///
-/// FILE is a word that is not empty and does not begin with `-`; CYCLES is one to eight digits, 1 to 10,000,000. All
-/// other words are `BadWords`. Where the answer is not `Done`, `err` has one line that says why, or the write of that
+/// FILE is a word that is not empty and does not begin with `-`; CYCLES is one to eight digits, 1 to 10,000,000;
+/// NUMBER is one to five, up to 65,535. All other words are `BadWords`. Where the answer is not `Done`, `err` has one line that says why, or the write of that
 /// line failed and the answer is `SinkFailed`. A node that stops is no fault.
 pub fn avrora_alone<'w, S: Store, O: Sink, E: Sink>(
     alloc: Global,

@@ -19,6 +19,8 @@ pub data Asked : Type 0 where
   Check : (file : List ℕ) → Asked
   -- list the instructions of the image in this file
   Disasm : (file : List ℕ) → Asked
+  -- simulate the sample network of this number
+  Make : (number : ℕ) → Asked
 
 -- the same of the code's value
 abbrev pub shown : Order → Asked
@@ -27,6 +29,7 @@ shown (order.Run file) = Run file.now
 shown (order.RunPlain file) = RunPlain file.now
 shown (order.Check file) = Check file.now
 shown (order.Disasm file) = Disasm file.now
+shown (order.Make number) = Make number
 
 abbrev pub is_word : List ℕ → List ℕ → Bool
 is_word name word = pointwise ◌==◌ word name
@@ -36,12 +39,20 @@ abbrev pub is_file : List ℕ → Bool
 is_file [] = false
 is_file (c ∷ cs) = not (c == 45)
 
--- CYCLES: one to eight decimal digits that write a number from 1 to 10,000,000
-unfoldable pub cycles_of : List ℕ → Option ℕ
-cycles_of word =
-    if nat_le 1 (length word) && nat_le (length word) 8 && list_all is_ascii_digit word
-    && nat_le 1 (digits_value 10 word) && nat_le (digits_value 10 word) 10000000
+-- a number from the least to the most, written in one to so many decimal digits
+unfoldable pub number_of : ℕ → ℕ → ℕ → List ℕ → Option ℕ
+number_of digits least most word =
+    if nat_le 1 (length word) && nat_le (length word) digits && list_all is_ascii_digit word
+    && nat_le least (digits_value 10 word) && nat_le (digits_value 10 word) most
     then Some (digits_value 10 word) else None
+
+-- CYCLES: one to eight decimal digits that write a number from 1 to 10,000,000
+abbrev pub cycles_of : List ℕ → Option ℕ
+cycles_of word = number_of 8 1 10000000 word
+
+-- NUMBER: one to five decimal digits that write a number of at most 65,535
+abbrev pub sample_of : List ℕ → Option ℕ
+sample_of word = number_of 5 0 65535 word
 
 -- `node FILE CYCLES`
 unfoldable pub as_node : List (List ℕ) → Option Asked
@@ -60,6 +71,11 @@ as_plain_run (command ∷ option ∷ file ∷ []) =
     if is_word (codes "run") command && is_word (codes "--plain") option && is_file file then Some (RunPlain file) else None
 as_plain_run _ = None
 
+-- `make NUMBER`
+unfoldable pub as_make : List (List ℕ) → Option Asked
+as_make (command ∷ number ∷ []) = if is_word (codes "make") command then option_map Make (sample_of number) else None
+as_make _ = None
+
 abbrev pub or_else : Option Asked → Option Asked → Option Asked
 or_else (Some asked) other = Some asked
 or_else None other = other
@@ -71,12 +87,14 @@ asked_by words =
     (or_else (option_map Run (file_behind (codes "run") words))
     (or_else (as_plain_run words)
     (or_else (option_map Check (file_behind (codes "check") words))
-    (option_map Disasm (file_behind (codes "disasm") words)))))
+    (or_else (option_map Disasm (file_behind (codes "disasm") words))
+    (as_make words)))))
 
--- the number of cycles, where there is one, is from 1 to 10,000,000
+-- the number of cycles, where there is one, is from 1 to 10,000,000, and that of a sample at most 65,535
 abbrev pub IsInLimits : Asked → Type 0
 IsInLimits (Node file cycles) = (1 ≤ cycles) × (cycles ≤ 10000000)
 IsInLimits (Run file) = Unit {0}
 IsInLimits (RunPlain file) = Unit {0}
 IsInLimits (Check file) = Unit {0}
 IsInLimits (Disasm file) = Unit {0}
+IsInLimits (Make number) = number ≤ 65535

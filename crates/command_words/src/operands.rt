@@ -2,9 +2,7 @@
 ghost use Rattle.std.specs.Prelude.{◌≡◌, ◌≤◌, IfSome};
 ghost use Rattle.std.specs.Char.{is_ascii_digit};
 ghost use Rattle.std.specs.List.{list_all};
-ghost use Rattle.command_words.specs.Words.{cycles_of, is_file};
-
-const MOST_CYCLES: u64 = 10_000_000;
+ghost use Rattle.command_words.specs.Words.{cycles_of, is_file, number_of, sample_of};
 
 /// Whether a word names a file: it is not empty, and no option.
 pub fn is_file(word: &str) -> bool
@@ -22,22 +20,41 @@ fn all_digits(word: &str) -> bool
     word.as_bytes().iter().all(|c| c.is_ascii_digit())
 }
 
-/// The number of cycles that a word gives: one to eight decimal digits, no sign, from 1 to 10,000,000.
-#[tactic(auto, unfolding(crate::specs::Words::cycles_of))]
-pub fn cycles(word: &str) -> Option<u64>
-    ensures value { result ≡ cycles_of word.now }
-    ensures limits { IfSome result (λ n. (1 ≤ n) × (n ≤ 10000000)) }
+// The number from `least` to `most` that a word gives in one to `digits` decimal digits, with no sign.
+#[tactic(auto, unfolding(crate::specs::Words::number_of))]
+fn number(word: &str, digits: usize, least: u64, most: u64) -> Option<u64>
+    requires { digits ≤ 8 }
+    ensures value { result ≡ number_of digits least most word.now }
+    ensures limits { IfSome result (λ n. (least ≤ n) × (n ≤ most)) }
 {
-    if word.is_empty() || word.len() > 8 || !all_digits(word) {
+    if word.is_empty() || word.len() > digits || !all_digits(word) {
         return None;
     }
     match word.parse::<u64>() {
         Ok(n) => {
-            if n < 1 || n > MOST_CYCLES {
+            if n < least || n > most {
                 return None;
             }
             Some(n)
         }
         Err(_) => None,
+    }
+}
+
+/// The number of cycles that a word gives: one to eight decimal digits, no sign, from 1 to 10,000,000.
+pub fn cycles(word: &str) -> Option<u64>
+    ensures value { result ≡ cycles_of word.now }
+    ensures limits { IfSome result (λ n. (1 ≤ n) × (n ≤ 10000000)) }
+{
+    number(word, 8, 1, 10_000_000)
+}
+
+/// The number of a sample that a word gives: one to five decimal digits, no sign, at most 65,535.
+pub fn sample(word: &str) -> Option<u16>
+    ensures { result ≡ sample_of word.now }
+{
+    match number(word, 5, 0, 65_535) {
+        Some(n) => Some(n as u16),
+        None => None,
     }
 }

@@ -1,81 +1,65 @@
-// Which words are accepted.
-ghost use Rattle.std.specs.Prelude.{◌≡◌, IfSome, map, option_map};
-ghost use Rattle.command_words.specs.Words.{IsInLimits, as_node, as_plain_run, asked_by, file_behind, shown};
+// What the words that were split ask for.
+ghost use Rattle.std.specs.Prelude.{◌≡◌, option_map};
+ghost use Rattle.clap.specs.Words.{found_of, rows_of, subcommand_rows_of};
+ghost use Rattle.command_words.specs.Words.{shown};
+ghost use Rattle.command_words.specs.Split.{asked_in, asked_of, run_in, text_in};
 
 use crate::Order;
-use crate::operands::{cycles, is_file};
+use crate::operands::{cycles, sample};
+use clap::ArgMatches;
 
-#[tactic(auto, unfolding(crate::specs::Words::as_node))]
-fn as_node<'w>(words: &'w [&'w str]) -> Option<Order<'w>>
-    ensures asked { option_map shown result ≡ as_node (map (λ w. w.now) words.entry.now) }
-    ensures limits { IfSome result (λ order. IsInLimits (shown order)) }
+fn text_at<'w>(matches: &ArgMatches<'w>, id: &str) -> &'w str
+    ensures { result.now ≡ text_in id.now (rows_of (found_of matches.now)) }
 {
-    match words {
-        [command, file, count] => {
-            if *command != "node" || !is_file(file) {
-                return None;
-            }
-            match cycles(count) {
-                Some(cycles) => Some(Order::Node { file, cycles }),
-                None => None,
-            }
-        }
+    match matches.get_str(id) {
+        Some(text) => text,
+        None => "",
+    }
+}
+
+fn run_order<'w>(matches: &ArgMatches<'w>) -> Order<'w>
+    ensures { shown result ≡ run_in (rows_of (found_of matches.now)) }
+{
+    let file = text_at(matches, "file");
+    if text_at(matches, "plain") == "true" {
+        Order::RunPlain { file }
+    } else {
+        Order::Run { file }
+    }
+}
+
+#[tactic(auto, unfolding(crate::specs::Split::asked_in))]
+fn order_in<'w>(name: &str, matches: &ArgMatches<'w>) -> Option<Order<'w>>
+    ensures { option_map shown result ≡ asked_in name.now (rows_of (found_of matches.now)) }
+{
+    if name == "run" {
+        return Some(run_order(matches));
+    }
+    if name == "make" {
+        return match sample(text_at(matches, "number")) {
+            Some(number) => Some(Order::Make { number }),
+            None => None,
+        };
+    }
+    let file = text_at(matches, "file");
+    match name {
+        "node" => match cycles(text_at(matches, "cycles")) {
+            Some(cycles) => Some(Order::Node { file, cycles }),
+            None => None,
+        },
+        "check" => Some(Order::Check { file }),
+        "disasm" => Some(Order::Disasm { file }),
         _ => None,
     }
 }
 
-// The file of a command that has one and nothing else.
-#[tactic(auto, unfolding(crate::specs::Words::file_behind))]
-fn file_behind<'w>(name: &str, words: &'w [&'w str]) -> Option<&'w str>
-    ensures { option_map (λ f. f.now) result ≡ file_behind name.now (map (λ w. w.now) words.entry.now) }
+/// What the subcommand asks for, with the words behind it.
+#[tactic(auto, unfolding(crate::specs::Split::asked_of))]
+pub fn order_of<'w>(matches: &ArgMatches<'w>) -> Option<Order<'w>>
+    ensures { option_map shown result ≡ asked_of (subcommand_rows_of matches.now) }
 {
-    match words {
-        [command, file] => {
-            if *command != name || !is_file(file) {
-                return None;
-            }
-            Some(file)
-        }
-        _ => None,
-    }
-}
-
-#[tactic(auto, unfolding(crate::specs::Words::as_plain_run))]
-fn as_plain_run<'w>(words: &'w [&'w str]) -> Option<Order<'w>>
-    ensures asked { option_map shown result ≡ as_plain_run (map (λ w. w.now) words.entry.now) }
-    ensures limits { IfSome result (λ order. IsInLimits (shown order)) }
-{
-    match words {
-        [command, option, file] => {
-            if *command != "run" || *option != "--plain" || !is_file(file) {
-                return None;
-            }
-            Some(Order::RunPlain { file })
-        }
-        _ => None,
-    }
-}
-
-/// What the words after the program's name ask for; `None` exactly where they are not accepted.
-#[tactic(auto, unfolding(crate::specs::Words::asked_by))]
-pub fn read_words<'w>(words: &'w [&'w str]) -> Option<Order<'w>>
-    ensures asked { option_map shown result ≡ asked_by (map (λ w. w.now) words.entry.now) }
-    ensures limits { IfSome result (λ order. IsInLimits (shown order)) }
-{
-    if let Some(order) = as_node(words) {
-        return Some(order);
-    }
-    if let Some(file) = file_behind("run", words) {
-        return Some(Order::Run { file });
-    }
-    if let Some(order) = as_plain_run(words) {
-        return Some(order);
-    }
-    if let Some(file) = file_behind("check", words) {
-        return Some(Order::Check { file });
-    }
-    match file_behind("disasm", words) {
-        Some(file) => Some(Order::Disasm { file }),
+    match matches.subcommand() {
+        Some((name, matches)) => order_in(name, matches),
         None => None,
     }
 }

@@ -1,0 +1,62 @@
+-- How the words of each form are split.
+use Rattle.std.proofs.Common.{◌≡◌, ℕ, is_some, ◌==◌, Bool, true, false, not, List, Option, Some, None, [], ◌∷◌, refl, sym, ◌∙◌}
+use Rattle.std.specs.Str.{bytes_eq}
+use Rattle.clap.specs.Lexer.{strip_byte}
+use Rattle.clap.specs.Words.{subcommand_of, takes}
+use Rattle.clap.proofs.OnLiterals.{clap_on_literals}
+use Rattle.command_words.specs.Words.{Asked, asked_by, is_file}
+use Rattle.command_words.specs.Apps.{the_app}
+use Rattle.command_words.specs.Split.{asked_in, asked_of}
+use Rattle.command_words.proofs.Numerals.{number_file}
+use Rattle.command_words.proofs.Forms.{Form, IsNode, IsRun, IsPlainRun, IsCheck, IsDisasm, IsMake, form_of}
+
+-- a word that `clap` takes for a value
+record Plain (word : List ℕ) : Type 0 where
+  pub short : strip_byte 45 word ≡ None
+  pub long : bytes_eq word (45 ∷ 45 ∷ []) ≡ false
+
+not_false : (b : Bool) → not b ≡ true → b ≡ false
+not_false true h = absurd (cc)
+not_false false h = refl
+
+plain_file : (word : List ℕ) → is_file word ≡ true → Plain word
+plain_file [] h = absurd (cc)
+plain_file (x ∷ xs) h =
+    let no : (x == 45) ≡ false = not_false (x == 45) h in
+    record { short = rw no refl; long = rw no refl }
+
+-- it takes the words
+pub taken : (words : List (List ℕ)) (asked : Asked) → Form words asked → takes the_app words ≡ true
+unfolding clap_on_literals
+taken _ _ (IsNode file cycles n f e) =
+    let a = plain_file file f in
+    let b = plain_file cycles (number_file 8 1 10000000 cycles n e) in
+    simp (a.short, a.long, b.short, b.long) refl
+taken _ _ (IsRun file f) = let a = plain_file file f in simp (a.short, a.long) refl
+taken _ _ (IsPlainRun file f) = let a = plain_file file f in simp (a.short, a.long) refl
+taken _ _ (IsCheck file f) = let a = plain_file file f in simp (a.short, a.long) refl
+taken _ _ (IsDisasm file f) = let a = plain_file file f in simp (a.short, a.long) refl
+taken _ _ (IsMake number n e) = let a = plain_file number (number_file 5 0 65535 number n e) in simp (a.short, a.long) refl
+
+-- and its matches ask for what the words ask for
+pub kept : (words : List (List ℕ)) (asked : Asked) → Form words asked → asked_of (subcommand_of the_app words) ≡ Some asked
+unfolding clap_on_literals asked_of asked_in
+kept _ _ (IsNode file cycles n f e) =
+    let a = plain_file file f in
+    let b = plain_file cycles (number_file 8 1 10000000 cycles n e) in
+    simp (a.short, a.long, b.short, b.long, e) refl
+kept _ _ (IsRun file f) = let a = plain_file file f in simp (a.short, a.long) refl
+kept _ _ (IsPlainRun file f) = let a = plain_file file f in simp (a.short, a.long) refl
+kept _ _ (IsCheck file f) = let a = plain_file file f in simp (a.short, a.long) refl
+kept _ _ (IsDisasm file f) = let a = plain_file file f in simp (a.short, a.long) refl
+kept _ _ (IsMake number n e) = let a = plain_file number (number_file 5 0 65535 number n e) in simp (a.short, a.long, e) refl
+
+some_of : (o : Option Asked) → is_some o ≡ true → (asked : Asked) × (o ≡ Some asked)
+some_of None h = absurd (cc)
+some_of (Some asked) h = (asked, refl)
+
+pub accepted_taken : (words : List (List ℕ)) → is_some (asked_by words) ≡ true → takes the_app words ≡ true
+accepted_taken words h = let s = some_of (asked_by words) h in taken words s.0 (form_of words s.0 s.1)
+
+pub accepted_kept : (words : List (List ℕ)) → is_some (asked_by words) ≡ true → asked_of (subcommand_of the_app words) ≡ asked_by words
+accepted_kept words h = let s = some_of (asked_by words) h in kept words s.0 (form_of words s.0 s.1) ∙ sym s.1

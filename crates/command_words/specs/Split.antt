@@ -1,0 +1,29 @@
+-- What the words that were split ask for.
+use Rattle.std.specs.Prelude.{List, [], codes, Option, Some, None, option_map, if◌then◌else◌}
+use Rattle.std.specs.Option.{option_map_or}
+use Rattle.std.specs.Str.{bytes_eq}
+use Rattle.clap.specs.Words.{Row, Text, first_of}
+use Rattle.command_words.specs.Words.{Asked, Node, Run, RunPlain, Check, Disasm, Make, cycles_of, sample_of}
+
+-- the word of this name, or no text
+abbrev pub text_in : Text → List Row → Text
+text_in id rows = option_map_or (λ t. t) (first_of id rows) []
+
+abbrev pub run_in : List Row → Asked
+run_in rows =
+    if bytes_eq (text_in (codes "plain") rows) (codes "true") then RunPlain (text_in (codes "file") rows)
+    else Run (text_in (codes "file") rows)
+
+-- what a subcommand asks for with these words
+unfoldable pub asked_in : Text → List Row → Option Asked
+asked_in name rows =
+    if bytes_eq name (codes "run") then Some (run_in rows)
+    else if bytes_eq name (codes "make") then option_map Make (sample_of (text_in (codes "number") rows))
+    else if bytes_eq name (codes "node") then option_map (Node (text_in (codes "file") rows)) (cycles_of (text_in (codes "cycles") rows))
+    else if bytes_eq name (codes "check") then Some (Check (text_in (codes "file") rows))
+    else if bytes_eq name (codes "disasm") then Some (Disasm (text_in (codes "file") rows))
+    else None
+
+unfoldable pub asked_of : Option (Text × List Row) → Option Asked
+asked_of None = None
+asked_of (Some p) = asked_in p.0 p.1

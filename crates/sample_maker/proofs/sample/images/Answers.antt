@@ -1,0 +1,12 @@
+use Rattle.std.proofs.Common.{◌≡◌, ◌∷◌, ◌++◌, [], List, sym, ap, ◌∙◌, rules, arith}
+use Rattle.std.proofs.lemmas.List.FromFn.{map-range_with_len_more}
+use Rattle.ihex_loader.specs.Flash.{Image}
+use Rattle.sample_maker.specs.Sample.{image_of_node}
+use Rattle.sample_maker.proofs.sample.images.Goals as goal
+
+pub loop-k-preserved : goal.loop-k-preserved
+loop-k-preserved c =
+    let image = image_of_node c.args.number in
+    let k = c.loop-k.k in
+    let pushed : c.push.new.self.items ≡ c.loop-k.images.items ++ image k ∷ [] = search rules in
+    pushed ∙ (ap (λ (l : List Image). l ++ image k ∷ []) c.loop-k.invariant ∙ sym (map-range_with_len_more image 0 k k (omega arith)))

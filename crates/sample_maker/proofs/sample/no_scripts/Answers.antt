@@ -1,0 +1,12 @@
+use Rattle.std.proofs.Common.{◌≡◌, ℕ, ◌∷◌, ◌++◌, [], List, sym, ap, ◌∙◌, rules, arith}
+use Rattle.std.proofs.lemmas.List.FromFn.{map-range_with_len_more}
+use Rattle.usart_port.specs.Script.{ScriptBytes}
+use Rattle.scenario_file.specs.Scenario.{no_script}
+use Rattle.sample_maker.proofs.sample.no_scripts.Goals as goal
+
+pub loop-node-preserved : goal.loop-node-preserved
+loop-node-preserved c =
+    let script = λ (k : ℕ). no_script in
+    let k = c.loop-node._node in
+    let pushed : c.push.new.self.items ≡ c.loop-node.scripts.items ++ no_script ∷ [] = search rules in
+    pushed ∙ (ap (λ (l : List ScriptBytes). l ++ no_script ∷ []) c.loop-node.invariant ∙ sym (map-range_with_len_more script 0 k k (omega arith)))

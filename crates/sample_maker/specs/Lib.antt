@@ -1,0 +1,4 @@
+pub mod Ring
+pub mod Network
+pub mod Sample
+pub mod Counts
