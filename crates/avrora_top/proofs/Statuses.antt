@@ -1,7 +1,7 @@
 -- What each status says of a call.
 use Rattle.std.proofs.Common.{◌≡◌, ◌≢◌, ◌⊎◌, ℕ, List, [], ◌∷◌, Option, Some, None, Result, Ok, Err, inl, inr, refl, sym, ◌∙◌, subst}
 use Rattle.sim_io.specs.Outside.{Rose}
-use Rattle.command_words.specs.Words.{Asked, Node, Run, RunPlain, Check, Disasm, asked_by}
+use Rattle.command_words.specs.Words.{Asked, Node, Run, RunPlain, Check, Disasm, Make, asked_by}
 use Rattle.ihex_loader.specs.Flash.{Image}
 use Rattle.ihex_loader.specs.Image.{hex_fault, image}
 use Rattle.ihex_loader.specs.declared.fault.HexFault.{HexFault}
@@ -68,6 +68,7 @@ keeps_plan (Run file) = keeps_network file TraceJob
 keeps_plan (RunPlain file) = keeps_network file TraceJob
 keeps_plan (Check file) = keeps_network file SizeJob
 keeps_plan (Disasm file) = keeps_image file (λ flash. Give (DisasmJob flash)) (λ f. tt)
+keeps_plan (Make number) = tt
 
 -- words are refused only where nothing is asked for
 asked_none : (files : Files) (asked : Option Asked) → Reached files (plan_for asked) (Refuse BadWords) → asked ≡ None

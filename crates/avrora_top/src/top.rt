@@ -85,9 +85,9 @@ fn call<'w, S: Store, O: Sink, E: Sink>(
 /// | `disasm FILE` | the address and the text of each instruction of the image in FILE, a line each |
 /// | `make NUMBER` | what came out of the sample network of NUMBER: how often its nodes sent, and what they heard |
 ///
-/// FILE is a word that is not empty and does not begin with `-`; CYCLES is one to eight digits, 1 to 10,000,000;
-/// NUMBER is one to five, up to 65,535. All other words are `BadWords`. Where the answer is not `Done`, `err` has one line that says why, or the write of that
-/// line failed and the answer is `SinkFailed`. A node that stops is no fault.
+/// FILE is a word that is not empty and does not begin with `-`; CYCLES is one to eight digits, 1 to 10,000,000; NUMBER is
+/// one to five, up to 65,535. All other words are `BadWords`. Where the answer is not `Done`, `err` has one line that says
+/// why, or the write of that line failed and the answer is `SinkFailed`. A node that stops is no fault.
 pub fn avrora_alone<'w, S: Store, O: Sink, E: Sink>(
     alloc: Global,
     words: &'w [&'w str],

@@ -1,5 +1,5 @@
 // Splits the words of a command line.
-ghost use Rattle.std.specs.Prelude.{◌≡◌, IfOk, IfErr, OnErr, Some, is_some, true, map, option_map};
+ghost use Rattle.std.specs.Prelude.{◌≡◌, IfOk, IfErr, IfSome, OnErr, Some, is_some, true, map, option_map};
 ghost use Rattle.clap.specs.Words.{kind_of, subcommand_of, subcommand_rows_of};
 ghost use Rattle.command_words.specs.Apps.{the_app};
 ghost use Rattle.command_words.specs.Words.{IsInLimits, asked_by, shown};
@@ -45,6 +45,7 @@ fn split<'w>(alloc: Global, words: &'w [&'w str]) -> Result<Order<'w>, AllocErro
 pub fn read_words<'w>(alloc: Global, words: &'w [&'w str]) -> Result<Option<Order<'w>>, AllocError>
     ensures asked { IfOk result (λ order. option_map shown order ≡ asked_by (map (λ w. w.now) words.entry.now)) }
     ensures accepted { OnErr result (is_some (asked_by (map (λ w. w.now) words.entry.now)) ≡ true) }
+    ensures limits { IfOk result (λ order. IfSome order (λ o. IsInLimits (shown o))) }
 {
     if !is_accepted(words) {
         return Ok(None);
