@@ -29,7 +29,7 @@ report() {
     local name=$1 cycles=$2 best= seconds kib rows
     shift 2
     for _ in 1 2 3 4 5; do
-        { /usr/bin/env time -f '%U %M' "$program" "$@" >rows; } 2>time
+        /usr/bin/env time -o time -f '%U %M' "$program" "$@" >rows
         read -r seconds kib <time
         if [ -z "$best" ] || awk "BEGIN { exit !($seconds < $best) }"; then best=$seconds; fi
     done

@@ -1,22 +1,23 @@
 #!/usr/bin/env bash
-# Simulated cycles per second of `node`, and its peak memory: bench/run.sh [CYCLES] (10,000,000 where absent, the most
-# that `node` takes). It runs the program as ./avrora built it, five times for each image, and prints the fastest run.
+# Simulated cycles per second of `node`, and its peak memory: bench/run.sh [CYCLES [PROGRAM]] (10,000,000 where absent, the
+# most that `node` takes). It runs the program as ./avrora built it, or that one, five times for each image, and prints the
+# processor time in user mode of the fastest run.
 # Where a C compiler, Debian's libsimavr-dev and avr-objcopy are installed, each image but those of the radio and of
 # sleep, at which simavr idles by the clock, runs on simavr right after, with the ratio of the two. Where valgrind is
 # installed, host instructions per AVR instruction follow, counted between 100,000 and 300,000 cycles; they hardly vary.
 set -eu
 top=$(cd "$(dirname "$0")/.." && pwd)
 cycles=${1:-10000000}
-program=$top/crates/avrora_program/out/avrora_program
+program=${2:-$top/crates/avrora_program/out/avrora_program}
 work=$(mktemp -d)
 trap 'rm -rf "$work"' EXIT
-"$top/avrora" node "$top/examples/two.hex" 1 >/dev/null
+[ -n "${2:-}" ] || "$top/avrora" node "$top/examples/two.hex" 1 >/dev/null
 
 # The fastest of five runs of a command: seconds and KiB.
 fastest() {
     best=
     for _ in 1 2 3 4 5; do
-        { /usr/bin/env time -f '%e %M' "$@" >/dev/null; } 2>"$work/time"
+        /usr/bin/env time -o "$work/time" -f '%U %M' "$@" >/dev/null 2>&1
         read -r seconds kib <"$work/time"
         if [ -z "$best" ] || awk "BEGIN { exit !($seconds < $best) }"; then best=$seconds; fi
     done
