@@ -188,10 +188,17 @@ impl Timer16 {
         };
     }
 
-    // So many clocks.
+    // So many clocks. A counter that a program reads again and again has none or one between two reads.
     fn clock_times(&mut self, clocks: u64)
         ensures { self.new ≡ many clock clocks self.old }
     {
+        if clocks == 0 {
+            return;
+        }
+        if clocks == 1 {
+            self.clock();
+            return;
+        }
         if !self.blocked {
             self.run(clocks);
         } else if clocks > 0 {
