@@ -195,14 +195,12 @@ impl Timer16 {
         if clocks == 0 {
             return;
         }
-        if clocks == 1 {
-            self.clock();
+        if clocks > 1 && !self.blocked {
+            self.run(clocks);
             return;
         }
-        if !self.blocked {
-            self.run(clocks);
-        } else if clocks > 0 {
-            self.clock();
+        self.clock();
+        if clocks > 1 {
             self.run(clocks - 1);
         }
     }
