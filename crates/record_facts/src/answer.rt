@@ -1,6 +1,6 @@
 // What the record answers to a step, or is to answer.
 use crate::fault::Fault;
-use crate::words::{Command, Section, byte_of};
+use air_cases::{Command, Section, byte_of};
 use air_record::{Behind, Posted};
 use world_core::{Heard, Sampled};
 

@@ -1,5 +1,6 @@
 // Why a case file is not as it should be.
 use crate::answer::Answer;
+use air_cases::CaseFault;
 use std::alloc::{AllocError, AllocFailed};
 use world_core::NoMemory;
 
@@ -42,5 +43,14 @@ impl<T: Drop> From<AllocFailed<T>> for Fault {
 impl From<NoMemory> for Fault {
     fn from(_error: NoMemory) -> Self {
         Fault::NoMemory
+    }
+}
+
+impl From<CaseFault> for Fault {
+    fn from(fault: CaseFault) -> Self {
+        match fault {
+            CaseFault::Unreadable => Fault::Unreadable,
+            CaseFault::NoMemory => Fault::NoMemory,
+        }
     }
 }

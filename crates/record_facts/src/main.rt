@@ -5,9 +5,7 @@
 mod answer;
 mod fault;
 mod run;
-mod setting;
 mod stand;
-mod words;
 
 use crate::run::run_file;
 use std::fs::Files;

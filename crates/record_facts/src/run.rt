@@ -1,9 +1,8 @@
 // A case file, line by line.
 use crate::answer::{Answer, answer_of};
 use crate::fault::Fault;
-use crate::setting::{Setting, samples_of, sends_of};
 use crate::stand::Stand;
-use crate::words::{Command, Section, byte_of, sections_of};
+use air_cases::{Command, Section, Setting, byte_of, samples_of, sections_of, sends_of};
 use std::alloc::Global;
 
 // How far a file is read.

@@ -1,13 +1,13 @@
 // A world with its clock words, the seats of all its nodes, and its record.
-ghost use Rattle.std.specs.Prelude.{◌≡◌, ◌↔◌, IfOk, IfSome, IsTrue};
-ghost use Rattle.std.specs.List.{All, Contains};
-ghost use Rattle.world_core.specs.Sends.{sends_of, sends_below, IsSendNumber};
+ghost use Rattle.std.specs.Prelude.{◌≡◌};
+ghost use Rattle.std.specs.List.{All};
 
 use crate::answer::Answer;
 use crate::fault::Fault;
+use air_cases::{count_below, is_asked, send_number};
 use air_record::Air;
 use clock_words::{Clocks, NodeSeat};
-use std::alloc::{AllocError, Global};
+use std::alloc::Global;
 use world_core::{Ask, EPOCH, Heard, ListWorld, Sampled, Send, World};
 
 /// All that steps on the record of a world.
@@ -20,51 +20,6 @@ pub struct Stand {
     ghost worlds: { (clocks.world ≡ world) × (air.world ≡ world) },
     ghost table: { air.table ≡ clocks.table },
     ghost seated: { All (λ s. (s.table ≡ clocks.table) × (s.world ≡ world)) seats.items },
-}
-
-// How many sends of one node lie below a cycle.
-#[tactic(auto, unfolding(world_core::specs::Sends::sends_below))]
-fn count_below(sends: &[Send], node: u8, cycle: u64) -> u64
-    ensures { result ≡ sends_below sends.now node cycle }
-{
-    sends
-        .iter()
-        .filter(|s| s.node == node)
-        .filter(|s| s.cycle < cycle)
-        .count() as u64
-}
-
-// The sends of one node.
-fn own(alloc: Global, node: u8, sends: &[Send]) -> Result<Vec<Send>, AllocError>
-    ensures { IfOk result (λ v. v.items ≡ sends_of node sends.now) }
-{
-    sends
-        .iter()
-        .filter(|s| s.node == node)
-        .copied()
-        .collect(alloc)
-}
-
-fn is_asked(asks: &[Ask], ask: &Ask) -> bool
-    ensures { IsTrue result ↔ Contains asks.now ask.now }
-{
-    asks.contains(ask)
-}
-
-// The send of a node that has this number, counted from 0.
-fn send_number(
-    alloc: Global,
-    world: &ListWorld,
-    node: u8,
-    number: u64,
-) -> Result<Option<Send>, AllocError>
-    ensures { IfOk result (λ o. IfSome o (λ x. IsSendNumber world.now number x)) }
-{
-    let sends = own(alloc, node, world.sends())?;
-    if number >= sends.len() as u64 {
-        return Ok(None);
-    }
-    Ok(Some(sends[number as usize]))
 }
 
 // Raises the clock of a seat's node, or answers false where that is forbidden.

@@ -1,7 +1,7 @@
 use Rattle.std.proofs.Common.{◌≡◌, ◌<◌, length, get_or, sym, subst, ◌∙◌, ap, arith}
 use Rattle.world_core.specs.Sends.{sends_of}
-use Rattle.record_facts.proofs.Numbers.{is_number}
-use Rattle.record_facts.proofs.stand.send_number.Goals as goal
+use Rattle.air_cases.proofs.Numbers.{is_number}
+use Rattle.air_cases.proofs.asking.send_number.Goals as goal
 
 pub returns : goal.returns
 returns c =

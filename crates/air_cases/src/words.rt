@@ -1,5 +1,5 @@
 // The words of a case file.
-use crate::fault::Fault;
+use crate::CaseFault;
 use std::alloc::Global;
 
 /// What a word of a case file says: how the numbers behind it are read, what is done, or what is answered.
@@ -25,6 +25,12 @@ pub enum Command {
     Post,
     /// A node samples in a cycle.
     Sample,
+    /// A node tries to sample in a cycle.
+    Try,
+    /// A node samples in a cycle, as soon as it may.
+    Wait,
+    /// A node tells all nodes to halt.
+    Halt,
     /// The record is cut up to a cycle.
     Cut,
     /// The answer: the send is recorded now.
@@ -33,6 +39,10 @@ pub enum Command {
     There,
     /// The answer: only so many sends of its node are posted.
     Early,
+    /// The answer: the node has seen that so many of its sends are posted.
+    Told,
+    /// The answer: a node has told all nodes to halt.
+    Halted,
     /// The answer: nothing is heard.
     Quiet,
     /// The answer: one byte is heard, of this age.
@@ -53,7 +63,7 @@ pub enum Command {
     Floor,
 }
 
-static NAMES: [(&str, Command); 23] = [
+static NAMES: [(&str, Command); 28] = [
     ("topo", Command::Topo),
     ("links", Command::Links),
     ("own", Command::Own),
@@ -64,10 +74,15 @@ static NAMES: [(&str, Command); 23] = [
     ("r", Command::Raise),
     ("p", Command::Post),
     ("s", Command::Sample),
+    ("try", Command::Try),
+    ("wait", Command::Wait),
+    ("halt", Command::Halt),
     ("cut", Command::Cut),
     ("added", Command::Added),
     ("there", Command::There),
     ("early", Command::Early),
+    ("told", Command::Told),
+    ("halted", Command::Halted),
     ("quiet", Command::Quiet),
     ("byte", Command::Byte),
     ("clash", Command::Clash),
@@ -89,8 +104,8 @@ pub struct Section {
 }
 
 /// A number that is to be one of a byte.
-pub fn byte_of(n: u64) -> Result<u8, Fault> {
-    u8::try_from(n).map_err(|_| Fault::Unreadable)
+pub fn byte_of(n: u64) -> Result<u8, CaseFault> {
+    u8::try_from(n).map_err(|_| CaseFault::Unreadable)
 }
 
 // The number that a word is: decimal, or hexadecimal behind `0x`.
@@ -117,14 +132,14 @@ fn is_gap(c: char) -> bool {
 }
 
 // Puts a word behind the sections before it.
-fn add(alloc: Global, sections: &mut Vec<Section>, word: &str) -> Result<(), Fault> {
+fn add(alloc: Global, sections: &mut Vec<Section>, word: &str) -> Result<(), CaseFault> {
     if let Some(n) = number(word) {
         return match sections.last_mut() {
             Some(section) => {
                 section.numbers.push(n)?;
                 Ok(())
             }
-            None => Err(Fault::Unreadable),
+            None => Err(CaseFault::Unreadable),
         };
     }
     match command_of(word) {
@@ -135,13 +150,13 @@ fn add(alloc: Global, sections: &mut Vec<Section>, word: &str) -> Result<(), Fau
             })?;
             Ok(())
         }
-        None => Err(Fault::Unreadable),
+        None => Err(CaseFault::Unreadable),
     }
 }
 
 /// The commands of a line with their numbers. What stands behind `#` says nothing, and all but letters, digits and `_`
 /// stands between two words.
-pub fn sections_of(alloc: Global, line: &str) -> Result<Vec<Section>, Fault> {
+pub fn sections_of(alloc: Global, line: &str) -> Result<Vec<Section>, CaseFault> {
     let mut sections = Vec::new(alloc);
     let text = match line.split_once('#') {
         Some((text, _)) => text,

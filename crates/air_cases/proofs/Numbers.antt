@@ -10,7 +10,7 @@ use Rattle.world_core.specs.Sends.{sends_of, IsSendNumber}
 same_node : (a b : ℕ) → (a == b) ≡ true → a ≡ b
 same_node a b e = grind (arith, nat_tests)
 
-of_node : (xs : List Send) (k n : ℕ) (d : Send) → n < length (sends_of k xs) → (get_or (sends_of k xs) n d).node ≡ k
+pub of_node : (xs : List Send) (k n : ℕ) (d : Send) → n < length (sends_of k xs) → (get_or (sends_of k xs) n d).node ≡ k
 of_node xs k n d lt = same_node (get_or (sends_of k xs) n d).node k (filter_passes (λ (x : Send). x.node == k) xs n d lt)
 
 pub is_number : (w : WorldFacts) (k n : ℕ) (d x : Send) → n < length (sends_of k w.sends) → get_or (sends_of k w.sends) n d ≡ x → IsSendNumber w n x

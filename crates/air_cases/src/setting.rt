@@ -1,6 +1,5 @@
 // What the lines of a case file have set: a topology, with the sends and samples of a world.
-use crate::fault::Fault;
-use crate::words::{Command, Section, byte_of};
+use crate::{CaseFault, Command, Section, byte_of};
 use std::alloc::Global;
 use world_core::{Ask, Heard, Link, ListWorld, Send, Span, Topo};
 
@@ -18,17 +17,17 @@ pub struct Setting {
     asks: Vec<Ask>,
 }
 
-fn link_of(numbers: &[u64]) -> Result<Link, Fault> {
+fn link_of(numbers: &[u64]) -> Result<Link, CaseFault> {
     match numbers {
         [from, to] => Ok(Link {
             from: byte_of(*from)?,
             to: byte_of(*to)?,
         }),
-        _ => Err(Fault::Unreadable),
+        _ => Err(CaseFault::Unreadable),
     }
 }
 
-fn links_of(alloc: Global, numbers: &[u64]) -> Result<Vec<Link>, Fault> {
+fn links_of(alloc: Global, numbers: &[u64]) -> Result<Vec<Link>, CaseFault> {
     let mut links = Vec::new(alloc);
     for numbers in numbers.chunks(2) {
         links.push(link_of(numbers)?)?;
@@ -36,18 +35,18 @@ fn links_of(alloc: Global, numbers: &[u64]) -> Result<Vec<Link>, Fault> {
     Ok(links)
 }
 
-fn span_of(numbers: &[u64]) -> Result<Span, Fault> {
+fn span_of(numbers: &[u64]) -> Result<Span, CaseFault> {
     match numbers {
         [link, from, until] => Ok(Span {
-            link: u32::try_from(*link).map_err(|_| Fault::Unreadable)?,
+            link: u32::try_from(*link).map_err(|_| CaseFault::Unreadable)?,
             from: *from,
             until: *until,
         }),
-        _ => Err(Fault::Unreadable),
+        _ => Err(CaseFault::Unreadable),
     }
 }
 
-fn spans_of(alloc: Global, numbers: &[u64]) -> Result<Vec<Span>, Fault> {
+fn spans_of(alloc: Global, numbers: &[u64]) -> Result<Vec<Span>, CaseFault> {
     let mut spans = Vec::new(alloc);
     for numbers in numbers.chunks(3) {
         spans.push(span_of(numbers)?)?;
@@ -55,19 +54,19 @@ fn spans_of(alloc: Global, numbers: &[u64]) -> Result<Vec<Span>, Fault> {
     Ok(spans)
 }
 
-fn send_of(numbers: &[u64]) -> Result<Send, Fault> {
+fn send_of(numbers: &[u64]) -> Result<Send, CaseFault> {
     match numbers {
         [node, cycle, byte] => Ok(Send {
             node: byte_of(*node)?,
             cycle: *cycle,
             byte: byte_of(*byte)?,
         }),
-        _ => Err(Fault::Unreadable),
+        _ => Err(CaseFault::Unreadable),
     }
 }
 
 /// A list of sends, each by its node, cycle and byte.
-pub fn sends_of(alloc: Global, numbers: &[u64]) -> Result<Vec<Send>, Fault> {
+pub fn sends_of(alloc: Global, numbers: &[u64]) -> Result<Vec<Send>, CaseFault> {
     let mut sends = Vec::new(alloc);
     for numbers in numbers.chunks(3) {
         sends.push(send_of(numbers)?)?;
@@ -75,17 +74,17 @@ pub fn sends_of(alloc: Global, numbers: &[u64]) -> Result<Vec<Send>, Fault> {
     Ok(sends)
 }
 
-fn ask_of(numbers: &[u64]) -> Result<Ask, Fault> {
+fn ask_of(numbers: &[u64]) -> Result<Ask, CaseFault> {
     match numbers {
         [node, cycle] => Ok(Ask {
             node: byte_of(*node)?,
             cycle: *cycle,
         }),
-        _ => Err(Fault::Unreadable),
+        _ => Err(CaseFault::Unreadable),
     }
 }
 
-fn asks_of(alloc: Global, numbers: &[u64]) -> Result<Vec<Ask>, Fault> {
+fn asks_of(alloc: Global, numbers: &[u64]) -> Result<Vec<Ask>, CaseFault> {
     let mut asks = Vec::new(alloc);
     for numbers in numbers.chunks(2) {
         asks.push(ask_of(numbers)?)?;
@@ -93,7 +92,7 @@ fn asks_of(alloc: Global, numbers: &[u64]) -> Result<Vec<Ask>, Fault> {
     Ok(asks)
 }
 
-fn sample_of(numbers: &[u64]) -> Result<(Ask, Heard), Fault> {
+fn sample_of(numbers: &[u64]) -> Result<(Ask, Heard), CaseFault> {
     match numbers {
         [node, cycle, status, byte, age] => {
             let ask = Ask {
@@ -107,12 +106,12 @@ fn sample_of(numbers: &[u64]) -> Result<(Ask, Heard), Fault> {
             };
             Ok((ask, heard))
         }
-        _ => Err(Fault::Unreadable),
+        _ => Err(CaseFault::Unreadable),
     }
 }
 
 /// A list of samples, each by its node and cycle, and the status, byte and age that it heard.
-pub fn samples_of(alloc: Global, numbers: &[u64]) -> Result<Vec<(Ask, Heard)>, Fault> {
+pub fn samples_of(alloc: Global, numbers: &[u64]) -> Result<Vec<(Ask, Heard)>, CaseFault> {
     let mut samples = Vec::new(alloc);
     for numbers in numbers.chunks(5) {
         samples.push(sample_of(numbers)?)?;
@@ -120,7 +119,7 @@ pub fn samples_of(alloc: Global, numbers: &[u64]) -> Result<Vec<(Ask, Heard)>, F
     Ok(samples)
 }
 
-fn copy_of(alloc: Global, numbers: &[u64]) -> Result<Vec<u64>, Fault> {
+fn copy_of(alloc: Global, numbers: &[u64]) -> Result<Vec<u64>, CaseFault> {
     let mut list = Vec::new(alloc);
     list.extend_from_slice(numbers)?;
     Ok(list)
@@ -143,7 +142,7 @@ impl Setting {
     }
 
     // Sets the numbers of a topology that has no links and no spans yet.
-    fn set_topo(&mut self, alloc: Global, numbers: &[u64]) -> Result<(), Fault> {
+    fn set_topo(&mut self, alloc: Global, numbers: &[u64]) -> Result<(), CaseFault> {
         match numbers {
             [nodes, limit, latency, byte_time] => {
                 self.nodes = byte_of(*nodes)?;
@@ -155,12 +154,12 @@ impl Setting {
                 self.spans = Vec::new(alloc);
                 Ok(())
             }
-            _ => Err(Fault::Unreadable),
+            _ => Err(CaseFault::Unreadable),
         }
     }
 
     /// Sets what the section says, or answers false where it says nothing of a world.
-    pub fn set(&mut self, alloc: Global, section: &Section) -> Result<bool, Fault> {
+    pub fn set(&mut self, alloc: Global, section: &Section) -> Result<bool, CaseFault> {
         let numbers = section.numbers.as_slice();
         match section.command {
             Command::Topo => self.set_topo(alloc, numbers)?,
@@ -174,7 +173,7 @@ impl Setting {
         Ok(true)
     }
 
-    fn topo(&self) -> Result<Topo, Fault> {
+    fn topo(&self) -> Result<Topo, CaseFault> {
         let links = self.links.clone()?;
         let own = self.own.clone()?;
         let spans = self.spans.clone()?;
@@ -187,14 +186,14 @@ impl Setting {
             own,
             spans,
         );
-        made.map_err(|_| Fault::Unreadable)
+        made.map_err(|_| CaseFault::Unreadable)
     }
 
     /// The world that is set.
-    pub fn world(&self) -> Result<ListWorld, Fault> {
+    pub fn world(&self) -> Result<ListWorld, CaseFault> {
         let topo = self.topo()?;
         let sends = self.sends.clone()?;
         let asks = self.asks.clone()?;
-        ListWorld::new(topo, sends, asks).map_err(|_| Fault::Unreadable)
+        ListWorld::new(topo, sends, asks).map_err(|_| CaseFault::Unreadable)
     }
 }

@@ -1,0 +1,56 @@
+// Why a case file is not as it should be.
+use crate::answer::Answer;
+use air_cases::CaseFault;
+use std::alloc::{AllocError, AllocFailed};
+use world_core::NoMemory;
+
+/// Why a line of a case file stops a run.
+#[derive(Clone, Copy, Debug, PartialEq, Eq)]
+pub enum Fault {
+    /// An answer is another than the file has.
+    Differs {
+        /// What the node is answered.
+        got: Answer,
+        /// What the file has.
+        want: Answer,
+    },
+    /// The record holds other sends than the file has.
+    OtherSends,
+    /// The record holds other samples than the file has.
+    OtherSamples,
+    /// The record is cut up to this cycle, and not up to the file's.
+    OtherFloor(u64),
+    /// The step is one that a contract forbids, or would wait for ever on one thread.
+    Forbidden,
+    /// The line is none of a case file, or has no world to speak of.
+    Unreadable,
+    /// Want of memory.
+    NoMemory,
+}
+
+impl From<AllocError> for Fault {
+    fn from(_error: AllocError) -> Self {
+        Fault::NoMemory
+    }
+}
+
+impl<T: Drop> From<AllocFailed<T>> for Fault {
+    fn from(_error: AllocFailed<T>) -> Self {
+        Fault::NoMemory
+    }
+}
+
+impl From<NoMemory> for Fault {
+    fn from(_error: NoMemory) -> Self {
+        Fault::NoMemory
+    }
+}
+
+impl From<CaseFault> for Fault {
+    fn from(fault: CaseFault) -> Self {
+        match fault {
+            CaseFault::Unreadable => Fault::Unreadable,
+            CaseFault::NoMemory => Fault::NoMemory,
+        }
+    }
+}
