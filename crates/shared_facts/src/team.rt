@@ -1,5 +1,5 @@
 // All nodes of a session, on one thread.
-ghost use Rattle.std.specs.Prelude.{◌≡◌};
+ghost use Rattle.std.specs.Prelude.{◌≡◌, ◌<◌, ◌≤◌, IfOk, true, vec_len};
 ghost use Rattle.std.specs.List.{All, Contains};
 ghost use Rattle.world_core.specs.Sends.{sends_below, IsSendNumber};
 
