@@ -48,6 +48,11 @@ report "sleep, a node alone" 10000000 node sleep.hex 10000000
 network 64 sleep 10000000 0 >sleep64.toml
 report "sleep, 64 nodes" 640000000 run --plain sleep64.toml
 
+# The sample of number 0, and the same network by its files.
+report "make 0" 8000000 make 0
+cp "$top"/bench/make0/* .
+report "the network of make 0" 8000000 run --plain make0.toml
+
 # The memory of a run does not grow with its cycles.
 network 2 ring 500000 0 >short.toml
 report "ring, 2 nodes, 10^6 cycles" 1000000 run --plain short.toml
