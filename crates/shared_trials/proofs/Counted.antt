@@ -11,7 +11,7 @@ use Rattle.world_core.proofs.Spaced.{is_spaced, spaced}
 use Rattle.air_cases.proofs.Numbers.{of_node, is_number}
 
 module _ (c gap : ℕ) where
-  early : List Send → List Send
+  abbrev early : List Send → List Send
   early l = filter (λ y. nat_lt y.cycle c) l
 
   one_more : (b : Bool) (x : Send) (ys : List Send) → length (cond b (x ∷ ys) ys) ≤ suc (length ys)
