@@ -1,3 +1,2 @@
 pub mod Looking
 pub mod Keeps
-pub mod OneSend

@@ -9,6 +9,3 @@ mod record;
 
 pub use answers::{Behind, Posted};
 pub use record::Air;
-
-#[cfg(test)]
-mod tests;

@@ -11,6 +11,3 @@ mod seats;
 
 pub use clocks::Clocks;
 pub use seats::{AirSeat, NodeSeat};
-
-#[cfg(test)]
-mod tests;

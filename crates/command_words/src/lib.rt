@@ -11,6 +11,3 @@ mod splitting;
 
 pub use order::Order;
 pub use splitting::read_words;
-
-#[cfg(test)]
-mod tests;

@@ -5,7 +5,5 @@
 mod fleet;
 mod gather;
 mod plain;
-#[cfg(test)]
-mod tests;
 
 pub use plain::{PlainRun, run_plain};

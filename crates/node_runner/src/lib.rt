@@ -10,6 +10,3 @@ mod scenario;
 
 pub use runner::{Event, Runner};
 pub use scenario::Scenario;
-
-#[cfg(test)]
-mod tests;

@@ -10,6 +10,3 @@ mod steps;
 pub use machine::Core;
 pub use run::replay;
 pub use steps::{ReplayFault, Step};
-
-#[cfg(test)]
-mod tests;

@@ -19,6 +19,3 @@ pub use hear::{heard_of, heard_with};
 pub use kept::{EPOCH, cut_law, kept_law, needed_law, part_law, room_law};
 pub use topo::Topo;
 pub use world::{ListWorld, World, WorldFacts};
-
-#[cfg(test)]
-mod tests;
