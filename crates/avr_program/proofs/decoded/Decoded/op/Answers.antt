@@ -5,7 +5,7 @@ use Rattle.std.proofs.lemmas.List.FromFn.{get_or-map-range_with_len}
 use Rattle.avr_decoder.specs.declared.op.Op.{Op}
 use Rattle.ihex_loader.specs.Flash.{Image}
 use Rattle.avr_program.specs.Program.{op_of}
-use Rattle.avr_program.proofs.program.Program.op.Goals as goal
+use Rattle.avr_program.proofs.decoded.Decoded.op.Goals as goal
 
 pub returns-then-at-len : goal.returns-then-at-len
 returns-then-at-len c =
