@@ -1,4 +1,4 @@
-use Rattle.std.proofs.Common.{◌≡◌, ◌≤◌, map, vec_len}
+use Rattle.std.proofs.Common.{◌≡◌, map, vec_len}
 use Rattle.std.specs.List.{range_with_len}
 use Rattle.avr_program.specs.Program.{op_of}
 use Rattle.avr_program.proofs.decoded.ops_of.Given as goal
