@@ -1,6 +1,6 @@
 use Rattle.std.proofs.Common.{◌<◌, arith, length}
 use Rattle.sim_io.proofs.Whole.{whole_read}
-use Rattle.sim_io.proofs.dir_store.read_file.Goals as goal
+use Rattle.sim_io.proofs.dir_store.read_whole.Goals as goal
 
 pub returns-else-len-most-clause-whole : goal.returns-else-len-most-clause-whole
 returns-else-len-most-clause-whole g c =
