@@ -97,6 +97,10 @@ module _ (sc : ScenarioOf) (floor end : ℕ) (ms : List Member) (a : AreAtEnd sc
       let rows : (world_at f end).rows ≡ w ++ ys = gathered sc floor end (map place_of ms) ok lim count at took still rises (start_of sc 0) ys up (subst (λ (r : List Row). IsStableByKey (λ r. r.cycle) nat_cmp r ys) (flat_places ms) stable) in
       (λ i. rows i ++ ends i) ∙ append_assoc w ys last ∙ (λ i. sym before i ++ sym e i)
 
+-- the node with another place
+abbrev pub with_runner : Member → Place → Member
+with_runner m p = record m { runner = p }
+
 -- one turn of the loop that takes the rows
 pub record GathersOn (old items : List Member) (i : ℕ) (m n : Member) : Type 0 where
   pub left : set items i n ≡ map taken_at (take (i + 1) old) ++ drop (i + 1) old

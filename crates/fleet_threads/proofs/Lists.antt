@@ -1,5 +1,5 @@
 -- Lists of nodes: their numbers, and what holds of each.
-use Rattle.std.proofs.Common.{◌≡◌, ≢, ℕ, suc, ◌+◌, ◌<◌, ◌≤◌, Bool, true, false, List, [], ◌∷◌, ◌++◌, Option, Some, None, IfSome, map, length, get_or, set, refl, sym, subst, ◌∙◌, ap, arith}
+use Rattle.std.proofs.Common.{◌≡◌, ℕ, zero, suc, ◌+◌, ◌<◌, ◌≤◌, Bool, true, false, List, [], ◌∷◌, ◌++◌, Option, Some, None, IfSome, map, length, get_or, set, refl, sym, subst, ◌∙◌, ap, arith}
 use Rattle.std.specs.Prelude.{option_to_list}
 use Rattle.std.specs.List.{All}
 use Rattle.std.proofs.lemmas.List.{map_push, same_from_push, length-map, get_or-map, get_or-set_same, get_or-set_other, length-set}
@@ -18,7 +18,7 @@ emptied (x ∷ xs) e = absurd (omega arith)
 -- a node is put in another's place that has the same number
 set_numbers : (xs : List Member) (i : ℕ) (m : Member) (k : ℕ) → get_or (numbers xs) i k ≡ m.runner.number → i < length xs → numbers (set xs i m) ≡ numbers xs
 set_numbers [] i m k e lt = absurd (omega arith)
-set_numbers (x ∷ xs) 0 m k e lt = ap (λ (n : ℕ). n ∷ numbers xs) (sym e)
+set_numbers (x ∷ xs) zero m k e lt = ap (λ (n : ℕ). n ∷ numbers xs) (sym e)
 set_numbers (x ∷ xs) (suc i) m k e lt = ap (λ (l : List ℕ). x.runner.number ∷ l) (set_numbers xs i m k e (omega arith))
 
 pub stepped : (xs : List Member) (i : ℕ) (d m : Member) → i < length xs → m.runner.number ≡ (get_or xs i d).runner.number → numbers (set xs i m) ≡ numbers xs
