@@ -5,7 +5,8 @@ ghost use Rattle.scenario_file.specs.Scenario.{ScenarioParts, IsScenario};
 ghost use Rattle.scenario_file.specs.Shown.{parts};
 ghost use Rattle.avrora_top.specs.Plan.{Plan, Read, image_plan, images_plan, scenario_plan};
 ghost use Rattle.avrora_top.specs.Reading.{Reached};
-ghost use Rattle.avrora_top.specs.Ends.{StopsAt, reads, refusal_of};
+ghost use Rattle.avrora_top.specs.Ends.{reads};
+ghost use Rattle.avrora_top.specs.Parts.{StopsAt, refusal_of};
 
 use crate::trouble::{Complaint, ImageCause, ScenarioCause, Trouble};
 use ihex_loader::{Flash, HexFault, load};

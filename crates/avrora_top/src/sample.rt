@@ -5,7 +5,8 @@ ghost use Rattle.node_runner.specs.Scenario.{fleet_of};
 ghost use Rattle.sample_maker.specs.Sample.{sample};
 ghost use Rattle.avrora_top.specs.Sample.{counts_line};
 ghost use Rattle.avrora_top.specs.Plan.{SampleJob};
-ghost use Rattle.avrora_top.specs.Ends.{JobEnds, stream};
+ghost use Rattle.avrora_top.specs.Ends.{stream};
+ghost use Rattle.avrora_top.specs.Parts.{JobEnds};
 
 use crate::trouble::Trouble;
 use arrayvec::ArrayString;
