@@ -2,8 +2,8 @@
 ghost use Rattle.std.specs.Prelude.{◌≡◌};
 ghost use Rattle.command_words.specs.Words.{Run};
 ghost use Rattle.avrora_top.specs.Plan.{SampleJob, TraceJob, plan_of};
-ghost use Rattle.avrora_top.specs.Ends.{JobEnds, reads, stream};
-ghost use Rattle.avrora_top.specs.TopClause.{Called};
+ghost use Rattle.avrora_top.specs.Ends.{reads, stream};
+ghost use Rattle.avrora_top.specs.Parts.{JobEnds, Called};
 
 use crate::Status;
 use crate::files::{read_images, read_scenario};
@@ -54,7 +54,8 @@ pub fn run<'w, R: Threads + Wait + Sync, S: Store, O: Sink, E: Sink, G: Gate + S
     err: &mut E,
     gate: &G,
 ) -> Status
-    ensures { Called (S.held store.old) (plan_of (Run file.entry.now))
+    ensures held { S.held store.new ≡ S.held store.old }
+    ensures called { Called (S.held store.old) (plan_of (Run file.entry.now))
         (reads (S.faults store.old) (S.failed store.old)) (reads (S.faults store.new) (S.failed store.new))
         (stream (O.taken out.old) (O.faults out.old)) (stream (O.taken out.new) (O.faults out.new))
         (stream (E.taken err.old) (E.faults err.old)) (stream (E.taken err.new) (E.faults err.new)) result }

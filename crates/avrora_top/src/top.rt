@@ -110,7 +110,34 @@ pub fn avrora_alone<'w, S: Store, O: Sink, E: Sink>(
     call(alloc, words, store, out, err)
 }
 
-// The same, with `run FILE` and `make NUMBER` on threads.
+// What an order asks for, with `run FILE` and `make NUMBER` on threads.
+fn obey_on_threads<'w, R: Threads + Wait + Sync, S: Store, O: Sink, E: Sink, G: Gate + Sync>(
+    rt: &R,
+    alloc: Global,
+    order: Order<'w>,
+    store: &mut S,
+    out: &mut O,
+    err: &mut E,
+    gate: &G,
+) -> Status
+    requires { IsInLimits (shown order) }
+    ensures held { S.held store.new ≡ S.held store.old }
+    ensures called { Called (S.held store.old) (plan_of (shown order.entry))
+        (reads (S.faults store.old) (S.failed store.old)) (reads (S.faults store.new) (S.failed store.new))
+        (stream (O.taken out.old) (O.faults out.old)) (stream (O.taken out.new) (O.faults out.new))
+        (stream (E.taken err.old) (E.faults err.old)) (stream (E.taken err.new) (E.faults err.new)) result }
+{
+    match order {
+        Order::Run { file } => threads::run(rt, alloc, file, store, out, err, gate),
+        Order::Make { number } => {
+            let outcome = threads::write_sample(rt, alloc, number, out, gate);
+            report(err, outcome)
+        }
+        _ => obey(alloc, order, store, out, err),
+    }
+}
+
+// What the words ask for, with `run FILE` and `make NUMBER` on threads.
 fn call_on_threads<'w, R: Threads + Wait + Sync, S: Store, O: Sink, E: Sink, G: Gate + Sync>(
     rt: &R,
     alloc: Global,
@@ -120,6 +147,7 @@ fn call_on_threads<'w, R: Threads + Wait + Sync, S: Store, O: Sink, E: Sink, G: 
     err: &mut E,
     gate: &G,
 ) -> Status
+    ensures held { S.held store.new ≡ S.held store.old }
     ensures called { Called (S.held store.old) (plan (map (λ w. w.now) words.entry.now))
         (reads (S.faults store.old) (S.failed store.old)) (reads (S.faults store.new) (S.failed store.new))
         (stream (O.taken out.old) (O.faults out.old)) (stream (O.taken out.new) (O.faults out.new))
@@ -127,13 +155,13 @@ fn call_on_threads<'w, R: Threads + Wait + Sync, S: Store, O: Sink, E: Sink, G: 
     ensures words { asked_by (map (λ w. w.now) words.entry.now) ≡ None
         → Reported (Refused BadWords) (stream (E.taken err.old) (E.faults err.old)) (stream (E.taken err.new) (E.faults err.new)) result }
 {
-    match read_words(alloc, words) {
-        Ok(Some(Order::Run { file })) => threads::run(rt, alloc, file, store, out, err, gate),
-        Ok(Some(Order::Make { number })) => {
-            let outcome = threads::write_sample(rt, alloc, number, out, gate);
-            report(err, outcome)
-        }
-        _ => call(alloc, words, store, out, err),
+    let asked = match read_words(alloc, words) {
+        Ok(asked) => asked,
+        Err(_) => return report(err, Err(Trouble::NoMemory)),
+    };
+    match asked {
+        Some(order) => obey_on_threads(rt, alloc, order, store, out, err, gate),
+        None => report(err, Err(Trouble::Refused(Complaint::BadWords))),
     }
 }
 
@@ -149,7 +177,7 @@ pub fn avrora<'w, R: Threads + Wait + Sync, S: Store, O: Sink, E: Sink, G: Gate 
     err: &mut E,
     gate: &G,
 ) -> Status
-    ensures { TopClause (S.held store.old) (map (λ w. w.now) words.entry.now)
+    ensures { TopClause (S.held store.old) (S.held store.new) (map (λ w. w.now) words.entry.now)
         (reads (S.faults store.old) (S.failed store.old)) (reads (S.faults store.new) (S.failed store.new))
         (stream (O.taken out.old) (O.faults out.old)) (stream (O.taken out.new) (O.faults out.new))
         (stream (E.taken err.old) (E.faults err.old)) (stream (E.taken err.new) (E.faults err.new)) result }
