@@ -1,6 +1,7 @@
 // The runs that gates look at: one network through `run_threads`, and the same by the words of the command line.
 use arrayvec::ArrayString;
 use avr_base::NoMemory;
+use avr_program::Program;
 use avrora_top::avrora;
 use fleet_threads::{Gate, run_threads};
 use ihex_loader::{Flash, load};
@@ -63,8 +64,8 @@ fn two_rings<R: Files + AllocGlobal>(rt: &R) -> Result<Scenario, NotMade> {
     let Ok(topo) = Topo::new(2, 500, 100, 512, links) else {
         return Err(NotMade);
     };
-    let first = flash_in(rt, "a.hex")?;
-    let second = flash_in(rt, "b.hex")?;
+    let first = Program::new(alloc, flash_in(rt, "a.hex")?)?;
+    let second = Program::new(alloc, flash_in(rt, "b.hex")?)?;
     let text = ScenarioText {
         topo,
         images: Vec::new(alloc),

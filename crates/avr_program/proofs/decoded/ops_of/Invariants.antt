@@ -1,7 +1,7 @@
-use Rattle.std.proofs.Common.{◌≡◌, ◌≤◌, map, vec_len}
+use Rattle.std.proofs.Common.{◌≡◌, map, vec_len}
 use Rattle.std.specs.List.{range_with_len}
 use Rattle.avr_program.specs.Program.{op_of}
-use Rattle.avr_program.proofs.program.decoded.Given as goal
+use Rattle.avr_program.proofs.decoded.ops_of.Given as goal
 
 abbrev pub invariant-loop-pc : goal.invariant-loop-pc
 invariant-loop-pc l = record {

@@ -1,11 +1,10 @@
-use Rattle.std.proofs.Common.{◌≡◌, ℕ, ◌+◌, ◌<◌, List, map, vec_len, ap, ◌∙◌, arith}
-use Rattle.std.specs.List.{range_with_len}
+use Rattle.std.proofs.Common.{◌≡◌, ℕ, ◌+◌, ◌<◌, List, vec_len, ap, ◌∙◌, arith}
 use Rattle.std.specs.Prelude.{slice_index_or}
 use Rattle.std.proofs.lemmas.List.FromFn.{get_or-map-range_with_len}
 use Rattle.avr_decoder.specs.declared.op.Op.{Op}
 use Rattle.ihex_loader.specs.Flash.{Image}
 use Rattle.avr_program.specs.Program.{op_of}
-use Rattle.avr_program.proofs.program.Program.op.Goals as goal
+use Rattle.avr_program.proofs.decoded.Decoded.op.Goals as goal
 
 pub returns-then-at-len : goal.returns-then-at-len
 returns-then-at-len c =
