@@ -3,9 +3,9 @@ use crate::member::Member;
 
 /// What the work of a node hands back.
 #[derive(Drop)]
-pub enum Handed {
-    /// The node at the end of the epoch.
-    Over(Member),
-    /// The node as it was: no thread was found for it.
-    Unrun(Member),
+pub struct Handed {
+    /// The node.
+    pub member: Member,
+    /// Whether it was taken to the end of the epoch; if not, no thread was found for it, and it is as it was.
+    pub is_over: bool,
 }

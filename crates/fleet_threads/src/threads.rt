@@ -64,9 +64,14 @@ fn work_unless_refused<N: Session, R: Wait, G: Gate>(
     ensures { IsHanded N.table N.world scenario.now N.floor end member.runner.number result }
 {
     if is_refused(refused, member.number()) {
-        Handed::Unrun(member)
-    } else {
-        Handed::Over(work(rt, shared, gate, scenario, end, member))
+        return Handed {
+            member,
+            is_over: false,
+        };
+    }
+    Handed {
+        member: work(rt, shared, gate, scenario, end, member),
+        is_over: true,
     }
 }
 
@@ -100,10 +105,10 @@ fn finished<N: Session, R: Wait, G: Gate>(
     ensures number { result.runner.number ≡ number }
 {
     let _ = number;
-    match handed {
-        Handed::Over(member) => member,
-        Handed::Unrun(member) => work(rt, shared, gate, scenario, end, member),
+    if handed.is_over {
+        return handed.member;
     }
+    work(rt, shared, gate, scenario, end, handed.member)
 }
 
 // A node that was handed back, which may or may not have been run.
@@ -115,10 +120,7 @@ fn under_way<N: Session>(scenario: &Scenario, end: u64, number: u8, handed: Hand
     let _ = scenario;
     let _ = end;
     let _ = number;
-    match handed {
-        Handed::Over(member) => member,
-        Handed::Unrun(member) => member,
-    }
+    handed.member
 }
 
 // The last of the nodes that are still to be begun.
