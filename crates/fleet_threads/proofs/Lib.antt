@@ -3,4 +3,4 @@ pub mod Steps
 pub mod Lists
 pub mod Ends
 pub mod Epochs
-mod Crossing
+pub mod Crossing

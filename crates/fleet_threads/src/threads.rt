@@ -1,16 +1,18 @@
 // A thread for each node of an epoch.
 ghost use Rattle.std.specs.Prelude.{◌≡◌, ◌+◌, ◌≤◌, ◌<◌, ◌++◌, ◌∷◌, [], true, IfSome, IfNone, vec_len, vec_capacity, length, take};
 ghost use Rattle.std.specs.List.{All};
+ghost use Rattle.std.specs.Thread.{IsSync};
 ghost use Rattle.fleet_threads.specs.Member.{IsUnderWay, IsBack, IsOver, numbers};
 ghost use Rattle.fleet_threads.specs.Handed.{IsHanded};
 
 use crate::gate::Gate;
-use crate::handed::Handed;
+use crate::handed::{Handed, Sent};
 use crate::member::{Member, Sampling};
 use crossbeam_utils::Backoff;
 use neighbour_sync::{Session, Shared};
 use node_runner::Scenario;
 use std::marker::PhantomData;
+use std::snapshot::Snapshot;
 use std::sync::Wait;
 use std::sync::atomic::{AtomicBool, Ordering};
 use std::thread;
@@ -34,12 +36,12 @@ fn work<N: Session, R: Wait, G: Gate>(
     rt: &R,
     shared: &Shared<Scenario, N>,
     gate: &G,
-    scenario: &Scenario,
+    scenario: &Snapshot<Scenario>,
     end: u64,
     mut member: Member,
 ) -> Member
-    requires { IsUnderWay N.table N.world scenario.now N.floor end member }
-    ensures back { IsBack N.table N.world scenario.now N.floor end result }
+    requires { IsUnderWay N.table N.world scenario.now.value N.floor end member }
+    ensures back { IsBack N.table N.world scenario.now.value N.floor end result }
     ensures number { result.runner.number ≡ member.runner.number }
 {
     for _ in rt.forever() {
@@ -55,14 +57,15 @@ fn work_unless_refused<N: Session, R: Wait, G: Gate>(
     rt: &R,
     shared: &Shared<Scenario, N>,
     gate: &G,
-    scenario: &Scenario,
+    scenario: &Snapshot<Scenario>,
     refused: &[AtomicBool],
     end: u64,
-    member: Member,
+    sent: Sent,
 ) -> Handed
-    requires { IsUnderWay N.table N.world scenario.now N.floor end member }
-    ensures { IsHanded N.table N.world scenario.now N.floor end member.runner.number result }
+    requires { IsUnderWay N.table N.world scenario.now.value N.floor end sent }
+    ensures { IsHanded N.table N.world scenario.now.value N.floor end sent.runner.number result }
 {
+    let member = sent.member();
     if is_refused(refused, member.number()) {
         return Handed {
             member,
@@ -95,13 +98,13 @@ fn finished<N: Session, R: Wait, G: Gate>(
     rt: &R,
     shared: &Shared<Scenario, N>,
     gate: &G,
-    scenario: &Scenario,
+    scenario: &Snapshot<Scenario>,
     end: u64,
     number: u8,
     handed: Handed,
 ) -> Member
-    requires { IsHanded N.table N.world scenario.now N.floor end number handed }
-    ensures back { IsBack N.table N.world scenario.now N.floor end result }
+    requires { IsHanded N.table N.world scenario.now.value N.floor end number handed }
+    ensures back { IsBack N.table N.world scenario.now.value N.floor end result }
     ensures number { result.runner.number ≡ number }
 {
     let _ = number;
@@ -185,12 +188,12 @@ fn round<N: Session, R: Wait, G: Gate>(
     rt: &R,
     shared: &Shared<Scenario, N>,
     gate: &G,
-    scenario: &Scenario,
+    scenario: &Snapshot<Scenario>,
     end: u64,
     waiting: &mut Vec<Member>,
 ) -> bool
-    requires { All (IsUnderWay N.table N.world scenario.now N.floor end) waiting.old.items }
-    ensures all { All (IsUnderWay N.table N.world scenario.now N.floor end) waiting.new.items }
+    requires { All (IsUnderWay N.table N.world scenario.now.value N.floor end) waiting.old.items }
+    ensures all { All (IsUnderWay N.table N.world scenario.now.value N.floor end) waiting.new.items }
     ensures numbers { numbers waiting.new.items ≡ numbers waiting.old.items }
     ensures over { result ≡ true → All (IsOver end) waiting.new.items }
 {
@@ -209,12 +212,12 @@ fn rotate<N: Session, R: Wait, G: Gate>(
     rt: &R,
     shared: &Shared<Scenario, N>,
     gate: &G,
-    scenario: &Scenario,
+    scenario: &Snapshot<Scenario>,
     end: u64,
     waiting: &mut Vec<Member>,
 )
-    requires { All (IsUnderWay N.table N.world scenario.now N.floor end) waiting.old.items }
-    ensures all { All (IsBack N.table N.world scenario.now N.floor end) waiting.new.items }
+    requires { All (IsUnderWay N.table N.world scenario.now.value N.floor end) waiting.old.items }
+    ensures all { All (IsBack N.table N.world scenario.now.value N.floor end) waiting.new.items }
     ensures numbers { numbers waiting.new.items ≡ numbers waiting.old.items }
 {
     let backoff = Backoff::new();
@@ -228,7 +231,9 @@ fn rotate<N: Session, R: Wait, G: Gate>(
 }
 
 // Starts the last node, goes on with the others, and joins it. When all are started, those for which no thread was found
-// are run here.
+// are run here. (That `R` and `G` may be shared is a condition, since the bounds of a function that calls itself are not told
+// to its proof.)
+#[tactic(auto, using(crate::proofs::Crossing::runner, crate::proofs::Crossing::scenario))]
 fn run_from<'s, E, N: Session + Send + Sync, R: Threads + Wait + Sync, G: Gate + Sync>(
     scope: &Scope<'s, E>,
     rt: &'s R,
@@ -241,6 +246,7 @@ fn run_from<'s, E, N: Session + Send + Sync, R: Threads + Wait + Sync, G: Gate +
     waiting: &mut Vec<Member>,
     done: &mut Vec<Member>,
 )
+    requires shared { IsSync R.row × IsSync G.row }
     requires members { All (IsUnderWay N.table N.world scenario.now N.floor end) members.items }
     requires waiting { All (IsUnderWay N.table N.world scenario.now N.floor end) waiting.old.items }
     requires places { vec_len waiting.old + vec_len members ≤ vec_capacity waiting.old }
@@ -254,10 +260,12 @@ fn run_from<'s, E, N: Session + Send + Sync, R: Threads + Wait + Sync, G: Gate +
     ensures others { numbers waiting.new.items ≡ numbers waiting.old.items }
 {
     let Some(member) = next::<N>(&mut members, scenario, end) else {
-        rotate(rt, shared, gate, scenario, end, waiting);
+        rotate(rt, shared, gate, &Snapshot::of(scenario), end, waiting);
         return;
     };
     let number = member.number();
+    let sent = Sent::of(member);
+    let seen = Snapshot::of(scenario);
     let promise: HandsBack<'s, N> = HandsBack {
         scenario,
         number,
@@ -265,14 +273,22 @@ fn run_from<'s, E, N: Session + Send + Sync, R: Threads + Wait + Sync, G: Gate +
         of: PhantomData,
     };
     match scope.spawn_with(promise, move || {
-        work_unless_refused(rt, shared, gate, scenario, refused, end, member)
+        work_unless_refused(rt, shared, gate, &seen, refused, end, sent)
     }) {
         Ok(child) => {
             run_from(
                 scope, rt, shared, gate, scenario, refused, end, members, waiting, done,
             );
             let handed = child.join(rt);
-            let back = finished(rt, shared, gate, scenario, end, number, handed);
+            let back = finished(
+                rt,
+                shared,
+                gate,
+                &Snapshot::of(scenario),
+                end,
+                number,
+                handed,
+            );
             put::<N>(done, scenario, end, back);
         }
         Err(unstarted) => {
@@ -317,6 +333,7 @@ pub fn run_all<N: Session + Send + Sync, R: Threads + Wait + Sync, G: Gate + Syn
         thread::scope_env(),
         rt,
         move |scope| -> Vec<Member>
+            requires shared { IsSync R.row × IsSync G.row }
             requires members { All (IsUnderWay N.table N.world scenario.now N.floor end) members.items }
             requires waiting { (waiting.items ≡ []) × (vec_len waiting ≡ 0) × (vec_len members ≤ vec_capacity waiting) }
             requires done { (done.items ≡ []) × (vec_len done ≡ 0) × (vec_len members ≤ vec_capacity done) }

@@ -1,9 +1,12 @@
 // A run over files and streams in memory.
 use crate::files::Held;
 use crate::lines::Limits;
-use avrora_top::avrora_alone;
+use avrora_top::avrora;
+use fleet_threads::OpenGate;
 use sim_io::MemSink;
 use std::alloc::{AllocError, Global};
+use std::sync::Wait;
+use std::thread::Threads;
 
 // More than any stream of a case takes.
 const AMPLE: usize = 1_000_000;
@@ -25,19 +28,20 @@ fn sink(alloc: Global, room: usize) -> Result<MemSink, AllocError> {
 }
 
 /// Runs these words over what is held.
-pub fn made(
-    alloc: Global,
+pub fn made<R: Threads + Wait + AllocGlobal + Sync>(
+    rt: &R,
     words: &[&str],
     limits: Limits,
     held: &Held,
 ) -> Result<Outcome, AllocError> {
+    let alloc = rt.alloc();
     let mut store = match limits {
         Limits::Read(number) => held.store(alloc, &[number])?,
         _ => held.store(alloc, &[])?,
     };
     let mut out = sink(alloc, limits.out_room(AMPLE))?;
     let mut err = sink(alloc, limits.err_room(AMPLE))?;
-    let status = avrora_alone(alloc, words, &mut store, &mut out, &mut err);
+    let status = avrora(rt, alloc, words, &mut store, &mut out, &mut err, &OpenGate);
     Ok(Outcome {
         status: status.number(),
         out,
