@@ -98,7 +98,7 @@ pub fn run_plain<'w, S: Store, O: Sink, E: Sink>(
     report(err, outcome)
 }
 
-/// `run FILE`: the same trace. On one thread too, until nodes have threads of their own.
+/// `run FILE` on one thread: the same trace, for a caller that has no threads to give.
 #[tactic(auto, unfolding(crate::specs::Plan::plan_of))]
 pub fn run<'w, S: Store, O: Sink, E: Sink>(
     alloc: Global,

@@ -9,8 +9,9 @@ mod network;
 mod report;
 mod sample;
 mod status;
+mod threads;
 mod top;
 mod trouble;
 
 pub use status::Status;
-pub use top::avrora_alone;
+pub use top::{avrora, avrora_alone};

@@ -18,10 +18,10 @@ use Rattle.fleet_plain.specs.Gather.{end_row_of, taken}
 use Rattle.fleet_plain.specs.Run.{IsResting, rows_upto}
 use Rattle.fleet_plain.proofs.Gathered.{cut, still_taken, epoch_rows, epoch_ends, no_rows_yet}
 
-equal : (a b : ℕ) → a ≡ b → (a == b) ≡ true
+pub equal : (a b : ℕ) → a ≡ b → (a == b) ≡ true
 equal a b e = grind (arith, nat_tests)
 
-differ : (a b : ℕ) → a ≢ b → (a == b) ≡ false
+pub differ : (a b : ℕ) → a ≢ b → (a == b) ≡ false
 differ a b e = grind (arith, nat_tests)
 
 pub next_rests : (sc : ScenarioOf) (floor end : ℕ) (ps : List Place) (sends : List Send) (after : LogFacts) → IsScenario sc → end ≤ sc.topo.limit → floor ≤ end → InFlight sc floor end ps sends → All (λ p. is_live end p ≡ false) ps

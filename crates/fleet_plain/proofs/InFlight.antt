@@ -65,6 +65,17 @@ home P p sc k a b x = subst (λ (z : ScenarioOf). P z k) a (subst (P p.scenario)
 pub away : (P : ScenarioOf → ℕ → Type 0) (p : Place) (sc : ScenarioOf) (k : ℕ) → p.scenario ≡ sc → p.number ≡ k → P sc k → P p.scenario p.number
 away P p sc k a b x = subst (P p.scenario) (sym b) (subst (λ (z : ScenarioOf). P z k) (sym a) x)
 
+-- ---- a live runner's rows were taken at the floor
+live_case : (sc : ScenarioOf) (end k : ℕ) (p : Place) → IsAt sc end k p → is_live end p ≡ true → (p.asking ≡ true) ⊎ (p.asking ≡ false) → is_some (node_at (fleet_of sc) k p.cycle).stop ≡ true → ⊥
+live_case sc end k p at live (inl on) stop = false≢true (sym (steady_deaf p.cycle (node_at (fleet_of sc) k p.cycle) stop) ∙ at.asks on)
+live_case sc end k p at live (inr off) stop =
+    let here : is_some (state_at p).stop ≡ true = away (λ z n. is_some (node_at (fleet_of z) n p.cycle).stop ≡ true) p sc k at.scenario at.number stop in
+    false≢true (sym (λ i. off i || (not (here i) && nat_lt p.cycle end)) ∙ live)
+
+pub live_taken : (sc : ScenarioOf) (floor end k : ℕ) (p : Place) → IsAt sc end k p → IsTaken sc floor k p → is_live end p ≡ true → (p.since ≡ floor) × (floor ≤ p.cycle)
+live_taken sc floor end k p at (inl t) live = t
+live_taken sc floor end k p at (inr r) live = absurd (live_case sc end k p at live (bool_cases p.asking) r.0)
+
 linked_of : (a b : Bool) → (a && b) ≡ true → a ≡ true
 linked_of true b e = refl
 linked_of false b e = e
@@ -120,22 +131,11 @@ module _ (sc : ScenarioOf) (floor end : ℕ) (ps : List Place) (sends : List Sen
     hears : floor ≤ s → heard sc.topo sends k s ≡ truth w k s
     hears late = record_right w floor fl.sent sends [] k s law fl.recorded late reached
 
-  -- ---- a live runner's rows were taken at the floor
-  live_case : (k : ℕ) (p : Place) → IsAt sc end k p → is_live end p ≡ true → (p.asking ≡ true) ⊎ (p.asking ≡ false) → (is_some (node_at f k p.cycle).stop ≡ true) → ⊥
-  live_case k p at live (inl on) stop = false≢true (sym (steady_deaf p.cycle (node_at f k p.cycle) stop) ∙ at.asks on)
-  live_case k p at live (inr off) stop =
-      let here : is_some (state_at p).stop ≡ true = away (λ z n. is_some (node_at (fleet_of z) n p.cycle).stop ≡ true) p sc k at.scenario at.number stop in
-      false≢true (sym (λ i. off i || (not (here i) && nat_lt p.cycle end)) ∙ live)
-
-  pub live_taken : (k : ℕ) (p : Place) → IsAt sc end k p → IsTaken sc floor k p → is_live end p ≡ true → (p.since ≡ floor) × (floor ≤ p.cycle)
-  live_taken k p at (inl t) live = t
-  live_taken k p at (inr r) live = absurd (live_case k p at live (bool_cases p.asking) r.0)
-
   pub hears_right : (k : ℕ) (d : Place) → k < sc.topo.nodes → is_live end (place_at ps k d) ≡ true → ((j : ℕ) (e : Place) → j < length ps → is_live end (place_at ps j e) ≡ true → (place_at ps k e).cycle ≤ (place_at ps j e).cycle) → HearsRight (place_at ps k d) sends
   hears_right k d h live lowest on =
       let at = fl.at k d h in
       let p = place_at ps k d in
-      let t = live_taken k p at (fl.taken k d h) live in
+      let t = live_taken sc floor end k p at (fl.taken k d h) live in
       away (λ z n. heard z.topo sends n p.cycle ≡ truth (facts_of (fleet_of z)) n p.cycle) p sc k at.scenario at.number (hears k d h lowest on t.1)
 
   -- ---- the record takes the next send of a node
@@ -177,7 +177,7 @@ module _ (sc : ScenarioOf) (floor end : ℕ) (ps : List Place) (sends : List Sen
         }
 
     took : IsTaken sc floor k new
-    took = let t = live_taken k (place_at ps k d) was (fl.taken k d h) live in let l = adv.later in inl (adv.since ∙ t.0, (let x = t.1 in omega arith))
+    took = let t = live_taken sc floor end k (place_at ps k d) was (fl.taken k d h) live in let l = adv.later in inl (adv.since ∙ t.0, (let x = t.1 in omega arith))
 
     at_case : (P : ℕ → Place → Type 0) → P k new → ((j : ℕ) (e : Place) → j < sc.topo.nodes → P j (place_at ps j e)) → (j : ℕ) (e : Place) → Dec (j ≡ k) → j < sc.topo.nodes → P j (place_at (set ps k new) j e)
     at_case P here else_where j e (yes q) l =

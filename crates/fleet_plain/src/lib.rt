@@ -3,7 +3,7 @@
 #![tactic(auto)]
 
 mod fleet;
-mod gather;
+pub mod gather;
 mod plain;
 
 pub use plain::{PlainRun, run_plain};

@@ -1,8 +1,11 @@
 // The call.
 use crate::held::Held;
-use avrora_top::avrora_alone;
+use avrora_top::{avrora, avrora_alone};
+use fleet_threads::OpenGate;
 use sim_io::MemSink;
 use std::alloc::{AllocError, Global};
+use std::sync::Wait;
+use std::thread::Threads;
 
 // More than a stream of any stored run takes.
 const AMPLE: usize = 2_000_000;
@@ -81,6 +84,25 @@ pub fn called(
     let mut out = faults.out.sink(alloc)?;
     let mut err = faults.err.sink(alloc)?;
     let status = avrora_alone(alloc, words, &mut store, &mut out, &mut err);
+    Ok(Outcome {
+        status: status.number(),
+        out,
+        err,
+    })
+}
+
+/// The same, with the nodes of `run` and `make` on threads of their own.
+pub fn called_on_threads<R: Threads + Wait + AllocGlobal + Sync>(
+    rt: &R,
+    words: &[&str],
+    held: &Held,
+    faults: &Faults,
+) -> Result<Outcome, AllocError> {
+    let alloc = rt.alloc();
+    let mut store = held.store(alloc, faults.reads.as_slice())?;
+    let mut out = faults.out.sink(alloc)?;
+    let mut err = faults.err.sink(alloc)?;
+    let status = avrora(rt, alloc, words, &mut store, &mut out, &mut err, &OpenGate);
     Ok(Outcome {
         status: status.number(),
         out,

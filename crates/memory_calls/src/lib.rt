@@ -5,5 +5,5 @@
 mod calling;
 mod held;
 
-pub use calling::{Faults, Outcome, Stream, called};
+pub use calling::{Faults, Outcome, Stream, called, called_on_threads};
 pub use held::Held;

@@ -1,6 +1,6 @@
-//! Runs of whole networks: for each that a text file tells, the status, the trace and the error stream of `run FILE`, and
-//! whether those of `run --plain FILE` are the same. Its stored run compares them with what a slow simulator that shares
-//! nothing with this one gives (`bench/network`).
+//! Runs of whole networks: for each that a text file tells, the status, the trace and the error stream of `run FILE`, with
+//! each node on a thread of its own, and whether those of `run --plain FILE` are the same. Its stored run compares them with
+//! what a slow simulator that shares nothing with this one gives (`bench/network`).
 #![tactic(auto)]
 
 mod lines;
@@ -12,8 +12,12 @@ use memory_calls::Held;
 use runs::made;
 use sim_io::{Sink, SinkFault, StdSink, write_all};
 use std::alloc::AllocError;
+use std::env::{self, Env};
+use std::fs::{self, Files};
+use std::io;
 use std::process::ExitCode;
-use std::{env, fs, io};
+use std::sync::Wait;
+use std::thread::Threads;
 use writing::{write_outcome, write_plain};
 
 // Why no more is written: a line that is none, a file that cannot be read, want of memory, or an output that fails.
@@ -31,7 +35,7 @@ impl From<AllocError> for Failed {
     }
 }
 
-fn hold_file(rt: &HostRuntime, name: &str, held: &mut Held) -> Result<(), Failed> {
+fn hold_file<R: Files + AllocGlobal>(rt: &R, name: &str, held: &mut Held) -> Result<(), Failed> {
     let Ok(bytes) = fs::read(rt, name) else {
         return Err(Failed);
     };
@@ -39,8 +43,8 @@ fn hold_file(rt: &HostRuntime, name: &str, held: &mut Held) -> Result<(), Failed
 }
 
 // A line of a case file, which is written too, but for the lines of files.
-fn do_line<O: Sink>(
-    rt: &HostRuntime,
+fn do_line<R: Threads + Wait + Files + AllocGlobal + Sync, O: Sink>(
+    rt: &R,
     text: &str,
     held: &mut Held,
     out: &mut O,
@@ -60,8 +64,8 @@ fn do_line<O: Sink>(
         Line::Copy(name) => hold_file(rt, name, held),
         Line::Blank(name, length) => Ok(held.add_blank(alloc, name, length)?),
         Line::Run(name, limits) => {
-            let outcome = made(alloc, &["run", name], limits, held)?;
-            let plain = made(alloc, &["run", "--plain", name], limits, held)?;
+            let outcome = made(rt, &["run", name], limits, held)?;
+            let plain = made(rt, &["run", "--plain", name], limits, held)?;
             write_outcome(&outcome, out)?;
             Ok(write_plain(&outcome, &plain, out)?)
         }
@@ -69,7 +73,10 @@ fn do_line<O: Sink>(
 }
 
 // Each file that is named, line after line.
-fn do_files<O: Sink>(rt: &HostRuntime, out: &mut O) -> Result<(), Failed> {
+fn do_files<R: Env + Threads + Wait + Files + AllocGlobal + Sync, O: Sink>(
+    rt: &R,
+    out: &mut O,
+) -> Result<(), Failed> {
     let Ok(names) = env::args(rt) else {
         return Err(Failed);
     };

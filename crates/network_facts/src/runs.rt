@@ -1,7 +1,9 @@
 // A run over files and streams in memory.
 use crate::lines::Limits;
-use memory_calls::{Faults, Held, Outcome, called};
+use memory_calls::{Faults, Held, Outcome, called_on_threads};
 use std::alloc::{AllocError, Global};
+use std::sync::Wait;
+use std::thread::Threads;
 
 fn faults_of(alloc: Global, limits: Limits) -> Result<Faults, AllocError> {
     let mut faults = Faults::none(alloc);
@@ -15,12 +17,12 @@ fn faults_of(alloc: Global, limits: Limits) -> Result<Faults, AllocError> {
 }
 
 /// Runs these words over what is held.
-pub fn made(
-    alloc: Global,
+pub fn made<R: Threads + Wait + AllocGlobal + Sync>(
+    rt: &R,
     words: &[&str],
     limits: Limits,
     held: &Held,
 ) -> Result<Outcome, AllocError> {
-    let faults = faults_of(alloc, limits)?;
-    called(alloc, words, held, &faults)
+    let faults = faults_of(rt.alloc(), limits)?;
+    called_on_threads(rt, words, held, &faults)
 }

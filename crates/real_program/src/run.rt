@@ -1,16 +1,25 @@
 // From the words of the command line to the exit status.
 use crate::words::{borrowed, owned_words};
-use avrora_top::avrora_alone;
+use avrora_top::avrora;
+use fleet_threads::OpenGate;
 use sim_io::{DirStore, StdSink};
-use std::io;
+use std::env::Env;
+use std::fs::Files;
+use std::io::{self, Print, Write};
 use std::process::ExitCode;
+use std::sync::Wait;
+use std::thread::Threads;
 
 // The exit status where the words of the command line cannot be had: for want of memory, or where one is no UTF-8.
 const NO_WORDS: u8 = 9;
 
 /// Does what the words after the program's name ask for, over the files of the folder that it runs in, the standard output and
-/// the standard error; and answers the exit status, which is the number of the top call's, or 9 where the words cannot be had.
-pub fn run_program(rt: &HostRuntime) -> ExitCode {
+/// `err`, which is the standard error; and answers the exit status, which is the number of the top call's, or 9 where the
+/// words cannot be had. No node is held at a turn.
+pub fn run_program<R: Env + AllocGlobal + Files + Print + Threads + Wait + Sync, W: Write + Drop>(
+    rt: &R,
+    err: W,
+) -> ExitCode {
     let Some(owned) = owned_words(rt) else {
         return ExitCode::from(NO_WORDS);
     };
@@ -19,7 +28,15 @@ pub fn run_program(rt: &HostRuntime) -> ExitCode {
     };
     let mut store = DirStore::new(rt);
     let mut out = StdSink::new(io::writer(rt));
-    let mut err = StdSink::new(rt.stderr());
-    let status = avrora_alone(rt.alloc(), &words, &mut store, &mut out, &mut err);
+    let mut err = StdSink::new(err);
+    let status = avrora(
+        rt,
+        rt.alloc(),
+        &words,
+        &mut store,
+        &mut out,
+        &mut err,
+        &OpenGate,
+    );
     ExitCode::from(status.number())
 }

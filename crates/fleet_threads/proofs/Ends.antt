@@ -1,0 +1,124 @@
+-- The rows of an epoch, when all nodes have come to its end.
+use Rattle.std.specs.Prelude.{is_some, nat_lt}
+use Rattle.std.proofs.Common.{◌≡◌, ℕ, ◌+◌, ◌<◌, ◌≤◌, ◌⊎◌, inl, inr, ⊎_elim, Bool, true, false, cond, not, ◌&&◌, ◌||◌, ◌==◌, List, [], ◌∷◌, ◌++◌, map, length, take, drop, get_or, set, min, refl, sym, subst, ◌∙◌, ap, arith, append-nil, append_assoc, length-take}
+use Rattle.std.specs.List.{All, flat_map}
+use Rattle.std.specs.List.Sorted.{IsNonDecreasingBy, IsStableByKey}
+use Rattle.std.specs.Ordering.{nat_cmp}
+use Rattle.std.proofs.lemmas.List.{length-map, get_or-map, get_or_at, set_at, drop_more, take_more, map_push}
+use Rattle.std.proofs.lemmas.List.Concat.{flat_map-append}
+use native.Mathlib.Decide.{ℕ_discrete}
+use Rattle.atomic_table.specs.Seated.{TableId}
+use Rattle.world_core.specs.declared.world.WorldFacts.{WorldFacts}
+use Rattle.clock_words.specs.Seats.{first_node}
+use Rattle.trace_rows.specs.declared.row.Row.{Row}
+use Rattle.node_core.specs.State.{NodeState}
+use Rattle.global_order.specs.Order.{Fleet, facts_of, node_at, world_at, end_rows}
+use Rattle.node_runner.specs.Scenario.{ScenarioOf, IsScenario, fleet_of}
+use Rattle.node_runner.specs.Place.{Place, HasEnded, is_live, state_at, rows_of}
+use Rattle.neighbour_sync.specs.NoSession.{no_table, no_world}
+use Rattle.fleet_plain.specs.Flight.{epoch, place_at, IsAt, IsTaken}
+use Rattle.fleet_plain.specs.Gather.{start_of, taken, end_row_of}
+use Rattle.fleet_plain.specs.Run.{rows_upto}
+use Rattle.fleet_plain.proofs.InFlight.{still_calm, still_over}
+use Rattle.fleet_plain.proofs.Gathered.{gathered, ends_are}
+use Rattle.fleet_plain.proofs.Epoch.{differ}
+use Rattle.fleet_threads.specs.declared.member.Member.{Member}
+use Rattle.fleet_threads.specs.Member.{IsPlaced, InOrder, AreAtEnd}
+use Rattle.fleet_threads.specs.Ending.{rows_at, end_row_at, taken_at, HasEndedAt, IsCalm}
+
+abbrev place_of : Member → Place
+place_of m = m.runner
+
+some_node : ScenarioOf → Member
+some_node sc = record { runner = start_of sc 0; air = first_node no_table no_world 0; turn = 0; halted = false }
+
+flat_places : (ms : List Member) → flat_map rows_at ms ≡ flat_map rows_of (map place_of ms)
+flat_places [] = refl
+flat_places (m ∷ ms) = ap (λ (l : List Row). rows_of m.runner ++ l) (flat_places ms)
+
+end_places : (ms : List Member) → map end_row_at ms ≡ map end_row_of (map place_of ms)
+end_places [] = refl
+end_places (m ∷ ms) = ap (λ (l : List Row). end_row_of m.runner ∷ l) (end_places ms)
+
+module _ (sc : ScenarioOf) (floor end : ℕ) (ms : List Member) (a : AreAtEnd sc floor end ms) where
+  abbrev ps : List Place
+  ps = map place_of ms
+
+  count : length (map place_of ms) ≡ sc.topo.nodes
+  count = length-map ms place_of ∙ a.order.count
+
+  nth : (k : ℕ) (d : Place) → k < sc.topo.nodes → place_at (map place_of ms) k d ≡ (get_or ms k (some_node sc)).runner
+  nth k d lt = let c = a.order.count in get_or-map place_of ms k (some_node sc) d (omega arith)
+
+  number : (k : ℕ) → k < sc.topo.nodes → (get_or ms k (some_node sc)).runner.number ≡ k
+  number k lt = a.order.each k (some_node sc) lt
+
+  here : (k : ℕ) → k < sc.topo.nodes → IsPlaced sc floor end (get_or ms k (some_node sc)).runner
+  here k lt = let c = a.order.count in a.placed k (some_node sc) (omega arith)
+
+  at : (k : ℕ) (d : Place) → k < sc.topo.nodes → IsAt sc end k (place_at (map place_of ms) k d)
+  at k d lt = subst (IsAt sc end k) (sym (nth k d lt)) (subst (λ (j : ℕ). IsAt sc end j (get_or ms k (some_node sc)).runner) (number k lt) (here k lt).at)
+
+  took : (k : ℕ) (d : Place) → k < sc.topo.nodes → IsTaken sc floor k (place_at (map place_of ms) k d)
+  took k d lt = subst (IsTaken sc floor k) (sym (nth k d lt)) (subst (λ (j : ℕ). IsTaken sc floor j (get_or ms k (some_node sc)).runner) (number k lt) (here k lt).taken)
+
+  still : (k : ℕ) (d : Place) → k < length (map place_of ms) → is_live end (place_at (map place_of ms) k d) ≡ false
+  still k d lt = let c = count in let n = a.order.count in subst (λ (p : Place). is_live end p ≡ false) (sym (nth k d (omega arith))) (a.still k (some_node sc) (omega arith))
+
+  pub all_calm : All IsCalm ms
+  all_calm k d lt = still_calm end (get_or ms k d).runner (a.still k d lt)
+
+  pub all_ended : end ≡ sc.topo.limit → All HasEndedAt ms
+  all_ended e k d lt =
+      let p : Place = (get_or ms k d).runner in
+      let is = a.placed k d lt in
+      record {
+        calm = all_calm k d lt;
+        noted = is.at.noted;
+        over = ⊎_elim (λ (stop : is_some (state_at p).stop ≡ true). inl stop)
+            (λ (past : end ≤ p.cycle). inr ((let w = is.at.within in let x : p.cycle ≡ sc.topo.limit = omega arith in x) ∙ ap (λ (z : ScenarioOf). z.topo.limit) (sym is.at.scenario)))
+            (still_over end p (a.still k d lt));
+      }
+
+  last_case : IsScenario sc → end ≤ sc.topo.limit → floor ≤ end → Dec (end ≡ sc.topo.limit) → cond (end == sc.topo.limit) (map end_row_at ms) [] ≡ cond (end == sc.topo.limit) (end_rows (fleet_of sc)) []
+  last_case ok lim rises (yes e) = ap (λ (l : List Row). cond (end == sc.topo.limit) l []) (end_places ms ∙ ends_are sc floor end (map place_of ms) ok lim count at took still rises (start_of sc 0) e)
+  last_case ok lim rises (no d) =
+      let q = differ end sc.topo.limit d in
+      ap (λ (b : Bool). cond b (map end_row_at ms) []) q ∙ sym (ap (λ (b : Bool). cond b (end_rows (fleet_of sc)) []) q)
+
+  pub next_rows : (ys last zs : List Row) → IsScenario sc → end ≤ sc.topo.limit → floor < end → IsNonDecreasingBy (λ r. r.cycle) ys → IsStableByKey (λ r. r.cycle) nat_cmp (flat_map rows_at ms) ys
+      → last ≡ cond (end == sc.topo.limit) (map end_row_at ms) [] → zs ≡ ys ++ last → rows_upto (fleet_of sc) end ≡ rows_upto (fleet_of sc) floor ++ zs
+  next_rows ys last zs ok lim more up stable l e =
+      let f : Fleet NodeState Row = fleet_of sc in
+      let w : List Row = (world_at f floor).rows in
+      let rises : floor ≤ end = omega arith in
+      let before : rows_upto f floor ≡ w = (let q = differ floor sc.topo.limit (λ g. absurd (omega arith)) in ap (λ (b : Bool). w ++ cond b (end_rows f) []) q ∙ append-nil w) in
+      let ends : cond (end == sc.topo.limit) (end_rows f) [] ≡ last = sym (l ∙ last_case ok lim rises (ℕ_discrete end sc.topo.limit)) in
+      let rows : (world_at f end).rows ≡ w ++ ys = gathered sc floor end (map place_of ms) ok lim count at took still rises (start_of sc 0) ys up (subst (λ (r : List Row). IsStableByKey (λ r. r.cycle) nat_cmp r ys) (flat_places ms) stable) in
+      (λ i. rows i ++ ends i) ∙ append_assoc w ys last ∙ (λ i. sym before i ++ sym e i)
+
+-- the node with another place
+abbrev pub with_runner : Member → Place → Member
+with_runner m p = record m { runner = p }
+
+-- one turn of the loop that takes the rows
+pub record GathersOn (old items : List Member) (i : ℕ) (m n : Member) : Type 0 where
+  pub left : set items i n ≡ map taken_at (take (i + 1) old) ++ drop (i + 1) old
+  pub rows : flat_map rows_at (take (i + 1) old) ≡ flat_map rows_at (take i old) ++ rows_at m
+  pub same : m ≡ get_or old i m
+
+pub gathers_on : (old items : List Member) (i : ℕ) (m n : Member) → i < length old → items ≡ map taken_at (take i old) ++ drop i old → m ≡ get_or items i m → n ≡ taken_at m → GathersOn old items i m n
+gathers_on old items i p q h e g r =
+    let m : List Member = map taken_at (take i old) in
+    let o : Member = get_or old i p in
+    let d : List Member = drop (i + 1) old in
+    let long : length m ≡ i = length-map (take i old) taken_at ∙ length-take i old ∙ (let x : min i (length old) ≡ i = omega arith in x) in
+    let parts : items ≡ m ++ o ∷ d = e ∙ ap (λ (l : List Member). m ++ l) (drop_more old i p h) in
+    let same : p ≡ o = g ∙ ap (λ (l : List Member). get_or l i p) parts ∙ get_or_at m o d p i long in
+    let more : take (i + 1) old ≡ take i old ++ o ∷ [] = take_more old i p h in
+    record {
+      left = ap (λ (l : List Member). set l i q) parts ∙ set_at m o d q i long ∙ ap (λ (x : Member). m ++ x ∷ d) (r ∙ ap taken_at same)
+          ∙ sym (append_assoc m (taken_at o ∷ []) d) ∙ ap (λ (l : List Member). l ++ d) (sym (map_push taken_at (take i old) o) ∙ ap (map taken_at) (sym more));
+      rows = ap (flat_map rows_at) more ∙ flat_map-append rows_at (take i old) (o ∷ []) ∙ ap (λ (l : List Row). flat_map rows_at (take i old) ++ l) (append-nil (rows_at o) ∙ ap rows_at (sym same));
+      same = same;
+    }

@@ -1,0 +1,21 @@
+use Rattle.std.proofs.Common.{◌≡◌, ℕ, ◌<◌, ◌++◌, List, length, get_or, sym, ap, ◌∙◌, arith}
+use Rattle.std.proofs.Common.{length-append, length-take, length-drop}
+use Rattle.std.proofs.lemmas.List.{length-map}
+use Rattle.fleet_threads.specs.declared.member.Member.{Member}
+use Rattle.fleet_threads.specs.Ending.{rows_at, taken_at}
+use Rattle.fleet_threads.proofs.Ends.{gathers_on, with_runner}
+use Rattle.fleet_threads.proofs.ending.gather.Goals as goal
+
+pub loop-member-preserved : goal.loop-member-preserved
+loop-member-preserved c =
+    let old : List Member = c.args.members.now.items in
+    let i : ℕ = c.loop-member.member-index in
+    let here : Member = get_or c.loop-member.member-items i c.member-item.result in
+    let new : Member = with_runner here c.take_rows.new.self in
+    let h : i < length old = omega (arith, c.loop-member-test.true, c.loop-member.auto.member-items, c.deref_mut-member-items.ensures.len, c.deref_mut-member-items.ensures.value) in
+    let took : new ≡ taken_at c.member-item.result = ap (with_runner here) c.take_rows.ensures.left ∙ ap taken_at (sym c.member-item.is) in
+    let on = gathers_on old c.loop-member.member-items i c.member-item.result new h c.loop-member.invariant.left c.member-item.is took in
+    record {
+      rows = c.in_ok-append.ensures.items ∙ (λ j. c.loop-member.invariant.rows j ++ (c.take_rows.ensures.rows ∙ ap rows_at (sym c.member-item.is)) j) ∙ sym on.rows;
+      left = on.left;
+    }

@@ -1,0 +1,11 @@
+use Rattle.std.proofs.Common.{List, sym, subst}
+use Rattle.std.specs.List.{All}
+use Rattle.std.proofs.lemmas.List.Elements.{All-push}
+use Rattle.fleet_threads.specs.declared.member.Member.{Member}
+use Rattle.fleet_threads.specs.Member.{IsBack}
+use Rattle.fleet_threads.proofs.threads.put.Goals as goal
+
+pub returns-clause-all : goal.returns-clause-all
+returns-clause-all g c =
+    subst (λ (l : List Member). All (IsBack g.N.Session.table g.N.Session.world c.args.scenario.now g.N.Session.floor c.args.end) l) (sym c.push_reserved.ensures.items)
+    (All-push (IsBack g.N.Session.table g.N.Session.world c.args.scenario.now g.N.Session.floor c.args.end) c.args.done.now.items c.args.member c.requires.done c.requires.member)

@@ -1,0 +1,26 @@
+use Rattle.std.proofs.Common.{◌≡◌, ℕ, ◌+◌, ◌<◌, true, false, List, length, get_or, vec_len, sym, ap, ◌∙◌, arith, rules}
+use Rattle.std.proofs.lemmas.Bool.{false≢true}
+use Rattle.std.proofs.lemmas.List.Elements.{All-set}
+use Rattle.fleet_threads.specs.declared.member.Member.{Member}
+use Rattle.fleet_threads.specs.Member.{IsUnderWay, IsOver}
+use Rattle.fleet_threads.proofs.Lists.{stepped, one_more_over}
+use Rattle.fleet_threads.proofs.threads.round.Goals.{then-not-step, else-not-step}
+use Rattle.fleet_threads.proofs.threads.round.Goals as goal
+
+pub loop-k-preserved : goal.loop-k-preserved
+loop-k-preserved g c =
+    let xs : List Member = c.loop-k.waiting.items in
+    let k : ℕ = c.loop-k.k in
+    let new : Member = c.step.new.self in
+    let inv = c.loop-k.invariant in
+    let len : length xs ≡ vec_len c.loop-k.waiting = search rules in
+    let long : k < length xs = omega (arith, c.loop-k-test.true, c.len-k-end.ensures, inv.len, len) in
+    record {
+      all = All-set (IsUnderWay g.N.Session.table g.N.Session.world c.args.scenario.now.value g.N.Session.floor c.args.end) xs k new c.step.ensures.member inv.all;
+      numbers = stepped xs k c.index_mut.result.now new long (c.step.ensures.number ∙ ap (λ (m : Member). m.runner.number) c.index_mut.ensures.value) ∙ inv.numbers;
+      len = inv.len;
+      over = (λ on. elim c.if-not-step.branch [
+        | then-not-step w ↦ absurd (false≢true (sym w.over-is ∙ on))
+        | else-not-step w ↦ one_more_over c.args.end xs k new long (inv.over (sym w.over-is ∙ on)) (c.step.ensures.over (let e : c.step.result ≡ true = search rules in e))
+      ]);
+    }

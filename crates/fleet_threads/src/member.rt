@@ -1,0 +1,193 @@
+// One node of the fleet, in an epoch.
+ghost use Rattle.std.specs.Prelude.{◌≡◌, ◌≤◌};
+ghost use Rattle.std.specs.List.{Contains};
+ghost use Rattle.fleet_threads.specs.Answers.{IsAnswered};
+
+use crate::gate::Gate;
+use neighbour_sync::{NodeAir, Passed, Session, Shared, Tried};
+use node_runner::{Event, Runner, Scenario};
+use std::snapshot::Snapshot;
+use std::sync::Wait;
+
+// The cycles of one turn of a node, at most.
+const QUANTUM: u64 = 1_024;
+
+/// A node: its runner, its part of the air, and the number of its next turn.
+#[derive(Drop)]
+pub struct Member {
+    pub runner: Runner,
+    pub air: NodeAir,
+    pub turn: u64,
+    /// Whether it wanted memory, or another node did and told it to halt.
+    pub halted: bool,
+}
+
+/// What a node does at a sample while those that it hears are behind.
+#[derive(Clone, Copy, PartialEq, Eq)]
+pub enum Sampling {
+    /// It waits, as a node does that has a thread of its own.
+    Waits,
+    /// It lets others go on, and tries again at its next step.
+    Tries,
+}
+
+// Samples the air.
+fn ask<N: Session, R: Wait>(
+    rt: &R,
+    shared: &Shared<Scenario, N>,
+    sampling: Sampling,
+    air: &mut NodeAir,
+    cycle: u64,
+) -> Tried
+    requires session { (air.old.table ≡ N.table) × (air.old.world ≡ N.world) }
+    requires asked { Contains N.world.asks record { node = air.old.number; cycle = cycle } }
+    requires floor { N.floor ≤ cycle }
+    ensures { IsAnswered N.world air.old cycle result air.new }
+{
+    match sampling {
+        Sampling::Tries => air.try_sample(rt, shared, cycle),
+        Sampling::Waits => match air.sample_when_passed(rt, shared, cycle) {
+            Passed::Heard(heard) => Tried::Heard(heard),
+            Passed::Halted => Tried::Halted,
+            Passed::NoMemory => Tried::NoMemory,
+        },
+    }
+}
+
+impl Member {
+    ghost use Rattle.std.specs.Prelude.{◌≡◌, true, false};
+    ghost use Rattle.node_runner.specs.Place.{Place, is_live};
+    ghost use Rattle.fleet_threads.specs.Member.{IsUnderWay, IsOver, word_of};
+
+    /// The number of its node.
+    pub fn number(&self) -> u8
+        ensures { result ≡ self.now.runner.number }
+    {
+        self.runner.number()
+    }
+
+    // Tells all nodes to halt, and halts.
+    fn halt<N: Session>(
+        &mut self,
+        shared: &Shared<Scenario, N>,
+        scenario: &Snapshot<Scenario>,
+        end: u64,
+    )
+        requires { IsUnderWay N.table N.world scenario.now.value N.floor end self.old }
+        ensures member { IsUnderWay N.table N.world scenario.now.value N.floor end self.new }
+        ensures runner { self.new.runner ≡ self.old.runner }
+    {
+        let _ = scenario;
+        let _ = end;
+        self.air.halt(shared);
+        self.halted = true;
+    }
+
+    // Raises the node's clock word to the runner's cycle, and to the end of the epoch where the node goes on no more before
+    // that.
+    fn raise<N: Session>(
+        &mut self,
+        shared: &Shared<Scenario, N>,
+        scenario: &Snapshot<Scenario>,
+        end: u64,
+    )
+        requires { IsUnderWay N.table N.world scenario.now.value N.floor end self.old }
+        ensures member { IsUnderWay N.table N.world scenario.now.value N.floor end self.new }
+        ensures runner { self.new.runner ≡ self.old.runner }
+        ensures halted { self.new.halted ≡ self.old.halted }
+        ensures clock { self.new.air.clock ≡ word_of end self.old.runner }
+    {
+        let _ = scenario;
+        let clock = if self.runner.is_live(end) {
+            self.runner.cycle()
+        } else {
+            end
+        };
+        self.air.raise(shared, clock);
+    }
+
+    // Finishes the cycle in which the node samples, if it may be told what it hears.
+    fn sample<N: Session, R: Wait>(
+        &mut self,
+        rt: &R,
+        shared: &Shared<Scenario, N>,
+        scenario: &Snapshot<Scenario>,
+        end: u64,
+        sampling: Sampling,
+    )
+        requires member { IsUnderWay N.table N.world scenario.now.value N.floor end self.old }
+        requires asking { self.old.runner.asking ≡ true }
+        ensures member { IsUnderWay N.table N.world scenario.now.value N.floor end self.new }
+        ensures number { self.new.runner.number ≡ self.old.runner.number }
+    {
+        let cycle = self.runner.cycle();
+        match ask(rt, shared, sampling, &mut self.air, cycle) {
+            Tried::Heard(heard) => self.runner.answer(heard),
+            Tried::NotYet { .. } => {}
+            Tried::Halted => self.halt(shared, scenario, end),
+            Tried::NoMemory => self.halt(shared, scenario, end),
+        }
+    }
+
+    // One turn: the node runs up to its next event. What it sends is posted at once.
+    fn run<N: Session, R: Wait, G: Gate>(
+        &mut self,
+        rt: &R,
+        shared: &Shared<Scenario, N>,
+        gate: &G,
+        scenario: &Snapshot<Scenario>,
+        end: u64,
+    )
+        requires member { IsUnderWay N.table N.world scenario.now.value N.floor end self.old }
+        requires calm { self.old.runner.asking ≡ false }
+        requires live { is_live end self.old.runner ≡ true }
+        ensures member { IsUnderWay N.table N.world scenario.now.value N.floor end self.new }
+        ensures number { self.new.runner.number ≡ self.old.runner.number }
+    {
+        gate.reached(rt, self.runner.number(), self.turn);
+        self.turn = self.turn.saturating_add(1);
+        let quantum = (end - self.runner.cycle()).min(QUANTUM);
+        match self.runner.event(quantum) {
+            Event::Sent { send } => {
+                let number = self.runner.count();
+                self.air.post(rt, shared, send, number);
+                self.runner.noted();
+            }
+            Event::NoMemory => self.halt(shared, scenario, end),
+            Event::Ask { .. } => {}
+            Event::Turn { .. } => {}
+            Event::Ended => {}
+        }
+    }
+
+    /// One step: the node raises its clock word, and then samples or takes a turn. Whether it is over for this epoch: the
+    /// node has come to the end or stopped, or it has halted.
+    pub fn step<N: Session, R: Wait, G: Gate>(
+        &mut self,
+        rt: &R,
+        shared: &Shared<Scenario, N>,
+        gate: &G,
+        scenario: &Snapshot<Scenario>,
+        end: u64,
+        sampling: Sampling,
+    ) -> bool
+        requires { IsUnderWay N.table N.world scenario.now.value N.floor end self.old }
+        ensures member { IsUnderWay N.table N.world scenario.now.value N.floor end self.new }
+        ensures number { self.new.runner.number ≡ self.old.runner.number }
+        ensures over { result ≡ true → IsOver end self.new }
+    {
+        if self.halted {
+            return true;
+        }
+        self.raise(shared, scenario, end);
+        if !self.runner.is_live(end) {
+            return true;
+        }
+        if self.runner.asking() {
+            self.sample(rt, shared, scenario, end, sampling);
+        } else {
+            self.run(rt, shared, gate, scenario, end);
+        }
+        false
+    }
+}
