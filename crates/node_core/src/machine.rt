@@ -1,12 +1,14 @@
 // The inside of a node, cycle by cycle.
-ghost use Rattle.std.specs.Prelude.{◌≡◌, ◌<◌, ◌≤◌, ◌+◌, ◌^◌, ◌++◌, ◌&&◌, ◌||◌, nat_le, nat_lt, None, Some, true, false, is_some, IfOk, OnOk, OnErr, vec_len, vec_capacity};
-ghost use Rattle.node_core.specs.Cycle.{acted, acted_rows, asks_after, asks_in, begun_in, begun_rows, cpu_cycle, cpu_rows, device_rows, devices_cycle, entered, entered_rows, finished_in, finished_rows, instructed, instructed_rows, is_idle, is_other, is_sei, is_sleep, owes, row, sends_after, sends_in, sent_rows, serial_rows};
+ghost use Rattle.std.specs.Prelude.{◌≡◌, ◌<◌, ◌≤◌, ◌+◌, ◌^◌, ◌%◌, ◌++◌, ◌&&◌, ◌||◌, nat_le, nat_lt, None, Some, true, false, is_some, IfOk, OnOk, OnErr, vec_len, vec_capacity};
+ghost use Rattle.node_core.specs.Cycle.{acted, acted_rows, asks_after, asks_in, begun_in, begun_rows, cpu_cycle, cpu_rows, device_rows, devices_cycle, entered, entered_rows, finished_in, finished_rows, instructed, instructed_rows, is_idle, is_other, is_reti, is_sei, is_set_i, is_sleep, owes, row, row_within, sends_after, sends_in, sent_rows, serial_rows};
 ghost use Rattle.trace_rows.specs.declared.row.Kind.TheVariants as kind;
 ghost use Rattle.node_core.specs.Inside.{IsAir, IsGoing};
 ghost use Rattle.node_core.specs.Interrupts.{due};
 ghost use Rattle.node_core.specs.Shown.{shown};
 ghost use Rattle.usart_port.specs.Script.{script_byte};
+ghost use Rattle.board_io.specs.Board.{sleep_mode};
 ghost use Rattle.board_io.specs.Lines.{lines_of};
+ghost use Rattle.ihex_loader.specs.Flash.{word_at};
 ghost use Rattle.interrupt_unit.specs.Lines.{pending_of};
 
 use crate::NodeBus;
@@ -14,10 +16,10 @@ use crate::execute::execute;
 use crate::interrupts::enter;
 use crate::rows::{is_within, put_row, tell, tell_instruction, unless_told};
 use avr_base::StopCause;
-use avr_decoder::Op;
+use avr_decoder::{Class, Op};
 use avr_program::Program;
 use board_io::Sleep;
-use data_space::Cpu;
+use data_space::{Cpu, Done};
 use interrupt_unit::Vector;
 use std::alloc::AllocError;
 use trace_rows::{Kind, Row};
@@ -27,14 +29,36 @@ use world_core::Heard;
 // The rows that a cycle makes at most: the processor's, a frame's, and one of the radio's before and after its sample.
 const ROWS_OF_A_CYCLE: usize = 4;
 
-// SEI and RETI.
-fn is_set_interrupts(op: &Op) -> bool
-    ensures { result ≡ is_sei op.now }
+#[inline]
+fn is_set_i(op: &Op) -> bool
+    ensures { result ≡ is_set_i op.now }
 {
     match op {
         Op::Bset { s } => *s == 7,
+        _ => false,
+    }
+}
+
+#[inline]
+fn is_reti(op: &Op) -> bool
+    ensures { result ≡ is_reti op.now }
+{
+    match op {
         Op::Reti => true,
         _ => false,
+    }
+}
+
+// SEI and RETI. By the class first, as the instruction is executed by: then one choice serves both.
+#[inline]
+#[tactic(auto, using(crate::proofs::Sei::sei_by_class))]
+fn is_set_interrupts(op: &Op) -> bool
+    ensures { result ≡ is_sei op.now }
+{
+    match op.class() {
+        Class::Arith => is_set_i(op),
+        Class::Flow => is_reti(op),
+        Class::Memory | Class::Halting(_) => false,
     }
 }
 
@@ -131,6 +155,34 @@ impl Machine {
         self.stop = Some(cause);
     }
 
+    // The row and the sleep of an instruction that was executed, which most are without: behind the window only SLEEP has
+    // one of the two. The answer is that of `instruct`.
+    #[inline(never)]
+    fn end_instruction(&mut self, cycle: u64, pc: u16, done: Done) -> u8
+        requires room { vec_len self.old.rows < vec_capacity self.old.rows }
+        requires awake { self.old.asleep ≡ false }
+        ensures state { shown self.new ≡ record (shown self.old) { asleep = done.sleep && is_idle (sleep_mode self.old.bus.board) } }
+        ensures rows { self.new.rows.items ≡ self.old.rows.items ++ row_within cycle (shown self.old) (kind.Instr pc (word_at self.old.program.bytes pc) (word_at self.old.program.bytes ((pc + 1) % 65536))) }
+        ensures awake { 0 < result → done.sleep ≡ false }
+        ensures cycles { 0 < result → result ≡ done.cycles }
+        ensures same { 0 < result → vec_len self.new.rows ≡ vec_len self.old.rows }
+        ensures used { vec_len self.new.rows ≤ vec_len self.old.rows + 1 }
+        ensures room { vec_capacity self.new.rows ≡ vec_capacity self.old.rows }
+        ensures wait { self.new.wait ≡ self.old.wait }
+        ensures stop { self.new.stop ≡ self.old.stop }
+        ensures count { self.new.count ≡ self.old.count }
+        ensures script { self.new.script ≡ self.old.script }
+        ensures clock { self.new.bus.board.clock ≡ self.old.bus.board.clock }
+    {
+        let told = is_within(self.from, self.to, cycle);
+        tell_instruction(&mut self.rows, told, &self.program, pc, cycle, self.number);
+        if done.sleep {
+            self.asleep = is_idle(self.bus.board.sleep_mode());
+            return 0;
+        }
+        unless_told(told, done.cycles)
+    }
+
     // The first cycle of an instruction: how many it takes, or 0 where the node stopped, executed SLEEP, or has a row
     // more.
     #[tactic(auto, unfolding(crate::specs::Cycle::instructed, crate::specs::Cycle::instructed_rows))]
@@ -162,16 +214,13 @@ impl Machine {
         self.bus.at(cycle);
         match execute(op, self.program.flash(), &mut self.cpu, &mut self.bus) {
             Ok(done) => {
-                let told = is_within(self.from, self.to, cycle);
-                tell_instruction(&mut self.rows, told, &self.program, pc, cycle, self.number);
                 self.wait = done.cycles - 1;
                 self.owed = is_owed(sei, before, self.cpu.sreg.bits);
                 self.count += 1;
-                if done.sleep {
-                    self.asleep = is_idle(self.bus.board.sleep_mode());
-                    return 0;
+                if done.sleep || cycle < self.to {
+                    return self.end_instruction(cycle, pc, done);
                 }
-                unless_told(told, done.cycles)
+                done.cycles
             }
             Err(cause) => {
                 self.halt(cycle, pc, cause);

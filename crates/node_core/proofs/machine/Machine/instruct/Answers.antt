@@ -7,10 +7,10 @@ pub returns-then-done-clause-clock : goal.returns-then-done-clause-clock
 returns-then-done-clause-clock c =
     let set = ap (λ (bus : NodeBus). bus.board.clock) c.at.ensures ∙ sym c.requires.now in
     let kept = ap (λ (bus : NodeBus). bus.board.clock) c.execute.ensures.bus ∙ executed_clock _ _ _ _ in
-    kept ∙ set
+    c.end_instruction.ensures.clock ∙ (kept ∙ set)
 
-pub returns-else-done-clause-clock : goal.returns-else-done-clause-clock
-returns-else-done-clause-clock c =
+pub returns-else-cycle-self-clause-clock : goal.returns-else-cycle-self-clause-clock
+returns-else-cycle-self-clause-clock c =
     let set = ap (λ (bus : NodeBus). bus.board.clock) c.at.ensures ∙ sym c.requires.now in
     let kept = ap (λ (bus : NodeBus). bus.board.clock) c.execute.ensures.bus ∙ executed_clock _ _ _ _ in
     kept ∙ set
