@@ -89,11 +89,16 @@ fn is_other(mode: Sleep) -> bool
     }
 }
 
-// Whether an instruction is owed before the next interrupt is entered; `sei` says that SEI was executed.
-fn is_owed(sei: bool, before: u8, after: u8) -> bool
-    ensures { result ≡ (sei || (nat_lt before 128 && nat_le 128 after)) }
+// Whether an instruction is owed before the next interrupt is entered. SEI and RETI leave I set, so without it none is.
+#[inline]
+fn owes(op: &Op, before: u8, after: u8) -> bool
+    requires { is_sei op.now ≡ true → 128 ≤ after }
+    ensures { result ≡ owes op.now before after }
 {
-    sei || (before < 128 && 128 <= after)
+    if after < 128 {
+        return false;
+    }
+    before < 128 || is_set_interrupts(op)
 }
 
 // What the radio does in a cycle, by whether it samples the air and what it sends.
@@ -209,13 +214,12 @@ impl Machine {
             self.halt(cycle, pc, StopCause::SleepMode);
             return 0;
         }
-        let sei = is_set_interrupts(&op);
         let before = self.cpu.sreg.bits;
         self.bus.at(cycle);
-        match execute(op, self.program.flash(), &mut self.cpu, &mut self.bus) {
+        match execute(&op, self.program.flash(), &mut self.cpu, &mut self.bus) {
             Ok(done) => {
                 self.wait = done.cycles - 1;
-                self.owed = is_owed(sei, before, self.cpu.sreg.bits);
+                self.owed = owes(&op, before, self.cpu.sreg.bits);
                 self.count += 1;
                 if done.sleep || cycle < self.to {
                     return self.end_instruction(cycle, pc, done);

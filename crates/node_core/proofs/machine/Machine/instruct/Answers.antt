@@ -1,7 +1,11 @@
 use Rattle.std.proofs.Common.{sym, ap, ◌∙◌}
 use Rattle.node_core.specs.declared.bus.NodeBus.{NodeBus}
 use Rattle.node_core.proofs.Clocks.{executed_clock}
+use Rattle.node_core.proofs.Sei.{sei_left_on}
 use Rattle.node_core.proofs.machine.Machine.instruct.Goals as goal
+
+pub owes-self-requires : goal.owes-self-requires
+owes-self-requires c = sei_left_on _ _ _ _ c.in-Ok.done _ _ c.in-Ok.is c.execute.ensures.result c.execute.ensures.cpu
 
 pub returns-then-done-clause-clock : goal.returns-then-done-clause-clock
 returns-then-done-clause-clock c =
