@@ -4,7 +4,7 @@ ghost use Rattle.avr_base.specs.Flags.{has_flag};
 ghost use Rattle.alu_flags.specs.Whole.{one_if, signed};
 ghost use Rattle.alu_flags.specs.Bytes.{complemented, decremented, negated, subtracted};
 
-use crate::flags::{C, Z, carries, signs};
+use crate::flags::{C, Z, carries, result, signs};
 use crate::signed::{overflows_byte, signed_byte};
 use avr_base::Sreg;
 
@@ -59,7 +59,7 @@ pub fn com(a: u8, s: Sreg) -> (u8, Sreg)
     ensures { result ≡ complemented a s }
 {
     let r = 255 - a;
-    (r, signs(s.with(C, true), r >= 128, r == 0, false))
+    (r, result(s.with(C, true), r, false))
 }
 
 /// NEG: `0 - a` modulo 256, with the flags of that difference; T and I stay.
@@ -78,5 +78,5 @@ pub fn dec(a: u8, s: Sreg) -> (u8, Sreg)
 {
     let r = a.wrapping_sub(1);
     let v = overflows_byte(signed_byte(a) - 1);
-    (r, signs(s, r >= 128, r == 0, v))
+    (r, result(s, r, v))
 }

@@ -3,7 +3,7 @@ ghost use Rattle.std.specs.Prelude.{◌≡◌, ◌+ℤ◌, pos};
 ghost use Rattle.alu_flags.specs.Whole.{one_if, signed};
 ghost use Rattle.alu_flags.specs.Bytes.{added, incremented, logical};
 
-use crate::flags::{carries, signs};
+use crate::flags::{carries, result};
 use crate::signed::{overflows_byte, signed_byte};
 use avr_base::Sreg;
 
@@ -26,7 +26,7 @@ pub fn add(a: u8, b: u8, carry: bool, s: Sreg) -> (u8, Sreg)
     let r = (sum % 256) as u8;
     let v = overflows_byte(signed_sum(a, b, carry));
     let s = carries(s, sum >= 256, low >= 16);
-    (r, signs(s, r >= 128, r == 0, v))
+    (r, result(s, r, v))
 }
 
 /// The flags of a bitwise result `r`, as of AND, OR and EOR: N, Z and S of it, V cleared; C, H, T and I stay.
@@ -35,7 +35,7 @@ pub fn add(a: u8, b: u8, carry: bool, s: Sreg) -> (u8, Sreg)
 pub fn logic(r: u8, s: Sreg) -> Sreg
     ensures { result ≡ logical r s }
 {
-    signs(s, r >= 128, r == 0, false)
+    result(s, r, false)
 }
 
 /// INC: `a + 1` modulo 256, and N, Z, V and S of that sum; C, H, T and I stay.
@@ -46,5 +46,5 @@ pub fn inc(a: u8, s: Sreg) -> (u8, Sreg)
 {
     let r = a.wrapping_add(1);
     let v = overflows_byte(signed_byte(a) + 1);
-    (r, signs(s, r >= 128, r == 0, v))
+    (r, result(s, r, v))
 }
