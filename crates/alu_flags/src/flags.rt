@@ -1,5 +1,5 @@
 // Flags set together.
-ghost use Rattle.std.specs.Prelude.{◌≡◌, ◌==◌, false, nat_le, slice_index_or};
+ghost use Rattle.std.specs.Prelude.{◌≡◌, ◌==◌, ◌&&◌, false, nat_le, slice_index_or};
 ghost use Rattle.alu_flags.specs.declared.flags.TheConstants.{SIGNS};
 ghost use Rattle.alu_flags.specs.Whole.{signs_of, with_carries, with_result, with_sign};
 
@@ -41,6 +41,9 @@ pub static SIGNS: [u8; 256] = [
 // The flags V and S, of which an overflow sets the one and turns the other round.
 const OVERFLOW: u8 = 0x18;
 
+// The flag Z.
+const ZERO: u8 = 0x02;
+
 // All flags but N, Z, V and S.
 const OTHERS: u8 = 0xE1;
 
@@ -61,14 +64,31 @@ fn signs_of(r: u8, v: bool) -> u8
     if v { signs ^ OVERFLOW } else { signs }
 }
 
+// The same, with Z only where it may be set.
+#[inline]
+fn signs_with(r: u8, v: bool, zero: bool) -> u8
+    ensures { result ≡ signs_of (nat_le 128 r) (zero && r == 0) v }
+{
+    let signs = signs_of(r, v);
+    if zero { signs } else { signs & !ZERO }
+}
+
+// N, Z, V and S of a result that is a byte; Z only where it may be set.
+#[inline]
+pub fn result_of(s: Sreg, r: u8, v: bool, zero: bool) -> Sreg
+    ensures { result.bits ≡ with_sign (nat_le 128 r) (zero && r == 0) v s.bits }
+{
+    Sreg {
+        bits: (s.bits & OTHERS) | signs_with(r, v, zero),
+    }
+}
+
 // N, Z, V and S of a result that is a byte.
 #[inline]
 pub fn result(s: Sreg, r: u8, v: bool) -> Sreg
     ensures { result.bits ≡ with_result 128 r v s.bits }
 {
-    Sreg {
-        bits: (s.bits & OTHERS) | signs_of(r, v),
-    }
+    result_of(s, r, v, true)
 }
 
 // N, Z and V, and S, which is N xor V.
