@@ -55,15 +55,6 @@ is_sei (op.Bset s) = s == 7
 is_sei op.Reti = true
 is_sei _ = false
 
--- each of them alone
-abbrev pub is_set_i : Op → Bool
-is_set_i (op.Bset s) = s == 7
-is_set_i _ = false
-
-abbrev pub is_reti : Op → Bool
-is_reti op.Reti = true
-is_reti _ = false
-
 -- whether one instruction is owed: after SEI and RETI, and after one that turned the flag I from 0 to 1
 abbrev pub owes : Op → ℕ → ℕ → Bool
 owes o before after = is_sei o || (nat_lt before 128 && nat_le 128 after)

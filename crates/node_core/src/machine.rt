@@ -1,6 +1,6 @@
 // The inside of a node, cycle by cycle.
 ghost use Rattle.std.specs.Prelude.{◌≡◌, ◌<◌, ◌≤◌, ◌+◌, ◌^◌, ◌%◌, ◌++◌, ◌&&◌, ◌||◌, nat_le, nat_lt, None, Some, true, false, is_some, IfOk, OnOk, OnErr, vec_len, vec_capacity};
-ghost use Rattle.node_core.specs.Cycle.{acted, acted_rows, asks_after, asks_in, begun_in, begun_rows, cpu_cycle, cpu_rows, device_rows, devices_cycle, entered, entered_rows, finished_in, finished_rows, instructed, instructed_rows, is_idle, is_other, is_reti, is_sei, is_set_i, is_sleep, owes, row, row_within, sends_after, sends_in, sent_rows, serial_rows};
+ghost use Rattle.node_core.specs.Cycle.{acted, acted_rows, asks_after, asks_in, begun_in, begun_rows, cpu_cycle, cpu_rows, device_rows, devices_cycle, entered, entered_rows, finished_in, finished_rows, instructed, instructed_rows, is_idle, is_other, is_sei, is_sleep, owes, row, row_within, sends_after, sends_in, sent_rows, serial_rows};
 ghost use Rattle.trace_rows.specs.declared.row.Kind.TheVariants as kind;
 ghost use Rattle.node_core.specs.Inside.{IsAir, IsGoing};
 ghost use Rattle.node_core.specs.Interrupts.{due};
@@ -16,7 +16,7 @@ use crate::execute::execute;
 use crate::interrupts::enter;
 use crate::rows::{is_within, put_row, tell, tell_instruction, unless_told};
 use avr_base::StopCause;
-use avr_decoder::{Class, Op};
+use avr_decoder::Op;
 use avr_program::Program;
 use board_io::Sleep;
 use data_space::{Cpu, Done};
@@ -29,36 +29,15 @@ use world_core::Heard;
 // The rows that a cycle makes at most: the processor's, a frame's, and one of the radio's before and after its sample.
 const ROWS_OF_A_CYCLE: usize = 4;
 
+// SEI and RETI.
 #[inline]
-fn is_set_i(op: &Op) -> bool
-    ensures { result ≡ is_set_i op.now }
-{
-    match op {
-        Op::Bset { s } => *s == 7,
-        _ => false,
-    }
-}
-
-#[inline]
-fn is_reti(op: &Op) -> bool
-    ensures { result ≡ is_reti op.now }
-{
-    match op {
-        Op::Reti => true,
-        _ => false,
-    }
-}
-
-// SEI and RETI. By the class first, as the instruction is executed by: then one choice serves both.
-#[inline]
-#[tactic(auto, using(crate::proofs::Sei::sei_by_class))]
 fn is_set_interrupts(op: &Op) -> bool
     ensures { result ≡ is_sei op.now }
 {
-    match op.class() {
-        Class::Arith => is_set_i(op),
-        Class::Flow => is_reti(op),
-        Class::Memory | Class::Halting(_) => false,
+    match op {
+        Op::Bset { s } => *s == 7,
+        Op::Reti => true,
+        _ => false,
     }
 }
 
