@@ -15,10 +15,10 @@ kept_or true None x rest = refl
 kept_or false (Some y) x rest = refl
 kept_or false None x rest = refl
 
-pub label_step : (number at : ℕ) (name : List ℕ) (old new : List ℕ → Option label.Label) → ((q : List ℕ) → new q ≡ (if bytes_eq q name then kept (old q) (labelled number at) else old q))
+pub label_step : (number at : ℕ) (name : List ℕ) (old new : List ℕ → Option label.Label) → ((q : List ℕ) → new q ≡ (if bytes_eq name q then kept (old q) (labelled number at) else old q))
     → (rest : List Said) (q : List ℕ) → or_else (old q) (label_in number at (Label name ∷ rest) q) ≡ or_else (new q) (label_in (number + 1) (behind at (Label name)) rest q)
 label_step number at name old new h rest q =
-    kept_or (bytes_eq q name) (old q) (labelled number at) (label_in (number + 1) (behind at (Label name)) rest q)
+    kept_or (bytes_eq name q) (old q) (labelled number at) (label_in (number + 1) (behind at (Label name)) rest q)
     ∙ ap (λ o. or_else o (label_in (number + 1) (behind at (Label name)) rest q)) (sym (h q))
 
 pub ruleset label_steps = (label_step)

@@ -44,7 +44,7 @@ label_in number at (Empty ∷ lines) name = label_in (number + 1) (behind at Emp
 label_in number at (NotALine ∷ lines) name = label_in (number + 1) (behind at NotALine) lines name
 label_in number at (Code a m t ∷ lines) name = label_in (number + 1) (behind at (Code a m t)) lines name
 label_in number at (Label x ∷ lines) name =
-    if bytes_eq name x then Some (labelled number at) else label_in (number + 1) (behind at (Label x)) lines name
+    if bytes_eq x name then Some (labelled number at) else label_in (number + 1) (behind at (Label x)) lines name
 
 abbrev pub is_at : Option ℕ → ℕ → Bool
 is_at None at = true

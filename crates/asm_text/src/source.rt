@@ -33,15 +33,17 @@ fn note_label<'t>(
     ensures { OnOk result ((rest : List Said) (name : List ℕ) → or_else (label_at labels.old name) (label_in index at (said line.entry ∷ rest) name) ≡ or_else (label_at labels.new name) (label_in (index + 1) (behind at (said line.entry)) rest name)) }
 {
     match line {
-        Line::Label(name) => add_label(
-            labels,
-            name,
-            Label {
+        Line::Empty => Ok(()),
+        Line::Instruction(_) => Ok(()),
+        Line::NotALine => Ok(()),
+        Line::Label(name) => {
+            let label = Label {
                 line: index,
                 address: at,
-            },
-        ),
-        _ => Ok(()),
+            };
+            add_label(labels, name, label)?;
+            Ok(())
+        }
     }
 }
 

@@ -68,16 +68,10 @@ one_alias mnemonic =
     else if bytes_eq mnemonic (codes "rol") then with_one (Register Both) 0x1C00
     else None
 
--- mnemonics with two registers
+-- mnemonics with two registers of any kind
 unfoldable pub two_registers : List ℕ → Option TwoForm
 two_registers mnemonic =
-    if bytes_eq mnemonic (codes "movw") then with_two (Register PairMiddle) (Register PairLow) 0x0100
-    else if bytes_eq mnemonic (codes "muls") then with_two (Register UpperMiddle) (Register UpperLow) 0x0200
-    else if bytes_eq mnemonic (codes "mulsu") then with_two (Register ShortMiddle) (Register ShortLow) 0x0300
-    else if bytes_eq mnemonic (codes "fmul") then with_two (Register ShortMiddle) (Register ShortLow) 0x0308
-    else if bytes_eq mnemonic (codes "fmuls") then with_two (Register ShortMiddle) (Register ShortLow) 0x0380
-    else if bytes_eq mnemonic (codes "fmulsu") then with_two (Register ShortMiddle) (Register ShortLow) 0x0388
-    else if bytes_eq mnemonic (codes "cpc") then with_two (Register Middle) (Register Split) 0x0400
+    if bytes_eq mnemonic (codes "cpc") then with_two (Register Middle) (Register Split) 0x0400
     else if bytes_eq mnemonic (codes "sbc") then with_two (Register Middle) (Register Split) 0x0800
     else if bytes_eq mnemonic (codes "add") then with_two (Register Middle) (Register Split) 0x0C00
     else if bytes_eq mnemonic (codes "cpse") then with_two (Register Middle) (Register Split) 0x1000
@@ -89,6 +83,22 @@ two_registers mnemonic =
     else if bytes_eq mnemonic (codes "or") then with_two (Register Middle) (Register Split) 0x2800
     else if bytes_eq mnemonic (codes "mov") then with_two (Register Middle) (Register Split) 0x2C00
     else if bytes_eq mnemonic (codes "mul") then with_two (Register Middle) (Register Split) 0x9C00
+    else None
+
+-- mnemonics with two registers of some kind, in four letters
+unfoldable pub two_narrow : List ℕ → Option TwoForm
+two_narrow mnemonic =
+    if bytes_eq mnemonic (codes "movw") then with_two (Register PairMiddle) (Register PairLow) 0x0100
+    else if bytes_eq mnemonic (codes "muls") then with_two (Register UpperMiddle) (Register UpperLow) 0x0200
+    else if bytes_eq mnemonic (codes "fmul") then with_two (Register ShortMiddle) (Register ShortLow) 0x0308
+    else None
+
+-- mnemonics with two registers of some kind, in more letters
+unfoldable pub two_signed : List ℕ → Option TwoForm
+two_signed mnemonic =
+    if bytes_eq mnemonic (codes "fmulsu") then with_two (Register ShortMiddle) (Register ShortLow) 0x0388
+    else if bytes_eq mnemonic (codes "mulsu") then with_two (Register ShortMiddle) (Register ShortLow) 0x0300
+    else if bytes_eq mnemonic (codes "fmuls") then with_two (Register ShortMiddle) (Register ShortLow) 0x0380
     else None
 
 -- mnemonics with a register and a constant
@@ -142,7 +152,7 @@ abbrev pub one : List ℕ → Option OneForm
 one mnemonic = or_else (one_plain mnemonic) (one_alias mnemonic)
 
 abbrev pub two : List ℕ → Option TwoForm
-two mnemonic = or_else (two_registers mnemonic) (or_else (two_constant mnemonic) (or_else (two_memory mnemonic) (two_bits mnemonic)))
+two mnemonic = or_else (two_registers mnemonic) (or_else (two_narrow mnemonic) (or_else (two_signed mnemonic) (or_else (two_constant mnemonic) (or_else (two_memory mnemonic) (two_bits mnemonic)))))
 
 -- a mnemonic, an alias or .word
 abbrev pub is_known : List ℕ → Bool

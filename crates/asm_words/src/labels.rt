@@ -28,10 +28,13 @@ pub fn add_label<'t>(
     name: &'t [u8],
     label: Label,
 ) -> Result<(), AllocError>
-    ensures { OnOk result ((q : List ℕ) → label_at labels.new q ≡ (if bytes_eq q name.now then kept (label_at labels.old q) label else label_at labels.old q)) }
+    ensures { OnOk result ((q : List ℕ) → label_at labels.new q ≡ (if bytes_eq name.now q then kept (label_at labels.old q) label else label_at labels.old q)) }
 {
-    if labels.get(&name).is_none() {
-        labels.insert(name, label)?;
+    match find_label(labels, name) {
+        Some(_) => Ok(()),
+        None => {
+            labels.insert(name, label)?;
+            Ok(())
+        }
     }
-    Ok(())
 }

@@ -1,6 +1,6 @@
 // The mnemonics, with the operands that they take and the words without these.
 ghost use Rattle.std.specs.Prelude.{◌≡◌};
-ghost use Rattle.asm_words.specs.Opcodes.{bare, one_plain, one_alias, two_registers, two_constant, two_memory, two_bits, one, two, is_known, width, with_one, with_two};
+ghost use Rattle.asm_words.specs.Opcodes.{bare, one_plain, one_alias, two_registers, two_narrow, two_signed, two_constant, two_memory, two_bits, one, two, is_known, width, with_one, with_two};
 
 use crate::form::NumberField::{
     Address, Constant, Flag, LowAddress, LowThree, ShortConstant, Word,
@@ -98,18 +98,12 @@ fn one_alias(mnemonic: &[u8]) -> Option<OneForm>
     }
 }
 
-/// Mnemonics with two registers.
+/// Mnemonics with two registers of any kind.
 #[tactic(auto, unfolding(crate::specs::Opcodes::two_registers))]
 fn two_registers(mnemonic: &[u8]) -> Option<TwoForm>
     ensures { result ≡ two_registers mnemonic.now }
 {
     match mnemonic {
-        b"movw" => with_two(Register(PairMiddle), Register(PairLow), 0x0100),
-        b"muls" => with_two(Register(UpperMiddle), Register(UpperLow), 0x0200),
-        b"mulsu" => with_two(Register(ShortMiddle), Register(ShortLow), 0x0300),
-        b"fmul" => with_two(Register(ShortMiddle), Register(ShortLow), 0x0308),
-        b"fmuls" => with_two(Register(ShortMiddle), Register(ShortLow), 0x0380),
-        b"fmulsu" => with_two(Register(ShortMiddle), Register(ShortLow), 0x0388),
         b"cpc" => with_two(Register(Middle), Register(Split), 0x0400),
         b"sbc" => with_two(Register(Middle), Register(Split), 0x0800),
         b"add" => with_two(Register(Middle), Register(Split), 0x0C00),
@@ -122,6 +116,35 @@ fn two_registers(mnemonic: &[u8]) -> Option<TwoForm>
         b"or" => with_two(Register(Middle), Register(Split), 0x2800),
         b"mov" => with_two(Register(Middle), Register(Split), 0x2C00),
         b"mul" => with_two(Register(Middle), Register(Split), 0x9C00),
+        _ => None,
+    }
+}
+
+/// Mnemonics with two registers of some kind, in four letters.
+#[tactic(auto, unfolding(crate::specs::Opcodes::two_narrow))]
+fn two_narrow(mnemonic: &[u8]) -> Option<TwoForm>
+    ensures { result ≡ two_narrow mnemonic.now }
+{
+    match mnemonic {
+        b"movw" => with_two(Register(PairMiddle), Register(PairLow), 0x0100),
+        b"muls" => with_two(Register(UpperMiddle), Register(UpperLow), 0x0200),
+        b"fmul" => with_two(Register(ShortMiddle), Register(ShortLow), 0x0308),
+        _ => None,
+    }
+}
+
+/// Mnemonics with two registers of some kind, in more letters.
+#[tactic(auto, unfolding(crate::specs::Opcodes::two_signed))]
+fn two_signed(mnemonic: &[u8]) -> Option<TwoForm>
+    ensures { result ≡ two_signed mnemonic.now }
+{
+    let longest: &[u8] = b"fmulsu";
+    if mnemonic == longest {
+        return with_two(Register(ShortMiddle), Register(ShortLow), 0x0388);
+    }
+    match mnemonic {
+        b"mulsu" => with_two(Register(ShortMiddle), Register(ShortLow), 0x0300),
+        b"fmuls" => with_two(Register(ShortMiddle), Register(ShortLow), 0x0380),
         _ => None,
     }
 }
@@ -198,6 +221,12 @@ pub fn two(mnemonic: &[u8]) -> Option<TwoForm>
     ensures { result ≡ two mnemonic.now }
 {
     if let Some(form) = two_registers(mnemonic) {
+        return Some(form);
+    }
+    if let Some(form) = two_narrow(mnemonic) {
+        return Some(form);
+    }
+    if let Some(form) = two_signed(mnemonic) {
         return Some(form);
     }
     if let Some(form) = two_constant(mnemonic) {

@@ -49,12 +49,12 @@ unfolding encode_with
 no_digit c computed [] h = All-nil (λ b. eqb b c ≡ false)
 no_digit c computed (x ∷ xs) h =
     let low : x < 256 = h 0 in
-    All-cons (λ b. eqb b c ≡ false) _ _ (no_glyph c computed (x / 16) (omega arith))
-    (All-cons (λ b. eqb b c ≡ false) _ _ (no_glyph c computed (x % 16) (omega arith)) (no_digit c computed xs (λ i. h (suc i))))
+    All-cons (λ b. eqb b c ≡ false) (slice_index upper_digits (x / 16)) (slice_index upper_digits (x % 16) ∷ encode_upper xs) (no_glyph c computed (x / 16) (omega arith))
+    (All-cons (λ b. eqb b c ≡ false) (slice_index upper_digits (x % 16)) (encode_upper xs) (no_glyph c computed (x % 16) (omega arith)) (no_digit c computed xs (λ i. h (suc i))))
 
 -- a colon and such digits
 no_code : (c : ℕ) → all_from (differs c) 0 16 ≡ true → eqb 58 c ≡ false → (bytes : List ℕ) → IsBytes bytes → All (λ b. eqb b c ≡ false) (58 ∷ encode_upper bytes)
-no_code c computed colon bytes h = All-cons (λ b. eqb b c ≡ false) 58 _ colon (no_digit c computed bytes h)
+no_code c computed colon bytes h = All-cons (λ b. eqb b c ≡ false) 58 (encode_upper bytes) colon (no_digit c computed bytes h)
 
 last_differs : (c x : ℕ) (xs : List ℕ) → All (λ b. eqb b c ≡ false) (x ∷ xs) → eqb (slice_index (x ∷ xs) (length xs)) c ≡ false
 last_differs c x [] h = All-head (λ b. eqb b c ≡ false) x [] h
@@ -63,7 +63,12 @@ last_differs c x (y ∷ ys) h = last_differs c y ys (All-tail (λ b. eqb b c ≡
 kept_whole : (x : ℕ) (xs : List ℕ) → All (λ b. eqb b 13 ≡ false) (x ∷ xs) → without_cr (x ∷ xs) ≡ x ∷ xs
 kept_whole x xs h =
     let n : length (x ∷ xs) - 1 ≡ length xs = omega arith in
-    rw (n, last_differs 13 x xs h) refl
+    chosen _ _ (x ∷ xs) _ (ap (λ k. eqb (slice_index (x ∷ xs) k) 13) n ∙ last_differs 13 x xs h)
+  where
+    chosen : (a b : Bool) (t u : List ℕ) → b ≡ false → cond a t (cond b u t) ≡ t
+    chosen true b t u e = refl
+    chosen false true t u e = absurd (cc)
+    chosen false false t u e = refl
 
 -- a record as a line is read as the record
 pub line_read : (kind offset : ℕ) (bytes rest : List ℕ) → IsWritable kind offset bytes → lines_of (record_line kind offset bytes ++ rest) ≡ Record kind offset bytes ∷ lines_of rest

@@ -76,10 +76,10 @@ lines_at n bytes = base_lines (eqb n 4096) ++ Record 0 (16 * n % 65536) (row n b
 at_read : (n : ℕ) (bytes rest : List ℕ) → IsBytes bytes → lines_of (record_at n bytes ++ rest) ≡ lines_at n bytes ++ lines_of rest
 unfolding record_at
 at_read n bytes rest h =
-    let data = record_line 0 (16 * n % 65536) (row n bytes) in
+    let line = record_line 0 (16 * n % 65536) (row n bytes) in
     let base = if eqb n 4096 then record_line 4 0 (0 ∷ 1 ∷ []) else [] in
-    ap lines_of (append_assoc base data rest)
-    ∙ (base_read (eqb n 4096) (data ++ rest)
+    ap lines_of (append_assoc base line rest)
+    ∙ (base_read (eqb n 4096) (line ++ rest)
     ∙ (ap (λ ls. base_lines (eqb n 4096) ++ ls) (line_read 0 (16 * n % 65536) (row n bytes) rest (row_writable n bytes h))
     ∙ sym (append_assoc (base_lines (eqb n 4096)) (Record 0 (16 * n % 65536) (row n bytes) ∷ []) (lines_of rest))))
 

@@ -24,12 +24,12 @@ quiet_more lines line quiet none rest =
     ∙ (quiet (line ∷ rest) ∙ ap (λ f. fault_or f (length lines + 1) (first_fault (lines ++ line ∷ []) rest)) none)
 
 -- a record that puts nothing
-pub other_wrote : (lines : List Line) (bytes : List ℕ) (b c kind : ℕ) (data : List ℕ) (o : Bool) → Wrote lines bytes b false
-    → (kind ≡ 0 → length data ≡ 0) → c ≡ last_or b (bases (Record kind 0 data)) → o ≡ eqb kind 1
-    → Wrote (lines ++ Record kind 0 data ∷ []) bytes c o
+pub other_wrote : (lines : List Line) (bytes : List ℕ) (b c kind : ℕ) (own : List ℕ) (o : Bool) → Wrote lines bytes b false
+    → (kind ≡ 0 → length own ≡ 0) → c ≡ last_or b (bases (Record kind 0 own)) → o ≡ eqb kind 1
+    → Wrote (lines ++ Record kind 0 own ∷ []) bytes c o
 other_wrote lines bytes b c kind data o w nothing base ended =
-    let good = other_good lines (padded 131072 bytes) (length bytes) b c kind 0 data false o w.stands refl nothing base ended in
-    record { quiet = quiet_more lines (Record kind 0 data) w.quiet good.0; stands = good.1 }
+    let good = other_good lines (padded 131072 bytes) (length bytes) b c kind 0 own false o w.stands refl nothing base ended in
+    record { quiet = quiet_more lines (Record kind 0 own) w.quiet good.0; stands = good.1 }
 
 pub blank_wrote : (lines : List Line) (bytes : List ℕ) (b : ℕ) (o : Bool) → Wrote lines bytes b o → Wrote (lines ++ Blank ∷ []) bytes b o
 blank_wrote lines bytes b o w =

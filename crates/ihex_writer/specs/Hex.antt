@@ -8,9 +8,13 @@ use Rattle.ihex_loader.specs.Written.{record_bytes}
 abbrev pub record_line : ℕ → ℕ → List ℕ → List ℕ
 record_line kind offset bytes = 58 ∷ (encode_upper (record_bytes kind offset bytes) ++ 10 ∷ [])
 
--- record n, counted from 0, of the bytes: 16 of them, or what is left; before the one at 0x10000 the linear base 1
+-- before the record at the byte address 0x10000: the linear base 1
+abbrev pub base_at : ℕ → List ℕ
+base_at n = if n == 4096 then record_line 4 0 (0 ∷ 1 ∷ []) else []
+
+-- record n, counted from 0, of the bytes: 16 of them, or what is left
 unfoldable pub record_at : ℕ → List ℕ → List ℕ
-record_at n bytes = (if n == 4096 then record_line 4 0 (0 ∷ 1 ∷ []) else []) ++ record_line 0 (16 * n % 65536) (take 16 (drop (16 * n) bytes))
+record_at n bytes = base_at n ++ record_line 0 (16 * n % 65536) (take 16 (drop (16 * n) bytes))
 
 -- the n first records
 abbrev pub records_to : ℕ → List ℕ → List ℕ

@@ -1,8 +1,8 @@
 // The text of a whole file.
-ghost use Rattle.std.specs.Prelude.{◌≡◌, ◌≤◌, ◌*◌, ◌++◌, ◌<◌, IfOk, OnOk, None, length};
+ghost use Rattle.std.specs.Prelude.{◌≡◌, ◌≤◌, ◌*◌, ◌++◌, ◌<◌, IfOk, OnOk, None, drop, length, take};
 ghost use Rattle.ihex_loader.specs.Flash.{bytes_of_words, image_of_words};
 ghost use Rattle.ihex_loader.specs.Image.{hex_fault, image};
-ghost use Rattle.ihex_writer.specs.Hex.{count, hex_of, record_at, records_to};
+ghost use Rattle.ihex_writer.specs.Hex.{base_at, count, hex_of, record_at, records_to};
 
 use crate::record::put_record;
 use avr_base::NoMemory;
@@ -27,18 +27,39 @@ fn bytes_of(alloc: Global, words: &[u16]) -> Result<Vec<u8>, AllocError>
     Ok(bytes)
 }
 
+// The bytes of record `n`, counted from 0: 16 of them, or what is left.
+fn row(n: usize, bytes: &[u8]) -> &[u8]
+    requires { RECORD * n < length bytes.now }
+    ensures row { result.now ≡ take 16 (drop (16 * n) bytes.entry.now) }
+    ensures few { length result.now ≤ 16 }
+{
+    let rest = &bytes[RECORD * n..];
+    if rest.len() < RECORD {
+        return rest;
+    }
+    &rest[..RECORD]
+}
+
+// Appends the base of the second segment before its first record.
+fn put_base(alloc: Global, n: usize, text: &mut Vec<u8>) -> Result<(), AllocError>
+    ensures { OnOk result (text.new.items ≡ text.old.items ++ base_at n) }
+{
+    if n == SECOND_SEGMENT {
+        put_record(alloc, 4, 0, &[0, 1], text)?;
+    }
+    Ok(())
+}
+
 // Appends record `n` of the bytes, counted from 0, and before that of the second segment its base.
+#[tactic(auto, unfolding(crate::specs::Hex::record_at))]
 fn put_row(alloc: Global, n: usize, bytes: &[u8], text: &mut Vec<u8>) -> Result<(), AllocError>
     requires within { RECORD * n < length bytes.now }
     requires few { length bytes.now ≤ 131072 }
     ensures { OnOk result (text.new.items ≡ text.old.items ++ record_at n bytes.now) }
 {
-    if n == SECOND_SEGMENT {
-        put_record(alloc, 4, 0, &[0, 1], text)?;
-    }
-    let at = RECORD * n;
-    let end = (at + RECORD).min(bytes.len());
-    put_record(alloc, 0, (at % 65_536) as u16, &bytes[at..end], text)
+    put_base(alloc, n, text)?;
+    let offset = (RECORD * n % 65_536) as u16;
+    put_record(alloc, 0, offset, row(n, bytes), text)
 }
 
 // Appends all records of the bytes.
