@@ -69,8 +69,8 @@ impl Program {
         line: Line<'t>,
     ) -> Result<(), AsmFault>
         requires { index < usize.MAX }
-        ensures ok { OnOk result (taken (label_at labels.now) index self.old (said line.entry) ≡ Result.Ok self.new) }
-        ensures err { IfErr result (λ e. (e ≡ AsmFault.NoMemory) ⊎ (taken (label_at labels.now) index self.old (said line.entry) ≡ Result.Err e)) }
+        ensures ok { OnOk result (taken (label_at labels.now) index self.old (said line.entry) ≡ Ok self.new) }
+        ensures err { IfErr result (λ e. (e ≡ AsmFault.NoMemory) ⊎ (taken (label_at labels.now) index self.old (said line.entry) ≡ Err e)) }
     {
         match piece_of(labels, index, self.at, line) {
             Ok(piece) => push_piece(&mut self.words, piece)?,
@@ -83,8 +83,8 @@ impl Program {
 
     /// The words, where no line is out of reach.
     pub fn finish(self) -> Result<Vec<u16>, AsmFault>
-        ensures ok { IfOk result (λ words. ended self.far self.words ≡ Result.Ok words.items) }
-        ensures err { IfErr result (λ e. (e ≡ AsmFault.NoMemory) ⊎ (ended self.far self.words ≡ Result.Err e)) }
+        ensures ok { IfOk result (λ words. ended self.far self.words ≡ Ok words.items) }
+        ensures err { IfErr result (λ e. (e ≡ AsmFault.NoMemory) ⊎ (ended self.far self.words ≡ Err e)) }
     {
         match self.far {
             None => Ok(self.words),

@@ -1,5 +1,5 @@
 // The mnemonics, with the operands that they take and the words without these.
-ghost use Rattle.std.specs.Prelude.{◌≡◌};
+ghost use Rattle.std.specs.Prelude.{◌≡◌, ◌≤◌};
 ghost use Rattle.asm_words.specs.Opcodes.{bare, one_plain, one_alias, two_registers, two_narrow, two_signed, two_constant, two_memory, two_bits, one, two, is_known, width, with_one, with_two};
 
 use crate::form::NumberField::{
@@ -248,7 +248,8 @@ pub fn is_known(mnemonic: &[u8]) -> bool
 /// The words that an instruction of this mnemonic takes: 2 for JMP, CALL, LDS and STS, else 1.
 #[tactic(auto, unfolding(crate::specs::Opcodes::width))]
 pub fn width(mnemonic: &[u8]) -> u32
-    ensures { result ≡ width mnemonic.now }
+    ensures value { result ≡ width mnemonic.now }
+    ensures small { result ≤ 2 }
 {
     match mnemonic {
         b"jmp" => 2,

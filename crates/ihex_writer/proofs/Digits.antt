@@ -1,11 +1,12 @@
 -- The digits of a record have no LF and no CR, so the record is one line.
-use Rattle.std.proofs.Common.{◌≡◌, ℕ, zero, suc, ◌+◌, ◌-◌, ◌/◌, ◌%◌, ◌<◌, eqb, cond, Bool, true, false, List, [], ◌∷◌, ◌++◌, length, take, drop, get_or, refl, sym, ap, ◌∙◌, arith, append_assoc}
+use Rattle.std.proofs.Common.{◌≡◌, ℕ, zero, suc, ◌+◌, ◌-◌, ◌/◌, ◌%◌, ◌<◌, eqb, cond, Bool, true, false, List, [], ◌∷◌, ◌++◌, length, take, drop, get_or, Fits, w16, refl, sym, ap, ◌∙◌, arith, append_assoc}
 use Rattle.std.specs.List.{All, slice_split}
 use Rattle.std.specs.Prelude.{slice_index, map}
 use Rattle.std.proofs.lemmas.List.Elements.{All-nil, All-cons, All-head, All-tail}
 use Rattle.std.proofs.lemmas.List.Splits.{slice_split_at}
 use Rattle.avr_base.proofs.Computed.{all_from, all_from-at}
 use Rattle.hex.specs.Hex.{IsBytes, encode_with, encode_upper, upper_digits}
+use Rattle.ihex_loader.specs.Flash.{bytes_of_words}
 use Rattle.ihex_loader.specs.Line.{Record, line_of, without_cr}
 use Rattle.ihex_loader.specs.Image.{lines_of}
 use Rattle.ihex_loader.specs.Written.{IsWritable, before_check, check_byte, record_bytes}
@@ -22,6 +23,14 @@ last_bytes (y ∷ xs) x h lt = cons_bytes y (xs ++ x ∷ []) (h 0) (last_bytes x
 
 pub no_bytes : IsBytes []
 no_bytes i = omega arith
+
+-- the bytes of words
+pub words_are_bytes : (words : List ℕ) → ((i : ℕ) → Fits w16 (get_or words i 0)) → IsBytes (bytes_of_words words)
+words_are_bytes [] h = no_bytes
+words_are_bytes (w ∷ ws) h =
+    let fits : Fits w16 w = h 0 in
+    let low : w < 65536 = omega (arith, fits) in
+    cons_bytes (w % 256) (w / 256 ∷ bytes_of_words ws) (omega arith) (cons_bytes (w / 256) (bytes_of_words ws) (omega arith) (words_are_bytes ws (λ i. h (suc i))))
 
 record_is_bytes : (kind offset : ℕ) (bytes : List ℕ) → IsWritable kind offset bytes → IsBytes (record_bytes kind offset bytes)
 record_is_bytes kind offset bytes w =

@@ -1,5 +1,6 @@
 -- The lines of the records.
 use Rattle.std.proofs.Common.{◌≡◌, ℕ, zero, suc, ◌+◌, ◌*◌, ◌/◌, ◌%◌, ◌<◌, ◌≤◌, eqb, if◌then◌else◌, Bool, true, false, List, [], ◌∷◌, ◌++◌, length, take, drop, length-take-le, length-drop, refl, sym, ap, ◌∙◌, arith, append_assoc}
+use Rattle.std.proofs.lemmas.List.{append-nil}
 use Rattle.hex.specs.Hex.{IsBytes}
 use Rattle.ihex_loader.specs.Line.{Line, Blank, Record, has_length, line_of}
 use Rattle.ihex_loader.specs.Image.{lines_of}
@@ -98,7 +99,7 @@ to_read (suc n) bytes rest h =
 
 end_read : lines_of (record_line 1 0 []) ≡ Record 1 0 [] ∷ Blank ∷ []
 unfolding line_of
-end_read = line_read 1 0 [] [] end_writable
+end_read = ap lines_of (sym (append-nil (record_line 1 0 []))) ∙ line_read 1 0 [] [] end_writable
 
 -- all lines: those of the records, the end record, and nothing behind the last LF
 pub all_read : (n : ℕ) (bytes : List ℕ) → IsBytes bytes → lines_of (records_to n bytes ++ record_line 1 0 []) ≡ lines_to n bytes ++ Record 1 0 [] ∷ Blank ∷ []

@@ -1,5 +1,5 @@
 -- What the loader has behind the lines of the records.
-use Rattle.std.proofs.Common.{◌≡◌, ℕ, zero, suc, ◌+◌, ◌-◌, ◌*◌, ◌/◌, ◌%◌, ◌<◌, ◌≤◌, max, eqb, cond, if◌then◌else◌, Bool, true, false, List, [], ◌∷◌, ◌++◌, length, take, drop, get_or, None, Option, length-append, length-drop, refl, sym, ap, ◌∙◌, subst, arith, append_assoc, inl, inr, tests}
+use Rattle.std.proofs.Common.{◌≡◌, ℕ, zero, suc, ◌+◌, ◌-◌, ◌*◌, ◌/◌, ◌%◌, ◌<◌, ◌≤◌, max, eqb, cond, ◌≢◌, if◌then◌else◌, Bool, true, false, List, [], ◌∷◌, ◌++◌, length, take, drop, get_or, None, Option, length-append, length-drop, refl, sym, ap, ◌∙◌, subst, arith, append_assoc, inl, inr, tests}
 use Rattle.std.specs.Prelude.{replicate}
 use Rattle.std.proofs.lemmas.Bool.{cases_eq, eq-eqb, ne_eqb}
 use Rattle.std.proofs.lemmas.Bool.Decides.{nat_tests}
@@ -27,7 +27,7 @@ quiet_more lines line quiet none rest =
 pub other_wrote : (lines : List Line) (bytes : List ℕ) (b c kind : ℕ) (own : List ℕ) (o : Bool) → Wrote lines bytes b false
     → (kind ≡ 0 → length own ≡ 0) → c ≡ last_or b (bases (Record kind 0 own)) → o ≡ eqb kind 1
     → Wrote (lines ++ Record kind 0 own ∷ []) bytes c o
-other_wrote lines bytes b c kind data o w nothing base ended =
+other_wrote lines bytes b c kind own o w nothing base ended =
     let good = other_good lines (padded 131072 bytes) (length bytes) b c kind 0 own false o w.stands refl nothing base ended in
     record { quiet = quiet_more lines (Record kind 0 own) w.quiet good.0; stands = good.1 }
 
@@ -37,11 +37,22 @@ blank_wrote lines bytes b o w =
     record { quiet = quiet_more lines Blank w.quiet good.0; stands = good.1 }
 
 -- one byte in the place of another
+at_same : (xs zs : List ℕ) (y : ℕ) → get_or (xs ++ y ∷ zs) (length xs) 0 ≡ y
+at_same [] zs y = refl
+at_same (x ∷ xs) zs y = at_same xs zs y
+
+at_other : (xs zs : List ℕ) (y z a : ℕ) → length xs ≢ a → get_or (xs ++ y ∷ zs) a 0 ≡ get_or (xs ++ z ∷ zs) a 0
+at_other [] zs y z zero ne = absurd (ne refl)
+at_other [] zs y z (suc a) ne = refl
+at_other (x ∷ xs) zs y z zero ne = refl
+at_other (x ∷ xs) zs y z (suc a) ne = at_other xs zs y z a (λ e. ne (ap suc e))
+
 at_place : (xs zs : List ℕ) (y z a : ℕ) → get_or (xs ++ y ∷ zs) a 0 ≡ (if eqb (length xs) a then y else get_or (xs ++ z ∷ zs) a 0)
-at_place [] zs y z zero = refl
-at_place [] zs y z (suc a) = refl
-at_place (x ∷ xs) zs y z zero = refl
-at_place (x ∷ xs) zs y z (suc a) = at_place xs zs y z a
+at_place xs zs y z a =
+    elim (cases_eq (length xs) a) [
+      | inl e ↦ (ap (λ k. get_or (xs ++ y ∷ zs) k 0) (sym e) ∙ at_same xs zs y) ∙ sym (ap (λ b. cond b y (get_or (xs ++ z ∷ zs) a 0)) (eq-eqb (length xs) a e))
+      | inr ne ↦ at_other xs zs y z a ne ∙ sym (ap (λ b. cond b y (get_or (xs ++ z ∷ zs) a 0)) (ne_eqb (length xs) a ne))
+    ]
 
 rest_of : (n m : ℕ) → m < n → n - m ≡ suc (n - (m + 1))
 rest_of n m lt = omega arith
@@ -70,11 +81,11 @@ pub length-padded : (n : ℕ) (xs : List ℕ) → length xs ≤ n → length (pa
 unfolding padded
 length-padded n xs le = length-append xs (replicate (n - length xs) 255) ∙ by_rest (length-replicate (n - length xs))
   where
-    length-replicate : (k : ℕ) → length (replicate k 255) ≡ k
+    length-replicate : (k : ℕ) → length {A = ℕ} (replicate k 255) ≡ k
     length-replicate zero = refl
     length-replicate (suc k) = ap suc (length-replicate k)
 
-    by_rest : length (replicate (n - length xs) 255) ≡ n - length xs → length xs + length (replicate (n - length xs) 255) ≡ n
+    by_rest : length {A = ℕ} (replicate (n - length xs) 255) ≡ n - length xs → length xs + length {A = ℕ} (replicate (n - length xs) 255) ≡ n
     by_rest e = omega (arith, e)
 
 -- a data record

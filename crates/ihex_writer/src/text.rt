@@ -73,10 +73,22 @@ fn put_rows(alloc: Global, bytes: &[u8], text: &mut Vec<u8>) -> Result<(), Alloc
     Ok(())
 }
 
+// The text of words, by the rules alone.
+#[tactic(auto, unfolding(crate::specs::Hex::hex_of))]
+fn written(alloc: Global, words: &[u16]) -> Result<Vec<u8>, NoMemory>
+    requires { length words.now ≤ 65536 }
+    ensures { IfOk result (λ text. text.items ≡ hex_of words.now) }
+{
+    let bytes = bytes_of(alloc, words)?;
+    let mut text = Vec::new(alloc);
+    put_rows(alloc, &bytes, &mut text)?;
+    put_record(alloc, 1, 0, &[], &mut text)?;
+    Ok(text)
+}
+
 /// The Intel HEX text of `words`, at most 65,536 of them, from word address 0 on, low byte first: records of 16 bytes,
 /// the last one shorter, in upper case, each ended by LF; before the byte 0x10000 the linear base, and last the end
 /// record.
-#[tactic(auto, unfolding(crate::specs::Hex::hex_of))]
 pub fn hex_text(alloc: Global, words: &[u16]) -> Result<Vec<u8>, NoMemory>
     requires { length words.now ≤ 65536 }
     ensures text { IfOk result (λ text. text.items ≡ hex_of words.now) }
@@ -84,9 +96,8 @@ pub fn hex_text(alloc: Global, words: &[u16]) -> Result<Vec<u8>, NoMemory>
     ensures sound { IfOk result (λ text. hex_fault text.items ≡ None) }
     ensures image { IfOk result (λ text. image text.items ≡ image_of_words words.now) }
 {
-    let bytes = bytes_of(alloc, words)?;
-    let mut text = Vec::new(alloc);
-    put_rows(alloc, &bytes, &mut text)?;
-    put_record(alloc, 1, 0, &[], &mut text)?;
-    Ok(text)
+    match written(alloc, words) {
+        Ok(text) => Ok(text),
+        Err(fault) => Err(fault),
+    }
 }

@@ -10,14 +10,20 @@ use std::alloc::Global;
 
 /// The program of a source in assembly, from word address 0 on, or the fault that decides.
 pub fn assemble(alloc: Global, text: &[u8]) -> Result<Vec<u16>, AsmFault>
-    ensures ok { IfOk result (λ words. assembled text.now ≡ Result.Ok words.items) }
-    ensures err { IfErr result (λ e. (e ≡ AsmFault.NoMemory) ⊎ (assembled text.now ≡ Result.Err e)) }
+    ensures ok { IfOk result (λ words. assembled text.now ≡ Ok words.items) }
+    ensures err { IfErr result (λ e. (e ≡ AsmFault.NoMemory) ⊎ (assembled text.now ≡ Err e)) }
 {
     let pieces = pieces_of(alloc, text)?;
     let labels = labels_of(alloc, &pieces)?;
     let mut program = Program::new(alloc);
     for (i, piece) in pieces.iter().enumerate() {
-        program.take(&labels, i, read_line(piece))?;
+        match program.take(&labels, i, read_line(piece)) {
+            Ok(()) => {}
+            Err(fault) => return Err(fault),
+        }
     }
-    program.finish()
+    match program.finish() {
+        Ok(words) => Ok(words),
+        Err(fault) => Err(fault),
+    }
 }
