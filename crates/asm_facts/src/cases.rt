@@ -95,7 +95,12 @@ fn is_right<R: Print>(rt: &R, alloc: Global, case: &Case, line: &[u8]) -> io::Re
     if got.as_slice() == line {
         return Ok(true);
     }
-    println!(rt; "{}: got {}, the file wants {}", text_of(case.name.as_slice()), text_of(got.as_slice()), text_of(line))?;
+    println!(rt;
+        "{}: got {}, the file wants {}",
+        text_of(case.name.as_slice()),
+        text_of(got.as_slice()),
+        text_of(line)
+    )?;
     Ok(false)
 }
 

@@ -5,7 +5,8 @@ ghost use Rattle.asm_lines.specs.Text.{body_of, is_printed};
 ghost use Rattle.asm_lines.specs.Line.{line_of, said, texts_of, told, instruction_of, marked_of, pair_of, statement_of};
 
 use crate::text::{
-    address, is_label, is_printed, place_of, place_of_blank, trim_end, trim_start, without_comment, without_cr,
+    address, is_label, is_printed, place_of, place_of_blank, trim_end, trim_start, without_comment,
+    without_cr,
 };
 
 /// What stands behind a mnemonic: the operands, separated by commas, each without blanks before it.

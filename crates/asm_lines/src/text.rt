@@ -148,7 +148,9 @@ pub fn address(text: &[u8]) -> Option<u16>
                 return None;
             }
             Some(
-                4096 * upper_digit(*a) + 256 * upper_digit(*b) + 16 * upper_digit(*c)
+                4096 * upper_digit(*a)
+                    + 256 * upper_digit(*b)
+                    + 16 * upper_digit(*c)
                     + upper_digit(*d),
             )
         }

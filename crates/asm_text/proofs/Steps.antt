@@ -12,13 +12,13 @@ pub step_on : (labels : List ℕ → Option label.Label) (number : ℕ) (so more
     → assembled_from labels number so (line ∷ rest) ≡ assembled_from labels (number + 1) more rest
 unfolding assembled_from
 step_on labels number so more line rest h =
-    ap (λ r. elim r [ | Err fault ↦ Err fault | Ok m ↦ assembled_from labels (number + 1) m rest ]) h
+    ap (λ r. elim r [ Err fault ↦ Err fault | Ok m ↦ assembled_from labels (number + 1) m rest ]) h
 
 pub step_out : (labels : List ℕ → Option label.Label) (number : ℕ) (so : Progress) (fault : AsmFault) (line : Said) (rest : List Said) → taken labels number so line ≡ Err fault
     → assembled_from labels number so (line ∷ rest) ≡ Err fault
 unfolding assembled_from
 step_out labels number so fault line rest h =
-    ap (λ r. elim r [ | Err f ↦ Err f | Ok m ↦ assembled_from labels (number + 1) m rest ]) h
+    ap (λ r. elim r [ Err f ↦ Err f | Ok m ↦ assembled_from labels (number + 1) m rest ]) h
 
 -- with no line left
 pub step_end : (labels : List ℕ → Option label.Label) (number n : ℕ) (so : Progress) (all : List Said) → n ≡ length all → assembled_from labels number so (drop n all) ≡ ended so.far so.words

@@ -143,6 +143,7 @@ two_bits mnemonic =
     else if bytes_eq mnemonic (codes "brbs") then with_two (Number LowThree) Branch 0xF000
     else if bytes_eq mnemonic (codes "brbc") then with_two (Number LowThree) Branch 0xF400
     else None
+
 -- one table or the next
 abbrev pub or_else : {X : Type 0} → Option X → Option X → Option X
 or_else (Some x) other = Some x

@@ -2,15 +2,15 @@
 ghost use Rattle.std.specs.Prelude.{◌≡◌, ◌≤◌};
 ghost use Rattle.asm_words.specs.Opcodes.{bare, one_plain, one_alias, two_registers, two_narrow, two_signed, two_constant, two_memory, two_bits, one, two, is_known, width, with_one, with_two};
 
+use crate::form::Field::{
+    Branch, Data, Displaced, FlashPointer, Jump, Number, Place, Pointer, Register,
+};
 use crate::form::NumberField::{
     Address, Constant, Flag, LowAddress, LowThree, ShortConstant, Word,
 };
 use crate::form::RegisterField::{
     Both, Middle, PairLow, PairMiddle, ShortLow, ShortMiddle, Split, UpperLow, UpperMiddle,
     WordPair,
-};
-use crate::form::Field::{
-    Branch, Data, Displaced, FlashPointer, Jump, Number, Place, Pointer, Register,
 };
 use crate::form::{Field, OneForm, TwoForm};
 

@@ -84,10 +84,7 @@ fn place_label(label: Option<Label>) -> Result<Part, WordFault>
     }
 }
 
-fn place_part<'t>(
-    text: &'t [u8],
-    labels: &BTreeMap<&'t [u8], Label>,
-) -> Result<Part, WordFault>
+fn place_part<'t>(text: &'t [u8], labels: &BTreeMap<&'t [u8], Label>) -> Result<Part, WordFault>
     ensures { result ≡ place_part text.entry.now (label_at labels.now) }
 {
     if is_label(text) {

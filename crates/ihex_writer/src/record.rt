@@ -23,12 +23,7 @@ fn check_of(bytes: &[u8]) -> u8
 }
 
 // The bytes of a record: the count, the offset with its high byte first, the type, the data and the check byte.
-fn bytes_of(
-    alloc: Global,
-    kind: u8,
-    offset: u16,
-    bytes: &[u8],
-) -> Result<Vec<u8>, AllocError>
+fn bytes_of(alloc: Global, kind: u8, offset: u16, bytes: &[u8]) -> Result<Vec<u8>, AllocError>
     requires { length bytes.now ≤ 255 }
     ensures { IfOk result (λ all. all.items ≡ record_bytes kind offset bytes.now) }
 {

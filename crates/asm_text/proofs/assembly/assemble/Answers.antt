@@ -32,7 +32,7 @@ returns-in-Err-clause-err c =
     let here : drop i all ≡ line ∷ drop (i + 1) all = from_place all i line within (c.read_line.ensures ∙ sym (get_or-map (λ p. line_of p.now) items i _ line lt)) in
     let start : assembled c.args.text.now ≡ assembled_from look 0 started all =
     whole (λ p. p.now) c.args.text.now items look (ap (map (λ p. p.now)) c.deref-piece-items.ensures.value ∙ c.in_ok-pieces.ensures)
-        (λ name. c.in_ok-labels.ensures name ∙ ap (λ ps. label_in 0 0 (map (λ p. line_of p.now) ps) name) (c.deref.ensures.value ∙ sym c.deref-piece-items.ensures.value)) in
+    (λ name. c.in_ok-labels.ensures name ∙ ap (λ ps. label_in 0 0 (map (λ p. line_of p.now) ps) name) (c.deref.ensures.value ∙ sym c.deref-piece-items.ensures.value)) in
     ⊎_elim (λ m. inl m)
     (λ w. inr (start ∙ (c.loop-i.invariant ∙ (ap (λ ls. assembled_from look i c.loop-i.program ls) here ∙ step_out look i c.loop-i.program _ line (drop (i + 1) all) w))))
     c.in-Err.ensures.err
@@ -47,7 +47,7 @@ returns-in-Ok-finish-clause-ok c =
     let end : i ≡ length all = done ∙ sym (length-map items (λ p. line_of p.now)) in
     let start : assembled c.args.text.now ≡ assembled_from look 0 started all =
     whole (λ p. p.now) c.args.text.now items look (ap (map (λ p. p.now)) c.deref-piece-items.ensures.value ∙ c.in_ok-pieces.ensures)
-        (λ name. c.in_ok-labels.ensures name ∙ ap (λ ps. label_in 0 0 (map (λ p. line_of p.now) ps) name) (c.deref.ensures.value ∙ sym c.deref-piece-items.ensures.value)) in
+    (λ name. c.in_ok-labels.ensures name ∙ ap (λ ps. label_in 0 0 (map (λ p. line_of p.now) ps) name) (c.deref.ensures.value ∙ sym c.deref-piece-items.ensures.value)) in
     start ∙ (c.loop-i.invariant ∙ (step_end look i i c.loop-i.program all end ∙ c.in-Ok-finish.ensures.ok))
 
 pub returns-clause-err : goal.returns-clause-err
@@ -60,5 +60,5 @@ returns-clause-err c =
     let end : i ≡ length all = done ∙ sym (length-map items (λ p. line_of p.now)) in
     let start : assembled c.args.text.now ≡ assembled_from look 0 started all =
     whole (λ p. p.now) c.args.text.now items look (ap (map (λ p. p.now)) c.deref-piece-items.ensures.value ∙ c.in_ok-pieces.ensures)
-        (λ name. c.in_ok-labels.ensures name ∙ ap (λ ps. label_in 0 0 (map (λ p. line_of p.now) ps) name) (c.deref.ensures.value ∙ sym c.deref-piece-items.ensures.value)) in
+    (λ name. c.in_ok-labels.ensures name ∙ ap (λ ps. label_in 0 0 (map (λ p. line_of p.now) ps) name) (c.deref.ensures.value ∙ sym c.deref-piece-items.ensures.value)) in
     ⊎_elim (λ m. inl m) (λ w. inr (start ∙ (c.loop-i.invariant ∙ (step_end look i i c.loop-i.program all end ∙ w)))) c.in-Err-finish.ensures.err
