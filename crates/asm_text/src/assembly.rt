@@ -1,5 +1,5 @@
 // The program of a source.
-ghost use Rattle.std.specs.Prelude.{◌≡◌, ◌⊎◌, IfErr, IfOk};
+ghost use Rattle.std.specs.Prelude.{◌≡◌, ◌≤◌, ◌⊎◌, length, IfErr, IfOk};
 ghost use Rattle.asm_text.specs.Source.{assembled};
 
 use crate::fault::AsmFault;
@@ -12,6 +12,8 @@ use std::alloc::Global;
 pub fn assemble(alloc: Global, text: &[u8]) -> Result<Vec<u16>, AsmFault>
     ensures ok { IfOk result (λ words. assembled text.now ≡ Ok words.items) }
     ensures err { IfErr result (λ e. (e ≡ AsmFault.NoMemory) ⊎ (assembled text.now ≡ Err e)) }
+    // so they fit into the flash
+    ensures few { IfOk result (λ words. length words.items ≤ 65536) }
 {
     let pieces = pieces_of(alloc, text)?;
     let labels = labels_of(alloc, &pieces)?;

@@ -1,10 +1,10 @@
 // One line at its address.
-ghost use Rattle.std.specs.Prelude.{◌≡◌, ◌≤◌};
+ghost use Rattle.std.specs.Prelude.{◌≡◌, ◌≤◌, ◌+◌, true, is_some, length, min, IfOk, None};
 ghost use Rattle.asm_lines.specs.Line.{said, told};
 ghost use Rattle.asm_words.specs.Labels.{label_at};
 ghost use Rattle.asm_words.specs.Encoded.{encoded};
 ghost use Rattle.asm_words.specs.Opcodes.{width};
-ghost use Rattle.asm_text.specs.Source.{behind, first_of, is_at, piece_of, placed, size};
+ghost use Rattle.asm_text.specs.Source.{behind, first_of, is_at, piece_of, placed, size, words_of};
 
 use crate::fault::LineFault;
 use asm_lines::{Instruction, Line};
@@ -50,8 +50,11 @@ fn placed(
     encoded: Result<Piece, WordFault>,
 ) -> Result<Option<Piece>, LineFault>
     requires at { at ≤ 65536 }
+    requires some { 1 ≤ words }
     requires words { words ≤ 2 }
-    ensures { result ≡ placed at is_here words encoded }
+    requires second { IfOk encoded (λ p. is_some p.second ≡ true → words ≡ 2) }
+    ensures value { result ≡ placed at is_here words encoded }
+    ensures room { IfOk result (λ p. at + length (words_of p) ≤ min (at + words) 65536) }
 {
     let is_past = at + words > END;
     match encoded {
@@ -71,7 +74,8 @@ fn place_instruction<'t>(
     it: Instruction<'t>,
 ) -> Result<Option<Piece>, LineFault>
     requires { at ≤ 65536 }
-    ensures { result ≡ placed at (is_at it.entry.address at) (width it.entry.mnemonic.now) (encoded it.entry.mnemonic.now (told it.entry.operands) at (label_at labels.now)) }
+    ensures value { result ≡ placed at (is_at it.entry.address at) (width it.entry.mnemonic.now) (encoded it.entry.mnemonic.now (told it.entry.operands) at (label_at labels.now)) }
+    ensures room { IfOk result (λ p. at + length (words_of p) ≤ min (at + width it.entry.mnemonic.now) 65536) }
 {
     let words = width(it.mnemonic);
     let encoded = encode(it.mnemonic, it.operands, at, labels);
@@ -80,7 +84,8 @@ fn place_instruction<'t>(
 
 // A label's line is the first that has it.
 fn first_of(index: usize, label: Option<Label>) -> Result<Option<Piece>, LineFault>
-    ensures { result ≡ first_of index label }
+    ensures value { result ≡ first_of index label }
+    ensures none { IfOk result (λ p. p ≡ None) }
 {
     match label {
         None => Ok(None),
@@ -103,7 +108,8 @@ pub fn piece_of<'t>(
     line: Line<'t>,
 ) -> Result<Option<Piece>, LineFault>
     requires { at ≤ 65536 }
-    ensures { result ≡ piece_of (label_at labels.now) index at (said line.entry) }
+    ensures value { result ≡ piece_of (label_at labels.now) index at (said line.entry) }
+    ensures room { IfOk result (λ p. at + length (words_of p) ≤ behind at (said line.entry)) }
 {
     match line {
         Line::Empty => Ok(None),

@@ -1,5 +1,5 @@
 // The program as far as the lines were read.
-ghost use Rattle.std.specs.Prelude.{◌≡◌, ◌≤◌, ◌<◌, ◌++◌, ◌⊎◌, IfErr, OnOk, IfOk};
+ghost use Rattle.std.specs.Prelude.{◌≡◌, ◌≤◌, ◌<◌, ◌+◌, ◌++◌, ◌⊎◌, length, IfErr, OnOk, IfOk};
 ghost use Rattle.asm_lines.specs.Line.{said};
 ghost use Rattle.asm_words.specs.Labels.{label_at};
 ghost use Rattle.asm_text.specs.Source.{ended, first_known, started, taken, words_of, Progress};
@@ -25,11 +25,12 @@ impl Model for Program {
 
     ghost view = { λ p. record { at = p.at; far = p.far; words = p.words.items } };
 
-    ghost invariant = { λ p. p.at ≤ 65536 };
+    ghost invariant = { λ p. (p.at ≤ 65536) × (length p.words.items ≤ p.at) };
 }
 
 fn push_piece(words: &mut Vec<u16>, piece: Option<Piece>) -> Result<(), AllocError>
-    ensures { OnOk result (words.new.items ≡ words.old.items ++ words_of piece) }
+    ensures words { OnOk result (words.new.items ≡ words.old.items ++ words_of piece) }
+    ensures room { length words.new.items ≤ length words.old.items + length (words_of piece) }
 {
     if let Some(piece) = piece {
         words.extend_from_slice(&[piece.first])?;
@@ -73,11 +74,16 @@ impl Program {
         ensures err { IfErr result (λ e. (e ≡ AsmFault.NoMemory) ⊎ (taken (label_at labels.now) index self.old (said line.entry) ≡ Err e)) }
     {
         match piece_of(labels, index, self.at, line) {
-            Ok(piece) => push_piece(&mut self.words, piece)?,
-            Err(LineFault::OutOfReach) => self.far = first_known(self.far, index + 1),
+            Ok(piece) => {
+                self.at = behind(self.at, &line);
+                push_piece(&mut self.words, piece)?;
+            }
+            Err(LineFault::OutOfReach) => {
+                self.at = behind(self.at, &line);
+                self.far = first_known(self.far, index + 1);
+            }
             Err(fault) => return Err(fault.at(index + 1)),
         }
-        self.at = behind(self.at, &line);
         Ok(())
     }
 
@@ -85,6 +91,7 @@ impl Program {
     pub fn finish(self) -> Result<Vec<u16>, AsmFault>
         ensures ok { IfOk result (λ words. ended self.far self.words ≡ Ok words.items) }
         ensures err { IfErr result (λ e. (e ≡ AsmFault.NoMemory) ⊎ (ended self.far self.words ≡ Err e)) }
+        ensures few { IfOk result (λ words. length words.items ≤ 65536) }
     {
         match self.far {
             None => Ok(self.words),

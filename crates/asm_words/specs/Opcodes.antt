@@ -1,6 +1,6 @@
 -- The mnemonics of an assembler's source, with the operands that they take and the words without these (AVR Instruction
 -- Set Manual, "Syntax" and "16-bit Opcode" of each instruction).
-use Rattle.std.specs.Prelude.{ℕ, ◌||◌, Bool, if◌then◌else◌, List, codes, is_some, Option, Some, None}
+use Rattle.std.specs.Prelude.{ℕ, ◌||◌, Bool, true, false, if◌then◌else◌, List, codes, is_some, Option, Some, None}
 use Rattle.std.specs.Str.{bytes_eq}
 use Rattle.asm_words.specs.declared.form.Field.{Field}
 use Rattle.asm_words.specs.declared.form.Field.TheVariants.{Register, Number, Pointer, FlashPointer, Displaced, Data, Place, Jump, Branch}
@@ -159,11 +159,20 @@ two mnemonic = or_else (two_registers mnemonic) (or_else (two_narrow mnemonic) (
 abbrev pub is_known : List ℕ → Bool
 is_known mnemonic = is_some (bare mnemonic) || is_some (one mnemonic) || is_some (two mnemonic)
 
+-- whether an operand stands in a second word
+abbrev pub has_word : Field → Bool
+has_word Data = true
+has_word Place = true
+has_word _ = false
+
+abbrev pub one_has_word : Option OneForm → Bool
+one_has_word None = false
+one_has_word (Some form) = has_word form.field
+
+abbrev pub two_has_word : Option TwoForm → Bool
+two_has_word None = false
+two_has_word (Some form) = has_word form.first || has_word form.second
+
 -- how many words an instruction of this mnemonic takes
-unfoldable pub width : List ℕ → ℕ
-width mnemonic =
-    if bytes_eq mnemonic (codes "jmp") then 2
-    else if bytes_eq mnemonic (codes "call") then 2
-    else if bytes_eq mnemonic (codes "lds") then 2
-    else if bytes_eq mnemonic (codes "sts") then 2
-    else 1
+abbrev pub width : List ℕ → ℕ
+width mnemonic = if one_has_word (one mnemonic) || two_has_word (two mnemonic) then 2 else 1

@@ -1,7 +1,8 @@
 // The words of an instruction.
-ghost use Rattle.std.specs.Prelude.{◌≡◌, ◌≤◌};
+ghost use Rattle.std.specs.Prelude.{◌≡◌, ◌≤◌, ◌||◌, true, is_some, IfOk, None};
 ghost use Rattle.asm_lines.specs.Line.{told};
 ghost use Rattle.asm_words.specs.Labels.{label_at};
+ghost use Rattle.asm_words.specs.Opcodes.{has_word, width};
 ghost use Rattle.asm_words.specs.Encoded.{bare_piece, checked, encoded, is_undefined, no_form, one_piece, second_of, two_piece};
 
 use crate::form::{OneForm, TwoForm};
@@ -46,7 +47,8 @@ fn no_form(mnemonic: &[u8]) -> WordFault
 }
 
 fn bare_piece(mnemonic: &[u8]) -> Result<Piece, WordFault>
-    ensures { result ≡ bare_piece mnemonic.now }
+    ensures value { result ≡ bare_piece mnemonic.now }
+    ensures first { IfOk result (λ p. p.second ≡ None) }
 {
     match bare(mnemonic) {
         None => Err(no_form(mnemonic)),
@@ -64,7 +66,8 @@ fn one_piece<'t>(
     labels: &BTreeMap<&'t [u8], Label>,
 ) -> Result<Piece, WordFault>
     requires { at ≤ 65536 }
-    ensures { result ≡ one_piece form text.entry.now at (label_at labels.now) }
+    ensures value { result ≡ one_piece form text.entry.now at (label_at labels.now) }
+    ensures second { IfOk result (λ p. is_some p.second ≡ true → has_word form.field ≡ true) }
 {
     match read_operand(form.field, text, at, labels) {
         Err(fault) => Err(fault),
@@ -87,7 +90,8 @@ fn is_undefined(word: u16) -> bool
 
 // The piece of an instruction, where it is defined.
 fn checked(piece: Piece) -> Result<Piece, WordFault>
-    ensures { result ≡ checked piece }
+    ensures value { result ≡ checked piece }
+    ensures same { IfOk result (λ p. p ≡ piece) }
 {
     if is_undefined(piece.first) {
         return Err(WordFault::BadOperand);
@@ -96,7 +100,8 @@ fn checked(piece: Piece) -> Result<Piece, WordFault>
 }
 
 fn second_of(p: Part, q: Part) -> Option<u16>
-    ensures { result ≡ second_of p.second q.second }
+    ensures value { result ≡ second_of p.second q.second }
+    ensures some { is_some result ≡ true → (is_some p.second || is_some q.second) ≡ true }
 {
     match p.second {
         Some(word) => Some(word),
@@ -112,7 +117,8 @@ fn two_piece<'t>(
     labels: &BTreeMap<&'t [u8], Label>,
 ) -> Result<Piece, WordFault>
     requires { at ≤ 65536 }
-    ensures { result ≡ two_piece form a.entry.now b.entry.now at (label_at labels.now) }
+    ensures value { result ≡ two_piece form a.entry.now b.entry.now at (label_at labels.now) }
+    ensures second { IfOk result (λ p. is_some p.second ≡ true → (has_word form.first || has_word form.second) ≡ true) }
 {
     match read_operand(form.first, a, at, labels) {
         Err(fault) => Err(fault),
@@ -135,7 +141,9 @@ pub fn encode<'t>(
     labels: &BTreeMap<&'t [u8], Label>,
 ) -> Result<Piece, WordFault>
     requires { at ≤ 65536 }
-    ensures { result ≡ encoded mnemonic.entry.now (told operands.entry) at (label_at labels.now) }
+    ensures value { result ≡ encoded mnemonic.entry.now (told operands.entry) at (label_at labels.now) }
+    // so the piece has at most the words of the mnemonic
+    ensures second { IfOk result (λ p. is_some p.second ≡ true → width mnemonic.entry.now ≡ 2) }
 {
     match operands {
         Operands::Zero => bare_piece(mnemonic),

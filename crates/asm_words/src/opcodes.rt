@@ -1,6 +1,6 @@
 // The mnemonics, with the operands that they take and the words without these.
 ghost use Rattle.std.specs.Prelude.{◌≡◌, ◌≤◌};
-ghost use Rattle.asm_words.specs.Opcodes.{bare, one_plain, one_alias, two_registers, two_narrow, two_signed, two_constant, two_memory, two_bits, one, two, is_known, width, with_one, with_two};
+ghost use Rattle.asm_words.specs.Opcodes.{bare, one_plain, one_alias, two_registers, two_narrow, two_signed, two_constant, two_memory, two_bits, one, two, has_word, is_known, one_has_word, two_has_word, width, with_one, with_two};
 
 use crate::form::Field::{
     Branch, Data, Displaced, FlashPointer, Jump, Number, Place, Pointer, Register,
@@ -245,17 +245,45 @@ pub fn is_known(mnemonic: &[u8]) -> bool
     bare(mnemonic).is_some() || one(mnemonic).is_some() || two(mnemonic).is_some()
 }
 
-/// The words that an instruction of this mnemonic takes: 2 for JMP, CALL, LDS and STS, else 1.
-#[tactic(auto, unfolding(crate::specs::Opcodes::width))]
+// Whether an operand stands in a second word.
+fn has_word(field: Field) -> bool
+    ensures { result ≡ has_word field }
+{
+    match field {
+        Field::Data => true,
+        Field::Place => true,
+        _ => false,
+    }
+}
+
+fn one_has_word(form: Option<OneForm>) -> bool
+    ensures { result ≡ one_has_word form }
+{
+    match form {
+        None => false,
+        Some(form) => has_word(form.field),
+    }
+}
+
+fn two_has_word(form: Option<TwoForm>) -> bool
+    ensures { result ≡ two_has_word form }
+{
+    match form {
+        None => false,
+        Some(form) => has_word(form.first) || has_word(form.second),
+    }
+}
+
+/// The words that an instruction of this mnemonic takes: 2 for JMP, CALL, LDS and STS, whose operand stands in a second
+/// word, else 1.
 pub fn width(mnemonic: &[u8]) -> u32
     ensures value { result ≡ width mnemonic.now }
+    ensures some { 1 ≤ result }
     ensures small { result ≤ 2 }
 {
-    match mnemonic {
-        b"jmp" => 2,
-        b"call" => 2,
-        b"lds" => 2,
-        b"sts" => 2,
-        _ => 1,
+    if one_has_word(one(mnemonic)) || two_has_word(two(mnemonic)) {
+        2
+    } else {
+        1
     }
 }

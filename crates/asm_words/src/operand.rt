@@ -1,8 +1,9 @@
 // What one operand gives: bits of the first word, or the second word.
-ghost use Rattle.std.specs.Prelude.{◌≡◌, ◌<◌, ◌≤◌};
+ghost use Rattle.std.specs.Prelude.{◌≡◌, ◌<◌, ◌≤◌, true, is_some, IfOk, None};
 ghost use Rattle.asm_words.specs.Number.{number, register};
 ghost use Rattle.asm_words.specs.Fields.{register_bits, number_bits};
 ghost use Rattle.asm_words.specs.Labels.{label_at};
+ghost use Rattle.asm_words.specs.Opcodes.{has_word};
 ghost use Rattle.asm_words.specs.Target.{hop_of};
 ghost use Rattle.asm_words.specs.Encoded.{bits_part, data_part, number_part, register_part, hop_part, place_label, place_part, part_of};
 
@@ -23,7 +24,8 @@ pub struct Part {
 }
 
 fn bits_part(bits: Option<u16>) -> Result<Part, WordFault>
-    ensures { result ≡ bits_part bits }
+    ensures value { result ≡ bits_part bits }
+    ensures first { IfOk result (λ p. p.second ≡ None) }
 {
     match bits {
         None => Err(WordFault::BadOperand),
@@ -32,7 +34,8 @@ fn bits_part(bits: Option<u16>) -> Result<Part, WordFault>
 }
 
 fn register_part(field: RegisterField, text: &[u8]) -> Result<Part, WordFault>
-    ensures { result ≡ register_part field (register text.now) }
+    ensures value { result ≡ register_part field (register text.now) }
+    ensures first { IfOk result (λ p. p.second ≡ None) }
 {
     match register(text) {
         None => Err(WordFault::BadOperand),
@@ -41,7 +44,8 @@ fn register_part(field: RegisterField, text: &[u8]) -> Result<Part, WordFault>
 }
 
 fn number_part(field: NumberField, text: &[u8]) -> Result<Part, WordFault>
-    ensures { result ≡ number_part field (number text.now) }
+    ensures value { result ≡ number_part field (number text.now) }
+    ensures first { IfOk result (λ p. p.second ≡ None) }
 {
     match number(text) {
         None => Err(WordFault::BadOperand),
@@ -104,7 +108,8 @@ fn hop_part<'t>(
     requires small { half ≤ 2048 }
     requires scale { scale ≤ 8 }
     requires at { at ≤ 65536 }
-    ensures { result ≡ hop_part half scale (hop_of text.entry.now at (label_at labels.now)) }
+    ensures value { result ≡ hop_part half scale (hop_of text.entry.now at (label_at labels.now)) }
+    ensures first { IfOk result (λ p. p.second ≡ None) }
 {
     match read_hop(text, at, labels) {
         Err(fault) => Err(fault),
@@ -127,7 +132,8 @@ pub fn read_operand<'t>(
     labels: &BTreeMap<&'t [u8], Label>,
 ) -> Result<Part, WordFault>
     requires { at ≤ 65536 }
-    ensures { result ≡ part_of field text.entry.now at (label_at labels.now) }
+    ensures value { result ≡ part_of field text.entry.now at (label_at labels.now) }
+    ensures second { IfOk result (λ p. is_some p.second ≡ true → has_word field ≡ true) }
 {
     match field {
         Field::Register(field) => register_part(field, text),

@@ -1,5 +1,5 @@
 -- The whole file.
-use Rattle.std.proofs.Common.{◌≡◌, ℕ, zero, suc, ◌+◌, ◌-◌, ◌*◌, ◌/◌, ◌%◌, ◌<◌, ◌≤◌, eqb, nat_le, ◌≢◌, if◌then◌else◌, Bool, true, false, List, [], ◌∷◌, ◌++◌, length, take, drop, None, Some, length-append, length-drop, length-take-le, zero-add, refl, sym, ap, ◌∙◌, subst, arith, append_assoc, inl, inr}
+use Rattle.std.proofs.Common.{◌≡◌, ℕ, zero, suc, ◌+◌, ◌-◌, ◌*◌, ◌%◌, ◌<◌, ◌≤◌, eqb, nat_le, ◌≢◌, if◌then◌else◌, Bool, true, false, List, [], ◌∷◌, ◌++◌, length, take, drop, None, Some, length-drop, length-take-le, zero-add, refl, sym, ap, ◌∙◌, subst, arith, append_assoc, inl, inr}
 use Rattle.std.proofs.Math.Nat.{suc-add}
 use Rattle.std.proofs.lemmas.Bool.{cases_lt, eqb-true, eq-eqb, true≢false}
 use Rattle.std.proofs.lemmas.Bool.Decides.{nat_tests}
@@ -8,12 +8,12 @@ use Rattle.hex.specs.Hex.{IsBytes}
 use Rattle.ihex_loader.specs.Line.{Line, Blank, Record}
 use Rattle.ihex_loader.specs.Flash.{Image, bytes_of_words, image_of_words, padded}
 use Rattle.ihex_loader.specs.Image.{first_fault, hex_fault, image, lines_of}
-use Rattle.ihex_loader.specs.Pass.{Gives, Stands}
+use Rattle.ihex_loader.specs.Pass.{Gives}
 use Rattle.ihex_loader.specs.declared.fault.HexFault.TheVariants.{NoEnd}
 use Rattle.ihex_loader.proofs.OnePass.{image_given}
 use Rattle.ihex_loader.proofs.Words.{Stands_erased, length-bytes_of_words}
 use Rattle.ihex_writer.specs.Hex.{count, hex_of, records_to, record_line}
-use Rattle.ihex_writer.proofs.Lines.{row, row_few, base_lines, lines_at, lines_to, all_read}
+use Rattle.ihex_writer.proofs.Lines.{row, row_few, base_lines, lines_to, all_read}
 use Rattle.ihex_writer.proofs.Wrote.{Wrote, length-padded, other_wrote, blank_wrote, data_wrote}
 
 -- the base behind the n first records: the linear one is set before record 4,096

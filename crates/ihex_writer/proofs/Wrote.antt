@@ -1,15 +1,13 @@
 -- What the loader has behind the lines of the records.
-use Rattle.std.proofs.Common.{◌≡◌, ℕ, zero, suc, ◌+◌, ◌-◌, ◌*◌, ◌/◌, ◌%◌, ◌<◌, ◌≤◌, max, eqb, cond, ◌≢◌, if◌then◌else◌, Bool, true, false, List, [], ◌∷◌, ◌++◌, length, take, drop, get_or, None, Option, length-append, length-drop, refl, sym, ap, ◌∙◌, subst, arith, append_assoc, inl, inr, tests}
+use Rattle.std.proofs.Common.{◌≡◌, ℕ, zero, suc, ◌+◌, ◌-◌, ◌<◌, ◌≤◌, eqb, cond, ◌≢◌, if◌then◌else◌, Bool, false, List, [], ◌∷◌, ◌++◌, length, get_or, None, length-append, refl, sym, ap, ◌∙◌, arith, append_assoc, inl, inr}
 use Rattle.std.specs.Prelude.{replicate}
 use Rattle.std.proofs.lemmas.Bool.{cases_eq, eq-eqb, ne_eqb}
-use Rattle.std.proofs.lemmas.Bool.Decides.{nat_tests}
-use Rattle.std.proofs.lemmas.List.{append-nil, get_or_append_left, take-append-drop}
+use Rattle.std.proofs.lemmas.List.{append-nil}
 use Rattle.ihex_loader.specs.Line.{Line, Blank, Record}
 use Rattle.ihex_loader.specs.Flash.{padded}
 use Rattle.ihex_loader.specs.Image.{first_fault, fault_behind, fault_or, last_put, placed, bases, last_or}
 use Rattle.ihex_loader.specs.Pass.{Stands}
 use Rattle.ihex_loader.proofs.Good.{data_good, other_good, blank_good}
-use Rattle.ihex_writer.proofs.Lines.{row, row_few, base_lines, lines_at, lines_to}
 
 -- lines without a fault that give these bytes and this base
 pub record Wrote (lines : List Line) (bytes : List ℕ) (base : ℕ) (ended : Bool) : Type 0 where
