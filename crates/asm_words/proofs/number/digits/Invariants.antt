@@ -1,5 +1,5 @@
 use Rattle.std.proofs.Common.{◌≡◌, ◌≤◌, drop}
-use Rattle.asm_words.specs.Number.{digits_from, digits_of}
+use Rattle.asm_words.specs.Number.{digits_from}
 use Rattle.asm_words.proofs.number.digits.Given as goal
 
 abbrev pub invariant-loop-b : goal.invariant-loop-b
