@@ -3,8 +3,9 @@
 
     bench/air_cases.py FOLDER
 
-writes drawn_steps.txt, drawn_states.txt and drawn_log.txt, which are of air_facts, and drawn_record.txt, which is of
-record_facts, into FOLDER, always the same bytes.
+writes drawn_steps.txt, drawn_states.txt, drawn_log.txt and drawn_taken.txt, which are of air_facts, and drawn_record.txt,
+which is of record_facts, into FOLDER, always the same bytes. drawn_taken.txt has for each record of drawn_record.txt the
+same steps up to its first cut, so that the record and the core without a record are asked the same.
 
 It is the rules of docs/AIR.md once more, written plainly and slowly: to be heard, to be needed, to be consistent and to be
 allowed are each asked over all cycles or all sends that there are. It shares nothing with the crates that it tests.
@@ -523,6 +524,24 @@ class Record:
 
     def __init__(self, world):
         self.world, self.state, self.lines, self.words = world, State(world), [], ["open"]
+        self.taken, self.uncut, self.waited = [], None, None
+
+    def take(self, step):
+        take(self.world, self.state, step)
+        if not self.uncut:
+            self.taken.append(step)
+
+    def taken_lines(self):
+        """The steps that changed anything, up to the first cut, and the state that they lead to; and the last sample before
+        that which had to wait, behind the steps before it."""
+        if not self.taken:
+            return []
+        lines = [f"{listed('steps', map(step_text, self.taken))} {state_text(self.uncut or self.state)} replay state\n"]
+        if self.waited:
+            count, ask, answer = self.waited
+            steps = listed("steps", map(step_text, self.taken[:count]))
+            lines.append(f"{steps} then {ask.node}@{ask.cycle} {answer}\n")
+        return lines
 
     def end_line(self):
         self.lines.append(" ".join(self.words) + "\n")
@@ -539,7 +558,7 @@ class Record:
 
     def raise_clock(self, node, clock):
         if is_allowed(self.world, self.state, ("r", node, clock)):
-            take(self.world, self.state, ("r", node, clock))
+            self.take(("r", node, clock))
             self.words.append(f"r {node}:{clock}")
 
     def post(self, node, number):
@@ -547,7 +566,7 @@ class Record:
         if number >= len(sends) or sends[number].cycle >= self.state.floor + EPOCH:
             return
         if number == count:
-            take(self.world, self.state, ("p", node, 0))
+            self.take(("p", node, 0))
             answer = "added"
         else:
             answer = "there" if number < count else f"early {count}"
@@ -561,7 +580,11 @@ class Record:
             true = heard(self.world, self.world.sends, *ask)
             if answer != heard_text(true):
                 raise SystemExit("a sample is not what all sends give")
-            self.state.samples.append((ask, true))
+            self.take(("s", *ask))
+            if self.state.samples[-1] != (ask, true):
+                raise SystemExit("a sample is not what the posted sends give")
+        elif not self.uncut:
+            self.waited = (len(self.taken), ask, answer)
         self.words.append(f"s {ask.node}@{ask.cycle} {answer}")
 
     def cut(self, floor):
@@ -571,6 +594,7 @@ class Record:
         if late:
             answer = f"behind {late[0]}:{self.state.clocks[late[0]]}"
         else:
+            self.uncut = self.uncut or self.state.copy()
             cut(self.world, self.state, floor)
             answer = "done"
         self.words.append(f"cut {floor} {answer}")
@@ -607,7 +631,7 @@ def drawn_record(draw, world):
         if draw.random() < 0.05:
             record.tell()
     record.tell()
-    return record.lines
+    return record.lines, record.taken_lines()
 
 
 def full_record(world):
@@ -642,15 +666,19 @@ def crowded_world(nodes, latency, byte_time):
 
 
 def drawn_records(draw):
-    lines = []
+    """The lines of drawn_record.txt, and those of drawn_taken.txt."""
+    lines, taken = [], []
     for _ in range(RECORD_WORLDS):
         world = drawn_world(draw)
         lines += ["\n", world_text(world)]
+        taken += ["\n", world_text(world)]
         for _ in range(4):
-            lines += drawn_record(draw, world)
+            record_lines, taken_lines = drawn_record(draw, world)
+            lines += record_lines
+            taken += taken_lines
     for world in (crowded_world(2, 65535, 4096), crowded_world(3, 1, 4096), crowded_world(1, 1000, 1024)):
         lines += ["\n", world_text(world)] + full_record(world)
-    return lines
+    return lines, taken
 
 
 HEAD = """# Source: drawn, and answered, by bench/air_cases.py, a slow program from the rules of docs/AIR.md that shares no code with
@@ -663,6 +691,12 @@ STEPS = """# Lists of steps, and what comes of each.
 # asks NODE@CYCLE; steps: r NODE:CYCLE raises a clock, p NODE posts the next send, s NODE@CYCLE samples.
 # replay asks to what they lead: illegal PLACE, or state, the one of clocks, sent, record and samples (NODE@CYCLE:STATUS.BYTE.AGE).
 # then NODE@CYCLE asks what a sample is answered after them: waits NODE:CLOCK, quiet, byte BYTE.AGE or clash BYTE.
+
+"""
+
+TAKEN = """# The lists of steps of drawn_record.txt, each up to its first cut, and what comes of each: what the record under a lock is asked
+# there, the core without one is asked here.
+# {head}# The words are those of drawn_steps.txt.
 
 """
 
@@ -705,7 +739,9 @@ def main(folder):
         lines += ["\n", world_text(world)] + [drawn_state(draw, world) for _ in range(8)]
     write(f"{folder}/drawn_states.txt", STATES, lines)
     write(f"{folder}/drawn_log.txt", LOGS, drawn_logs(draw))
-    write(f"{folder}/drawn_record.txt", RECORDS, drawn_records(random.Random(16)))
+    lines, taken = drawn_records(random.Random(16))
+    write(f"{folder}/drawn_record.txt", RECORDS, lines)
+    write(f"{folder}/drawn_taken.txt", TAKEN, taken)
 
 
 STEP_WORLDS = 320

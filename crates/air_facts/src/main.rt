@@ -16,12 +16,13 @@ use std::fs::Files;
 use std::process::ExitCode;
 use std::{fs, io};
 
-static FILES: [&str; 9] = [
+static FILES: [&str; 10] = [
     "topologies.txt",
     "heard.txt",
     "worlds.txt",
     "steps.txt",
     "drawn_steps.txt",
+    "drawn_taken.txt",
     "states.txt",
     "drawn_states.txt",
     "log.txt",

@@ -104,15 +104,25 @@ pub fn text(op: Op, out: &mut ArrayString<32>)
     put_text(op, out);
 }
 
-/// Replaces `out` by the line of an instruction at the word address `pc`: the address in four hexadecimal digits, a
-/// space and the text. Its 40 bytes always suffice: no line is longer than 28.
+/// Appends the line of an instruction at the word address `pc`, at most 28 bytes, to a text of any capacity that has room
+/// for them: the address in four hexadecimal digits, a space and the text.
 #[tactic(auto, unfolding(crate::specs::Text::line_of))]
+pub fn put_line<const N: usize>(pc: u16, op: Op, out: &mut ArrayString<N>)
+    requires { array_string_len out.old + 28 ≤ N }
+    ensures bytes { out.new.bytes ≡ out.old.bytes ++ line_of pc op }
+    ensures len { array_string_len out.new ≤ array_string_len out.old + 28 }
+{
+    put_hex4(pc, out);
+    out.push_str(" ");
+    put_text(op, out);
+}
+
+/// Replaces `out` by the line of an instruction at the word address `pc`, as `put_line` appends it. Its 40 bytes always
+/// suffice: no line is longer than 28.
 pub fn line(pc: u16, op: Op, out: &mut ArrayString<40>)
     ensures exact { out.new.bytes ≡ line_of pc op }
     ensures fits { length (line_of pc op) ≤ 28 }
 {
     out.clear();
-    put_hex4(pc, out);
-    out.push_str(" ");
-    put_text(op, out);
+    put_line(pc, op, out);
 }

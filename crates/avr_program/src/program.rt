@@ -1,60 +1,30 @@
-// A flash and its instructions.
-ghost use Rattle.std.specs.Prelude.{◌≡◌, ◌≤◌, IfOk, map, vec_len};
-ghost use Rattle.std.specs.List.{range_with_len};
+// A program that nodes share.
+ghost use Rattle.std.specs.Prelude.{◌≡◌, IfOk};
 ghost use Rattle.ihex_loader.specs.Flash.{word_at};
 ghost use Rattle.avr_program.specs.Program.{op_of};
 
+use crate::decoded::Decoded;
 use avr_base::NoMemory;
-use avr_decoder::{Op, decode};
+use avr_decoder::Op;
 use ihex_loader::Flash;
-use std::alloc::{AllocError, Global};
+use std::alloc::Global;
 use std::marker::Model;
+use std::sync::Arc;
 
-/// The flash of a node, and the instructions at its word addresses from 0 on, as far as the image gave words: of an
-/// instruction 6 bytes. A contract sees it as its flash.
+/// The flash of a node, and its instructions, decoded once. Nodes with equal images hold one of them together, also in
+/// several threads: it is never written. A contract sees it as its flash.
 #[derive(Drop)]
 pub struct Program {
-    flash: Flash,
-    ops: Vec<Op>,
+    decoded: Arc<Decoded>,
 }
 
 impl Model for Program {
-    ghost use Rattle.std.specs.Prelude.{◌≡◌, map, vec_len};
-    ghost use Rattle.std.specs.List.{range_with_len};
+    ghost use Rattle.std.specs.Arc.{arc_value};
     ghost use Rattle.ihex_loader.specs.Flash.{Image};
-    ghost use Rattle.avr_program.specs.Program.{op_of};
 
     ghost Value = { Image };
 
-    ghost view = { λ p. p.flash };
-
-    ghost invariant = { λ p. p.ops.items ≡ map (op_of p.flash.bytes) (range_with_len 0 (vec_len p.ops)) };
-}
-
-// The instruction at a word address.
-fn decoded_at(flash: &Flash, pc: u16) -> Op
-    ensures { result ≡ op_of flash.now.bytes pc }
-{
-    decode(flash.word(pc), flash.word(pc.wrapping_add(1)))
-}
-
-// How many words the image gave, up to the last one: the word of a single last byte too.
-fn words(flash: &Flash) -> u32
-    ensures { result ≤ 65536 }
-{
-    flash.used().div_ceil(2)
-}
-
-// The instructions of the words that the image gave.
-fn decoded(alloc: Global, flash: &Flash) -> Result<Vec<Op>, AllocError>
-    ensures { IfOk result (λ ops. ops.items ≡ map (op_of flash.now.bytes) (range_with_len 0 (vec_len ops))) }
-{
-    let words = words(flash);
-    let mut ops = Vec::with_capacity(alloc, words as usize)?;
-    for pc in 0..words {
-        ops.push(decoded_at(flash, pc as u16))?;
-    }
-    Ok(ops)
+    ghost view = { λ p. arc_value p.decoded };
 }
 
 impl Program {
@@ -62,8 +32,32 @@ impl Program {
     pub fn new(alloc: Global, flash: Flash) -> Result<Program, NoMemory>
         ensures { IfOk result (λ program. program ≡ flash) }
     {
-        let ops = decoded(alloc, &flash)?;
-        Ok(Program { flash, ops })
+        match Arc::new(alloc, Decoded::new(alloc, flash)?) {
+            Ok(decoded) => Ok(Program { decoded }),
+            Err(_) => Err(NoMemory),
+        }
+    }
+
+    /// The same: shared with the first of `known` that has this flash, where there is one.
+    pub fn among(alloc: Global, known: &[Program], flash: Flash) -> Result<Program, NoMemory>
+        ensures { IfOk result (λ program. program ≡ flash) }
+    {
+        for program in known {
+            if program.flash().is(&flash) {
+                return program.share();
+            }
+        }
+        Program::new(alloc, flash)
+    }
+
+    /// The same program for one node more; nothing is copied. `Err` only for want of memory.
+    pub fn share(&self) -> Result<Program, NoMemory>
+        ensures { IfOk result (λ program. program ≡ self.now) }
+    {
+        match Arc::try_clone(&self.decoded) {
+            Ok(decoded) => Ok(Program { decoded }),
+            Err(_) => Err(NoMemory),
+        }
     }
 
     /// Its flash.
@@ -71,7 +65,7 @@ impl Program {
     pub fn flash(&self) -> &Flash
         ensures { result.now ≡ self.now }
     {
-        &self.flash
+        self.decoded.flash()
     }
 
     /// The word at the word address `pc`: the byte at 2 `pc`, and 256 times the one behind it.
@@ -79,15 +73,7 @@ impl Program {
     pub fn word(&self, pc: u16) -> u16
         ensures { result ≡ word_at self.now.bytes pc }
     {
-        self.flash.word(pc)
-    }
-
-    // The instruction at a word address behind those that the image gave.
-    #[inline(never)]
-    fn decoded_at(&self, pc: u16) -> Op
-        ensures { result ≡ op_of self.now.bytes pc }
-    {
-        decoded_at(&self.flash, pc)
+        self.flash().word(pc)
     }
 
     /// The instruction whose first word is at the word address `pc`. After word 0xFFFF comes word 0.
@@ -95,11 +81,6 @@ impl Program {
     pub fn op(&self, pc: u16) -> Op
         ensures { result ≡ op_of self.now.bytes pc }
     {
-        let at = usize::from(pc);
-        if at < self.ops.len() {
-            self.ops[at]
-        } else {
-            self.decoded_at(pc)
-        }
+        self.decoded.op(pc)
     }
 }

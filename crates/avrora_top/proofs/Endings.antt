@@ -3,7 +3,8 @@ use Rattle.std.proofs.Common.{◌≡◌, ℕ, nat_lt, ◌<◌, ◌≤◌, length
 use Rattle.std.proofs.lemmas.Bool.Decides.{nat_tests}
 use Rattle.avrora_top.specs.Plan.{Plan, Give, Refuse, Refusal, Job}
 use Rattle.avrora_top.specs.Reading.{Files, Reached, Here, Fitting, TooLong, Accepts, Refuses, Verdict, Refused, Accepted, Says, verdict, on_bytes}
-use Rattle.avrora_top.specs.Ends.{Ends, JobEnds, Reads, Stream, StopsAt, end_at, end_of}
+use Rattle.avrora_top.specs.Ends.{Ends, Reads, Stream}
+use Rattle.avrora_top.specs.Parts.{JobEnds, StopsAt, end_at, end_of}
 use Rattle.avrora_top.specs.declared.trouble.Trouble.{Trouble}
 use Rattle.avrora_top.specs.declared.trouble.Trouble.TheVariants as trouble
 

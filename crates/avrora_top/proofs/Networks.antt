@@ -6,7 +6,8 @@ use Rattle.node_runner.specs.Scenario.{ScenarioOf}
 use Rattle.avrora_top.specs.Network.{network_of}
 use Rattle.avrora_top.specs.Plan.{Plan, Give, Job, images_plan, network_plan, scenario_plan}
 use Rattle.avrora_top.specs.Reading.{Files, Reached}
-use Rattle.avrora_top.specs.Ends.{Ends, JobEnds, Reads, Stream, StopsAt, end_at, end_of}
+use Rattle.avrora_top.specs.Ends.{Ends, Reads, Stream}
+use Rattle.avrora_top.specs.Parts.{JobEnds, StopsAt, end_at, end_of}
 use Rattle.avrora_top.specs.declared.trouble.Trouble.{Trouble}
 use Rattle.avrora_top.proofs.Steps.{both, stops_on, stops_moved, reached_moved}
 use Rattle.avrora_top.proofs.Endings.{ends_stopped, ends_job}

@@ -11,8 +11,9 @@ use Rattle.node_runner.specs.Scenario.{ScenarioOf}
 use Rattle.avrora_top.specs.Network.{lone_node, network_of}
 use Rattle.avrora_top.specs.Plan.{Plan, Give, Refuse, Read, BadWords, BadScenario, BadImage, Job, TraceJob, SizeJob, DisasmJob, image_plan, images_plan, network_plan, on_image, on_scenario, plan, plan_for, plan_of}
 use Rattle.avrora_top.specs.Reading.{Files, Reached, Here, Fitting, TooLong, Verdict, Untold, Refused as RefusedVerdict, Accepted, Says, verdict}
-use Rattle.avrora_top.specs.Ends.{Ends, End, Done, OutFailed, NoMemory, ReadFailed, Refused, Reads, Stream, status_due}
-use Rattle.avrora_top.specs.TopClause.{Called, Told, Said, Unsaid, Reported, EndedSaying, EndedUnsaid, HasStatus, TopClause}
+use Rattle.avrora_top.specs.Ends.{Ends, End, Done, OutFailed, NoMemory, ReadFailed, Refused, Reads, Stream, status_due, EndedSaying, EndedUnsaid, HasStatus}
+use Rattle.avrora_top.specs.TopClause.{TopClause}
+use Rattle.avrora_top.specs.Parts.{Called, Told, Said, Unsaid, Reported}
 use Rattle.avrora_top.specs.declared.trouble.ImageCause.{ImageCause}
 use Rattle.avrora_top.specs.declared.trouble.ImageCause.TheVariants as cause
 use Rattle.avrora_top.specs.declared.trouble.ScenarioCause.{ScenarioCause}
@@ -194,10 +195,11 @@ module _ (files : Files) (words : List (List ℕ)) (store store' : Reads) (out o
   words_told (Said s t) = inl s
   words_told (Unsaid s f) = inr (s, f.rose)
 
-  pub top_clause : Called files (plan words) store store' out out' err err' answer
+  pub top_clause : (files' : Files) → files' ≡ files → Called files (plan words) store store' out out' err err' answer
       → (asked_by words ≡ None → Reported (Refused BadWords) err err' answer)
-      → TopClause files words store store' out out' err err' answer
-  top_clause c none = record {
+      → TopClause files files' words store store' out out' err err' answer
+  top_clause files' same c none = record {
+    held = same;
     done = done_from (how c);
     sink_failed = sink_from (how c);
     bad_words = words_from (how c);

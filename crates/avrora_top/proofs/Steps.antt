@@ -8,7 +8,8 @@ use Rattle.scenario_file.specs.Scenario.{ScenarioParts, scenario_in}
 use Rattle.scenario_file.specs.declared.fault.ScenarioFault.{ScenarioFault}
 use Rattle.avrora_top.specs.Plan.{Plan, Refuse, Read, Refusal, BadScenario, BadImage, image_plan, images_plan, on_image, on_scenario, scenario_plan}
 use Rattle.avrora_top.specs.Reading.{Files, Reached, Here, Fitting, TooLong}
-use Rattle.avrora_top.specs.Ends.{Reads, StopsAt}
+use Rattle.avrora_top.specs.Ends.{Reads}
+use Rattle.avrora_top.specs.Parts.{StopsAt}
 use Rattle.avrora_top.specs.declared.trouble.ImageCause.TheVariants as cause
 use Rattle.avrora_top.specs.declared.trouble.ScenarioCause.TheVariants as scenario_cause
 use Rattle.avrora_top.specs.declared.trouble.Trouble.{Trouble}

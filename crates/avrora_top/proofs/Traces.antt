@@ -1,9 +1,7 @@
 -- The trace of a run, epoch by epoch.
-use Rattle.std.proofs.Common.{◌≡◌, ◌≢◌, ℕ, zero, suc, ◌+◌, ◌-◌, ◌<◌, ◌≤◌, Bool, true, false, cond, ◌==◌, List, [], ◌++◌, Option, Some, None, refl, sym, subst, ap, ◌∙◌, arith, append-nil, append_assoc}
-use Rattle.std.specs.List.{flat_map}
+use Rattle.std.proofs.Common.{◌≡◌, ◌≢◌, ℕ, zero, suc, ◌+◌, ◌-◌, ◌≤◌, Bool, true, false, cond, ◌==◌, List, [], ◌++◌, Option, Some, None, refl, sym, ap, ◌∙◌, arith, append-nil, append_assoc}
 use Rattle.std.proofs.lemmas.Grind.{flat_map-append}
 use Rattle.std.proofs.lemmas.Bool.Decides.{nat_tests}
-use Rattle.std.proofs.Math.Nat.{sub-zero}
 use native.Mathlib.Decide.{ℕ_discrete}
 use Rattle.sim_io.specs.Outside.{extended, TookFront}
 use Rattle.sim_io.proofs.Taken.{extended-extended}
@@ -12,7 +10,7 @@ use Rattle.trace_writer.specs.Line.{row_line, rows_text}
 use Rattle.node_core.specs.State.{NodeState}
 use Rattle.world_core.specs.NodeKind.{ticked_rows}
 use Rattle.world_core.specs.Each.{each_below}
-use Rattle.global_order.specs.Order.{Fleet, Moment, world_after, world_at, hears, end_rows, run_rows}
+use Rattle.global_order.specs.Order.{Fleet, world_after, world_at, hears, end_rows, run_rows}
 use Rattle.node_runner.specs.Scenario.{ScenarioOf, IsScenario, fleet_of}
 use Rattle.fleet_plain.specs.Run.{rows_upto}
 use Rattle.fleet_plain.proofs.Epoch.{first_rows}

@@ -1,18 +1,14 @@
--- How a call ends, what then holds of the store and the streams, and what it says of it.
-use Rattle.std.specs.Prelude.{◌≡◌, ℕ, ◌⊎◌, List, [], ◌++◌, codes, decimal, Option, Some, None, Result, Ok, Err}
+-- How a call ends, what then holds of the store and the streams, and which line and status it owes.
+use Rattle.std.specs.Prelude.{◌≡◌, ◌≢◌, ℕ, ◌⊎◌, List, [], ◌++◌, codes, decimal, Option, Some, None}
 use Rattle.sim_io.specs.Outside.{Rose, extended, TookFront}
 use Rattle.ihex_loader.specs.Fault.{fault_name, fault_line}
 use Rattle.scenario_file.specs.Faults.{fault_name as scenario_fault_name}
-use Rattle.avrora_top.specs.Plan.{Plan, Refuse, Refusal, BadWords, BadScenario, BadImage, Job, output}
-use Rattle.avrora_top.specs.Reading.{Files, Reached, Accepts, Refuses, IsNext}
+use Rattle.avrora_top.specs.Plan.{Plan, Refusal, BadWords, BadScenario, BadImage, Job, output}
+use Rattle.avrora_top.specs.Reading.{Files, Accepts, Refuses, IsNext, Verdict, Untold, Refused as RefusedVerdict, Accepted}
 use Rattle.avrora_top.specs.declared.trouble.ImageCause.{ImageCause}
 use Rattle.avrora_top.specs.declared.trouble.ImageCause.TheVariants as cause
 use Rattle.avrora_top.specs.declared.trouble.ScenarioCause.{ScenarioCause}
 use Rattle.avrora_top.specs.declared.trouble.ScenarioCause.TheVariants as scenario_cause
-use Rattle.avrora_top.specs.declared.trouble.Complaint.{Complaint}
-use Rattle.avrora_top.specs.declared.trouble.Complaint.TheVariants as complaint
-use Rattle.avrora_top.specs.declared.trouble.Trouble.{Trouble}
-use Rattle.avrora_top.specs.declared.trouble.Trouble.TheVariants as trouble
 use Rattle.avrora_top.specs.declared.status.Status.{Status}
 use Rattle.avrora_top.specs.declared.status.Status.TheVariants as status
 
@@ -105,36 +101,20 @@ status_due NoMemory = status.NoMemory
 status_due (ReadFailed name) = status.ReadFailed
 status_due (Refused refusal) = refusal_status refusal
 
--- the same of the code's values
-abbrev pub refusal_of : Complaint → Refusal
-refusal_of complaint.BadWords = BadWords
-refusal_of (complaint.BadScenario name why) = BadScenario name.now why
-refusal_of (complaint.BadImage name why) = BadImage name.now why
+-- a call ended so, and `err` took the line of that end
+abbrev pub EndedSaying : Files → Plan → Reads → Reads → Stream → Stream → Stream → Stream → End → Type 0
+EndedSaying files plan store store' out out' err err' end = Ends files plan store store' out out' end × (err' ≡ took err (line_due end))
 
-abbrev pub end_at : Trouble → End
-end_at trouble.OutFailed = OutFailed
-end_at trouble.NoMemory = NoMemory
-end_at (trouble.ReadFailed name) = ReadFailed name.now
-end_at (trouble.Refused c) = Refused (refusal_of c)
+-- a call ended so, and `err` failed within the line of that end
+abbrev pub EndedUnsaid : Files → Plan → Reads → Reads → Stream → Stream → Stream → Stream → End → Type 0
+EndedUnsaid files plan store store' out out' err err' end =
+    (end ≢ Done) × Ends files plan store store' out out' end × FailedIn err (line_due end) err'
 
-abbrev pub end_of : {A : Type 0} → Result A Trouble → End
-end_of (Ok x) = Done
-end_of (Err t) = end_at t
-
--- reading stopped so in this plan
-abbrev pub StopsAt : Files → Plan → Reads → Reads → Trouble → Type 0
-StopsAt files plan store store' trouble.OutFailed = ⊥
-StopsAt files plan store store' trouble.NoMemory = store' ≡ store
-StopsAt files plan store store' (trouble.ReadFailed name) = FailedRead store name.now store' × IsNext files plan name.now
-StopsAt files plan store store' (trouble.Refused c) = (store' ≡ store) × Reached files plan (Refuse (refusal_of c))
-
--- the work of a job ended so: its whole output was written, or a write failed, or there was want of memory behind a front of it
-abbrev pub JobEnds : {A : Type 0} → Job → Stream → Stream → Result A Trouble → Type 0
-JobEnds job out out' (Ok x) = out' ≡ took out (output job)
-JobEnds job out out' (Err trouble.OutFailed) = FailedIn out (output job) out'
-JobEnds job out out' (Err trouble.NoMemory) = TookFront out.taken (output job) out'.taken × (out'.faults ≡ out.faults)
-JobEnds job out out' (Err (trouble.ReadFailed name)) = ⊥
-JobEnds job out out' (Err (trouble.Refused c)) = ⊥
+-- the answer is that of the verdict, where it is known
+abbrev pub HasStatus : Verdict → Status → Type 0
+HasStatus Untold answer = Unit {0}
+HasStatus (RefusedVerdict refusal) answer = answer ≡ refusal_status refusal
+HasStatus (Accepted job) answer = answer ≡ status.Done
 
 -- the exit status of the program
 unfoldable pub status_number : Status → ℕ

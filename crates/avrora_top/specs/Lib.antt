@@ -5,3 +5,4 @@ pub mod Plan
 pub mod Reading
 pub mod Ends
 pub mod TopClause
+pub mod Parts

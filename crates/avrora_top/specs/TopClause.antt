@@ -1,52 +1,20 @@
 -- What a call of the program does, by the status that it answers: the cause of each status, what stands on each
 -- stream, and which status comes where nothing failed.
-use Rattle.std.specs.Prelude.{◌≡◌, ◌≢◌, ◌⊎◌, List, ℕ, None}
+use Rattle.std.specs.Prelude.{◌≡◌, ◌⊎◌, List, ℕ, None}
 use Rattle.sim_io.specs.Outside.{Rose}
 use Rattle.command_words.specs.Words.{asked_by}
-use Rattle.avrora_top.specs.Plan.{Plan, BadWords, BadScenario, BadImage, plan}
-use Rattle.avrora_top.specs.Reading.{Files, Verdict, Untold, Refused as RefusedVerdict, Accepted, verdict}
-use Rattle.avrora_top.specs.Ends.{Reads, Stream, took, FailedIn, End, Done, OutFailed, NoMemory, ReadFailed, Refused, Ends, line_due, refusal_status, status_due}
+use Rattle.avrora_top.specs.Plan.{BadWords, BadScenario, BadImage, plan}
+use Rattle.avrora_top.specs.Reading.{Files, verdict}
+use Rattle.avrora_top.specs.Ends.{Reads, Stream, End, Done, OutFailed, NoMemory, ReadFailed, Refused, Ends, EndedSaying, EndedUnsaid, HasStatus}
 use Rattle.avrora_top.specs.declared.trouble.ImageCause.{ImageCause}
 use Rattle.avrora_top.specs.declared.trouble.ScenarioCause.{ScenarioCause}
 use Rattle.avrora_top.specs.declared.status.Status.{Status}
 use Rattle.avrora_top.specs.declared.status.Status.TheVariants as status
 
--- an end was told: `err` took its line, or failed in the midst of it
-pub data Told (end : End) (err err' : Stream) (answer : Status) : Type 0 where
-  Said : answer ≡ status_due end → err' ≡ took err (line_due end) → Told end err err' answer
-  Unsaid : answer ≡ status.SinkFailed → FailedIn err (line_due end) err' → Told end err err' answer
-
--- at the end of all work there is nothing to tell
-abbrev pub Reported : End → Stream → Stream → Status → Type 0
-Reported Done err err' answer = (answer ≡ status.Done) × (err' ≡ err)
-Reported OutFailed err err' answer = Told OutFailed err err' answer
-Reported NoMemory err err' answer = Told NoMemory err err' answer
-Reported (ReadFailed name) err err' answer = Told (ReadFailed name) err err' answer
-Reported (Refused refusal) err err' answer = Told (Refused refusal) err err' answer
-
--- a call with this plan ended in some way, and reported it
-pub record Called (files : Files) (plan : Plan) (store store' : Reads) (out out' err err' : Stream) (answer : Status) : Type 0 where
-  pub end : End
-  pub ends : Ends files plan store store' out out' end
-  pub reported : Reported end err err' answer
-
--- a call ended so, and `err` took the line of that end
-abbrev pub EndedSaying : Files → Plan → Reads → Reads → Stream → Stream → Stream → Stream → End → Type 0
-EndedSaying files plan store store' out out' err err' end = Ends files plan store store' out out' end × (err' ≡ took err (line_due end))
-
--- a call ended so, and `err` failed within the line of that end
-abbrev pub EndedUnsaid : Files → Plan → Reads → Reads → Stream → Stream → Stream → Stream → End → Type 0
-EndedUnsaid files plan store store' out out' err err' end =
-    (end ≢ Done) × Ends files plan store store' out out' end × FailedIn err (line_due end) err'
-
--- the answer is that of the verdict, where it is known
-abbrev pub HasStatus : Verdict → Status → Type 0
-HasStatus Untold answer = Unit {0}
-HasStatus (RefusedVerdict refusal) answer = answer ≡ refusal_status refusal
-HasStatus (Accepted job) answer = answer ≡ status.Done
-
--- The top clause. `store`, `out` and `err` are as the call begins, `store'`, `out'` and `err'` as it returns.
-pub record TopClause (files : Files) (words : List (List ℕ)) (store store' : Reads) (out out' err err' : Stream) (answer : Status) : Type 0 where
+-- `files`, `store`, `out` and `err` are as the call begins, `files'`, `store'`, `out'` and `err'` as it returns.
+pub record TopClause (files files' : Files) (words : List (List ℕ)) (store store' : Reads) (out out' err err' : Stream) (answer : Status) : Type 0 where
+  -- whatever the status: the store holds the files that it held
+  pub held : files' ≡ files
   -- 0: all files were accepted, and the job's whole output is written
   pub done : answer ≡ status.Done → Ends files (plan words) store store' out out' Done × (err' ≡ err)
   -- 1: a write to `out` failed, and `err` has the line that says so; or a write to `err` failed, of the line of some end

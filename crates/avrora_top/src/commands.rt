@@ -1,9 +1,9 @@
 // The commands, behind the words that ask for them.
-ghost use Rattle.std.specs.Prelude.{◌≤◌};
+ghost use Rattle.std.specs.Prelude.{◌≡◌, ◌≤◌};
 ghost use Rattle.command_words.specs.Words.{Node, Run, RunPlain, Check, Disasm};
 ghost use Rattle.avrora_top.specs.Plan.{DisasmJob, plan_of};
-ghost use Rattle.avrora_top.specs.Ends.{Ends, JobEnds, end_of, reads, stream};
-ghost use Rattle.avrora_top.specs.TopClause.{Called};
+ghost use Rattle.avrora_top.specs.Ends.{Ends, reads, stream};
+ghost use Rattle.avrora_top.specs.Parts.{JobEnds, end_of, Called};
 
 use crate::Status;
 use crate::files::{read_image, read_images, read_scenario};
@@ -37,7 +37,8 @@ pub fn node<'w, S: Store, O: Sink>(
 ) -> Result<(), Trouble<'w>>
     requires some { 1 ≤ cycles }
     requires limit { cycles ≤ 10000000 }
-    ensures { Ends (S.held store.old) (plan_of (Node file.entry.now cycles))
+    ensures held { S.held store.new ≡ S.held store.old }
+    ensures ends { Ends (S.held store.old) (plan_of (Node file.entry.now cycles))
         (reads (S.faults store.old) (S.failed store.old)) (reads (S.faults store.new) (S.failed store.new))
         (stream (O.taken out.old) (O.faults out.old)) (stream (O.taken out.new) (O.faults out.new)) (end_of result) }
 {
@@ -58,7 +59,8 @@ pub fn disasm<'w, S: Store, O: Sink>(
     store: &mut S,
     out: &mut O,
 ) -> Result<(), Trouble<'w>>
-    ensures { Ends (S.held store.old) (plan_of (Disasm file.entry.now))
+    ensures held { S.held store.new ≡ S.held store.old }
+    ensures ends { Ends (S.held store.old) (plan_of (Disasm file.entry.now))
         (reads (S.faults store.old) (S.failed store.old)) (reads (S.faults store.new) (S.failed store.new))
         (stream (O.taken out.old) (O.faults out.old)) (stream (O.taken out.new) (O.faults out.new)) (end_of result) }
 {
@@ -77,7 +79,8 @@ pub fn run_plain<'w, S: Store, O: Sink, E: Sink>(
     out: &mut O,
     err: &mut E,
 ) -> Status
-    ensures { Called (S.held store.old) (plan_of (RunPlain file.entry.now))
+    ensures held { S.held store.new ≡ S.held store.old }
+    ensures called { Called (S.held store.old) (plan_of (RunPlain file.entry.now))
         (reads (S.faults store.old) (S.failed store.old)) (reads (S.faults store.new) (S.failed store.new))
         (stream (O.taken out.old) (O.faults out.old)) (stream (O.taken out.new) (O.faults out.new))
         (stream (E.taken err.old) (E.faults err.old)) (stream (E.taken err.new) (E.faults err.new)) result }
@@ -104,7 +107,8 @@ pub fn run<'w, S: Store, O: Sink, E: Sink>(
     out: &mut O,
     err: &mut E,
 ) -> Status
-    ensures { Called (S.held store.old) (plan_of (Run file.entry.now))
+    ensures held { S.held store.new ≡ S.held store.old }
+    ensures called { Called (S.held store.old) (plan_of (Run file.entry.now))
         (reads (S.faults store.old) (S.failed store.old)) (reads (S.faults store.new) (S.failed store.new))
         (stream (O.taken out.old) (O.faults out.old)) (stream (O.taken out.new) (O.faults out.new))
         (stream (E.taken err.old) (E.faults err.old)) (stream (E.taken err.new) (E.faults err.new)) result }
@@ -120,7 +124,8 @@ pub fn check<'w, S: Store, O: Sink, E: Sink>(
     out: &mut O,
     err: &mut E,
 ) -> Status
-    ensures { Called (S.held store.old) (plan_of (Check file.entry.now))
+    ensures held { S.held store.new ≡ S.held store.old }
+    ensures called { Called (S.held store.old) (plan_of (Check file.entry.now))
         (reads (S.faults store.old) (S.failed store.old)) (reads (S.faults store.new) (S.failed store.new))
         (stream (O.taken out.old) (O.faults out.old)) (stream (O.taken out.new) (O.faults out.new))
         (stream (E.taken err.old) (E.faults err.old)) (stream (E.taken err.new) (E.faults err.new)) result }

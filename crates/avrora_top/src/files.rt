@@ -5,9 +5,11 @@ ghost use Rattle.scenario_file.specs.Scenario.{ScenarioParts, IsScenario};
 ghost use Rattle.scenario_file.specs.Shown.{parts};
 ghost use Rattle.avrora_top.specs.Plan.{Plan, Read, image_plan, images_plan, scenario_plan};
 ghost use Rattle.avrora_top.specs.Reading.{Reached};
-ghost use Rattle.avrora_top.specs.Ends.{StopsAt, reads, refusal_of};
+ghost use Rattle.avrora_top.specs.Ends.{reads};
+ghost use Rattle.avrora_top.specs.Parts.{StopsAt, refusal_of};
 
 use crate::trouble::{Complaint, ImageCause, ScenarioCause, Trouble};
+use avr_program::Program;
 use ihex_loader::{Flash, HexFault, load};
 use scenario_file::{ScenarioFault, ScenarioText};
 use sim_io::{Name, ReadFault, Store};
@@ -74,12 +76,12 @@ pub fn read_image<'n, S: Store>(
     }
 }
 
-/// The images in the files of these names, each read and accepted before the next is read.
+/// The images in the files of these names, each read and accepted before the next is read. Equal ones are kept once.
 pub fn read_images<'n, S: Store>(
     alloc: Global,
     names: &'n [Name],
     store: &mut S,
-) -> Result<Vec<Flash>, Trouble<'n>>
+) -> Result<Vec<Program>, Trouble<'n>>
     ensures held { S.held store.new ≡ S.held store.old }
     ensures same { OnOk result (reads (S.faults store.new) (S.failed store.new) ≡ reads (S.faults store.old) (S.failed store.old)) }
 
@@ -95,7 +97,10 @@ pub fn read_images<'n, S: Store>(
             Ok(flash) => flash,
             Err(trouble) => return Err(trouble),
         };
-        match images.push(flash) {
+        let Ok(program) = Program::among(alloc, images.as_slice(), flash) else {
+            return Err(Trouble::NoMemory);
+        };
+        match images.push(program) {
             Ok(()) => {}
             Err(_) => return Err(Trouble::NoMemory),
         }

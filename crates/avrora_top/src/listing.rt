@@ -8,27 +8,24 @@ ghost use Rattle.avrora_top.specs.Listing.{instruction_line, listing};
 
 use arrayvec::ArrayString;
 use avr_decoder::{decode, width};
-use avr_disassembler::put_text;
+use avr_disassembler::put_line;
 use ihex_loader::Flash;
 use sim_io::{Sink, SinkFault, make_room, write_all};
-use text_pieces::put_hex4;
 
-// The bytes of a page, and the room that a line needs: four digits, a space, a text of at most 23 bytes, LF.
+// The bytes of a page, and the room that a line needs: the disassembler's, of at most 28 bytes, and LF.
 const PAGE_BYTES: usize = 16_384;
 
 const LINE_BYTES: usize = 29;
 
 // Appends the line of the instruction at the word address `pc`, and answers how many words it takes.
-#[tactic(auto, unfolding(crate::specs::Listing::instruction_line, avr_disassembler::specs::Text::line_of))]
+#[tactic(auto, unfolding(crate::specs::Listing::instruction_line))]
 fn put_instruction(flash: &Flash, pc: u16, page: &mut ArrayString<PAGE_BYTES>) -> u8
     requires { array_string_len page.old + LINE_BYTES ≤ PAGE_BYTES }
     ensures line { page.new.bytes ≡ page.old.bytes ++ instruction_line flash.now.bytes pc }
     ensures words { result ≡ (if is_two_words (word_at flash.now.bytes pc) then 2 else 1) }
 {
     let word = flash.word(pc);
-    put_hex4(pc, page);
-    page.push_str(" ");
-    put_text(decode(word, flash.word(pc.wrapping_add(1))), page);
+    put_line(pc, decode(word, flash.word(pc.wrapping_add(1))), page);
     page.push_str("\n");
     width(word)
 }

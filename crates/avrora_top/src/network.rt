@@ -2,11 +2,13 @@
 ghost use Rattle.std.specs.Prelude.{◌≡◌, ◌≤◌, ◌++◌, IfOk};
 ghost use Rattle.avrora_top.specs.Network.{lone_node, size_line};
 ghost use Rattle.avrora_top.specs.Plan.{SizeJob, TraceJob};
-ghost use Rattle.avrora_top.specs.Ends.{JobEnds, stream};
+ghost use Rattle.avrora_top.specs.Ends.{stream};
+ghost use Rattle.avrora_top.specs.Parts.{JobEnds};
 
 use crate::trouble::Trouble;
 use arrayvec::ArrayString;
 use avr_base::NoMemory;
+use avr_program::Program;
 use fleet_plain::PlainRun;
 use ihex_loader::Flash;
 use node_runner::Scenario;
@@ -36,7 +38,7 @@ pub fn lone_node(alloc: Global, flash: Flash, cycles: u64) -> Result<Scenario, N
         unreachable!();
     };
     let mut images = Vec::with_capacity(alloc, 1)?;
-    images.push_reserved(flash);
+    images.push_reserved(Program::new(alloc, flash)?);
     let mut scripts = Vec::with_capacity(alloc, 1)?;
     scripts.push_reserved(Script::new(0, 7_680, Vec::new(alloc)));
     let text = ScenarioText {

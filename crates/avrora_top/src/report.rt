@@ -1,8 +1,8 @@
 // What is said on the error stream.
 ghost use Rattle.std.specs.Prelude.{◌≡◌, ◌≤◌, ◌+◌, ◌++◌, codes, length, OnOk, OnErr};
 ghost use Rattle.arrayvec.specs.ArrayString.{array_string_len};
-ghost use Rattle.avrora_top.specs.Ends.{FailedIn, cause_text, end_at, end_of, line_due, place_text, scenario_cause_text, status_due, stream, took};
-ghost use Rattle.avrora_top.specs.TopClause.{Reported, Told};
+ghost use Rattle.avrora_top.specs.Ends.{FailedIn, cause_text, line_due, place_text, scenario_cause_text, status_due, stream, took};
+ghost use Rattle.avrora_top.specs.Parts.{end_at, end_of, Reported, Told};
 
 use crate::Status;
 use crate::trouble::{Complaint, ImageCause, ScenarioCause, Trouble};

@@ -2,7 +2,8 @@
 ghost use Rattle.std.specs.Prelude.{◌≡◌, ◌++◌};
 ghost use Rattle.avrora_top.specs.Sample.{counts_line};
 ghost use Rattle.avrora_top.specs.Plan.{SampleJob};
-ghost use Rattle.avrora_top.specs.Ends.{JobEnds, stream};
+ghost use Rattle.avrora_top.specs.Ends.{stream};
+ghost use Rattle.avrora_top.specs.Parts.{JobEnds};
 
 use crate::trouble::Trouble;
 use arrayvec::ArrayString;

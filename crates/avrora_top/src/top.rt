@@ -3,7 +3,8 @@ ghost use Rattle.std.specs.Prelude.{◌≡◌, map};
 ghost use Rattle.command_words.specs.Words.{IsInLimits, asked_by, shown};
 ghost use Rattle.avrora_top.specs.Plan.{BadWords, plan, plan_of};
 ghost use Rattle.avrora_top.specs.Ends.{Refused, reads, stream};
-ghost use Rattle.avrora_top.specs.TopClause.{Called, Reported, TopClause};
+ghost use Rattle.avrora_top.specs.TopClause.{TopClause};
+ghost use Rattle.avrora_top.specs.Parts.{Called, Reported};
 
 use crate::Status;
 use crate::commands::{check, disasm, node, run, run_plain};
@@ -23,7 +24,8 @@ fn obey<'w, S: Store, O: Sink, E: Sink>(
     err: &mut E,
 ) -> Status
     requires { IsInLimits (shown order) }
-    ensures { Called (S.held store.old) (plan_of (shown order.entry))
+    ensures held { S.held store.new ≡ S.held store.old }
+    ensures called { Called (S.held store.old) (plan_of (shown order.entry))
         (reads (S.faults store.old) (S.failed store.old)) (reads (S.faults store.new) (S.failed store.new))
         (stream (O.taken out.old) (O.faults out.old)) (stream (O.taken out.new) (O.faults out.new))
         (stream (E.taken err.old) (E.faults err.old)) (stream (E.taken err.new) (E.faults err.new)) result }
@@ -55,6 +57,7 @@ fn call<'w, S: Store, O: Sink, E: Sink>(
     out: &mut O,
     err: &mut E,
 ) -> Status
+    ensures held { S.held store.new ≡ S.held store.old }
     ensures called { Called (S.held store.old) (plan (map (λ w. w.now) words.entry.now))
         (reads (S.faults store.old) (S.failed store.old)) (reads (S.faults store.new) (S.failed store.new))
         (stream (O.taken out.old) (O.faults out.old)) (stream (O.taken out.new) (O.faults out.new))
@@ -95,7 +98,7 @@ pub fn avrora_alone<'w, S: Store, O: Sink, E: Sink>(
     out: &mut O,
     err: &mut E,
 ) -> Status
-    ensures { TopClause (S.held store.old) (map (λ w. w.now) words.entry.now)
+    ensures { TopClause (S.held store.old) (S.held store.new) (map (λ w. w.now) words.entry.now)
         (reads (S.faults store.old) (S.failed store.old)) (reads (S.faults store.new) (S.failed store.new))
         (stream (O.taken out.old) (O.faults out.old)) (stream (O.taken out.new) (O.faults out.new))
         (stream (E.taken err.old) (E.faults err.old)) (stream (E.taken err.new) (E.faults err.new)) result }

@@ -3,11 +3,10 @@
 //! out by hand.
 #![tactic(auto)]
 
-mod calling;
 mod reading;
 mod writing;
 
-use calling::{Held, made};
+use memory_calls::{Held, called};
 use reading::{Line, read_line};
 use sim_io::{Sink, SinkFault, StdSink, write_all};
 use std::alloc::AllocError;
@@ -49,7 +48,7 @@ fn do_line<O: Sink>(
         Line::File(name) => hold_file(rt, name, held),
         Line::Blank(name, length) => Ok(held.add_blank(alloc, name, length)?),
         Line::Call(call) => {
-            let outcome = made(alloc, &call, held)?;
+            let outcome = called(alloc, call.words.as_slice(), held, &call.faults)?;
             Ok(write_outcome(&outcome, out)?)
         }
         Line::Statuses => Ok(write_statuses(out)?),

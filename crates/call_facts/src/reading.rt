@@ -1,21 +1,12 @@
 // One line of a file of calls.
+use memory_calls::{Faults, Stream};
 use std::alloc::{AllocError, Global};
 
-/// A stream in memory: how many bytes it takes in all and at one call, and which of its calls fail, from 0.
-#[derive(Drop)]
-pub struct Stream {
-    pub room: usize,
-    pub step: usize,
-    pub fail: Vec<u64>,
-}
-
-/// A call: its words, which reads fail, from 0, and its two streams.
+/// A call: its words, and where its outside fails.
 #[derive(Drop)]
 pub struct Call<'l> {
     pub words: Vec<&'l str>,
-    pub reads: Vec<u64>,
-    pub out: Stream,
-    pub err: Stream,
+    pub faults: Faults,
 }
 
 /// What a line says.
@@ -55,15 +46,6 @@ fn words(alloc: Global, text: &str) -> Result<Vec<&str>, AllocError> {
     Ok(all)
 }
 
-// A stream that takes all.
-fn ample(alloc: Global) -> Stream {
-    Stream {
-        room: 2_000_000,
-        step: 2_000_000,
-        fail: Vec::new(alloc),
-    }
-}
-
 // `ROOM STEP FAIL ..`
 fn stream_of(alloc: Global, text: &str) -> Result<Option<Stream>, AllocError> {
     let Some(all) = numbers(alloc, text)? else {
@@ -94,7 +76,7 @@ fn part<'l>(line: &'l str, name: &str) -> &'l str {
 fn named_stream(alloc: Global, line: &str, name: &str) -> Result<Option<Stream>, AllocError> {
     let text = part(line, name);
     if text.is_empty() {
-        return Ok(Some(ample(alloc)));
+        return Ok(Some(Stream::ample(alloc)));
     }
     stream_of(alloc, text)
 }
@@ -112,9 +94,7 @@ fn read_call<'l>(alloc: Global, line: &'l str) -> Result<Line<'l>, AllocError> {
     };
     Ok(Line::Call(Call {
         words: words(alloc, part(line, "call"))?,
-        reads,
-        out,
-        err,
+        faults: Faults { reads, out, err },
     }))
 }
 

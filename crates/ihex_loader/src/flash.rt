@@ -1,5 +1,5 @@
 // The flash of a node.
-ghost use Rattle.std.specs.Prelude.{◌≡◌, ℕ, ◌+◌, ◌-◌, ◌*◌, ◌<◌, ◌≤◌, ◌==◌, List, [], max, length, slice_index, IfOk};
+ghost use Rattle.std.specs.Prelude.{◌≡◌, ℕ, ◌+◌, ◌-◌, ◌*◌, ◌<◌, ◌≤◌, ◌==◌, List, [], max, length, slice_index, IfOk, Decides};
 ghost use Rattle.ihex_loader.specs.Flash.{byte_at, word_at, padded, image_of_words};
 ghost use Rattle.ihex_loader.specs.Image.{placed, last_put};
 
@@ -54,6 +54,13 @@ impl Flash {
         ensures small { result ≤ 131072 }
     {
         self.used
+    }
+
+    /// Whether `other` has the same bytes, given as far.
+    pub fn is(&self, other: &Flash) -> bool
+        ensures { Decides result (self.now ≡ other.now) }
+    {
+        self.used == other.used && self.bytes.as_slice() == other.bytes.as_slice()
     }
 
     /// A flash that no image has given a byte yet: 0xFF everywhere.

@@ -13,24 +13,6 @@ pub enum Limits {
     Err(usize),
 }
 
-impl Limits {
-    /// How many bytes the output takes, of so many where nothing limits it.
-    pub fn out_room(self, ample: usize) -> usize {
-        match self {
-            Limits::Out(room) => room,
-            _ => ample,
-        }
-    }
-
-    /// The same of the error stream.
-    pub fn err_room(self, ample: usize) -> usize {
-        match self {
-            Limits::Err(room) => room,
-            _ => ample,
-        }
-    }
-}
-
 /// What a line says.
 #[derive(Clone, Copy)]
 pub enum Line<'l> {

@@ -3,14 +3,13 @@
 //! nothing with this one gives (`bench/network`).
 #![tactic(auto)]
 
-mod files;
 mod lines;
 mod runs;
 mod writing;
 
-use files::Held;
 use lines::{Line, read_line};
-use runs::{Outcome, made};
+use memory_calls::Held;
+use runs::made;
 use sim_io::{Sink, SinkFault, StdSink, write_all};
 use std::alloc::AllocError;
 use std::process::ExitCode;

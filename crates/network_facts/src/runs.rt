@@ -1,27 +1,17 @@
 // A run over files and streams in memory.
-use crate::files::Held;
 use crate::lines::Limits;
-use avrora_top::avrora_alone;
-use sim_io::MemSink;
+use memory_calls::{Faults, Held, Outcome, called};
 use std::alloc::{AllocError, Global};
 
-// More than any stream of a case takes.
-const AMPLE: usize = 1_000_000;
-
-/// What a run came to.
-#[derive(Drop)]
-pub struct Outcome {
-    pub status: u8,
-    pub out: MemSink,
-    pub err: MemSink,
-}
-
-// A stream that takes so many bytes in all.
-fn sink(alloc: Global, room: usize) -> Result<MemSink, AllocError> {
-    match MemSink::new(alloc, room, AMPLE, Vec::new(alloc)) {
-        Ok(sink) => Ok(sink),
-        Err(_) => Err(AllocError),
+fn faults_of(alloc: Global, limits: Limits) -> Result<Faults, AllocError> {
+    let mut faults = Faults::none(alloc);
+    match limits {
+        Limits::Ample => {}
+        Limits::Read(number) => faults.reads.push(number)?,
+        Limits::Out(room) => faults.out.room = room,
+        Limits::Err(room) => faults.err.room = room,
     }
+    Ok(faults)
 }
 
 /// Runs these words over what is held.
@@ -31,16 +21,6 @@ pub fn made(
     limits: Limits,
     held: &Held,
 ) -> Result<Outcome, AllocError> {
-    let mut store = match limits {
-        Limits::Read(number) => held.store(alloc, &[number])?,
-        _ => held.store(alloc, &[])?,
-    };
-    let mut out = sink(alloc, limits.out_room(AMPLE))?;
-    let mut err = sink(alloc, limits.err_room(AMPLE))?;
-    let status = avrora_alone(alloc, words, &mut store, &mut out, &mut err);
-    Ok(Outcome {
-        status: status.number(),
-        out,
-        err,
-    })
+    let faults = faults_of(alloc, limits)?;
+    called(alloc, words, held, &faults)
 }

@@ -10,7 +10,6 @@ use crate::machine::{Air, Machine};
 use avr_base::{NoMemory, StopCause};
 use avr_program::Program;
 use data_space::Cpu;
-use ihex_loader::Flash;
 use std::alloc::Global;
 use std::marker::Model;
 use std::mem;
@@ -58,12 +57,12 @@ impl Model for Node {
 }
 
 impl Node {
-    /// A node at reset, before cycle 0. `script` says which bytes arrive at its USART0; its Instr and Enter rows exist
+    /// A node at reset, before cycle 0, with the program memory of `program`. `script` says which bytes arrive at its USART0; its Instr and Enter rows exist
     /// in the cycles from `window.0` on and below `window.1`; a byte takes its radio `byte_time` cycles, 256 to 4,096.
     pub fn new(
         alloc: Global,
         number: u8,
-        flash: Flash,
+        program: Program,
         script: Script,
         window: (u64, u64),
         byte_time: u64,
@@ -71,9 +70,8 @@ impl Node {
         requires window { window.0 ≤ window.1 }
         requires least { 256 ≤ byte_time }
         requires most { byte_time ≤ 4096 }
-        ensures { IfOk result (λ node. node ≡ record { cycle = 0; asking = false; state = reset number flash.bytes script window.0 window.1 byte_time; rows = [] }) }
+        ensures { IfOk result (λ node. node ≡ record { cycle = 0; asking = false; state = reset number program.bytes script window.0 window.1 byte_time; rows = [] }) }
     {
-        let program = Program::new(alloc, flash)?;
         let bus = NodeBus::new(alloc, byte_time)?;
         Ok(Node {
             cycle: 0,

@@ -3,6 +3,7 @@ ghost use Rattle.std.specs.Prelude.{◌≡◌, ◌≤◌, false, length, IfOk};
 
 use crate::{Node, Reached};
 use avr_base::StopCause;
+use avr_program::Program;
 use ihex_loader::{Flash, flash_of, load};
 use std::alloc::Global;
 use std::test::Fail;
@@ -46,7 +47,8 @@ fn node_of(alloc: Global, flash: Flash, window: (u64, u64), arrivals: &[u8]) -> 
     ensures calm { IfOk result (λ node. node.asking ≡ false) }
 {
     let script = Script::new(5, 1, Vec::from_slice(alloc, arrivals)?);
-    let node = Node::new(alloc, 0, flash, script, window, 512);
+    let program = Program::new(alloc, flash).ok().ok_or("memory")?;
+    let node = Node::new(alloc, 0, program, script, window, 512);
     Ok(node.ok().ok_or("memory")?)
 }
 

@@ -2,6 +2,7 @@
 ghost use Rattle.std.specs.Prelude.{◌≤◌, ◌^◌};
 
 use crate::reading::Trial;
+use avr_program::Program;
 use ihex_loader::load;
 use node_core::Node;
 use std::alloc::Global;
@@ -51,8 +52,8 @@ pub fn run_trial<'l>(alloc: Global, image: &[u8], trial: Trial<'l>) -> Option<Ru
     let asks = trial.sram;
     let window = (0, u64::from(trial.told));
     let script = Script::new(u64::from(trial.from), u64::from(trial.every), trial.bytes);
-    let flash = load(alloc, image).ok()?;
-    let mut node = Node::new(alloc, 0, flash, script, window, BYTE_TIME).ok()?;
+    let program = Program::new(alloc, load(alloc, image).ok()?).ok()?;
+    let mut node = Node::new(alloc, 0, program, script, window, BYTE_TIME).ok()?;
     for _ in 0..TURNS {
         turn(&mut node, limit);
     }

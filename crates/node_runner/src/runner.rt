@@ -57,13 +57,13 @@ impl Model for Runner {
 }
 
 impl Runner {
-    /// Node `node` of the scenario at reset. It has a copy of the node's image and script.
+    /// Node `node` of the scenario at reset. It shares the node's program, and has a copy of its script.
     pub fn new(alloc: Global, scenario: &Scenario, node: u8) -> Result<Runner, NoMemory>
         requires { node < scenario.now.topo.nodes }
         ensures { IfOk result (λ r. r ≡ record { scenario = scenario.now; number = node; since = 0; cycle = 0; asking = false; unnoted = false }) }
     {
         let topo = scenario.lawful_topo();
-        let flash = scenario.image(node).copy()?;
+        let program = scenario.program(node).share()?;
         let script = scenario.script(node).copy()?;
         let window = scenario.window();
         Ok(Runner {
@@ -73,7 +73,7 @@ impl Runner {
             since: 0,
             count: 0,
             unnoted: false,
-            node: Node::new(alloc, node, flash, script, window, topo.byte_time())?,
+            node: Node::new(alloc, node, program, script, window, topo.byte_time())?,
         })
     }
 

@@ -1,5 +1,5 @@
 // A scenario is a world of the air.
-use ihex_loader::Flash;
+use avr_program::Program;
 use scenario_file::ScenarioText;
 use std::marker::Model;
 use usart_port::Script;
@@ -10,7 +10,7 @@ use world_core::{Topo, World};
 #[derive(Drop)]
 pub struct Scenario {
     topo: Topo,
-    images: Vec<Flash>,
+    images: Vec<Program>,
     scripts: Vec<Script>,
     window: (u64, u64),
 }
@@ -31,7 +31,7 @@ impl Scenario {
 
     /// The scenario of a text whose images were read, one for each node in order. A node at which nothing arrives has a
     /// script of no bytes.
-    pub fn new(text: ScenarioText, images: Vec<Flash>) -> Scenario
+    pub fn new(text: ScenarioText, images: Vec<Program>) -> Scenario
         requires images { vec_len images ≡ text.topo.nodes }
         requires scripts { vec_len text.scripts ≡ text.topo.nodes }
         requires window { text.window.0 ≤ text.window.1 }
@@ -52,8 +52,8 @@ impl Scenario {
         }
     }
 
-    /// The program memory of node `node`.
-    pub fn image(&self, node: u8) -> &Flash
+    /// The program of node `node`.
+    pub fn program(&self, node: u8) -> &Program
         requires { node < self.now.topo.nodes }
         ensures { result.now ≡ image_at self.now node }
     {

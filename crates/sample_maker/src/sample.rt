@@ -8,7 +8,7 @@ ghost use Rattle.sample_maker.specs.Sample.{first_byte, rounds, image_of_node, s
 use crate::network::ring_topology;
 use crate::ring::ring_image;
 use avr_base::NoMemory;
-use ihex_loader::Flash;
+use avr_program::Program;
 use node_runner::Scenario;
 use scenario_file::ScenarioText;
 use std::alloc::{AllocError, Global};
@@ -30,13 +30,13 @@ fn rounds(number: u16, node: u8) -> u8
 }
 
 // The program memory of each node.
-fn images(alloc: Global, number: u16, nodes: u8) -> Result<Vec<Flash>, NoMemory>
+fn images(alloc: Global, number: u16, nodes: u8) -> Result<Vec<Program>, NoMemory>
     ensures { IfOk result (λ images. images.items ≡ map (image_of_node number) (range_with_len 0 nodes)) }
 {
     let mut images = Vec::new(alloc);
     for k in 0..nodes {
         let image = ring_image(alloc, first_byte(number, k), rounds(number, k))?;
-        if images.push(image).is_err() {
+        if images.push(Program::new(alloc, image)?).is_err() {
             return Err(NoMemory);
         }
     }

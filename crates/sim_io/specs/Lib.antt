@@ -2,3 +2,4 @@ pub mod Bytes
 pub mod Failed
 pub mod Files
 pub mod Outside
+pub mod Stream

@@ -1,5 +1,6 @@
 // The files of the real system.
 ghost use Rattle.std.specs.Prelude.{◌≡◌, ◌≢◌, ◌<◌, ◌≤◌, [], None, length, IfOk, IfSome, IsErrOf};
+ghost use Rattle.std.specs.IoError.{error_kind};
 
 use crate::{Name, ReadFault, Store};
 use std::alloc::Global;
@@ -41,7 +42,8 @@ impl<'a, R: Files> DirStore<'a, R> {
 
 // An error of the system: want of memory is told apart.
 fn fault_of(error: &io::Error) -> ReadFault
-    ensures { result ≢ ReadFault.TooLong }
+    ensures memory { error_kind error.now ≡ ErrorKind.OutOfMemory → result ≡ ReadFault.NoMemory }
+    ensures other { error_kind error.now ≢ ErrorKind.OutOfMemory → result ≡ ReadFault.Failed }
 {
     if error.kind() == ErrorKind::OutOfMemory {
         return ReadFault::NoMemory;
@@ -49,8 +51,9 @@ fn fault_of(error: &io::Error) -> ReadFault
     ReadFault::Failed
 }
 
-// All that a reader has left, of at most `most` bytes. It takes one byte past them at most.
-fn read_file<F: Read + Drop>(alloc: Global, file: F, most: usize) -> Result<Vec<u8>, ReadFault>
+/// All that a reader has left, of at most `most` bytes: it takes one byte past them at most. A read that a signal cut off
+/// is made again.
+pub fn read_whole<F: Read + Drop>(alloc: Global, file: F, most: usize) -> Result<Vec<u8>, ReadFault>
     ensures fits { IfOk result (λ bytes. length bytes.items ≤ most) }
     ensures whole { IfOk result (λ bytes. IfSome (F.remaining file) (λ left. bytes.items ≡ left)) }
     ensures too_long { IsErrOf result ReadFault.TooLong → IfSome (F.remaining file) (λ left. most < length left) }
@@ -78,7 +81,7 @@ fn open_and_read<R: Files>(
     ensures { IfOk result (λ bytes. length bytes.items ≤ most) }
 {
     match fs::open(files, name) {
-        Ok(file) => read_file(alloc, file, most),
+        Ok(file) => read_whole(alloc, file, most),
         Err(error) => Err(fault_of(&error)),
     }
 }

@@ -13,7 +13,7 @@ mod std_sink;
 mod store;
 
 pub use avr_base::NoMemory;
-pub use dir_store::DirStore;
+pub use dir_store::{DirStore, read_whole};
 pub use mem_sink::MemSink;
 pub use mem_store::MemStore;
 pub use name::Name;
@@ -21,6 +21,3 @@ pub use page::make_room;
 pub use sink::{Sink, SinkFault, write_all};
 pub use std_sink::StdSink;
 pub use store::{ReadFault, Store};
-
-#[cfg(test)]
-mod tests;

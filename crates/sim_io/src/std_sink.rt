@@ -1,12 +1,14 @@
 // The streams of the real system.
-ghost use Rattle.std.specs.Prelude.{◌≡◌, ◌<◌, ◌≤◌, None, length, IfOk};
+ghost use Rattle.std.specs.Prelude.{◌≡◌, ◌<◌, ◌≤◌, None, length, IfOk, OnOk, OnErr};
+ghost use Rattle.std.specs.Io.KnownBytes.{WriteAppends};
+ghost use Rattle.sim_io.specs.Outside.{Rose};
 
 use crate::{Sink, SinkFault};
 use std::io::{ErrorKind, Write};
 use std::marker::Model;
 
-/// A stream of the process, as its standard output. A contract sees the count of its faults alone: what a real stream
-/// took is not told.
+/// A stream of the process, as its standard output. A contract sees the count of its faults, and what its writer holds
+/// where the writer tells: what a real stream took is not told.
 #[derive(Drop)]
 pub struct StdSink<W: Write + Drop> {
     writer: W,
@@ -14,17 +16,17 @@ pub struct StdSink<W: Write + Drop> {
 }
 
 impl<W: Write + Drop> Model for StdSink<W> {
-    ghost use Rattle.std.specs.Prelude.{ℕ};
+    ghost use Rattle.sim_io.specs.Stream.{StreamSink};
 
-    ghost Value = { ℕ };
+    ghost Value = { StreamSink };
 
-    ghost view = { λ s. s.count };
+    ghost view = { λ s. record { faults = s.count; contents = W.contents s.writer } };
 }
 
 impl<W: Write + Drop> StdSink<W> {
     /// A sink over this writer. No write has failed yet.
     pub fn new(writer: W) -> Self
-        ensures { result ≡ 0 }
+        ensures { result ≡ record { faults = 0; contents = W.contents writer } }
     {
         StdSink { writer, count: 0 }
     }
@@ -34,6 +36,7 @@ impl<W: Write + Drop> StdSink<W> {
 fn write_some<W: Write>(writer: &mut W, piece: &[u8]) -> Result<usize, SinkFault>
     ensures within { IfOk result (λ n. n ≤ length piece.now) }
     ensures goes_on { IfOk result (λ n. 0 < length piece.now → 0 < n) }
+    ensures bytes { WriteAppends (W.contents writer.old) (W.contents writer.new) result piece.now }
 {
     if piece.is_empty() {
         return Ok(0);
@@ -55,9 +58,17 @@ fn write_some<W: Write>(writer: &mut W, piece: &[u8]) -> Result<usize, SinkFault
 impl<W: Write + Drop> Sink for StdSink<W> {
     ghost taken = { λ s. None };
 
-    ghost faults = { λ s. s };
+    ghost faults = { λ s. s.faults };
 
-    fn write(&mut self, piece: &[u8]) -> Result<usize, SinkFault> {
+    fn write(&mut self, piece: &[u8]) -> Result<usize, SinkFault>
+        ensures bytes { WriteAppends self.old.contents self.new.contents result piece.now }
+
+        ensures within { IfOk result (λ n. n ≤ length piece.now) }
+        ensures goes_on { IfOk result (λ n. 0 < length piece.now → 0 < n) }
+        ensures ok { OnOk result (self.new.faults ≡ self.old.faults) }
+        ensures later { self.old.faults ≤ self.new.faults }
+        ensures rose { OnErr result (Rose self.old.faults self.new.faults) }
+    {
         match write_some(&mut self.writer, piece) {
             Ok(n) => Ok(n),
             Err(fault) => {

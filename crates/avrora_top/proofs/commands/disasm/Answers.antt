@@ -2,12 +2,12 @@ use Rattle.avrora_top.specs.Plan.{Give, DisasmJob, plan_of}
 use Rattle.avrora_top.proofs.Endings.{ends_stopped, ends_job}
 use Rattle.avrora_top.proofs.commands.disasm.Goals as goal
 
-pub returns-in-Err : goal.returns-in-Err
+pub returns-in-Err-clause-ends : goal.returns-in-Err-clause-ends
 unfolding plan_of
-returns-in-Err g c = ends_stopped _ _ _ _ _ c.in-Err.trouble (c.in-Err.ensures.err (λ flash. Give (DisasmJob flash)))
+returns-in-Err-clause-ends g c = ends_stopped _ _ _ _ _ c.in-Err.trouble (c.in-Err.ensures.err (λ flash. Give (DisasmJob flash)))
 
-pub returns-in-Ok : goal.returns-in-Ok
+pub returns-in-Ok-clause-ends : goal.returns-in-Ok-clause-ends
 unfolding plan_of
-returns-in-Ok g c =
+returns-in-Ok-clause-ends g c =
     ends_job _ _ (DisasmJob c.in-Ok.flash) _ _ _ _ c.write_instructions.result
     (c.in-Ok.ensures.ok (λ flash. Give (DisasmJob flash))) c.in-Ok.ensures.same c.write_instructions.ensures

@@ -1,7 +1,7 @@
 use Rattle.std.proofs.Common.{refl, rules}
 use Rattle.avrora_top.specs.Plan.{Read}
 use Rattle.avrora_top.specs.Reading.{Here, Fitting, TooLong}
-use Rattle.avrora_top.specs.Ends.{refusal_of}
+use Rattle.avrora_top.specs.Parts.{refusal_of}
 use Rattle.avrora_top.proofs.files.read_file.Goals as goal
 
 pub returns-in-Ok-clause-ok : goal.returns-in-Ok-clause-ok

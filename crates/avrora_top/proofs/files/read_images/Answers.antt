@@ -1,8 +1,4 @@
-use Rattle.std.proofs.Common.{◌≡◌, ℕ, ◌+◌, ◌∷◌, [], ◌++◌, List, length, length-append, refl, sym, ap, ◌∙◌, arith, rules}
-use Rattle.ihex_loader.specs.Flash.{Image}
-use Rattle.avrora_top.specs.Plan.{Plan, image_plan}
-use Rattle.avrora_top.specs.Reading.{Reached}
-use Rattle.avrora_top.specs.Ends.{StopsAt, reads}
+use Rattle.std.proofs.Common.{◌≡◌, ◌+◌, ◌∷◌, [], ◌++◌, length, length-append, refl, ap, ◌∙◌, arith, rules}
 use Rattle.avrora_top.proofs.Steps.{images_open, images_step, images_done, images_stop, images_pushed, stops_moved, reached_moved}
 use Rattle.avrora_top.proofs.files.read_images.Goals as goal
 

@@ -1,10 +1,9 @@
-use Rattle.std.proofs.Common.{◌≡◌, ℕ, ◌+◌, ◌≤◌, min, List, refl, sym, ap, ◌∙◌, subst, arith}
-use Rattle.std.proofs.Math.Nat.{min-le_right}
+use Rattle.std.proofs.Common.{◌≡◌, ℕ, ◌+◌, ◌≤◌, min, List, refl, ap, ◌∙◌, subst, arith}
 use Rattle.sim_io.specs.Outside.{Rose, TookFront, extended}
 use Rattle.trace_rows.specs.declared.row.Row.{Row}
 use Rattle.trace_writer.specs.Line.{rows_text}
-use Rattle.node_runner.specs.Scenario.{ScenarioOf, fleet_of}
-use Rattle.fleet_plain.specs.Run.{RunAt, rows_upto}
+use Rattle.node_runner.specs.Scenario.{ScenarioOf}
+use Rattle.fleet_plain.specs.Run.{RunAt}
 use Rattle.avrora_top.specs.Ends.{stream}
 use Rattle.avrora_top.specs.Plan.{output}
 use Rattle.avrora_top.proofs.Traces.{front_taken, front_failed, meets, rows_whole, taken_first, taken_next}

@@ -19,7 +19,7 @@ returns-in-Err-clause-words g c =
 pub returns-in-Some-clause-called : goal.returns-in-Some-clause-called
 returns-in-Some-clause-called g c =
     let asked : asked_by (map (λ w. w.now) c.args.words.now) ≡ Some (shown c.in-Some.order) = sym c.in-Ok.ensures.asked ∙ ap (option_map shown) c.in-Some.is in
-    rw asked c.obey.ensures
+    rw asked c.obey.ensures.called
 
 pub returns-in-None-clause-called : goal.returns-in-None-clause-called
 returns-in-None-clause-called g c =

@@ -1,0 +1,96 @@
+// A flash and its instructions.
+ghost use Rattle.std.specs.Prelude.{◌≡◌, ◌≤◌, IfOk, map, vec_len};
+ghost use Rattle.std.specs.List.{range_with_len};
+ghost use Rattle.avr_program.specs.Program.{op_of};
+
+use avr_base::NoMemory;
+use avr_decoder::{Op, decode};
+use ihex_loader::Flash;
+use std::alloc::{AllocError, Global};
+use std::marker::Model;
+
+/// The flash of a node, and the instructions at its word addresses from 0 on, as far as the image gave words: of an
+/// instruction 6 bytes. A contract sees it as its flash.
+#[derive(Drop)]
+pub struct Decoded {
+    flash: Flash,
+    ops: Vec<Op>,
+}
+
+impl Model for Decoded {
+    ghost use Rattle.std.specs.Prelude.{◌≡◌, map, vec_len};
+    ghost use Rattle.std.specs.List.{range_with_len};
+    ghost use Rattle.ihex_loader.specs.Flash.{Image};
+    ghost use Rattle.avr_program.specs.Program.{op_of};
+
+    ghost Value = { Image };
+
+    ghost view = { λ p. p.flash };
+
+    ghost invariant = { λ p. p.ops.items ≡ map (op_of p.flash.bytes) (range_with_len 0 (vec_len p.ops)) };
+}
+
+// The instruction at a word address.
+fn op_in(flash: &Flash, pc: u16) -> Op
+    ensures { result ≡ op_of flash.now.bytes pc }
+{
+    decode(flash.word(pc), flash.word(pc.wrapping_add(1)))
+}
+
+// How many words the image gave, up to the last one: the word of a single last byte too.
+fn words(flash: &Flash) -> u32
+    ensures { result ≤ 65536 }
+{
+    flash.used().div_ceil(2)
+}
+
+// The instructions of the words that the image gave.
+fn ops_of(alloc: Global, flash: &Flash) -> Result<Vec<Op>, AllocError>
+    ensures { IfOk result (λ ops. ops.items ≡ map (op_of flash.now.bytes) (range_with_len 0 (vec_len ops))) }
+{
+    let words = words(flash);
+    let mut ops = Vec::with_capacity(alloc, words as usize)?;
+    for pc in 0..words {
+        ops.push(op_in(flash, pc as u16))?;
+    }
+    Ok(ops)
+}
+
+impl Decoded {
+    /// The instructions of a flash. `Err` only for want of memory.
+    pub fn new(alloc: Global, flash: Flash) -> Result<Decoded, NoMemory>
+        ensures { IfOk result (λ decoded. decoded ≡ flash) }
+    {
+        let ops = ops_of(alloc, &flash)?;
+        Ok(Decoded { flash, ops })
+    }
+
+    /// Its flash.
+    #[inline]
+    pub fn flash(&self) -> &Flash
+        ensures { result.now ≡ self.now }
+    {
+        &self.flash
+    }
+
+    // The instruction at a word address behind those that the image gave.
+    #[inline(never)]
+    fn decoded_at(&self, pc: u16) -> Op
+        ensures { result ≡ op_of self.now.bytes pc }
+    {
+        op_in(&self.flash, pc)
+    }
+
+    /// The instruction whose first word is at the word address `pc`. After word 0xFFFF comes word 0.
+    #[inline]
+    pub fn op(&self, pc: u16) -> Op
+        ensures { result ≡ op_of self.now.bytes pc }
+    {
+        let at = usize::from(pc);
+        if at < self.ops.len() {
+            self.ops[at]
+        } else {
+            self.decoded_at(pc)
+        }
+    }
+}

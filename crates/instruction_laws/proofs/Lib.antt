@@ -1,0 +1,9 @@
+pub mod Flags
+pub mod Signs
+pub mod Compared
+pub mod Registers
+pub mod Sums
+pub mod Widths
+pub mod Pairs
+pub mod Stack
+pub mod Returns

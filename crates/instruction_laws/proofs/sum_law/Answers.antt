@@ -1,0 +1,12 @@
+use Rattle.arith_step.specs.Shapes.{adds}
+use Rattle.arith_step.specs.Table.{effect}
+use Rattle.instruction_laws.proofs.Pairs.{carries, sums}
+use Rattle.instruction_laws.proofs.sum_law.Goals as goal
+
+pub returns-clause-sum : goal.returns-clause-sum
+unfolding effect adds
+returns-clause-sum c = sums
+
+pub returns-clause-carry : goal.returns-clause-carry
+unfolding effect adds
+returns-clause-carry c = carries

@@ -1,0 +1,55 @@
+-- What comes back from the stack (AVR Instruction Set Manual: PUSH, POP, CALL, RCALL, ICALL, RET), over a bus that keeps
+-- what is put.
+use Rattle.std.specs.Prelude.{◌≡◌, ◌≢◌, ℕ, ◌+◌, ◌-◌, ◌/◌, ◌%◌, ◌≤◌, ◌<◌, false, List, Result, Ok}
+use Rattle.avr_base.specs.declared.stop.StopCause.{StopCause}
+use Rattle.avr_decoder.specs.declared.op.Op.{Op}
+use Rattle.avr_decoder.specs.declared.op.Op.TheVariants as op
+use Rattle.data_space.specs.declared.cpu.Cpu.{Cpu}
+use Rattle.data_space.specs.Core.{advanced}
+use Rattle.data_space.specs.Outcome.{Outcome}
+use Rattle.flow_step.specs.Table.{flow_executed}
+use Rattle.memory_step.specs.Table.{memory_executed}
+
+-- a bus, by what its accesses give
+pub record Accesses (B : Type 0) : Type 0 where
+  pub get : B → ℕ → Result (ℕ × B) StopCause
+  pub put : B → ℕ → ℕ → Result B StopCause
+
+-- between two data addresses a bus is a memory: what is put at an address comes back from it, and what stands at the
+-- others stays
+pub record IsMemory {B : Type 0} (a : Accesses B) (first last : ℕ) : Type 0 where
+  pub back : (bus bus' : B) (at x : ℕ) → first ≤ at → at ≤ last → a.put bus at x ≡ Ok bus' → a.get bus' at ≡ Ok (x, bus')
+  pub others : (bus bus' : B) (at other x y : ℕ) → first ≤ at → at ≤ last → first ≤ other → other ≤ last → at ≢ other
+      → a.get bus other ≡ Ok (y, bus) → a.put bus at x ≡ Ok bus' → a.get bus' other ≡ Ok (y, bus')
+
+-- from `first` to `last`, behind the core's own registers, there is a stack, and the stack pointer is in it, with room for
+-- so many bytes
+pub record IsStack {B : Type 0} (a : Accesses B) (first last room : ℕ) (cpu : Cpu) : Type 0 where
+  pub memory : IsMemory a first last
+  pub behind : 0x60 ≤ first
+  pub small : last < 65536
+  pub low : first + room ≤ cpu.sp + 1
+  pub high : cpu.sp ≤ last
+
+-- an instruction is done, after so many cycles, with this core and this bus
+abbrev pub done : {B : Type 0} → ℕ → Cpu → B → Outcome B
+done cycles cpu bus = record { result = Ok (record { cycles = cycles; sleep = false }); cpu = cpu; bus = bus }
+
+-- one instruction on memory after another
+abbrev pub then_memory : {B : Type 0} → Accesses B → List ℕ → Op → Outcome B → Outcome B
+then_memory a flash instruction before = memory_executed a.get a.put flash instruction before.cpu before.bus
+
+-- an instruction of the program's flow after another
+abbrev pub then_flow : {B : Type 0} → Accesses B → List ℕ → Op → Outcome B → Outcome B
+then_flow a flash instruction before = flow_executed a.get a.put flash instruction before.cpu before.bus
+
+-- a bus takes the two bytes of the address so many words on, the low one first
+pub record TakesReturn {B : Type 0} (a : Accesses B) (words : ℕ) (cpu : Cpu) (bus mid bus' : B) : Type 0 where
+  pub low : a.put bus cpu.sp ((cpu.pc + words) % 65536 % 256) ≡ Ok mid
+  pub high : a.put mid (cpu.sp - 1) ((cpu.pc + words) % 65536 / 256) ≡ Ok bus'
+
+-- a call of so many words and the return that follows it: the program goes on behind the call, and all else of the core is
+-- as before
+abbrev pub ComesBack : {B : Type 0} → Accesses B → List ℕ → Op → ℕ → Cpu → B → B → Type 0
+ComesBack a flash call words cpu bus bus' =
+    then_flow a flash op.Ret (flow_executed a.get a.put flash call cpu bus) ≡ done 4 (advanced words cpu) bus'

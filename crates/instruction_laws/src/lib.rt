@@ -1,0 +1,75 @@
+//! What instructions mean beyond their tables: comparisons and the branches behind them, sums and differences of two
+//! bytes, what comes back from the stack, and how many words an instruction takes. Each law is the contract of a
+//! function that does nothing; it is about the definitions that the steps are proved to compute.
+#![tactic(auto)]
+
+ghost use Rattle.std.specs.Prelude.{◌≡◌, ◌≢◌, ℕ, ◌+◌, ◌-◌, ◌%◌, nat_le, ℤ, List, Ok, if◌then◌else◌};
+ghost use Rattle.avr_decoder.specs.Opcodes.{is_two_words, op_at};
+ghost use Rattle.avr_decoder.specs.declared.op.Op.TheVariants as op;
+ghost use Rattle.avr_base.specs.Flags.{has_flag};
+ghost use Rattle.arith_step.specs.Table.{arith_cpu};
+ghost use Rattle.data_space.specs.declared.cpu.Cpu.{Cpu};
+ghost use Rattle.instruction_laws.specs.Branches.{AreApart, AreBytes, IsCompared, IsCore, both, reg, word, word_in};
+ghost use Rattle.data_space.specs.Core.{advanced, with_reg};
+ghost use Rattle.memory_step.specs.Table.{memory_executed};
+ghost use Rattle.instruction_laws.specs.Stack.{Accesses, ComesBack, IsStack, TakesReturn, done, then_memory};
+ghost use Rattle.instruction_laws.specs.Words.{words_of};
+
+/// After CP, and after CPI, the flags compare the two bytes.
+pub fn compare_law()
+    ensures registers { (d r : ℕ) (cpu : Cpu) → AreBytes (reg d cpu) (reg r cpu)
+        → IsCompared 128 (reg d cpu) (reg r cpu) (arith_cpu (op.Cp d r) cpu) }
+    ensures constant { (d k : ℕ) (cpu : Cpu) → AreBytes (reg d cpu) k
+        → IsCompared 128 (reg d cpu) k (arith_cpu (op.Cpi d k) cpu) }
+{}
+
+/// After CP of the low bytes and CPC of the high ones, and after CPI and SBCI, the flags compare the two words.
+pub fn compare_words_law()
+    ensures registers { (dl dh rl rh : ℕ) (cpu : Cpu) → AreBytes (reg dl cpu) (reg rl cpu) → AreBytes (reg dh cpu) (reg rh cpu)
+        → IsCompared 32768 (word_in dl dh cpu) (word_in rl rh cpu) (both (op.Cp dl rl) (op.Cpc dh rh) cpu) }
+    ensures constant { (dl dh kl kh : ℕ) (cpu : Cpu) → AreBytes (reg dl cpu) kl → AreBytes (reg dh cpu) kh
+        → IsCompared 32768 (word_in dl dh cpu) (word kl kh) (both (op.Cpi dl kl) (op.Sbci dh kh) cpu) }
+{}
+
+/// ADD of the low bytes and ADC of the high ones give the sum of the two words modulo 65,536, and C where it does not fit.
+/// The sum's low byte goes to a register that ADC does not read.
+pub fn sum_law()
+    ensures sum { (dl dh rl rh : ℕ) (cpu : Cpu) → IsCore cpu → AreApart dl dh → dl ≢ rh
+        → word_in dl dh (both (op.Add dl rl) (op.Adc dh rh) cpu) ≡ (word_in dl dh cpu + word_in rl rh cpu) % 65536 }
+    ensures carry { (dl dh rl rh : ℕ) (cpu : Cpu) → IsCore cpu → AreApart dl dh → dl ≢ rh
+        → has_flag (both (op.Add dl rl) (op.Adc dh rh) cpu).sreg.bits 0 ≡ nat_le 65536 (word_in dl dh cpu + word_in rl rh cpu) }
+{}
+
+/// SUB of the low bytes and SBC of the high ones, and SUBI and SBCI, give the difference of the two words modulo 65,536,
+/// and the flags compare them.
+pub fn difference_law()
+    ensures registers { (dl dh rl rh : ℕ) (cpu : Cpu) → IsCore cpu → AreApart dl dh → dl ≢ rh
+        → word_in dl dh (both (op.Sub dl rl) (op.Sbc dh rh) cpu) ≡ (word_in dl dh cpu + 65536 - word_in rl rh cpu) % 65536 }
+    ensures compared { (dl dh rl rh : ℕ) (cpu : Cpu) → IsCore cpu → AreApart dl dh → dl ≢ rh
+        → IsCompared 32768 (word_in dl dh cpu) (word_in rl rh cpu) (both (op.Sub dl rl) (op.Sbc dh rh) cpu) }
+    ensures constant { (dl dh kl kh : ℕ) (cpu : Cpu) → IsCore cpu → AreBytes kl kh → AreApart dl dh
+        → word_in dl dh (both (op.Subi dl kl) (op.Sbci dh kh) cpu) ≡ (word_in dl dh cpu + 65536 - word kl kh) % 65536 }
+{}
+
+/// PUSH and then POP: the register has the byte that was pushed, and all else of the core is as before.
+pub fn stack_law<B>()
+    ensures { (a : Accesses B) (first last : ℕ) (flash : List ℕ) (r d : ℕ) (cpu : Cpu) (bus bus' : B)
+        → IsStack a first last 1 cpu → a.put bus cpu.sp (reg r cpu) ≡ Ok bus'
+        → then_memory a flash (op.Pop d) (memory_executed a.get a.put flash (op.Push r) cpu bus)
+        ≡ done 2 (advanced 2 (with_reg d (reg r cpu) cpu)) bus' }
+{}
+
+/// CALL, RCALL and ICALL, and then RET: the program goes on behind the call, and all else of the core is as before.
+pub fn return_law<B>()
+    ensures call { (a : Accesses B) (first last : ℕ) (flash : List ℕ) (k : ℕ) (cpu : Cpu) (bus mid bus' : B)
+        → IsStack a first last 2 cpu → TakesReturn a 2 cpu bus mid bus' → ComesBack a flash (op.Call k) 2 cpu bus bus' }
+    ensures relative { (a : Accesses B) (first last : ℕ) (flash : List ℕ) (k : ℤ) (cpu : Cpu) (bus mid bus' : B)
+        → IsStack a first last 2 cpu → TakesReturn a 1 cpu bus mid bus' → ComesBack a flash (op.Rcall k) 1 cpu bus bus' }
+    ensures indirect { (a : Accesses B) (first last : ℕ) (flash : List ℕ) (cpu : Cpu) (bus mid bus' : B)
+        → IsStack a first last 2 cpu → TakesReturn a 1 cpu bus mid bus' → ComesBack a flash op.Icall 1 cpu bus bus' }
+{}
+
+/// The words that the decoded instruction takes are those that its first word says.
+pub fn words_law()
+    ensures { (first next : ℕ) → words_of (op_at first next) ≡ (if is_two_words first then 2 else 1) }
+{}

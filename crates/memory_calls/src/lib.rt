@@ -1,0 +1,9 @@
+//! Calls of the whole program over files and streams in memory, which fail where they are told: what the stored runs of
+//! such calls have in common, and the one place where they make a call.
+#![tactic(auto)]
+
+mod calling;
+mod held;
+
+pub use calling::{Faults, Outcome, Stream, called};
+pub use held::Held;
