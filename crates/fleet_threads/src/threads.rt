@@ -57,13 +57,13 @@ fn work_unless_refused<N: Session, R: Wait, G: Gate>(
     rt: &R,
     shared: &Shared<Scenario, N>,
     gate: &G,
-    scenario: &Snapshot<Scenario>,
+    scenario: Snapshot<Scenario>,
     refused: &[AtomicBool],
     end: u64,
     sent: Sent,
 ) -> Handed
-    requires { IsUnderWay N.table N.world scenario.now.value N.floor end sent }
-    ensures { IsHanded N.table N.world scenario.now.value N.floor end sent.runner.number result }
+    requires { IsUnderWay N.table N.world scenario.value N.floor end sent }
+    ensures { IsHanded N.table N.world scenario.value N.floor end sent.runner.number result }
 {
     let member = sent.member();
     if is_refused(refused, member.number()) {
@@ -73,7 +73,7 @@ fn work_unless_refused<N: Session, R: Wait, G: Gate>(
         };
     }
     Handed {
-        member: work(rt, shared, gate, scenario, end, member),
+        member: work(rt, shared, gate, &scenario, end, member),
         is_over: true,
     }
 }
@@ -233,7 +233,6 @@ fn rotate<N: Session, R: Wait, G: Gate>(
 // Starts the last node, goes on with the others, and joins it. When all are started, those for which no thread was found
 // are run here. (That `R` and `G` may be shared is a condition, since the bounds of a function that calls itself are not told
 // to its proof.)
-#[tactic(auto, using(crate::proofs::Crossing::runner, crate::proofs::Crossing::scenario))]
 fn run_from<'s, E, N: Session + Send + Sync, R: Threads + Wait + Sync, G: Gate + Sync>(
     scope: &Scope<'s, E>,
     rt: &'s R,
@@ -273,7 +272,7 @@ fn run_from<'s, E, N: Session + Send + Sync, R: Threads + Wait + Sync, G: Gate +
         of: PhantomData,
     };
     match scope.spawn_with(promise, move || {
-        work_unless_refused(rt, shared, gate, &seen, refused, end, sent)
+        work_unless_refused(rt, shared, gate, seen, refused, end, sent)
     }) {
         Ok(child) => {
             run_from(
