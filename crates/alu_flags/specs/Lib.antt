@@ -1,3 +1,4 @@
 pub mod Whole
 pub mod Bytes
 pub mod Words
+pub mod Signs

@@ -1,6 +1,6 @@
 -- Whole numbers behind the flags (AVR Instruction Set Manual, "Status Register (SREG)"): the number that a byte or a
 -- word is in two's complement, the range of such numbers, and the flags N, Z, V and S of a result.
-use Rattle.std.specs.Prelude.{ℕ, ◌*◌, ◌-◌, ◌==◌, nat_lt, nat_le, int_lt, not, ◌||◌, Bool, if◌then◌else◌, ℤ, pos, ◌-ℤ◌}
+use Rattle.std.specs.Prelude.{ℕ, ◌+◌, ◌*◌, ◌-◌, ◌==◌, nat_lt, nat_le, int_lt, not, ◌||◌, Bool, if◌then◌else◌, ℤ, pos, ◌-ℤ◌}
 use Rattle.avr_base.specs.Flags.{with_flag}
 
 abbrev pub one_if : Bool → ℕ
@@ -20,6 +20,10 @@ overflows half z = int_lt z (pos 0 -ℤ pos half) || int_lt (pos (half - 1)) z
 -- N, Z and V in a flags byte, and S, which is N xor V
 unfoldable pub with_sign : Bool → Bool → Bool → ℕ → ℕ
 with_sign n z v s = with_flag (with_flag (with_flag (with_flag s 1 z) 2 n) 3 v) 4 (xor n v)
+
+-- these four alone, each at its place
+abbrev pub signs_of : Bool → Bool → Bool → ℕ
+signs_of n z v = (if z then 2 else 0) + (if n then 4 else 0) + (if v then 8 else 0) + (if xor n v then 16 else 0)
 
 -- these four of a result below 2 * half: N is its top bit, Z says that it is 0
 abbrev pub with_result : ℕ → ℕ → Bool → ℕ → ℕ

@@ -1,19 +1,12 @@
 // Differences and complements of bytes.
-ghost use Rattle.std.specs.Prelude.{◌≡◌, ◌+◌, ◌-◌, ◌%◌, ◌==◌, ◌&&◌, ◌-ℤ◌, pos, nat_lt, if◌then◌else◌};
+ghost use Rattle.std.specs.Prelude.{◌≡◌, ◌+◌, ◌-◌, ◌%◌, ◌==◌, ◌&&◌, true, ◌-ℤ◌, pos, nat_lt, if◌then◌else◌};
 ghost use Rattle.avr_base.specs.Flags.{has_flag};
 ghost use Rattle.alu_flags.specs.Whole.{one_if, signed};
 ghost use Rattle.alu_flags.specs.Bytes.{complemented, decremented, negated, subtracted};
 
-use crate::flags::{C, Z, carries, signs};
-use crate::signed::{overflows_byte, signed_byte};
+use crate::flags::{C, Z, carries, result, result_of};
+use crate::signed::difference_overflows;
 use avr_base::Sreg;
-
-#[inline]
-fn signed_difference(a: u8, b: u8, borrow: bool) -> i16
-    ensures { result ≡ signed 128 a -ℤ signed 128 b -ℤ pos (one_if borrow) }
-{
-    signed_byte(a) - signed_byte(b) - i16::from(borrow)
-}
 
 #[inline]
 fn difference(a: u8, b: u8, borrow: bool) -> u8
@@ -30,26 +23,26 @@ fn borrows(a: u8, b: u8, borrow: bool) -> bool
     u16::from(a) < u16::from(b) + u16::from(borrow)
 }
 
-// Z of a result; kept, it stays set only where it was set.
+// Whether a result may set Z; kept, it stays set only where it was set.
 #[inline]
-fn zero_flag(r: u8, keep: bool, s: Sreg) -> bool
-    ensures { result ≡ (if keep then has_flag s.bits 1 && r == 0 else r == 0) }
+fn may_be_zero(keep: bool, s: Sreg) -> bool
+    ensures { result ≡ (if keep then has_flag s.bits 1 else true) }
 {
-    if keep { s.has(Z) && r == 0 } else { r == 0 }
+    if keep { s.has(Z) } else { true }
 }
 
 /// SUB, SBC, CP, CPC and their kin: `a - b - borrow` modulo 256, and the flags C, Z, N, V, S and H of that difference
 /// in `s`; T and I stay. With `keep_z`, as in SBC and CPC, Z is set only where it was set in `s` and the result is 0.
 #[inline]
-#[tactic(auto, unfolding(crate::specs::Bytes::subtracted))]
+#[tactic(auto, unfolding(crate::specs::Bytes::subtracted), using(crate::proofs::Signs::difference_by_signs, crate::proofs::Signs::kept_zero))]
 pub fn sub(a: u8, b: u8, borrow: bool, keep_z: bool, s: Sreg) -> (u8, Sreg)
     ensures { result ≡ subtracted a b borrow keep_z s }
 {
     let r = difference(a, b, borrow);
-    let v = overflows_byte(signed_difference(a, b, borrow));
-    let z = zero_flag(r, keep_z, s);
+    let v = difference_overflows(a, b, r);
+    let zero = may_be_zero(keep_z, s);
     let s = carries(s, borrows(a, b, borrow), borrows(a % 16, b % 16, borrow));
-    (r, signs(s, r >= 128, z, v))
+    (r, result_of(s, r, v, zero))
 }
 
 /// COM: `255 - a`, C set, V cleared, and N, Z and S of the result; H, T and I stay.
@@ -59,7 +52,7 @@ pub fn com(a: u8, s: Sreg) -> (u8, Sreg)
     ensures { result ≡ complemented a s }
 {
     let r = 255 - a;
-    (r, signs(s.with(C, true), r >= 128, r == 0, false))
+    (r, result(s.with(C, true), r, false))
 }
 
 /// NEG: `0 - a` modulo 256, with the flags of that difference; T and I stay.
@@ -72,11 +65,10 @@ pub fn neg(a: u8, s: Sreg) -> (u8, Sreg)
 
 /// DEC: `a - 1` modulo 256, and N, Z, V and S of that difference; C, H, T and I stay.
 #[inline]
-#[tactic(auto, unfolding(crate::specs::Bytes::decremented))]
+#[tactic(auto, unfolding(crate::specs::Bytes::decremented), using(crate::proofs::Signs::decrement_by_signs))]
 pub fn dec(a: u8, s: Sreg) -> (u8, Sreg)
     ensures { result ≡ decremented a s }
 {
     let r = a.wrapping_sub(1);
-    let v = overflows_byte(signed_byte(a) - 1);
-    (r, signs(s, r >= 128, r == 0, v))
+    (r, result(s, r, r == 127))
 }

@@ -3,7 +3,7 @@ ghost use Rattle.std.specs.Prelude.{◌≡◌, false, nat_le};
 ghost use Rattle.avr_base.specs.Flags.{has_flag};
 ghost use Rattle.alu_flags.specs.Bytes.{shifted};
 
-use crate::flags::{C, signs};
+use crate::flags::{C, result};
 use avr_base::Sreg;
 
 #[inline]
@@ -13,8 +13,8 @@ fn shift(top: bool, a: u8, s: Sreg) -> (u8, Sreg)
 {
     let r = a / 2 + if top { 128 } else { 0 };
     let c = a % 2 == 1;
-    let n = r >= 128;
-    (r, signs(s.with(C, c), n, r == 0, n != c))
+    let v = (r >= 128) != c;
+    (r, result(s.with(C, c), r, v))
 }
 
 /// LSR: `a` shifted right by one, bit 7 cleared. C is the bit shifted out, N and Z are those of the result, V is N xor

@@ -1,6 +1,7 @@
 // Bytes and words in two's complement, as wider numbers that no sum overflows.
-ghost use Rattle.std.specs.Prelude.{◌≡◌};
-ghost use Rattle.alu_flags.specs.Whole.{overflows, signed};
+ghost use Rattle.std.specs.Prelude.{◌≡◌, nat_le};
+ghost use Rattle.alu_flags.specs.Signs.{difference_overflows, sum_overflows};
+ghost use Rattle.alu_flags.specs.Whole.{overflows, signed, xor};
 
 #[inline]
 pub fn signed_byte(n: u8) -> i16
@@ -24,12 +25,29 @@ pub fn signed_word(n: u16) -> i32
     }
 }
 
-// Whether a number is no byte in two's complement.
+// Whether two bytes differ in sign.
 #[inline]
-pub fn overflows_byte(z: i16) -> bool
-    ensures { result ≡ overflows 128 z }
+fn turns(a: u8, b: u8) -> bool
+    ensures { result ≡ xor (nat_le 128 a) (nat_le 128 b) }
 {
-    z < -128 || 127 < z
+    (a >= 128) != (b >= 128)
+}
+
+// Whether the sum of two bytes in two's complement, and of a carry or none, is no such byte: where `r`, its low byte, has
+// another sign than both.
+#[inline]
+pub fn sum_overflows(a: u8, b: u8, r: u8) -> bool
+    ensures { result ≡ sum_overflows a b r }
+{
+    turns(a, r) && turns(b, r)
+}
+
+// The same of their difference: where they differ in sign, and its low byte has another one than the first.
+#[inline]
+pub fn difference_overflows(a: u8, b: u8, r: u8) -> bool
+    ensures { result ≡ difference_overflows a b r }
+{
+    turns(a, b) && turns(a, r)
 }
 
 // Whether a number is no word in two's complement.

@@ -1,11 +1,14 @@
 -- What comparisons, sums and differences over one byte and over two mean (AVR Instruction Set Manual, "Conditional Branch Summary",
 -- and the examples of CPC, ADC and SBC): the conditions of the branches, in terms of the numbers compared.
-use Rattle.std.specs.Prelude.{◌≡◌, ◌≢◌, ℕ, ◌+◌, ◌*◌, ◌<◌, ◌==◌, nat_lt, int_lt, length, slice_index}
+use Rattle.std.specs.Prelude.{Bool, ℤ, ◌≡◌, ◌≢◌, ℕ, ◌+◌, ◌*◌, ◌<◌, ◌==◌, nat_lt, int_lt, length, slice_index}
 use Rattle.alu_flags.specs.Whole.{signed}
 use Rattle.avr_base.specs.Flags.{has_flag}
 use Rattle.avr_decoder.specs.declared.op.Op.{Op}
 use Rattle.arith_step.specs.Table.{arith_cpu}
 use Rattle.data_space.specs.declared.cpu.Cpu.{Cpu}
+use Rattle.data_space.specs.Outcome.{Outcome}
+use Rattle.flow_step.specs.Sequence.{ends, outcome}
+use Rattle.flow_step.specs.Shapes.{branched}
 
 -- the byte in general register d
 abbrev pub reg : ℕ → Cpu → ℕ
@@ -49,3 +52,7 @@ pub record AreApart (low high : ℕ) : Type 0 where
   pub low_is : low < 32
   pub high_is : high < 32
   pub apart : low ≢ high
+
+-- a branch of k words, taken where `on`
+abbrev pub branches : {B : Type 0} → Bool → ℤ → Cpu → B → Outcome B
+branches on k cpu bus = outcome (ends (branched on k cpu) bus)

@@ -3,14 +3,16 @@
 //! function that does nothing; it is about the definitions that the steps are proved to compute.
 #![tactic(auto)]
 
-ghost use Rattle.std.specs.Prelude.{◌≡◌, ◌≢◌, ℕ, ◌+◌, ◌-◌, ◌%◌, nat_le, ℤ, List, Ok, if◌then◌else◌};
+ghost use Rattle.std.specs.Prelude.{◌≡◌, ◌≢◌, ℕ, ◌+◌, ◌-◌, ◌%◌, nat_le, nat_lt, int_lt, not, ◌==◌, ℤ, List, Ok, if◌then◌else◌};
 ghost use Rattle.avr_decoder.specs.Opcodes.{is_two_words, op_at};
 ghost use Rattle.avr_decoder.specs.declared.op.Op.TheVariants as op;
 ghost use Rattle.avr_base.specs.Flags.{has_flag};
 ghost use Rattle.arith_step.specs.Table.{arith_cpu};
 ghost use Rattle.data_space.specs.declared.cpu.Cpu.{Cpu};
-ghost use Rattle.instruction_laws.specs.Branches.{AreApart, AreBytes, IsCompared, IsCore, both, reg, word, word_in};
+ghost use Rattle.instruction_laws.specs.Branches.{AreApart, AreBytes, IsCompared, IsCore, both, branches, reg, word, word_in};
 ghost use Rattle.data_space.specs.Core.{advanced, with_reg};
+ghost use Rattle.alu_flags.specs.Whole.{signed};
+ghost use Rattle.flow_step.specs.Table.{flow_executed};
 ghost use Rattle.memory_step.specs.Table.{memory_executed};
 ghost use Rattle.instruction_laws.specs.Stack.{Accesses, ComesBack, IsStack, TakesReturn, done, then_memory};
 ghost use Rattle.instruction_laws.specs.Words.{words_of};
@@ -29,6 +31,22 @@ pub fn compare_words_law()
         → IsCompared 32768 (word_in dl dh cpu) (word_in rl rh cpu) (both (op.Cp dl rl) (op.Cpc dh rh) cpu) }
     ensures constant { (dl dh kl kh : ℕ) (cpu : Cpu) → AreBytes (reg dl cpu) kl → AreBytes (reg dh cpu) kh
         → IsCompared 32768 (word_in dl dh cpu) (word kl kh) (both (op.Cpi dl kl) (op.Sbci dh kh) cpu) }
+{}
+
+/// Where the flags compare two numbers, the branches go by the numbers: BRLO and BRSH, BREQ and BRNE, BRLT and BRGE.
+pub fn branch_law<B>()
+    ensures lower { (a : Accesses B) (flash : List ℕ) (half m n : ℕ) (k : ℤ) (cpu : Cpu) (bus : B) → IsCompared half m n cpu
+        → flow_executed a.get a.put flash (op.Brbs 0 k) cpu bus ≡ branches (nat_lt m n) k cpu bus }
+    ensures same_or_higher { (a : Accesses B) (flash : List ℕ) (half m n : ℕ) (k : ℤ) (cpu : Cpu) (bus : B) → IsCompared half m n cpu
+        → flow_executed a.get a.put flash (op.Brbc 0 k) cpu bus ≡ branches (not (nat_lt m n)) k cpu bus }
+    ensures equal { (a : Accesses B) (flash : List ℕ) (half m n : ℕ) (k : ℤ) (cpu : Cpu) (bus : B) → IsCompared half m n cpu
+        → flow_executed a.get a.put flash (op.Brbs 1 k) cpu bus ≡ branches (m == n) k cpu bus }
+    ensures not_equal { (a : Accesses B) (flash : List ℕ) (half m n : ℕ) (k : ℤ) (cpu : Cpu) (bus : B) → IsCompared half m n cpu
+        → flow_executed a.get a.put flash (op.Brbc 1 k) cpu bus ≡ branches (not (m == n)) k cpu bus }
+    ensures less { (a : Accesses B) (flash : List ℕ) (half m n : ℕ) (k : ℤ) (cpu : Cpu) (bus : B) → IsCompared half m n cpu
+        → flow_executed a.get a.put flash (op.Brbs 4 k) cpu bus ≡ branches (int_lt (signed half m) (signed half n)) k cpu bus }
+    ensures greater_or_equal { (a : Accesses B) (flash : List ℕ) (half m n : ℕ) (k : ℤ) (cpu : Cpu) (bus : B) → IsCompared half m n cpu
+        → flow_executed a.get a.put flash (op.Brbc 4 k) cpu bus ≡ branches (not (int_lt (signed half m) (signed half n))) k cpu bus }
 {}
 
 /// ADD of the low bytes and ADC of the high ones give the sum of the two words modulo 65,536, and C where it does not fit.

@@ -8,3 +8,4 @@ pub mod Takes
 pub mod Strides
 pub mod Untouched
 pub mod Clocks
+pub mod Sei

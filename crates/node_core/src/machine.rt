@@ -1,12 +1,14 @@
 // The inside of a node, cycle by cycle.
-ghost use Rattle.std.specs.Prelude.{◌≡◌, ◌<◌, ◌≤◌, ◌+◌, ◌^◌, ◌++◌, ◌&&◌, ◌||◌, nat_le, nat_lt, None, Some, true, false, is_some, IfOk, OnOk, OnErr, vec_len, vec_capacity};
-ghost use Rattle.node_core.specs.Cycle.{acted, acted_rows, asks_after, asks_in, begun_in, begun_rows, cpu_cycle, cpu_rows, device_rows, devices_cycle, entered, entered_rows, finished_in, finished_rows, instructed, instructed_rows, is_idle, is_other, is_sei, is_sleep, owes, row, sends_after, sends_in, sent_rows, serial_rows};
+ghost use Rattle.std.specs.Prelude.{◌≡◌, ◌<◌, ◌≤◌, ◌+◌, ◌^◌, ◌%◌, ◌++◌, ◌&&◌, ◌||◌, nat_le, nat_lt, None, Some, true, false, is_some, IfOk, OnOk, OnErr, vec_len, vec_capacity};
+ghost use Rattle.node_core.specs.Cycle.{acted, acted_rows, asks_after, asks_in, begun_in, begun_rows, cpu_cycle, cpu_rows, device_rows, devices_cycle, entered, entered_rows, finished_in, finished_rows, instructed, instructed_rows, is_idle, is_other, is_sei, is_sleep, owes, row, row_within, sends_after, sends_in, sent_rows, serial_rows};
 ghost use Rattle.trace_rows.specs.declared.row.Kind.TheVariants as kind;
 ghost use Rattle.node_core.specs.Inside.{IsAir, IsGoing};
 ghost use Rattle.node_core.specs.Interrupts.{due};
 ghost use Rattle.node_core.specs.Shown.{shown};
 ghost use Rattle.usart_port.specs.Script.{script_byte};
+ghost use Rattle.board_io.specs.Board.{sleep_mode};
 ghost use Rattle.board_io.specs.Lines.{lines_of};
+ghost use Rattle.ihex_loader.specs.Flash.{word_at};
 ghost use Rattle.interrupt_unit.specs.Lines.{pending_of};
 
 use crate::NodeBus;
@@ -17,7 +19,7 @@ use avr_base::StopCause;
 use avr_decoder::Op;
 use avr_program::Program;
 use board_io::Sleep;
-use data_space::Cpu;
+use data_space::{Cpu, Done};
 use interrupt_unit::Vector;
 use std::alloc::AllocError;
 use trace_rows::{Kind, Row};
@@ -28,6 +30,7 @@ use world_core::Heard;
 const ROWS_OF_A_CYCLE: usize = 4;
 
 // SEI and RETI.
+#[inline]
 fn is_set_interrupts(op: &Op) -> bool
     ensures { result ≡ is_sei op.now }
 {
@@ -65,11 +68,16 @@ fn is_other(mode: Sleep) -> bool
     }
 }
 
-// Whether an instruction is owed before the next interrupt is entered; `sei` says that SEI was executed.
-fn is_owed(sei: bool, before: u8, after: u8) -> bool
-    ensures { result ≡ (sei || (nat_lt before 128 && nat_le 128 after)) }
+// Whether an instruction is owed before the next interrupt is entered. SEI and RETI leave I set, so without it none is.
+#[inline]
+fn owes(op: &Op, before: u8, after: u8) -> bool
+    requires { is_sei op.now ≡ true → 128 ≤ after }
+    ensures { result ≡ owes op.now before after }
 {
-    sei || (before < 128 && 128 <= after)
+    if after < 128 {
+        return false;
+    }
+    before < 128 || is_set_interrupts(op)
 }
 
 // What the radio does in a cycle, by whether it samples the air and what it sends.
@@ -131,6 +139,34 @@ impl Machine {
         self.stop = Some(cause);
     }
 
+    // The row and the sleep of an instruction that was executed, which most are without: behind the window only SLEEP has
+    // one of the two. The answer is that of `instruct`.
+    #[inline(never)]
+    fn end_instruction(&mut self, cycle: u64, pc: u16, done: Done) -> u8
+        requires room { vec_len self.old.rows < vec_capacity self.old.rows }
+        requires awake { self.old.asleep ≡ false }
+        ensures state { shown self.new ≡ record (shown self.old) { asleep = done.sleep && is_idle (sleep_mode self.old.bus.board) } }
+        ensures rows { self.new.rows.items ≡ self.old.rows.items ++ row_within cycle (shown self.old) (kind.Instr pc (word_at self.old.program.bytes pc) (word_at self.old.program.bytes ((pc + 1) % 65536))) }
+        ensures awake { 0 < result → done.sleep ≡ false }
+        ensures cycles { 0 < result → result ≡ done.cycles }
+        ensures same { 0 < result → vec_len self.new.rows ≡ vec_len self.old.rows }
+        ensures used { vec_len self.new.rows ≤ vec_len self.old.rows + 1 }
+        ensures room { vec_capacity self.new.rows ≡ vec_capacity self.old.rows }
+        ensures wait { self.new.wait ≡ self.old.wait }
+        ensures stop { self.new.stop ≡ self.old.stop }
+        ensures count { self.new.count ≡ self.old.count }
+        ensures script { self.new.script ≡ self.old.script }
+        ensures clock { self.new.bus.board.clock ≡ self.old.bus.board.clock }
+    {
+        let told = is_within(self.from, self.to, cycle);
+        tell_instruction(&mut self.rows, told, &self.program, pc, cycle, self.number);
+        if done.sleep {
+            self.asleep = is_idle(self.bus.board.sleep_mode());
+            return 0;
+        }
+        unless_told(told, done.cycles)
+    }
+
     // The first cycle of an instruction: how many it takes, or 0 where the node stopped, executed SLEEP, or has a row
     // more.
     #[tactic(auto, unfolding(crate::specs::Cycle::instructed, crate::specs::Cycle::instructed_rows))]
@@ -157,21 +193,17 @@ impl Machine {
             self.halt(cycle, pc, StopCause::SleepMode);
             return 0;
         }
-        let sei = is_set_interrupts(&op);
         let before = self.cpu.sreg.bits;
         self.bus.at(cycle);
-        match execute(op, self.program.flash(), &mut self.cpu, &mut self.bus) {
+        match execute(&op, self.program.flash(), &mut self.cpu, &mut self.bus) {
             Ok(done) => {
-                let told = is_within(self.from, self.to, cycle);
-                tell_instruction(&mut self.rows, told, &self.program, pc, cycle, self.number);
                 self.wait = done.cycles - 1;
-                self.owed = is_owed(sei, before, self.cpu.sreg.bits);
+                self.owed = owes(&op, before, self.cpu.sreg.bits);
                 self.count += 1;
-                if done.sleep {
-                    self.asleep = is_idle(self.bus.board.sleep_mode());
-                    return 0;
+                if done.sleep || cycle < self.to {
+                    return self.end_instruction(cycle, pc, done);
                 }
-                unless_told(told, done.cycles)
+                done.cycles
             }
             Err(cause) => {
                 self.halt(cycle, pc, cause);

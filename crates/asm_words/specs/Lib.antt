@@ -1,0 +1,6 @@
+pub mod Number
+pub mod Fields
+pub mod Opcodes
+pub mod Labels
+pub mod Target
+pub mod Encoded

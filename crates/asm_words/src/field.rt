@@ -1,0 +1,192 @@
+// The bits that an operand puts into a word.
+ghost use Rattle.std.specs.Prelude.{◌≡◌, ◌≤◌, IfSome};
+ghost use Rattle.asm_words.specs.Fields.{register_bits, number_bits, pointer, flash_pointer, displaced_of, displaced, base_of};
+
+use crate::form::{NumberField, RegisterField};
+use crate::number::number;
+
+/// The bits of register `n`, 0 to 31, where the field can have it.
+#[tactic(auto, unfolding(crate::specs::Fields::register_bits))]
+pub fn register_bits(field: RegisterField, n: u16) -> Option<u16>
+    requires { n ≤ 31 }
+    ensures { result ≡ register_bits field n }
+{
+    match field {
+        RegisterField::Middle => Some(16 * n),
+        RegisterField::Split => Some(n / 16 * 512 + n % 16),
+        RegisterField::Both => Some(16 * n + (n / 16 * 512 + n % 16)),
+        RegisterField::UpperMiddle => {
+            if n < 16 {
+                return None;
+            }
+            Some(16 * (n - 16))
+        }
+        RegisterField::UpperLow => {
+            if n < 16 {
+                return None;
+            }
+            Some(n - 16)
+        }
+        RegisterField::ShortMiddle => {
+            if n < 16 || n > 23 {
+                return None;
+            }
+            Some(16 * (n - 16))
+        }
+        RegisterField::ShortLow => {
+            if n < 16 || n > 23 {
+                return None;
+            }
+            Some(n - 16)
+        }
+        RegisterField::PairMiddle => {
+            if n % 2 == 1 {
+                return None;
+            }
+            Some(8 * n)
+        }
+        RegisterField::PairLow => {
+            if n % 2 == 1 {
+                return None;
+            }
+            Some(n / 2)
+        }
+        RegisterField::WordPair => {
+            if n < 24 || n % 2 == 1 {
+                return None;
+            }
+            Some(8 * (n - 24))
+        }
+    }
+}
+
+/// The bits of a number where the field can have it.
+#[tactic(auto, unfolding(crate::specs::Fields::number_bits))]
+pub fn number_bits(field: NumberField, n: u32) -> Option<u16>
+    ensures { result ≡ number_bits field n }
+{
+    match field {
+        NumberField::Constant => {
+            if n > 255 {
+                return None;
+            }
+            Some((n / 16 * 256 + n % 16) as u16)
+        }
+        NumberField::ShortConstant => {
+            if n > 63 {
+                return None;
+            }
+            Some((n / 16 * 64 + n % 16) as u16)
+        }
+        NumberField::Address => {
+            if n > 63 {
+                return None;
+            }
+            Some((n / 16 * 512 + n % 16) as u16)
+        }
+        NumberField::LowAddress => {
+            if n > 31 {
+                return None;
+            }
+            Some((8 * n) as u16)
+        }
+        NumberField::LowThree => {
+            if n > 7 {
+                return None;
+            }
+            Some(n as u16)
+        }
+        NumberField::Flag => {
+            if n > 7 {
+                return None;
+            }
+            Some((16 * n) as u16)
+        }
+        NumberField::Word => {
+            if n > 65_535 {
+                return None;
+            }
+            Some(n as u16)
+        }
+    }
+}
+
+/// The bits of a pointer of LD and ST; Y and Z are Y+0 and Z+0.
+#[tactic(auto, unfolding(crate::specs::Fields::pointer))]
+pub fn pointer(text: &[u8]) -> Option<u16>
+    ensures { result ≡ pointer text.now }
+{
+    match text {
+        b"X" => Some(0x100C),
+        b"X+" => Some(0x100D),
+        b"-X" => Some(0x100E),
+        b"Y" => Some(0x0008),
+        b"Y+" => Some(0x1009),
+        b"-Y" => Some(0x100A),
+        b"Z" => Some(0x0000),
+        b"Z+" => Some(0x1001),
+        b"-Z" => Some(0x1002),
+        _ => None,
+    }
+}
+
+/// The bits of a pointer of LPM and ELPM.
+#[tactic(auto, unfolding(crate::specs::Fields::flash_pointer))]
+pub fn flash_pointer(text: &[u8]) -> Option<u16>
+    ensures { result ≡ flash_pointer text.now }
+{
+    match text {
+        b"Z" => Some(0),
+        b"Z+" => Some(1),
+        _ => None,
+    }
+}
+
+// The bits of Y or Z, by its letter.
+fn base_of(letter: u8) -> Option<u16>
+    ensures { result ≡ base_of letter }
+{
+    match letter {
+        b'Y' => Some(8),
+        b'Z' => Some(0),
+        _ => None,
+    }
+}
+
+// The bits of a displacement where it is at most 63.
+fn displaced(q: Option<u32>) -> Option<u16>
+    ensures value { result ≡ displaced q }
+    ensures small { IfSome result (λ bits. bits ≤ 11271) }
+{
+    match q {
+        None => None,
+        Some(q) => {
+            if q > 63 {
+                return None;
+            }
+            Some((q / 32 * 8192 + q / 8 % 4 * 1024 + q % 8) as u16)
+        }
+    }
+}
+
+/// The bits of a pointer and its displacement, as `Y+5`.
+#[tactic(auto, unfolding(crate::specs::Fields::displaced_of))]
+pub fn displaced_by(text: &[u8]) -> Option<u16>
+    ensures { result ≡ displaced_of text.now }
+{
+    match text {
+        [letter, plus, digits @ ..] => {
+            if *plus != b'+' {
+                return None;
+            }
+            match base_of(*letter) {
+                None => None,
+                Some(base) => match displaced(number(digits)) {
+                    None => None,
+                    Some(bits) => Some(bits.wrapping_add(base)),
+                },
+            }
+        }
+        _ => None,
+    }
+}
