@@ -2,8 +2,8 @@
 """Runs the gate from nothing and prints, as a table, the processor seconds of each crate: its proof, the proof and the
 runs of its tests, its must-fail edits, and the build and the runs of its program.
 
-    bench/gate.py            runs `rt ci --anew` at the top of the repository: all from nothing
-    bench/gate.py WORD ..    runs `rt ci WORD ..`: with the words of a few crates, or none of --anew
+    bench/gate.py            runs `rt ci` at the top of the repository, which begins from nothing with the kit of today
+    bench/gate.py WORD ..    runs `rt ci WORD ..`, for a kit whose gate takes words (with some, --anew begins from nothing)
 
 It looks at the processes below rt twice a second. What a process and its ended children used is the kernel's count; the
 last half second of each is lost, and told with what rt itself used.
@@ -121,7 +121,7 @@ def main():
     commit = subprocess.run(["git", "log", "-1", "--format=%h of %cs"], capture_output=True, text=True, check=True).stdout.strip()
     load = os.getloadavg()[0]
     began = time.time()
-    run = subprocess.Popen(["rt", "ci", *(sys.argv[1:] or ["--anew"])], cwd=top)
+    run = subprocess.Popen(["rt", "ci", *sys.argv[1:]], cwd=top)
     totals = watch(run)
     used = os.times()
     print(f"\nCommit {commit}, {os.cpu_count()} processors, load {load:.1f} at the start and {os.getloadavg()[0]:.1f} at the end; seconds of processor time:\n")
