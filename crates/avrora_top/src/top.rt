@@ -6,12 +6,11 @@ ghost use Rattle.avrora_top.specs.Ends.{Refused, reads, stream};
 ghost use Rattle.avrora_top.specs.TopClause.{TopClause};
 ghost use Rattle.avrora_top.specs.Parts.{Called, Reported};
 
-use crate::Status;
 use crate::commands::{check, disasm, node, run, run_plain};
 use crate::report::report;
 use crate::sample::write_sample;
-use crate::threads;
 use crate::trouble::{Complaint, Trouble};
+use crate::{Status, threads};
 use command_words::{Order, read_words};
 use fleet_threads::Gate;
 use sim_io::{Sink, Store};
