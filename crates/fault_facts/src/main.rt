@@ -1,7 +1,7 @@
 //! Calls of the whole program that fail at every place: each read, each write to the output, each write to the error stream,
 //! a file that ends at each of its bytes, and images that nobody wrote as a program. For each call the status and what stands
-//! on the two streams; `run FILE` is run a second time as `run --plain FILE`, which has to come to the same. Its stored run
-//! compares them with what docs/FORMATS.md says and a slow simulator gives (`bench/network`).
+//! on the two streams; `run FILE`, by threads, is run a second time as `run --plain FILE`, which has to come to the same. Its
+//! stored run compares them with what docs/FORMATS.md says and a slow simulator gives (`bench/network`).
 #![tactic(auto)]
 
 mod foreign;
@@ -16,8 +16,12 @@ use reading::{Line, read_line};
 use series::do_series;
 use sim_io::{Sink, SinkFault, StdSink, write_all};
 use std::alloc::AllocError;
+use std::env::{self, Env};
+use std::fs::{self, Files};
+use std::io;
 use std::process::ExitCode;
-use std::{env, fs, io};
+use std::sync::Wait;
+use std::thread::Threads;
 
 /// Why no more is written: a line that is none, a file that cannot be read, want of memory, or an output that fails.
 pub struct Failed;
@@ -34,7 +38,7 @@ impl From<AllocError> for Failed {
     }
 }
 
-fn hold_file(rt: &HostRuntime, name: &str, held: &mut Held) -> Result<(), Failed> {
+fn hold_file<R: Files + AllocGlobal>(rt: &R, name: &str, held: &mut Held) -> Result<(), Failed> {
     let Ok(bytes) = fs::read(rt, name) else {
         return Err(Failed);
     };
@@ -42,8 +46,8 @@ fn hold_file(rt: &HostRuntime, name: &str, held: &mut Held) -> Result<(), Failed
 }
 
 // A line of a case file, which is written too, but for the lines of files.
-fn do_line<O: Sink>(
-    rt: &HostRuntime,
+fn do_line<R: Threads + Wait + Files + AllocGlobal + Sync, O: Sink>(
+    rt: &R,
     text: &str,
     held: &mut Held,
     out: &mut O,
@@ -61,12 +65,15 @@ fn do_line<O: Sink>(
         Line::Comment | Line::Content(_) => Ok(()),
         Line::File(name) => Ok(held.add(alloc, name, Vec::new(alloc))?),
         Line::Copy(name) => hold_file(rt, name, held),
-        Line::Series(series) => do_series(alloc, &series, held, out),
+        Line::Series(series) => do_series(rt, &series, held, out),
     }
 }
 
 // Each file that is named, line after line.
-fn do_files<O: Sink>(rt: &HostRuntime, out: &mut O) -> Result<(), Failed> {
+fn do_files<R: Env + Threads + Wait + Files + AllocGlobal + Sync, O: Sink>(
+    rt: &R,
+    out: &mut O,
+) -> Result<(), Failed> {
     let Ok(names) = env::args(rt) else {
         return Err(Failed);
     };

@@ -8,6 +8,8 @@ use crate::trying::{Told, tried};
 use memory_calls::{Faults, Held, Stream};
 use sim_io::Sink;
 use std::alloc::{AllocError, Global};
+use std::sync::Wait;
+use std::thread::Threads;
 
 // No series has more calls.
 const MOST_CALLS: u64 = 100_000;
@@ -49,8 +51,8 @@ fn due_of<'d>(place: Place<'_>, held: &'d Held) -> Option<Due<'d>> {
 }
 
 // One call fails after another, until one has another status than that of a failure.
-fn fail_in_turn<O: Sink>(
-    alloc: Global,
+fn fail_in_turn<R: Threads + Wait + AllocGlobal + Sync, O: Sink>(
+    rt: &R,
     series: &Series<'_>,
     held: &Held,
     rows: &mut Rows,
@@ -60,8 +62,8 @@ fn fail_in_turn<O: Sink>(
         return Err(Failed);
     };
     for number in 0..MOST_CALLS {
-        let (faults, failure) = faults_of(alloc, series.place, number)?;
-        let told = tried(alloc, series.words.as_slice(), held, &faults, due)?;
+        let (faults, failure) = faults_of(rt.alloc(), series.place, number)?;
+        let told = tried(rt, series.words.as_slice(), held, &faults, due)?;
         let is_last = told.status != failure;
         rows.add(number, told.text, out)?;
         if is_last {
@@ -72,14 +74,18 @@ fn fail_in_turn<O: Sink>(
 }
 
 // One call over what is held, and nothing fails.
-fn once(alloc: Global, series: &Series<'_>, held: &Held) -> Result<Told, AllocError> {
-    let faults = Faults::none(alloc);
-    tried(alloc, series.words.as_slice(), held, &faults, Due::Unknown)
+fn once<R: Threads + Wait + AllocGlobal + Sync>(
+    rt: &R,
+    series: &Series<'_>,
+    held: &Held,
+) -> Result<Told, AllocError> {
+    let faults = Faults::none(rt.alloc());
+    tried(rt, series.words.as_slice(), held, &faults, Due::Unknown)
 }
 
 // The file ends behind each of its bytes, and before the first.
-fn end_in_turn<O: Sink>(
-    alloc: Global,
+fn end_in_turn<R: Threads + Wait + AllocGlobal + Sync, O: Sink>(
+    rt: &R,
     series: &Series<'_>,
     name: &str,
     held: &Held,
@@ -90,16 +96,16 @@ fn end_in_turn<O: Sink>(
         return Err(Failed);
     };
     for length in 0..=whole.len() {
-        let cut = held.cut(alloc, name, length)?;
-        let told = once(alloc, series, &cut)?;
+        let cut = held.cut(rt.alloc(), name, length)?;
+        let told = once(rt, series, &cut)?;
         rows.add(length as u64, told.text, out)?;
     }
     Ok(())
 }
 
 // Image N and image COUNT - 1 - N, for each N below the count, as `left.hex` and `right.hex`.
-fn draw_in_turn<O: Sink>(
-    alloc: Global,
+fn draw_in_turn<R: Threads + Wait + AllocGlobal + Sync, O: Sink>(
+    rt: &R,
     series: &Series<'_>,
     count: u16,
     step: u16,
@@ -107,32 +113,33 @@ fn draw_in_turn<O: Sink>(
     rows: &mut Rows,
     out: &mut O,
 ) -> Result<(), Failed> {
+    let alloc = rt.alloc();
     for number in 0..count {
         let mut files = held.copy(alloc)?;
         let other = count - 1 - number;
         files.add(alloc, "left.hex", image(alloc, number.wrapping_mul(step))?)?;
         files.add(alloc, "right.hex", image(alloc, other.wrapping_mul(step))?)?;
-        let told = once(alloc, series, &files)?;
+        let told = once(rt, series, &files)?;
         rows.add(u64::from(number), told.text, out)?;
     }
     Ok(())
 }
 
 /// Makes the calls of a series, and writes what they came to.
-pub fn do_series<O: Sink>(
-    alloc: Global,
+pub fn do_series<R: Threads + Wait + AllocGlobal + Sync, O: Sink>(
+    rt: &R,
     series: &Series<'_>,
     held: &Held,
     out: &mut O,
 ) -> Result<(), Failed> {
-    let mut rows = Rows::new(alloc);
+    let mut rows = Rows::new(rt.alloc());
     match series.place {
         Place::Read | Place::Out(_, _) | Place::Err(_, _) => {
-            fail_in_turn(alloc, series, held, &mut rows, out)?;
+            fail_in_turn(rt, series, held, &mut rows, out)?;
         }
-        Place::End(name) => end_in_turn(alloc, series, name, held, &mut rows, out)?,
+        Place::End(name) => end_in_turn(rt, series, name, held, &mut rows, out)?,
         Place::Drawn(count, step) => {
-            draw_in_turn(alloc, series, count, step, held, &mut rows, out)?;
+            draw_in_turn(rt, series, count, step, held, &mut rows, out)?;
         }
     }
     Ok(rows.end(out)?)

@@ -1,7 +1,9 @@
 // A call, and what is told of it.
 use crate::shown::{Due, text_of};
-use memory_calls::{Faults, Held, Outcome, called};
+use memory_calls::{Faults, Held, Outcome, called, called_on_threads};
 use std::alloc::{AllocError, Global};
+use std::sync::Wait;
+use std::thread::Threads;
 
 /// What a call came to: its status, and what is told of it.
 #[derive(Drop)]
@@ -31,15 +33,16 @@ fn plain(
     }
 }
 
-/// Makes a call. `run FILE` is told to be another on one thread where it is.
-pub fn tried(
-    alloc: Global,
+/// Makes a call, with each node of `run FILE` on a thread of its own. It is told to be another on one thread where it is.
+pub fn tried<R: Threads + Wait + AllocGlobal + Sync>(
+    rt: &R,
     words: &[&str],
     held: &Held,
     faults: &Faults,
     due: Due<'_>,
 ) -> Result<Told, AllocError> {
-    let outcome = called(alloc, words, held, faults)?;
+    let alloc = rt.alloc();
+    let outcome = called_on_threads(rt, words, held, faults)?;
     let mut text = text_of(alloc, &outcome, due)?;
     if let Some(other) = plain(alloc, words, held, faults)? {
         if !are_same(&outcome, &other) {

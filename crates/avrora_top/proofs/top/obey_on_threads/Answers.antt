@@ -10,5 +10,5 @@ unfolding plan_of
 returns-in-Make-clause-called g c = record {
   end = end_of c.write_sample-outcome.result;
   ends = rw c.in-Make.is (ends_job _ _ (SampleJob c.in-Make.number) _ _ _ _ c.write_sample-outcome.result (Here (Give (SampleJob c.in-Make.number))) refl c.write_sample-outcome.ensures);
-  reported = c.report-in-Make.ensures;
+  reported = c.report.ensures;
 }
