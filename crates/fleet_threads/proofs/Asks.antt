@@ -2,11 +2,9 @@
 use Rattle.std.proofs.Common.{◌≡◌, ℕ, ◌∷◌, [], ◌++◌, List, true, replicate, suc, ap}
 use Rattle.world_core.specs.declared.air.Heard.{Heard as HeardValue}
 use Rattle.world_core.specs.declared.world.WorldFacts.{WorldFacts}
-use Rattle.world_core.specs.Settled.{truth}
 use Rattle.clock_words.specs.Seats.{NodeFacts, node_asked}
 use Rattle.neighbour_sync.specs.declared.answers.Tried.{Tried}
 use Rattle.neighbour_sync.specs.declared.answers.Tried.TheVariants.{Heard, NotYet, Halted, NoMemory}
-use Rattle.neighbour_sync.specs.declared.answers.Passed.{Passed}
 use Rattle.neighbour_sync.specs.declared.answers.Passed.TheVariants.{Heard as PassedHeard, Halted as PassedHalted, NoMemory as PassedNoMemory}
 use Rattle.neighbour_sync.specs.Looks.{looked}
 use Rattle.neighbour_sync.specs.Tries.{IsTried}

@@ -1,36 +1,34 @@
 -- The rows of an epoch, when all nodes have come to its end.
-use Rattle.std.specs.Prelude.{is_some, nat_lt}
-use Rattle.std.proofs.Common.{◌≡◌, ℕ, ◌+◌, ◌<◌, ◌≤◌, ◌⊎◌, inl, inr, ⊎_elim, Bool, true, false, cond, not, ◌&&◌, ◌||◌, ◌==◌, List, [], ◌∷◌, ◌++◌, map, length, take, drop, get_or, set, min, refl, sym, subst, ◌∙◌, ap, arith, append-nil, append_assoc, length-take}
+use Rattle.std.specs.Prelude.{is_some}
+use Rattle.std.proofs.Common.{◌≡◌, ℕ, ◌+◌, ◌<◌, ◌≤◌, inl, inr, ⊎_elim, Bool, true, false, cond, ◌==◌, List, [], ◌∷◌, ◌++◌, map, length, take, drop, get_or, set, min, refl, sym, subst, ◌∙◌, ap, arith, append-nil, append_assoc, length-take}
 use Rattle.std.specs.List.{All, flat_map}
 use Rattle.std.specs.List.Sorted.{IsNonDecreasingBy, IsStableByKey}
 use Rattle.std.specs.Ordering.{nat_cmp}
 use Rattle.std.proofs.lemmas.List.{length-map, get_or-map, get_or_at, set_at, drop_more, take_more, map_push}
 use Rattle.std.proofs.lemmas.List.Concat.{flat_map-append}
 use native.Mathlib.Decide.{ℕ_discrete}
-use Rattle.atomic_table.specs.Seated.{TableId}
-use Rattle.world_core.specs.declared.world.WorldFacts.{WorldFacts}
 use Rattle.clock_words.specs.Seats.{first_node}
 use Rattle.trace_rows.specs.declared.row.Row.{Row}
 use Rattle.node_core.specs.State.{NodeState}
-use Rattle.global_order.specs.Order.{Fleet, facts_of, node_at, world_at, end_rows}
+use Rattle.global_order.specs.Order.{Fleet, world_at, end_rows}
 use Rattle.node_runner.specs.Scenario.{ScenarioOf, IsScenario, fleet_of}
-use Rattle.node_runner.specs.Place.{Place, HasEnded, is_live, state_at, rows_of}
+use Rattle.node_runner.specs.Place.{Place, is_live, state_at, rows_of}
 use Rattle.neighbour_sync.specs.NoSession.{no_table, no_world}
-use Rattle.fleet_plain.specs.Flight.{epoch, place_at, IsAt, IsTaken}
-use Rattle.fleet_plain.specs.Gather.{start_of, taken, end_row_of}
+use Rattle.fleet_plain.specs.Flight.{place_at, IsAt, IsTaken}
+use Rattle.fleet_plain.specs.Gather.{start_of, end_row_of}
 use Rattle.fleet_plain.specs.Run.{rows_upto}
 use Rattle.fleet_plain.proofs.InFlight.{still_calm, still_over}
 use Rattle.fleet_plain.proofs.Gathered.{gathered, ends_are}
 use Rattle.fleet_plain.proofs.Epoch.{differ}
 use Rattle.fleet_threads.specs.declared.member.Member.{Member}
-use Rattle.fleet_threads.specs.Member.{IsPlaced, InOrder, AreAtEnd}
+use Rattle.fleet_threads.specs.Member.{IsPlaced, AreAtEnd}
 use Rattle.fleet_threads.specs.Ending.{rows_at, end_row_at, taken_at, HasEndedAt, IsCalm}
 
 abbrev place_of : Member → Place
 place_of m = m.runner
 
 some_node : ScenarioOf → Member
-some_node sc = record { runner = start_of sc 0; air = first_node no_table no_world 0; turn = 0; halted = false }
+some_node sc = record { runner = start_of sc 0; air = first_node no_table no_world 0; turn = 0; gap = 0; halted = false }
 
 flat_places : (ms : List Member) → flat_map rows_at ms ≡ flat_map rows_of (map place_of ms)
 flat_places [] = refl

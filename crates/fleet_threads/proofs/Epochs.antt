@@ -1,6 +1,6 @@
 -- From one epoch to the next.
 use Rattle.std.specs.Prelude.{is_some, nat_lt}
-use Rattle.std.proofs.Common.{◌≡◌, ℕ, ◌+◌, ◌<◌, ◌≤◌, ◌⊎◌, inl, inr, ⊎_elim, Bool, true, false, cond, not, ◌&&◌, ◌||◌, List, [], ◌∷◌, ◌++◌, map, length, get_or, refl, sym, subst, ◌∙◌, ap, arith}
+use Rattle.std.proofs.Common.{◌≡◌, ℕ, ◌<◌, ◌≤◌, ◌⊎◌, inl, inr, Bool, true, false, not, ◌&&◌, List, [], ◌∷◌, map, length, get_or, refl, sym, subst, ◌∙◌, ap, arith}
 use Rattle.std.specs.List.{All}
 use Rattle.std.proofs.lemmas.Bool.{false≢true}
 use Rattle.std.proofs.lemmas.List.{length-map, get_or-map}
@@ -15,21 +15,17 @@ use Rattle.global_order.specs.Order.{facts_of, node_at}
 use Rattle.node_runner.specs.Scenario.{ScenarioOf, IsScenario, fleet_of}
 use Rattle.node_runner.specs.Place.{Place, is_live, state_at, sends_passed}
 use Rattle.neighbour_sync.specs.Parts.{AreParts}
-use Rattle.fleet_plain.specs.Flight.{epoch, IsAt, IsTaken}
+use Rattle.fleet_plain.specs.Flight.{IsAt, IsTaken}
 use Rattle.fleet_plain.specs.Gather.{start_of, taken}
-use Rattle.fleet_plain.proofs.InFlight.{still_calm, still_over, live_taken}
+use Rattle.fleet_plain.proofs.InFlight.{still_calm, still_over}
 use Rattle.fleet_threads.specs.declared.member.Member.{Member}
 use Rattle.fleet_threads.specs.declared.parts.Parts.{Parts}
-use Rattle.fleet_threads.specs.Member.{IsEpoch, IsPlaced, IsUnderWay, IsBack, InOrder, AreAtEnd, word_of, numbers, number_of}
+use Rattle.fleet_threads.specs.Member.{IsEpoch, IsPlaced, IsUnderWay, IsBack, InOrder, AreAtEnd, numbers}
 use Rattle.fleet_threads.specs.Ending.{taken_at}
 use Rattle.fleet_threads.specs.Run.{IsTied, IsResting, IsFirst, air_of}
 use Rattle.fleet_threads.proofs.Lists.{ordered}
 
 -- ---- a node that rests goes on to the next end
-word_case : (b : Bool) (c floor end : ℕ) → (b ≡ true → floor ≤ c) → floor ≤ end → floor ≤ cond b c end
-word_case true c floor end h l = h refl
-word_case false c floor end h l = l
-
 pub begins : (t : TableId) (sc : ScenarioOf) (floor end : ℕ) (m : Member) → IsEpoch (facts_of (fleet_of sc)) sc floor end → IsResting t sc floor floor m → IsUnderWay t (facts_of (fleet_of sc)) sc floor end m
 begins t sc floor end m ep r =
     let p : Place = m.runner in
@@ -51,7 +47,9 @@ begins t sc floor end m ep r =
       table = u.table;
       world = u.world;
       told = u.told;
-      clock = (let c = r.clock in let h : floor ≤ word_of end p = word_case (is_live end p) p.cycle floor end (λ live. (live_taken sc floor end p.number p at u.place.taken live).1) rises in omega arith);
+      gap = u.gap;
+      clock = (let c = r.clock in omega arith);
+      passed = u.passed;
     }
 
 pub all_begin : (t : TableId) (sc : ScenarioOf) (floor end : ℕ) (ms : List Member) → IsEpoch (facts_of (fleet_of sc)) sc floor end → All (IsResting t sc floor floor) ms → All (IsUnderWay t (facts_of (fleet_of sc)) sc floor end) ms
@@ -107,7 +105,9 @@ takes t sc floor end m r =
         table = u.table;
         world = u.world;
         told = u.told;
-        clock = u.clock;
+        gap = u.gap;
+        clock = (let c = r.clock in omega arith);
+        passed = u.passed;
       };
       still = r.still;
       clock = r.clock;
@@ -143,8 +143,8 @@ still_at : (b : Bool) → (not b && nat_lt 0 0) ≡ false
 still_at true = refl
 still_at false = refl
 
-first_rests : (t : TableId) (sc : ScenarioOf) (k : ℕ) (m : Member) → IsScenario sc → k < sc.topo.nodes → m.runner ≡ start_of sc k → m.air ≡ first_node t (facts_of (fleet_of sc)) k → m.halted ≡ false → IsResting t sc 0 0 m
-first_rests t sc k m ok lt r a goes =
+first_rests : (t : TableId) (sc : ScenarioOf) (k : ℕ) (m : Member) → IsScenario sc → k < sc.topo.nodes → m.runner ≡ start_of sc k → m.air ≡ first_node t (facts_of (fleet_of sc)) k → m.halted ≡ false → m.gap ≡ sc.topo.byte_time → IsResting t sc 0 0 m
+first_rests t sc k m ok lt r a goes gap =
     let w : WorldFacts = facts_of (fleet_of sc) in
     let none = none_at_zero w k in
     let told : sends_passed m.runner ≡ 0 = ap sends_passed r ∙ none in
@@ -162,7 +162,9 @@ first_rests t sc k m ok lt r a goes =
         table = ap (λ (n : NodeFacts). n.table) a;
         world = ap (λ (n : NodeFacts). n.world) a;
         told = omega arith;
+        gap = gap;
         clock = omega arith;
+        passed = (let z : sends_below w.sends m.air.number m.air.clock ≡ 0 = ap (λ (n : NodeFacts). sends_below w.sends n.number n.clock) a ∙ none in omega arith);
       };
       still = subst (λ (p : Place). is_live 0 p ≡ false) (sym r) (still_at (is_some (state_at (start_of sc k)).stop));
       clock = clock;
@@ -185,7 +187,7 @@ module _ (sc : ScenarioOf) (t : TableId) (airs : List NodeFacts) (ms : List Memb
   first_order = record { count = long; each = (λ k d lt. let n = long in ap (λ (p : Place). p.number) (runner k d (omega arith))) }
 
   first_all : All (IsResting t sc 0 0) ms
-  first_all k d lt = let n = long in first_rests t sc k (get_or ms k d) ok (omega arith) (runner k d lt) (seat k d lt) (all k d lt).1
+  first_all k d lt = let n = long in first_rests t sc k (get_or ms k d) ok (omega arith) (runner k d lt) (seat k d lt) (all k d lt).1 (all k d lt).2
 
   pub first_tied : (x : Parts) → x.members.items ≡ ms → x.clocks.table ≡ t → x.clocks.world ≡ facts_of (fleet_of sc) → x.air ≡ first_record t (facts_of (fleet_of sc)) [] → IsTied sc 0 0 x
   first_tied x e table scene air =

@@ -4,3 +4,4 @@ pub mod Lists
 pub mod Ends
 pub mod Epochs
 pub mod Crossing
+pub mod Ahead

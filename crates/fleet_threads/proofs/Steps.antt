@@ -1,16 +1,18 @@
 -- What a step makes of a node that is under way.
 use Rattle.std.specs.Prelude.{is_some, nat_lt}
-use Rattle.std.proofs.Common.{◌≡◌, ℕ, ◌+◌, ◌-◌, ◌<◌, ◌≤◌, ◌⊎◌, inl, inr, ⊎_elim, min, Bool, true, false, cond, not, ◌&&◌, ◌||◌, List, [], ◌∷◌, ◌++◌, refl, sym, subst, ◌∙◌, ap, arith}
+use Rattle.std.proofs.Common.{◌≡◌, ℕ, ◌+◌, ◌-◌, ◌<◌, ◌≤◌, ◌⊎◌, inl, inr, ⊎_elim, min, max, Bool, true, false, cond, not, ◌&&◌, ◌||◌, List, [], ◌∷◌, refl, sym, subst, ◌∙◌, ap, arith}
 use Rattle.std.specs.List.{Contains}
 use Rattle.std.proofs.lemmas.Bool.{false≢true}
+use native.Mathlib.Decide.{dec_le}
 use Rattle.atomic_table.specs.Seated.{TableId}
 use Rattle.world_core.specs.declared.air.Send.{Send}
 use Rattle.world_core.specs.declared.air.Heard.{Heard as HeardValue}
 use Rattle.world_core.specs.declared.world.WorldFacts.{WorldFacts}
 use Rattle.world_core.specs.Sends.{sends_below, IsSendNumber}
+use Rattle.world_core.specs.Lawful.{IsLawful}
 use Rattle.world_core.specs.Settled.{truth}
 use Rattle.world_core.proofs.Counts.{sends_below-le}
-use Rattle.clock_words.specs.Seats.{NodeFacts}
+use Rattle.clock_words.specs.Seats.{NodeFacts, node_raised}
 use Rattle.trace_rows.specs.declared.row.Row.{Row}
 use Rattle.node_core.specs.State.{NodeState}
 use Rattle.node_core.specs.Cycle.{node_kind}
@@ -21,24 +23,25 @@ use Rattle.node_runner.specs.declared.runner.Event.TheVariants.{Ask, Sent, Turn,
 use Rattle.node_runner.specs.Scenario.{ScenarioOf, fleet_of}
 use Rattle.node_runner.specs.Place.{Place, is_live, state_at, noted_of, sends_passed}
 use Rattle.node_runner.specs.Event.{IsEvent}
-use Rattle.node_runner.proofs.Sound.{sound}
-use Rattle.fleet_plain.specs.Flight.{epoch, IsAt, IsTaken, Advanced}
-use Rattle.fleet_plain.proofs.Advance.{adv_answer, adv_turn, adv_ask, adv_ended, adv_sent, sent_early, live_below, noted_plain}
+use Rattle.node_runner.proofs.Sound.{sound, scenario_lawful}
+use Rattle.fleet_plain.specs.Flight.{epoch, IsAt, Advanced}
+use Rattle.fleet_plain.proofs.Advance.{adv_answer, adv_turn, adv_ask, adv_ended, adv_sent, sent_early, noted_plain}
 use Rattle.fleet_plain.proofs.InFlight.{live_taken, still_over, home}
 use Rattle.fleet_threads.specs.declared.member.Member.{Member}
-use Rattle.fleet_threads.specs.Member.{IsEpoch, IsPlaced, IsUnderWay, word_of}
+use Rattle.fleet_threads.specs.Member.{IsPlaced, IsUnderWay, word_of}
+use Rattle.fleet_threads.proofs.Ahead.{below_ahead}
 
 -- ---- how far the word goes
 pub word_still : (end : ℕ) (p : Place) → is_live end p ≡ false → word_of end p ≡ end
 word_still end p e = ap (λ (b : Bool). cond b p.cycle end) e
 
-word_case : (b : Bool) (c d e : ℕ) → c ≤ d → d ≤ e → c ≤ cond b d e
-word_case true c d e h l = h
-word_case false c d e h l = omega arith
-
 below_case : (b : Bool) (d e : ℕ) → d ≤ e → cond b d e ≤ e
 below_case true d e l = l
 below_case false d e l = omega arith
+
+either : (c d : ℕ) → Dec (d ≤ c) → (max c d ≡ c) ⊎ (max c d ≡ d)
+either c d (yes h) = inl (omega arith)
+either c d (no h) = inr (omega arith)
 
 -- the node whose sample is unanswered is live
 pub asking_live : (end : ℕ) (p : Place) → p.asking ≡ true → is_live end p ≡ true
@@ -57,16 +60,15 @@ module _ (t : TableId) (w : WorldFacts) (sc : ScenarioOf) (floor end : ℕ) (m :
   pub word_limit : word_of end m.runner ≤ w.topo.limit
   word_limit = let a = word_within in let b = u.epoch.within in let c = ap (λ (v : WorldFacts). v.topo.limit) u.epoch.world in omega arith
 
-  told_here : sends_below (facts_of f).sends p.number p.cycle ≤ m.air.told
-  told_here = subst (λ (z : ScenarioOf). sends_below (facts_of (fleet_of z)).sends p.number p.cycle ≤ m.air.told) u.place.at.scenario u.told
+  here : sends_below (facts_of f).sends p.number p.cycle ≡ sends_passed m.runner
+  here = ap (λ (z : ScenarioOf). sends_below (facts_of (fleet_of z)).sends p.number p.cycle) (sym u.place.at.scenario)
 
   over_here : is_live end p ≡ false → (is_some (node_at f p.number p.cycle).stop ≡ true) ⊎ (end ≤ p.cycle)
   over_here e = subst (λ (z : ScenarioOf). (is_some (node_at (fleet_of z) p.number p.cycle).stop ≡ true) ⊎ (end ≤ p.cycle)) u.place.at.scenario (still_over end p e)
 
-  told_case : (b : Bool) → is_live end p ≡ b → sends_below (facts_of f).sends p.number (cond b p.cycle end) ≤ m.air.told
-  told_case true e = told_here
-  told_case false e =
-      let here = told_here in
+  passed_case : (b : Bool) → is_live end p ≡ b → sends_below (facts_of f).sends p.number (cond b p.cycle end) ≤ sends_below (facts_of f).sends p.number p.cycle
+  passed_case true e = omega arith
+  passed_case false e =
       let inside = u.place.at.within in
       let lim = u.epoch.within in
       ⊎_elim
@@ -77,23 +79,54 @@ module _ (t : TableId) (w : WorldFacts) (sc : ScenarioOf) (floor end : ℕ) (m :
       (λ (past : end ≤ p.cycle). let le = sends_below-le (facts_of f).sends p.number end p.cycle past in omega arith)
       (over_here e)
 
-  -- all sends below the cycle to which the word is raised are told as posted
-  pub told_word : sends_below w.sends m.air.number (word_of end m.runner) ≤ m.air.told
-  told_word =
-      subst (λ (v : WorldFacts). sends_below v.sends m.air.number (word_of end m.runner) ≤ m.air.told) (sym u.epoch.world)
-      (subst (λ (k : ℕ). sends_below (facts_of f).sends k (word_of end m.runner) ≤ m.air.told) (sym u.number) (told_case (is_live end p) refl))
+  -- below the cycle to which the node has come it sends no more than it has sent
+  passed_word : sends_below w.sends m.air.number (word_of end m.runner) ≤ sends_passed m.runner
+  passed_word =
+      subst (λ (v : WorldFacts). sends_below v.sends m.air.number (word_of end m.runner) ≤ sends_passed m.runner) (sym u.epoch.world)
+      (subst (λ (k : ℕ). sends_below (facts_of f).sends k (word_of end m.runner) ≤ sends_passed m.runner) (sym u.number)
+      (let e = here in let h = passed_case (is_live end p) refl in omega arith))
+
+  -- nor below the higher of two cycles below each of which it sends no more than that
+  higher : (c : ℕ) → sends_below w.sends m.air.number c ≤ sends_passed m.runner → sends_below w.sends m.air.number (max c m.air.clock) ≤ sends_passed m.runner
+  higher c h =
+      ⊎_elim
+      (λ (e : max c m.air.clock ≡ c). subst (λ (d : ℕ). sends_below w.sends m.air.number d ≤ sends_passed m.runner) (sym e) h)
+      (λ (e : max c m.air.clock ≡ m.air.clock). subst (λ (d : ℕ). sends_below w.sends m.air.number d ≤ sends_passed m.runner) (sym e) u.passed)
+      (either c m.air.clock (dec_le m.air.clock c))
+
+  -- the word may be raised to where the node has come, and stays where it stands higher
+  pub passed_raised : (c : ℕ) → c ≡ max (word_of end m.runner) m.air.clock → sends_below w.sends m.air.number c ≤ sends_passed m.runner
+  passed_raised c e = subst (λ (d : ℕ). sends_below w.sends m.air.number d ≤ sends_passed m.runner) (sym e) (higher (word_of end m.runner) passed_word)
+
+  -- and to the byte time behind its last send
+  pub passed_ahead : (c sent : ℕ) → c ≤ max sent m.air.clock → sends_below w.sends m.air.number sent ≤ sends_passed m.runner → sends_below w.sends m.air.number c ≤ sends_passed m.runner
+  passed_ahead c sent le h = let a = higher sent h in let b = sends_below-le w.sends m.air.number c (max sent m.air.clock) le in omega arith
+
+  pub told_passed : (c : ℕ) → sends_below w.sends m.air.number c ≤ sends_passed m.runner → sends_below w.sends m.air.number c ≤ m.air.told
+  told_passed c h = let a = u.told in omega arith
 
   -- the runner stays, and the seat has looked, raised its word or halted
-  pub stays : (n : Member) → n.runner ≡ m.runner → n.air.number ≡ m.air.number → n.air.table ≡ m.air.table → n.air.world ≡ m.air.world → m.air.told ≤ n.air.told → n.air.clock ≤ word_of end m.runner → IsUnderWay t w sc floor end n
-  stays n r num tab wor told clock = record {
+  pub stays : (n : Member) → n.runner ≡ m.runner → n.gap ≡ m.gap → n.air.number ≡ m.air.number → n.air.table ≡ m.air.table → n.air.world ≡ m.air.world → m.air.told ≤ n.air.told → n.air.clock ≤ end
+      → sends_below w.sends m.air.number n.air.clock ≤ sends_passed m.runner → IsUnderWay t w sc floor end n
+  stays n r gap num tab wor told clock passed = record {
     epoch = u.epoch;
     place = subst (IsPlaced sc floor end) (sym r) u.place;
     number = num ∙ u.number ∙ ap (λ (q : Place). q.number) (sym r);
     table = tab ∙ u.table;
     world = wor ∙ u.world;
     told = subst (λ (q : Place). sends_passed q ≤ n.air.told) (sym r) (let a = u.told in omega arith);
-    clock = subst (λ (q : Place). n.air.clock ≤ word_of end q) (sym r) clock;
+    gap = gap ∙ u.gap;
+    clock = clock;
+    passed = subst (λ (q : Place). sends_below w.sends n.air.number n.air.clock ≤ sends_passed q) (sym r) (subst (λ (k : ℕ). sends_below w.sends k n.air.clock ≤ sends_passed m.runner) (sym num) passed);
   }
+
+  -- its word was raised, not past the end
+  pub raised : (n : Member) (c : ℕ) → n.runner ≡ m.runner → n.gap ≡ m.gap → n.air ≡ node_raised m.air c → c ≤ end → sends_below w.sends m.air.number c ≤ sends_passed m.runner → IsUnderWay t w sc floor end n
+  raised n c r gap air le h =
+      let clock : n.air.clock ≡ c = ap (λ (a : NodeFacts). a.clock) air in
+      let told : n.air.told ≡ m.air.told = ap (λ (a : NodeFacts). a.told) air in
+      stays n r gap (ap (λ (a : NodeFacts). a.number) air) (ap (λ (a : NodeFacts). a.table) air) (ap (λ (a : NodeFacts). a.world) air) (omega arith) (omega arith)
+      (subst (λ (k : ℕ). sends_below w.sends m.air.number k ≤ sends_passed m.runner) (sym clock) h)
 
   -- ---- a live node
   module _ (live : is_live end m.runner ≡ true) where
@@ -111,9 +144,9 @@ module _ (t : TableId) (w : WorldFacts) (sc : ScenarioOf) (floor end : ℕ) (m :
     from = live_taken sc floor end p.number p u.place.at u.place.taken live
 
     -- the runner went on, and all that it has sent is told as posted
-    pub moves : (n : Member) → IsAt m.runner.scenario end m.runner.number n.runner → n.runner.since ≡ m.runner.since → m.runner.cycle ≤ n.runner.cycle → sends_passed n.runner ≤ n.air.told
-        → n.air.number ≡ m.air.number → n.air.table ≡ m.air.table → n.air.world ≡ m.air.world → n.air.clock ≡ m.air.clock → IsUnderWay t w sc floor end n
-    moves n at since later told num tab wor clock = record {
+    pub moves : (n : Member) → IsAt m.runner.scenario end m.runner.number n.runner → n.runner.since ≡ m.runner.since → m.runner.cycle ≤ n.runner.cycle → sends_passed m.runner ≤ sends_passed n.runner → sends_passed n.runner ≤ n.air.told
+        → n.gap ≡ m.gap → n.air.number ≡ m.air.number → n.air.table ≡ m.air.table → n.air.world ≡ m.air.world → n.air.clock ≡ m.air.clock → IsUnderWay t w sc floor end n
+    moves n at since later more told gap num tab wor clock = record {
       epoch = u.epoch;
       place = record {
         node = (let e = at.number in let h = u.place.node in omega arith);
@@ -131,19 +164,21 @@ module _ (t : TableId) (w : WorldFacts) (sc : ScenarioOf) (floor end : ℕ) (m :
       table = tab ∙ u.table;
       world = wor ∙ u.world;
       told = told;
-      clock = (let a = u.clock in let b : word_of end m.runner ≡ m.runner.cycle = ap (λ (x : Bool). cond x m.runner.cycle end) live in word_case (is_live end n.runner) n.air.clock n.runner.cycle end (omega arith) at.within);
+      gap = gap ∙ u.gap;
+      clock = (let a = u.clock in omega arith);
+      passed = (let a = u.passed in let e : sends_below w.sends n.air.number n.air.clock ≡ sends_below w.sends m.air.number m.air.clock = (λ i. sends_below w.sends (num i) (clock i)) in omega arith);
     }
 
     -- a step that tells of no send
     same_sends : (q : Place) → q.unnoted ≡ false → noted_of q ≡ noted_of m.runner → sends_passed q ≡ sends_passed m.runner
     same_sends q e same = sym (noted_plain q e) ∙ same ∙ noted_plain m.runner u.place.at.noted
 
-    went : (n : Member) (xs ys : List Send) → Advanced end m.runner xs n.runner ys → noted_of n.runner ≡ noted_of m.runner → n.air ≡ m.air → IsUnderWay t w sc floor end n × (n.runner.number ≡ m.runner.number)
-    went n xs ys adv count air =
+    went : (n : Member) (xs ys : List Send) → Advanced end m.runner xs n.runner ys → noted_of n.runner ≡ noted_of m.runner → n.air ≡ m.air → n.gap ≡ m.gap → IsUnderWay t w sc floor end n × (n.runner.number ≡ m.runner.number)
+    went n xs ys adv count air gap =
         let tells : sends_passed n.runner ≡ sends_passed m.runner = same_sends n.runner adv.at.noted count in
         let told : n.air.told ≡ m.air.told = ap (λ (a : NodeFacts). a.told) air in
         let had = u.told in (
-          moves n adv.at adv.since adv.later (omega arith) (ap (λ (a : NodeFacts). a.number) air) (ap (λ (a : NodeFacts). a.table) air) (ap (λ (a : NodeFacts). a.world) air) (ap (λ (a : NodeFacts). a.clock) air),
+          moves n adv.at adv.since adv.later (omega arith) (omega arith) gap (ap (λ (a : NodeFacts). a.number) air) (ap (λ (a : NodeFacts). a.table) air) (ap (λ (a : NodeFacts). a.world) air) (ap (λ (a : NodeFacts). a.clock) air),
           adv.at.number,
         )
 
@@ -152,18 +187,18 @@ module _ (t : TableId) (w : WorldFacts) (sc : ScenarioOf) (floor end : ℕ) (m :
 
     -- ---- a turn
     module _ (q : ℕ) (calm : m.runner.asking ≡ false) (q_is : q ≡ min (end - m.runner.cycle) 1024) where
-      pub turned : (n : Member) (c : ℕ) → IsEvent m.runner q (Turn c) n.runner → noted_of n.runner ≡ noted_of m.runner → n.air ≡ m.air → IsUnderWay t w sc floor end n × (n.runner.number ≡ m.runner.number)
-      turned n c ev count air = went n [] [] (adv_turn end q m.runner [] lim own live calm q_is c n.runner ev count) count air
+      pub turned : (n : Member) (c : ℕ) → IsEvent m.runner q (Turn c) n.runner → noted_of n.runner ≡ noted_of m.runner → n.air ≡ m.air → n.gap ≡ m.gap → IsUnderWay t w sc floor end n × (n.runner.number ≡ m.runner.number)
+      turned n c ev count air gap = went n [] [] (adv_turn end q m.runner [] lim own live calm q_is c n.runner ev count) count air gap
 
-      pub asks : (n : Member) (c : ℕ) → IsEvent m.runner q (Ask c) n.runner → noted_of n.runner ≡ noted_of m.runner → n.air ≡ m.air → IsUnderWay t w sc floor end n × (n.runner.number ≡ m.runner.number)
-      asks n c ev count air = went n [] [] (adv_ask end q m.runner [] lim own live calm q_is c n.runner ev count) count air
+      pub asks : (n : Member) (c : ℕ) → IsEvent m.runner q (Ask c) n.runner → noted_of n.runner ≡ noted_of m.runner → n.air ≡ m.air → n.gap ≡ m.gap → IsUnderWay t w sc floor end n × (n.runner.number ≡ m.runner.number)
+      asks n c ev count air gap = went n [] [] (adv_ask end q m.runner [] lim own live calm q_is c n.runner ev count) count air gap
 
-      pub ended : (n : Member) → IsEvent m.runner q Ended n.runner → noted_of n.runner ≡ noted_of m.runner → n.air ≡ m.air → IsUnderWay t w sc floor end n × (n.runner.number ≡ m.runner.number)
-      ended n ev count air = went n [] [] (adv_ended end q m.runner [] lim own live calm q_is n.runner ev count) count air
+      pub ended : (n : Member) → IsEvent m.runner q Ended n.runner → noted_of n.runner ≡ noted_of m.runner → n.air ≡ m.air → n.gap ≡ m.gap → IsUnderWay t w sc floor end n × (n.runner.number ≡ m.runner.number)
+      ended n ev count air gap = went n [] [] (adv_ended end q m.runner [] lim own live calm q_is n.runner ev count) count air gap
 
       -- the turn was cut off for want of memory
-      pub cut_off : (n : Member) → IsEvent m.runner q NoMemory n.runner → noted_of n.runner ≡ noted_of m.runner → n.air ≡ m.air → IsUnderWay t w sc floor end n × (n.runner.number ≡ m.runner.number)
-      cut_off n ev count air =
+      pub cut_off : (n : Member) → IsEvent m.runner q NoMemory n.runner → noted_of n.runner ≡ noted_of m.runner → n.air ≡ m.air → n.gap ≡ m.gap → IsUnderWay t w sc floor end n × (n.runner.number ≡ m.runner.number)
+      cut_off n ev count air gap =
           let e : n.runner ≡ record m.runner { cycle = n.runner.cycle } = ev.0 in
           let off : n.runner.asking ≡ false = ap (λ (x : Place). x.asking) e ∙ calm in
           let plain : n.runner.unnoted ≡ false = ap (λ (x : Place). x.unnoted) e ∙ u.place.at.noted in
@@ -181,7 +216,7 @@ module _ (t : TableId) (w : WorldFacts) (sc : ScenarioOf) (floor end : ℕ) (m :
                   early = (λ x. absurd (false≢true (sym off ∙ x)));
                   asks = (λ x. absurd (false≢true (sym off ∙ x)));
                 })
-                (ap (λ (x : Place). x.since) e) ev.2.later (omega arith) (ap (λ (a : NodeFacts). a.number) air) (ap (λ (a : NodeFacts). a.table) air) (ap (λ (a : NodeFacts). a.world) air) (ap (λ (a : NodeFacts). a.clock) air),
+                (ap (λ (x : Place). x.since) e) ev.2.later (omega arith) (omega arith) gap (ap (λ (a : NodeFacts). a.number) air) (ap (λ (a : NodeFacts). a.table) air) (ap (λ (a : NodeFacts). a.world) air) (ap (λ (a : NodeFacts). a.clock) air),
             ap (λ (x : Place). x.number) e,
           )
 
@@ -199,14 +234,26 @@ module _ (t : TableId) (w : WorldFacts) (sc : ScenarioOf) (floor end : ℕ) (m :
         pub early_send : x.cycle < floor + epoch
         early_send = let a = sent_early end q m.runner [] lim own live calm q_is x mid ev in let b = u.epoch.span in omega arith
 
-        pub sent : (n : Member) (k : ℕ) → k ≡ noted_of mid → n.runner ≡ record mid { unnoted = false } → noted_of n.runner ≡ noted_of mid + 1 → k < n.air.told → n.air ≡ record m.air { told = n.air.told }
+        pub sent : (n : Member) (k : ℕ) → k ≡ noted_of mid → n.runner ≡ record mid { unnoted = false } → noted_of n.runner ≡ noted_of mid + 1 → k < n.air.told → n.air ≡ record m.air { told = n.air.told } → n.gap ≡ m.gap
             → IsUnderWay t w sc floor end n × (n.runner.number ≡ m.runner.number)
-        sent n k k_is e more told air =
+        sent n k k_is e more told air gap =
             let adv = adv_sent end q m.runner [] lim own live calm q_is x mid n.runner (x ∷ []) ev count e more refl in
-            let plain : noted_of n.runner ≡ sends_passed n.runner = noted_plain n.runner adv.at.noted in (
-              moves n adv.at adv.since adv.later (omega arith) (ap (λ (a : NodeFacts). a.number) air) (ap (λ (a : NodeFacts). a.table) air) (ap (λ (a : NodeFacts). a.world) air) (ap (λ (a : NodeFacts). a.clock) air),
+            let plain : noted_of n.runner ≡ sends_passed n.runner = noted_plain n.runner adv.at.noted in
+            let before : noted_of m.runner ≡ sends_passed m.runner = noted_plain m.runner u.place.at.noted in (
+              moves n adv.at adv.since adv.later (omega arith) (omega arith) gap (ap (λ (a : NodeFacts). a.number) air) (ap (λ (a : NodeFacts). a.table) air) (ap (λ (a : NodeFacts). a.world) air) (ap (λ (a : NodeFacts). a.clock) air),
               adv.at.number,
             )
+
+        -- in the byte time that begins with the send the node sends nothing more
+        pub ahead : (n : Member) (k c : ℕ) → k ≡ noted_of mid → n.runner ≡ record mid { unnoted = false } → noted_of n.runner ≡ noted_of mid + 1 → k < n.air.told → n.air ≡ record m.air { told = n.air.told } → n.gap ≡ m.gap → c ≡ x.cycle
+            → sends_below w.sends n.air.number (c + n.gap) ≤ sends_passed n.runner
+        ahead n k c k_is e more told air gap c_is =
+            let is = sent n k k_is e more told air gap in
+            let plain : noted_of n.runner ≡ sends_passed n.runner = noted_plain n.runner is.0.place.at.noted in
+            let span : n.gap ≡ w.topo.byte_time = gap ∙ u.gap ∙ ap (λ (v : WorldFacts). v.topo.byte_time) (sym u.epoch.world) in
+            let law : IsLawful w = subst IsLawful (sym u.epoch.world) (scenario_lawful sc u.epoch.sound) in
+            let own : n.air.number ≡ x.node = ap (λ (a : NodeFacts). a.number) air ∙ sym own_send in
+            subst (λ (j : ℕ). sends_below w.sends j (c + n.gap) ≤ sends_passed n.runner) (sym own) (let h = below_ahead w k (c + n.gap) x law (next_send k k_is) (omega arith) in omega arith)
 
   -- ---- a sample
   module _ (on : m.runner.asking ≡ true) where
@@ -230,8 +277,8 @@ module _ (t : TableId) (w : WorldFacts) (sc : ScenarioOf) (floor end : ℕ) (m :
         ∙ ap (λ (z : ScenarioOf). truth (facts_of (fleet_of z)) m.runner.number m.runner.cycle) (sym u.place.at.scenario)
 
     pub answered : (n : Member) → n.runner ≡ record m.runner { cycle = m.runner.cycle + 1; asking = false } → noted_of n.runner ≡ noted_of m.runner → n.air.number ≡ m.air.number → n.air.table ≡ m.air.table → n.air.world ≡ m.air.world
-        → n.air.told ≡ m.air.told → n.air.clock ≡ m.air.clock → IsUnderWay t w sc floor end n × (n.runner.number ≡ m.runner.number)
-    answered n e count num tab wor told clock =
+        → n.air.told ≡ m.air.told → n.air.clock ≡ m.air.clock → n.gap ≡ m.gap → IsUnderWay t w sc floor end n × (n.runner.number ≡ m.runner.number)
+    answered n e count num tab wor told clock gap =
         let adv = adv_answer end 1 m.runner [] (lim on_live) (own on_live) on_live n.runner on e count in
         let tells : sends_passed n.runner ≡ sends_passed m.runner = same_sends on_live n.runner adv.at.noted count in
-        let had = u.told in (moves on_live n adv.at adv.since adv.later (omega arith) num tab wor clock, adv.at.number)
+        let had = u.told in (moves on_live n adv.at adv.since adv.later (omega arith) (omega arith) gap num tab wor clock, adv.at.number)

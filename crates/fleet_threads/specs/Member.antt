@@ -1,8 +1,9 @@
 -- A node in an epoch. Own to this simulator.
-use Rattle.std.specs.Prelude.{◌≡◌, ℕ, ◌+◌, ◌≤◌, ◌<◌, true, false, if◌then◌else◌, List, map, length, slice_index_or}
+use Rattle.std.specs.Prelude.{◌≡◌, ℕ, ◌+◌, ◌≤◌, ◌<◌, false, if◌then◌else◌, List, map, length, slice_index_or}
 use Rattle.std.specs.List.{All}
 use Rattle.atomic_table.specs.Seated.{TableId}
 use Rattle.world_core.specs.declared.world.WorldFacts.{WorldFacts}
+use Rattle.world_core.specs.Sends.{sends_below}
 use Rattle.global_order.specs.Order.{facts_of}
 use Rattle.node_runner.specs.Scenario.{ScenarioOf, IsScenario, fleet_of}
 use Rattle.node_runner.specs.Place.{Place, is_live, sends_passed}
@@ -23,11 +24,12 @@ pub record IsPlaced (sc : ScenarioOf) (floor end : ℕ) (p : Place) : Type 0 whe
   pub at : IsAt sc end p.number p
   pub taken : IsTaken sc floor p.number p
 
--- how far the node's clock word may be raised: to the runner's cycle, and to the end where the node goes on no more before that
+-- how far the node has come: to the runner's cycle, and to the end where the node goes on no more before that
 abbrev pub word_of : ℕ → Place → ℕ
 word_of end p = if is_live end p then p.cycle else end
 
--- A node in that epoch. It has seen that all that it has sent is posted.
+-- A node in that epoch. It has seen that all that it has sent is posted. Its clock word may stand ahead of the cycle that it has come to, as
+-- far as it sends nothing in between.
 pub record IsUnderWay (t : TableId) (w : WorldFacts) (sc : ScenarioOf) (floor end : ℕ) (m : Member) : Type 0 where
   pub epoch : IsEpoch w sc floor end
   pub place : IsPlaced sc floor end m.runner
@@ -35,7 +37,9 @@ pub record IsUnderWay (t : TableId) (w : WorldFacts) (sc : ScenarioOf) (floor en
   pub table : m.air.table ≡ t
   pub world : m.air.world ≡ w
   pub told : sends_passed m.runner ≤ m.air.told
-  pub clock : m.air.clock ≤ word_of end m.runner
+  pub gap : m.gap ≡ sc.topo.byte_time
+  pub clock : m.air.clock ≤ end
+  pub passed : sends_below w.sends m.air.number m.air.clock ≤ sends_passed m.runner
 
 -- the node has come to the end, or stopped before, and its clock word stands there; or it has halted
 abbrev pub IsOver : ℕ → Member → Type 0

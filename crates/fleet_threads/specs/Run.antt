@@ -1,5 +1,5 @@
 -- A run between two epochs. Own to this simulator.
-use Rattle.std.specs.Prelude.{◌≡◌, ℕ, ◌<◌, ◌≤◌, Bool, true, false, List, length, slice_index_or, IfSome, Option, Some, None}
+use Rattle.std.specs.Prelude.{◌≡◌, ℕ, ◌≤◌, Bool, true, false, IfSome, Option, Some, None}
 use Rattle.std.specs.List.{All}
 use Rattle.atomic_table.specs.Seated.{TableId}
 use Rattle.world_core.specs.Kept.{IsPostedTo}
@@ -18,7 +18,7 @@ air_of m = m.air
 
 -- a node at reset
 abbrev pub IsFirst : ScenarioOf → Member → Type 0
-IsFirst sc m = (m.runner ≡ start_of sc m.air.number) × (m.halted ≡ false)
+IsFirst sc m = (m.runner ≡ start_of sc m.air.number) × (m.halted ≡ false) × (m.gap ≡ sc.topo.byte_time)
 
 -- a node that has come to the end of the epoch or stopped before, and has not halted
 pub record IsResting (t : TableId) (sc : ScenarioOf) (floor end : ℕ) (m : Member) : Type 0 where

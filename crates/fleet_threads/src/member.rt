@@ -12,12 +12,14 @@ use std::sync::Wait;
 // The cycles of one turn of a node, at most.
 const QUANTUM: u64 = 1_024;
 
-/// A node: its runner, its part of the air, and the number of its next turn.
+/// A node: its runner, its part of the air, the number of its next turn, and the least number of cycles from one of its sends
+/// to the next, which is the byte time.
 #[derive(Drop)]
 pub struct Member {
     pub runner: Runner,
     pub air: NodeAir,
     pub turn: u64,
+    pub gap: u64,
     /// Whether it wanted memory, or another node did and told it to halt.
     pub halted: bool,
 }
@@ -55,9 +57,10 @@ fn ask<N: Session, R: Wait>(
 }
 
 impl Member {
-    ghost use Rattle.std.specs.Prelude.{◌≡◌, true, false};
-    ghost use Rattle.node_runner.specs.Place.{Place, is_live};
-    ghost use Rattle.fleet_threads.specs.Member.{IsUnderWay, IsOver, word_of};
+    ghost use Rattle.std.specs.Prelude.{◌≡◌, ◌≤◌, ◌+◌, true, false};
+    ghost use Rattle.world_core.specs.Sends.{sends_below};
+    ghost use Rattle.node_runner.specs.Place.{Place, is_live, sends_passed};
+    ghost use Rattle.fleet_threads.specs.Member.{IsUnderWay, IsOver};
 
     /// The number of its node.
     pub fn number(&self) -> u8
@@ -84,7 +87,7 @@ impl Member {
     }
 
     // Raises the node's clock word to the runner's cycle, and to the end of the epoch where the node goes on no more before
-    // that.
+    // that. It may stand higher already, where the node has looked ahead.
     fn raise<N: Session>(
         &mut self,
         shared: &Shared<Scenario, N>,
@@ -95,14 +98,35 @@ impl Member {
         ensures member { IsUnderWay N.table N.world scenario.now.value N.floor end self.new }
         ensures runner { self.new.runner ≡ self.old.runner }
         ensures halted { self.new.halted ≡ self.old.halted }
-        ensures clock { self.new.air.clock ≡ word_of end self.old.runner }
+        ensures over { is_live end self.old.runner ≡ false → self.new.air.clock ≡ end }
     {
         let _ = scenario;
-        let clock = if self.runner.is_live(end) {
+        let reached = if self.runner.is_live(end) {
             self.runner.cycle()
         } else {
             end
         };
+        let clock = reached.max(self.air.clock());
+        self.air.raise(shared, clock);
+    }
+
+    // Raises the node's clock word past its last send, which is posted: for a byte time from that send's cycle on it sends
+    // nothing more, so those that hear it need not wait until it gets there.
+    fn look_ahead<N: Session>(
+        &mut self,
+        shared: &Shared<Scenario, N>,
+        scenario: &Snapshot<Scenario>,
+        end: u64,
+        sent: u64,
+    )
+        requires member { IsUnderWay N.table N.world scenario.now.value N.floor end self.old }
+        requires none { sends_below N.world.sends self.old.air.number (sent + self.old.gap) ≤ sends_passed self.old.runner }
+        ensures member { IsUnderWay N.table N.world scenario.now.value N.floor end self.new }
+        ensures number { self.new.runner.number ≡ self.old.runner.number }
+    {
+        let _ = scenario;
+        let free = sent.saturating_add(self.gap).min(end);
+        let clock = free.max(self.air.clock());
         self.air.raise(shared, clock);
     }
 
@@ -150,8 +174,10 @@ impl Member {
         match self.runner.event(quantum) {
             Event::Sent { send } => {
                 let number = self.runner.count();
+                let sent = send.cycle;
                 self.air.post(rt, shared, send, number);
                 self.runner.noted();
+                self.look_ahead(shared, scenario, end, sent);
             }
             Event::NoMemory => self.halt(shared, scenario, end),
             Event::Ask { .. } => {}

@@ -46,6 +46,7 @@ fn first_members(
     ensures airs { IfOk result (λ v. map air_of v.items ≡ airs.items) }
     ensures first { IfOk result (λ v. All (IsFirst scenario.now) v.items) }
 {
+    let gap = scenario.lawful_topo().byte_time();
     let mut members = Vec::new(alloc);
     for air in airs {
         let runner = Runner::new(alloc, scenario, air.number())?;
@@ -53,6 +54,7 @@ fn first_members(
             runner,
             air,
             turn: 0,
+            gap,
             halted: false,
         };
         if members.push(member).is_err() {

@@ -1,4 +1,4 @@
-use Rattle.std.proofs.Common.{◌≡◌, ℕ, sym, ap, ◌∙◌}
+use Rattle.std.proofs.Common.{sym, ap, ◌∙◌}
 use Rattle.node_runner.specs.Scenario.{fleet_of}
 use Rattle.fleet_plain.specs.Run.{RunAt, rows_upto}
 use Rattle.fleet_plain.proofs.Epoch.{first_rows}

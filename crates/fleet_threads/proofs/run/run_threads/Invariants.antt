@@ -1,4 +1,4 @@
-use Rattle.std.proofs.Common.{◌≡◌, ◌≤◌, ◌-◌, false}
+use Rattle.std.proofs.Common.{◌≡◌, ◌-◌, false}
 use Rattle.node_runner.specs.Scenario.{fleet_of}
 use Rattle.fleet_plain.specs.Run.{rows_upto}
 use Rattle.fleet_threads.proofs.run.run_threads.Given as goal

@@ -1,8 +1,8 @@
-use Rattle.std.proofs.Common.{◌≡◌, ℕ, ◌+◌, ◌<◌, true, false, List, length, get_or, vec_len, sym, ap, ◌∙◌, arith, rules}
+use Rattle.std.proofs.Common.{◌≡◌, ℕ, ◌<◌, true, List, length, vec_len, sym, ap, ◌∙◌, arith, rules}
 use Rattle.std.proofs.lemmas.Bool.{false≢true}
 use Rattle.std.proofs.lemmas.List.Elements.{All-set}
 use Rattle.fleet_threads.specs.declared.member.Member.{Member}
-use Rattle.fleet_threads.specs.Member.{IsUnderWay, IsOver}
+use Rattle.fleet_threads.specs.Member.{IsUnderWay}
 use Rattle.fleet_threads.proofs.Lists.{stepped, one_more_over}
 use Rattle.fleet_threads.proofs.threads.round.Goals.{then-not-step, else-not-step}
 use Rattle.fleet_threads.proofs.threads.round.Goals as goal

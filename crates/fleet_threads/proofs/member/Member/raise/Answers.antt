@@ -1,10 +1,20 @@
-use Rattle.std.proofs.Common.{◌≡◌, ℕ, ◌≤◌, sym, subst, rules}
-use Rattle.world_core.specs.Sends.{sends_below}
+use Rattle.std.proofs.Common.{◌≡◌, ◌≤◌, max, refl, rules, arith}
+use Rattle.fleet_threads.specs.declared.member.Member.{Member}
 use Rattle.fleet_threads.specs.Member.{word_of}
-use Rattle.fleet_threads.proofs.Steps.{told_word}
+use Rattle.fleet_threads.proofs.Steps.{passed_raised, told_passed, word_within, raised}
 use Rattle.fleet_threads.proofs.member.Member.raise.Goals as goal
 
 pub raise-requires-clause-told : goal.raise-requires-clause-told
 raise-requires-clause-told g c =
-    let e : c.if-is_live.clock ≡ word_of c.args.end c.args.self.now.runner = search rules in
-    subst (λ (k : ℕ). sends_below g.N.Session.world.sends c.args.self.now.air.number k ≤ c.args.self.now.air.told) (sym e) (told_word _ _ _ _ _ c.args.self.now c.requires)
+    let e : c.max-clock.result ≡ max (word_of c.args.end c.args.self.now.runner) c.args.self.now.air.clock = search rules in
+    told_passed _ _ _ _ _ c.args.self.now c.requires _ (passed_raised _ _ _ _ _ c.args.self.now c.requires _ e)
+
+pub returns-clause-member : goal.returns-clause-member
+returns-clause-member g c =
+    let old : Member = c.args.self.now in
+    let e : c.max-clock.result ≡ max (word_of c.args.end old.runner) old.air.clock = search rules in
+    let new : Member = record { runner = old.runner; air = c.raise.new.self; turn = old.turn; gap = old.gap; halted = old.halted } in
+    let within = word_within _ _ _ _ _ old c.requires in
+    let clock = c.requires.clock in
+    let le : c.max-clock.result ≤ c.args.end = omega arith in
+    raised _ _ _ _ _ old c.requires new c.max-clock.result refl refl c.raise.ensures le (passed_raised _ _ _ _ _ old c.requires _ e)

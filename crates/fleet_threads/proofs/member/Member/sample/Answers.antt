@@ -1,4 +1,4 @@
-use Rattle.std.proofs.Common.{◌≡◌, ℕ, ◌≤◌, arith}
+use Rattle.std.proofs.Common.{◌≤◌, refl, arith}
 use Rattle.fleet_threads.specs.declared.member.Member.{Member}
 use Rattle.fleet_threads.proofs.Steps.{asked_here, late, answered}
 use Rattle.fleet_threads.proofs.member.Member.sample.Goals as goal
@@ -15,5 +15,5 @@ ask-requires-clause-floor g c =
 pub returns-in-Heard-clause-member : goal.returns-in-Heard-clause-member
 returns-in-Heard-clause-member g c =
     let looked = c.in-Heard.ensures.1 in
-    let new : Member = record { runner = c.answer.new.self; air = c.ask.new.air; turn = c.args.self.now.turn; halted = c.args.self.now.halted } in
-    (answered _ _ _ _ _ c.args.self.now c.requires.member c.requires.asking new c.answer.ensures.place c.answer.ensures.count looked.number looked.table looked.world looked.told looked.clock).0
+    let new : Member = record { runner = c.answer.new.self; air = c.ask.new.air; turn = c.args.self.now.turn; gap = c.args.self.now.gap; halted = c.args.self.now.halted } in
+    (answered _ _ _ _ _ c.args.self.now c.requires.member c.requires.asking new c.answer.ensures.place c.answer.ensures.count looked.number looked.table looked.world looked.told looked.clock refl).0

@@ -1,4 +1,4 @@
-use Rattle.std.proofs.Common.{◌≡◌, ℕ, ◌+◌, ◌≤◌, min, refl, sym, subst, ap, ◌∙◌, arith}
+use Rattle.std.proofs.Common.{◌≡◌, ◌+◌, min, refl, sym, subst, ap, ◌∙◌, arith}
 use Rattle.node_runner.specs.Scenario.{ScenarioOf}
 use Rattle.fleet_plain.specs.Run.{RunAt}
 use Rattle.fleet_threads.specs.declared.parts.Parts.{Parts}

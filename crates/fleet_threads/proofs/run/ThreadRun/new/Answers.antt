@@ -1,4 +1,4 @@
-use Rattle.std.proofs.Common.{◌≡◌, Some, refl, sym, subst, ap, ◌∙◌, arith}
+use Rattle.std.proofs.Common.{Some, refl, sym, subst, ap, ◌∙◌, arith}
 use Rattle.world_core.specs.Topology.{Topology}
 use Rattle.node_runner.specs.Scenario.{ScenarioOf}
 use Rattle.fleet_threads.specs.declared.parts.Parts.{Parts}
