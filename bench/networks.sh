@@ -4,25 +4,9 @@
 # it prints the processor time in user mode, node cycles in a second of it, rows in a second of it, and KiB at most. The
 # first line is `node` over as many cycles as each network's nodes have together.
 set -eu
-top=$(cd "$(dirname "$0")/.." && pwd)
-program=${1:-$top/crates/avrora_program/out/avrora_program}
-work=$(mktemp -d)
-trap 'rm -rf "$work"' EXIT
-[ -n "${1:-}" ] || "$top/avrora" node "$top/examples/two.hex" 1 >/dev/null
+. "$(dirname "$0")/program.sh"
 cp "$top"/bench/ring.hex "$top"/bench/sleep.hex "$top"/bench/registers.hex "$work"
 cd "$work"
-
-# network NODES IMAGE CYCLES WINDOW: a ring in which each node hears the one before it and the one behind it.
-network() {
-    if (($3 > 10000000)); then echo "version = 3"; fi
-    echo "cycles = $3"
-    echo "window = [0, $4]"
-    for ((k = 0; k < $1; k++)); do printf '[[node]]\nimage = "%s.hex"\n' "$2"; done
-    for ((k = 0; k < $1; k++)); do
-        printf '[[link]]\nfrom = %d\nto = %d\n' $k $(((k + 1) % $1))
-        if (($1 > 2)); then printf '[[link]]\nfrom = %d\nto = %d\n' $(((k + 1) % $1)) $k; fi
-    done
-}
 
 # report NAME NODE_CYCLES WORD ..: the fastest of five runs with these words.
 report() {
@@ -40,12 +24,12 @@ report() {
 }
 
 report "ring, a node alone" 10000000 node ring.hex 10000000
-network 8 ring 1250000 0 >ring8.toml
+network 8 ring 1250000 "window = [0, 0]" >ring8.toml
 report "ring, 8 nodes" 10000000 run --plain ring8.toml
-network 64 ring 156250 0 >ring64.toml
+network 64 ring 156250 "window = [0, 0]" >ring64.toml
 report "ring, 64 nodes" 10000000 run --plain ring64.toml
 report "sleep, a node alone" 10000000 node sleep.hex 10000000
-network 64 sleep 10000000 0 >sleep64.toml
+network 64 sleep 10000000 "window = [0, 0]" >sleep64.toml
 report "sleep, 64 nodes" 640000000 run --plain sleep64.toml
 
 # The sample of number 0, and the same network by its files.
@@ -54,13 +38,13 @@ cp "$top"/bench/make0/* .
 report "the network of make 0" 8000000 run --plain make0.toml
 
 # The memory of a run does not grow with its cycles.
-network 2 ring 500000 0 >short.toml
+network 2 ring 500000 "window = [0, 0]" >short.toml
 report "ring, 2 nodes, 10^6 cycles" 1000000 run --plain short.toml
-network 2 ring 50000000 0 >long.toml
+network 2 ring 50000000 "window = [0, 0]" >long.toml
 report "ring, 2 nodes, 10^8 cycles" 100000000 run --plain long.toml
 
 # A million rows, each of an instruction.
-network 64 registers 20000 20000 >traced.toml
+network 64 registers 20000 "window = [0, 20000]" >traced.toml
 report "a row an instruction, 64 nodes" 1280000 run --plain traced.toml
-network 64 registers 20000 0 >silent.toml
+network 64 registers 20000 "window = [0, 0]" >silent.toml
 report "the same without them" 1280000 run --plain silent.toml

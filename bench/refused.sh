@@ -3,11 +3,7 @@
 # where absent). As nobody, with room for 1, 2, 3, 5, 9 and 64 processes and threads in all, each run has to write what a run
 # on one thread writes. It takes root, for setpriv.
 set -eu
-top=$(cd "$(dirname "$0")/.." && pwd)
-program=${1:-$top/crates/avrora_program/out/avrora_program}
-work=$(mktemp -d)
-trap 'rm -rf "$work"' EXIT
-[ -n "${1:-}" ] || "$top/avrora" node "$top/examples/two.hex" 1 >/dev/null
+. "$(dirname "$0")/program.sh"
 cp "$program" "$work/program"
 cp "$top"/examples/*.hex "$top"/examples/*.toml "$top"/bench/make0/* "$work"
 chmod -R a+rX "$work"

@@ -3,24 +3,9 @@
 # with `run --plain` and five times with `run`, in turns; of the fastest of each it prints the time on the wall, and how many
 # times as fast the run by threads is. The two traces are compared.
 set -eu
-top=$(cd "$(dirname "$0")/.." && pwd)
-program=${1:-$top/crates/avrora_program/out/avrora_program}
-work=$(mktemp -d)
-trap 'rm -rf "$work"' EXIT
-[ -n "${1:-}" ] || "$top/avrora" node "$top/examples/two.hex" 1 >/dev/null
+. "$(dirname "$0")/program.sh"
 cp "$top"/bench/ring.hex "$top"/bench/mixed.hex "$top"/bench/network/net.hex "$top"/bench/make0/* "$top"/examples/flood.hex "$work"
 cd "$work"
-
-# network NODES IMAGE CYCLES LATENCY BYTE_TIME: a ring in which each node hears the one before it and the one behind it.
-network() {
-    if (($3 > 10000000)); then echo "version = 3"; fi
-    printf 'cycles = %d\nlatency = %d\nbyte_time = %d\n' "$3" "$4" "$5"
-    for ((k = 0; k < $1; k++)); do printf '[[node]]\nimage = "%s.hex"\n' "$2"; done
-    for ((k = 0; k < $1; k++)); do
-        printf '[[link]]\nfrom = %d\nto = %d\n' $k $(((k + 1) % $1))
-        if (($1 > 2)); then printf '[[link]]\nfrom = %d\nto = %d\n' $(((k + 1) % $1)) $k; fi
-    done
-}
 
 # timed OUT WORD ..: the seconds on the wall of a run with these words.
 timed() {
@@ -47,15 +32,15 @@ report() {
 }
 
 echo "$(nproc) processors, load $(cut -d' ' -f1 /proc/loadavg)"
-network 8 mixed 5000000 3072 3072 >apart.toml
+network 8 mixed 5000000 "latency = 3072" "byte_time = 3072" >apart.toml
 report "8 nodes that do not use the radio" apart.toml
-network 8 ring 5000000 3072 3072 >ring8.toml
+network 8 ring 5000000 "latency = 3072" "byte_time = 3072" >ring8.toml
 report "ring of 8, latency 3,072" ring8.toml
-network 64 ring 600000 3072 3072 >ring64.toml
+network 64 ring 600000 "latency = 3072" "byte_time = 3072" >ring64.toml
 report "ring of 64, latency 3,072" ring64.toml
 sed 's/^cycles.*/cycles = 5000000/' make0.toml >make5.toml
 report "the network of make 0, five times as long" make5.toml
-network 8 ring 2000000 1 256 >close8.toml
+network 8 ring 2000000 "latency = 1" "byte_time = 256" >close8.toml
 report "ring of 8, latency 1, byte time 256" close8.toml
-network 64 ring 200000 1 256 >close64.toml
+network 64 ring 200000 "latency = 1" "byte_time = 256" >close64.toml
 report "ring of 64, latency 1, byte time 256" close64.toml
