@@ -1,34 +1,33 @@
 //! Networks with each node on a thread of its own, beside gates that hold a node until another one has come far enough: so the
 //! stored run shows that two nodes are under way at once, that a node waits at a sample, and that one which waits for nobody
-//! goes ahead. A body on one thread, one that does not wait and one in lockstep each fail one of them.
+//! goes ahead. A body on one thread, one that does not wait and one in lockstep each fail one of them. `command_facts` runs it.
 #![tactic(auto)]
 
 mod gates;
 mod runs;
 
 use gates::{BothBegin, FirstIsLate, LastTurn, SecondIsLate, Told};
-use runs::{NotMade, write_call, write_rows};
-use sim_io::{Sink, StdSink, write_all};
+use runs::{write_call, write_rows};
+use memory_calls::Failed;
+use sim_io::{Sink, write_all};
 use std::fs::Files;
-use std::io;
-use std::process::ExitCode;
 use std::sync::Wait;
 use std::sync::atomic::{AtomicBool, AtomicU64, Ordering};
 use std::thread::Threads;
 
-static RUN: [&str; 2] = ["run", "two.toml"];
+static RUN: [&str; 2] = ["run", "gates.toml"];
 
 static MAKE: [&str; 2] = ["make", "0"];
 
-static LONG: [&str; 2] = ["run", "long.toml"];
+static LONG: [&str; 2] = ["run", "gates_long.toml"];
 
-fn write_line<O: Sink>(line: &str, out: &mut O) -> Result<(), NotMade> {
+fn write_line<O: Sink>(line: &str, out: &mut O) -> Result<(), Failed> {
     write_all(out, line.as_bytes())?;
     Ok(write_all(out, b"\n")?)
 }
 
 // Whether what is to be so was seen to be so.
-fn write_seen<O: Sink>(what: &str, seen: bool, out: &mut O) -> Result<(), NotMade> {
+fn write_seen<O: Sink>(what: &str, seen: bool, out: &mut O) -> Result<(), Failed> {
     write_all(out, what.as_bytes())?;
     write_line(if seen { ": yes" } else { ": no" }, out)
 }
@@ -37,7 +36,7 @@ fn write_seen<O: Sink>(what: &str, seen: bool, out: &mut O) -> Result<(), NotMad
 fn both_begin<R: Threads + Wait + Files + AllocGlobal + Sync, O: Sink>(
     rt: &R,
     out: &mut O,
-) -> Result<(), NotMade> {
+) -> Result<(), Failed> {
     write_line(
         "# both nodes are under way at once: by run_threads, by run, by make",
         out,
@@ -69,7 +68,7 @@ fn both_begin<R: Threads + Wait + Files + AllocGlobal + Sync, O: Sink>(
 fn first_is_late<R: Threads + Wait + Files + AllocGlobal + Sync, O: Sink>(
     rt: &R,
     out: &mut O,
-) -> Result<(), NotMade> {
+) -> Result<(), Failed> {
     write_line("# node 1 waits for node 0: by run_threads, by run", out)?;
     let (told, went_on) = (Told::none(), AtomicBool::new(false));
     let gate = FirstIsLate {
@@ -93,7 +92,7 @@ fn first_is_late<R: Threads + Wait + Files + AllocGlobal + Sync, O: Sink>(
 fn second_is_late<R: Threads + Wait + Files + AllocGlobal + Sync, O: Sink>(
     rt: &R,
     out: &mut O,
-) -> Result<(), NotMade> {
+) -> Result<(), Failed> {
     write_line("# node 0 goes ahead of node 1: by run_threads, by run", out)?;
     let told = Told::none();
     write_rows(rt, &SecondIsLate(&told), out)?;
@@ -107,7 +106,7 @@ fn second_is_late<R: Threads + Wait + Files + AllocGlobal + Sync, O: Sink>(
 fn epochs<R: Threads + Wait + Files + AllocGlobal + Sync, O: Sink>(
     rt: &R,
     out: &mut O,
-) -> Result<(), NotMade> {
+) -> Result<(), Failed> {
     write_line("# an epoch is written before the next one is run", out)?;
     let last = AtomicU64::new(0);
     write_call(rt, &LONG, Some(0), &LastTurn(&last), out)?;
@@ -120,20 +119,13 @@ fn epochs<R: Threads + Wait + Files + AllocGlobal + Sync, O: Sink>(
     write_seen("turn 256 was told", last.load(Ordering::SeqCst) >= 256, out)
 }
 
-fn all<R: Threads + Wait + Files + AllocGlobal + Sync, O: Sink>(
+/// All of them, one after another.
+pub fn do_all<R: Threads + Wait + Files + AllocGlobal + Sync, O: Sink>(
     rt: &R,
     out: &mut O,
-) -> Result<(), NotMade> {
+) -> Result<(), Failed> {
     both_begin(rt, out)?;
     first_is_late(rt, out)?;
     second_is_late(rt, out)?;
     epochs(rt, out)
-}
-
-fn main(rt: HostRuntime) -> ExitCode {
-    let mut out = StdSink::new(io::writer(&rt));
-    match all(&rt, &mut out) {
-        Ok(()) => ExitCode::SUCCESS,
-        Err(NotMade) => ExitCode::FAILURE,
-    }
 }
