@@ -11,13 +11,13 @@ program=$(realpath "$program")
 work=$(mktemp -d)
 trap 'rm -rf "$work"' EXIT
 cc -O2 -shared -fPIC -o "$work/fail_alloc.so" "$top/bench/fail_alloc.c" -ldl || exit 2
-cp "$top/crates/fault_facts/data/two.trace" "$work"
+cp "$top/crates/command_facts/data/two.trace" "$work"
 cd "$work" || exit 2
 failed=0
 
-# The two nodes of crates/fault_facts.
+# The two nodes of the case file faults.txt.
 awk '/^file /{ name = $2 } /^\|/ && (name == "a.hex" || name == "b.hex" || name == "two.toml") { print substr($0, 2) > name }' \
-    "$top/crates/fault_facts/data/faults.txt"
+    "$top/crates/command_facts/data/faults.txt"
 
 tell() {
     echo "$1: $2"

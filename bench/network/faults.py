@@ -1,19 +1,22 @@
 #!/usr/bin/env python3
-"""Writes the case file of crates/fault_facts and what its stored run is to give, by the slow simulator beside this file.
+"""Writes the case file of `fault_facts` and what the stored run of `command_facts` is to give of it, by the slow simulator beside this file.
 
-    bench/network/faults.py FOLDER        FOLDER is crates/fault_facts: writes its data/, args and stdout
+    bench/network/faults.py FOLDER        FOLDER is crates/command_facts: writes its files of these cases in data/,
+                                          and what they are to come to in stdout
 
 Always the same bytes. A failing call's status and its line follow from docs/FORMATS.md; how many writes an output takes, from
 its length and the bytes that it takes at a call, where the rows of an epoch are written before the next epoch runs.
 """
 import re
-import shutil
 import sys
 from pathlib import Path
+
+sys.path.append(str(Path(__file__).resolve().parent.parent))
 
 from draw import foreign, hex_text, ring
 from facts import Files, two
 from network import Refused, open_network
+from stored_parts import put_part
 
 HERE = Path(__file__).resolve().parent
 EPOCH = 262_144
@@ -239,13 +242,9 @@ def main():
         sys.exit(__doc__)
     folder = Path(sys.argv[1])
     data = folder / "data"
-    if data.exists():
-        shutil.rmtree(data)
-    data.mkdir(parents=True)
     it = case_file(data)
     (data / "faults.txt").write_text("\n".join(it.data) + "\n")
-    (folder / "args").write_text("faults.txt\n")
-    (folder / "stdout").write_text("\n".join(it.expected) + "\n")
+    put_part(folder, "faults=faults.txt", it.expected)
 
 
 if __name__ == "__main__":

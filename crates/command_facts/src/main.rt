@@ -4,7 +4,7 @@
 #![tactic(auto)]
 
 use memory_calls::Failed;
-use sim_io::{Sink, StdSink};
+use sim_io::{Sink, StdSink, write_all};
 use std::env::{self, Env};
 use std::fs::Files;
 use std::io;
@@ -28,7 +28,7 @@ fn do_word<R: Threads + Wait + Files + AllocGlobal + Sync, O: Sink>(
     }
 }
 
-// Each word after the program's name.
+// Each word after the program's name, under a line that names it.
 fn do_words<R: Env + Threads + Wait + Files + AllocGlobal + Sync, O: Sink>(
     rt: &R,
     out: &mut O,
@@ -37,6 +37,9 @@ fn do_words<R: Env + Threads + Wait + Files + AllocGlobal + Sync, O: Sink>(
         return Err(Failed);
     };
     for word in words.skip(1) {
+        write_all(out, b"=== ")?;
+        write_all(out, word.as_str().as_bytes())?;
+        write_all(out, b"\n")?;
         do_word(rt, word.as_str(), out)?;
     }
     Ok(())
