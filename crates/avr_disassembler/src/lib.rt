@@ -4,4 +4,4 @@
 mod parts;
 mod show;
 
-pub use show::{line, put_line, put_text, text};
+pub use show::{line, put_line, text};

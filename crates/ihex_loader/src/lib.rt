@@ -13,6 +13,3 @@ pub use fault::HexFault;
 pub use flash::{Flash, flash_of};
 pub use law::{accepted_image_is_determined, written_record_is_read};
 pub use loader::load;
-
-#[cfg(test)]
-mod tests;

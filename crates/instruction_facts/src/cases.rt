@@ -4,11 +4,12 @@ use crate::effects::{
     push_byte,
 };
 use crate::flags::ruled;
+use crate::images::{loads, put_unescaped};
 use crate::machine::Machine;
 use crate::numbers::{hex, hex_byte, hex_words};
 use crate::sweeps::swept;
 use crate::texts::{
-    has_cause, has_line, has_text, length_of_texts, words_at, words_of, words_of_width,
+    has_cause, has_digits, has_line, has_text, length_of_texts, words_at, words_of, words_of_width,
 };
 use avr_base::Sreg;
 use ihex_loader::{Flash, flash_of};
@@ -52,6 +53,7 @@ impl Verdict {
 pub struct Bench {
     start: Machine,
     flash: Flash,
+    image: Vec<u8>,
 }
 
 impl Bench {
@@ -63,10 +65,11 @@ impl Bench {
         Ok(Bench {
             start: Machine::new(0x0100, 0x0100),
             flash,
+            image: Vec::new(alloc),
         })
     }
 
-    // `memory FROM TO`, `start SETTING ..` or `flash WORD ..`.
+    // `memory FROM TO`, `start SETTING ..`, `flash WORD ..` or `hex TEXT`.
     fn set(&mut self, alloc: Global, line: &str) -> Result<Option<()>, AllocError> {
         let (part, rest) = front(line);
         match part {
@@ -76,6 +79,7 @@ impl Bench {
             }
             "start" => Ok(self.set_start(rest)),
             "flash" => self.set_flash(alloc, rest),
+            "hex" => put_unescaped(rest, &mut self.image),
             _ => Ok(None),
         }
     }
@@ -129,6 +133,19 @@ fn act(what: &str, numbers: &[u16], flash: &Flash, m: &mut Machine) -> Option<Re
         [word, next] => execute(what, *word, *next, flash, m),
         _ => None,
     }
+}
+
+// An image: what was set of it, and a text behind that.
+fn judge_image(
+    alloc: Global,
+    bench: &mut Bench,
+    text: &str,
+    gives: &str,
+) -> Result<Option<Verdict>, AllocError> {
+    let told = put_unescaped(text, &mut bench.image)?;
+    let right = loads(alloc, bench.image.as_slice(), gives)?;
+    bench.image = Vec::new(alloc);
+    Ok(told.and(right).map(Verdict::of))
 }
 
 // A byte of an SRAM, in which another one was put.
@@ -207,6 +224,11 @@ fn judge_cause(number: &str, gives: &str) -> Option<Verdict> {
     Some(Verdict::of(has_cause(number, gives)))
 }
 
+// The digits of a number, or a distance in words.
+fn judge_digits(form: &str, number: &str, gives: &str) -> Option<Verdict> {
+    Some(Verdict::of(has_digits(form, number, gives)?))
+}
+
 // A number over all operands or all words.
 fn judge_all(what: &str, name: &str, gives: &str) -> Option<Verdict> {
     let wanted = gives.parse::<u64>().ok()?;
@@ -250,6 +272,10 @@ fn judge_case(
     if what == "cause" {
         return Ok(judge_cause(operands, gives));
     }
+    if what == "digits" {
+        let (form, number) = front(operands);
+        return Ok(judge_digits(form, number, gives));
+    }
     let Some(numbers) = hex_words(alloc, operands)? else {
         return Ok(None);
     };
@@ -272,7 +298,10 @@ pub fn judge(alloc: Global, bench: &mut Bench, line: &str) -> Result<Verdict, Al
     }
     match line.split_once(" gives ") {
         Some((given, gives)) => {
-            let verdict = judge_case(alloc, bench, given, gives)?;
+            let verdict = match front(given) {
+                ("image", text) => judge_image(alloc, bench, text, gives)?,
+                _ => judge_case(alloc, bench, given, gives)?,
+            };
             Ok(verdict.unwrap_or(Verdict::Unread))
         }
         None => match bench.set(alloc, line)? {

@@ -1,11 +1,13 @@
-//! Facts of single instructions, from text files: each case has the words of one instruction, or the operands of one
-//! rule, and what comes of it. Its stored run compares them with what the crates of the instructions give, and writes a
-//! line for each file and each case that is wrong. `data/README` has the forms of a case.
+//! Facts of single instructions, of their digits and of the images that bring them, from text files: each case has the
+//! words of one instruction, the operands of one rule, a number or an image, and what comes of it. Its stored run compares
+//! them with what the crates of the instructions give, and writes a line for each file and each case that is wrong. The
+//! head of each file has the forms of its cases.
 #![tactic(auto)]
 
 mod cases;
 mod effects;
 mod flags;
+mod images;
 mod machine;
 mod numbers;
 mod sweeps;

@@ -1,8 +1,10 @@
-// Cases of the decoder, of the texts of instructions and of the causes of a stop.
+// Cases of the decoder, of the texts of instructions, of digits and of the causes of a stop.
+use crate::numbers::{hex, hex_byte};
 use arrayvec::ArrayString;
 use avr_base::StopCause;
 use avr_decoder::{Class, class, decode, one_row_at_most, width};
 use avr_disassembler::{line, text};
+use text_pieces::{put_decimal, put_distance, put_hex2, put_hex4};
 
 // The causes by their numbers, from 1 on.
 static CAUSES: [StopCause; 26] = [
@@ -41,6 +43,20 @@ pub fn has_cause(number: u8, wanted: &str) -> bool {
         Some(cause) => cause.number() == number && cause.text() == wanted,
         None => false,
     }
+}
+
+/// Whether these are the digits of a number: of a byte, of a word, of a decimal one, or of a distance of words, in two's
+/// complement; `None` where it is no such number.
+pub fn has_digits(form: &str, number: &str, wanted: &str) -> Option<bool> {
+    let mut out = ArrayString::<20>::new();
+    match form {
+        "byte" => put_hex2(hex_byte(number)?, &mut out),
+        "word" => put_hex4(hex(number)?, &mut out),
+        "decimal" => put_decimal(number.parse::<u64>().ok()?, &mut out),
+        "distance" => put_distance(hex(number)?.cast_signed(), &mut out),
+        _ => return None,
+    }
+    Some(out.as_str() == wanted)
 }
 
 /// Whether this is the text of the instruction of a word and the word behind it.

@@ -1,12 +1,12 @@
 -- A run in the middle of a cycle: how it gets there, how it goes on where the devices end nothing, and how its cycle ends.
-use Rattle.std.proofs.Common.{◌≡◌, ℕ, zero, suc, ◌+◌, ◌-◌, ◌++◌, ◌<◌, Bool, true, false, Option, None, List, [], is_some, refl, sym, subst, ap, ◌∙◌, arith, append-nil, append_assoc}
+use Rattle.std.proofs.Common.{◌≡◌, ℕ, ◌+◌, ◌-◌, ◌++◌, ◌<◌, Bool, true, false, Option, None, List, is_some, refl, sym, subst, ap, ◌∙◌, arith, append_assoc}
 use Rattle.board_io.specs.Cycle.{board_quiet, timers_leap}
 use Rattle.board_io.proofs.Lags.{leap_add}
 use Rattle.board_io.proofs.Leaps.{leap_quiet}
 use Rattle.trace_rows.specs.declared.row.Row.{Row}
 use Rattle.usart_port.specs.Script.{script_byte}
-use Rattle.world_core.specs.NodeRun.{AllQuiet, Comes, Timed, passed, passed_rows}
-use Rattle.world_core.proofs.QuietCycles.{comes_more}
+use Rattle.world_core.specs.NodeRun.{Comes, Timed, passed_rows}
+use Rattle.world_core.proofs.QuietCycles.{comes_step}
 use Rattle.node_core.specs.declared.machine.Air.{Air}
 use Rattle.node_core.specs.Bus.{with_board}
 use Rattle.node_core.specs.Cycle.{asks_after, asks_in, begun_in, begun_rows, cpu_cycle, cpu_rows, device_rows, devices_cycle, node_kind, sends_after, sends_in}
@@ -14,7 +14,7 @@ use Rattle.node_core.specs.Inside.{IsAir, IsCalm, IsPassed}
 use Rattle.node_core.specs.Midway.{IsMidway}
 use Rattle.node_core.specs.State.{NodeState}
 use Rattle.node_core.proofs.Cycles.{asks_calm, asks_parts, begun_calm, begun_parts, rows_calm, rows_parts, sends_calm, sends_parts}
-use Rattle.node_core.proofs.Idling.{Idles, all_quiet, no_rows, passed_next, passed_rested, passed_zero, rested, waits}
+use Rattle.node_core.proofs.Idling.{Idles, all_quiet, no_rows, passed_rested, rested, waits}
 use Rattle.node_core.proofs.Runs.{begun_comes, rested_comes}
 
 -- one more, where nothing ends and no byte arrives: the timers alone move
@@ -79,21 +79,6 @@ module _ (v : Timed NodeState Row) (c n : ℕ) (u w : NodeState) (k : List Row) 
       subst (λ (t : ℕ). Comes node_kind v t w k) there
       (rested_comes v (c + 1) u.wait begun w k k first quiet state (no_rows (c + 1) begun still u.wait calm_after idles) refl)
 
--- a run goes on by many quiet cycles
-steps : (v : Timed NodeState Row) (c n : ℕ) (s : NodeState) (l : List Row) → Comes node_kind v c s l → AllQuiet node_kind c n s
-    → Comes node_kind v (c + n) (passed node_kind c n s) (l ++ passed_rows node_kind c n s)
-steps v c zero s l h q =
-    let there : c ≡ c + 0 = omega arith in
-    subst (λ (t : ℕ). Comes node_kind v t (passed node_kind c 0 s) (l ++ [])) there
-    (subst (λ (u : NodeState). Comes node_kind v c u (l ++ [])) (passed_zero c s) (subst (Comes node_kind v c s) (sym (append-nil l)) h))
-steps v c (suc n) s l h q =
-    let there : c + n + 1 ≡ c + suc n = omega arith in
-    let u : NodeState = passed node_kind c n s in
-    let more = comes_more node_kind v (c + n) u (l ++ passed_rows node_kind c n s) (steps v c n s l h (λ i k. q i (omega arith))) (q n (omega arith)) in
-    subst (λ (t : ℕ). Comes node_kind v t (passed node_kind c (suc n) s) (l ++ passed_rows node_kind c (suc n) s)) there
-    (subst (λ (w : NodeState). Comes node_kind v (c + n + 1) w (l ++ passed_rows node_kind c (suc n) s)) (sym (passed_next c n s))
-    (subst (Comes node_kind v (c + n + 1) (begun_in (c + n) u)) (append_assoc l (passed_rows node_kind c n s) (begun_rows (c + n) u)) more))
-
 -- a run that came to where another begins
 pub joined : (v : Timed NodeState Row) (at c : ℕ) (s u : NodeState) (l k : List Row) → Comes node_kind v at s l
     → IsMidway (record { cycle = at; asking = false; state = s; rows = l }) c u k → IsMidway v c u k
@@ -101,7 +86,7 @@ joined v at c s u l k first h =
     let n : ℕ = c - at in
     let later = h.comes.later in
     let there : at + n ≡ c = omega arith in
-    let all = steps v at n s l first h.comes.quiet in
+    let all = comes_step node_kind v at n s l first h.comes.quiet in
     record {
       state = h.state;
       rows = h.rows;

@@ -7,6 +7,3 @@ mod hex;
 
 pub use decimal::{put_decimal, put_distance};
 pub use hex::{put_hex2, put_hex4};
-
-#[cfg(test)]
-mod tests;

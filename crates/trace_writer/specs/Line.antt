@@ -4,7 +4,7 @@ use Rattle.std.specs.Prelude.{ℕ, List, ◌++◌, codes, decimal}
 use Rattle.std.specs.List.{flat_map}
 use Rattle.avr_base.specs.Causes.{cause_text}
 use Rattle.avr_decoder.specs.Opcodes.{op_at}
-use Rattle.avr_disassembler.specs.Text.{text_of}
+use Rattle.avr_disassembler.specs.Text.{line_of}
 use Rattle.text_pieces.specs.Digits.{hex2, hex4}
 use Rattle.trace_rows.specs.declared.row.Row.{Row}
 use Rattle.trace_rows.specs.declared.row.Kind.{Kind}
@@ -20,7 +20,7 @@ state_text Stopped = codes "stopped"
 
 -- what stands behind the cycle and the node
 unfoldable pub kind_text : Kind → List ℕ
-kind_text (Instr pc word next) = codes "instr " ++ hex4 pc ++ codes " " ++ text_of (op_at word next)
+kind_text (Instr pc word next) = codes "instr " ++ line_of pc (op_at word next)
 kind_text (Enter vector back) = codes "enter " ++ hex4 vector ++ codes " " ++ hex4 back
 kind_text (Serial byte) = codes "serial " ++ hex2 byte
 kind_text (Sent byte) = codes "sent " ++ hex2 byte

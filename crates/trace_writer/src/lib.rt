@@ -5,6 +5,3 @@ mod line;
 mod trace;
 
 pub use trace::write;
-
-#[cfg(test)]
-mod tests;

@@ -5,7 +5,7 @@ ghost use Rattle.trace_writer.specs.Line.{kind_text, row_line, state_text};
 
 use arrayvec::ArrayString;
 use avr_decoder::decode;
-use avr_disassembler::put_text;
+use avr_disassembler::put_line;
 use text_pieces::{put_decimal, put_hex2, put_hex4};
 use trace_rows::{Kind, NodeEnd, Row};
 
@@ -34,9 +34,7 @@ fn put_kind<const N: usize>(kind: Kind, page: &mut ArrayString<N>)
     match kind {
         Kind::Instr { pc, word, next } => {
             page.push_str("instr ");
-            put_hex4(pc, page);
-            page.push_str(" ");
-            put_text(decode(word, next), page);
+            put_line(pc, decode(word, next), page);
         }
         Kind::Enter { vector, back } => {
             page.push_str("enter ");

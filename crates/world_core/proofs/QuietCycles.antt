@@ -45,7 +45,7 @@ module _ {S R : Type 0} (m : NodeKind S R) where
       }
 
   -- n quiet cycles at once
-  comes_step : (v : Timed S R) (c n : ℕ) (s : S) (l : List R) → Comes m v c s l → AllQuiet m c n s → Comes m v (c + n) (passed m c n s) (l ++ passed_rows m c n s)
+  pub comes_step : (v : Timed S R) (c n : ℕ) (s : S) (l : List R) → Comes m v c s l → AllQuiet m c n s → Comes m v (c + n) (passed m c n s) (l ++ passed_rows m c n s)
   comes_step v c zero s l h q =
       let e : c + 0 ≡ c = omega arith in
       subst (λ (t : ℕ). Comes m v t (passed m c 0 s) (l ++ [])) (sym e) (subst (λ (u : S). Comes m v c u (l ++ [])) (sym (passed_zero c s)) (subst (Comes m v c s) (sym (append-nil l)) h))
