@@ -107,6 +107,9 @@ expect "an empty device" 4 "avrora: /dev/null: scenario refused: Missing" - run 
 expect "an empty device for an image" 5 "avrora: /dev/null: image refused: NoEnd" - disasm /dev/null
 expect "a device without an end" 4 "avrora: /dev/zero: scenario refused: TooLong" - run /dev/zero
 expect "a device without an end for an image" 5 "avrora: /dev/zero: image refused: TooLong" - node /dev/zero 8
+printf ':00000001FF\n' >end.hex
+expect "an empty device for a source" 0 "" end.hex asm /dev/null
+expect "a device without an end for a source" 7 "avrora: /dev/zero: source refused: TooLong" - asm /dev/zero
 mkfifo pipe.toml
 yes >pipe.toml 2>/dev/null &
 expect "a pipe without an end" 4 "avrora: pipe.toml: scenario refused: TooLong" - run pipe.toml
