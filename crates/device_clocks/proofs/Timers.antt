@@ -1,10 +1,10 @@
 -- Many clocks of a timer's counter: the state after them, and the first that sets a flag.
-use Rattle.std.proofs.Common.{◌≡◌, ℕ, zero, suc, ◌<◌, ◌≤◌, ◌==◌, nat_lt, if◌then◌else◌, Bool, true, false, ◌||◌, Option, Some, None, IfSome, IsSome, is_some, refl, sym, ap, ◌∙◌, arith}
-use Rattle.std.proofs.lemmas.Bool.{eq-eqb, ne_eqb}
-use Rattle.device_clocks.specs.Clock.{many, cycles}
+use Rattle.std.proofs.Common.{◌≡◌, ℕ, zero, suc, ◌+◌, ◌-◌, ◌/◌, ◌<◌, ◌≤◌, ◌==◌, cond, ◌⊎◌, inl, inr, nat_lt, if◌then◌else◌, Bool, true, false, ◌||◌, Option, Some, None, IfSome, IsSome, is_some, refl, sym, ap, ◌∙◌, arith}
+use Rattle.std.proofs.lemmas.Bool.{cases_lt, eq-eqb, lt-ltb, ne_eqb}
+use Rattle.device_clocks.specs.Clock.{clocks_of, many, cycles}
 use Rattle.device_clocks.specs.Counter.{path}
 use Rattle.device_clocks.specs.First.{First, earlier_of, is_before, seen}
-use Rattle.device_clocks.proofs.Cycles.{cycles-halted, kept-until}
+use Rattle.device_clocks.proofs.Cycles.{cycles-clocks, cycles-halted, kept-until, many-zero}
 use Rattle.device_clocks.proofs.First.{first-same, first-either, seen-first}
 use Rattle.device_clocks.proofs.Calm.{flags_or-none}
 use Rattle.device_clocks.specs.declared.prescaler.Prescaler.{Prescaler}
@@ -123,6 +123,21 @@ unfolding way
 way-from c t i r e h = h ∙ ap (λ v. path c.maximum v c.count i) e
 
 -- ---- for the timers and the board above
+many-cycles : (d t n : ℕ) (c : TimerCounter) → divider c ≡ d → (0 < d) ⊎ (d ≤ 0) → cycles counter_cycle t n c ≡ many clock (clocks_of d t n) c
+many-cycles d t n c e (inl some) =
+    let on = lt-ltb 0 d some in
+    cycles-clocks divider clock keeps t n d c e some ∙ ap (λ k. many clock k c) (sym (ap (λ b. cond b ((t + n) / d - t / d) 0) on))
+many-cycles d t n c e (inr none) =
+    let zero_d : d ≡ 0 = omega arith in
+    cycles-halted divider clock keeps t n c (e ∙ zero_d) ∙ (sym (many-zero clock c) ∙ ap (λ k. many clock (clocks_of k t n) c) (sym zero_d))
+
+-- many cycles are so many clocks
+pub cycles-many : (t n : ℕ) (c : TimerCounter) → cycles counter_cycle t n c ≡ many clock (clocks_of (divider c) t n) c
+cycles-many t n c = many-cycles (divider c) t n c refl (cases_lt 0 (divider c))
+
+pub cycles-none : (t n k : ℕ) (c : TimerCounter) → k ≡ clocks_of (divider c) t n → k ≡ 0 → cycles counter_cycle t n c ≡ c
+cycles-none t n k c e none = cycles-many t n c ∙ (ap (λ i. many clock i c) (sym e ∙ none) ∙ many-zero clock c)
+
 -- a clock that sets no flag leaves the flags alone
 calm : (c : TimerCounter) → sets c ≡ false → (clock c).flags ≡ c.flags
 unfolding clock

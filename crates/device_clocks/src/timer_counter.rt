@@ -1,11 +1,11 @@
 // The counter of a timer, cycle by cycle and in leaps.
 ghost use Rattle.std.specs.Prelude.{◌≡◌, ◌≤◌, ◌<◌, ◌+◌, ◌-◌, ◌^◌, ◌↔◌, ◌==◌, true, false, is_some, None, Some, IsSome, IfSome};
-ghost use Rattle.device_clocks.specs.Clock.{cycles, many};
+ghost use Rattle.device_clocks.specs.Clock.{many};
 ghost use Rattle.device_clocks.specs.First.{First};
 ghost use Rattle.device_clocks.specs.Timer.{meets};
 
 use crate::{
-    Prescaler, TimerFlags, clocks_in, clocks_until, count_after, cycle_of_clock, earlier,
+    Prescaler, TimerFlags, clocks_until, count_after, cycle_of_clock, earlier,
     flag_after, has_clock, stepped,
 };
 
@@ -51,7 +51,7 @@ fn meets(blocked: bool, count: u16, value: Option<u16>) -> bool
 impl TimerCounter {
     ghost use Rattle.device_clocks.specs.Timer.{clock, counter_cycle, divider, meets, sets, sets_flag_at, top, way};
 
-    #[inline]
+    #[inline(always)]
     fn divider(&self) -> u64
         ensures value { result ≡ divider self.now }
         ensures most { result ≤ 1024 }
@@ -61,7 +61,7 @@ impl TimerCounter {
     }
 
     // The value at which it is cleared.
-    #[inline]
+    #[inline(always)]
     fn top(&self) -> u16
         ensures { result ≡ top self.now }
     {
@@ -78,7 +78,7 @@ impl TimerCounter {
     }
 
     // One clock.
-    #[inline]
+    #[inline(always)]
     #[tactic(auto, unfolding(crate::specs::Timer::clock))]
     fn clock(&mut self)
         requires count { self.old.count ≤ self.old.maximum }
@@ -101,7 +101,7 @@ impl TimerCounter {
     }
 
     /// One cycle, with the number `cycle`: a clock where the prescaler has one.
-    #[inline]
+    #[inline(always)]
     pub fn tick(&mut self, cycle: u64)
         requires early { cycle ≤ 2 ^ 41 }
         requires count { self.old.count ≤ self.old.maximum }
@@ -114,7 +114,7 @@ impl TimerCounter {
     }
 
     // After how many clocks, none blocked, the count is first at a value.
-    #[inline]
+    #[inline(always)]
     #[tactic(auto, unfolding(crate::specs::Timer::way))]
     fn reaches(&self, value: u16) -> Option<u64>
         requires count { self.now.count ≤ self.now.maximum }
@@ -127,7 +127,7 @@ impl TimerCounter {
     }
 
     // The same of a value, where there is one.
-    #[inline]
+    #[inline(always)]
     fn reaches_some(&self, value: Option<u16>) -> Option<u64>
         requires count { self.now.count ≤ self.now.maximum }
         requires top { top self.now ≤ self.now.maximum }
@@ -142,7 +142,7 @@ impl TimerCounter {
     }
 
     // So many clocks, none blocked.
-    #[inline]
+    #[inline(always)]
     fn run(&mut self, clocks: u64)
         requires free { self.old.blocked ≡ false }
         requires count { self.old.count ≤ self.old.maximum }
@@ -165,9 +165,9 @@ impl TimerCounter {
         };
     }
 
-    // So many clocks. A counter that a program reads again and again has none or one between two reads.
-    #[inline]
-    fn clock_times(&mut self, clocks: u64)
+    /// So many clocks, in a time that does not depend on their number.
+    #[inline(always)]
+    pub fn clock_times(&mut self, clocks: u64)
         requires count { self.old.count ≤ self.old.maximum }
         requires top { top self.old ≤ self.old.maximum }
         ensures state { self.new ≡ many clock clocks self.old }
@@ -186,23 +186,8 @@ impl TimerCounter {
         }
     }
 
-    /// The `n` cycles from `cycle` on at once: the same as that many ticks, in a time that does not depend on `n`.
-    #[inline]
-    pub fn leap(&mut self, cycle: u64, n: u64)
-        requires early { cycle + n ≤ 2 ^ 41 }
-        requires count { self.old.count ≤ self.old.maximum }
-        requires top { top self.old ≤ self.old.maximum }
-        ensures state { self.new ≡ cycles counter_cycle cycle n self.old }
-        ensures count { self.new.count ≤ self.old.maximum }
-    {
-        let d = self.divider();
-        if d > 0 {
-            self.clock_times(clocks_in(d, cycle, n));
-        }
-    }
-
     // After how many clocks the first follows that sets a flag, none blocked.
-    #[inline]
+    #[inline(always)]
     fn run_to_event(&self) -> Option<u64>
         requires free { self.now.blocked ≡ false }
         requires count { self.now.count ≤ self.now.maximum }
@@ -220,7 +205,7 @@ impl TimerCounter {
     }
 
     // After how many clocks the first follows that sets a flag.
-    #[inline]
+    #[inline(always)]
     fn clocks_to_event(&self) -> Option<u64>
         requires count { self.now.count ≤ self.now.maximum }
         requires top { top self.now ≤ self.now.maximum }
@@ -244,7 +229,7 @@ impl TimerCounter {
 
     /// The first cycle from `cycle` on whose tick sets a flag, be it set already or not: less than 2^28 cycles on.
     /// `None` exactly where it is halted.
-    #[inline]
+    #[inline(always)]
     pub fn next_event(&self, cycle: u64) -> Option<u64>
         requires early { cycle ≤ 2 ^ 40 }
         requires count { self.now.count ≤ self.now.maximum }

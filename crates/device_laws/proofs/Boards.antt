@@ -335,9 +335,9 @@ starts at h = get_or-map-range_with_len start_of 0 256 at at 0 h (omega arith)
 
 pub reset_kept : (byte_time : ℕ) → byte_time ≤ 4096 → IsBoard (reset_board byte_time)
 reset_kept byte_time f = record {
-  t0 = record { which_is = refl; select = omega arith; no_pin = refl };
+  t0 = record { prescaler_is = refl; select = omega arith; no_pin = refl };
   t1 = record { select = omega arith };
-  t2 = record { which_is = refl; select = omega arith; no_pin = refl };
+  t2 = record { prescaler_is = refl; select = omega arith; no_pin = refl };
   t3 = record { select = omega arith };
   usart = record { baud = omega arith; control_b = refl; control_c = omega arith; waits = λ e. e; received = λ e. e; lost = λ e. e };
   spi = record { master = λ e. e; transfers = λ e. e };

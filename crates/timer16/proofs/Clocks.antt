@@ -1,6 +1,7 @@
 -- Many cycles of a 16-bit timer are those of its counter.
 use Rattle.std.proofs.Common.{◌≡◌, ℕ, zero, suc, ◌+◌, ◌<◌, Bool, true, false, cond, refl, sym, ap, ◌∙◌}
-use Rattle.device_clocks.specs.Clock.{clocked, cycles}
+use Rattle.device_clocks.specs.Clock.{clocked, clocks_of, cycles, many}
+use Rattle.device_clocks.specs.Prescaler.{divider_of}
 use Rattle.device_clocks.specs.declared.prescaler.Prescaler.TheVariants.{Shared}
 use Rattle.device_clocks.specs.declared.timer_counter.TimerCounter.{TimerCounter}
 use Rattle.device_clocks.specs.Timer as counter
@@ -27,6 +28,14 @@ cycles-with t (suc n) tm =
     let u : Timer16 = cycles timer_cycle t n tm in
     ap (λ (c : TimerCounter). with_counter u (counter.counter_cycle (t + n) c)) (cycles-of t n tm)
     ∙ ap (λ (v : Timer16). with_counter v (counter.counter_cycle (t + n) (cycles counter.counter_cycle t n (counter_of tm)))) (cycles-with t n tm)
+
+-- a leap is so many clocks of the counter
+pub leap_many : (t n k : ℕ) (tm : Timer16) → k ≡ clocks_of (divider_of Shared tm.select) t n → with_counter tm (many counter.clock k (counter_of tm)) ≡ cycles timer_cycle t n tm
+leap_many t n k tm e =
+    ap (λ i. with_counter tm (many counter.clock i (counter_of tm))) e ∙ (sym (ap (with_counter tm) (counters.cycles-many t n (counter_of tm))) ∙ sym (cycles-with t n tm))
+
+pub leap_none : (t n k : ℕ) (tm : Timer16) → k ≡ clocks_of (divider_of Shared tm.select) t n → k ≡ 0 → tm ≡ cycles timer_cycle t n tm
+leap_none t n k tm e none = sym (cycles-with t n tm ∙ ap (with_counter tm) (counters.cycles-none t n k (counter_of tm) e none))
 
 -- ---- for the board above
 -- the flags stay until a cycle sets one

@@ -1,6 +1,6 @@
 // The timer, cycle by cycle and in leaps.
 ghost use Rattle.std.specs.Prelude.{◌≡◌, ◌≤◌, ◌<◌, ◌+◌, ◌-◌, ◌^◌, ◌↔◌, None, Some, IfSome};
-ghost use Rattle.device_clocks.specs.Clock.{cycles};
+ghost use Rattle.device_clocks.specs.Clock.{cycles, many};
 ghost use Rattle.device_clocks.specs.First.{First};
 ghost use Rattle.device_clocks.specs.Timer as counter;
 
@@ -60,7 +60,7 @@ impl Timer16 {
     }
 
     /// The flags.
-    #[inline]
+    #[inline(always)]
     pub fn flags(&self) -> TimerFlags
         ensures { result ≡ self.now.flags }
     {
@@ -75,7 +75,7 @@ impl Timer16 {
     }
 
     // Whether the counter is cleared at the first compare value.
-    #[inline]
+    #[inline(always)]
     fn clears_at_compare(&self) -> bool
         ensures { result ≡ clears_at_compare self.now.mode }
     {
@@ -83,7 +83,7 @@ impl Timer16 {
     }
 
     // Whether it is cleared at ICR.
-    #[inline]
+    #[inline(always)]
     pub(crate) fn clears_at_icr(&self) -> bool
         ensures { result ≡ clears_at_icr self.now.mode }
     {
@@ -91,7 +91,7 @@ impl Timer16 {
     }
 
     // Its counter, which goes to 65,535 at most.
-    #[inline]
+    #[inline(always)]
     fn counter(self) -> TimerCounter
         ensures value { result ≡ counter_of self }
         ensures maximum { result.maximum ≡ 65535 }
@@ -118,7 +118,7 @@ impl Timer16 {
     }
 
     // Takes over where its counter came to.
-    #[inline]
+    #[inline(always)]
     fn set_counter(&mut self, counter: TimerCounter)
         ensures { self.new ≡ with_counter self.old counter }
     {
@@ -137,14 +137,36 @@ impl Timer16 {
         self.set_counter(counter);
     }
 
-    /// The `n` cycles from `cycle` on at once: the same as that many ticks, in a time that does not depend on `n`.
+    // So many clocks.
+    #[inline(always)]
+    fn clock_times(&mut self, clocks: u64)
+        ensures { self.new ≡ with_counter self.old (many counter.clock clocks (counter_of self.old)) }
+    {
+        let mut counter = self.counter();
+        counter.clock_times(clocks);
+        self.set_counter(counter);
+    }
+
+    // The same, where they are many: apart, so that few cost little.
+    #[inline(never)]
+    fn clock_many_times(&mut self, clocks: u64)
+        ensures { self.new ≡ with_counter self.old (many counter.clock clocks (counter_of self.old)) }
+    {
+        self.clock_times(clocks);
+    }
+
+    /// The `n` cycles from `cycle` on at once: the same as that many ticks, in a time that does not depend on `n`. A
+    /// counter that a program reads again and again has no clock or one between two reads.
+    #[tactic(auto, using(crate::proofs::Clocks::leap_many, crate::proofs::Clocks::leap_none))]
     pub fn leap(&mut self, cycle: u64, n: u64)
         requires { cycle + n ≤ 2 ^ 41 }
         ensures { self.new ≡ cycles timer_cycle cycle n self.old }
     {
-        let mut counter = self.counter();
-        counter.leap(cycle, n);
-        self.set_counter(counter);
+        match Prescaler::Shared.clocks(self.select, cycle, n) {
+            0 => {}
+            1 => self.clock_times(1),
+            clocks => self.clock_many_times(clocks),
+        }
     }
 
     /// The first cycle from `cycle` on whose tick sets a flag, be it set already or not: less than 2^28 cycles on.
