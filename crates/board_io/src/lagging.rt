@@ -3,7 +3,7 @@ ghost use Rattle.std.specs.Prelude.{◌≡◌, ◌≤◌, ◌<◌, ◌+◌, ◌^
 ghost use Rattle.board_io.specs.Lagging.{IsIdle};
 
 use crate::ahead::Ahead;
-use crate::{Begun, Board, Cycle, Sleep};
+use crate::{Begun, Board, Clock, Sleep};
 use interrupt_unit::{Lines, Vector};
 use std::marker::Model;
 use world_core::Heard;
@@ -72,7 +72,7 @@ impl LaggingBoard {
     {
         let clock = self.board.clock.get();
         let n = most.min(self.ahead.next - clock);
-        self.board.clock = Cycle::new(clock + n);
+        self.board.clock = Clock::new(clock + n);
         n
     }
 
@@ -88,7 +88,7 @@ impl LaggingBoard {
         if n > self.ahead.next - clock {
             return false;
         }
-        self.board.clock = Cycle::new(clock + n);
+        self.board.clock = Clock::new(clock + n);
         true
     }
 

@@ -1,11 +1,12 @@
 // One cycle of the devices.
-ghost use Rattle.std.specs.Prelude.{◌≡◌, ◌≤◌, ◌^◌, true, is_some, IfSome};
+ghost use Rattle.std.specs.Prelude.{◌≡◌, ◌≤◌, ◌^◌, true, is_some};
 ghost use Rattle.usart_port.specs.Usart.{frame_ended};
 ghost use Rattle.timer16.specs.Timer as timer16;
 ghost use Rattle.timer8.specs.Timer as timer8;
 
 use crate::Board;
 use byte_radio::Moved;
+use device_clocks::ended_byte;
 use timer8::Timer8;
 use timer16::Timer16;
 use world_core::Heard;
@@ -53,7 +54,7 @@ fn tick_16(timer: &mut Timer16, cycle: u64)
 }
 
 impl Board {
-    ghost use Rattle.board_io.specs.Cycle.{board_answered, board_asks, board_begun, board_sends, board_serial, is_ask, moved, samples, sends, sent_by, timers_cycle, transfer_end, transferred, usart_cycle, with_moved};
+    ghost use Rattle.board_io.specs.Cycle.{board_answered, board_asks, board_begun, board_sends, board_serial, is_ask, moved, samples, sends, sent_by, timers_cycle, transfer_end, usart_cycle, with_moved};
 
     // The timers' part of a cycle.
     fn tick_timers(&mut self, cycle: u64)
@@ -77,23 +78,6 @@ impl Board {
             Some(byte) => {
                 self.usart.arrive(byte);
                 self.usart.tick(cycle)
-            }
-        }
-    }
-
-    // The byte of the transfer that ends in a cycle.
-    fn transferred(&self, cycle: u64) -> Option<u8>
-        ensures byte { result ≡ transferred self.now.spi.transfer cycle }
-        ensures runs { IfSome result (λ _. is_some self.now.spi.transfer ≡ true) }
-    {
-        match self.spi.transfer {
-            None => None,
-            Some(transfer) => {
-                if transfer.ends == cycle {
-                    Some(transfer.byte)
-                } else {
-                    None
-                }
             }
         }
     }
@@ -141,7 +125,7 @@ impl Board {
         ensures asks { result.asks ≡ samples (moved cycle self.old) }
         ensures waits { result.asks ≡ true → is_some self.new.spi.transfer ≡ true }
     {
-        match self.transferred(cycle) {
+        match ended_byte(self.spi.transfer, cycle) {
             None => Begun {
                 serial,
                 sent: None,
