@@ -9,3 +9,4 @@ pub mod Strides
 pub mod Untouched
 pub mod Clocks
 pub mod Sei
+pub mod Halting
