@@ -2,7 +2,7 @@
 -- DEC, LSR, ROR, ASR). Carry, half carry and overflow are comparisons of whole-number sums and differences with a
 -- range. Flags that a rule does not name stay.
 use Rattle.std.specs.Prelude.{ℕ, ◌+◌, ◌-◌, ◌*◌, ◌/◌, ◌%◌, ◌==◌, nat_lt, nat_le, ◌&&◌, Bool, true, false, if◌then◌else◌, pos, ◌+ℤ◌, ◌-ℤ◌}
-use Rattle.avr_base.specs.Flags.{has_flag, with_flag}
+use Rattle.avr_base.specs.Flags.{C, Z, has_flag, with_flag}
 use Rattle.avr_base.specs.declared.sreg.Sreg.{Sreg}
 use Rattle.alu_flags.specs.Whole.{one_if, xor, signed, overflows, with_sign, with_result, with_carries}
 
@@ -22,7 +22,7 @@ subtracted a b borrow keep_z s =
     let v = overflows 128 (signed 128 a -ℤ signed 128 b -ℤ pos (one_if borrow)) in
     let c = nat_lt a (b + one_if borrow) in
     let h = nat_lt (a % 16) (b % 16 + one_if borrow) in
-    let z = (if keep_z then has_flag s.bits 1 && r == 0 else r == 0) in
+    let z = (if keep_z then has_flag s.bits Z && r == 0 else r == 0) in
     (r, record { bits = with_sign (nat_le 128 r) z v (with_carries c h s.bits) })
 
 -- 0 - a
@@ -35,7 +35,7 @@ logical r s = record { bits = with_result 128 r false s.bits }
 
 -- one's complement: 255 - a, C set
 unfoldable pub complemented : ℕ → Sreg → ℕ × Sreg
-complemented a s = (255 - a, record { bits = with_result 128 (255 - a) false (with_flag s.bits 0 true) })
+complemented a s = (255 - a, record { bits = with_result 128 (255 - a) false (with_flag s.bits C true) })
 
 -- a + 1 and a - 1, C and H left
 unfoldable pub incremented : ℕ → Sreg → ℕ × Sreg
@@ -53,4 +53,4 @@ unfoldable pub shifted : Bool → ℕ → Sreg → ℕ × Sreg
 shifted top a s =
     let r = a / 2 + 128 * one_if top in
     let c = a % 2 == 1 in
-    (r, record { bits = with_result 128 r (xor (nat_le 128 r) c) (with_flag s.bits 0 c) })
+    (r, record { bits = with_result 128 r (xor (nat_le 128 r) c) (with_flag s.bits C c) })

@@ -1,7 +1,7 @@
 -- Whole numbers behind the flags (AVR Instruction Set Manual, "Status Register (SREG)"): the number that a byte or a
 -- word is in two's complement, the range of such numbers, and the flags N, Z, V and S of a result.
 use Rattle.std.specs.Prelude.{ℕ, ◌+◌, ◌*◌, ◌-◌, ◌==◌, nat_lt, nat_le, int_lt, not, ◌||◌, Bool, if◌then◌else◌, ℤ, pos, ◌-ℤ◌}
-use Rattle.avr_base.specs.Flags.{with_flag}
+use Rattle.avr_base.specs.Flags.{C, Z, N, V, S, H, with_flag}
 
 abbrev pub one_if : Bool → ℕ
 one_if b = if b then 1 else 0
@@ -19,7 +19,7 @@ overflows half z = int_lt z (pos 0 -ℤ pos half) || int_lt (pos (half - 1)) z
 
 -- N, Z and V in a flags byte, and S, which is N xor V
 unfoldable pub with_sign : Bool → Bool → Bool → ℕ → ℕ
-with_sign n z v s = with_flag (with_flag (with_flag (with_flag s 1 z) 2 n) 3 v) 4 (xor n v)
+with_sign n z v s = with_flag (with_flag (with_flag (with_flag s Z z) N n) V v) S (xor n v)
 
 -- these four alone, each at its place
 abbrev pub signs_of : Bool → Bool → Bool → ℕ
@@ -31,4 +31,4 @@ with_result half r v s = with_sign (nat_le half r) (r == 0) v s
 
 -- C and H in a flags byte
 unfoldable pub with_carries : Bool → Bool → ℕ → ℕ
-with_carries c h s = with_flag (with_flag s 0 c) 5 h
+with_carries c h s = with_flag (with_flag s C c) H h

@@ -2,7 +2,7 @@
 -- MULSU, FMUL, FMULS, FMULSU), by whole numbers. Flags that a rule does not name stay.
 use Rattle.std.specs.Prelude.{ℕ, ◌+◌, ◌-◌, ◌*◌, ◌%◌, ◌==◌, nat_lt, nat_le, Bool, true, false, if◌then◌else◌, ℤ, pos, ◌+ℤ◌, ◌-ℤ◌, ◌*ℤ◌, unsigned_abs}
 use Rattle.std.specs.Int.{int_rem_euclid}
-use Rattle.avr_base.specs.Flags.{with_flag}
+use Rattle.avr_base.specs.Flags.{C, Z, with_flag}
 use Rattle.avr_base.specs.declared.sreg.Sreg.{Sreg}
 use Rattle.alu_flags.specs.declared.products.MulKind.{MulKind}
 use Rattle.alu_flags.specs.declared.products.MulKind.TheVariants.{Mul, Muls, Mulsu, Fmul, Fmuls, Fmulsu}
@@ -13,13 +13,13 @@ unfoldable pub added_word : ℕ → ℕ → Sreg → ℕ × Sreg
 added_word a k s =
     let r = (a + k) % 65536 in
     let v = overflows 32768 (signed 32768 a +ℤ pos k) in
-    (r, record { bits = with_result 32768 r v (with_flag s.bits 0 (nat_le 65536 (a + k))) })
+    (r, record { bits = with_result 32768 r v (with_flag s.bits C (nat_le 65536 (a + k))) })
 
 unfoldable pub subtracted_word : ℕ → ℕ → Sreg → ℕ × Sreg
 subtracted_word a k s =
     let r = (a + 65536 - k) % 65536 in
     let v = overflows 32768 (signed 32768 a -ℤ pos k) in
-    (r, record { bits = with_result 32768 r v (with_flag s.bits 0 (nat_lt a k)) })
+    (r, record { bits = with_result 32768 r v (with_flag s.bits C (nat_lt a k)) })
 
 -- the factors: both unsigned, both in two's complement, or the first alone
 abbrev pub first_factor : MulKind → ℕ → ℤ
@@ -56,4 +56,4 @@ unfoldable pub multiplied : MulKind → ℕ → ℕ → Sreg → ℕ × Sreg
 multiplied kind a b s =
     let p = product kind a b in
     let r = (if is_fractional kind then 2 * p % 65536 else p) in
-    (r, record { bits = with_flag (with_flag s.bits 0 (nat_le 32768 p)) 1 (r == 0) })
+    (r, record { bits = with_flag (with_flag s.bits C (nat_le 32768 p)) Z (r == 0) })

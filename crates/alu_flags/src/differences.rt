@@ -4,7 +4,7 @@ ghost use Rattle.avr_base.specs.Flags.{has_flag};
 ghost use Rattle.alu_flags.specs.Whole.{one_if, signed};
 ghost use Rattle.alu_flags.specs.Bytes.{complemented, decremented, negated, subtracted};
 
-use crate::flags::{C, Z, carries, result, result_of};
+use crate::flags::{carries, result, result_of};
 use crate::signed::difference_overflows;
 use avr_base::Sreg;
 
@@ -28,7 +28,7 @@ fn borrows(a: u8, b: u8, borrow: bool) -> bool
 fn may_be_zero(keep: bool, s: Sreg) -> bool
     ensures { result ≡ (if keep then has_flag s.bits 1 else true) }
 {
-    if keep { s.has(Z) } else { true }
+    if keep { s.has(Sreg::Z) } else { true }
 }
 
 /// SUB, SBC, CP, CPC and their kin: `a - b - borrow` modulo 256, and the flags C, Z, N, V, S and H of that difference
@@ -52,7 +52,7 @@ pub fn com(a: u8, s: Sreg) -> (u8, Sreg)
     ensures { result ≡ complemented a s }
 {
     let r = 255 - a;
-    (r, result(s.with(C, true), r, false))
+    (r, result(s.with(Sreg::C, true), r, false))
 }
 
 /// NEG: `0 - a` modulo 256, with the flags of that difference; T and I stay.

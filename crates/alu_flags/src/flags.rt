@@ -5,19 +5,6 @@ ghost use Rattle.alu_flags.specs.Whole.{signs_of, with_carries, with_result, wit
 
 use avr_base::Sreg;
 
-// The flags of SREG that results set.
-pub const C: u8 = 0;
-
-pub const Z: u8 = 1;
-
-pub const N: u8 = 2;
-
-pub const V: u8 = 3;
-
-pub const S: u8 = 4;
-
-pub const H: u8 = 5;
-
 // N, Z and S of each result of a byte that did not overflow.
 pub static SIGNS: [u8; 256] = [
     0x02, 0x00, 0x00, 0x00, 0x00, 0x00, 0x00, 0x00, 0x00, 0x00, 0x00, 0x00, 0x00, 0x00, 0x00, 0x00,
@@ -97,7 +84,10 @@ pub fn result(s: Sreg, r: u8, v: bool) -> Sreg
 pub fn signs(s: Sreg, n: bool, z: bool, v: bool) -> Sreg
     ensures { result.bits ≡ with_sign n z v s.bits }
 {
-    s.with(Z, z).with(N, n).with(V, v).with(S, n != v)
+    s.with(Sreg::Z, z)
+        .with(Sreg::N, n)
+        .with(Sreg::V, v)
+        .with(Sreg::S, n != v)
 }
 
 // The carry and the half carry.
@@ -106,5 +96,5 @@ pub fn signs(s: Sreg, n: bool, z: bool, v: bool) -> Sreg
 pub fn carries(s: Sreg, c: bool, h: bool) -> Sreg
     ensures { result.bits ≡ with_carries c h s.bits }
 {
-    s.with(C, c).with(H, h)
+    s.with(Sreg::C, c).with(Sreg::H, h)
 }

@@ -3,7 +3,6 @@ ghost use Rattle.std.specs.Prelude.{◌≡◌, ◌*ℤ◌, pos, unsigned_abs};
 ghost use Rattle.std.specs.Int.{int_rem_euclid};
 ghost use Rattle.alu_flags.specs.Words.{first_factor, is_fractional, multiplied, product, second_factor};
 
-use crate::flags::{C, Z};
 use crate::signed::signed_byte;
 use avr_base::Sreg;
 
@@ -91,5 +90,5 @@ pub fn mul(kind: MulKind, a: u8, b: u8, s: Sreg) -> (u16, Sreg)
     } else {
         p
     };
-    (r, s.with(C, p >= 32768).with(Z, r == 0))
+    (r, s.with(Sreg::C, p >= 32768).with(Sreg::Z, r == 0))
 }

@@ -3,7 +3,7 @@ ghost use Rattle.std.specs.Prelude.{◌≡◌, false, nat_le};
 ghost use Rattle.avr_base.specs.Flags.{has_flag};
 ghost use Rattle.alu_flags.specs.Bytes.{shifted};
 
-use crate::flags::{C, result};
+use crate::flags::result;
 use avr_base::Sreg;
 
 #[inline]
@@ -14,7 +14,7 @@ fn shift(top: bool, a: u8, s: Sreg) -> (u8, Sreg)
     let r = a / 2 + if top { 128 } else { 0 };
     let c = a % 2 == 1;
     let v = (r >= 128) != c;
-    (r, result(s.with(C, c), r, v))
+    (r, result(s.with(Sreg::C, c), r, v))
 }
 
 /// LSR: `a` shifted right by one, bit 7 cleared. C is the bit shifted out, N and Z are those of the result, V is N xor
@@ -31,7 +31,7 @@ pub fn lsr(a: u8, s: Sreg) -> (u8, Sreg)
 pub fn ror(a: u8, s: Sreg) -> (u8, Sreg)
     ensures { result ≡ shifted (has_flag s.bits 0) a s }
 {
-    shift(s.has(C), a, s)
+    shift(s.has(Sreg::C), a, s)
 }
 
 /// ASR: `a` shifted right by one, bit 7 kept. The flags are as those of [`lsr`].

@@ -2,7 +2,7 @@
 ghost use Rattle.std.specs.Prelude.{◌≡◌};
 ghost use Rattle.alu_flags.specs.Words.{added_word, subtracted_word};
 
-use crate::flags::{C, signs};
+use crate::flags::signs;
 use crate::signed::{overflows_word, signed_word};
 use avr_base::Sreg;
 
@@ -15,7 +15,7 @@ pub fn adiw(a: u16, k: u8, s: Sreg) -> (u16, Sreg)
     let sum = u32::from(a) + u32::from(k);
     let r = (sum % 65536) as u16;
     let v = overflows_word(signed_word(a) + i32::from(k));
-    (r, signs(s.with(C, sum >= 65536), r >= 32768, r == 0, v))
+    (r, signs(s.with(Sreg::C, sum >= 65536), r >= 32768, r == 0, v))
 }
 
 /// SBIW: `a - k` modulo 65,536, and C, Z, N, V and S of that difference; H, T and I stay.
@@ -27,5 +27,5 @@ pub fn sbiw(a: u16, k: u8, s: Sreg) -> (u16, Sreg)
     let k = u16::from(k);
     let r = a.wrapping_sub(k);
     let v = overflows_word(signed_word(a) - i32::from(k));
-    (r, signs(s.with(C, a < k), r >= 32768, r == 0, v))
+    (r, signs(s.with(Sreg::C, a < k), r >= 32768, r == 0, v))
 }

@@ -1,7 +1,7 @@
 -- What the instructions on registers do, one definition for each shape of instruction (AVR Instruction Set Manual):
 -- which operands a rule of results and flags is given, and where its result goes.
 use Rattle.std.specs.Prelude.{ℕ, ◌+◌, ◌*◌, ◌/◌, ◌%◌, Bool, true, false, slice_index}
-use Rattle.avr_base.specs.Flags.{has_flag, with_flag}
+use Rattle.avr_base.specs.Flags.{C, T, has_flag, with_flag}
 use Rattle.avr_base.specs.declared.sreg.Sreg.{Sreg}
 use Rattle.data_space.specs.declared.cpu.Cpu.{Cpu}
 use Rattle.data_space.specs.Core.{pair_at, with_pair, with_reg}
@@ -10,7 +10,7 @@ use Rattle.alu_flags.specs.Bytes.{added, subtracted, logical}
 use Rattle.alu_flags.specs.Words.{multiplied}
 
 abbrev pub carry : Cpu → Bool
-carry cpu = has_flag cpu.sreg.bits 0
+carry cpu = has_flag cpu.sreg.bits C
 
 -- with this flags byte
 abbrev pub with_sreg : Sreg → Cpu → Cpu
@@ -32,16 +32,16 @@ unfoldable pub subtracts : ℕ → ℕ → Cpu → Cpu
 subtracts d b cpu = to_reg d (subtracted (slice_index cpu.r d) b false false cpu.sreg) cpu
 
 -- rD becomes rD less a byte and the carry, with Z kept
-unfoldable pub subtracts_on : ℕ → ℕ → Cpu → Cpu
-subtracts_on d b cpu = to_reg d (subtracted (slice_index cpu.r d) b (carry cpu) true cpu.sreg) cpu
+unfoldable pub subtracts_with_carry : ℕ → ℕ → Cpu → Cpu
+subtracts_with_carry d b cpu = to_reg d (subtracted (slice_index cpu.r d) b (carry cpu) true cpu.sreg) cpu
 
 -- the flags of rD less a byte
 unfoldable pub compares : ℕ → ℕ → Cpu → Cpu
 compares d b cpu = with_sreg (subtracted (slice_index cpu.r d) b false false cpu.sreg).1 cpu
 
 -- the flags of rD less a byte and the carry, with Z kept
-unfoldable pub compares_on : ℕ → ℕ → Cpu → Cpu
-compares_on d b cpu = with_sreg (subtracted (slice_index cpu.r d) b (carry cpu) true cpu.sreg).1 cpu
+unfoldable pub compares_with_carry : ℕ → ℕ → Cpu → Cpu
+compares_with_carry d b cpu = with_sreg (subtracted (slice_index cpu.r d) b (carry cpu) true cpu.sreg).1 cpu
 
 -- rD becomes a bitwise result
 unfoldable pub becomes_bits : ℕ → ℕ → Cpu → Cpu
@@ -65,10 +65,10 @@ sets_flag s on cpu = with_sreg (record { bits = with_flag cpu.sreg.bits s on }) 
 
 -- bit b of rD becomes the flag T, and T becomes bit b of rD: a byte's bits are numbered as flags are
 unfoldable pub loads_bit : ℕ → ℕ → Cpu → Cpu
-loads_bit d b cpu = with_reg d (with_flag (slice_index cpu.r d) b (has_flag cpu.sreg.bits 6)) cpu
+loads_bit d b cpu = with_reg d (with_flag (slice_index cpu.r d) b (has_flag cpu.sreg.bits T)) cpu
 
 abbrev pub stores_bit : ℕ → ℕ → Cpu → Cpu
-stores_bit d b cpu = sets_flag 6 (has_flag (slice_index cpu.r d) b) cpu
+stores_bit d b cpu = sets_flag T (has_flag (slice_index cpu.r d) b) cpu
 
 -- the halves of rD are exchanged
 unfoldable pub swaps : ℕ → Cpu → Cpu

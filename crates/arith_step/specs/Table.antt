@@ -9,7 +9,8 @@ use Rattle.alu_flags.specs.Words.{added_word, subtracted_word}
 use Rattle.data_space.specs.declared.bus.Done.{Done}
 use Rattle.data_space.specs.declared.cpu.Cpu.{Cpu}
 use Rattle.data_space.specs.Core.{advanced, pair_at, with_pair, with_reg}
-use Rattle.arith_step.specs.Shapes.{carry, adds, subtracts, subtracts_on, compares, compares_on, becomes_bits, becomes_by, pair_becomes_by, multiplies, sets_flag, loads_bit, stores_bit, swaps}
+use Rattle.data_space.specs.Sequence.{done}
+use Rattle.arith_step.specs.Shapes.{carry, adds, subtracts, subtracts_with_carry, compares, compares_with_carry, becomes_bits, becomes_by, pair_becomes_by, multiplies, sets_flag, loads_bit, stores_bit, swaps}
 
 -- registers and flags after an instruction
 unfoldable pub effect : Op → Cpu → Cpu
@@ -17,11 +18,11 @@ effect (op.Add d r) cpu = adds d (slice_index cpu.r r) false cpu
 effect (op.Adc d r) cpu = adds d (slice_index cpu.r r) (carry cpu) cpu
 effect (op.Sub d r) cpu = subtracts d (slice_index cpu.r r) cpu
 effect (op.Subi d k) cpu = subtracts d k cpu
-effect (op.Sbc d r) cpu = subtracts_on d (slice_index cpu.r r) cpu
-effect (op.Sbci d k) cpu = subtracts_on d k cpu
+effect (op.Sbc d r) cpu = subtracts_with_carry d (slice_index cpu.r r) cpu
+effect (op.Sbci d k) cpu = subtracts_with_carry d k cpu
 effect (op.Cp d r) cpu = compares d (slice_index cpu.r r) cpu
 effect (op.Cpi d k) cpu = compares d k cpu
-effect (op.Cpc d r) cpu = compares_on d (slice_index cpu.r r) cpu
+effect (op.Cpc d r) cpu = compares_with_carry d (slice_index cpu.r r) cpu
 effect (op.And d r) cpu = becomes_bits d (bit_and (slice_index cpu.r d) (slice_index cpu.r r)) cpu
 effect (op.Andi d k) cpu = becomes_bits d (bit_and (slice_index cpu.r d) k) cpu
 effect (op.Or d r) cpu = becomes_bits d (bit_or (slice_index cpu.r d) (slice_index cpu.r r)) cpu
@@ -70,4 +71,4 @@ arith_cycles (op.Fmulsu d r) = 2
 arith_cycles _ = 1
 
 abbrev pub arith_done : Op → Done
-arith_done instruction = record { cycles = arith_cycles instruction; sleep = false }
+arith_done instruction = done (arith_cycles instruction)

@@ -5,10 +5,11 @@ ghost use Rattle.avr_decoder.specs.declared.op.Class.TheVariants.{Arith};
 ghost use Rattle.arith_step.specs.Table.{arith_cpu, arith_cycles, arith_done, effect};
 
 use crate::shapes::{
-    C, add, compare, compare_on, copy, copy_pair, load_bit, multiply, put_bits, put_byte, put_word,
-    set_flag, store_bit, subtract, subtract_on, swap,
+    add, compare, compare_with_carry, copy, copy_pair, load_bit, multiply, put_bits, put_byte, put_word,
+    set_flag, store_bit, subtract, subtract_with_carry, swap,
 };
 use alu_flags::{MulKind, adiw, asr, com, dec, inc, lsr, neg, ror, sbiw};
+use avr_base::Sreg;
 use avr_decoder::Op;
 use data_space::{Cpu, Done};
 
@@ -40,14 +41,14 @@ fn apply(op: Op, cpu: &mut Cpu) -> u8
 {
     match op {
         Op::Add { d, r } => add(d, cpu.reg(r), false, cpu),
-        Op::Adc { d, r } => add(d, cpu.reg(r), cpu.sreg.has(C), cpu),
+        Op::Adc { d, r } => add(d, cpu.reg(r), cpu.sreg.has(Sreg::C), cpu),
         Op::Sub { d, r } => subtract(d, cpu.reg(r), cpu),
         Op::Subi { d, k } => subtract(d, k, cpu),
-        Op::Sbc { d, r } => subtract_on(d, cpu.reg(r), cpu),
-        Op::Sbci { d, k } => subtract_on(d, k, cpu),
+        Op::Sbc { d, r } => subtract_with_carry(d, cpu.reg(r), cpu),
+        Op::Sbci { d, k } => subtract_with_carry(d, k, cpu),
         Op::Cp { d, r } => compare(d, cpu.reg(r), cpu),
         Op::Cpi { d, k } => compare(d, k, cpu),
-        Op::Cpc { d, r } => compare_on(d, cpu.reg(r), cpu),
+        Op::Cpc { d, r } => compare_with_carry(d, cpu.reg(r), cpu),
         Op::And { d, r } => put_bits(d, cpu.reg(d) & cpu.reg(r), cpu),
         Op::Andi { d, k } => put_bits(d, cpu.reg(d) & k, cpu),
         Op::Or { d, r } => put_bits(d, cpu.reg(d) | cpu.reg(r), cpu),

@@ -3,16 +3,11 @@
 // it are read from it.
 ghost use Rattle.std.specs.Prelude.{◌≡◌, ◌<◌};
 ghost use Rattle.data_space.specs.Core.{pair_at, with_pair, with_reg};
-ghost use Rattle.arith_step.specs.Shapes.{adds, becomes_bits, compares, compares_on, loads_bit, multiplies, sets_flag, stores_bit, subtracts, subtracts_on, swaps, to_pair, to_reg};
+ghost use Rattle.arith_step.specs.Shapes.{adds, becomes_bits, compares, compares_with_carry, loads_bit, multiplies, sets_flag, stores_bit, subtracts, subtracts_with_carry, swaps, to_pair, to_reg};
 
 use alu_flags::MulKind;
 use avr_base::{Reg, Sreg};
 use data_space::Cpu;
-
-// The flags that instructions read.
-pub const C: u8 = 0;
-
-const T: u8 = 6;
 
 // The register r0, the lower one of the pair that products go to.
 #[inline]
@@ -63,12 +58,12 @@ pub fn subtract(d: Reg, b: u8, cpu: &mut Cpu) -> u8
 }
 
 #[inline]
-#[tactic(auto, unfolding(crate::specs::Shapes::subtracts_on))]
-pub fn subtract_on(d: Reg, b: u8, cpu: &mut Cpu) -> u8
-    ensures core { cpu.new ≡ subtracts_on d b cpu.old }
+#[tactic(auto, unfolding(crate::specs::Shapes::subtracts_with_carry))]
+pub fn subtract_with_carry(d: Reg, b: u8, cpu: &mut Cpu) -> u8
+    ensures core { cpu.new ≡ subtracts_with_carry d b cpu.old }
     ensures cycles { result ≡ 1 }
 {
-    let computed = alu_flags::sub(cpu.reg(d), b, cpu.sreg.has(C), true, cpu.sreg);
+    let computed = alu_flags::sub(cpu.reg(d), b, cpu.sreg.has(Sreg::C), true, cpu.sreg);
     put_byte(d, computed, cpu)
 }
 
@@ -83,12 +78,12 @@ pub fn compare(d: Reg, b: u8, cpu: &mut Cpu) -> u8
 }
 
 #[inline]
-#[tactic(auto, unfolding(crate::specs::Shapes::compares_on))]
-pub fn compare_on(d: Reg, b: u8, cpu: &mut Cpu) -> u8
-    ensures core { cpu.new ≡ compares_on d b cpu.old }
+#[tactic(auto, unfolding(crate::specs::Shapes::compares_with_carry))]
+pub fn compare_with_carry(d: Reg, b: u8, cpu: &mut Cpu) -> u8
+    ensures core { cpu.new ≡ compares_with_carry d b cpu.old }
     ensures cycles { result ≡ 1 }
 {
-    cpu.sreg = alu_flags::sub(cpu.reg(d), b, cpu.sreg.has(C), true, cpu.sreg).1;
+    cpu.sreg = alu_flags::sub(cpu.reg(d), b, cpu.sreg.has(Sreg::C), true, cpu.sreg).1;
     1
 }
 
@@ -131,7 +126,7 @@ pub fn load_bit(d: Reg, b: u8, cpu: &mut Cpu) -> u8
     ensures cycles { result ≡ 1 }
 {
     let byte = Sreg { bits: cpu.reg(d) };
-    cpu.set_reg(d, byte.with(b, cpu.sreg.has(T)).bits);
+    cpu.set_reg(d, byte.with(b, cpu.sreg.has(Sreg::T)).bits);
     1
 }
 
@@ -142,7 +137,7 @@ pub fn store_bit(d: Reg, b: u8, cpu: &mut Cpu) -> u8
     ensures cycles { result ≡ 1 }
 {
     let byte = Sreg { bits: cpu.reg(d) };
-    set_flag(T, byte.has(b), cpu)
+    set_flag(Sreg::T, byte.has(b), cpu)
 }
 
 #[inline]

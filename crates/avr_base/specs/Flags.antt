@@ -1,6 +1,31 @@
 -- The flags of SREG: a byte whose bit i is flag i (AVR Instruction Set Manual, "Status Register (SREG)").
--- Flags 0 to 7 are C carry, Z zero, N negative, V overflow, S sign, H half carry, T transfer, I interrupts.
 use Rattle.std.specs.Prelude.{ℕ, ◌+◌, ◌*◌, ◌/◌, ◌%◌, ◌^◌, ◌==◌, Bool, if◌then◌else◌}
+
+-- the numbers of the flags: carry, zero, negative, two's complement overflow, sign, half carry, the bit copy storage, and
+-- the global interrupt enable
+abbrev pub C : ℕ
+C = 0
+
+abbrev pub Z : ℕ
+Z = 1
+
+abbrev pub N : ℕ
+N = 2
+
+abbrev pub V : ℕ
+V = 3
+
+abbrev pub S : ℕ
+S = 4
+
+abbrev pub H : ℕ
+H = 5
+
+abbrev pub T : ℕ
+T = 6
+
+abbrev pub I : ℕ
+I = 7
 
 -- whether flag i of a flags byte is set
 abbrev pub has_flag : ℕ → ℕ → Bool

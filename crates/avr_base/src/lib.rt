@@ -2,15 +2,14 @@
 //! node, and the answer to want of memory.
 #![tactic(auto)]
 
+mod address;
 mod memory;
 mod reg;
 mod sreg;
 mod stop;
 
+pub use address::IO_START;
 pub use memory::NoMemory;
 pub use reg::Reg;
 pub use sreg::Sreg;
 pub use stop::StopCause;
-
-#[cfg(test)]
-mod tests;

@@ -10,6 +10,30 @@ pub struct Sreg {
 }
 
 impl Sreg {
+    /// The number of C, the carry flag.
+    pub const C: u8 = 0;
+
+    /// The number of Z, the zero flag.
+    pub const Z: u8 = 1;
+
+    /// The number of N, the negative flag.
+    pub const N: u8 = 2;
+
+    /// The number of V, the two's complement overflow flag.
+    pub const V: u8 = 3;
+
+    /// The number of S, the sign flag.
+    pub const S: u8 = 4;
+
+    /// The number of H, the half carry flag.
+    pub const H: u8 = 5;
+
+    /// The number of T, the bit copy storage.
+    pub const T: u8 = 6;
+
+    /// The number of I, the global interrupt enable.
+    pub const I: u8 = 7;
+
     /// Whether flag `i` (0 to 7) is set.
     #[inline]
     pub fn has(self, i: u8) -> bool

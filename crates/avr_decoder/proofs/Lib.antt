@@ -3,6 +3,7 @@ pub mod Branches
 pub mod Constants
 pub mod Displaced
 pub mod Loads
+pub mod Long
 pub mod Rows
 pub mod Singles
 pub mod Spelled

@@ -2,7 +2,7 @@
 use Rattle.std.proofs.Common.{[], ◌∷◌, ◌≡◌, ℕ, ◌+◌, ◌*◌, ◌/◌, ◌%◌, ◌≢◌, refl, arith}
 use Rattle.avr_decoder.specs.declared.op.Op.TheVariants as op
 use Rattle.avr_decoder.specs.Opcodes.{op_at}
-use Rattle.avr_decoder.proofs.Spelled.{middle, third}
+use Rattle.avr_decoder.proofs.Spelled.{middle, flag}
 use Rattle.avr_decoder.proofs.Rows.{numbered, number_of, by_top, with_field, none_of, none_is}
 
 pub com_at : (w next : ℕ) → w / 512 ≡ 74 → w % 16 ≡ 0 → op_at w next ≡ op.Com (middle w)
@@ -37,11 +37,11 @@ pub dec_at : (w next : ℕ) → w / 512 ≡ 74 → w % 16 ≡ 10 → op_at w nex
 unfolding numbered number_of
 dec_at w next e f = with_field (λ w. w % 16) 56 37888 512 10 w next refl (omega arith) (omega arith) f
 
-pub bset_at : (w next : ℕ) → w / 128 ≡ 296 → w % 16 ≡ 8 → op_at w next ≡ op.Bset (third w)
+pub bset_at : (w next : ℕ) → w / 128 ≡ 296 → w % 16 ≡ 8 → op_at w next ≡ op.Bset (flag w)
 unfolding numbered number_of
 bset_at w next e f = with_field (λ w. w % 16) 57 37888 128 8 w next refl (omega arith) (omega arith) f
 
-pub bclr_at : (w next : ℕ) → w / 128 ≡ 297 → w % 16 ≡ 8 → op_at w next ≡ op.Bclr (third w)
+pub bclr_at : (w next : ℕ) → w / 128 ≡ 297 → w % 16 ≡ 8 → op_at w next ≡ op.Bclr (flag w)
 unfolding numbered number_of
 bclr_at w next e f = with_field (λ w. w % 16) 58 38016 128 8 w next refl (omega arith) (omega arith) f
 

@@ -1,60 +1,58 @@
--- The fields of an opcode word, each by a pattern that has it.
-use Rattle.std.proofs.Common.{ℕ}
-use Rattle.std.specs.Prelude.{codes}
-use Rattle.avr_decoder.specs.Opcodes.{spelled, d, r, K, A, q, k}
+-- The fields of an opcode word, by the names that they have in `src/fields.rt`, each by a pattern that has it.
+use Rattle.std.proofs.Common.{ℕ, ◌+◌, ◌*◌}
+use Rattle.std.specs.Prelude.{ℤ, codes}
+use Rattle.avr_decoder.specs.Opcodes.{spelled, signed, d, r, K, A, b, s, q, k}
 
--- the five bits 8 to 4: register d, or r of the stores
 abbrev pub middle : ℕ → ℕ
 middle w = spelled d (codes "000011rdddddrrrr") w
 
--- bit 9 and the four low bits: register r of two
 abbrev pub split : ℕ → ℕ
 split w = spelled r (codes "000011rdddddrrrr") w
 
--- bits 7 to 4: d of four bits
-abbrev pub fourth : ℕ → ℕ
-fourth w = spelled d (codes "0011KKKKddddKKKK") w
+abbrev pub upper_d : ℕ → ℕ
+upper_d w = 16 + spelled d (codes "0011KKKKddddKKKK") w
 
--- the four low bits: r of four bits
-abbrev pub low_fourth : ℕ → ℕ
-low_fourth w = spelled r (codes "00000001ddddrrrr") w
+abbrev pub upper_r : ℕ → ℕ
+upper_r w = 16 + spelled r (codes "00000010ddddrrrr") w
 
--- bits 6 to 4: d of three bits, or s of BSET and BCLR
-abbrev pub third : ℕ → ℕ
-third w = spelled d (codes "000000110ddd0rrr") w
+abbrev pub pair_d : ℕ → ℕ
+pair_d w = 2 * spelled d (codes "00000001ddddrrrr") w
 
--- the three low bits: r of three bits, b, or s of the branches
-abbrev pub low_third : ℕ → ℕ
-low_third w = spelled r (codes "000000110ddd0rrr") w
+abbrev pub pair_r : ℕ → ℕ
+pair_r w = 2 * spelled r (codes "00000001ddddrrrr") w
 
--- bits 5 and 4: the pair of ADIW and SBIW
-abbrev pub pair : ℕ → ℕ
-pair w = spelled d (codes "10010110KKddKKKK") w
+abbrev pub short_d : ℕ → ℕ
+short_d w = 16 + spelled d (codes "000000110ddd0rrr") w
 
--- K of eight bits
+abbrev pub short_r : ℕ → ℕ
+short_r w = 16 + spelled r (codes "000000110ddd0rrr") w
+
+abbrev pub word_pair : ℕ → ℕ
+word_pair w = 24 + 2 * spelled d (codes "10010110KKddKKKK") w
+
 abbrev pub constant : ℕ → ℕ
 constant w = spelled K (codes "0011KKKKddddKKKK") w
 
--- K of six bits
 abbrev pub short_constant : ℕ → ℕ
 short_constant w = spelled K (codes "10010110KKddKKKK") w
 
--- q
 abbrev pub displacement : ℕ → ℕ
 displacement w = spelled q (codes "10q0qq0ddddd0qqq") w
 
--- A of five bits
 abbrev pub low_address : ℕ → ℕ
 low_address w = spelled A (codes "10011000AAAAAbbb") w
 
--- A of six bits
 abbrev pub address : ℕ → ℕ
 address w = spelled A (codes "10110AAdddddAAAA") w
 
--- k of twelve bits
-abbrev pub jump : ℕ → ℕ
-jump w = spelled k (codes "1100kkkkkkkkkkkk") w
+abbrev pub low_three : ℕ → ℕ
+low_three w = spelled b (codes "10011000AAAAAbbb") w
 
--- k of seven bits
-abbrev pub branch : ℕ → ℕ
-branch w = spelled k (codes "111100kkkkkkksss") w
+abbrev pub flag : ℕ → ℕ
+flag w = spelled s (codes "100101000sss1000") w
+
+abbrev pub jump_offset : ℕ → ℤ
+jump_offset w = signed 12 (spelled k (codes "1100kkkkkkkkkkkk") w)
+
+abbrev pub branch_offset : ℕ → ℤ
+branch_offset w = signed 7 (spelled k (codes "111100kkkkkkksss") w)

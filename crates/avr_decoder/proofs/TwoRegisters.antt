@@ -1,35 +1,35 @@
 -- Words 0x0000 to 0x2FFF: NOP, products and the instructions over two registers.
-use Rattle.std.proofs.Common.{◌≡◌, ℕ, ◌+◌, ◌*◌, ◌/◌, ◌%◌, ◌≢◌, refl, arith}
+use Rattle.std.proofs.Common.{◌≡◌, ℕ, ◌/◌, ◌%◌, ◌≢◌, refl, arith}
 use Rattle.avr_decoder.specs.declared.op.Op.TheVariants as op
 use Rattle.avr_decoder.specs.Opcodes.{op_at}
-use Rattle.avr_decoder.proofs.Spelled.{middle, split, fourth, low_fourth, third, low_third}
+use Rattle.avr_decoder.proofs.Spelled.{middle, split, upper_d, upper_r, pair_d, pair_r, short_d, short_r}
 use Rattle.avr_decoder.proofs.Rows.{numbered, number_of, by_top, with_field}
 
 pub nop_at : (w next : ℕ) → w ≡ 0 → op_at w next ≡ op.Nop
 unfolding numbered number_of
 nop_at w next e = by_top 0 16 0 0 w next refl refl (omega arith)
 
-pub movw_at : (w next : ℕ) → w / 256 ≡ 1 → op_at w next ≡ op.Movw (2 * fourth w) (2 * low_fourth w)
+pub movw_at : (w next : ℕ) → w / 256 ≡ 1 → op_at w next ≡ op.Movw (pair_d w) (pair_r w)
 unfolding numbered number_of
 movw_at w next e = by_top 1 8 8 1 w next refl refl e
 
-pub muls_at : (w next : ℕ) → w / 256 ≡ 2 → op_at w next ≡ op.Muls (16 + fourth w) (16 + low_fourth w)
+pub muls_at : (w next : ℕ) → w / 256 ≡ 2 → op_at w next ≡ op.Muls (upper_d w) (upper_r w)
 unfolding numbered number_of
 muls_at w next e = by_top 2 8 8 2 w next refl refl e
 
-pub mulsu_at : (w next : ℕ) → w / 128 ≡ 6 → w / 8 % 2 ≡ 0 → op_at w next ≡ op.Mulsu (16 + third w) (16 + low_third w)
+pub mulsu_at : (w next : ℕ) → w / 128 ≡ 6 → w / 8 % 2 ≡ 0 → op_at w next ≡ op.Mulsu (short_d w) (short_r w)
 unfolding numbered number_of
 mulsu_at w next e f = with_field (λ w. w / 8 % 2) 3 768 128 0 w next refl (omega arith) (omega arith) f
 
-pub fmul_at : (w next : ℕ) → w / 128 ≡ 6 → w / 8 % 2 ≡ 1 → op_at w next ≡ op.Fmul (16 + third w) (16 + low_third w)
+pub fmul_at : (w next : ℕ) → w / 128 ≡ 6 → w / 8 % 2 ≡ 1 → op_at w next ≡ op.Fmul (short_d w) (short_r w)
 unfolding numbered number_of
 fmul_at w next e f = with_field (λ w. w / 8 % 2) 4 768 128 1 w next refl (omega arith) (omega arith) f
 
-pub fmuls_at : (w next : ℕ) → w / 128 ≡ 7 → w / 8 % 2 ≡ 0 → op_at w next ≡ op.Fmuls (16 + third w) (16 + low_third w)
+pub fmuls_at : (w next : ℕ) → w / 128 ≡ 7 → w / 8 % 2 ≡ 0 → op_at w next ≡ op.Fmuls (short_d w) (short_r w)
 unfolding numbered number_of
 fmuls_at w next e f = with_field (λ w. w / 8 % 2) 5 896 128 0 w next refl (omega arith) (omega arith) f
 
-pub fmulsu_at : (w next : ℕ) → w / 128 ≡ 7 → w / 8 % 2 ≡ 1 → op_at w next ≡ op.Fmulsu (16 + third w) (16 + low_third w)
+pub fmulsu_at : (w next : ℕ) → w / 128 ≡ 7 → w / 8 % 2 ≡ 1 → op_at w next ≡ op.Fmulsu (short_d w) (short_r w)
 unfolding numbered number_of
 fmulsu_at w next e f = with_field (λ w. w / 8 % 2) 6 896 128 1 w next refl (omega arith) (omega arith) f
 

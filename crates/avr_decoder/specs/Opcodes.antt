@@ -206,16 +206,3 @@ op_at word next =
         | row ∷ _ ↦ row.made (λ letter. spelled letter row.pattern word) next
       ]
     ]
-
--- LDS, STS, JMP and CALL take a second word
-abbrev pub two_word_patterns : List (List ℕ)
-two_word_patterns =
-    codes "1001000ddddd0000" ∷
-    codes "1001001rrrrr0000" ∷
-    codes "1001010kkkkk110k" ∷
-    codes "1001010kkkkk111k" ∷
-    []
-
--- whether a word is the first of an instruction of two words
-unfoldable pub is_two_words : ℕ → Bool
-is_two_words word = matches_any two_word_patterns (bits 16 word)

@@ -1,6 +1,7 @@
 // The instruction that a program word is, told by fields of its bits.
 ghost use Rattle.std.specs.Prelude.{◌≡◌, ◌≢◌, ◌/◌, ◌%◌, ◌≤◌, ◌==◌, length, if◌then◌else◌};
-ghost use Rattle.avr_decoder.specs.Opcodes.{op_at, is_two_words, rows_at};
+ghost use Rattle.avr_decoder.specs.Opcodes.{op_at, rows_at};
+ghost use Rattle.avr_decoder.specs.Words.{is_two_words};
 ghost use Rattle.avr_decoder.specs.declared.op.Op.TheVariants.{Undefined};
 
 use crate::Op;
@@ -25,7 +26,7 @@ pub fn decode(word: u16, next: u16) -> Op
     ensures { result ≡ op_at word next }
 {
     match word >> 12 {
-        0x0 => first_page(word, next),
+        0x0 => page_0(word, next),
         0x1 => two_registers(word, next),
         0x2 => two_registers(word, next),
         0x3 => Op::Cpi {
@@ -49,7 +50,7 @@ pub fn decode(word: u16, next: u16) -> Op
             k: constant(word),
         },
         0x8 => displaced(word, next),
-        0x9 => ninth_page(word, next),
+        0x9 => page_9(word, next),
         0xA => displaced(word, next),
         0xB => in_or_out(word, next),
         0xC => Op::Rjmp {
@@ -62,14 +63,14 @@ pub fn decode(word: u16, next: u16) -> Op
             d: upper_d(word),
             k: constant(word),
         },
-        _ => last_page(word, next),
+        _ => page_f(word, next),
     }
 }
 
 /// Words 0x0000 to 0x0FFF.
 #[inline]
 #[tactic(auto, using(crate::proofs::TwoRegisters::two_registers_rows))]
-fn first_page(word: u16, next: u16) -> Op
+fn page_0(word: u16, next: u16) -> Op
     requires { word / 4096 ≡ 0 }
     ensures { result ≡ op_at word next }
 {
@@ -196,7 +197,7 @@ fn in_or_out(word: u16, next: u16) -> Op
 /// Words 0x9000 to 0x9FFF.
 #[inline]
 #[tactic(auto, using(crate::proofs::Words::words_rows))]
-fn ninth_page(word: u16, next: u16) -> Op
+fn page_9(word: u16, next: u16) -> Op
     requires { word / 4096 ≡ 9 }
     ensures { result ≡ op_at word next }
 {
@@ -371,7 +372,7 @@ fn indirect(word: u16, next: u16) -> Op
 /// Words 0xF000 to 0xFFFF.
 #[inline]
 #[tactic(auto, using(crate::proofs::Branches::branches_rows))]
-fn last_page(word: u16, next: u16) -> Op
+fn page_f(word: u16, next: u16) -> Op
     requires { word / 4096 ≡ 15 }
     ensures { result ≡ op_at word next }
 {

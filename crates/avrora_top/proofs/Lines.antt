@@ -2,7 +2,7 @@
 use Rattle.std.proofs.Common.{◌≡◌, ℕ, suc, ◌+◌, ◌-◌, ◌<◌, ◌≤◌, ◌&&◌, Bool, true, false, not, if◌then◌else◌, List, [], ◌++◌, inl, inr, refl, sym, ap, ◌∙◌, arith, add-one}
 use Rattle.std.proofs.lemmas.Bool.{cases_lt}
 use Rattle.std.specs.List.{flat_map, range_with_len}
-use Rattle.avr_decoder.specs.Opcodes.{is_two_words}
+use Rattle.avr_decoder.specs.Words.{is_two_words}
 use Rattle.ihex_loader.specs.Flash.{Image, word_at}
 use Rattle.avrora_top.specs.Listing.{instruction_line, is_second, listing, word_lines, words_used}
 

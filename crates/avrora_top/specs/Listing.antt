@@ -3,7 +3,8 @@
 use Rattle.std.specs.Prelude.{ℕ, zero, suc, ◌+◌, ◌/◌, ◌%◌, ◌&&◌, not, Bool, false, if◌then◌else◌, List, [], ◌++◌, codes}
 use Rattle.std.specs.List.{flat_map, range_with_len}
 use Rattle.ihex_loader.specs.Flash.{Image, word_at}
-use Rattle.avr_decoder.specs.Opcodes.{is_two_words, op_at}
+use Rattle.avr_decoder.specs.Opcodes.{op_at}
+use Rattle.avr_decoder.specs.Words.{is_two_words}
 use Rattle.avr_disassembler.specs.Text.{line_of}
 
 -- whether a word is the second word of an instruction: the word before it begins one of two words

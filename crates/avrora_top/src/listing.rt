@@ -2,7 +2,7 @@
 ghost use Rattle.std.specs.Prelude.{◌≡◌, ◌≤◌, ◌<◌, ◌+◌, ◌++◌, false, if◌then◌else◌, OnOk, OnErr};
 ghost use Rattle.arrayvec.specs.ArrayString.{array_string_len};
 ghost use Rattle.sim_io.specs.Outside.{Rose, extended, TookFront};
-ghost use Rattle.avr_decoder.specs.Opcodes.{is_two_words};
+ghost use Rattle.avr_decoder.specs.Words.{is_two_words};
 ghost use Rattle.ihex_loader.specs.Flash.{word_at};
 ghost use Rattle.avrora_top.specs.Listing.{instruction_line, listing};
 

@@ -1,4 +1,4 @@
 pub mod Core
 pub mod Memory
-pub mod Outcome
 pub mod Space
+pub mod Sequence

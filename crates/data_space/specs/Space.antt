@@ -59,10 +59,10 @@ unfoldable pub pushed : {B : Type 0} → (B → ℕ → ℕ → Result B StopCau
 pushed put x cpu bus =
     let access = stored put cpu.sp x cpu bus in lowered ((cpu.sp + 65535) % 65536) access access.result
 
--- the core after a load: where it stopped, the core before the call
-abbrev pub unless_stopped : {B : Type 0} → Cpu → Access ℕ B → Result ℕ StopCause → Access ℕ B
-unless_stopped cpu access (Ok x) = access
-unless_stopped cpu access (Err cause) = record access { cpu = cpu }
+-- an access for which the core was changed: where it stopped, the core is as it was before the change
+abbrev pub unless_stopped : {R B : Type 0} → Cpu → Access R B → Result R StopCause → Access R B
+unless_stopped before access (Ok answer) = access
+unless_stopped before access (Err cause) = record access { cpu = before }
 
 -- a pop: the stack pointer is one higher, and there is a load at it; where that stops, it is as before
 unfoldable pub popped : {B : Type 0} → (B → ℕ → Result (ℕ × B) StopCause) → Cpu → B → Access ℕ B

@@ -1,6 +1,7 @@
 // Loads, stores, pushes and pops over the core and any bus.
 ghost use Rattle.std.specs.Prelude.{◌≡◌};
 ghost use Rattle.data_space.specs.Space.{loaded, popped, pushed, stored};
+ghost use Rattle.data_space.specs.Sequence.{popped_word, pushed_word};
 
 use crate::{Bus, Cpu};
 use avr_base::{Reg, Sreg, StopCause};
@@ -91,4 +92,30 @@ pub fn pop<B: Bus>(cpu: &mut Cpu, bus: &mut B) -> Result<u8, StopCause>
             Err(cause)
         }
     }
+}
+
+/// Pushes a word, its low byte first, as calls and interrupts push the address to return to. An `Err` is the stop of a
+/// push: what the push before it did stays.
+#[inline]
+#[tactic(auto, unfolding(crate::specs::Sequence::pushed_word))]
+pub fn push_word<B: Bus>(cpu: &mut Cpu, bus: &mut B, word: u16) -> Result<(), StopCause>
+    ensures result { result ≡ (pushed_word B.put_gives word cpu.old bus.old).result }
+    ensures core { cpu.new ≡ (pushed_word B.put_gives word cpu.old bus.old).cpu }
+    ensures bus { bus.new ≡ (pushed_word B.put_gives word cpu.old bus.old).bus }
+{
+    push(cpu, bus, (word % 256) as u8)?;
+    push(cpu, bus, (word / 256) as u8)
+}
+
+/// Pops a word, its high byte first. An `Err` is the stop of a pop: what the pop before it did stays.
+#[inline]
+#[tactic(auto, unfolding(crate::specs::Sequence::popped_word))]
+pub fn pop_word<B: Bus>(cpu: &mut Cpu, bus: &mut B) -> Result<u16, StopCause>
+    ensures result { result ≡ (popped_word B.get_gives cpu.old bus.old).result }
+    ensures core { cpu.new ≡ (popped_word B.get_gives cpu.old bus.old).cpu }
+    ensures bus { bus.new ≡ (popped_word B.get_gives cpu.old bus.old).bus }
+{
+    let above = pop(cpu, bus)?;
+    let below = pop(cpu, bus)?;
+    Ok(256 * u16::from(above) + u16::from(below))
 }

@@ -8,7 +8,7 @@ mod bus;
 mod cpu;
 mod sram;
 
-pub use access::{load, pop, push, store};
+pub use access::{load, pop, pop_word, push, push_word, store};
 pub use bus::{Bus, Done};
 pub use cpu::Cpu;
 pub use sram::Sram;

@@ -1,17 +1,21 @@
 -- What the instructions of the program's flow do, one definition for each shape of instruction (AVR Instruction Set
 -- Manual, "Operation", "Program Counter", "Stack" and "Cycles"): jumps, branches, skips, calls and returns. Program
 -- addresses are in words, modulo 65,536.
-use Rattle.std.specs.Prelude.{ℕ, ◌+◌, ◌*◌, ◌/◌, ◌%◌, ℤ, Bool, true, not, if◌then◌else◌, List, Result}
+use Rattle.std.specs.Prelude.{ℕ, ◌+◌, ◌%◌, ℤ, Bool, true, not, if◌then◌else◌, List, Result, Ok}
 use Rattle.std.specs.Int.{w16, cast_unsigned}
 use Rattle.avr_base.specs.declared.stop.StopCause.{StopCause}
-use Rattle.avr_base.specs.Flags.{has_flag, with_flag}
-use Rattle.avr_decoder.specs.Opcodes.{is_two_words}
+use Rattle.avr_base.specs.Flags.{I, has_flag, with_flag}
+use Rattle.avr_decoder.specs.Words.{is_two_words}
 use Rattle.data_space.specs.declared.bus.Done.{Done}
 use Rattle.data_space.specs.declared.cpu.Cpu.{Cpu}
 use Rattle.data_space.specs.Core.{advanced}
-use Rattle.data_space.specs.Space.{Access, answers, loaded, pushed, popped}
+use Rattle.data_space.specs.Space.{Access, loaded}
+use Rattle.data_space.specs.Sequence.{done, popped_word, pushed_word, then_do}
 use Rattle.ihex_loader.specs.Flash.{word_at}
-use Rattle.flow_step.specs.Sequence.{then_do, done, ends}
+
+-- the end of an instruction, by what it reports and the core that it leaves: there is no further access
+abbrev pub ends : {B : Type 0} → Done × Cpu → B → Access Done B
+ends reached bus = record { result = Ok reached.0; cpu = reached.1; bus = bus }
 
 -- the core at this program address
 abbrev pub at_pc : ℕ → Cpu → Cpu
@@ -47,12 +51,9 @@ skips_by_io get flash a b on cpu bus =
     let got = loaded get (a + 0x20) cpu bus in
     then_do got got.result (λ byte cpu bus. ends (skipped flash (bit_is on b byte) cpu) bus)
 
--- the address so many words on is pushed, its low byte first
-unfoldable pub pushes_return : {B : Type 0} → (B → ℕ → ℕ → Result B StopCause) → ℕ → Cpu → B → Access (Unit {0}) B
-pushes_return put words cpu bus =
-    let back = (cpu.pc + words) % 65536 in
-    let low = pushed put (back % 256) cpu bus in
-    then_do low low.result (λ _ cpu bus. pushed put (back / 256) cpu bus)
+-- the address so many words on is pushed
+abbrev pub pushes_return : {B : Type 0} → (B → ℕ → ℕ → Result B StopCause) → ℕ → Cpu → B → Access (Unit {0}) B
+pushes_return put words cpu bus = pushed_word put ((cpu.pc + words) % 65536) cpu bus
 
 -- a call by an instruction of so many words; the address that it goes to is read from the core after the pushes
 unfoldable pub calls : {B : Type 0} → (B → ℕ → ℕ → Result B StopCause) → ℕ → ℕ → (Cpu → ℕ) → Cpu → B → Access Done B
@@ -60,23 +61,15 @@ calls put cycles words target cpu bus =
     let back = pushes_return put words cpu bus in
     then_do back back.result (λ _ cpu bus. ends (jumped cycles (target cpu) cpu) bus)
 
--- an address is popped, its high byte first
-unfoldable pub pops_return : {B : Type 0} → (B → ℕ → Result (ℕ × B) StopCause) → Cpu → B → Access ℕ B
-pops_return get cpu bus =
-    let high = popped get cpu bus in
-    then_do high high.result (λ above cpu bus.
-    (let low = popped get cpu bus in
-    then_do low low.result (λ below cpu bus. answers (256 * above + below) cpu bus)))
-
 -- a return
 unfoldable pub returns : {B : Type 0} → (B → ℕ → Result (ℕ × B) StopCause) → Cpu → B → Access Done B
 returns get cpu bus =
-    let back = pops_return get cpu bus in
+    let back = popped_word get cpu bus in
     then_do back back.result (λ pc cpu bus. ends (jumped 4 pc cpu) bus)
 
 -- a return from an interrupt, which sets flag I last
 unfoldable pub returns_enabling : {B : Type 0} → (B → ℕ → Result (ℕ × B) StopCause) → Cpu → B → Access Done B
 returns_enabling get cpu bus =
-    let back = pops_return get cpu bus in
+    let back = popped_word get cpu bus in
     then_do back back.result (λ pc cpu bus.
-    ends (jumped 4 pc (record cpu { sreg = record { bits = with_flag cpu.sreg.bits 7 true } })) bus)
+    ends (jumped 4 pc (record cpu { sreg = record { bits = with_flag cpu.sreg.bits I true } })) bus)

@@ -1,14 +1,11 @@
 // Calls and returns. Where an access to the stack stops, those before it stay.
 ghost use Rattle.std.specs.Prelude.{◌≡◌, ◌≤◌, IfOk};
 ghost use Rattle.data_space.specs.Core.{pair_at};
-ghost use Rattle.flow_step.specs.Shapes.{calls, pops_return, pushes_return, relative, returns, returns_enabling};
+ghost use Rattle.flow_step.specs.Shapes.{calls, pushes_return, relative, returns, returns_enabling};
 
 use crate::jumps::{jump, relative_to};
-use avr_base::{Reg, StopCause};
-use data_space::{Bus, Cpu, Done, pop, push};
-
-// The flag that lets interrupts in.
-const I: u8 = 7;
+use avr_base::{Reg, Sreg, StopCause};
+use data_space::{Bus, Cpu, Done, pop_word, push_word};
 
 // The pointer Z.
 #[inline]
@@ -18,17 +15,15 @@ pub fn z(cpu: &Cpu) -> u16
     cpu.pair(Reg::numbered(30))
 }
 
-// Pushes the address `words` on, its low byte first.
+// Pushes the address `words` on.
 #[inline]
-#[tactic(auto, unfolding(crate::specs::Shapes::pushes_return))]
 fn push_return<B: Bus>(words: u16, cpu: &mut Cpu, bus: &mut B) -> Result<(), StopCause>
     ensures result { result ≡ (pushes_return B.put_gives words cpu.old bus.old).result }
     ensures core { cpu.new ≡ (pushes_return B.put_gives words cpu.old bus.old).cpu }
     ensures bus { bus.new ≡ (pushes_return B.put_gives words cpu.old bus.old).bus }
 {
     let back = cpu.pc.wrapping_add(words);
-    push(cpu, bus, (back % 256) as u8)?;
-    push(cpu, bus, (back / 256) as u8)
+    push_word(cpu, bus, back)
 }
 
 // CALL.
@@ -70,19 +65,6 @@ pub fn call_at_z<B: Bus>(cpu: &mut Cpu, bus: &mut B) -> Result<Done, StopCause>
     Ok(jump(3, z(cpu), cpu))
 }
 
-// Pops an address, its high byte first.
-#[inline]
-#[tactic(auto, unfolding(crate::specs::Shapes::pops_return))]
-fn pop_return<B: Bus>(cpu: &mut Cpu, bus: &mut B) -> Result<u16, StopCause>
-    ensures result { result ≡ (pops_return B.get_gives cpu.old bus.old).result }
-    ensures core { cpu.new ≡ (pops_return B.get_gives cpu.old bus.old).cpu }
-    ensures bus { bus.new ≡ (pops_return B.get_gives cpu.old bus.old).bus }
-{
-    let above = pop(cpu, bus)?;
-    let below = pop(cpu, bus)?;
-    Ok(256 * u16::from(above) + u16::from(below))
-}
-
 // RET.
 #[inline]
 #[tactic(auto, unfolding(crate::specs::Shapes::returns))]
@@ -92,7 +74,7 @@ pub fn ret<B: Bus>(cpu: &mut Cpu, bus: &mut B) -> Result<Done, StopCause>
     ensures bus { bus.new ≡ (returns B.get_gives cpu.old bus.old).bus }
     ensures takes { IfOk result (λ d. 1 ≤ d.cycles) }
 {
-    let pc = pop_return(cpu, bus)?;
+    let pc = pop_word(cpu, bus)?;
     Ok(jump(4, pc, cpu))
 }
 
@@ -105,7 +87,7 @@ pub fn reti<B: Bus>(cpu: &mut Cpu, bus: &mut B) -> Result<Done, StopCause>
     ensures bus { bus.new ≡ (returns_enabling B.get_gives cpu.old bus.old).bus }
     ensures takes { IfOk result (λ d. 1 ≤ d.cycles) }
 {
-    let pc = pop_return(cpu, bus)?;
-    cpu.sreg = cpu.sreg.with(I, true);
+    let pc = pop_word(cpu, bus)?;
+    cpu.sreg = cpu.sreg.with(Sreg::I, true);
     Ok(jump(4, pc, cpu))
 }

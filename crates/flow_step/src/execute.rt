@@ -2,7 +2,7 @@
 ghost use Rattle.std.specs.Prelude.{◌≡◌, ◌≤◌, IfOk};
 ghost use Rattle.avr_decoder.specs.Class.{class_of};
 ghost use Rattle.avr_decoder.specs.declared.op.Class.TheVariants.{Flow};
-ghost use Rattle.flow_step.specs.Table.{flow_executed};
+ghost use Rattle.flow_step.specs.Table.{flow_effect};
 
 use crate::calls::{call, call_at_z, call_near, ret, reti, z};
 use crate::jumps::{bit, branch, jump, relative_to, skip, skip_by_io, sleep};
@@ -24,9 +24,9 @@ use ihex_loader::Flash;
 #[tactic(auto, unfolding(crate::specs::Table::flow_effect))]
 pub fn exec<B: Bus>(op: Op, flash: &Flash, cpu: &mut Cpu, bus: &mut B) -> Result<Done, StopCause>
     requires { class_of op ≡ Flow }
-    ensures result { result ≡ (flow_executed B.get_gives B.put_gives flash.now.bytes op cpu.old bus.old).result }
-    ensures core { cpu.new ≡ (flow_executed B.get_gives B.put_gives flash.now.bytes op cpu.old bus.old).cpu }
-    ensures bus { bus.new ≡ (flow_executed B.get_gives B.put_gives flash.now.bytes op cpu.old bus.old).bus }
+    ensures result { result ≡ (flow_effect B.get_gives B.put_gives flash.now.bytes op cpu.old bus.old).result }
+    ensures core { cpu.new ≡ (flow_effect B.get_gives B.put_gives flash.now.bytes op cpu.old bus.old).cpu }
+    ensures bus { bus.new ≡ (flow_effect B.get_gives B.put_gives flash.now.bytes op cpu.old bus.old).bus }
     // so the cycles can be counted down
     ensures takes { IfOk result (λ d. 1 ≤ d.cycles) }
 {

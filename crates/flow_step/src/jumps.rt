@@ -2,16 +2,13 @@
 // are read from it.
 ghost use Rattle.std.specs.Prelude.{◌≡◌, ◌<◌, ◌≤◌, true, IfOk};
 ghost use Rattle.data_space.specs.Core.{advanced};
-ghost use Rattle.flow_step.specs.Sequence.{done};
+ghost use Rattle.data_space.specs.Sequence.{done};
 ghost use Rattle.flow_step.specs.Shapes.{at_pc, bit_is, branched, jumped, relative, skipped, skipping, skips_by_io};
 
-use avr_base::{Sreg, StopCause};
+use avr_base::{IO_START, Sreg, StopCause};
 use avr_decoder::width;
 use data_space::{Bus, Cpu, Done, load};
 use ihex_loader::Flash;
-
-// The data address of I/O address 0.
-const IO_START: u16 = 0x20;
 
 // What an instruction other than SLEEP reports.
 #[inline]

@@ -3,7 +3,6 @@ pub mod Signs
 pub mod Compared
 pub mod Registers
 pub mod Sums
-pub mod Widths
 pub mod Pairs
 pub mod Stack
 pub mod Returns

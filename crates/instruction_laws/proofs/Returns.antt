@@ -6,14 +6,15 @@ use Rattle.data_space.specs.declared.bus.Done.{Done}
 use Rattle.data_space.specs.declared.cpu.Cpu.{Cpu}
 use Rattle.data_space.specs.Core.{advanced, with_reg}
 use Rattle.data_space.specs.Space.{Access, answers, popped, pushed}
-use Rattle.flow_step.specs.Sequence as flow
-use Rattle.flow_step.specs.Shapes.{at_pc, calls, jumped, pops_return, pushes_return, returns}
+use Rattle.data_space.specs.Sequence.{popped_word, pushed_word, then_do}
+use Rattle.flow_step.specs.Shapes as flow
+use Rattle.flow_step.specs.Shapes.{at_pc, calls, jumped, pushes_return, returns}
 use Rattle.flow_step.specs.Table.{flow_effect}
-use Rattle.memory_step.specs.Sequence as memory
+use Rattle.memory_step.specs.Shapes as memory
 use Rattle.memory_step.specs.Shapes.{pops, pushes}
-use Rattle.memory_step.specs.Table.{memory_effect, memory_executed}
+use Rattle.memory_step.specs.Table.{memory_effect}
 use Rattle.instruction_laws.specs.Branches.{reg}
-use Rattle.instruction_laws.specs.Stack.{Accesses, ComesBack, IsStack, TakesReturn, done, then_flow, then_memory}
+use Rattle.instruction_laws.specs.Stack.{Accesses, ComesBack, IsStack, TakesReturn, ended, then_flow, then_memory}
 use Rattle.instruction_laws.proofs.Stack.{at_sp, popped_out, pushed_out}
 
 module _ {B : Type 0} (a : Accesses B) (first last : ℕ) (flash : List ℕ) where
@@ -21,25 +22,25 @@ module _ {B : Type 0} (a : Accesses B) (first last : ℕ) (flash : List ℕ) whe
     abbrev Pushed : Cpu
     Pushed = advanced 1 (at_sp ((cpu.sp + 65535) % 65536) cpu)
 
-    push_done : memory_executed a.get a.put flash (op.Push r) cpu bus ≡ done 2 Pushed bus'
+    push_done : memory_effect a.get a.put flash (op.Push r) cpu bus ≡ ended 2 Pushed bus'
     unfolding memory_effect pushes
     push_done =
-        ap (λ (it : Access (Unit {0}) B). memory.outcome (memory.then_do it it.result (λ _ cpu bus. memory.ends 1 2 cpu bus)))
+        ap (λ (it : Access (Unit {0}) B). then_do it it.result (λ _ cpu bus. memory.ends 1 2 cpu bus))
         (pushed_out a.get a.put (reg r cpu) cpu bus bus' (omega (arith, stack.behind, stack.low)) taken)
 
-    pop_done : memory_executed a.get a.put flash (op.Pop d) Pushed bus' ≡ done 2 (advanced 1 (with_reg d (reg r cpu) (at_sp cpu.sp Pushed))) bus'
+    pop_done : memory_effect a.get a.put flash (op.Pop d) Pushed bus' ≡ ended 2 (advanced 1 (with_reg d (reg r cpu) (at_sp cpu.sp Pushed))) bus'
     unfolding memory_effect pops
     pop_done =
-        ap (λ (it : Access ℕ B). memory.outcome (memory.then_do it it.result (λ byte cpu bus. memory.ends 1 2 (with_reg d byte cpu) bus)))
+        ap (λ (it : Access ℕ B). then_do it it.result (λ byte cpu bus. memory.ends 1 2 (with_reg d byte cpu) bus))
         (popped_out a.get a.put cpu.sp (reg r cpu) Pushed bus' (omega (arith, stack.behind, stack.low, stack.high, stack.small))
         (omega (arith, stack.behind, stack.low))
         (stack.memory.back bus bus' cpu.sp (reg r cpu) (omega (arith, stack.low)) stack.high taken))
 
-    pub push_pop : then_memory a flash (op.Pop d) (memory_executed a.get a.put flash (op.Push r) cpu bus)
-        ≡ done 2 (advanced 2 (with_reg d (reg r cpu) cpu)) bus'
+    pub push_pop : then_memory a flash (op.Pop d) (memory_effect a.get a.put flash (op.Push r) cpu bus)
+        ≡ ended 2 (advanced 2 (with_reg d (reg r cpu) cpu)) bus'
     push_pop =
         let pc : ((cpu.pc + 1) % 65536 + 1) % 65536 ≡ (cpu.pc + 2) % 65536 = omega arith in
-        ap (then_memory a flash (op.Pop d)) push_done ∙ pop_done ∙ ap (λ n. done 2 (at_pc n (with_reg d (reg r cpu) cpu)) bus') pc
+        ap (then_memory a flash (op.Pop d)) push_done ∙ pop_done ∙ ap (λ n. ended 2 (at_pc n (with_reg d (reg r cpu) cpu)) bus') pc
 
   module _ (words : ℕ) (cpu : Cpu) (bus mid bus' : B) (stack : IsStack a first last 2 cpu) (takes : TakesReturn a words cpu bus mid bus') where
     abbrev Back : ℕ
@@ -59,9 +60,9 @@ module _ {B : Type 0} (a : Accesses B) (first last : ℕ) (flash : List ℕ) whe
     high_taken = subst (λ (n : ℕ). a.put mid n (Back / 256) ≡ Ok bus') (sym below) takes.high
 
     pub both_pushed : pushes_return a.put words cpu bus ≡ record { result = Ok tt; cpu = Both; bus = bus' }
-    unfolding pushes_return
+    unfolding pushed_word
     both_pushed =
-        ap (λ (it : Access (Unit {0}) B). flow.then_do it it.result (λ _ cpu bus. pushed a.put (Back / 256) cpu bus))
+        ap (λ (it : Access (Unit {0}) B). then_do it it.result (λ _ cpu bus. pushed a.put (Back / 256) cpu bus))
         (pushed_out a.get a.put (Back % 256) cpu bus mid (omega (arith, stack.behind, stack.low)) takes.low)
         ∙ pushed_out a.get a.put (Back / 256) Low mid bus' (omega (arith, stack.behind, stack.low, below)) high_taken
 
@@ -75,14 +76,14 @@ module _ {B : Type 0} (a : Accesses B) (first last : ℕ) (flash : List ℕ) whe
         (stack.memory.back bus mid cpu.sp (Back % 256) (omega (arith, stack.low)) stack.high takes.low) takes.high
 
     -- from any program address
-    popped_back : (pc : ℕ) → pops_return a.get (at_pc pc Both) bus' ≡ answers (256 * (Back / 256) + Back % 256) (at_pc pc cpu) bus'
-    unfolding pops_return
+    popped_back : (pc : ℕ) → popped_word a.get (at_pc pc Both) bus' ≡ answers (256 * (Back / 256) + Back % 256) (at_pc pc cpu) bus'
+    unfolding popped_word
     popped_back pc =
-        ap (λ (it : Access ℕ B). flow.then_do it it.result (λ above cpu bus.
-        (let low = popped a.get cpu bus in flow.then_do low low.result (λ below cpu bus. answers (256 * above + below) cpu bus))))
+        ap (λ (it : Access ℕ B). then_do it it.result (λ above cpu bus.
+        (let low = popped a.get cpu bus in then_do low low.result (λ below cpu bus. answers (256 * above + below) cpu bus))))
         (popped_out a.get a.put (cpu.sp - 1) (Back / 256) (at_pc pc Both) bus' (omega (arith, stack.behind, stack.low, stack.high, stack.small))
         (omega (arith, stack.behind, stack.low)) high_back)
-        ∙ ap (λ (it : Access ℕ B). flow.then_do it it.result (λ below cpu bus. answers (256 * (Back / 256) + below) cpu bus))
+        ∙ ap (λ (it : Access ℕ B). then_do it it.result (λ below cpu bus. answers (256 * (Back / 256) + below) cpu bus))
         (popped_out a.get a.put cpu.sp (Back % 256) (at_sp (cpu.sp - 1) (at_pc pc Both)) bus' (omega (arith, stack.behind, stack.low, stack.high, stack.small))
         (omega (arith, stack.behind, stack.low)) low_back)
 
@@ -92,7 +93,7 @@ module _ {B : Type 0} (a : Accesses B) (first last : ℕ) (flash : List ℕ) whe
     comes_back call cycles target e =
         let pc : 256 * (Back / 256) + Back % 256 ≡ Back = omega arith in
         let called : calls a.put cycles words target cpu bus ≡ flow.ends (jumped cycles (target Both) Both) bus' =
-        ap (λ (it : Access (Unit {0}) B). flow.then_do it it.result (λ _ cpu bus. flow.ends (jumped cycles (target cpu) cpu) bus)) both_pushed in
-        ap (λ (it : Access Done B). then_flow a flash op.Ret (flow.outcome it)) (e ∙ called)
-        ∙ ap (λ (it : Access ℕ B). flow.outcome (flow.then_do it it.result (λ pc cpu bus. flow.ends (jumped 4 pc cpu) bus))) (popped_back (target Both))
-        ∙ ap (λ n. done 4 (at_pc n cpu) bus') pc
+        ap (λ (it : Access (Unit {0}) B). then_do it it.result (λ _ cpu bus. flow.ends (jumped cycles (target cpu) cpu) bus)) both_pushed in
+        ap (λ (it : Access Done B). then_flow a flash op.Ret it) (e ∙ called)
+        ∙ ap (λ (it : Access ℕ B). then_do it it.result (λ pc cpu bus. flow.ends (jumped 4 pc cpu) bus)) (popped_back (target Both))
+        ∙ ap (λ n. ended 4 (at_pc n cpu) bus') pc

@@ -2,13 +2,12 @@
 -- and the examples of CPC, ADC and SBC): the conditions of the branches, in terms of the numbers compared.
 use Rattle.std.specs.Prelude.{Bool, ℤ, ◌≡◌, ◌≢◌, ℕ, ◌+◌, ◌*◌, ◌<◌, ◌==◌, nat_lt, int_lt, length, slice_index}
 use Rattle.alu_flags.specs.Whole.{signed}
-use Rattle.avr_base.specs.Flags.{has_flag}
+use Rattle.avr_base.specs.Flags.{C, S, Z, has_flag}
 use Rattle.avr_decoder.specs.declared.op.Op.{Op}
 use Rattle.arith_step.specs.Table.{arith_cpu}
 use Rattle.data_space.specs.declared.cpu.Cpu.{Cpu}
-use Rattle.data_space.specs.Outcome.{Outcome}
-use Rattle.flow_step.specs.Sequence.{ends, outcome}
-use Rattle.flow_step.specs.Shapes.{branched}
+use Rattle.data_space.specs.Sequence.{Outcome}
+use Rattle.flow_step.specs.Shapes.{branched, ends}
 
 -- the byte in general register d
 abbrev pub reg : ℕ → Cpu → ℕ
@@ -41,11 +40,11 @@ both first second cpu = arith_cpu second (arith_cpu first cpu)
 -- the flags compare a with b, two numbers below 2 * half
 pub record IsCompared (half a b : ℕ) (cpu : Cpu) : Type 0 where
   -- BRLO and BRSH, by C: a is below b, as numbers without a sign
-  pub lower : has_flag cpu.sreg.bits 0 ≡ nat_lt a b
+  pub lower : has_flag cpu.sreg.bits C ≡ nat_lt a b
   -- BREQ and BRNE, by Z: they are equal
-  pub equal : has_flag cpu.sreg.bits 1 ≡ a == b
+  pub equal : has_flag cpu.sreg.bits Z ≡ a == b
   -- BRLT and BRGE, by S: a is below b, in two's complement
-  pub less : has_flag cpu.sreg.bits 4 ≡ int_lt (signed half a) (signed half b)
+  pub less : has_flag cpu.sreg.bits S ≡ int_lt (signed half a) (signed half b)
 
 -- two general registers, apart from one another
 pub record AreApart (low high : ℕ) : Type 0 where
@@ -55,4 +54,4 @@ pub record AreApart (low high : ℕ) : Type 0 where
 
 -- a branch of k words, taken where `on`
 abbrev pub branches : {B : Type 0} → Bool → ℤ → Cpu → B → Outcome B
-branches on k cpu bus = outcome (ends (branched on k cpu) bus)
+branches on k cpu bus = ends (branched on k cpu) bus

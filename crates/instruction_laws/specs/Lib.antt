@@ -1,3 +1,2 @@
 pub mod Branches
-pub mod Words
 pub mod Stack

@@ -1,14 +1,14 @@
 -- What comes back from the stack (AVR Instruction Set Manual: PUSH, POP, CALL, RCALL, ICALL, RET), over a bus that keeps
 -- what is put.
-use Rattle.std.specs.Prelude.{◌≡◌, ◌≢◌, ℕ, ◌+◌, ◌-◌, ◌/◌, ◌%◌, ◌≤◌, ◌<◌, false, List, Result, Ok}
+use Rattle.std.specs.Prelude.{◌≡◌, ◌≢◌, ℕ, ◌+◌, ◌-◌, ◌/◌, ◌%◌, ◌≤◌, ◌<◌, List, Result, Ok}
 use Rattle.avr_base.specs.declared.stop.StopCause.{StopCause}
 use Rattle.avr_decoder.specs.declared.op.Op.{Op}
 use Rattle.avr_decoder.specs.declared.op.Op.TheVariants as op
 use Rattle.data_space.specs.declared.cpu.Cpu.{Cpu}
 use Rattle.data_space.specs.Core.{advanced}
-use Rattle.data_space.specs.Outcome.{Outcome}
-use Rattle.flow_step.specs.Table.{flow_executed}
-use Rattle.memory_step.specs.Table.{memory_executed}
+use Rattle.data_space.specs.Sequence.{Outcome, done}
+use Rattle.flow_step.specs.Table.{flow_effect}
+use Rattle.memory_step.specs.Table.{memory_effect}
 
 -- a bus, by what its accesses give
 pub record Accesses (B : Type 0) : Type 0 where
@@ -31,17 +31,17 @@ pub record IsStack {B : Type 0} (a : Accesses B) (first last room : ℕ) (cpu : 
   pub low : first + room ≤ cpu.sp + 1
   pub high : cpu.sp ≤ last
 
--- an instruction is done, after so many cycles, with this core and this bus
-abbrev pub done : {B : Type 0} → ℕ → Cpu → B → Outcome B
-done cycles cpu bus = record { result = Ok (record { cycles = cycles; sleep = false }); cpu = cpu; bus = bus }
+-- an instruction ended, after so many cycles, with this core and this bus
+abbrev pub ended : {B : Type 0} → ℕ → Cpu → B → Outcome B
+ended cycles cpu bus = record { result = Ok (done cycles); cpu = cpu; bus = bus }
 
 -- one instruction on memory after another
 abbrev pub then_memory : {B : Type 0} → Accesses B → List ℕ → Op → Outcome B → Outcome B
-then_memory a flash instruction before = memory_executed a.get a.put flash instruction before.cpu before.bus
+then_memory a flash instruction before = memory_effect a.get a.put flash instruction before.cpu before.bus
 
 -- an instruction of the program's flow after another
 abbrev pub then_flow : {B : Type 0} → Accesses B → List ℕ → Op → Outcome B → Outcome B
-then_flow a flash instruction before = flow_executed a.get a.put flash instruction before.cpu before.bus
+then_flow a flash instruction before = flow_effect a.get a.put flash instruction before.cpu before.bus
 
 -- a bus takes the two bytes of the address so many words on, the low one first
 pub record TakesReturn {B : Type 0} (a : Accesses B) (words : ℕ) (cpu : Cpu) (bus mid bus' : B) : Type 0 where
@@ -52,4 +52,4 @@ pub record TakesReturn {B : Type 0} (a : Accesses B) (words : ℕ) (cpu : Cpu) (
 -- as before
 abbrev pub ComesBack : {B : Type 0} → Accesses B → List ℕ → Op → ℕ → Cpu → B → B → Type 0
 ComesBack a flash call words cpu bus bus' =
-    then_flow a flash op.Ret (flow_executed a.get a.put flash call cpu bus) ≡ done 4 (advanced words cpu) bus'
+    then_flow a flash op.Ret (flow_effect a.get a.put flash call cpu bus) ≡ ended 4 (advanced words cpu) bus'

@@ -4,18 +4,18 @@
 #![tactic(auto)]
 
 ghost use Rattle.std.specs.Prelude.{◌≡◌, ◌≢◌, ℕ, ◌+◌, ◌-◌, ◌%◌, nat_le, nat_lt, int_lt, not, ◌==◌, ℤ, List, Ok, if◌then◌else◌};
-ghost use Rattle.avr_decoder.specs.Opcodes.{is_two_words, op_at};
+ghost use Rattle.avr_decoder.specs.Opcodes.{op_at};
+ghost use Rattle.avr_decoder.specs.Words.{is_two_words, words_of};
 ghost use Rattle.avr_decoder.specs.declared.op.Op.TheVariants as op;
-ghost use Rattle.avr_base.specs.Flags.{has_flag};
+ghost use Rattle.avr_base.specs.Flags.{C, S, Z, has_flag};
 ghost use Rattle.arith_step.specs.Table.{arith_cpu};
 ghost use Rattle.data_space.specs.declared.cpu.Cpu.{Cpu};
 ghost use Rattle.instruction_laws.specs.Branches.{AreApart, AreBytes, IsCompared, IsCore, both, branches, reg, word, word_in};
 ghost use Rattle.data_space.specs.Core.{advanced, with_reg};
 ghost use Rattle.alu_flags.specs.Whole.{signed};
-ghost use Rattle.flow_step.specs.Table.{flow_executed};
-ghost use Rattle.memory_step.specs.Table.{memory_executed};
-ghost use Rattle.instruction_laws.specs.Stack.{Accesses, ComesBack, IsStack, TakesReturn, done, then_memory};
-ghost use Rattle.instruction_laws.specs.Words.{words_of};
+ghost use Rattle.flow_step.specs.Table.{flow_effect};
+ghost use Rattle.memory_step.specs.Table.{memory_effect};
+ghost use Rattle.instruction_laws.specs.Stack.{Accesses, ComesBack, IsStack, TakesReturn, ended, then_memory};
 
 /// After CP, and after CPI, the flags compare the two bytes.
 pub fn compare_law()
@@ -36,17 +36,17 @@ pub fn compare_words_law()
 /// Where the flags compare two numbers, the branches go by the numbers: BRLO and BRSH, BREQ and BRNE, BRLT and BRGE.
 pub fn branch_law<B>()
     ensures lower { (a : Accesses B) (flash : List ℕ) (half m n : ℕ) (k : ℤ) (cpu : Cpu) (bus : B) → IsCompared half m n cpu
-        → flow_executed a.get a.put flash (op.Brbs 0 k) cpu bus ≡ branches (nat_lt m n) k cpu bus }
+        → flow_effect a.get a.put flash (op.Brbs C k) cpu bus ≡ branches (nat_lt m n) k cpu bus }
     ensures same_or_higher { (a : Accesses B) (flash : List ℕ) (half m n : ℕ) (k : ℤ) (cpu : Cpu) (bus : B) → IsCompared half m n cpu
-        → flow_executed a.get a.put flash (op.Brbc 0 k) cpu bus ≡ branches (not (nat_lt m n)) k cpu bus }
+        → flow_effect a.get a.put flash (op.Brbc C k) cpu bus ≡ branches (not (nat_lt m n)) k cpu bus }
     ensures equal { (a : Accesses B) (flash : List ℕ) (half m n : ℕ) (k : ℤ) (cpu : Cpu) (bus : B) → IsCompared half m n cpu
-        → flow_executed a.get a.put flash (op.Brbs 1 k) cpu bus ≡ branches (m == n) k cpu bus }
+        → flow_effect a.get a.put flash (op.Brbs Z k) cpu bus ≡ branches (m == n) k cpu bus }
     ensures not_equal { (a : Accesses B) (flash : List ℕ) (half m n : ℕ) (k : ℤ) (cpu : Cpu) (bus : B) → IsCompared half m n cpu
-        → flow_executed a.get a.put flash (op.Brbc 1 k) cpu bus ≡ branches (not (m == n)) k cpu bus }
+        → flow_effect a.get a.put flash (op.Brbc Z k) cpu bus ≡ branches (not (m == n)) k cpu bus }
     ensures less { (a : Accesses B) (flash : List ℕ) (half m n : ℕ) (k : ℤ) (cpu : Cpu) (bus : B) → IsCompared half m n cpu
-        → flow_executed a.get a.put flash (op.Brbs 4 k) cpu bus ≡ branches (int_lt (signed half m) (signed half n)) k cpu bus }
+        → flow_effect a.get a.put flash (op.Brbs S k) cpu bus ≡ branches (int_lt (signed half m) (signed half n)) k cpu bus }
     ensures greater_or_equal { (a : Accesses B) (flash : List ℕ) (half m n : ℕ) (k : ℤ) (cpu : Cpu) (bus : B) → IsCompared half m n cpu
-        → flow_executed a.get a.put flash (op.Brbc 4 k) cpu bus ≡ branches (not (int_lt (signed half m) (signed half n))) k cpu bus }
+        → flow_effect a.get a.put flash (op.Brbc S k) cpu bus ≡ branches (not (int_lt (signed half m) (signed half n))) k cpu bus }
 {}
 
 /// ADD of the low bytes and ADC of the high ones give the sum of the two words modulo 65,536, and C where it does not fit.
@@ -55,7 +55,7 @@ pub fn sum_law()
     ensures sum { (dl dh rl rh : ℕ) (cpu : Cpu) → IsCore cpu → AreApart dl dh → dl ≢ rh
         → word_in dl dh (both (op.Add dl rl) (op.Adc dh rh) cpu) ≡ (word_in dl dh cpu + word_in rl rh cpu) % 65536 }
     ensures carry { (dl dh rl rh : ℕ) (cpu : Cpu) → IsCore cpu → AreApart dl dh → dl ≢ rh
-        → has_flag (both (op.Add dl rl) (op.Adc dh rh) cpu).sreg.bits 0 ≡ nat_le 65536 (word_in dl dh cpu + word_in rl rh cpu) }
+        → has_flag (both (op.Add dl rl) (op.Adc dh rh) cpu).sreg.bits C ≡ nat_le 65536 (word_in dl dh cpu + word_in rl rh cpu) }
 {}
 
 /// SUB of the low bytes and SBC of the high ones, and SUBI and SBCI, give the difference of the two words modulo 65,536,
@@ -73,8 +73,8 @@ pub fn difference_law()
 pub fn stack_law<B>()
     ensures { (a : Accesses B) (first last : ℕ) (flash : List ℕ) (r d : ℕ) (cpu : Cpu) (bus bus' : B)
         → IsStack a first last 1 cpu → a.put bus cpu.sp (reg r cpu) ≡ Ok bus'
-        → then_memory a flash (op.Pop d) (memory_executed a.get a.put flash (op.Push r) cpu bus)
-        ≡ done 2 (advanced 2 (with_reg d (reg r cpu) cpu)) bus' }
+        → then_memory a flash (op.Pop d) (memory_effect a.get a.put flash (op.Push r) cpu bus)
+        ≡ ended 2 (advanced 2 (with_reg d (reg r cpu) cpu)) bus' }
 {}
 
 /// CALL, RCALL and ICALL, and then RET: the program goes on behind the call, and all else of the core is as before.

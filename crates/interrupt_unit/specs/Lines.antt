@@ -3,7 +3,7 @@
 use Rattle.std.specs.Prelude.{ℕ, ◌*◌, ◌==◌, if◌then◌else◌, Bool, Option, Some, None, find}
 use Rattle.std.specs.Int.{bit_at}
 use Rattle.std.specs.List.{range_with_len}
-use Rattle.avr_base.specs.Flags.{has_flag}
+use Rattle.avr_base.specs.Flags.{I, has_flag}
 use Rattle.interrupt_unit.specs.declared.unit.Lines.{Lines}
 use Rattle.interrupt_unit.specs.declared.unit.Vector.{Vector}
 
@@ -24,6 +24,6 @@ vector_of (Some n) = Some (record { word = 2 * n })
 abbrev pub pending_of : Lines → Option Vector
 pending_of lines = vector_of (lowest_line lines.bits)
 
--- the vector that is due, from SREG and the lines: the pending one where the flag I, bit 7, is set
+-- the vector that is due, from SREG and the lines: the pending one where the flag I is set
 abbrev pub due_of : ℕ → Lines → Option Vector
-due_of sreg lines = if has_flag sreg 7 then pending_of lines else None
+due_of sreg lines = if has_flag sreg I then pending_of lines else None

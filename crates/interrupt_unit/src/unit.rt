@@ -40,5 +40,5 @@ pub fn pending(lines: Lines) -> Option<Vector>
 pub fn due(sreg: Sreg, lines: Lines) -> Option<Vector>
     ensures { result ≡ due_of sreg.bits lines }
 {
-    if sreg.has(7) { pending(lines) } else { None }
+    if sreg.has(Sreg::I) { pending(lines) } else { None }
 }

@@ -1,3 +1,2 @@
-pub mod Sequence
 pub mod Shapes
 pub mod Table

@@ -1,23 +1,27 @@
 -- What the instructions on memory do, one definition for each shape of instruction (AVR Instruction Set Manual,
 -- "Operation", "Words" and "Cycles"): loads, stores, loads from the flash, the stack and single bits of I/O registers.
 -- A pointer is named by the lower register of its pair; addresses of data are modulo 65,536, of the flash 131,072.
-use Rattle.std.specs.Prelude.{ℕ, ◌+◌, ◌%◌, Bool, if◌then◌else◌, nat_le, List, Result, slice_index}
+use Rattle.std.specs.Prelude.{ℕ, ◌+◌, ◌%◌, Bool, if◌then◌else◌, nat_le, List, Result, Ok, slice_index}
 use Rattle.avr_base.specs.declared.stop.StopCause.{StopCause}
 use Rattle.avr_base.specs.Flags.{with_flag}
 use Rattle.data_space.specs.declared.bus.Done.{Done}
 use Rattle.data_space.specs.declared.cpu.Cpu.{Cpu}
-use Rattle.data_space.specs.Core.{pair_at, with_pair, with_reg}
-use Rattle.data_space.specs.Space.{Access, loaded, stored, pushed, popped}
+use Rattle.data_space.specs.Core.{advanced, pair_at, with_pair, with_reg}
+use Rattle.data_space.specs.Space.{Access, loaded, stored, pushed, popped, unless_stopped}
+use Rattle.data_space.specs.Sequence.{done, then_do}
 use Rattle.ihex_loader.specs.Flash.{byte_at}
-use Rattle.memory_step.specs.Sequence.{then_do, undone_by_stop, ends}
 
--- the data address so many bytes behind a pointer
-abbrev pub behind : ℕ → ℕ → Cpu → ℕ
-behind p q cpu = (pair_at p cpu + q) % 65536
+-- the end of an instruction of so many words after so many cycles
+abbrev pub ends : {B : Type 0} → ℕ → ℕ → Cpu → B → Access Done B
+ends words cycles cpu bus = record { result = Ok (done cycles); cpu = advanced words cpu; bus = bus }
 
--- the data address before a pointer
-abbrev pub before : ℕ → Cpu → ℕ
-before p cpu = (pair_at p cpu + 65535) % 65536
+-- the data address of a pointer with a displacement
+abbrev pub displaced : ℕ → ℕ → Cpu → ℕ
+displaced p q cpu = (pair_at p cpu + q) % 65536
+
+-- the data address before a pointer, which a pre-decrement gives it
+abbrev pub decremented : ℕ → Cpu → ℕ
+decremented p cpu = (pair_at p cpu + 65535) % 65536
 
 -- rD becomes the byte at a data address
 unfoldable pub loads : {B : Type 0} → (B → ℕ → Result (ℕ × B) StopCause) → ℕ → ℕ → ℕ → ℕ → Cpu → B → Access Done B
@@ -25,19 +29,19 @@ loads get d at words cycles cpu bus =
     let got = loaded get at cpu bus in
     then_do got got.result (λ byte cpu bus. ends words cycles (with_reg d byte cpu) bus)
 
--- rD becomes the byte at a pointer, which is then one higher
-unfoldable pub loads_up : {B : Type 0} → (B → ℕ → Result (ℕ × B) StopCause) → ℕ → ℕ → Cpu → B → Access Done B
-loads_up get d p cpu bus =
-    let above = behind p 1 cpu in
+-- post-increment: rD becomes the byte at a pointer, which is then one higher
+unfoldable pub loads_post_increment : {B : Type 0} → (B → ℕ → Result (ℕ × B) StopCause) → ℕ → ℕ → Cpu → B → Access Done B
+loads_post_increment get d p cpu bus =
+    let next = displaced p 1 cpu in
     let got = loaded get (pair_at p cpu) cpu bus in
-    then_do got got.result (λ byte cpu bus. ends 1 2 (with_pair p above (with_reg d byte cpu)) bus)
+    then_do got got.result (λ byte cpu bus. ends 1 2 (with_pair p next (with_reg d byte cpu)) bus)
 
--- a pointer is one lower, and then rD becomes the byte at it
-unfoldable pub loads_down : {B : Type 0} → (B → ℕ → Result (ℕ × B) StopCause) → ℕ → ℕ → Cpu → B → Access Done B
-loads_down get d p cpu bus =
-    let at = before p cpu in
+-- pre-decrement: a pointer is one lower, and then rD becomes the byte at it
+unfoldable pub loads_pre_decrement : {B : Type 0} → (B → ℕ → Result (ℕ × B) StopCause) → ℕ → ℕ → Cpu → B → Access Done B
+loads_pre_decrement get d p cpu bus =
+    let at = decremented p cpu in
     let access = loaded get at (with_pair p at cpu) bus in
-    let settled = undone_by_stop cpu access access.result in
+    let settled = unless_stopped cpu access access.result in
     then_do settled settled.result (λ byte cpu bus. ends 1 2 (with_reg d byte cpu) bus)
 
 -- the byte at a data address becomes x
@@ -46,20 +50,20 @@ stores put at x words cycles cpu bus =
     let access = stored put at x cpu bus in
     then_do access access.result (λ _ cpu bus. ends words cycles cpu bus)
 
--- the byte at a pointer becomes rR, and the pointer is then one higher than it was
-unfoldable pub stores_up : {B : Type 0} → (B → ℕ → ℕ → Result B StopCause) → ℕ → ℕ → Cpu → B → Access Done B
-stores_up put p r cpu bus =
-    let above = behind p 1 cpu in
+-- post-increment: the byte at a pointer becomes rR, and the pointer is then one higher than it was
+unfoldable pub stores_post_increment : {B : Type 0} → (B → ℕ → ℕ → Result B StopCause) → ℕ → ℕ → Cpu → B → Access Done B
+stores_post_increment put p r cpu bus =
+    let next = displaced p 1 cpu in
     let access = stored put (pair_at p cpu) (slice_index cpu.r r) cpu bus in
-    then_do access access.result (λ _ cpu bus. ends 1 2 (with_pair p above cpu) bus)
+    then_do access access.result (λ _ cpu bus. ends 1 2 (with_pair p next cpu) bus)
 
--- a pointer is one lower, and then the byte at it becomes rR
-unfoldable pub stores_down : {B : Type 0} → (B → ℕ → ℕ → Result B StopCause) → ℕ → ℕ → Cpu → B → Access Done B
-stores_down put p r cpu bus =
-    let at = before p cpu in
+-- pre-decrement: a pointer is one lower, and then the byte at it becomes rR
+unfoldable pub stores_pre_decrement : {B : Type 0} → (B → ℕ → ℕ → Result B StopCause) → ℕ → ℕ → Cpu → B → Access Done B
+stores_pre_decrement put p r cpu bus =
+    let at = decremented p cpu in
     let lower = with_pair p at cpu in
     let access = stored put at (slice_index lower.r r) lower bus in
-    let settled = undone_by_stop cpu access access.result in
+    let settled = unless_stopped cpu access access.result in
     then_do settled settled.result (λ _ cpu bus. ends 1 2 cpu bus)
 
 -- rR is pushed
@@ -81,25 +85,25 @@ sets_bit get put a b on cpu bus =
     then_do got got.result (λ byte cpu bus. stores put (a + 0x20) (with_flag byte b on) 1 2 cpu bus)
 
 -- the byte address of the flash that RAMPZ and Z name
-abbrev pub far : Cpu → ℕ
-far cpu = (if cpu.rampz then 65536 else 0) + pair_at 30 cpu
+abbrev pub extended_z : Cpu → ℕ
+extended_z cpu = (if cpu.rampz then 65536 else 0) + pair_at 30 cpu
 
 -- with this byte address in RAMPZ and Z
-abbrev pub with_far : ℕ → Cpu → Cpu
-with_far at cpu = record (with_pair 30 (at % 65536) cpu) { rampz = nat_le 65536 at }
+abbrev pub with_extended_z : ℕ → Cpu → Cpu
+with_extended_z at cpu = record (with_pair 30 (at % 65536) cpu) { rampz = nat_le 65536 at }
 
 -- rD becomes the byte of the flash at Z
-abbrev pub reads_flash : List ℕ → ℕ → Cpu → Cpu
-reads_flash flash d cpu = with_reg d (byte_at flash (pair_at 30 cpu)) cpu
+abbrev pub loads_program : List ℕ → ℕ → Cpu → Cpu
+loads_program flash d cpu = with_reg d (byte_at flash (pair_at 30 cpu)) cpu
 
 -- the same, and Z is then one higher
-unfoldable pub reads_flash_up : List ℕ → ℕ → Cpu → Cpu
-reads_flash_up flash d cpu = with_pair 30 (behind 30 1 cpu) (reads_flash flash d cpu)
+unfoldable pub loads_program_post_increment : List ℕ → ℕ → Cpu → Cpu
+loads_program_post_increment flash d cpu = with_pair 30 (displaced 30 1 cpu) (loads_program flash d cpu)
 
 -- rD becomes the byte of the flash at RAMPZ and Z
-abbrev pub reads_far : List ℕ → ℕ → Cpu → Cpu
-reads_far flash d cpu = with_reg d (byte_at flash (far cpu)) cpu
+abbrev pub loads_extended : List ℕ → ℕ → Cpu → Cpu
+loads_extended flash d cpu = with_reg d (byte_at flash (extended_z cpu)) cpu
 
 -- the same, and RAMPZ and Z are then one higher
-unfoldable pub reads_far_up : List ℕ → ℕ → Cpu → Cpu
-reads_far_up flash d cpu = with_far ((far cpu + 1) % 131072) (reads_far flash d cpu)
+unfoldable pub loads_extended_post_increment : List ℕ → ℕ → Cpu → Cpu
+loads_extended_post_increment flash d cpu = with_extended_z ((extended_z cpu + 1) % 131072) (loads_extended flash d cpu)

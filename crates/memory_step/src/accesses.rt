@@ -2,13 +2,10 @@
 // its pair. Where an access stops, those before it stay, and nothing else happens.
 ghost use Rattle.std.specs.Prelude.{◌≡◌, ◌<◌, ◌≤◌, ◌+◌, false, IfOk};
 ghost use Rattle.data_space.specs.Core.{advanced};
-ghost use Rattle.memory_step.specs.Shapes.{behind, before, loads, loads_down, loads_up, pops, pushes, sets_bit, stores, stores_down, stores_up};
+ghost use Rattle.memory_step.specs.Shapes.{displaced, decremented, loads, loads_pre_decrement, loads_post_increment, pops, pushes, sets_bit, stores, stores_pre_decrement, stores_post_increment};
 
-use avr_base::{Reg, Sreg, StopCause};
+use avr_base::{IO_START, Reg, Sreg, StopCause};
 use data_space::{Bus, Cpu, Done, load, pop, push, store};
-
-// The data address of I/O address 0.
-const IO_START: u16 = 0x20;
 
 // The data address of an I/O register.
 #[inline]
@@ -31,18 +28,18 @@ pub fn end(words: u16, cycles: u8, cpu: &mut Cpu) -> Done
     }
 }
 
-// The data address `q` bytes behind a pointer.
+// The data address of a pointer with the displacement `q`.
 #[inline]
-pub fn above(p: Reg, q: u8, cpu: &Cpu) -> u16
-    ensures { result ≡ behind p q cpu.now }
+pub fn displaced(p: Reg, q: u8, cpu: &Cpu) -> u16
+    ensures { result ≡ displaced p q cpu.now }
 {
     cpu.pair(p).wrapping_add(u16::from(q))
 }
 
 // The data address before a pointer.
 #[inline]
-fn below(p: Reg, cpu: &Cpu) -> u16
-    ensures { result ≡ before p cpu.now }
+fn decremented(p: Reg, cpu: &Cpu) -> u16
+    ensures { result ≡ decremented p cpu.now }
 {
     cpu.pair(p).wrapping_sub(1)
 }
@@ -71,15 +68,15 @@ pub fn load_at<B: Bus>(
 
 // LD rD, P+.
 #[inline]
-#[tactic(auto, unfolding(crate::specs::Shapes::loads_up))]
-pub fn load_up<B: Bus>(d: Reg, p: Reg, cpu: &mut Cpu, bus: &mut B) -> Result<Done, StopCause>
-    ensures result { result ≡ (loads_up B.get_gives d p cpu.old bus.old).result }
-    ensures core { cpu.new ≡ (loads_up B.get_gives d p cpu.old bus.old).cpu }
-    ensures bus { bus.new ≡ (loads_up B.get_gives d p cpu.old bus.old).bus }
+#[tactic(auto, unfolding(crate::specs::Shapes::loads_post_increment))]
+pub fn load_post_increment<B: Bus>(d: Reg, p: Reg, cpu: &mut Cpu, bus: &mut B) -> Result<Done, StopCause>
+    ensures result { result ≡ (loads_post_increment B.get_gives d p cpu.old bus.old).result }
+    ensures core { cpu.new ≡ (loads_post_increment B.get_gives d p cpu.old bus.old).cpu }
+    ensures bus { bus.new ≡ (loads_post_increment B.get_gives d p cpu.old bus.old).bus }
     ensures takes { IfOk result (λ d. 1 ≤ d.cycles) }
 {
     let at = cpu.pair(p);
-    let next = above(p, 1, cpu);
+    let next = displaced(p, 1, cpu);
     let byte = load(cpu, bus, at)?;
     cpu.set_reg(d, byte);
     cpu.set_pair(p, next);
@@ -88,15 +85,15 @@ pub fn load_up<B: Bus>(d: Reg, p: Reg, cpu: &mut Cpu, bus: &mut B) -> Result<Don
 
 // A load at a pointer that is lowered for it, and stays as it was where the load stops.
 #[inline]
-#[tactic(auto, unfolding(crate::specs::Shapes::loads_down))]
-pub fn load_down<B: Bus>(d: Reg, p: Reg, cpu: &mut Cpu, bus: &mut B) -> Result<Done, StopCause>
-    ensures result { result ≡ (loads_down B.get_gives d p cpu.old bus.old).result }
-    ensures core { cpu.new ≡ (loads_down B.get_gives d p cpu.old bus.old).cpu }
-    ensures bus { bus.new ≡ (loads_down B.get_gives d p cpu.old bus.old).bus }
+#[tactic(auto, unfolding(crate::specs::Shapes::loads_pre_decrement))]
+pub fn load_pre_decrement<B: Bus>(d: Reg, p: Reg, cpu: &mut Cpu, bus: &mut B) -> Result<Done, StopCause>
+    ensures result { result ≡ (loads_pre_decrement B.get_gives d p cpu.old bus.old).result }
+    ensures core { cpu.new ≡ (loads_pre_decrement B.get_gives d p cpu.old bus.old).cpu }
+    ensures bus { bus.new ≡ (loads_pre_decrement B.get_gives d p cpu.old bus.old).bus }
     ensures takes { IfOk result (λ d. 1 ≤ d.cycles) }
 {
     let as_it_was = *cpu;
-    let at = below(p, cpu);
+    let at = decremented(p, cpu);
     cpu.set_pair(p, at);
     match load(cpu, bus, at) {
         Ok(byte) => {
@@ -133,15 +130,15 @@ pub fn store_at<B: Bus>(
 
 // ST P+, rR. The store may be to the pointer itself, which then is one higher than it was all the same.
 #[inline]
-#[tactic(auto, unfolding(crate::specs::Shapes::stores_up))]
-pub fn store_up<B: Bus>(p: Reg, r: Reg, cpu: &mut Cpu, bus: &mut B) -> Result<Done, StopCause>
-    ensures result { result ≡ (stores_up B.put_gives p r cpu.old bus.old).result }
-    ensures core { cpu.new ≡ (stores_up B.put_gives p r cpu.old bus.old).cpu }
-    ensures bus { bus.new ≡ (stores_up B.put_gives p r cpu.old bus.old).bus }
+#[tactic(auto, unfolding(crate::specs::Shapes::stores_post_increment))]
+pub fn store_post_increment<B: Bus>(p: Reg, r: Reg, cpu: &mut Cpu, bus: &mut B) -> Result<Done, StopCause>
+    ensures result { result ≡ (stores_post_increment B.put_gives p r cpu.old bus.old).result }
+    ensures core { cpu.new ≡ (stores_post_increment B.put_gives p r cpu.old bus.old).cpu }
+    ensures bus { bus.new ≡ (stores_post_increment B.put_gives p r cpu.old bus.old).bus }
     ensures takes { IfOk result (λ d. 1 ≤ d.cycles) }
 {
     let at = cpu.pair(p);
-    let next = above(p, 1, cpu);
+    let next = displaced(p, 1, cpu);
     let byte = cpu.reg(r);
     store(cpu, bus, at, byte)?;
     cpu.set_pair(p, next);
@@ -150,15 +147,15 @@ pub fn store_up<B: Bus>(p: Reg, r: Reg, cpu: &mut Cpu, bus: &mut B) -> Result<Do
 
 // ST -P, rR: the pointer stays as it was where the store stops.
 #[inline]
-#[tactic(auto, unfolding(crate::specs::Shapes::stores_down))]
-pub fn store_down<B: Bus>(p: Reg, r: Reg, cpu: &mut Cpu, bus: &mut B) -> Result<Done, StopCause>
-    ensures result { result ≡ (stores_down B.put_gives p r cpu.old bus.old).result }
-    ensures core { cpu.new ≡ (stores_down B.put_gives p r cpu.old bus.old).cpu }
-    ensures bus { bus.new ≡ (stores_down B.put_gives p r cpu.old bus.old).bus }
+#[tactic(auto, unfolding(crate::specs::Shapes::stores_pre_decrement))]
+pub fn store_pre_decrement<B: Bus>(p: Reg, r: Reg, cpu: &mut Cpu, bus: &mut B) -> Result<Done, StopCause>
+    ensures result { result ≡ (stores_pre_decrement B.put_gives p r cpu.old bus.old).result }
+    ensures core { cpu.new ≡ (stores_pre_decrement B.put_gives p r cpu.old bus.old).cpu }
+    ensures bus { bus.new ≡ (stores_pre_decrement B.put_gives p r cpu.old bus.old).bus }
     ensures takes { IfOk result (λ d. 1 ≤ d.cycles) }
 {
     let as_it_was = *cpu;
-    let at = below(p, cpu);
+    let at = decremented(p, cpu);
     cpu.set_pair(p, at);
     let byte = cpu.reg(r);
     match store(cpu, bus, at, byte) {

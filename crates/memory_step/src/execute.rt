@@ -2,13 +2,13 @@
 ghost use Rattle.std.specs.Prelude.{◌≡◌, ◌≤◌, IfOk};
 ghost use Rattle.avr_decoder.specs.Class.{class_of};
 ghost use Rattle.avr_decoder.specs.declared.op.Class.TheVariants.{Memory};
-ghost use Rattle.memory_step.specs.Table.{memory_executed};
+ghost use Rattle.memory_step.specs.Table.{memory_effect};
 
 use crate::accesses::{
-    above, io, load_at, load_down, load_up, pop_reg, push_reg, set_bit, store_at, store_down,
-    store_up,
+    displaced, io, load_at, load_pre_decrement, load_post_increment, pop_reg, push_reg, set_bit, store_at, store_pre_decrement,
+    store_post_increment,
 };
-use crate::flash::{read, read_far, read_far_up, read_up};
+use crate::flash::{load_program, load_extended, load_extended_post_increment, load_program_post_increment};
 use avr_base::{Reg, StopCause};
 use avr_decoder::Op;
 use data_space::{Bus, Cpu, Done};
@@ -28,9 +28,9 @@ use ihex_loader::Flash;
 #[tactic(auto, unfolding(crate::specs::Table::memory_effect))]
 pub fn exec<B: Bus>(op: Op, flash: &Flash, cpu: &mut Cpu, bus: &mut B) -> Result<Done, StopCause>
     requires { class_of op ≡ Memory }
-    ensures result { result ≡ (memory_executed B.get_gives B.put_gives flash.now.bytes op cpu.old bus.old).result }
-    ensures core { cpu.new ≡ (memory_executed B.get_gives B.put_gives flash.now.bytes op cpu.old bus.old).cpu }
-    ensures bus { bus.new ≡ (memory_executed B.get_gives B.put_gives flash.now.bytes op cpu.old bus.old).bus }
+    ensures result { result ≡ (memory_effect B.get_gives B.put_gives flash.now.bytes op cpu.old bus.old).result }
+    ensures core { cpu.new ≡ (memory_effect B.get_gives B.put_gives flash.now.bytes op cpu.old bus.old).cpu }
+    ensures bus { bus.new ≡ (memory_effect B.get_gives B.put_gives flash.now.bytes op cpu.old bus.old).bus }
     // so the cycles can be counted down
     ensures takes { IfOk result (λ d. 1 ≤ d.cycles) }
 {
@@ -39,37 +39,37 @@ pub fn exec<B: Bus>(op: Op, flash: &Flash, cpu: &mut Cpu, bus: &mut B) -> Result
     let z = Reg::numbered(30);
     match op {
         Op::LdX { d } => load_at(d, cpu.pair(x), 1, 2, cpu, bus),
-        Op::LddY { d, q } => load_at(d, above(y, q, cpu), 1, 2, cpu, bus),
-        Op::LddZ { d, q } => load_at(d, above(z, q, cpu), 1, 2, cpu, bus),
+        Op::LddY { d, q } => load_at(d, displaced(y, q, cpu), 1, 2, cpu, bus),
+        Op::LddZ { d, q } => load_at(d, displaced(z, q, cpu), 1, 2, cpu, bus),
         Op::Lds { d, k } => load_at(d, k, 2, 2, cpu, bus),
         Op::InIo { d, a } => load_at(d, io(a), 1, 1, cpu, bus),
-        Op::LdXInc { d } => load_up(d, x, cpu, bus),
-        Op::LdYInc { d } => load_up(d, y, cpu, bus),
-        Op::LdZInc { d } => load_up(d, z, cpu, bus),
-        Op::LdXDec { d } => load_down(d, x, cpu, bus),
-        Op::LdYDec { d } => load_down(d, y, cpu, bus),
-        Op::LdZDec { d } => load_down(d, z, cpu, bus),
+        Op::LdXInc { d } => load_post_increment(d, x, cpu, bus),
+        Op::LdYInc { d } => load_post_increment(d, y, cpu, bus),
+        Op::LdZInc { d } => load_post_increment(d, z, cpu, bus),
+        Op::LdXDec { d } => load_pre_decrement(d, x, cpu, bus),
+        Op::LdYDec { d } => load_pre_decrement(d, y, cpu, bus),
+        Op::LdZDec { d } => load_pre_decrement(d, z, cpu, bus),
         Op::StX { r } => store_at(cpu.pair(x), cpu.reg(r), 1, 2, cpu, bus),
-        Op::StdY { q, r } => store_at(above(y, q, cpu), cpu.reg(r), 1, 2, cpu, bus),
-        Op::StdZ { q, r } => store_at(above(z, q, cpu), cpu.reg(r), 1, 2, cpu, bus),
+        Op::StdY { q, r } => store_at(displaced(y, q, cpu), cpu.reg(r), 1, 2, cpu, bus),
+        Op::StdZ { q, r } => store_at(displaced(z, q, cpu), cpu.reg(r), 1, 2, cpu, bus),
         Op::Sts { k, r } => store_at(k, cpu.reg(r), 2, 2, cpu, bus),
         Op::OutIo { a, r } => store_at(io(a), cpu.reg(r), 1, 1, cpu, bus),
-        Op::StXInc { r } => store_up(x, r, cpu, bus),
-        Op::StYInc { r } => store_up(y, r, cpu, bus),
-        Op::StZInc { r } => store_up(z, r, cpu, bus),
-        Op::StXDec { r } => store_down(x, r, cpu, bus),
-        Op::StYDec { r } => store_down(y, r, cpu, bus),
-        Op::StZDec { r } => store_down(z, r, cpu, bus),
+        Op::StXInc { r } => store_post_increment(x, r, cpu, bus),
+        Op::StYInc { r } => store_post_increment(y, r, cpu, bus),
+        Op::StZInc { r } => store_post_increment(z, r, cpu, bus),
+        Op::StXDec { r } => store_pre_decrement(x, r, cpu, bus),
+        Op::StYDec { r } => store_pre_decrement(y, r, cpu, bus),
+        Op::StZDec { r } => store_pre_decrement(z, r, cpu, bus),
         Op::Push { r } => push_reg(r, cpu, bus),
         Op::Pop { d } => pop_reg(d, cpu, bus),
         Op::Sbi { a, b } => set_bit(a, b % 8, true, cpu, bus),
         Op::Cbi { a, b } => set_bit(a, b % 8, false, cpu, bus),
-        Op::LpmR0 => Ok(read(Reg::numbered(0), flash, cpu)),
-        Op::LpmZ { d } => Ok(read(d, flash, cpu)),
-        Op::LpmZInc { d } => Ok(read_up(d, flash, cpu)),
-        Op::ElpmR0 => Ok(read_far(Reg::numbered(0), flash, cpu)),
-        Op::ElpmZ { d } => Ok(read_far(d, flash, cpu)),
-        Op::ElpmZInc { d } => Ok(read_far_up(d, flash, cpu)),
+        Op::LpmR0 => Ok(load_program(Reg::numbered(0), flash, cpu)),
+        Op::LpmZ { d } => Ok(load_program(d, flash, cpu)),
+        Op::LpmZInc { d } => Ok(load_program_post_increment(d, flash, cpu)),
+        Op::ElpmR0 => Ok(load_extended(Reg::numbered(0), flash, cpu)),
+        Op::ElpmZ { d } => Ok(load_extended(d, flash, cpu)),
+        Op::ElpmZInc { d } => Ok(load_extended_post_increment(d, flash, cpu)),
         _ => unreachable!(),
     }
 }

@@ -1,9 +1,9 @@
 // The instructions that load from the flash. They have no access that could stop.
 ghost use Rattle.std.specs.Prelude.{◌≡◌, ◌<◌, false};
 ghost use Rattle.data_space.specs.Core.{advanced};
-ghost use Rattle.memory_step.specs.Shapes.{far, reads_far, reads_far_up, reads_flash, reads_flash_up, with_far};
+ghost use Rattle.memory_step.specs.Shapes.{extended_z, loads_extended, loads_extended_post_increment, loads_program, loads_program_post_increment, with_extended_z};
 
-use crate::accesses::{above, end};
+use crate::accesses::{displaced, end};
 use avr_base::Reg;
 use data_space::{Cpu, Done};
 use ihex_loader::Flash;
@@ -23,8 +23,8 @@ fn z() -> Reg
 
 // The byte address that RAMPZ and Z name.
 #[inline]
-fn far_address(cpu: &Cpu) -> u32
-    ensures value { result ≡ far cpu.now }
+fn extended_z(cpu: &Cpu) -> u32
+    ensures value { result ≡ extended_z cpu.now }
     ensures within { result < 131072 }
 {
     let half = if cpu.rampz { HALF } else { 0 };
@@ -32,9 +32,9 @@ fn far_address(cpu: &Cpu) -> u32
 }
 
 #[inline]
-fn set_far_address(at: u32, cpu: &mut Cpu)
+fn set_extended_z(at: u32, cpu: &mut Cpu)
     requires { at < 131072 }
-    ensures { cpu.new ≡ with_far at cpu.old }
+    ensures { cpu.new ≡ with_extended_z at cpu.old }
 {
     cpu.set_pair(z(), (at % HALF) as u16);
     cpu.rampz = at >= HALF;
@@ -42,8 +42,8 @@ fn set_far_address(at: u32, cpu: &mut Cpu)
 
 // LPM rD, Z.
 #[inline]
-pub fn read(d: Reg, flash: &Flash, cpu: &mut Cpu) -> Done
-    ensures core { cpu.new ≡ advanced 1 (reads_flash flash.now.bytes d cpu.old) }
+pub fn load_program(d: Reg, flash: &Flash, cpu: &mut Cpu) -> Done
+    ensures core { cpu.new ≡ advanced 1 (loads_program flash.now.bytes d cpu.old) }
     ensures reported { result ≡ record { cycles = 3; sleep = false } }
 {
     let at = u32::from(cpu.pair(z()));
@@ -53,12 +53,12 @@ pub fn read(d: Reg, flash: &Flash, cpu: &mut Cpu) -> Done
 
 // LPM rD, Z+.
 #[inline]
-#[tactic(auto, unfolding(crate::specs::Shapes::reads_flash_up))]
-pub fn read_up(d: Reg, flash: &Flash, cpu: &mut Cpu) -> Done
-    ensures core { cpu.new ≡ advanced 1 (reads_flash_up flash.now.bytes d cpu.old) }
+#[tactic(auto, unfolding(crate::specs::Shapes::loads_program_post_increment))]
+pub fn load_program_post_increment(d: Reg, flash: &Flash, cpu: &mut Cpu) -> Done
+    ensures core { cpu.new ≡ advanced 1 (loads_program_post_increment flash.now.bytes d cpu.old) }
     ensures reported { result ≡ record { cycles = 3; sleep = false } }
 {
-    let next = above(z(), 1, cpu);
+    let next = displaced(z(), 1, cpu);
     let at = u32::from(cpu.pair(z()));
     cpu.set_reg(d, flash.byte(at));
     cpu.set_pair(z(), next);
@@ -67,24 +67,24 @@ pub fn read_up(d: Reg, flash: &Flash, cpu: &mut Cpu) -> Done
 
 // ELPM rD, Z.
 #[inline]
-pub fn read_far(d: Reg, flash: &Flash, cpu: &mut Cpu) -> Done
-    ensures core { cpu.new ≡ advanced 1 (reads_far flash.now.bytes d cpu.old) }
+pub fn load_extended(d: Reg, flash: &Flash, cpu: &mut Cpu) -> Done
+    ensures core { cpu.new ≡ advanced 1 (loads_extended flash.now.bytes d cpu.old) }
     ensures reported { result ≡ record { cycles = 3; sleep = false } }
 {
-    let at = far_address(cpu);
+    let at = extended_z(cpu);
     cpu.set_reg(d, flash.byte(at));
     end(1, 3, cpu)
 }
 
 // ELPM rD, Z+.
 #[inline]
-#[tactic(auto, unfolding(crate::specs::Shapes::reads_far_up))]
-pub fn read_far_up(d: Reg, flash: &Flash, cpu: &mut Cpu) -> Done
-    ensures core { cpu.new ≡ advanced 1 (reads_far_up flash.now.bytes d cpu.old) }
+#[tactic(auto, unfolding(crate::specs::Shapes::loads_extended_post_increment))]
+pub fn load_extended_post_increment(d: Reg, flash: &Flash, cpu: &mut Cpu) -> Done
+    ensures core { cpu.new ≡ advanced 1 (loads_extended_post_increment flash.now.bytes d cpu.old) }
     ensures reported { result ≡ record { cycles = 3; sleep = false } }
 {
-    let at = far_address(cpu);
+    let at = extended_z(cpu);
     cpu.set_reg(d, flash.byte(at));
-    set_far_address((at + 1) % FLASH, cpu);
+    set_extended_z((at + 1) % FLASH, cpu);
     end(1, 3, cpu)
 }

@@ -1,4 +1,3 @@
-pub mod Keeps
 pub mod Cycles
 pub mod Radio
 pub mod Runs

@@ -10,8 +10,8 @@ use Rattle.data_space.specs.declared.cpu.Cpu.{Cpu}
 use Rattle.data_space.specs.Space.{Access}
 use Rattle.arith_step.specs.Shapes.{sets_flag}
 use Rattle.arith_step.specs.Table.{effect}
-use Rattle.flow_step.specs.Sequence as flow
-use Rattle.flow_step.specs.Shapes.{jumped, pops_return, returns_enabling}
+use Rattle.data_space.specs.Sequence.{popped_word, then_do}
+use Rattle.flow_step.specs.Shapes.{ends, jumped, returns_enabling}
 use Rattle.flow_step.specs.Table.{flow_effect}
 use Rattle.node_core.specs.declared.bus.NodeBus.{NodeBus}
 use Rattle.node_core.specs.Bus.{bus_get}
@@ -27,13 +27,13 @@ flag_on bits = omega arith
 abbrev SetsI : Access Done NodeBus → Type 0
 SetsI a = IfOk a.result (λ d. 128 ≤ a.cpu.sreg.bits)
 
-enabled : (a : Access ℕ NodeBus) (r : Result ℕ StopCause) → SetsI (flow.then_do a r (λ pc cpu bus. flow.ends (jumped 4 pc (record cpu { sreg = record { bits = with_flag cpu.sreg.bits 7 true } })) bus))
+enabled : (a : Access ℕ NodeBus) (r : Result ℕ StopCause) → SetsI (then_do a r (λ pc cpu bus. ends (jumped 4 pc (record cpu { sreg = record { bits = with_flag cpu.sreg.bits 7 true } })) bus))
 enabled a (Ok pc) = flag_on a.cpu.sreg.bits
 enabled a (Err cause) = tt
 
 reti_on : (cpu : Cpu) (bus : NodeBus) → SetsI (returns_enabling bus_get cpu bus)
 unfolding returns_enabling
-reti_on cpu bus = let back = pops_return bus_get cpu bus in enabled back back.result
+reti_on cpu bus = let back = popped_word bus_get cpu bus in enabled back back.result
 
 seven_on : (bits s : ℕ) → (s == 7) ≡ true → 128 ≤ with_flag bits (s % 8) true
 seven_on bits s e =

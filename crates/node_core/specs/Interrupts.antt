@@ -1,11 +1,11 @@
 -- Serving an interrupt (ATmega128 datasheet, "Reset and Interrupt Handling"): the program counter is pushed, its low byte
 -- first, the flag I is cleared, and the program goes on at the vector.
-use Rattle.std.specs.Prelude.{ℕ, ◌/◌, ◌%◌, false, Option}
-use Rattle.avr_base.specs.Flags.{with_flag}
+use Rattle.std.specs.Prelude.{ℕ, false, Option}
+use Rattle.avr_base.specs.Flags.{I, with_flag}
 use Rattle.board_io.specs.Lines.{lines_of}
 use Rattle.data_space.specs.declared.cpu.Cpu.{Cpu}
-use Rattle.data_space.specs.Space.{Access, pushed, takes}
-use Rattle.flow_step.specs.Sequence.{then_do}
+use Rattle.data_space.specs.Space.{Access, takes}
+use Rattle.data_space.specs.Sequence.{pushed_word, then_do}
 use Rattle.interrupt_unit.specs.declared.unit.Vector.{Vector}
 use Rattle.interrupt_unit.specs.Lines.{due_of}
 use Rattle.node_core.specs.declared.bus.NodeBus.{NodeBus}
@@ -17,13 +17,10 @@ abbrev pub due : NodeState → Option Vector
 due s = due_of s.cpu.sreg.bits (lines_of s.bus.board)
 
 abbrev pub vectored : ℕ → Cpu → Cpu
-vectored word cpu = record cpu { pc = word; sreg = record { bits = with_flag cpu.sreg.bits 7 false } }
+vectored word cpu = record cpu { pc = word; sreg = record { bits = with_flag cpu.sreg.bits I false } }
 
 -- where a push stops, the one before it stays and nothing follows
 unfoldable pub entry : ℕ → Cpu → NodeBus → Access (Unit {0}) NodeBus
 entry word cpu bus =
-    let back = cpu.pc in
-    let low = pushed bus_put (back % 256) cpu bus in
-    then_do low low.result (λ _ cpu bus.
-    (let high = pushed bus_put (back / 256) cpu bus in
-    then_do high high.result (λ _ cpu bus. takes (vectored word cpu) bus)))
+    let back = pushed_word bus_put cpu.pc cpu bus in
+    then_do back back.result (λ _ cpu bus. takes (vectored word cpu) bus)

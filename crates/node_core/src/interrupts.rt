@@ -3,12 +3,9 @@ ghost use Rattle.std.specs.Prelude.{◌≡◌};
 ghost use Rattle.node_core.specs.Interrupts.{entry};
 
 use crate::NodeBus;
-use avr_base::StopCause;
-use data_space::{Cpu, push};
+use avr_base::{Sreg, StopCause};
+use data_space::{Cpu, push_word};
 use interrupt_unit::Vector;
-
-// The flag that lets interrupts in.
-const I: u8 = 7;
 
 /// Pushes the program counter, its low byte first, shuts interrupts out, and goes on at the vector. Where a push stops,
 /// the one before it stays and nothing follows.
@@ -19,9 +16,8 @@ pub fn enter(vector: Vector, cpu: &mut Cpu, bus: &mut NodeBus) -> Result<(), Sto
     ensures bus { bus.new ≡ (entry vector.word cpu.old bus.old).bus }
 {
     let back = cpu.pc;
-    push(cpu, bus, (back % 256) as u8)?;
-    push(cpu, bus, (back / 256) as u8)?;
-    cpu.sreg = cpu.sreg.with(I, false);
+    push_word(cpu, bus, back)?;
+    cpu.sreg = cpu.sreg.with(Sreg::I, false);
     cpu.pc = vector.word;
     Ok(())
 }

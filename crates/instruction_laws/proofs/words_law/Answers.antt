@@ -1,5 +1,5 @@
-use Rattle.instruction_laws.proofs.Widths.{words_by_first}
+use Rattle.avr_decoder.proofs.Long.{words_by_word}
 use Rattle.instruction_laws.proofs.words_law.Goals as goal
 
 pub returns : goal.returns
-returns c = words_by_first
+returns c = words_by_word

@@ -1,7 +1,7 @@
 use Rattle.std.proofs.Common.{◌≡◌, ◌<◌, ◌≤◌, ◌∙◌, if◌then◌else◌, arith, refl}
 use Rattle.std.proofs.lemmas.Result.{err_from_is_err_and}
 use Rattle.sim_io.proofs.Pages.{stands_first, stands_moved, stands_more, stands_front, stands_all}
-use Rattle.avr_decoder.specs.Opcodes.{is_two_words}
+use Rattle.avr_decoder.specs.Words.{is_two_words}
 use Rattle.ihex_loader.specs.Flash.{word_at}
 use Rattle.avrora_top.specs.Listing.{words_used}
 use Rattle.avrora_top.proofs.Lines.{lines_left_all, lines_left_none, lines_left_step, first_step, two_at_most, word_0_first}

@@ -1,13 +1,26 @@
--- The rows of the opcode table whose instructions take two words are those of the two-word patterns.
+-- The rows of the opcode table whose instructions take two words are those of four patterns, so the second word changes
+-- nothing, and a test of the bits of the first one tells.
 use Rattle.std.proofs.Common.{◌≡◌, ℕ, ◌==◌, ◌≤◌, Bool, true, false, refl, sym, ap, subst, ◌∙◌, List, [], ◌∷◌, length, if◌then◌else◌, arith, inl, inr, ◌⊎◌}
-use Rattle.std.specs.Prelude.{filter}
+use Rattle.std.specs.Prelude.{codes, filter}
 use Rattle.std.proofs.lemmas.Bool.{false≢true, cases_Bool}
 use Rattle.std.proofs.lemmas.Bool.Decides.{nat_tests}
-use Rattle.avr_decoder.specs.Opcodes.{Row, bits, fits, is_two_words, matches, matches_any, op_at, rows_at, spelled, table, two_word_patterns, undefined}
+use Rattle.avr_decoder.specs.Opcodes.{Row, bits, fits, matches, matches_any, op_at, rows_at, spelled, table, undefined}
+use Rattle.avr_decoder.specs.Words.{words_of, is_two_words}
 use Rattle.avr_decoder.specs.declared.op.Op.{Op}
 use Rattle.avr_decoder.specs.declared.op.Op.TheVariants as op
 use Rattle.avr_decoder.proofs.Apart.{one_row}
-use Rattle.instruction_laws.specs.Words.{words_of}
+
+-- LDS, STS, JMP and CALL
+abbrev pub two_word_patterns : List (List ℕ)
+two_word_patterns =
+    codes "1001000ddddd0000" ∷
+    codes "1001001rrrrr0000" ∷
+    codes "1001010kkkkk110k" ∷
+    codes "1001010kkkkk111k" ∷
+    []
+
+abbrev pub by_patterns : ℕ → Bool
+by_patterns w = matches_any two_word_patterns (bits 16 w)
 
 abbrev is_long : Row → Bool
 is_long row = words_of (row.made (λ _. 0) 0) == 2
@@ -124,12 +137,11 @@ none_with (p ∷ ps) qs bs k m =
       | inr fails ↦ none_with ps qs bs parts.1 (rw (fails, matches_any) at m)
     ]
 
-undefined_short : (w : ℕ) → matches_any undefined (bits 16 w) ≡ true → is_two_words w ≡ false
-unfolding is_two_words
+undefined_short : (w : ℕ) → matches_any undefined (bits 16 w) ≡ true → by_patterns w ≡ false
 undefined_short w h = none_with undefined two_word_patterns (bits 16 w) refl h
 
-long_by_rows : (w : ℕ) → is_two_words w ≡ any_long (rows_at w)
-unfolding is_two_words rows_at
+long_by_rows : (w : ℕ) → by_patterns w ≡ any_long (rows_at w)
+unfolding rows_at
 long_by_rows w = ap (λ ps. matches_any ps (bits 16 w)) table_long ∙ some_long table (bits 16 w)
 
 by_long : (b : Bool) (n : ℕ) → n ≡ (if b then 2 else 1) → n ≡ (if elim b [ true ↦ true | false ↦ false ] then 2 else 1)
@@ -168,9 +180,20 @@ of_rows w next (row ∷ []) e =
 of_rows w next (row ∷ other ∷ rest) e =
     absurd (not_two w row other rest e)
 
-pub words_by_first : (w next : ℕ) → words_of (op_at w next) ≡ (if is_two_words w then 2 else 1)
+words_by_first : (w next : ℕ) → words_of (op_at w next) ≡ (if by_patterns w then 2 else 1)
 words_by_first w next =
     elim (cases_Bool (matches_any undefined (bits 16 w))) [
       | inl holds ↦ op_is w next true (rows_at w) holds refl ∙ ap (λ b. if b then 2 else 1) (sym (undefined_short w holds))
       | inr fails ↦ op_is w next false (rows_at w) fails refl ∙ of_rows w next (rows_at w) refl ∙ ap (λ b. if b then 2 else 1) (sym (long_by_rows w))
     ]
+
+two_or_one : (b : Bool) → ((if b then 2 else 1) == 2) ≡ b
+two_or_one true = refl
+two_or_one false = refl
+
+pub is_two_words-by_patterns : (w : ℕ) → is_two_words w ≡ by_patterns w
+unfolding is_two_words
+is_two_words-by_patterns w = ap (λ n. n == 2) (words_by_first w 0) ∙ two_or_one (by_patterns w)
+
+pub words_by_word : (w next : ℕ) → words_of (op_at w next) ≡ (if is_two_words w then 2 else 1)
+words_by_word w next = words_by_first w next ∙ ap (λ b. if b then 2 else 1) (sym (is_two_words-by_patterns w))
