@@ -1,8 +1,6 @@
 // The inside of a node, cycle by cycle.
 ghost use Rattle.std.specs.Prelude.{◌≡◌, ◌<◌, ◌≤◌, ◌+◌, ◌-◌, ◌^◌, ◌%◌, ◌++◌, ◌&&◌, ◌||◌, nat_le, nat_lt, None, Some, true, false, is_some, IfOk, OnOk, OnErr, vec_len, vec_capacity};
 ghost use Rattle.node_core.specs.Cycle.{acted, acted_rows, asks_after, asks_in, begun_in, begun_rows, cpu_cycle, cpu_rows, device_rows, devices_cycle, entered, entered_rows, finished_in, finished_rows, instructed, instructed_rows, is_idle, is_other, is_sei, is_sleep, owes, row, row_within, sends_after, sends_in, sent_rows, serial_rows};
-ghost use Rattle.avr_decoder.specs.Class.{class_of};
-ghost use Rattle.avr_decoder.specs.declared.op.Class.TheVariants as class;
 ghost use Rattle.trace_rows.specs.declared.row.Kind.TheVariants as kind;
 ghost use Rattle.node_core.specs.Inside.{IsAir, IsGoing};
 ghost use Rattle.node_core.specs.Interrupts.{due};
@@ -31,25 +29,13 @@ use world_core::Heard;
 // The rows that a cycle makes at most: the processor's, a frame's, and one of the radio's before and after its sample.
 const ROWS_OF_A_CYCLE: usize = 4;
 
-// SEI, of the instructions on registers. One comparison, where a choice among several instructions is a table of jumps.
+// SEI and RETI.
 #[inline(always)]
 fn is_set_interrupts(op: &Op) -> bool
-    requires { class_of op.now ≡ class.Arith }
     ensures { result ≡ is_sei op.now }
 {
     match op {
         Op::Bset { s } => *s == 7,
-        _ => false,
-    }
-}
-
-// RETI, of the instructions of the program's flow.
-#[inline(always)]
-fn is_return_from_interrupt(op: &Op) -> bool
-    requires { class_of op.now ≡ class.Flow }
-    ensures { result ≡ is_sei op.now }
-{
-    match op {
         Op::Reti => true,
         _ => false,
     }
@@ -90,31 +76,16 @@ fn turns_on(before: u8, after: u8) -> bool
     before < 128 && after >= 128
 }
 
-// Whether an instruction on registers is owed another before the next interrupt is entered. SEI leaves I set, so without it
-// none is.
+// Whether an instruction is owed before the next interrupt is entered. SEI and RETI leave I set, so without it none is.
 #[inline(always)]
 fn owes(op: &Op, before: u8, after: u8) -> bool
-    requires class { class_of op.now ≡ class.Arith }
-    requires on { is_sei op.now ≡ true → 128 ≤ after }
+    requires { is_sei op.now ≡ true → 128 ≤ after }
     ensures { result ≡ owes op.now before after }
 {
     if after < 128 {
         return false;
     }
     before < 128 || is_set_interrupts(op)
-}
-
-// So an instruction of the program's flow: RETI leaves I set.
-#[inline(always)]
-fn owes_on_return(op: &Op, before: u8, after: u8) -> bool
-    requires class { class_of op.now ≡ class.Flow }
-    requires on { is_sei op.now ≡ true → 128 ≤ after }
-    ensures { result ≡ owes op.now before after }
-{
-    if after < 128 {
-        return false;
-    }
-    before < 128 || is_return_from_interrupt(op)
 }
 
 // What the radio does in a cycle, by whether it samples the air and what it sends.
@@ -270,7 +241,7 @@ impl Machine {
                 self.bus.at(cycle);
                 match go_on(&op, self.program.flash(), &mut self.cpu, &mut self.bus) {
                     Ok(done) => {
-                        let owed = owes_on_return(&op, before, self.cpu.sreg.bits);
+                        let owed = owes(&op, before, self.cpu.sreg.bits);
                         self.end(cycle, pc, owed, done)
                     }
                     Err(cause) => {

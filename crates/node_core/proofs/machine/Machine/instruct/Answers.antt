@@ -1,6 +1,6 @@
 use Rattle.std.proofs.Common.{◌++◌, List, Ok, refl, sym, ap, ◌∙◌}
 use Rattle.avr_decoder.specs.Class.{class_of}
-use Rattle.data_space.specs.Outcome.{Outcome}
+use Rattle.data_space.specs.Sequence.{Outcome}
 use Rattle.trace_rows.specs.declared.row.Row.{Row}
 use Rattle.node_core.specs.Shown.{shown}
 use Rattle.node_core.proofs.Halting.{halted, halted_rows}
@@ -9,11 +9,11 @@ use Rattle.node_core.proofs.Clocks.{executed_clock}
 use Rattle.node_core.proofs.Sei.{sei_left_on}
 use Rattle.node_core.proofs.machine.Machine.instruct.Goals as goal
 
-pub owes_on_return-owed-requires-clause-on : goal.owes_on_return-owed-requires-clause-on
-owes_on_return-owed-requires-clause-on c = sei_left_on _ _ _ _ c.in-Ok.done _ _ c.in-Ok.is c.go_on.ensures.result c.go_on.ensures.cpu
+pub owes-owed-requires-in-Ok : goal.owes-owed-requires-in-Ok
+owes-owed-requires-in-Ok c = sei_left_on _ _ _ _ c.in-Ok.done _ _ c.in-Ok.is c.go_on.ensures.result c.go_on.ensures.cpu
 
-pub owes-owed-requires-clause-on : goal.owes-owed-requires-clause-on
-owes-owed-requires-clause-on c =
+pub owes-owed-requires : goal.owes-owed-requires
+owes-owed-requires c =
     let done = c.compute-done.result in
     let e = c.compute-done.ensures.done c.args.self.now.program.bytes c.args.self.now.bus in
     sei_left_on _ _ _ _ done (Ok done) c.compute-done.new.cpu refl (sym (ap (λ (o : Outcome NodeBus). o.result) e)) (sym (ap (λ (o : Outcome NodeBus). o.cpu) e))
