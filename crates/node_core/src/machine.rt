@@ -1,6 +1,8 @@
 // The inside of a node, cycle by cycle.
-ghost use Rattle.std.specs.Prelude.{◌≡◌, ◌<◌, ◌≤◌, ◌+◌, ◌-◌, ◌^◌, ◌%◌, ◌++◌, ◌&&◌, ◌||◌, nat_le, nat_lt, None, Some, true, false, is_some, IfOk, OnOk, OnErr, vec_len, vec_capacity};
+ghost use Rattle.std.specs.Prelude.{◌≡◌, ◌==◌, ◌<◌, ◌≤◌, ◌+◌, ◌-◌, ◌^◌, ◌%◌, ◌++◌, ◌&&◌, ◌||◌, nat_le, nat_lt, None, Some, true, false, is_some, IfOk, OnOk, OnErr, vec_len, vec_capacity};
 ghost use Rattle.node_core.specs.Cycle.{acted, acted_rows, asks_after, asks_in, begun_in, begun_rows, cpu_cycle, cpu_rows, device_rows, devices_cycle, entered, entered_rows, finished_in, finished_rows, instructed, instructed_rows, is_idle, is_other, is_sei, is_sleep, owes, row, row_within, sends_after, sends_in, sent_rows, serial_rows};
+ghost use Rattle.avr_decoder.specs.Class.{class_of};
+ghost use Rattle.avr_decoder.specs.declared.op.Class.TheVariants as class;
 ghost use Rattle.trace_rows.specs.declared.row.Kind.TheVariants as kind;
 ghost use Rattle.node_core.specs.Inside.{IsAir, IsGoing};
 ghost use Rattle.node_core.specs.Interrupts.{due};
@@ -37,6 +39,26 @@ fn is_set_interrupts(op: &Op) -> bool
     match op {
         Op::Bset { s } => *s == 7,
         Op::Reti => true,
+        _ => false,
+    }
+}
+
+// Whether a flag is I. Few instructions name a flag: it stands by itself, so that the test before it stays a jump.
+#[inline(never)]
+fn is_enable(flag: u8) -> bool
+    ensures { result ≡ (flag == 7) }
+{
+    flag == 7
+}
+
+// SEI, of the instructions on registers: one comparison, where a choice among several instructions is a table of jumps.
+#[inline(always)]
+fn is_enabling(op: &Op) -> bool
+    requires { class_of op.now ≡ class.Arith }
+    ensures { result ≡ is_sei op.now }
+{
+    match op {
+        Op::Bset { s } => is_enable(*s),
         _ => false,
     }
 }
@@ -86,6 +108,19 @@ fn owes(op: &Op, before: u8, after: u8) -> bool
         return false;
     }
     before < 128 || is_set_interrupts(op)
+}
+
+// So an instruction on registers.
+#[inline(always)]
+fn owes_after_compute(op: &Op, before: u8, after: u8) -> bool
+    requires class { class_of op.now ≡ class.Arith }
+    requires on { is_sei op.now ≡ true → 128 ≤ after }
+    ensures { result ≡ owes op.now before after }
+{
+    if after < 128 {
+        return false;
+    }
+    before < 128 || is_enabling(op)
 }
 
 // What the radio does in a cycle, by whether it samples the air and what it sends.
@@ -194,12 +229,13 @@ impl Machine {
         ensures script { self.new.script ≡ self.old.script }
         ensures clock { self.new.bus.board.clock ≡ self.old.bus.board.clock }
     {
-        self.wait = done.cycles - 1;
         self.owed = owed;
         self.count += 1;
         if done.sleep || cycle < self.to {
+            self.wait = done.cycles - 1;
             return self.end_instruction(cycle, pc, done);
         }
+        self.wait = done.cycles - 1;
         done.cycles
     }
 
@@ -230,7 +266,7 @@ impl Machine {
         match op.class() {
             Class::Arith => {
                 let done = compute(&op, &mut self.cpu);
-                let owed = owes(&op, before, self.cpu.sreg.bits);
+                let owed = owes_after_compute(&op, before, self.cpu.sreg.bits);
                 self.end(cycle, pc, owed, done)
             }
             Class::Flow => {

@@ -29,10 +29,11 @@ impl Machine {
         ensures clock { result ≡ true → self.new.bus.board.clock ≡ cycle + taken }
         ensures within { result ≡ true → cycle + taken ≤ end }
     {
-        if taken == 0 || cycle + u64::from(taken) > end {
+        if taken == 0 {
             return false;
         }
-        if !self.bus.board.passes(cycle, taken) {
+        if cycle + u64::from(taken) > end || !self.bus.board.passes(cycle, taken) {
+            self.wait = taken - 1;
             return false;
         }
         self.wait = 0;

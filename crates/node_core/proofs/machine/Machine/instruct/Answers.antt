@@ -9,11 +9,11 @@ use Rattle.node_core.proofs.Clocks.{executed_clock}
 use Rattle.node_core.proofs.Sei.{sei_left_on}
 use Rattle.node_core.proofs.machine.Machine.instruct.Goals as goal
 
-pub owes-owed-requires-in-Ok : goal.owes-owed-requires-in-Ok
-owes-owed-requires-in-Ok c = sei_left_on _ _ _ _ c.in-Ok.done _ _ c.in-Ok.is c.go_on.ensures.result c.go_on.ensures.cpu
-
 pub owes-owed-requires : goal.owes-owed-requires
-owes-owed-requires c =
+owes-owed-requires c = sei_left_on _ _ _ _ c.in-Ok.done _ _ c.in-Ok.is c.go_on.ensures.result c.go_on.ensures.cpu
+
+pub owes_after_compute-owed-requires-clause-on : goal.owes_after_compute-owed-requires-clause-on
+owes_after_compute-owed-requires-clause-on c =
     let done = c.compute-done.result in
     let e = c.compute-done.ensures.done c.args.self.now.program.bytes c.args.self.now.bus in
     sei_left_on _ _ _ _ done (Ok done) c.compute-done.new.cpu refl (sym (ap (λ (o : Outcome NodeBus). o.result) e)) (sym (ap (λ (o : Outcome NodeBus). o.cpu) e))
