@@ -229,13 +229,12 @@ impl Machine {
         ensures script { self.new.script ≡ self.old.script }
         ensures clock { self.new.bus.board.clock ≡ self.old.bus.board.clock }
     {
+        self.wait = done.cycles - 1;
         self.owed = owed;
         self.count += 1;
         if done.sleep || cycle < self.to {
-            self.wait = done.cycles - 1;
             return self.end_instruction(cycle, pc, done);
         }
-        self.wait = done.cycles - 1;
         done.cycles
     }
 

@@ -29,11 +29,10 @@ impl Machine {
         ensures clock { result ≡ true → self.new.bus.board.clock ≡ cycle + taken }
         ensures within { result ≡ true → cycle + taken ≤ end }
     {
-        if taken == 0 {
+        if taken == 0 || cycle + u64::from(taken) > end {
             return false;
         }
-        if cycle + u64::from(taken) > end || !self.bus.board.passes(cycle, taken) {
-            self.wait = taken - 1;
+        if !self.bus.board.passes(cycle, taken) {
             return false;
         }
         self.wait = 0;
