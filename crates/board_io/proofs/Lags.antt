@@ -186,5 +186,5 @@ module _ (a : Ahead) (b : Board) (h : IsAhead a b) where
       ∙ ap (λ (t : ℕ). t + n) (sym (caught_clock a.settled b) ∙ ap (λ (w : Board). w.clock) e)
 
 -- the cycle of its clock is quiet, where one is passed
-pub quiet_now : (t : ℕ) (v : Board) → v.clock ≡ t → IsIdle v.clock 1 (unclocked v) → board_quiet t (unclocked v) ≡ true
-quiet_now t v e h = let at : v.clock + 0 ≡ t = omega (arith, e) in ap (λ (u : ℕ). board_quiet u (unclocked v)) (sym at) ∙ h.quiet 0 (omega arith)
+pub quiet_now : (t : ℕ) (v : Board) → IsIdle t 1 (unclocked v) → board_quiet t (unclocked v) ≡ true
+quiet_now t v h = let at : t + 0 ≡ t = omega arith in ap (λ (u : ℕ). board_quiet u (unclocked v)) (sym at) ∙ h.quiet 0 (omega arith)
