@@ -11,13 +11,13 @@ program=$(realpath "$program")
 work=$(mktemp -d)
 trap 'rm -rf "$work"' EXIT
 cc -O2 -shared -fPIC -o "$work/fail_alloc.so" "$top/bench/fail_alloc.c" -ldl || exit 2
-cp "$top/crates/fault_facts/data/two.trace" "$work"
+cp "$top/crates/command_facts/data/two.trace" "$work"
 cd "$work" || exit 2
 failed=0
 
-# The two nodes of crates/fault_facts.
+# The two nodes of the case file faults.txt.
 awk '/^file /{ name = $2 } /^\|/ && (name == "a.hex" || name == "b.hex" || name == "two.toml") { print substr($0, 2) > name }' \
-    "$top/crates/fault_facts/data/faults.txt"
+    "$top/crates/command_facts/data/faults.txt"
 
 tell() {
     echo "$1: $2"
@@ -107,6 +107,9 @@ expect "an empty device" 4 "avrora: /dev/null: scenario refused: Missing" - run 
 expect "an empty device for an image" 5 "avrora: /dev/null: image refused: NoEnd" - disasm /dev/null
 expect "a device without an end" 4 "avrora: /dev/zero: scenario refused: TooLong" - run /dev/zero
 expect "a device without an end for an image" 5 "avrora: /dev/zero: image refused: TooLong" - node /dev/zero 8
+printf ':00000001FF\n' >end.hex
+expect "an empty device for a source" 0 "" end.hex asm /dev/null
+expect "a device without an end for a source" 7 "avrora: /dev/zero: source refused: TooLong" - asm /dev/zero
 mkfifo pipe.toml
 yes >pipe.toml 2>/dev/null &
 expect "a pipe without an end" 4 "avrora: pipe.toml: scenario refused: TooLong" - run pipe.toml

@@ -1,7 +1,8 @@
 #!/usr/bin/env python3
-"""Writes images of crates/avrora_facts (those of the timers' vectors, and corners), and what all its runs are to give.
+"""Writes images of the traces of crates/command_facts (those of the timers' vectors, and corners), and what all its runs are to give.
 
-    python3 bench/node_cases.py crates/avrora_facts       writes the images below, their words in args, and stdout
+    python3 bench/node_cases.py crates/command_facts      writes the images below, their lines in data/traces.txt, and what
+                                                          these are to come to in stdout
 
 The traces are those of bench/machine.py, which is docs/MACHINE.md once more; those of the other images, which another program
 gave first, are the same. What a corner is to show was worked out by hand first, and stands at it as an assertion.
@@ -9,6 +10,7 @@ gave first, are the same. What a corner is to show was worked out by hand first,
 import sys
 from pathlib import Path
 
+from stored_parts import put_part
 from machine import Node, TABLE, flash_from, hex_of
 
 END = ":00000001FF"
@@ -131,8 +133,9 @@ CORNERS = {"serial_before_sent": serial_before_sent, "entry_over_sreg": entry_ov
 
 def main():
     crate = Path(sys.argv[1])
-    words = (crate / "args").read_text().split()
-    runs = dict(zip(words[::2], words[1::2]))
+    lines = (crate / "data" / "traces.txt").read_text().splitlines()
+    head = [line for line in lines if line.startswith("#")]
+    runs = dict(line.split() for line in lines if line and not line.startswith("#"))
     entries = {}
     for name, (timsk, etimsk, vector) in VECTORS.items():
         text = all_timers(timsk, etimsk, vector)
@@ -154,8 +157,8 @@ def main():
     out = []
     for file, cycles in runs.items():
         out += [f"== {file} {cycles}"] + Node(flash_from((crate / "data" / file).read_text())).trace(int(cycles))
-    (crate / "args").write_text("".join(f"{file}\n{cycles}\n" for file, cycles in runs.items()))
-    (crate / "stdout").write_text("\n".join(out) + "\n")
+    (crate / "data" / "traces.txt").write_text("".join(line + "\n" for line in head + [f"{file} {cycles}" for file, cycles in runs.items()]))
+    put_part(crate, "traces=traces.txt", out)
     print(f"{len(runs)} runs; the timers' interrupts are entered in cycles {sorted(entries.values())}")
 
 

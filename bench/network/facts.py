@@ -1,7 +1,8 @@
 #!/usr/bin/env python3
-"""Writes the case files of crates/network_facts and what its stored run is to give, by the slow simulator beside this file.
+"""Writes the case files of `network_facts` and what the stored run of `command_facts` is to give of them, by the slow simulator beside this file.
 
-    bench/network/facts.py FOLDER        FOLDER is crates/network_facts: writes its data/, args and stdout
+    bench/network/facts.py FOLDER        FOLDER is crates/command_facts: writes its files of these cases in data/,
+                                          and what they are to come to in stdout
 
 Always the same bytes.
 """
@@ -9,8 +10,11 @@ import shutil
 import sys
 from pathlib import Path
 
+sys.path.append(str(Path(__file__).resolve().parent.parent))
+
 from draw import aimed, drawn, hex_text, late, ring
 from network import MOST_IMAGE, MOST_SCENARIO, Refused, open_network
+from stored_parts import put_part
 
 HERE = Path(__file__).resolve().parent
 EXAMPLES = HERE.parent.parent / "examples"
@@ -378,17 +382,10 @@ def main():
         sys.exit(__doc__)
     folder = Path(sys.argv[1])
     data = folder / "data"
-    if data.exists():
-        shutil.rmtree(data)
-    data.mkdir(parents=True)
-    names, expected = [], []
     for name, make in (("worked", worked), ("examples", examples), ("refusals", refusals), ("drawn", drawn_networks)):
         it = make(data)
         (data / f"{name}.txt").write_text("\n".join(it.data) + "\n")
-        names.append(f"{name}.txt")
-        expected += it.expected
-    (folder / "args").write_text("\n".join(names) + "\n")
-    (folder / "stdout").write_text("\n".join(expected) + "\n")
+        put_part(folder, f"networks={name}.txt", it.expected)
 
 
 if __name__ == "__main__":

@@ -1,22 +1,26 @@
 #!/usr/bin/env python3
-"""Writes the case file of crates/fault_facts and what its stored run is to give, by the slow simulator beside this file.
+"""Writes the case file of `fault_facts` and what the stored run of `command_facts` is to give of it, by the slow simulator beside this file.
 
-    bench/network/faults.py FOLDER        FOLDER is crates/fault_facts: writes its data/, args and stdout
+    bench/network/faults.py FOLDER        FOLDER is crates/command_facts: writes its files of these cases in data/,
+                                          and what they are to come to in stdout
 
 Always the same bytes. A failing call's status and its line follow from docs/FORMATS.md; how many writes an output takes, from
 its length and the bytes that it takes at a call, where the rows of an epoch are written before the next epoch runs.
 """
 import re
-import shutil
 import sys
 from pathlib import Path
+
+sys.path.append(str(Path(__file__).resolve().parent.parent))
 
 from draw import foreign, hex_text, ring
 from facts import Files, two
 from network import Refused, open_network
+from stored_parts import put_part
 
 HERE = Path(__file__).resolve().parent
 EPOCH = 262_144
+LOOP = "ldi r16, 1\nhere:\nrjmp here\n"
 
 HEAD = """\
 # A case file of calls that fail at every place. file NAME: a file, whose lines follow behind bars. copy NAME: the file that
@@ -131,6 +135,7 @@ def reads_in_turn(it):
     it.reads("check two.toml", names, shown(0, b"ok 2 nodes, 1 links, 500 cycles\n", ""))
     it.reads("node loop.hex 8", ["loop.hex"], shown(0, it.held["node.trace"], ""))
     it.reads("disasm loop.hex", ["loop.hex"], shown(0, it.held["loop.listing"], ""))
+    it.reads("asm loop.s", ["loop.s"], shown(0, it.held["loop.hex"], ""))
 
 
 def writes_in_turn(it, early):
@@ -141,6 +146,7 @@ def writes_in_turn(it, early):
         ("node loop.hex 8", "node.trace"),
         ("check two.toml", "two.size"),
         ("disasm loop.hex", "loop.listing"),
+        ("asm loop.s", "loop.hex"),
     ):
         it.out(words, 1, due)
     it.about("Seven bytes at a call.")
@@ -163,14 +169,43 @@ def complaints_in_turn(it):
         ("check self.toml", "self.line", 4),
         ("run image.toml", "sum.line", 5),
         ("node sum.hex 8", "sum.line", 5),
+        ("asm r3.s", "source.line", 7),
     ):
         length = len(it.held[due])
         it.err(words, 1, due, status, [length])
 
 
+def assembled(held):
+    """Status, output and line of `asm loop.s` where the source below ends behind one of its bytes, by hand."""
+    text = held["loop.s"].decode()
+    assert LOOP.startswith(text)
+
+    def refused(cause, line):
+        return 7, b"", f"avrora: loop.s: source refused: {cause}, line {line}"
+
+    if not text:
+        return 0, b":00000001FF\n", ""
+    if text == "l":
+        return refused("UnknownMnemonic", 1)
+    lines = text.splitlines()
+    if len(lines) == 1:
+        # `ld` and `ldi` are mnemonics, and want two operands; `r1` is a register that LDI does not take
+        return (0, b":0200000001E01D\n:00000001FF\n", "") if lines[0] == "ldi r16, 1" else refused("BadOperand", 1)
+    if len(lines) == 2:
+        return (0, b":0200000001E01D\n:00000001FF\n", "") if lines[1] == "here:" else refused("UnknownMnemonic", 2)
+    word, _, target = lines[2].partition(" ")
+    if word != "rjmp":
+        return refused("UnknownMnemonic", 3)
+    if not target:
+        return refused("BadOperand", 3)
+    return (0, held["loop.hex"], "") if target == "here" else refused("NoLabel", 3)
+
+
 def cuts(it):
     it.about("An image that ends behind each of its bytes.")
     it.cuts("loop.hex", "node loop.hex 8", lambda held: outcome(held, "node.toml"))
+    it.about("A source that ends behind each of its bytes.")
+    it.cuts("loop.s", "asm loop.s", assembled)
     it.about("A scenario that ends behind each of its bytes.")
     for name in ("two.toml", "spans.toml"):
         it.cuts(name, f"run {name}", lambda held, name=name: outcome(held, name))
@@ -206,6 +241,8 @@ def case_file(folder):
     it.file("b.hex", hex_text(ring(0x22, 8)))
     it.file("loop.hex", ":0400000001E0FFCF4D\n:00000001FF\n")
     it.file("sum.hex", ":0400000001E0FFCF4E\n:00000001FF\n")
+    it.file("loop.s", LOOP)
+    it.file("r3.s", "ldi r3, 1\n")
     it.file("two.toml", two())
     it.file("spans.toml", two("version = 3", "latency = 200\nopen = [[0, 93], [94, 400]]"))
     it.file("self.toml", two(links=False, rest="[[link]]\nfrom = 0\nto = 0"))
@@ -225,6 +262,7 @@ def case_file(folder):
     it.file("none.line", "avrora: cannot read none.toml\n")
     it.file("self.line", "avrora: self.toml: scenario refused: SelfLink\n")
     it.file("sum.line", "avrora: sum.hex: image refused: BadSum, line 1\n")
+    it.file("source.line", "avrora: r3.s: source refused: BadOperand, line 1\n")
     reads_in_turn(it)
     early = sum(len(row) for row in epochs.splitlines(keepends=True) if int(row.split()[0]) < EPOCH)
     writes_in_turn(it, [early, len(epochs) - early])
@@ -239,13 +277,9 @@ def main():
         sys.exit(__doc__)
     folder = Path(sys.argv[1])
     data = folder / "data"
-    if data.exists():
-        shutil.rmtree(data)
-    data.mkdir(parents=True)
     it = case_file(data)
     (data / "faults.txt").write_text("\n".join(it.data) + "\n")
-    (folder / "args").write_text("faults.txt\n")
-    (folder / "stdout").write_text("\n".join(it.expected) + "\n")
+    put_part(folder, "faults=faults.txt", it.expected)
 
 
 if __name__ == "__main__":

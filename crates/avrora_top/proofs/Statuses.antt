@@ -1,7 +1,9 @@
 -- What each status says of a call.
 use Rattle.std.proofs.Common.{◌≡◌, ◌≢◌, ◌⊎◌, ℕ, List, [], ◌∷◌, Option, Some, None, Result, Ok, Err, inl, inr, refl, sym, ◌∙◌, subst}
 use Rattle.sim_io.specs.Outside.{Rose}
-use Rattle.command_words.specs.Words.{Asked, Node, Run, RunPlain, Check, Disasm, Make, asked_by}
+use Rattle.command_words.specs.Words.{Asked, Node, Run, RunPlain, Check, Disasm, Asm, Make, asked_by}
+use Rattle.asm_text.specs.Source.{assembled}
+use Rattle.asm_text.specs.declared.fault.AsmFault.{AsmFault}
 use Rattle.ihex_loader.specs.Flash.{Image}
 use Rattle.ihex_loader.specs.Image.{hex_fault, image}
 use Rattle.ihex_loader.specs.declared.fault.HexFault.{HexFault}
@@ -9,7 +11,7 @@ use Rattle.scenario_file.specs.Scenario.{ScenarioParts, scenario_in}
 use Rattle.scenario_file.specs.declared.fault.ScenarioFault.{ScenarioFault}
 use Rattle.node_runner.specs.Scenario.{ScenarioOf}
 use Rattle.avrora_top.specs.Network.{lone_node, network_of}
-use Rattle.avrora_top.specs.Plan.{Plan, Give, Refuse, Read, BadWords, BadScenario, BadImage, Job, TraceJob, SizeJob, DisasmJob, image_plan, images_plan, network_plan, on_image, on_scenario, plan, plan_for, plan_of}
+use Rattle.avrora_top.specs.Plan.{Plan, Give, Refuse, Read, BadWords, BadScenario, BadImage, BadSource, Job, TraceJob, SizeJob, DisasmJob, AsmJob, image_plan, images_plan, network_plan, on_image, on_scenario, on_source, plan, plan_for, plan_of, source_plan}
 use Rattle.avrora_top.specs.Reading.{Files, Reached, Here, Fitting, TooLong, Verdict, Untold, Refused as RefusedVerdict, Accepted, Says, verdict}
 use Rattle.avrora_top.specs.Ends.{Ends, End, Done, OutFailed, NoMemory, ReadFailed, Refused, Reads, Stream, status_due, EndedSaying, EndedUnsaid, HasStatus}
 use Rattle.avrora_top.specs.TopClause.{TopClause}
@@ -18,6 +20,8 @@ use Rattle.avrora_top.specs.declared.trouble.ImageCause.{ImageCause}
 use Rattle.avrora_top.specs.declared.trouble.ImageCause.TheVariants as cause
 use Rattle.avrora_top.specs.declared.trouble.ScenarioCause.{ScenarioCause}
 use Rattle.avrora_top.specs.declared.trouble.ScenarioCause.TheVariants as scenario_cause
+use Rattle.avrora_top.specs.declared.trouble.SourceCause.{SourceCause}
+use Rattle.avrora_top.specs.declared.trouble.SourceCause.TheVariants as source_cause
 use Rattle.avrora_top.specs.declared.status.Status.{Status}
 use Rattle.avrora_top.specs.declared.status.Status.TheVariants as case
 
@@ -37,6 +41,9 @@ image_is_no_words name why e = cc
 
 scenario_is_no_words : (name : List ℕ) (why : ScenarioCause) → BadScenario name why ≢ BadWords
 scenario_is_no_words name why e = cc
+
+source_is_no_words : (name : List ℕ) (why : SourceCause) → BadSource name why ≢ BadWords
+source_is_no_words name why e = cc
 
 keeps_on_image : (name : List ℕ) (o : Option HexFault) (flash : Image) (next : Image → Plan) → ((f : Image) → KeepsWords (next f)) → KeepsWords (on_image name o flash next)
 keeps_on_image name (Some fault) flash next k = image_is_no_words name (cause.Faulty fault)
@@ -62,6 +69,13 @@ keeps_network name job =
       λ bytes. keeps_on_scenario name (scenario_in bytes) rest (λ parts. keeps_images parts.images (λ images. Give (job (network_of parts images))) (λ fs. tt)),
     )
 
+keeps_on_source : (name : List ℕ) (r : Result (List ℕ) AsmFault) (next : List ℕ → Plan) → ((words : List ℕ) → KeepsWords (next words)) → KeepsWords (on_source name r next)
+keeps_on_source name (Ok words) next k = k words
+keeps_on_source name (Err fault) next k = source_is_no_words name (source_cause.Faulty fault)
+
+keeps_source : (name : List ℕ) (next : List ℕ → Plan) → ((words : List ℕ) → KeepsWords (next words)) → KeepsWords (source_plan name next)
+keeps_source name next k = (source_is_no_words name source_cause.TooLong, λ bytes. keeps_on_source name (assembled bytes) next k)
+
 keeps_plan : (asked : Asked) → KeepsWords (plan_of asked)
 unfolding plan_of
 keeps_plan (Node file cycles) = keeps_image file (λ flash. Give (TraceJob (lone_node flash cycles))) (λ f. tt)
@@ -69,6 +83,7 @@ keeps_plan (Run file) = keeps_network file TraceJob
 keeps_plan (RunPlain file) = keeps_network file TraceJob
 keeps_plan (Check file) = keeps_network file SizeJob
 keeps_plan (Disasm file) = keeps_image file (λ flash. Give (DisasmJob flash)) (λ f. tt)
+keeps_plan (Asm file) = keeps_source file (λ words. Give (AsmJob words)) (λ words. tt)
 keeps_plan (Make number) = tt
 
 -- words are refused only where nothing is asked for
@@ -85,6 +100,7 @@ EndsWith case.ReadFailed end = (name : List ℕ) × (end ≡ ReadFailed name)
 EndsWith case.BadScenario end = (name : List ℕ) × ((why : ScenarioCause) × (end ≡ Refused (BadScenario name why)))
 EndsWith case.BadImage end = (name : List ℕ) × ((why : ImageCause) × (end ≡ Refused (BadImage name why)))
 EndsWith case.NoMemory end = end ≡ NoMemory
+EndsWith case.BadSource end = (name : List ℕ) × ((why : SourceCause) × (end ≡ Refused (BadSource name why)))
 
 ends_with_due : (end : End) → EndsWith (status_due end) end
 ends_with_due Done = refl
@@ -94,6 +110,7 @@ ends_with_due (ReadFailed name) = (name, refl)
 ends_with_due (Refused BadWords) = refl
 ends_with_due (Refused (BadScenario name why)) = (name, (why, refl))
 ends_with_due (Refused (BadImage name why)) = (name, (why, refl))
+ends_with_due (Refused (BadSource name why)) = (name, (why, refl))
 
 ends_with : (x answer : Status) (end : End) → answer ≡ status_due end → answer ≡ x → EndsWith x end
 ends_with x answer end e f = subst (λ s. EndsWith s end) (sym e ∙ f) (ends_with_due end)
@@ -168,6 +185,11 @@ module _ (files : Files) (words : List (List ℕ)) (store store' : Reads) (out o
       let s = said h case.BadImage e (λ f. cc) (λ f. cc) in
       (s.1.0, (s.1.1.0, subst SaidSo s.1.1.1 s.2))
 
+  source_from : HowNow → answer ≡ case.BadSource → (name : List ℕ) × ((why : SourceCause) × SaidSo (Refused (BadSource name why)))
+  source_from h e =
+      let s = said h case.BadSource e (λ f. cc) (λ f. cc) in
+      (s.1.0, (s.1.1.0, subst SaidSo s.1.1.1 s.2))
+
   memory_from : HowNow → answer ≡ case.NoMemory → SaidSo NoMemory
   memory_from h e =
       let s = said h case.NoMemory e (λ f. cc) (λ f. cc) in
@@ -207,6 +229,7 @@ module _ (files : Files) (words : List (List ℕ)) (store store' : Reads) (out o
     bad_scenario = scenario_from (how c);
     bad_image = image_from (how c);
     no_memory = memory_from (how c);
+    bad_source = source_from (how c);
     words_first = λ e. words_told (none e);
     complete = expected_from (how c);
   }

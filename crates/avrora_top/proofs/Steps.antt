@@ -1,17 +1,20 @@
 -- How a plan is read on.
 use Rattle.std.proofs.Common.{◌≡◌, ℕ, ◌+◌, ◌<◌, ◌++◌, List, [], ◌∷◌, Some, None, Ok, Err, drop, get_or, length, append_assoc, append-nil, add-one, sym, ap, ◌∙◌, subst}
 use Rattle.std.proofs.Math.Seq.{drop-cons, drop-length}
+use Rattle.asm_text.specs.Source.{assembled}
+use Rattle.asm_text.specs.declared.fault.AsmFault.{AsmFault}
 use Rattle.ihex_loader.specs.Flash.{Image}
 use Rattle.ihex_loader.specs.Image.{hex_fault, image}
 use Rattle.ihex_loader.specs.declared.fault.HexFault.{HexFault}
 use Rattle.scenario_file.specs.Scenario.{ScenarioParts, scenario_in}
 use Rattle.scenario_file.specs.declared.fault.ScenarioFault.{ScenarioFault}
-use Rattle.avrora_top.specs.Plan.{Plan, Refuse, Read, Refusal, BadScenario, BadImage, image_plan, images_plan, on_image, on_scenario, scenario_plan}
+use Rattle.avrora_top.specs.Plan.{Plan, Refuse, Read, Refusal, BadScenario, BadImage, BadSource, image_plan, images_plan, on_image, on_scenario, on_source, scenario_plan, source_plan}
 use Rattle.avrora_top.specs.Reading.{Files, Reached, Here, Fitting, TooLong}
 use Rattle.avrora_top.specs.Ends.{Reads}
 use Rattle.avrora_top.specs.Parts.{StopsAt}
 use Rattle.avrora_top.specs.declared.trouble.ImageCause.TheVariants as cause
 use Rattle.avrora_top.specs.declared.trouble.ScenarioCause.TheVariants as scenario_cause
+use Rattle.avrora_top.specs.declared.trouble.SourceCause.TheVariants as source_cause
 use Rattle.avrora_top.specs.declared.trouble.Trouble.{Trouble}
 use Rattle.avrora_top.specs.declared.trouble.Trouble.TheVariants as trouble
 
@@ -52,6 +55,19 @@ pub scenario_refused : (files : Files) (name bytes : List ℕ) (fault : Scenario
 scenario_refused files name bytes fault opens e next =
     opens (λ b. on_scenario name (scenario_in b) next) (Refuse (BadScenario name (scenario_cause.Faulty fault)))
     (rw e (Here (Refuse (BadScenario name (scenario_cause.Faulty fault)))))
+
+pub source_accepted : (files : Files) (name bytes words : List ℕ) → Opens files name 1048576 (BadSource name source_cause.TooLong) bytes
+    → assembled bytes ≡ Ok words
+    → (next : List ℕ → Plan) → Reached files (source_plan name next) (next words)
+source_accepted files name bytes words opens e next =
+    opens (λ b. on_source name (assembled b) next) (next words) (rw e (Here (next words)))
+
+pub source_refused : (files : Files) (name bytes : List ℕ) (fault : AsmFault) → Opens files name 1048576 (BadSource name source_cause.TooLong) bytes
+    → assembled bytes ≡ Err fault
+    → (next : List ℕ → Plan) → Reached files (source_plan name next) (Refuse (BadSource name (source_cause.Faulty fault)))
+source_refused files name bytes fault opens e next =
+    opens (λ b. on_source name (assembled b) next) (Refuse (BadSource name (source_cause.Faulty fault)))
+    (rw e (Here (Refuse (BadSource name (source_cause.Faulty fault)))))
 
 -- a stop further on is a stop of the whole plan
 pub stops_on : (files : Files) (p q : Plan) (store store' : Reads) (t : Trouble) → Reached files p q → StopsAt files q store store' t → StopsAt files p store store' t

@@ -1,14 +1,17 @@
 -- How a call ends, what then holds of the store and the streams, and which line and status it owes.
 use Rattle.std.specs.Prelude.{◌≡◌, ◌≢◌, ℕ, ◌⊎◌, List, [], ◌++◌, codes, decimal, Option, Some, None}
 use Rattle.sim_io.specs.Outside.{Rose, extended, TookFront}
+use Rattle.asm_text.specs.Fault.{fault_name as source_fault_name, fault_line as source_fault_line}
 use Rattle.ihex_loader.specs.Fault.{fault_name, fault_line}
 use Rattle.scenario_file.specs.Faults.{fault_name as scenario_fault_name}
-use Rattle.avrora_top.specs.Plan.{Plan, Refusal, BadWords, BadScenario, BadImage, Job, output}
+use Rattle.avrora_top.specs.Plan.{Plan, Refusal, BadWords, BadScenario, BadImage, BadSource, Job, output}
 use Rattle.avrora_top.specs.Reading.{Files, Accepts, Refuses, IsNext, Verdict, Untold, Refused as RefusedVerdict, Accepted}
 use Rattle.avrora_top.specs.declared.trouble.ImageCause.{ImageCause}
 use Rattle.avrora_top.specs.declared.trouble.ImageCause.TheVariants as cause
 use Rattle.avrora_top.specs.declared.trouble.ScenarioCause.{ScenarioCause}
 use Rattle.avrora_top.specs.declared.trouble.ScenarioCause.TheVariants as scenario_cause
+use Rattle.avrora_top.specs.declared.trouble.SourceCause.{SourceCause}
+use Rattle.avrora_top.specs.declared.trouble.SourceCause.TheVariants as source_cause
 use Rattle.avrora_top.specs.declared.status.Status.{Status}
 use Rattle.avrora_top.specs.declared.status.Status.TheVariants as status
 
@@ -66,7 +69,7 @@ Ends files plan store store' out out' NoMemory = (store' ≡ store) × HasFront 
 Ends files plan store store' out out' (ReadFailed name) = FailedRead store name store' × IsNext files plan name × (out' ≡ out)
 Ends files plan store store' out out' (Refused refusal) = (store' ≡ store) × Refuses files plan refusal × (out' ≡ out)
 
--- where the fault of an image is
+-- where the fault of an image or a source is
 unfoldable pub place_text : Option ℕ → List ℕ
 place_text None = []
 place_text (Some line) = codes ", line " ++ decimal line
@@ -79,6 +82,10 @@ unfoldable pub scenario_cause_text : ScenarioCause → List ℕ
 scenario_cause_text scenario_cause.TooLong = codes "TooLong"
 scenario_cause_text (scenario_cause.Faulty fault) = scenario_fault_name fault
 
+unfoldable pub source_cause_text : SourceCause → List ℕ
+source_cause_text source_cause.TooLong = codes "TooLong"
+source_cause_text (source_cause.Faulty fault) = source_fault_name fault ++ place_text (source_fault_line fault)
+
 -- the line on `err` that each end owes
 unfoldable pub line_due : End → List ℕ
 line_due Done = []
@@ -88,11 +95,13 @@ line_due (ReadFailed name) = codes "avrora: cannot read " ++ name ++ codes "\n"
 line_due (Refused BadWords) = codes "avrora: bad command line\n"
 line_due (Refused (BadScenario name why)) = codes "avrora: " ++ name ++ (codes ": scenario refused: " ++ scenario_cause_text why ++ codes "\n")
 line_due (Refused (BadImage name why)) = codes "avrora: " ++ name ++ (codes ": image refused: " ++ cause_text why ++ codes "\n")
+line_due (Refused (BadSource name why)) = codes "avrora: " ++ name ++ (codes ": source refused: " ++ source_cause_text why ++ codes "\n")
 
 abbrev pub refusal_status : Refusal → Status
 refusal_status BadWords = status.BadWords
 refusal_status (BadScenario name why) = status.BadScenario
 refusal_status (BadImage name why) = status.BadImage
+refusal_status (BadSource name why) = status.BadSource
 
 abbrev pub status_due : End → Status
 status_due Done = status.Done
@@ -125,3 +134,4 @@ status_number status.ReadFailed = 3
 status_number status.BadScenario = 4
 status_number status.BadImage = 5
 status_number status.NoMemory = 6
+status_number status.BadSource = 7

@@ -2,7 +2,7 @@
 -- contracts of functions inside this crate, and no part of what the top clause says.
 use Rattle.std.specs.Prelude.{◌≡◌, Result, Ok, Err}
 use Rattle.sim_io.specs.Outside.{TookFront}
-use Rattle.avrora_top.specs.Plan.{Plan, Refuse, Refusal, BadWords, BadScenario, BadImage, Job, output}
+use Rattle.avrora_top.specs.Plan.{Plan, Refuse, Refusal, BadWords, BadScenario, BadImage, BadSource, Job, output}
 use Rattle.avrora_top.specs.Reading.{Files, Reached, IsNext}
 use Rattle.avrora_top.specs.Ends.{Reads, Stream, took, FailedIn, FailedRead, End, Done, OutFailed, NoMemory, ReadFailed, Refused, Ends, line_due, status_due}
 use Rattle.avrora_top.specs.declared.trouble.Complaint.{Complaint}
@@ -17,6 +17,7 @@ abbrev pub refusal_of : Complaint → Refusal
 refusal_of complaint.BadWords = BadWords
 refusal_of (complaint.BadScenario name why) = BadScenario name.now why
 refusal_of (complaint.BadImage name why) = BadImage name.now why
+refusal_of (complaint.BadSource name why) = BadSource name.now why
 
 abbrev pub end_at : Trouble → End
 end_at trouble.OutFailed = OutFailed

@@ -1,9 +1,12 @@
 -- What a command reads, in order, what comes of it, and what it writes.
 use Rattle.std.specs.Prelude.{ℕ, List, [], ◌∷◌, Option, Some, None, Result, Ok, Err}
-use Rattle.command_words.specs.Words.{Asked, Node, Run, RunPlain, Check, Disasm, Make, asked_by}
+use Rattle.command_words.specs.Words.{Asked, Node, Run, RunPlain, Check, Disasm, Asm, Make, asked_by}
+use Rattle.asm_text.specs.Source.{assembled}
+use Rattle.asm_text.specs.declared.fault.AsmFault.{AsmFault}
 use Rattle.ihex_loader.specs.Flash.{Image}
 use Rattle.ihex_loader.specs.Image.{hex_fault, image}
 use Rattle.ihex_loader.specs.declared.fault.HexFault.{HexFault}
+use Rattle.ihex_writer.specs.Hex.{hex_of}
 use Rattle.scenario_file.specs.Scenario.{ScenarioParts, scenario_in}
 use Rattle.scenario_file.specs.declared.fault.ScenarioFault.{ScenarioFault}
 use Rattle.node_runner.specs.Scenario.{ScenarioOf}
@@ -14,6 +17,8 @@ use Rattle.avrora_top.specs.declared.trouble.ImageCause.{ImageCause}
 use Rattle.avrora_top.specs.declared.trouble.ImageCause.TheVariants as cause
 use Rattle.avrora_top.specs.declared.trouble.ScenarioCause.{ScenarioCause}
 use Rattle.avrora_top.specs.declared.trouble.ScenarioCause.TheVariants as scenario_cause
+use Rattle.avrora_top.specs.declared.trouble.SourceCause.{SourceCause}
+use Rattle.avrora_top.specs.declared.trouble.SourceCause.TheVariants as source_cause
 
 -- what a call is to do, once all its files are accepted
 pub data Job : Type 0 where
@@ -23,6 +28,8 @@ pub data Job : Type 0 where
   SizeJob : (network : ScenarioOf) → Job
   -- the listing of this image
   DisasmJob : (flash : Image) → Job
+  -- the image of a program of these words
+  AsmJob : (words : List ℕ) → Job
   -- what came out of the sample of this number
   SampleJob : (number : ℕ) → Job
 
@@ -31,6 +38,7 @@ unfoldable pub output : Job → List ℕ
 output (TraceJob network) = trace_of network
 output (SizeJob network) = size_line network
 output (DisasmJob flash) = listing flash
+output (AsmJob words) = hex_of words
 output (SampleJob number) = sample_line number
 
 -- why a call is refused
@@ -41,6 +49,8 @@ pub data Refusal : Type 0 where
   BadScenario : (name : List ℕ) (why : ScenarioCause) → Refusal
   -- the image in this file is not
   BadImage : (name : List ℕ) (why : ImageCause) → Refusal
+  -- the source in this file is not
+  BadSource : (name : List ℕ) (why : SourceCause) → Refusal
 
 -- what is left to do: a job, a refusal, or a file to be read, of at most so many bytes, and what comes of its bytes
 pub data Plan : Type 0 where
@@ -76,6 +86,15 @@ scenario_plan name next = Read name 524288 (BadScenario name scenario_cause.TooL
 abbrev pub network_plan : List ℕ → (ScenarioOf → Plan) → Plan
 network_plan name next = scenario_plan name (λ parts. images_plan parts.images (λ images. next (network_of parts images)))
 
+-- a source is accepted where nothing is wrong with its text
+abbrev pub on_source : List ℕ → Result (List ℕ) AsmFault → (List ℕ → Plan) → Plan
+on_source name (Ok words) next = next words
+on_source name (Err fault) next = Refuse (BadSource name (source_cause.Faulty fault))
+
+-- read a source in assembly, of at most 1,048,576 bytes of text, and go on with the words of its program
+abbrev pub source_plan : List ℕ → (List ℕ → Plan) → Plan
+source_plan name next = Read name 1048576 (BadSource name source_cause.TooLong) (λ bytes. on_source name (assembled bytes) next)
+
 -- what each command reads
 unfoldable pub plan_of : Asked → Plan
 plan_of (Node file cycles) = image_plan file (λ flash. Give (TraceJob (lone_node flash cycles)))
@@ -83,6 +102,7 @@ plan_of (Run file) = network_plan file (λ network. Give (TraceJob network))
 plan_of (RunPlain file) = network_plan file (λ network. Give (TraceJob network))
 plan_of (Check file) = network_plan file (λ network. Give (SizeJob network))
 plan_of (Disasm file) = image_plan file (λ flash. Give (DisasmJob flash))
+plan_of (Asm file) = source_plan file (λ words. Give (AsmJob words))
 plan_of (Make number) = Give (SampleJob number)
 
 -- the plan of what the words ask for

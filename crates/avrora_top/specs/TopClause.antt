@@ -3,11 +3,12 @@
 use Rattle.std.specs.Prelude.{◌≡◌, ◌⊎◌, List, ℕ, None}
 use Rattle.sim_io.specs.Outside.{Rose}
 use Rattle.command_words.specs.Words.{asked_by}
-use Rattle.avrora_top.specs.Plan.{BadWords, BadScenario, BadImage, plan}
+use Rattle.avrora_top.specs.Plan.{BadWords, BadScenario, BadImage, BadSource, plan}
 use Rattle.avrora_top.specs.Reading.{Files, verdict}
 use Rattle.avrora_top.specs.Ends.{Reads, Stream, End, Done, OutFailed, NoMemory, ReadFailed, Refused, Ends, EndedSaying, EndedUnsaid, HasStatus}
 use Rattle.avrora_top.specs.declared.trouble.ImageCause.{ImageCause}
 use Rattle.avrora_top.specs.declared.trouble.ScenarioCause.{ScenarioCause}
+use Rattle.avrora_top.specs.declared.trouble.SourceCause.{SourceCause}
 use Rattle.avrora_top.specs.declared.status.Status.{Status}
 use Rattle.avrora_top.specs.declared.status.Status.TheVariants as status
 
@@ -35,6 +36,9 @@ pub record TopClause (files files' : Files) (words : List (List ℕ)) (store sto
       → (name : List ℕ) × ((why : ImageCause) × EndedSaying files (plan words) store store' out out' err err' (Refused (BadImage name why)))
   -- 6: want of memory
   pub no_memory : answer ≡ status.NoMemory → EndedSaying files (plan words) store store' out out' err err' NoMemory
+  -- 7: the source is refused
+  pub bad_source : answer ≡ status.BadSource
+      → (name : List ℕ) × ((why : SourceCause) × EndedSaying files (plan words) store store' out out' err err' (Refused (BadSource name why)))
   -- words that are not accepted give 2, or 1 where `err` failed
   pub words_first : asked_by words ≡ None → (answer ≡ status.BadWords) ⊎ ((answer ≡ status.SinkFailed) × Rose err.faults err'.faults)
   -- where no read failed, the verdict decides, but for want of memory and failed writes

@@ -1,19 +1,20 @@
 // The commands, behind the words that ask for them.
-ghost use Rattle.std.specs.Prelude.{◌≡◌, ◌≤◌};
-ghost use Rattle.command_words.specs.Words.{Node, Run, RunPlain, Check, Disasm};
-ghost use Rattle.avrora_top.specs.Plan.{DisasmJob, plan_of};
+ghost use Rattle.std.specs.Prelude.{◌≡◌, ◌≤◌, length};
+ghost use Rattle.command_words.specs.Words.{Node, Run, RunPlain, Check, Disasm, Asm};
+ghost use Rattle.avrora_top.specs.Plan.{AsmJob, DisasmJob, plan_of};
 ghost use Rattle.avrora_top.specs.Ends.{Ends, reads, stream};
 ghost use Rattle.avrora_top.specs.Parts.{JobEnds, end_of, Called};
 
 use crate::Status;
-use crate::files::{read_image, read_images, read_scenario};
+use crate::files::{read_image, read_images, read_scenario, read_source};
 use crate::listing::write_listing;
 use crate::network::{lone_node, write_size, write_trace};
 use crate::report::report;
 use crate::trouble::Trouble;
 use ihex_loader::Flash;
+use ihex_writer::hex_text;
 use node_runner::Scenario;
-use sim_io::{Sink, Store};
+use sim_io::{Sink, Store, write_all};
 use std::alloc::Global;
 
 // Writes the listing of an image.
@@ -22,6 +23,21 @@ fn write_instructions<'n, O: Sink>(flash: &Flash, out: &mut O) -> Result<(), Tro
     ensures { JobEnds (DisasmJob flash.now) (stream (O.taken out.old) (O.faults out.old)) (stream (O.taken out.new) (O.faults out.new)) result }
 {
     match write_listing(flash, out) {
+        Ok(()) => Ok(()),
+        Err(_) => Err(Trouble::OutFailed),
+    }
+}
+
+// Writes a program as an image.
+#[tactic(auto, unfolding(crate::specs::Plan::output))]
+fn write_program<'n, O: Sink>(alloc: Global, words: &[u16], out: &mut O) -> Result<(), Trouble<'n>>
+    requires { length words.now ≤ 65536 }
+    ensures { JobEnds (AsmJob words.now) (stream (O.taken out.old) (O.faults out.old)) (stream (O.taken out.new) (O.faults out.new)) result }
+{
+    let Ok(text) = hex_text(alloc, words) else {
+        return Err(Trouble::NoMemory);
+    };
+    match write_all(out, text.as_slice()) {
         Ok(()) => Ok(()),
         Err(_) => Err(Trouble::OutFailed),
     }
@@ -66,6 +82,24 @@ pub fn disasm<'w, S: Store, O: Sink>(
 {
     match read_image(alloc, file, store) {
         Ok(flash) => write_instructions(&flash, out),
+        Err(trouble) => Err(trouble),
+    }
+}
+
+/// `asm FILE`: the image of the program of the source in `file`.
+pub fn asm<'w, S: Store, O: Sink>(
+    alloc: Global,
+    file: &'w str,
+    store: &mut S,
+    out: &mut O,
+) -> Result<(), Trouble<'w>>
+    ensures held { S.held store.new ≡ S.held store.old }
+    ensures ends { Ends (S.held store.old) (plan_of (Asm file.entry.now))
+        (reads (S.faults store.old) (S.failed store.old)) (reads (S.faults store.new) (S.failed store.new))
+        (stream (O.taken out.old) (O.faults out.old)) (stream (O.taken out.new) (O.faults out.new)) (end_of result) }
+{
+    match read_source(alloc, file, store) {
+        Ok(words) => write_program(alloc, words.as_slice(), out),
         Err(trouble) => Err(trouble),
     }
 }

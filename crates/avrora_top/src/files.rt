@@ -1,14 +1,15 @@
 // Reads the files of a command.
-ghost use Rattle.std.specs.Prelude.{◌≡◌, List, ℕ, length, IfOk, IfErr, OnOk};
+ghost use Rattle.std.specs.Prelude.{◌≡◌, ◌≤◌, List, ℕ, length, IfOk, IfErr, OnOk};
 ghost use Rattle.ihex_loader.specs.Flash.{Image};
 ghost use Rattle.scenario_file.specs.Scenario.{ScenarioParts, IsScenario};
 ghost use Rattle.scenario_file.specs.Shown.{parts};
-ghost use Rattle.avrora_top.specs.Plan.{Plan, Read, image_plan, images_plan, scenario_plan};
+ghost use Rattle.avrora_top.specs.Plan.{Plan, Read, image_plan, images_plan, scenario_plan, source_plan};
 ghost use Rattle.avrora_top.specs.Reading.{Reached};
 ghost use Rattle.avrora_top.specs.Ends.{reads};
 ghost use Rattle.avrora_top.specs.Parts.{StopsAt, refusal_of};
 
-use crate::trouble::{Complaint, ImageCause, ScenarioCause, Trouble};
+use crate::trouble::{Complaint, ImageCause, ScenarioCause, SourceCause, Trouble};
+use asm_text::{AsmFault, assemble};
 use avr_program::Program;
 use ihex_loader::{Flash, HexFault, load};
 use scenario_file::{ScenarioFault, ScenarioText};
@@ -20,6 +21,9 @@ const MOST_IMAGE_BYTES: usize = 1_048_576;
 
 // The most bytes of a scenario's text.
 const MOST_SCENARIO_BYTES: usize = 524_288;
+
+// The most bytes of a source's text.
+const MOST_SOURCE_BYTES: usize = 1_048_576;
 
 // The bytes of the file `name`, at most `most`; a longer one is refused as `too_long` says.
 fn read_file<'n, S: Store>(
@@ -135,6 +139,37 @@ pub fn read_scenario<'n, S: Store>(
                 return Err(Trouble::NoMemory);
             }
             Err(Trouble::Refused(Complaint::BadScenario(name, ScenarioCause::Faulty(fault))))
+        }
+    }
+}
+
+/// The words of the program of the source in the file `name`, which has at most 1,048,576 bytes of text.
+pub fn read_source<'n, S: Store>(
+    alloc: Global,
+    name: &'n str,
+    store: &mut S,
+) -> Result<Vec<u16>, Trouble<'n>>
+    ensures held { S.held store.new ≡ S.held store.old }
+    ensures same { OnOk result (reads (S.faults store.new) (S.failed store.new) ≡ reads (S.faults store.old) (S.failed store.old)) }
+
+    ensures few { IfOk result (λ words. length words.items ≤ 65536) }
+    ensures ok { IfOk result (λ words. (next : List ℕ → Plan) → Reached (S.held store.old) (source_plan name.entry.now next) (next words.items)) }
+    ensures err { IfErr result (λ t. (next : List ℕ → Plan)
+        → StopsAt (S.held store.old) (source_plan name.entry.now next)
+        (reads (S.faults store.old) (S.failed store.old)) (reads (S.faults store.new) (S.failed store.new)) t) }
+{
+    let too_long = Complaint::BadSource(name, SourceCause::TooLong);
+    let bytes = match read_file(alloc, name, MOST_SOURCE_BYTES, too_long, store) {
+        Ok(bytes) => bytes,
+        Err(trouble) => return Err(trouble),
+    };
+    match assemble(alloc, bytes.as_slice()) {
+        Ok(words) => Ok(words),
+        Err(fault) => {
+            if fault == AsmFault::NoMemory {
+                return Err(Trouble::NoMemory);
+            }
+            Err(Trouble::Refused(Complaint::BadSource(name, SourceCause::Faulty(fault))))
         }
     }
 }

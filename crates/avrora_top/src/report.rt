@@ -1,11 +1,11 @@
 // What is said on the error stream.
 ghost use Rattle.std.specs.Prelude.{◌≡◌, ◌≤◌, ◌+◌, ◌++◌, codes, length, OnOk, OnErr};
 ghost use Rattle.arrayvec.specs.ArrayString.{array_string_len};
-ghost use Rattle.avrora_top.specs.Ends.{FailedIn, cause_text, line_due, place_text, scenario_cause_text, status_due, stream, took};
+ghost use Rattle.avrora_top.specs.Ends.{FailedIn, cause_text, line_due, place_text, scenario_cause_text, source_cause_text, status_due, stream, took};
 ghost use Rattle.avrora_top.specs.Parts.{end_at, end_of, Reported, Told};
 
 use crate::Status;
-use crate::trouble::{Complaint, ImageCause, ScenarioCause, Trouble};
+use crate::trouble::{Complaint, ImageCause, ScenarioCause, SourceCause, Trouble};
 use arrayvec::ArrayString;
 use sim_io::{Sink, SinkFault, write_all};
 use text_pieces::put_decimal;
@@ -110,6 +110,32 @@ fn behind_scenario(cause: ScenarioCause) -> ArrayString<64>
     text
 }
 
+#[tactic(auto, unfolding(crate::specs::Ends::source_cause_text))]
+fn put_source_cause(cause: SourceCause, out: &mut ArrayString<64>)
+    requires { array_string_len out.old + 42 ≤ 64 }
+    ensures bytes { out.new.bytes ≡ out.old.bytes ++ source_cause_text cause }
+    ensures len { array_string_len out.new ≤ array_string_len out.old + 42 }
+{
+    match cause {
+        SourceCause::TooLong => out.push_str("TooLong"),
+        SourceCause::Faulty(fault) => {
+            out.push_str(fault.name());
+            put_place(fault.line(), out);
+        }
+    }
+}
+
+// What stands behind the name of a source that is refused.
+fn behind_source(cause: SourceCause) -> ArrayString<64>
+    ensures { result.bytes ≡ codes ": source refused: " ++ source_cause_text cause ++ codes "\n" }
+{
+    let mut text = ArrayString::new();
+    text.push_str(": source refused: ");
+    put_source_cause(cause, &mut text);
+    text.push_str("\n");
+    text
+}
+
 fn plain(text: &'static str) -> Line<'static>
     ensures { result.before.now ++ result.name.now ++ result.after.bytes ≡ text.now }
 {
@@ -151,6 +177,11 @@ fn line_at<'n>(trouble: Trouble<'n>) -> Line<'n>
             name,
             after: behind_image(cause),
         },
+        Trouble::Refused(Complaint::BadSource(name, cause)) => Line {
+            before: "avrora: ",
+            name,
+            after: behind_source(cause),
+        },
     }
 }
 
@@ -164,6 +195,7 @@ fn status_at(trouble: Trouble) -> Status
         Trouble::Refused(Complaint::BadWords) => Status::BadWords,
         Trouble::Refused(Complaint::BadScenario(_, _)) => Status::BadScenario,
         Trouble::Refused(Complaint::BadImage(_, _)) => Status::BadImage,
+        Trouble::Refused(Complaint::BadSource(_, _)) => Status::BadSource,
     }
 }
 

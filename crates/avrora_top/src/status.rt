@@ -19,10 +19,12 @@ pub enum Status {
     BadImage,
     /// Want of memory.
     NoMemory,
+    /// The source is refused.
+    BadSource,
 }
 
 impl Status {
-    /// The exit status of the program: 0 to 6 in the order of the variants.
+    /// The exit status of the program: 0 to 7 in the order of the variants.
     #[tactic(auto, unfolding(crate::specs::Ends::status_number))]
     pub fn number(self) -> u8
         ensures { result ≡ status_number self }
@@ -35,6 +37,7 @@ impl Status {
             Status::BadScenario => 4,
             Status::BadImage => 5,
             Status::NoMemory => 6,
+            Status::BadSource => 7,
         }
     }
 }

@@ -6,7 +6,7 @@ ghost use Rattle.avrora_top.specs.Ends.{Refused, reads, stream};
 ghost use Rattle.avrora_top.specs.TopClause.{TopClause};
 ghost use Rattle.avrora_top.specs.Parts.{Called, Reported};
 
-use crate::commands::{check, disasm, node, run, run_plain};
+use crate::commands::{asm, check, disasm, node, run, run_plain};
 use crate::report::report;
 use crate::sample::write_sample;
 use crate::trouble::{Complaint, Trouble};
@@ -43,6 +43,10 @@ fn obey<'w, S: Store, O: Sink, E: Sink>(
         Order::Check { file } => check(alloc, file, store, out, err),
         Order::Disasm { file } => {
             let outcome = disasm(alloc, file, store, out);
+            report(err, outcome)
+        }
+        Order::Asm { file } => {
+            let outcome = asm(alloc, file, store, out);
             report(err, outcome)
         }
         Order::Make { number } => {
@@ -89,6 +93,7 @@ fn call<'w, S: Store, O: Sink, E: Sink>(
 /// | `run --plain FILE` | the same, on one thread |
 /// | `check FILE` | how many nodes, links and cycles the network of the scenario in FILE has; it is not run |
 /// | `disasm FILE` | the address and the text of each instruction of the image in FILE, a line each |
+/// | `asm FILE` | the program of the source in assembly in FILE, as an image in Intel HEX |
 /// | `make NUMBER` | what came out of the sample network of NUMBER: how often its nodes sent, and what they heard |
 ///
 /// FILE is a word that is not empty and does not begin with `-`; CYCLES is one to eight digits, 1 to 10,000,000; NUMBER is

@@ -1,4 +1,5 @@
 // Why a call does not come to its end.
+use asm_text::AsmFault;
 use ihex_loader::HexFault;
 use scenario_file::ScenarioFault;
 
@@ -20,6 +21,15 @@ pub enum ImageCause {
     Faulty(HexFault),
 }
 
+/// Why a source is refused.
+#[derive(Clone, Copy, Debug, PartialEq, Eq)]
+pub enum SourceCause {
+    /// Its text has more than 1,048,576 bytes.
+    TooLong,
+    /// The fault of its text that decides.
+    Faulty(AsmFault),
+}
+
 /// What is refused.
 #[derive(Clone, Copy)]
 pub enum Complaint<'n> {
@@ -29,6 +39,8 @@ pub enum Complaint<'n> {
     BadScenario(&'n str, ScenarioCause),
     /// The image in this file.
     BadImage(&'n str, ImageCause),
+    /// The source in this file.
+    BadSource(&'n str, SourceCause),
 }
 
 /// Why a call stops short.

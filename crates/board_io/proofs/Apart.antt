@@ -1,5 +1,5 @@
 -- An access that looks at no timer is the same on a board whose timers lag, and leaves what is known of it.
-use Rattle.std.proofs.Common.{◌≡◌, ◌≢◌, ℕ, zero, suc, ◌+◌, ◌-◌, ◌/◌, cond, ◌==◌, ◌&&◌, not, if◌then◌else◌, Bool, true, false, Result, Ok, Err, refl, sym, ap, ◌∙◌, subst, arith}
+use Rattle.std.proofs.Common.{◌≡◌, ◌≢◌, ℕ, zero, suc, ◌+◌, ◌-◌, ◌/◌, ◌==◌, ◌&&◌, not, if◌then◌else◌, Bool, true, false, Result, Ok, Err, refl, sym, ap, ◌∙◌, subst, arith}
 use Rattle.std.specs.Prelude.{bit_and, IfOk, OnOk, IfErr, OnErr}
 use Rattle.std.proofs.lemmas.Bool.{and_parts, eq-eqb}
 use Rattle.std.proofs.lemmas.List.{get_or-set_other}
@@ -7,7 +7,7 @@ use Rattle.avr_base.specs.declared.stop.StopCause.{StopCause}
 use Rattle.board_io.specs.declared.ahead.Ahead.{Ahead}
 use Rattle.board_io.specs.declared.board.Board.{Board}
 use Rattle.board_io.specs.declared.rules.Rule.{Rule}
-use Rattle.board_io.specs.declared.rules.Rule.TheVariants.{Reserved, Pin, Kept, Guarded, WatchdogControl, ResetFlags, CpuControl, TimerFlags, TimerFlags3, Timer0, Timer1, Timer2, Timer3, Usart0, Spi}
+use Rattle.board_io.specs.declared.rules.Rule.TheVariants.{Reserved, Pin, Kept, Guarded, WatchdogControl, ResetFlags, CpuControl, TimerFlags, ExtendedTimerFlags, Timer0, Timer1, Timer2, Timer3, Usart0, Spi}
 use Rattle.board_io.specs.Board.{kept_at, with_kept}
 use Rattle.board_io.specs.Cycle.{board_quiet, timers_leap}
 use Rattle.board_io.specs.Lagging.{IsAhead, caught_up, is_no_mask, reads_apart, reads_timer, writes_apart}
@@ -15,7 +15,7 @@ use Rattle.board_io.specs.Lines.{lines_of}
 use Rattle.board_io.specs.Registers.{get_by, put_by}
 use Rattle.board_io.proofs.Radio.{get_by_clock, put_by_clock}
 use Rattle.device_clocks.specs.Bits.{any_bit}
-use Rattle.device_clocks.specs.Clock.{clocked, cycles}
+use Rattle.device_clocks.specs.Clock.{cycles}
 use Rattle.interrupt_unit.specs.declared.unit.Lines.{Lines}
 use Rattle.spi_port.specs.declared.registers.SpiReg.TheVariants as spi
 use Rattle.timer16.specs.declared.registers.Reg16.TheVariants as reg16
@@ -66,7 +66,7 @@ got_apart WatchdogControl b at s n e = (refl, itself b)
 got_apart ResetFlags b at s n e = (refl, itself b)
 got_apart CpuControl b at s n e = (refl, itself b)
 got_apart TimerFlags b at s n e = absurd (false_true e)
-got_apart TimerFlags3 b at s n e = absurd (false_true e)
+got_apart ExtendedTimerFlags b at s n e = absurd (false_true e)
 got_apart (Timer0 reg) b at s n e = absurd (false_true e)
 got_apart (Timer1 reg) b at s n e = absurd (false_true e)
 got_apart (Timer2 reg) b at s n e = absurd (false_true e)
@@ -82,14 +82,8 @@ got_apart (Spi spi.Status) b at s n e = (refl, record { clock = refl; quiet = λ
 got_apart (Spi spi.Spdr) b at s n e = absurd (false_true e)
 
 -- reads of the timers: TEMP alone may change
-temp_clocked : (c : Bool) (x : ℕ) (u : Timer16) → cond c (timer16.clock (with_temp x u)) (with_temp x u) ≡ with_temp x (cond c (timer16.clock u) u)
-unfolding timer16.clock
-temp_clocked true x u = refl
-temp_clocked false x u = refl
-
 temp_cycle : (t x : ℕ) (u : Timer16) → timer16.timer_cycle t (with_temp x u) ≡ with_temp x (timer16.timer_cycle t u)
-unfolding timer16.divider
-temp_cycle t x u = temp_clocked (clocked (timer16.divider u) t) x u
+temp_cycle t x u = refl
 
 temp_cycles : (t n x : ℕ) (u : Timer16) → cycles timer16.timer_cycle t n (with_temp x u) ≡ with_temp x (cycles timer16.timer_cycle t n u)
 unfolding cycles
@@ -117,7 +111,7 @@ timer_like WatchdogControl b at e = absurd (false_true e)
 timer_like ResetFlags b at e = absurd (false_true e)
 timer_like CpuControl b at e = absurd (false_true e)
 timer_like TimerFlags b at e = itself b
-timer_like TimerFlags3 b at e = itself b
+timer_like ExtendedTimerFlags b at e = itself b
 timer_like (Timer0 reg) b at e = itself b
 timer_like (Timer2 reg) b at e = itself b
 timer_like (Timer1 reg16.CountL) b at e = like_t1 (b.t1.count / 256) b
@@ -200,7 +194,7 @@ put_apart ResetFlags b at x s n e = kept_apart b at _ s n e
 put_apart CpuControl b at x s n e =
     either b s n (any_bit x 0x80) _ _ _ _ refl (either b s n (any_bit x 0x02) _ _ _ _ refl (kept_apart b at (bit_and x 0x7C) s n e))
 put_apart TimerFlags b at x s n e = absurd (false_true e)
-put_apart TimerFlags3 b at x s n e = absurd (false_true e)
+put_apart ExtendedTimerFlags b at x s n e = absurd (false_true e)
 put_apart (Timer0 reg) b at x s n e = absurd (false_true e)
 put_apart (Timer1 reg) b at x s n e = absurd (false_true e)
 put_apart (Timer2 reg) b at x s n e = absurd (false_true e)

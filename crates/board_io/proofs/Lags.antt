@@ -3,7 +3,7 @@ use Rattle.std.proofs.Common.{◌≡◌, ℕ, ◌+◌, ◌-◌, ◌<◌, ◌≤�
 use Rattle.board_io.specs.declared.ahead.Ahead.{Ahead}
 use Rattle.board_io.specs.declared.board.Board.{Board}
 use Rattle.board_io.specs.Board.{clock_at, sleep_mode, unclocked}
-use Rattle.board_io.specs.Cycle.{board_answered, board_asks, board_begun, board_quiet, board_sends, board_serial, moved, moved_by, samples, sends, timers_cycle, timers_leap, transfer_end, transferred, usart_cycle, with_moved}
+use Rattle.board_io.specs.Cycle.{board_answered, board_asks, board_begun, board_quiet, board_sends, board_serial, moved, moved_by, samples, sends, timers_cycle, timers_leap, transfer_end, usart_cycle, with_moved}
 use Rattle.byte_radio.specs.declared.radio.Moved.{Moved}
 use Rattle.byte_radio.specs.declared.radio.Moved.TheVariants.{Answer, Send, Ask}
 use Rattle.byte_radio.specs.declared.radio.Radio.{Radio}
@@ -12,6 +12,7 @@ use Rattle.board_io.specs.Lagging.{IsAhead, IsIdle, caught_up}
 use Rattle.board_io.specs.Lines.{lines_of}
 use Rattle.board_io.proofs.Leaps.{leap_quiet, leap_zero}
 use Rattle.device_clocks.proofs.Cycles.{cycles-add}
+use Rattle.device_clocks.specs.Transmission.{ended_byte}
 use Rattle.interrupt_unit.specs.declared.unit.Lines.{Lines}
 use Rattle.timer16.specs.Timer as timer16
 use Rattle.timer8.specs.Timer as timer8
@@ -55,7 +56,7 @@ moved_by_clock u t None b = refl
 moved_by_clock u t (Some byte) b = refl
 
 moved_same : (u t : ℕ) (b : Board) → moved t (clock_at u b) ≡ moved t b
-moved_same u t b = moved_by_clock u t (transferred b.spi.transfer t) b
+moved_same u t b = moved_by_clock u t (ended_byte b.spi.transfer t) b
 
 moved_clock : (m : Option (Moved × Radio)) (u : ℕ) (b : Board) → with_moved m (clock_at u b) ≡ clock_at u (with_moved m b)
 moved_clock None u b = refl
@@ -185,5 +186,5 @@ module _ (a : Ahead) (b : Board) (h : IsAhead a b) where
       ∙ ap (λ (t : ℕ). t + n) (sym (caught_clock a.settled b) ∙ ap (λ (w : Board). w.clock) e)
 
 -- the cycle of its clock is quiet, where one is passed
-pub quiet_now : (t : ℕ) (v : Board) → v.clock ≡ t → IsIdle v.clock 1 (unclocked v) → board_quiet t (unclocked v) ≡ true
-quiet_now t v e h = let at : v.clock + 0 ≡ t = omega (arith, e) in ap (λ (u : ℕ). board_quiet u (unclocked v)) (sym at) ∙ h.quiet 0 (omega arith)
+pub quiet_now : (t : ℕ) (v : Board) → IsIdle t 1 (unclocked v) → board_quiet t (unclocked v) ≡ true
+quiet_now t v h = let at : t + 0 ≡ t = omega arith in ap (λ (u : ℕ). board_quiet u (unclocked v)) (sym at) ∙ h.quiet 0 (omega arith)

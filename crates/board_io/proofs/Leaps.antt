@@ -2,13 +2,13 @@
 use Rattle.std.proofs.Common.{◌≡◌, ℕ, suc, ◌+◌, Bool, true, false, not, Option, Some, None, refl, sym, ap, ◌∙◌, arith}
 use Rattle.std.proofs.lemmas.Bool.{and_parts}
 use Rattle.board_io.specs.declared.board.Board.{Board}
-use Rattle.board_io.specs.Cycle.{board_asks, board_begun, board_quiet, board_sends, board_serial, moved, moved_by, timers_cycle, timers_leap, transferred, usart_cycle, with_moved}
+use Rattle.board_io.specs.Cycle.{board_asks, board_begun, board_quiet, board_sends, board_serial, moved, moved_by, timers_cycle, timers_leap, usart_cycle, with_moved}
 use Rattle.byte_radio.specs.declared.radio.Moved.{Moved}
 use Rattle.byte_radio.specs.declared.radio.Radio.{Radio}
 use Rattle.device_clocks.specs.Clock.{cycles}
-use Rattle.spi_port.specs.declared.spi.Transfer.{Transfer}
+use Rattle.device_clocks.specs.declared.transmission.Transmission.{Transmission}
+use Rattle.device_clocks.specs.Transmission.{ended_byte, is_end}
 use Rattle.spi_port.specs.Spi as spi
-use Rattle.usart_port.specs.declared.usart.Frame.{Frame}
 use Rattle.usart_port.specs.declared.usart.Usart.{Usart}
 use Rattle.usart_port.specs.Usart as usart
 
@@ -45,16 +45,12 @@ no_transfer : (t : ℕ) (b : Board) → board_quiet t b ≡ true → spi.ends_at
 unfolding board_quiet
 no_transfer t b e = not_true (spi.ends_at t b.spi) (and_parts (not (usart.ends_at t b.usart)) (not (spi.ends_at t b.spi)) e).1
 
-none_transferred : (o : Option Transfer) (t : ℕ) → spi.is_end o t ≡ false → transferred o t ≡ None
-none_transferred None t e = refl
-none_transferred (Some f) t e = rw e refl
-
-none_moved : (t : ℕ) (b : Board) → board_quiet t b ≡ true → moved t b ≡ None
-none_moved t b e = ap (λ (o : Option ℕ). moved_by t o b) (none_transferred b.spi.transfer t (no_transfer t b e))
-
-none_ended : (o : Option Frame) (t : ℕ) → usart.is_end o t ≡ false → usart.ended_byte o t ≡ None
+none_ended : (o : Option Transmission) (t : ℕ) → is_end o t ≡ false → ended_byte o t ≡ None
 none_ended None t e = refl
 none_ended (Some f) t e = rw e refl
+
+none_moved : (t : ℕ) (b : Board) → board_quiet t b ≡ true → moved t b ≡ None
+none_moved t b e = ap (λ (o : Option ℕ). moved_by t o b) (none_ended b.spi.transfer t (no_transfer t b e))
 
 frame_goes_on : (t : ℕ) (u : Usart) → usart.ends_at t u ≡ false → usart.usart_cycle t u ≡ u
 unfolding usart.usart_cycle

@@ -5,9 +5,9 @@ use Rattle.avr_base.specs.declared.stop.StopCause.{StopCause}
 use Rattle.avr_base.specs.declared.stop.StopCause.TheVariants as stop
 use Rattle.board_io.specs.declared.board.Board.{Board}
 use Rattle.board_io.specs.declared.rules.Rule.{Rule}
-use Rattle.board_io.specs.declared.rules.Rule.TheVariants.{Reserved, Pin, Kept, Guarded, WatchdogControl, ResetFlags, CpuControl, TimerFlags, TimerFlags3, Timer0, Timer1, Timer2, Timer3, Usart0, Spi}
+use Rattle.board_io.specs.declared.rules.Rule.TheVariants.{Reserved, Pin, Kept, Guarded, WatchdogControl, ResetFlags, CpuControl, TimerFlags, ExtendedTimerFlags, Timer0, Timer1, Timer2, Timer3, Usart0, Spi}
 use Rattle.board_io.specs.Board.{clock_at, selected, with_kept}
-use Rattle.board_io.specs.Cycle.{board_answered, board_asks, board_begun, board_sends, is_ask, moved, moved_by, samples, sends, sent_by, timers_cycle, timers_leap, transfer_end, transferred, usart_cycle, with_moved}
+use Rattle.board_io.specs.Cycle.{board_answered, board_asks, board_begun, board_sends, is_ask, moved, moved_by, samples, sends, sent_by, timers_cycle, timers_leap, transfer_end, usart_cycle, with_moved}
 use Rattle.board_io.specs.Lines.{entered_of}
 use Rattle.board_io.specs.Registers.{get_by, io_get, io_put, put_by, with_spi, with_t0, with_t1, with_t2, with_t3, with_usart}
 use Rattle.board_io.specs.Table.{rule_of}
@@ -17,6 +17,7 @@ use Rattle.byte_radio.specs.declared.radio.Moved.TheVariants.{Answer, Send, Ask}
 use Rattle.byte_radio.specs.declared.radio.Radio.{Radio}
 use Rattle.byte_radio.specs.Radio.{radio_transfer}
 use Rattle.device_clocks.specs.Bits.{any_bit}
+use Rattle.device_clocks.specs.Transmission.{ended_byte}
 use Rattle.spi_port.specs.declared.spi.Spi.{Spi as SpiPort}
 use Rattle.spi_port.specs.Registers as spi
 use Rattle.timer16.specs.declared.timer16.Timer16.{Timer16}
@@ -63,17 +64,17 @@ sends_by t x (Some y) b c e =
 -- the byte time stays
 pub begun_gap : (t : ℕ) (a : Option ℕ) (b : Board) → (board_begun t a b).radio.byte_time ≡ b.radio.byte_time
 unfolding board_begun
-begun_gap t a b = gap_by t (transferred b.spi.transfer t) b (usart_cycle t a (timers_cycle t b)) refl
+begun_gap t a b = gap_by t (ended_byte b.spi.transfer t) b (usart_cycle t a (timers_cycle t b)) refl
 
 -- the cycle from which on the radio may send never falls
 pub begun_free : (t : ℕ) (a : Option ℕ) (b : Board) → b.radio.free ≤ (board_begun t a b).radio.free
 unfolding board_begun
-begun_free t a b = free_by t (transferred b.spi.transfer t) b (usart_cycle t a (timers_cycle t b)) refl
+begun_free t a b = free_by t (ended_byte b.spi.transfer t) b (usart_cycle t a (timers_cycle t b)) refl
 
 -- a byte is sent only from that cycle on, and moves it to the end of the byte
 pub sends_free : (t x : ℕ) (a : Option ℕ) (b : Board) → board_sends t b ≡ Some x → (b.radio.free ≤ t) × (t + b.radio.byte_time ≡ (board_begun t a b).radio.free)
 unfolding board_begun board_sends
-sends_free t x a b e = sends_by t x (transferred b.spi.transfer t) b (usart_cycle t a (timers_cycle t b)) e
+sends_free t x a b e = sends_by t x (ended_byte b.spi.transfer t) b (usart_cycle t a (timers_cycle t b)) e
 
 ask_apart : (m : Moved) → is_ask m ≡ true → sent_by m ≡ None
 ask_apart (Answer miso) e = refl
@@ -130,7 +131,7 @@ got_by WatchdogControl b at = refl
 got_by ResetFlags b at = refl
 got_by CpuControl b at = refl
 got_by TimerFlags b at = refl
-got_by TimerFlags3 b at = refl
+got_by ExtendedTimerFlags b at = refl
 got_by (Timer0 reg) b at = refl
 got_by (Timer1 reg) b at = refl
 got_by (Timer2 reg) b at = refl
@@ -194,7 +195,7 @@ put_keeps CpuControl b at x =
     choice (any_bit x 0x80) (Err stop.ExternalMemory) (if any_bit x 0x02 then Err stop.MovedVectors else kept) (aside b) refl
     (choice (any_bit x 0x02) (Err stop.MovedVectors) kept (aside b) refl refl)
 put_keeps TimerFlags b at x = refl
-put_keeps TimerFlags3 b at x = refl
+put_keeps ExtendedTimerFlags b at x = refl
 put_keeps (Timer0 reg) b at x = t0_aside b (reg8.put_of b.t0 reg x)
 put_keeps (Timer1 reg) b at x = t1_aside b (reg16.put_of b.t1 reg x)
 put_keeps (Timer2 reg) b at x = t2_aside b (reg8.put_of b.t2 reg x)

@@ -1,5 +1,6 @@
 -- Cycles in which nothing ends, and in which the lines stay.
-use Rattle.std.proofs.Common.{◌≡◌, ℕ, ◌≤◌, true, false, Option, Some, None, refl, sym, ap, ◌∙◌, arith}
+use Rattle.std.proofs.Common.{◌≡◌, ℕ, ◌-◌, ◌<◌, ◌≤◌, Bool, true, false, ◌&&◌, ◌||◌, not, ◌⊎◌, inl, inr, Option, Some, None, refl, sym, ap, ◌∙◌, subst, arith}
+use Rattle.std.proofs.lemmas.Bool.{cases_lt}
 use Rattle.board_io.specs.declared.board.Board.{Board}
 use Rattle.board_io.specs.Cycle.{board_quiet, timers_leap}
 use Rattle.board_io.specs.Lines.{lines_of}
@@ -7,31 +8,25 @@ use Rattle.board_io.specs.Passing.{is_at}
 use Rattle.device_clocks.specs.Clock.{cycles}
 use Rattle.device_clocks.specs.declared.flags.TimerFlags.{TimerFlags}
 use Rattle.device_clocks.specs.First.{First}
-use Rattle.spi_port.specs.declared.spi.Transfer.{Transfer}
-use Rattle.spi_port.specs.Spi as spi
+use Rattle.device_clocks.specs.declared.transmission.Transmission.{Transmission}
+use Rattle.device_clocks.specs.Transmission.{end_of, is_end}
 use Rattle.timer16.proofs.Clocks as clocks16
 use Rattle.timer16.specs.declared.timer16.Timer16.{Timer16}
 use Rattle.timer16.specs.Timer as timer16
 use Rattle.timer8.proofs.Clocks as clocks8
 use Rattle.timer8.specs.declared.timer8.Timer8.{Timer8}
 use Rattle.timer8.specs.Timer as timer8
-use Rattle.usart_port.specs.declared.usart.Frame.{Frame}
-use Rattle.usart_port.specs.Usart as usart
 
 -- ---- ends
-frame_at : (o : Option Frame) (t : ℕ) → is_at (usart.end_of o) t ≡ usart.is_end o t
-frame_at None t = refl
-frame_at (Some f) t = refl
+end_at : (o : Option Transmission) (t : ℕ) → is_at (end_of o) t ≡ is_end o t
+end_at None t = refl
+end_at (Some f) t = refl
 
-transfer_at : (o : Option Transfer) (t : ℕ) → is_at (spi.end_of o) t ≡ spi.is_end o t
-transfer_at None t = refl
-transfer_at (Some f) t = refl
-
-pub quiet_at : (t : ℕ) (b : Board) → is_at (usart.end_of b.usart.frame) t ≡ false → is_at (spi.end_of b.spi.transfer) t ≡ false → board_quiet t b ≡ true
+pub quiet_at : (t : ℕ) (b : Board) → is_at (end_of b.usart.frame) t ≡ false → is_at (end_of b.spi.transfer) t ≡ false → board_quiet t b ≡ true
 unfolding board_quiet
 quiet_at t b e f =
-    let u = sym (frame_at b.usart.frame t) ∙ e in
-    let s = sym (transfer_at b.spi.transfer t) ∙ f in
+    let u = sym (end_at b.usart.frame t) ∙ e in
+    let s = sym (end_at b.spi.transfer t) ∙ f in
     rw (u, s) refl
 
 -- ---- flags
@@ -72,3 +67,41 @@ pub lines_same : (t n : ℕ) (b : Board)
 unfolding timers_leap
 lines_same t n b e0 e1 e2 e3 =
     lines_by b (cycles timer8.timer_cycle t n b.t0) (cycles timer8.timer_cycle t n b.t2) (cycles timer16.timer_cycle t n b.t1) (cycles timer16.timer_cycle t n b.t3) e0 e1 e2 e3
+
+-- the last of the cycles that are told, where they are not all, ends something or sets a flag
+pub loud_at : (t : ℕ) (b : Board) → is_at (end_of b.usart.frame) t ≡ true → board_quiet t b ≡ false
+unfolding board_quiet
+loud_at t b e = let u = sym (end_at b.usart.frame t) ∙ e in rw u refl
+
+pub loud_too : (t : ℕ) (b : Board) → is_at (end_of b.spi.transfer) t ≡ true → board_quiet t b ≡ false
+unfolding board_quiet
+loud_too t b e = let s = sym (end_at b.spi.transfer t) ∙ e in rw s (neither (not (is_end b.usart.frame t)))
+  where
+    neither : (c : Bool) → (c && false) ≡ false
+    neither true = refl
+    neither false = refl
+
+one_of : (a b c d : Bool) → (a ≡ true) ⊎ ((b ≡ true) ⊎ ((c ≡ true) ⊎ (d ≡ true))) → (a || b || c || d) ≡ true
+one_of true b c d e = refl
+one_of false true c d e = refl
+one_of false false true d e = refl
+one_of false false false d (inl e) = absurd (cc)
+one_of false false false d (inr (inl e)) = absurd (cc)
+one_of false false false d (inr (inr (inl e))) = absurd (cc)
+one_of false false false d (inr (inr (inr e))) = e
+
+-- of four tests, each of which holds behind its own end where that is below the one before
+pub set_by : (p q r s : ℕ → Bool) (most w x y z : ℕ) → (w < most → p (w - 1) ≡ true) → (x < w → q (x - 1) ≡ true) → (y < x → r (y - 1) ≡ true) → (z < y → s (z - 1) ≡ true)
+    → w ≤ most → x ≤ w → y ≤ x → z ≤ y → z < most → (p (z - 1) || q (z - 1) || r (z - 1) || s (z - 1)) ≡ true
+set_by p q r s most w x y z f g h i lw lx ly lz below =
+    one_of (p (z - 1)) (q (z - 1)) (r (z - 1)) (s (z - 1))
+    (elim (cases_lt z y) [
+      | inl a ↦ inr (inr (inr (i a)))
+      | inr a ↦ elim (cases_lt y x) [
+        | inl b ↦ (let e : y ≡ z = omega arith in inr (inr (inl (subst (λ (n : ℕ). r (n - 1) ≡ true) e (h b)))))
+        | inr b ↦ elim (cases_lt x w) [
+          | inl c ↦ (let e : x ≡ z = omega arith in inr (inl (subst (λ (n : ℕ). q (n - 1) ≡ true) e (g c))))
+          | inr c ↦ (let e : w ≡ z = omega arith in let d : w < most = omega arith in inl (subst (λ (n : ℕ). p (n - 1) ≡ true) e (f d)))
+        ]
+      ]
+    ])

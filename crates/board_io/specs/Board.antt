@@ -8,9 +8,9 @@ use Rattle.board_io.specs.declared.board.Sleep.TheVariants.{Off, Idle, Other}
 use Rattle.board_io.specs.Table.{start_of}
 use Rattle.byte_radio.specs.Radio.{reset_radio}
 use Rattle.device_clocks.specs.Bits.{any_bit}
+use Rattle.device_clocks.specs.declared.prescaler.Prescaler.TheVariants.{Own, Shared}
 use Rattle.spi_port.specs.Spi.{reset_spi}
 use Rattle.timer16.specs.Timer as timer16
-use Rattle.timer8.specs.declared.timer8.Which8.TheVariants.{Zero, Two}
 use Rattle.timer8.specs.Timer as timer8
 use Rattle.usart_port.specs.Usart.{reset_usart}
 
@@ -18,9 +18,9 @@ abbrev pub reset_board : ℕ → Board
 reset_board byte_time = record {
   clock = 0;
   kept = map start_of (range_with_len 0 256);
-  t0 = timer8.reset_timer Zero;
+  t0 = timer8.reset_timer Own;
   t1 = timer16.reset_timer;
-  t2 = timer8.reset_timer Two;
+  t2 = timer8.reset_timer Shared;
   t3 = timer16.reset_timer;
   usart = reset_usart;
   spi = reset_spi;

@@ -1,7 +1,7 @@
 -- One cycle of the devices, which follows the processor's part: timers 0 to 3, then USART0 (a byte that arrives, then the
 -- transmitter), then the serial peripheral interface with the radio. Where a transfer ends that samples the air, the
 -- cycle is split there: the rest follows once it is known what was heard. This order is this simulator's own choice.
-use Rattle.std.specs.Prelude.{ℕ, ◌&&◌, not, if◌then◌else◌, Bool, true, false, Option, Some, None}
+use Rattle.std.specs.Prelude.{ℕ, ◌&&◌, not, Bool, true, false, Option, Some, None}
 use Rattle.board_io.specs.declared.board.Board.{Board}
 use Rattle.board_io.specs.Board.{selected}
 use Rattle.byte_radio.specs.declared.radio.Moved.{Moved}
@@ -9,7 +9,7 @@ use Rattle.byte_radio.specs.declared.radio.Moved.TheVariants.{Answer, Send, Ask}
 use Rattle.byte_radio.specs.declared.radio.Radio.{Radio}
 use Rattle.byte_radio.specs.Radio.{radio_transfer, radio_answered}
 use Rattle.device_clocks.specs.Clock.{cycles}
-use Rattle.spi_port.specs.declared.spi.Transfer.{Transfer}
+use Rattle.device_clocks.specs.Transmission.{ended_byte}
 use Rattle.spi_port.specs.Spi as spi
 use Rattle.timer16.specs.Timer as timer16
 use Rattle.timer8.specs.Timer as timer8
@@ -42,18 +42,13 @@ received (Some b) u = usart.arrived b u
 abbrev pub usart_cycle : ℕ → Option ℕ → Board → Board
 usart_cycle t arrival b = record b { usart = usart.usart_cycle t (received arrival b.usart) }
 
--- the byte of the transfer that ends in cycle t, where one does
-abbrev pub transferred : Option Transfer → ℕ → Option ℕ
-transferred None t = None
-transferred (Some f) t = if spi.is_end (Some f) t then Some f.byte else None
-
--- what the radio makes of that byte in cycle t; nothing where no transfer ends
+-- what the radio makes of the byte of the transfer that ends in cycle t; nothing where none ends
 abbrev pub moved_by : ℕ → Option ℕ → Board → Option (Moved × Radio)
 moved_by t None b = None
 moved_by t (Some byte) b = Some (radio_transfer t (selected b) byte b.radio)
 
 abbrev pub moved : ℕ → Board → Option (Moved × Radio)
-moved t b = moved_by t (transferred b.spi.transfer t) b
+moved t b = moved_by t (ended_byte b.spi.transfer t) b
 
 -- the end of a transfer whose answer is known; a sample waits for what it hears
 abbrev pub transfer_end : Moved → Radio → Board → Board

@@ -6,7 +6,7 @@ use Rattle.board_io.specs.declared.ahead.Ahead.{Ahead}
 use Rattle.board_io.specs.Cycle.{board_quiet, timers_leap}
 use Rattle.board_io.specs.Lines.{lines_of}
 use Rattle.board_io.specs.declared.rules.Rule.{Rule}
-use Rattle.board_io.specs.declared.rules.Rule.TheVariants.{Reserved, Pin, Kept, Guarded, WatchdogControl, ResetFlags, CpuControl, TimerFlags, TimerFlags3, Timer0, Timer1, Timer2, Timer3, Usart0, Spi}
+use Rattle.board_io.specs.declared.rules.Rule.TheVariants.{Reserved, Pin, Kept, Guarded, WatchdogControl, ResetFlags, CpuControl, TimerFlags, ExtendedTimerFlags, Timer0, Timer1, Timer2, Timer3, Usart0, Spi}
 use Rattle.spi_port.specs.declared.registers.SpiReg.{SpiReg}
 use Rattle.spi_port.specs.declared.registers.SpiReg.TheVariants as spi
 use Rattle.usart_port.specs.declared.registers.UsartReg.{UsartReg}
@@ -52,7 +52,7 @@ reads_apart WatchdogControl = true
 reads_apart ResetFlags = true
 reads_apart CpuControl = true
 reads_apart TimerFlags = false
-reads_apart TimerFlags3 = false
+reads_apart ExtendedTimerFlags = false
 reads_apart (Timer0 reg) = false
 reads_apart (Timer1 reg) = false
 reads_apart (Timer2 reg) = false
@@ -70,7 +70,7 @@ reads_timer WatchdogControl = false
 reads_timer ResetFlags = false
 reads_timer CpuControl = false
 reads_timer TimerFlags = true
-reads_timer TimerFlags3 = true
+reads_timer ExtendedTimerFlags = true
 reads_timer (Timer0 reg) = true
 reads_timer (Timer1 reg) = true
 reads_timer (Timer2 reg) = true
@@ -92,7 +92,7 @@ writes_apart WatchdogControl at = true
 writes_apart ResetFlags at = is_no_mask at
 writes_apart CpuControl at = is_no_mask at
 writes_apart TimerFlags at = false
-writes_apart TimerFlags3 at = false
+writes_apart ExtendedTimerFlags at = false
 writes_apart (Timer0 reg) at = false
 writes_apart (Timer1 reg) at = false
 writes_apart (Timer2 reg) at = false

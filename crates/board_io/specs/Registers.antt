@@ -1,14 +1,14 @@
 -- What an access to an I/O register gives, by the rule of its address (ATmega128 datasheet, the register descriptions).
 -- Where a rule stops, the tests stand in the order in which they are made.
-use Rattle.std.specs.Prelude.{ℕ, ◌+◌, ◌&&◌, not, if◌then◌else◌, Bool, false, Result, Ok, Err, bit_and, bit_or}
+use Rattle.std.specs.Prelude.{ℕ, ◌+◌, ◌&&◌, not, if◌then◌else◌, false, Result, Ok, Err, bit_and, bit_or}
 use Rattle.avr_base.specs.declared.stop.StopCause.{StopCause}
 use Rattle.avr_base.specs.declared.stop.StopCause.TheVariants as stop
 use Rattle.board_io.specs.declared.board.Board.{Board}
 use Rattle.board_io.specs.declared.rules.Rule.{Rule}
-use Rattle.board_io.specs.declared.rules.Rule.TheVariants.{Reserved, Pin, Kept, Guarded, WatchdogControl, ResetFlags, CpuControl, TimerFlags, TimerFlags3, Timer0, Timer1, Timer2, Timer3, Usart0, Spi}
+use Rattle.board_io.specs.declared.rules.Rule.TheVariants.{Reserved, Pin, Kept, Guarded, WatchdogControl, ResetFlags, CpuControl, TimerFlags, ExtendedTimerFlags, Timer0, Timer1, Timer2, Timer3, Usart0, Spi}
 use Rattle.board_io.specs.Board.{kept_at, with_kept}
 use Rattle.board_io.specs.Table.{rule_of}
-use Rattle.device_clocks.specs.Bits.{any_bit}
+use Rattle.device_clocks.specs.Bits.{any_bit, bit}
 use Rattle.device_clocks.specs.declared.flags.TimerFlags.{TimerFlags as Flags}
 use Rattle.spi_port.specs.declared.spi.Spi.{Spi as SpiPort}
 use Rattle.spi_port.specs.Registers as spi
@@ -21,9 +21,6 @@ use Rattle.timer8.specs.Timer as timer8
 use Rattle.usart_port.specs.declared.usart.Usart.{Usart}
 use Rattle.usart_port.specs.Registers as usart
 
-abbrev pub bit : Bool → ℕ → ℕ
-bit on value = if on then value else 0
-
 -- TIFR: OCF2 7, TOV2 6, ICF1 5, OCF1A 4, OCF1B 3, TOV1 2, OCF0 1, TOV0 0
 abbrev pub timer_flags : Board → ℕ
 timer_flags b =
@@ -31,8 +28,8 @@ timer_flags b =
     + bit b.t1.flags.comp_b 0x08 + bit b.t1.flags.over 0x04 + bit b.t0.comp_a 0x02 + bit b.t0.over 0x01
 
 -- ETIFR: ICF3 5, OCF3A 4, OCF3B 3, TOV3 2, OCF3C 1, OCF1C 0
-abbrev pub timer_flags_3 : Board → ℕ
-timer_flags_3 b =
+abbrev pub extended_timer_flags : Board → ℕ
+extended_timer_flags b =
     bit b.t3.flags.icr 0x20 + bit b.t3.flags.comp_a 0x10 + bit b.t3.flags.comp_b 0x08 + bit b.t3.flags.over 0x04
     + bit b.t3.flags.comp_c 0x02 + bit b.t1.flags.comp_c 0x01
 
@@ -44,8 +41,8 @@ flags_cleared x b =
     let f2 : Flags = record { over = any_bit x 0x40; comp_a = any_bit x 0x80; comp_b = false; comp_c = false; icr = false } in
     record b { t0 = timer8.cleared b.t0 f0; t1 = timer16.cleared b.t1 f1; t2 = timer8.cleared b.t2 f2 }
 
-abbrev pub flags_3_cleared : ℕ → Board → Board
-flags_3_cleared x b =
+abbrev pub extended_flags_cleared : ℕ → Board → Board
+extended_flags_cleared x b =
     let f1 : Flags = record { over = false; comp_a = false; comp_b = false; comp_c = any_bit x 0x01; icr = false } in
     let f3 : Flags = record { over = any_bit x 0x04; comp_a = any_bit x 0x10; comp_b = any_bit x 0x08; comp_c = any_bit x 0x02; icr = any_bit x 0x20 } in
     record b { t1 = timer16.cleared b.t1 f1; t3 = timer16.cleared b.t3 f3 }
@@ -61,7 +58,7 @@ get_by WatchdogControl b at = Ok (0, b)
 get_by ResetFlags b at = Ok (kept_at at b, b)
 get_by CpuControl b at = Ok (kept_at at b, b)
 get_by TimerFlags b at = Ok (timer_flags b, b)
-get_by TimerFlags3 b at = Ok (timer_flags_3 b, b)
+get_by ExtendedTimerFlags b at = Ok (extended_timer_flags b, b)
 get_by (Timer0 reg) b at = Ok (reg8.get_of b.t0 reg, b)
 get_by (Timer1 reg) b at = let got = reg16.get_of b.t1 reg in Ok (got.0, record b { t1 = got.1 })
 get_by (Timer2 reg) b at = Ok (reg8.get_of b.t2 reg, b)
@@ -108,7 +105,7 @@ put_by CpuControl b at x =
     else if any_bit x 0x02 then Err stop.MovedVectors
     else Ok (with_kept at (bit_and x 0x7C) b)
 put_by TimerFlags b at x = Ok (flags_cleared x b)
-put_by TimerFlags3 b at x = Ok (flags_3_cleared x b)
+put_by ExtendedTimerFlags b at x = Ok (extended_flags_cleared x b)
 put_by (Timer0 reg) b at x = with_t0 b (reg8.put_of b.t0 reg x)
 put_by (Timer1 reg) b at x = with_t1 b (reg16.put_of b.t1 reg x)
 put_by (Timer2 reg) b at x = with_t2 b (reg8.put_of b.t2 reg x)

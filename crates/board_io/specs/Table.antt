@@ -1,11 +1,11 @@
--- The I/O registers by data address, as the datasheet lists them (ATmega128 datasheet, "Register Summary"), each with
+-- The I/O registers in the order of their data addresses, as the datasheet lists them (ATmega128 datasheet, "Register Summary"), each with
 -- the rule for reading and writing it. An address without a row is reserved. RAMPZ, SPL, SPH and SREG (0x5B, 0x5D,
 -- 0x5E, 0x5F) are the core's own and stand in no row.
 use Rattle.std.specs.Prelude.{ℕ, ◌==◌, if◌then◌else◌, true, false, List, [], ◌∷◌}
 use Rattle.std.specs.List.{list_any}
 use Rattle.avr_base.specs.declared.stop.StopCause.TheVariants as stop
 use Rattle.board_io.specs.declared.rules.Rule.{Rule}
-use Rattle.board_io.specs.declared.rules.Rule.TheVariants.{Reserved, Pin, Kept, Guarded, WatchdogControl, ResetFlags, CpuControl, TimerFlags, TimerFlags3, Timer0, Timer1, Timer2, Timer3, Usart0, Spi}
+use Rattle.board_io.specs.declared.rules.Rule.TheVariants.{Reserved, Pin, Kept, Guarded, WatchdogControl, ResetFlags, CpuControl, TimerFlags, ExtendedTimerFlags, Timer0, Timer1, Timer2, Timer3, Usart0, Spi}
 use Rattle.spi_port.specs.declared.registers.SpiReg.TheVariants as spi
 use Rattle.timer16.specs.declared.registers.Chan.TheVariants.{A, B, C}
 use Rattle.timer16.specs.declared.registers.Reg16.TheVariants as reg16
@@ -24,18 +24,7 @@ abbrev pub table : List RegisterRow
 table =
     row (0x20 ∷ []) (Pin 0x62) ∷  -- PINF
     row (0x21 ∷ []) (Pin 0x23) ∷  -- PINE
-    row (0x30 ∷ []) (Pin 0x32) ∷  -- PIND
-    row (0x33 ∷ []) (Pin 0x35) ∷  -- PINC
-    row (0x36 ∷ []) (Pin 0x38) ∷  -- PINB
-    row (0x39 ∷ []) (Pin 0x3B) ∷  -- PINA
-    row (0x63 ∷ []) (Pin 0x65) ∷  -- PING
     row (0x22 ∷ 0x23 ∷ []) (Kept 0xFF) ∷  -- DDRE, PORTE
-    row (0x31 ∷ 0x32 ∷ []) (Kept 0xFF) ∷  -- DDRD, PORTD
-    row (0x34 ∷ 0x35 ∷ []) (Kept 0xFF) ∷  -- DDRC, PORTC
-    row (0x37 ∷ 0x38 ∷ []) (Kept 0xFF) ∷  -- DDRB, PORTB
-    row (0x3A ∷ 0x3B ∷ []) (Kept 0xFF) ∷  -- DDRA, PORTA
-    row (0x61 ∷ 0x62 ∷ []) (Kept 0xFF) ∷  -- DDRF, PORTF
-    row (0x64 ∷ 0x65 ∷ []) (Kept 0x1F) ∷  -- DDRG, PORTG
     row (0x24 ∷ 0x25 ∷ []) (Kept 0x00) ∷  -- ADCL, ADCH
     row (0x26 ∷ []) (Guarded 0xC0 stop.Adc 0xFF) ∷  -- ADCSRA: ADEN, ADSC
     row (0x27 ∷ []) (Kept 0xFF) ∷  -- ADMUX
@@ -44,11 +33,17 @@ table =
     row (0x2A ∷ []) (Usart0 usart.ControlB) ∷  -- UCSR0B
     row (0x2B ∷ []) (Usart0 usart.StatusA) ∷  -- UCSR0A
     row (0x2C ∷ []) (Usart0 usart.Udr) ∷  -- UDR0
-    row (0x90 ∷ []) (Usart0 usart.BaudH) ∷  -- UBRR0H
-    row (0x95 ∷ []) (Usart0 usart.ControlC) ∷  -- UCSR0C
     row (0x2D ∷ []) (Spi spi.Control) ∷  -- SPCR
     row (0x2E ∷ []) (Spi spi.Status) ∷  -- SPSR
     row (0x2F ∷ []) (Spi spi.Spdr) ∷  -- SPDR
+    row (0x30 ∷ []) (Pin 0x32) ∷  -- PIND
+    row (0x31 ∷ 0x32 ∷ []) (Kept 0xFF) ∷  -- DDRD, PORTD
+    row (0x33 ∷ []) (Pin 0x35) ∷  -- PINC
+    row (0x34 ∷ 0x35 ∷ []) (Kept 0xFF) ∷  -- DDRC, PORTC
+    row (0x36 ∷ []) (Pin 0x38) ∷  -- PINB
+    row (0x37 ∷ 0x38 ∷ []) (Kept 0xFF) ∷  -- DDRB, PORTB
+    row (0x39 ∷ []) (Pin 0x3B) ∷  -- PINA
+    row (0x3A ∷ 0x3B ∷ []) (Kept 0xFF) ∷  -- DDRA, PORTA
     row (0x3C ∷ []) (Guarded 0x0F stop.Eeprom 0x00) ∷  -- EECR
     row (0x3D ∷ 0x3E ∷ 0x3F ∷ []) (Kept 0xFF) ∷  -- EEDR, EEARL, EEARH
     row (0x40 ∷ []) (Guarded 0x83 stop.Prescaler 0x0C) ∷  -- SFIOR: TSM, PSR0, PSR321
@@ -77,17 +72,22 @@ table =
     row (0x57 ∷ []) (Guarded 0x20 stop.InputCapture 0xFF) ∷  -- TIMSK: TICIE1
     row (0x58 ∷ []) (Kept 0x00) ∷  -- EIFR
     row (0x59 ∷ []) (Guarded 0xFF stop.ExternalInterrupt 0x00) ∷  -- EIMSK
-    row (0x5A ∷ 0x6A ∷ []) (Kept 0xFF) ∷  -- EICRB, EICRA
+    row (0x5A ∷ []) (Kept 0xFF) ∷  -- EICRB
     row (0x5C ∷ []) (Guarded 0x80 stop.ClockDivision 0xFF) ∷  -- XDIV: XDIVEN
+    row (0x61 ∷ 0x62 ∷ []) (Kept 0xFF) ∷  -- DDRF, PORTF
+    row (0x63 ∷ []) (Pin 0x65) ∷  -- PING
+    row (0x64 ∷ 0x65 ∷ []) (Kept 0x1F) ∷  -- DDRG, PORTG
     row (0x68 ∷ []) (Kept 0x00) ∷  -- SPMCSR
+    row (0x6A ∷ []) (Kept 0xFF) ∷  -- EICRA
     row (0x6C ∷ 0x6D ∷ []) (Kept 0xFF) ∷  -- XMCRB, XMCRA
     row (0x6F ∷ []) (Kept 0xFF) ∷  -- OSCCAL
-    row (0x70 ∷ 0x71 ∷ 0x72 ∷ 0x73 ∷ []) (Kept 0xFF) ∷  -- TWBR, TWSR, TWAR, TWDR
+    row (0x70 ∷ []) (Kept 0xFF) ∷  -- TWBR
+    row (0x71 ∷ 0x72 ∷ 0x73 ∷ []) (Kept 0xFF) ∷  -- TWSR, TWAR, TWDR
     row (0x74 ∷ []) (Guarded 0x04 stop.Twi 0xFF) ∷  -- TWCR: TWEN
     row (0x78 ∷ []) (Timer1 (reg16.CompL C)) ∷  -- OCR1CL
     row (0x79 ∷ []) (Timer1 (reg16.CompH C)) ∷  -- OCR1CH
     row (0x7A ∷ []) (Timer1 reg16.ControlC) ∷  -- TCCR1C
-    row (0x7C ∷ []) TimerFlags3 ∷  -- ETIFR
+    row (0x7C ∷ []) ExtendedTimerFlags ∷  -- ETIFR
     row (0x7D ∷ []) (Guarded 0x20 stop.InputCapture 0x3F) ∷  -- ETIMSK: TICIE3
     row (0x80 ∷ []) (Timer3 reg16.IcrL) ∷  -- ICR3L
     row (0x81 ∷ []) (Timer3 reg16.IcrH) ∷  -- ICR3H
@@ -102,9 +102,13 @@ table =
     row (0x8A ∷ []) (Timer3 reg16.ControlB) ∷  -- TCCR3B
     row (0x8B ∷ []) (Timer3 reg16.ControlA) ∷  -- TCCR3A
     row (0x8C ∷ []) (Timer3 reg16.ControlC) ∷  -- TCCR3C
+    row (0x90 ∷ []) (Usart0 usart.BaudH) ∷  -- UBRR0H
+    row (0x95 ∷ []) (Usart0 usart.ControlC) ∷  -- UCSR0C
     row (0x98 ∷ 0x99 ∷ []) (Kept 0xFF) ∷  -- UBRR1H, UBRR1L
     row (0x9A ∷ []) (Guarded 0x18 stop.Usart1 0xFF) ∷  -- UCSR1B: RXEN1, TXEN1
-    row (0x9B ∷ 0x9C ∷ 0x9D ∷ []) (Kept 0xFF) ∷  -- UCSR1A, UDR1, UCSR1C
+    row (0x9B ∷ []) (Kept 0xFF) ∷  -- UCSR1A
+    row (0x9C ∷ []) (Kept 0xFF) ∷  -- UDR1
+    row (0x9D ∷ []) (Kept 0xFF) ∷  -- UCSR1C
     []
 
 -- the rule of the first row that has an address

@@ -3,11 +3,11 @@ ghost use Rattle.std.specs.Prelude.{◌≡◌, ◌≤◌, ◌^◌, map, slice_se
 ghost use Rattle.std.specs.List.{range_with_len};
 ghost use Rattle.board_io.specs.Table.{start_of};
 
-use crate::Cycle;
+use crate::Clock;
 use byte_radio::Radio;
-use device_clocks::any_bit;
+use device_clocks::{Prescaler, any_bit};
 use spi_port::Spi;
-use timer8::{Timer8, Which8};
+use timer8::Timer8;
 use timer16::Timer16;
 use usart_port::Usart;
 
@@ -33,7 +33,7 @@ pub enum Sleep {
 #[derive(Debug, Drop)]
 pub struct Board {
     /// The cycle in which its registers are accessed.
-    pub clock: Cycle,
+    pub clock: Clock,
     /// What the registers hold that no device has, by data address.
     pub kept: [u8; 256],
     /// Timer 0.
@@ -81,11 +81,11 @@ impl Board {
         ensures { result ≡ reset_board byte_time }
     {
         Board {
-            clock: Cycle::new(0),
+            clock: Clock::new(0),
             kept: starts(),
-            t0: Timer8::new(Which8::Zero),
+            t0: Timer8::new(Prescaler::Own),
             t1: Timer16::new(),
-            t2: Timer8::new(Which8::Two),
+            t2: Timer8::new(Prescaler::Shared),
             t3: Timer16::new(),
             usart: Usart::new(),
             spi: Spi::new(),
@@ -98,7 +98,7 @@ impl Board {
         requires { cycle ≤ 2 ^ 41 }
         ensures { self.new ≡ clock_at cycle self.old }
     {
-        self.clock = Cycle::new(cycle);
+        self.clock = Clock::new(cycle);
     }
 
     /// Whether the radio is selected: bit 0 of port B is an output and low.

@@ -1,40 +1,40 @@
-// The cycle of an access.
+// The clock of a board.
 ghost use Rattle.std.specs.Prelude.{◌≡◌, ◌≤◌, ◌^◌};
 
 use std::marker::Model;
 
-/// The number of a clock cycle, at most 2^41.
+/// What a board's clock shows: the number of a cycle, at most 2^41.
 #[derive(Clone, Copy, Debug, PartialEq, Eq)]
-pub struct Cycle {
-    number: u64,
+pub struct Clock {
+    cycle: u64,
 }
 
-impl Model for Cycle {
+impl Model for Clock {
     ghost use Rattle.std.specs.Prelude.{ℕ, ◌≤◌, ◌^◌};
 
     ghost Value = { ℕ };
 
-    ghost view = { λ c. c.number };
+    ghost view = { λ c. c.cycle };
 
-    ghost invariant = { λ c. c.number ≤ 2 ^ 41 };
+    ghost invariant = { λ c. c.cycle ≤ 2 ^ 41 };
 
-    ghost inverse = { λ n. record { number = n } };
+    ghost inverse = { λ n. record { cycle = n } };
 }
 
-impl Cycle {
-    /// The cycle of this number.
-    pub fn new(number: u64) -> Cycle
-        requires { number ≤ 2 ^ 41 }
-        ensures { result ≡ number }
+impl Clock {
+    /// A clock that shows this cycle.
+    pub fn new(cycle: u64) -> Clock
+        requires { cycle ≤ 2 ^ 41 }
+        ensures { result ≡ cycle }
     {
-        Cycle { number }
+        Clock { cycle }
     }
 
-    /// Its number.
+    /// The number of its cycle.
     pub fn get(self) -> u64
         ensures value { result ≡ self }
         ensures early { result ≤ 2 ^ 41 }
     {
-        self.number
+        self.cycle
     }
 }

@@ -3,7 +3,7 @@ ghost use Rattle.std.specs.Prelude.{◌≡◌, ◌≤◌, ◌<◌, ◌+◌, ◌^
 ghost use Rattle.board_io.specs.Lagging.{IsIdle};
 
 use crate::ahead::Ahead;
-use crate::{Begun, Board, Cycle, Sleep};
+use crate::{Begun, Board, Clock, Sleep};
 use interrupt_unit::{Lines, Vector};
 use std::marker::Model;
 use world_core::Heard;
@@ -72,23 +72,25 @@ impl LaggingBoard {
     {
         let clock = self.board.clock.get();
         let n = most.min(self.ahead.next - clock);
-        self.board.clock = Cycle::new(clock + n);
+        self.board.clock = Clock::new(clock + n);
         n
     }
 
-    /// Passes `n` cycles, if all of them are such ones.
+    /// Passes the `n` cycles from `cycle` on, which is that of its clock, if all of them are such ones.
     #[inline]
-    pub fn passes(&mut self, n: u64) -> bool
-        ensures idle { result ≡ true → IsIdle self.old.clock n (unclocked self.old) }
-        ensures state { result ≡ true → unclocked self.new ≡ timers_leap self.old.clock n (unclocked self.old) }
-        ensures clock { result ≡ true → self.new.clock ≡ self.old.clock + n }
+    pub fn passes(&mut self, cycle: u64, n: u8) -> bool
+        requires now { self.old.clock ≡ cycle }
+        ensures idle { result ≡ true → IsIdle cycle n (unclocked self.old) }
+        ensures state { result ≡ true → unclocked self.new ≡ timers_leap cycle n (unclocked self.old) }
+        ensures clock { result ≡ true → self.new.clock ≡ cycle + n }
         ensures same { result ≡ false → self.new ≡ self.old }
     {
-        let clock = self.board.clock.get();
-        if n > self.ahead.next - clock {
+        let next = self.ahead.next;
+        let end = cycle + u64::from(n);
+        if end > next {
             return false;
         }
-        self.board.clock = Cycle::new(clock + n);
+        self.board.clock = Clock::new(end);
         true
     }
 
@@ -126,7 +128,7 @@ impl LaggingBoard {
     {
         match arrival {
             None => {
-                if self.passes(1) {
+                if self.passes(cycle, 1) {
                     Begun::NOTHING
                 } else {
                     self.turn(cycle, None)

@@ -51,7 +51,7 @@ fn reads_apart(rule: Rule) -> bool
         | Rule::ResetFlags
         | Rule::CpuControl => true,
         Rule::TimerFlags
-        | Rule::TimerFlags3
+        | Rule::ExtendedTimerFlags
         | Rule::Timer0 { .. }
         | Rule::Timer1 { .. }
         | Rule::Timer2 { .. }
@@ -68,7 +68,7 @@ fn reads_timer(rule: Rule) -> bool
 {
     match rule {
         Rule::TimerFlags
-        | Rule::TimerFlags3
+        | Rule::ExtendedTimerFlags
         | Rule::Timer0 { .. }
         | Rule::Timer1 { .. }
         | Rule::Timer2 { .. }
@@ -96,7 +96,7 @@ fn writes_apart(rule: Rule, at: u8) -> bool
             at != TIMSK && at != ETIMSK
         }
         Rule::TimerFlags
-        | Rule::TimerFlags3
+        | Rule::ExtendedTimerFlags
         | Rule::Timer0 { .. }
         | Rule::Timer1 { .. }
         | Rule::Timer2 { .. }

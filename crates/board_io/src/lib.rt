@@ -5,19 +5,16 @@
 mod ahead;
 mod board;
 mod clock;
+mod cycle;
 mod lagging;
 mod lagging_registers;
 mod lines;
 mod passing;
 mod registers;
 mod rules;
-mod turn;
 
 pub use board::{Board, Sleep};
-pub use clock::Cycle;
+pub use clock::Clock;
+pub use cycle::Begun;
 pub use lagging::LaggingBoard;
-pub use rules::Rule;
-pub use turn::Begun;
 
-#[cfg(test)]
-mod tests;

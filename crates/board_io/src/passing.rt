@@ -1,5 +1,5 @@
 // Many cycles of the devices at once.
-ghost use Rattle.std.specs.Prelude.{◌≡◌, ◌≤◌, ◌<◌, ◌+◌, ◌^◌, ℕ, true, false};
+ghost use Rattle.std.specs.Prelude.{◌≡◌, ◌≤◌, ◌<◌, ◌+◌, ◌-◌, ◌^◌, ℕ, true, false};
 ghost use Rattle.device_clocks.specs.Clock.{cycles};
 ghost use Rattle.timer8.specs.Timer as timer8;
 ghost use Rattle.timer16.specs.Timer as timer16;
@@ -15,6 +15,7 @@ fn cycles_before(end: Option<u64>, cycle: u64, most: u64) -> u64
     ensures within { result ≤ most }
     ensures none { (i : ℕ) → i < result → is_at end (cycle + i) ≡ false }
     ensures goes_on { 0 < most → is_at end cycle ≡ false → 0 < result }
+    ensures first { result < most → is_at end (cycle + result) ≡ true }
 {
     match end {
         None => most,
@@ -60,6 +61,7 @@ fn same_flags_8(timer: &Timer8, cycle: u64, most: u64) -> u64
     ensures within { result ≤ most }
     ensures same { (i : ℕ) → i < result → timer8.flags_of (cycles timer8.timer_cycle cycle i timer.now) ≡ timer8.flags_of timer.now }
     ensures goes_on { 0 < most → 0 < result }
+    ensures first { result < most → timer8.sets_flag_at cycle timer.now (result - 1) ≡ true }
 {
     if timer.select == 0 {
         return most;
@@ -78,6 +80,7 @@ fn same_flags_16(timer: &Timer16, cycle: u64, most: u64) -> u64
     ensures within { result ≤ most }
     ensures same { (i : ℕ) → i < result → (cycles timer16.timer_cycle cycle i timer.now).flags ≡ timer.now.flags }
     ensures goes_on { 0 < most → 0 < result }
+    ensures first { result < most → timer16.sets_flag_at cycle timer.now (result - 1) ≡ true }
 {
     if timer.select == 0 {
         return most;
@@ -91,14 +94,16 @@ fn same_flags_16(timer: &Timer16, cycle: u64, most: u64) -> u64
 impl Board {
     ghost use Rattle.board_io.specs.Cycle.{board_quiet, timers_leap};
     ghost use Rattle.board_io.specs.Lines.{lines_of};
+    ghost use Rattle.board_io.specs.Passing.{sets_flag_at};
 
     /// For how many cycles from `cycle` on, of at most `most`, no frame and no transfer ends, as far as what runs now
-    /// tells: at least one where none ends in `cycle` itself.
+    /// tells: up to the first end.
     #[tactic(auto, unfolding(crate::specs::Cycle::board_quiet))]
     pub fn quiet(&self, cycle: u64, most: u64) -> u64
         requires { cycle + most ≤ 2 ^ 41 }
         ensures within { result ≤ most }
         ensures none { (i : ℕ) → i < result → board_quiet (cycle + i) self.now ≡ true }
+        ensures first { result < most → board_quiet (cycle + result) self.now ≡ false }
         ensures goes_on { 0 < most → board_quiet cycle self.now ≡ true → 0 < result }
     {
         let frame = cycles_before(self.usart.next_event(), cycle, most);
@@ -125,6 +130,7 @@ impl Board {
         ensures within { result ≤ most }
         ensures same { (i : ℕ) → i < result → lines_of (timers_leap cycle i self.now) ≡ lines_of self.now }
         ensures goes_on { 0 < most → 0 < result }
+        ensures first { result < most → sets_flag_at cycle self.now (result - 1) ≡ true }
     {
         let first = same_flags_8(&self.t0, cycle, most);
         let second = same_flags_16(&self.t1, cycle, first);

@@ -1,24 +1,15 @@
 // The I/O registers as a bus.
-ghost use Rattle.std.specs.Prelude.{◌≡◌, ◌≤◌, ℕ, Ok, Err, OnOk, IfOk, OnErr, IfErr};
-ghost use Rattle.board_io.specs.Registers.{bit};
+ghost use Rattle.std.specs.Prelude.{◌≡◌, ℕ, Ok, Err, OnOk, IfOk, OnErr, IfErr};
 
 use crate::Board;
 use crate::rules::{Rule, rule_at};
 use avr_base::StopCause;
 use data_space::Bus;
-use device_clocks::{TimerFlags, any_bit};
-
-// A bit of a register.
-fn bit(on: bool, value: u8) -> u8
-    ensures value { result ≡ bit on value }
-    ensures most { result ≤ value }
-{
-    if on { value } else { 0 }
-}
+use device_clocks::{TimerFlags, any_bit, bit};
 
 impl Board {
     ghost use Rattle.board_io.specs.Board.{kept_at, with_kept};
-    ghost use Rattle.board_io.specs.Registers.{flags_3_cleared, flags_cleared, get_by, put_by, timer_flags, timer_flags_3};
+    ghost use Rattle.board_io.specs.Registers.{extended_flags_cleared, flags_cleared, get_by, put_by, timer_flags, extended_timer_flags};
 
     // TIFR as it reads.
     fn timer_flags(&self) -> u8
@@ -35,8 +26,8 @@ impl Board {
     }
 
     // ETIFR as it reads.
-    fn timer_flags_3(&self) -> u8
-        ensures { result ≡ timer_flags_3 self.now }
+    fn extended_timer_flags(&self) -> u8
+        ensures { result ≡ extended_timer_flags self.now }
     {
         bit(self.t3.flags.icr, 0x20)
             + bit(self.t3.flags.comp_a, 0x10)
@@ -70,8 +61,8 @@ impl Board {
     }
 
     // A write of ETIFR.
-    fn clear_flags_3(&mut self, x: u8)
-        ensures { self.new ≡ flags_3_cleared x self.old }
+    fn clear_extended_flags(&mut self, x: u8)
+        ensures { self.new ≡ extended_flags_cleared x self.old }
     {
         self.t1.clear(TimerFlags {
             comp_c: any_bit(x, 0x01),
@@ -94,7 +85,7 @@ impl Board {
     }
 
     /// A read of the register at a data address below 0x0100, by its rule.
-    pub fn get_by(&mut self, rule: Rule, at: u8) -> Result<u8, StopCause>
+    pub(crate) fn get_by(&mut self, rule: Rule, at: u8) -> Result<u8, StopCause>
         ensures ok { IfOk result (λ x. get_by rule self.old at ≡ Ok (x, self.new)) }
         ensures err { IfErr result (λ cause. get_by rule self.old at ≡ Err cause) }
         ensures same { OnErr result (self.new ≡ self.old) }
@@ -112,7 +103,7 @@ impl Board {
             Rule::ResetFlags => Ok(self.kept(at)),
             Rule::CpuControl => Ok(self.kept(at)),
             Rule::TimerFlags => Ok(self.timer_flags()),
-            Rule::TimerFlags3 => Ok(self.timer_flags_3()),
+            Rule::ExtendedTimerFlags => Ok(self.extended_timer_flags()),
             Rule::Timer0 { reg } => Ok(self.t0.get(reg)),
             Rule::Timer1 { reg } => Ok(self.t1.get(reg)),
             Rule::Timer2 { reg } => Ok(self.t2.get(reg)),
@@ -166,7 +157,7 @@ impl Board {
     }
 
     /// A write of the register at a data address below 0x0100, by its rule.
-    pub fn put_by(&mut self, rule: Rule, at: u8, x: u8) -> Result<(), StopCause>
+    pub(crate) fn put_by(&mut self, rule: Rule, at: u8, x: u8) -> Result<(), StopCause>
         ensures ok { OnOk result (put_by rule self.old at x ≡ Ok self.new) }
         ensures err { IfErr result (λ cause. put_by rule self.old at x ≡ Err cause) }
         ensures same { OnErr result (self.new ≡ self.old) }
@@ -195,8 +186,8 @@ impl Board {
                 self.clear_flags(x);
                 Ok(())
             }
-            Rule::TimerFlags3 => {
-                self.clear_flags_3(x);
+            Rule::ExtendedTimerFlags => {
+                self.clear_extended_flags(x);
                 Ok(())
             }
             Rule::Timer0 { reg } => self.t0.put(reg, x),

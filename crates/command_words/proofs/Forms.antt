@@ -2,7 +2,7 @@
 use Rattle.std.proofs.Common.{◌≡◌, ℕ, ◌≤◌, ◌&&◌, if◌then◌else◌, Bool, true, false, option_map, List, Option, Some, None, [], ◌∷◌, codes, refl, sym}
 use Rattle.std.proofs.lemmas.Bool.{and_parts}
 use Rattle.std.proofs.lemmas.Slice.Eq.{bytes_eq-Decides}
-use Rattle.command_words.specs.Words.{Asked, Node, Run, RunPlain, Check, Disasm, Make, as_make, as_node, as_plain_run, asked_by, cycles_of, file_behind, is_file, is_word, or_else, sample_of, IsInLimits}
+use Rattle.command_words.specs.Words.{Asked, Node, Run, RunPlain, Check, Disasm, Asm, Make, as_make, as_node, as_plain_run, asked_by, cycles_of, file_behind, is_file, is_word, or_else, sample_of, IsInLimits}
 use Rattle.command_words.proofs.Numerals.{number_limits}
 
 -- words that ask for something, each form with what it says
@@ -12,6 +12,7 @@ pub data Form : List (List ℕ) → Asked → Type 0 where
   IsPlainRun : (file : List ℕ) → is_file file ≡ true → Form (codes "run" ∷ codes "--plain" ∷ file ∷ []) (RunPlain file)
   IsCheck : (file : List ℕ) → is_file file ≡ true → Form (codes "check" ∷ file ∷ []) (Check file)
   IsDisasm : (file : List ℕ) → is_file file ≡ true → Form (codes "disasm" ∷ file ∷ []) (Disasm file)
+  IsAsm : (file : List ℕ) → is_file file ≡ true → Form (codes "asm" ∷ file ∷ []) (Asm file)
   IsMake : (number : List ℕ) (n : ℕ) → sample_of number ≡ Some n → Form (codes "make" ∷ number ∷ []) (Make n)
 
 same : (name word : List ℕ) → is_word name word ≡ true → word ≡ name
@@ -115,7 +116,8 @@ form_of words asked h =
     (either words asked (as_plain_run words) _ (of_plain_run words asked)
     (either words asked (option_map Check (file_behind (codes "check") words)) _ (of_file (codes "check") words Check _ refl IsCheck asked)
     (either words asked (option_map Disasm (file_behind (codes "disasm") words)) _ (of_file (codes "disasm") words Disasm _ refl IsDisasm asked)
-    (of_make words asked))))) h
+    (either words asked (option_map Asm (file_behind (codes "asm") words)) _ (of_file (codes "asm") words Asm _ refl IsAsm asked)
+    (of_make words asked)))))) h
 
 pub in_limits : (words : List (List ℕ)) (asked : Asked) → Form words asked → IsInLimits asked
 in_limits _ _ (IsNode file cycles n f e) = number_limits 8 1 10000000 cycles n e
@@ -123,4 +125,5 @@ in_limits _ _ (IsRun file f) = tt
 in_limits _ _ (IsPlainRun file f) = tt
 in_limits _ _ (IsCheck file f) = tt
 in_limits _ _ (IsDisasm file f) = tt
+in_limits _ _ (IsAsm file f) = tt
 in_limits _ _ (IsMake number n e) = (number_limits 5 0 65535 number n e).1

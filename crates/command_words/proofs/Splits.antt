@@ -8,7 +8,7 @@ use Rattle.command_words.specs.Words.{Asked, asked_by, is_file}
 use Rattle.command_words.specs.Apps.{the_app}
 use Rattle.command_words.specs.Split.{asked_in, asked_of}
 use Rattle.command_words.proofs.Numerals.{number_file}
-use Rattle.command_words.proofs.Forms.{Form, IsNode, IsRun, IsPlainRun, IsCheck, IsDisasm, IsMake, form_of}
+use Rattle.command_words.proofs.Forms.{Form, IsNode, IsRun, IsPlainRun, IsCheck, IsDisasm, IsAsm, IsMake, form_of}
 
 -- a word that `clap` takes for a value
 record Plain (word : List ℕ) : Type 0 where
@@ -36,6 +36,7 @@ taken _ _ (IsRun file f) = let a = plain_file file f in simp (a.short, a.long) r
 taken _ _ (IsPlainRun file f) = let a = plain_file file f in simp (a.short, a.long) refl
 taken _ _ (IsCheck file f) = let a = plain_file file f in simp (a.short, a.long) refl
 taken _ _ (IsDisasm file f) = let a = plain_file file f in simp (a.short, a.long) refl
+taken _ _ (IsAsm file f) = let a = plain_file file f in simp (a.short, a.long) refl
 taken _ _ (IsMake number n e) = let a = plain_file number (number_file 5 0 65535 number n e) in simp (a.short, a.long) refl
 
 -- and its matches ask for what the words ask for
@@ -49,6 +50,7 @@ kept _ _ (IsRun file f) = let a = plain_file file f in simp (a.short, a.long) re
 kept _ _ (IsPlainRun file f) = let a = plain_file file f in simp (a.short, a.long) refl
 kept _ _ (IsCheck file f) = let a = plain_file file f in simp (a.short, a.long) refl
 kept _ _ (IsDisasm file f) = let a = plain_file file f in simp (a.short, a.long) refl
+kept _ _ (IsAsm file f) = let a = plain_file file f in simp (a.short, a.long) refl
 kept _ _ (IsMake number n e) = let a = plain_file number (number_file 5 0 65535 number n e) in simp (a.short, a.long, e) refl
 
 some_of : (o : Option Asked) → is_some o ≡ true → (asked : Asked) × (o ≡ Some asked)

@@ -31,7 +31,9 @@ simulating app = with_subcommand (with_subcommand (with_subcommand app node_app.
 
 -- and those that simulate nothing
 abbrev pub reading : App → App
-reading app = with_subcommand (with_subcommand app (one_word_app (codes "check") (codes "file")).top) (one_word_app (codes "disasm") (codes "file")).top
+reading app =
+    with_subcommand (with_subcommand (with_subcommand app (one_word_app (codes "check") (codes "file")).top) (one_word_app (codes "disasm") (codes "file")).top)
+    (one_word_app (codes "asm") (codes "file")).top
 
 abbrev pub the_app : App
 the_app = reading (simulating (without_first (new_app (codes "avrora"))))

@@ -3,7 +3,7 @@ use Rattle.std.specs.Prelude.{List, [], codes, Option, Some, None, option_map, i
 use Rattle.std.specs.Option.{option_map_or}
 use Rattle.std.specs.Str.{bytes_eq}
 use Rattle.clap.specs.Words.{Row, Text, first_of}
-use Rattle.command_words.specs.Words.{Asked, Node, Run, RunPlain, Check, Disasm, Make, cycles_of, sample_of}
+use Rattle.command_words.specs.Words.{Asked, Node, Run, RunPlain, Check, Disasm, Asm, Make, cycles_of, sample_of}
 
 -- the word of this name, or no text
 abbrev pub text_in : Text → List Row → Text
@@ -22,6 +22,7 @@ asked_in name rows =
     else if bytes_eq name (codes "node") then option_map (Node (text_in (codes "file") rows)) (cycles_of (text_in (codes "cycles") rows))
     else if bytes_eq name (codes "check") then Some (Check (text_in (codes "file") rows))
     else if bytes_eq name (codes "disasm") then Some (Disasm (text_in (codes "file") rows))
+    else if bytes_eq name (codes "asm") then Some (Asm (text_in (codes "file") rows))
     else None
 
 unfoldable pub asked_of : Option (Text × List Row) → Option Asked

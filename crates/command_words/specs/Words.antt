@@ -19,6 +19,8 @@ pub data Asked : Type 0 where
   Check : (file : List ℕ) → Asked
   -- list the instructions of the image in this file
   Disasm : (file : List ℕ) → Asked
+  -- write the program of the source in this file as an image
+  Asm : (file : List ℕ) → Asked
   -- simulate the sample network of this number
   Make : (number : ℕ) → Asked
 
@@ -29,6 +31,7 @@ shown (order.Run file) = Run file.now
 shown (order.RunPlain file) = RunPlain file.now
 shown (order.Check file) = Check file.now
 shown (order.Disasm file) = Disasm file.now
+shown (order.Asm file) = Asm file.now
 shown (order.Make number) = Make number
 
 abbrev pub is_word : List ℕ → List ℕ → Bool
@@ -60,7 +63,7 @@ as_node (command ∷ file ∷ cycles ∷ []) =
     if is_word (codes "node") command && is_file file then option_map (Node file) (cycles_of cycles) else None
 as_node _ = None
 
--- the FILE of a command that has nothing else: `run FILE`, `check FILE`, `disasm FILE`
+-- the FILE of a command that has nothing else: `run FILE`, `check FILE`, `disasm FILE`, `asm FILE`
 unfoldable pub file_behind : List ℕ → List (List ℕ) → Option (List ℕ)
 file_behind name (command ∷ file ∷ []) = if is_word name command && is_file file then Some file else None
 file_behind name _ = None
@@ -88,7 +91,8 @@ asked_by words =
     (or_else (as_plain_run words)
     (or_else (option_map Check (file_behind (codes "check") words))
     (or_else (option_map Disasm (file_behind (codes "disasm") words))
-    (as_make words)))))
+    (or_else (option_map Asm (file_behind (codes "asm") words))
+    (as_make words))))))
 
 -- the number of cycles, where there is one, is from 1 to 10,000,000, and that of a sample at most 65,535
 abbrev pub IsInLimits : Asked → Type 0
@@ -97,4 +101,5 @@ IsInLimits (Run file) = Unit {0}
 IsInLimits (RunPlain file) = Unit {0}
 IsInLimits (Check file) = Unit {0}
 IsInLimits (Disasm file) = Unit {0}
+IsInLimits (Asm file) = Unit {0}
 IsInLimits (Make number) = number ≤ 65535

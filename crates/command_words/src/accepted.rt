@@ -63,5 +63,8 @@ pub fn is_accepted(words: &[&str]) -> bool
     if is_node(words) || has_file("run", words) || is_plain_run(words) {
         return true;
     }
-    has_file("check", words) || has_file("disasm", words) || is_make(words)
+    if has_file("check", words) || has_file("disasm", words) {
+        return true;
+    }
+    has_file("asm", words) || is_make(words)
 }

@@ -56,7 +56,8 @@ fn reading<'w>(alloc: Global, command: Command<'w>) -> Result<Command<'w>, Alloc
 {
     command
         .subcommand(one_word_command(alloc, "check", "file")?)?
-        .subcommand(one_word_command(alloc, "disasm", "file")?)
+        .subcommand(one_word_command(alloc, "disasm", "file")?)?
+        .subcommand(one_word_command(alloc, "asm", "file")?)
 }
 
 /// One subcommand for each word that an accepted list begins with.

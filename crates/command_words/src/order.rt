@@ -13,6 +13,8 @@ pub enum Order<'w> {
     Check { file: &'w str },
     /// `disasm FILE`: list the instructions of this image.
     Disasm { file: &'w str },
+    /// `asm FILE`: write the program of this source in assembly as an image.
+    Asm { file: &'w str },
     /// `make NUMBER`: simulate the sample network of this number, and count what came out.
     Make { number: u16 },
 }

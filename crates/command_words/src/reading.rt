@@ -49,6 +49,7 @@ fn order_in<'w>(name: &str, matches: &ArgMatches<'w>) -> Option<Order<'w>>
         },
         "check" => Some(Order::Check { file }),
         "disasm" => Some(Order::Disasm { file }),
+        "asm" => Some(Order::Asm { file }),
         _ => None,
     }
 }

@@ -2,3 +2,4 @@ pub mod Calm
 pub mod Cycles
 pub mod First
 pub mod Path
+pub mod Timers

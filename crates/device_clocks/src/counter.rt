@@ -8,7 +8,8 @@ ghost use Rattle.device_clocks.specs.First.{First};
 #[inline]
 pub fn stepped(max: u16, top: u16, blocked: bool, count: u16) -> u16
     requires { count ≤ max }
-    ensures { result ≡ stepped max top blocked count }
+    ensures value { result ≡ stepped max top blocked count }
+    ensures within { result ≤ max }
 {
     if count == max {
         return 0;

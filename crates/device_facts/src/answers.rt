@@ -1,5 +1,6 @@
 // What a device answers, and its text.
 use avr_base::StopCause;
+use board_io::Sleep;
 use device_clocks::TimerFlags;
 use std::alloc::{AllocError, Global};
 
@@ -12,6 +13,9 @@ pub enum Answer {
     Nothing,
     Byte(u8),
     Number(u64),
+    /// The interrupt lines.
+    Lines(u64),
+    Sleep(Sleep),
     Truth(bool),
     /// A cycle and the byte that came in it.
     Came(u64, u8),
@@ -19,6 +23,8 @@ pub enum Answer {
     Flags(TimerFlags),
     /// The byte that the radio sends, and the one that it answers.
     Sent(u8, u8),
+    /// The byte that the board sends.
+    Sends(u8),
     /// That the radio asks the air.
     Asks,
 }
@@ -66,12 +72,17 @@ pub fn text_of(alloc: Global, answer: Answer) -> Result<String, AllocError> {
         Answer::Nothing => String::from_str(alloc, "none"),
         Answer::Byte(b) => format!(in alloc; "{b:02X}"),
         Answer::Number(n) => format!(in alloc; "{n}"),
+        Answer::Lines(bits) => format!(in alloc; "{bits:08X}"),
+        Answer::Sleep(Sleep::Off) => String::from_str(alloc, "off"),
+        Answer::Sleep(Sleep::Idle) => String::from_str(alloc, "idle"),
+        Answer::Sleep(Sleep::Other) => String::from_str(alloc, "other"),
         Answer::Truth(true) => String::from_str(alloc, "yes"),
         Answer::Truth(false) => String::from_str(alloc, "no"),
         Answer::Came(cycle, b) => format!(in alloc; "{cycle} {b:02X}"),
         Answer::Stop(cause) => String::from_str(alloc, cause.text()),
         Answer::Flags(flags) => flags_text(alloc, flags),
         Answer::Sent(b, miso) => format!(in alloc; "sends {b:02X} answers {miso:02X}"),
+        Answer::Sends(b) => format!(in alloc; "sends {b:02X}"),
         Answer::Asks => String::from_str(alloc, "asks"),
     }
 }

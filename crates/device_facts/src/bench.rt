@@ -7,9 +7,10 @@ use crate::serial::{do_script, do_usart};
 use crate::timers::{do_timer8, do_timer16};
 use crate::transfers::do_spi;
 use byte_radio::Radio;
+use device_clocks::Prescaler;
 use spi_port::Spi;
 use std::alloc::{AllocError, Global};
-use timer8::{Timer8, Which8};
+use timer8::Timer8;
 use timer16::Timer16;
 use usart_port::Usart;
 
@@ -43,8 +44,8 @@ impl Bench {
     pub fn new(alloc: Global) -> Self {
         Bench {
             alloc,
-            timer8: Timer8::new(Which8::Zero),
-            kept8: Timer8::new(Which8::Zero),
+            timer8: Timer8::new(Prescaler::Own),
+            kept8: Timer8::new(Prescaler::Own),
             timer16: Timer16::new(),
             kept16: Timer16::new(),
             spi: Spi::new(),

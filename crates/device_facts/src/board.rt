@@ -1,10 +1,29 @@
-// What is done to the board: its I/O registers, as the data space has them, and its cycles.
+// What is done to the board: its I/O registers, as the data space has them, its cycles and its interrupt lines.
 ghost use Rattle.std.specs.Prelude.{◌≤◌, ◌^◌};
 
 use crate::answers::Answer;
-use crate::numbers::{byte, cycle};
+use crate::numbers::{address, byte, cycle};
 use board_io::Board;
-use data_space::{Cpu, load, store};
+use data_space::{Bus, Cpu, load, store};
+use device_clocks::TimerFlags;
+use interrupt_unit::Vector;
+use usart_port::Inbox;
+use world_core::Heard;
+
+// A sample hears one byte.
+const HEARD: Heard = Heard {
+    status: 1,
+    byte: 0x42,
+    age: 3,
+};
+
+const ALL: TimerFlags = TimerFlags {
+    over: true,
+    comp_a: true,
+    comp_b: true,
+    comp_c: true,
+    icr: true,
+};
 
 /// A core after reset, for its own registers, and the board.
 #[derive(Drop)]
@@ -22,6 +41,22 @@ impl CoreAndBoard {
         }
     }
 
+    // At reset, but each flag of the devices is set, and USART0 has a byte.
+    fn flagged() -> Self {
+        let mut devices = CoreAndBoard::new();
+        let board = &mut devices.board;
+        board.t0.over = true;
+        board.t0.comp_a = true;
+        board.t1.flags = ALL;
+        board.t2.over = true;
+        board.t2.comp_a = true;
+        board.t3.flags = ALL;
+        board.spi.spif = true;
+        board.usart.txc = true;
+        board.usart.inbox = Inbox::One { first: 0x41 };
+        devices
+    }
+
     fn put(&mut self, at: u8, b: u8) -> Answer {
         Answer::of_put(store(&mut self.cpu, &mut self.board, u16::from(at), b))
     }
@@ -33,20 +68,83 @@ impl CoreAndBoard {
         }
     }
 
-    // One cycle of the devices, in which nothing arrives.
-    fn tick(&mut self, at: u64)
+    // One cycle of the devices, in which nothing arrives; where the radio asks the air, it is answered.
+    fn cycle(&mut self, at: u64) -> Answer
         requires { at ≤ 2 ^ 41 }
     {
-        self.board.begin(at, None);
+        let begun = self.board.begin(at, None);
+        if begun.asks {
+            self.board.answer(HEARD);
+            return Answer::Asks;
+        }
+        match begun.sent {
+            Some(b) => Answer::Sends(b),
+            None => Answer::Done,
+        }
     }
 }
 
 fn ticks(devices: &mut CoreAndBoard, from: &str, n: &str) -> Option<Answer> {
     let (from, n) = (cycle(from)?, cycle(n)?);
     for i in 0..n {
-        devices.tick(from + i);
+        devices.cycle(from + i);
     }
     Some(Answer::Done)
+}
+
+// Accesses to registers.
+fn do_registers(devices: &mut CoreAndBoard, words: &[&str]) -> Option<Answer> {
+    match words {
+        ["put", at, b] => Some(devices.put(byte(at)?, byte(b)?)),
+        ["get", at] => Some(devices.get(byte(at)?)),
+        ["bus", at, b] => Some(Answer::of_put(devices.board.put(address(at)?, byte(b)?))),
+        ["at", c] => {
+            devices.board.at(cycle(c)?);
+            Some(Answer::Done)
+        }
+        _ => None,
+    }
+}
+
+// Cycles.
+fn do_cycles(devices: &mut CoreAndBoard, words: &[&str]) -> Option<Answer> {
+    match words {
+        ["tick", from, n] => ticks(devices, from, n),
+        ["cycle", c] => Some(devices.cycle(cycle(c)?)),
+        ["leap", from, n] => {
+            devices.board.leap(cycle(from)?, cycle(n)?);
+            Some(Answer::Done)
+        }
+        ["quiet", from, most] => Some(Answer::Number(
+            devices.board.quiet(cycle(from)?, cycle(most)?),
+        )),
+        ["same", from, most] => Some(Answer::Number(
+            devices.board.same_lines(cycle(from)?, cycle(most)?),
+        )),
+        _ => None,
+    }
+}
+
+// What the node around it asks and tells.
+fn do_node(devices: &mut CoreAndBoard, words: &[&str]) -> Option<Answer> {
+    match words {
+        ["lines"] => Some(Answer::Lines(devices.board.lines().bits)),
+        ["enter", word] => {
+            devices.board.entered(Vector { word: address(word)? });
+            Some(Answer::Done)
+        }
+        ["sleep"] => Some(Answer::Sleep(devices.board.sleep_mode())),
+        ["selected"] => Some(Answer::Truth(devices.board.selected())),
+        _ => None,
+    }
+}
+
+fn is_access(what: &str) -> bool {
+    matches!(what, "put" | "get" | "bus" | "at")
+}
+
+fn is_asked(what: &str) -> bool {
+    matches!(what, "lines" | "enter" | "sleep" | "selected")
 }
 
 /// The board.
@@ -56,9 +154,12 @@ pub fn do_board(devices: &mut CoreAndBoard, words: &[&str]) -> Option<Answer> {
             *devices = CoreAndBoard::new();
             Some(Answer::Done)
         }
-        ["put", at, b] => Some(devices.put(byte(at)?, byte(b)?)),
-        ["get", at] => Some(devices.get(byte(at)?)),
-        ["tick", from, n] => ticks(devices, from, n),
-        _ => None,
+        ["flagged"] => {
+            *devices = CoreAndBoard::flagged();
+            Some(Answer::Done)
+        }
+        [what, ..] if is_access(what) => do_registers(devices, words),
+        [what, ..] if is_asked(what) => do_node(devices, words),
+        _ => do_cycles(devices, words),
     }
 }

@@ -1,12 +1,11 @@
-// The clocks and counters that the timers share, and which interrupt is due.
+// The clocks and counters that the timers share, and which interrupt waits.
 use crate::answers::Answer;
 use crate::numbers::{byte, cycle, long, perhaps, short};
-use avr_base::Sreg;
 use device_clocks::{
     any_bit, clocks_in, clocks_until, count_after, cycle_of_clock, earlier, flag_after, has_clock,
     stepped,
 };
-use interrupt_unit::{Lines, Vector, due, pending};
+use interrupt_unit::{Lines, Vector, pending};
 
 // The maximum, the top and the count of a counter.
 fn counter(max: &str, top: &str, count: &str) -> Option<(u16, u16, u16)> {
@@ -75,14 +74,10 @@ fn vector(found: Option<Vector>) -> Answer {
     }
 }
 
-/// Which interrupt waits on these lines, and which is due where SREG is so.
+/// Which interrupt waits on these lines.
 pub fn do_interrupts(words: &[&str]) -> Option<Answer> {
     match words {
         ["pending", bits] => Some(vector(pending(Lines { bits: long(bits)? }))),
-        ["due", sreg, bits] => Some(vector(due(
-            Sreg { bits: byte(sreg)? },
-            Lines { bits: long(bits)? },
-        ))),
         _ => None,
     }
 }

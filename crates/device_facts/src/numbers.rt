@@ -17,6 +17,12 @@ pub fn byte(word: &str) -> Option<u8> {
     Some(digit(*high)?.wrapping_mul(16).wrapping_add(digit(*low)?))
 }
 
+/// An address of four hexadecimal digits.
+pub fn address(word: &str) -> Option<u16> {
+    let (high, low) = word.split_at_checked(2)?;
+    Some(u16::from(byte(high)?).wrapping_mul(256).wrapping_add(u16::from(byte(low)?)))
+}
+
 /// A decimal number of 16 bits.
 pub fn short(word: &str) -> Option<u16> {
     word.parse().ok()

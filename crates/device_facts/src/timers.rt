@@ -1,8 +1,8 @@
 // What is done to a timer.
 use crate::answers::Answer;
 use crate::numbers::{byte, cycle};
-use device_clocks::TimerFlags;
-use timer8::{Reg8, Timer8, Which8};
+use device_clocks::{Prescaler, TimerFlags};
+use timer8::{Reg8, Timer8};
 use timer16::{Chan, Reg16, Timer16};
 
 fn flag(name: &str) -> Option<TimerFlags> {
@@ -37,8 +37,8 @@ fn reg8(name: &str) -> Option<Reg8> {
 
 fn new8(which: &str) -> Option<Timer8> {
     match which {
-        "0" => Some(Timer8::new(Which8::Zero)),
-        "2" => Some(Timer8::new(Which8::Two)),
+        "0" => Some(Timer8::new(Prescaler::Own)),
+        "2" => Some(Timer8::new(Prescaler::Shared)),
         _ => None,
     }
 }

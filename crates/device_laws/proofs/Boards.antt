@@ -12,7 +12,7 @@ use Rattle.board_io.specs.declared.board.Board.{Board}
 use Rattle.board_io.specs.declared.rules.Rule.{Rule}
 use Rattle.board_io.specs.declared.rules.Rule.TheVariants as rule
 use Rattle.board_io.specs.Board.{kept_at, reset_board, selected, with_kept}
-use Rattle.board_io.specs.Cycle.{board_answered, board_begun, moved_by, received, timers_cycle, timers_leap, transfer_end, transferred, usart_cycle, with_moved}
+use Rattle.board_io.specs.Cycle.{board_answered, board_begun, moved_by, received, timers_cycle, timers_leap, transfer_end, usart_cycle, with_moved}
 use Rattle.board_io.specs.Lines.{entered_of, no_flags}
 use Rattle.board_io.specs.Registers.{get_by, io_get, io_put, put_by, with_spi, with_t0, with_t1, with_t2, with_t3, with_usart}
 use Rattle.board_io.specs.Table.{rule_of, start_of}
@@ -22,10 +22,11 @@ use Rattle.byte_radio.specs.declared.radio.Radio.{Radio}
 use Rattle.byte_radio.specs.Radio.{radio_transfer}
 use Rattle.avr_base.proofs.Computed.{all_from, all_from-at}
 use Rattle.device_clocks.specs.Bits.{any_bit}
+use Rattle.device_clocks.specs.declared.prescaler.Prescaler.TheVariants.{Own, Shared}
+use Rattle.device_clocks.specs.Transmission.{ended_byte}
 use Rattle.device_clocks.specs.declared.flags.TimerFlags.{TimerFlags}
 use Rattle.spi_port.specs.declared.spi.Spi.{Spi}
 use Rattle.timer8.specs.declared.timer8.Timer8.{Timer8}
-use Rattle.timer8.specs.declared.timer8.Which8.TheVariants.{Zero, Two}
 use Rattle.timer8.specs.Timer as timer8
 use Rattle.timer16.specs.declared.timer16.Timer16.{Timer16}
 use Rattle.timer16.specs.Timer as timer16
@@ -36,18 +37,18 @@ use Rattle.device_laws.proofs.Timers.{again_16, again_8, cleared_16, cleared_8, 
 use Rattle.device_laws.proofs.Ports.{arrived_kept, finished_kept, get_spi_kept, get_usart_kept, put_spi_kept, put_usart_kept, radio_kept, spif_kept, txc_kept, usart_cycle_kept, within}
 
 module _ (b : Board) (h : IsBoard b) where
-  pub set_timers : (t0 : Timer8) (t1 : Timer16) (t2 : Timer8) (t3 : Timer16) → IsTimer8 Zero t0 → IsTimer16 t1 → IsTimer8 Two t2 → IsTimer16 t3
+  pub set_timers : (t0 : Timer8) (t1 : Timer16) (t2 : Timer8) (t3 : Timer16) → IsTimer8 Own t0 → IsTimer16 t1 → IsTimer8 Shared t2 → IsTimer16 t3
       → IsBoard (record b { t0 = t0; t1 = t1; t2 = t2; t3 = t3 })
   set_timers t0 t1 t2 t3 f g i j =
       record { t0 = f; t1 = g; t2 = i; t3 = j; usart = h.usart; spi = h.spi; radio = h.radio; count = h.count; kept = h.kept }
 
-  pub set_t0 : (tm : Timer8) → IsTimer8 Zero tm → IsBoard (record b { t0 = tm })
+  pub set_t0 : (tm : Timer8) → IsTimer8 Own tm → IsBoard (record b { t0 = tm })
   set_t0 tm f = set_timers tm b.t1 b.t2 b.t3 f h.t1 h.t2 h.t3
 
   pub set_t1 : (tm : Timer16) → IsTimer16 tm → IsBoard (record b { t1 = tm })
   set_t1 tm f = set_timers b.t0 tm b.t2 b.t3 h.t0 f h.t2 h.t3
 
-  pub set_t2 : (tm : Timer8) → IsTimer8 Two tm → IsBoard (record b { t2 = tm })
+  pub set_t2 : (tm : Timer8) → IsTimer8 Shared tm → IsBoard (record b { t2 = tm })
   set_t2 tm f = set_timers b.t0 b.t1 tm b.t3 h.t0 h.t1 f h.t3
 
   pub set_t3 : (tm : Timer16) → IsTimer16 tm → IsBoard (record b { t3 = tm })
@@ -90,12 +91,12 @@ module _ (b : Board) (h : IsBoard b) where
 
 pub timers_kept : (t : ℕ) (b : Board) → IsBoard b → IsBoard (timers_cycle t b)
 timers_kept t b h =
-    set_timers b h _ _ _ _ (cycle_8 Zero t b.t0 h.t0) (cycle_16 t b.t1 h.t1) (cycle_8 Two t b.t2 h.t2) (cycle_16 t b.t3 h.t3)
+    set_timers b h _ _ _ _ (cycle_8 Own t b.t0 h.t0) (cycle_16 t b.t1 h.t1) (cycle_8 Shared t b.t2 h.t2) (cycle_16 t b.t3 h.t3)
 
 pub leapt_kept : (t n : ℕ) (b : Board) → IsBoard b → IsBoard (timers_leap t n b)
 unfolding timers_leap
 leapt_kept t n b h =
-    set_timers b h _ _ _ _ (leap_8 Zero t n b.t0 h.t0) (leap_16 t n b.t1 h.t1) (leap_8 Two t n b.t2 h.t2) (leap_16 t n b.t3 h.t3)
+    set_timers b h _ _ _ _ (leap_8 Own t n b.t0 h.t0) (leap_16 t n b.t1 h.t1) (leap_8 Shared t n b.t2 h.t2) (leap_16 t n b.t3 h.t3)
 
 received_kept : (arrival : Option ℕ) (u : Usart) → IsUsart u → IsUsart (received arrival u)
 received_kept None u h = h
@@ -118,7 +119,7 @@ begun_kept t arrival b h =
     let timed : Board = timers_cycle t b in
     let k : IsBoard timed = timers_kept t b h in
     let u : Usart = received arrival timed.usart in
-    moved_kept t (transferred b.spi.transfer t) b (usart_cycle t arrival timed) h.radio
+    moved_kept t (ended_byte b.spi.transfer t) b (usart_cycle t arrival timed) h.radio
     (set_usart timed k _ (usart_cycle_kept t u (received_kept arrival timed.usart k.usart)))
 
 pub answered_kept : (x : Heard) (b : Board) → IsBoard b → IsBoard (board_answered x b)
@@ -144,7 +145,7 @@ read_kept rule.WatchdogControl b at h = h
 read_kept rule.ResetFlags b at h = h
 read_kept rule.CpuControl b at h = h
 read_kept rule.TimerFlags b at h = h
-read_kept rule.TimerFlags3 b at h = h
+read_kept rule.ExtendedTimerFlags b at h = h
 read_kept (rule.Timer0 reg) b at h = h
 read_kept (rule.Timer1 reg) b at h = set_t1 b h _ (get_16_kept b.t1 reg h.t1)
 read_kept (rule.Timer2 reg) b at h = h
@@ -156,7 +157,7 @@ pub io_read_kept : (b b' : Board) (at x : ℕ) → IsBoard b → io_get b at ≡
 unfolding io_get
 io_read_kept b b' at x h e = subst ReadLeaves e (read_kept (rule_of at) b at h)
 
-t0_kept : (b : Board) (r : Result Timer8 StopCause) → ((tm : Timer8) → r ≡ Ok tm → IsTimer8 Zero tm) → IsBoard b → WriteLeaves (with_t0 b r)
+t0_kept : (b : Board) (r : Result Timer8 StopCause) → ((tm : Timer8) → r ≡ Ok tm → IsTimer8 Own tm) → IsBoard b → WriteLeaves (with_t0 b r)
 t0_kept b (Ok tm) f h = set_t0 b h tm (f tm refl)
 t0_kept b (Err cause) f h = tt
 
@@ -164,7 +165,7 @@ t1_kept : (b : Board) (r : Result Timer16 StopCause) → ((tm : Timer16) → r �
 t1_kept b (Ok tm) f h = set_t1 b h tm (f tm refl)
 t1_kept b (Err cause) f h = tt
 
-t2_kept : (b : Board) (r : Result Timer8 StopCause) → ((tm : Timer8) → r ≡ Ok tm → IsTimer8 Two tm) → IsBoard b → WriteLeaves (with_t2 b r)
+t2_kept : (b : Board) (r : Result Timer8 StopCause) → ((tm : Timer8) → r ≡ Ok tm → IsTimer8 Shared tm) → IsBoard b → WriteLeaves (with_t2 b r)
 t2_kept b (Ok tm) f h = set_t2 b h tm (f tm refl)
 t2_kept b (Err cause) f h = tt
 
@@ -250,11 +251,11 @@ write_kept rule.ResetFlags b at x e f h =
     keeps rule.ResetFlags at _ b e (reset_flags x (bit_and (kept_at at b) x) f (small (kept_at at b) x f)) h
 write_kept rule.CpuControl b at x e f h = cpu_kept at x b (any_bit x 0x80) (any_bit x 0x02) e h
 write_kept rule.TimerFlags b at x e f h =
-    set_timers b h _ _ _ _ (again_8 Zero b.t0 _ refl refl h.t0) (again_16 b.t1 _ refl h.t1) (again_8 Two b.t2 _ refl refl h.t2) h.t3
-write_kept rule.TimerFlags3 b at x e f h = set_timers b h _ _ _ _ h.t0 (again_16 b.t1 _ refl h.t1) h.t2 (again_16 b.t3 _ refl h.t3)
-write_kept (rule.Timer0 reg) b at x e f h = t0_kept b _ (λ tm g. put_8_kept Zero b.t0 tm reg x h.t0 g) h
+    set_timers b h _ _ _ _ (again_8 Own b.t0 _ refl refl h.t0) (again_16 b.t1 _ refl h.t1) (again_8 Shared b.t2 _ refl refl h.t2) h.t3
+write_kept rule.ExtendedTimerFlags b at x e f h = set_timers b h _ _ _ _ h.t0 (again_16 b.t1 _ refl h.t1) h.t2 (again_16 b.t3 _ refl h.t3)
+write_kept (rule.Timer0 reg) b at x e f h = t0_kept b _ (λ tm g. put_8_kept Own b.t0 tm reg x h.t0 g) h
 write_kept (rule.Timer1 reg) b at x e f h = t1_kept b _ (λ tm g. put_16_kept b.t1 tm reg x h.t1 g) h
-write_kept (rule.Timer2 reg) b at x e f h = t2_kept b _ (λ tm g. put_8_kept Two b.t2 tm reg x h.t2 g) h
+write_kept (rule.Timer2 reg) b at x e f h = t2_kept b _ (λ tm g. put_8_kept Shared b.t2 tm reg x h.t2 g) h
 write_kept (rule.Timer3 reg) b at x e f h = t3_kept b _ (λ tm g. put_16_kept b.t3 tm reg x h.t3 g) h
 write_kept (rule.Usart0 reg) b at x e f h = usart_kept b _ (λ u g. put_usart_kept b.clock b.usart u reg x f h.usart g) h
 write_kept (rule.Spi reg) b at x e f h = spi_kept b _ (λ s g. put_spi_kept b.clock b.spi s reg x h.spi g) h
@@ -268,9 +269,9 @@ io_write_kept b b' at x f h e = subst WriteLeaves e (write_kept (rule_of at) b a
 pub entered_kept : (word : ℕ) (b : Board) → IsBoard b → IsBoard (entered_of word b)
 unfolding entered_of
 entered_kept word b h =
-    let t0 : (f : TimerFlags) → IsBoard (record b { t0 = timer8.cleared b.t0 f }) = λ f. set_t0 b h _ (cleared_8 Zero b.t0 f h.t0) in
+    let t0 : (f : TimerFlags) → IsBoard (record b { t0 = timer8.cleared b.t0 f }) = λ f. set_t0 b h _ (cleared_8 Own b.t0 f h.t0) in
     let t1 : (f : TimerFlags) → IsBoard (record b { t1 = timer16.cleared b.t1 f }) = λ f. set_t1 b h _ (cleared_16 b.t1 f h.t1) in
-    let t2 : (f : TimerFlags) → IsBoard (record b { t2 = timer8.cleared b.t2 f }) = λ f. set_t2 b h _ (cleared_8 Two b.t2 f h.t2) in
+    let t2 : (f : TimerFlags) → IsBoard (record b { t2 = timer8.cleared b.t2 f }) = λ f. set_t2 b h _ (cleared_8 Shared b.t2 f h.t2) in
     let t3 : (f : TimerFlags) → IsBoard (record b { t3 = timer16.cleared b.t3 f }) = λ f. set_t3 b h _ (cleared_16 b.t3 f h.t3) in
     kept_if IsBoard (word == 0x12) _ _ (t2 (record no_flags { comp_a = true }))
     (kept_if IsBoard (word == 0x14) _ _ (t2 (record no_flags { over = true }))
@@ -314,7 +315,7 @@ fits_kept rule.WatchdogControl x e = equal _ _ e
 fits_kept rule.ResetFlags x e = equal _ _ e
 fits_kept rule.CpuControl x e = equal _ _ e
 fits_kept rule.TimerFlags x e = equal _ _ e
-fits_kept rule.TimerFlags3 x e = equal _ _ e
+fits_kept rule.ExtendedTimerFlags x e = equal _ _ e
 fits_kept (rule.Timer0 reg) x e = equal _ _ e
 fits_kept (rule.Timer1 reg) x e = equal _ _ e
 fits_kept (rule.Timer2 reg) x e = equal _ _ e
@@ -334,9 +335,9 @@ starts at h = get_or-map-range_with_len start_of 0 256 at at 0 h (omega arith)
 
 pub reset_kept : (byte_time : ℕ) → byte_time ≤ 4096 → IsBoard (reset_board byte_time)
 reset_kept byte_time f = record {
-  t0 = record { which_is = refl; select = omega arith; no_pin = refl };
+  t0 = record { prescaler_is = refl; select = omega arith; no_pin = refl };
   t1 = record { select = omega arith };
-  t2 = record { which_is = refl; select = omega arith; no_pin = refl };
+  t2 = record { prescaler_is = refl; select = omega arith; no_pin = refl };
   t3 = record { select = omega arith };
   usart = record { baud = omega arith; control_b = refl; control_c = omega arith; waits = λ e. e; received = λ e. e; lost = λ e. e };
   spi = record { master = λ e. e; transfers = λ e. e };

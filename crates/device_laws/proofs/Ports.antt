@@ -13,10 +13,10 @@ use Rattle.byte_radio.specs.declared.radio.RadioState.{RadioState}
 use Rattle.byte_radio.specs.declared.radio.RadioState.TheVariants.{Idle, ToSend, ToSample, Status, Byte, Age}
 use Rattle.byte_radio.specs.Radio.{in_state, radio_transfer, selected_transfer}
 use Rattle.device_clocks.specs.Bits.{any_bit}
+use Rattle.device_clocks.specs.declared.transmission.Transmission.{Transmission}
 use Rattle.spi_port.specs.declared.registers.SpiReg.{SpiReg}
 use Rattle.spi_port.specs.declared.registers.SpiReg.TheVariants as spireg
 use Rattle.spi_port.specs.declared.spi.Spi.{Spi}
-use Rattle.spi_port.specs.declared.spi.Transfer.{Transfer}
 use Rattle.spi_port.specs.Registers as spi_registers
 use Rattle.spi_port.specs.Spi as spi
 use Rattle.usart_port.specs.declared.inbox.Inbox.{Inbox}
@@ -226,7 +226,7 @@ transferred_by t b s true false e h = record { master = h.master; transfers = λ
 spi_sent_kept : (t b : ℕ) (s : Spi) → IsSpi s → IsSpi (spi_registers.sent_out t b s)
 spi_sent_kept t b s h = transferred_by t b s (any_bit s.control 0x40) (is_some s.transfer) refl h
 
-none_left : (on : Bool) (transfer : Option Transfer) → is_some (if on then transfer else None) ≡ true → on ≡ true
+none_left : (on : Bool) (transfer : Option Transmission) → is_some (if on then transfer else None) ≡ true → on ≡ true
 none_left true transfer e = refl
 none_left false transfer e = e
 

@@ -5,12 +5,14 @@ use Rattle.avr_base.specs.declared.stop.StopCause.{StopCause}
 use Rattle.avr_base.specs.declared.stop.StopCause.TheVariants as stop
 use Rattle.device_clocks.specs.declared.flags.TimerFlags.{TimerFlags}
 use Rattle.device_clocks.specs.Bits.{any_bit}
-use Rattle.device_clocks.specs.Clock.{cycles, clocked}
+use Rattle.device_clocks.specs.Clock.{cycles}
+use Rattle.device_clocks.specs.declared.prescaler.Prescaler.{Prescaler}
+use Rattle.device_clocks.specs.declared.prescaler.Prescaler.TheVariants.{Shared}
+use Rattle.device_clocks.specs.Prescaler.{is_pin}
 use Rattle.timer8.specs.declared.registers.Reg8.{Reg8}
 use Rattle.timer8.specs.declared.registers.Reg8.TheVariants as reg8
 use Rattle.timer8.specs.declared.timer8.Timer8.{Timer8}
-use Rattle.timer8.specs.declared.timer8.Which8.{Which8}
-use Rattle.timer8.specs.Registers.{clocked_by_pin, put_of as put_8}
+use Rattle.timer8.specs.Registers.{put_of as put_8}
 use Rattle.timer8.specs.Timer as timer8
 use Rattle.timer16.specs.declared.mode.Mode16.{Mode16}
 use Rattle.timer16.specs.declared.registers.Reg16.{Reg16}
@@ -31,61 +33,53 @@ pub kept_if : {A : Type 0} (P : A → Type 0) (c : Bool) (x y : A) → P x → P
 kept_if P true x y h k = h
 kept_if P false x y h k = k
 
-module _ (which : Which8) where
-  clock_8 : (tm : Timer8) → IsTimer8 which tm → IsTimer8 which (timer8.clock tm)
-  unfolding timer8.clock
-  clock_8 tm h = record { which_is = h.which_is; select = h.select; no_pin = h.no_pin }
+module _ (prescaler : Prescaler) where
+  pub cycle_8 : (t : ℕ) (tm : Timer8) → IsTimer8 prescaler tm → IsTimer8 prescaler (timer8.timer_cycle t tm)
+  cycle_8 t tm h = record { prescaler_is = h.prescaler_is; select = h.select; no_pin = h.no_pin }
 
-  pub cycle_8 : (t : ℕ) (tm : Timer8) → IsTimer8 which tm → IsTimer8 which (timer8.timer_cycle t tm)
-  cycle_8 t tm h = kept_if (IsTimer8 which) (clocked (timer8.divider tm) t) (timer8.clock tm) tm (clock_8 tm h) h
-
-  pub leap_8 : (t n : ℕ) (tm : Timer8) → IsTimer8 which tm → IsTimer8 which (cycles timer8.timer_cycle t n tm)
+  pub leap_8 : (t n : ℕ) (tm : Timer8) → IsTimer8 prescaler tm → IsTimer8 prescaler (cycles timer8.timer_cycle t n tm)
   unfolding cycles
   leap_8 t zero tm h = h
   leap_8 t (suc n) tm h = cycle_8 (t + n) (cycles timer8.timer_cycle t n tm) (leap_8 t n tm h)
 
   -- by the four tests of a write of TCCR
-  control_8 : (tm tm' : Timer8) (b : ℕ) (forced pwm out pin : Bool) → IsTimer8 which tm → clocked_by_pin tm.which (b % 8) ≡ pin
+  control_8 : (tm tm' : Timer8) (b : ℕ) (forced pwm out pin : Bool) → IsTimer8 prescaler tm → is_pin tm.prescaler (b % 8) ≡ pin
       → (if forced then Err stop.ForcedCompare else if pwm then Err stop.PwmMode else if out then Err stop.CompareOutput
       else if pin then Err stop.ExternalTimerClock else Ok (record tm { ctc = any_bit b 0x08; select = b % 8 })) ≡ Ok tm'
-      → IsTimer8 which tm'
+      → IsTimer8 prescaler tm'
   control_8 tm tm' b true pwm out pin h p e = absurd (cc)
   control_8 tm tm' b false true out pin h p e = absurd (cc)
   control_8 tm tm' b false false true pin h p e = absurd (cc)
   control_8 tm tm' b false false false true h p e = absurd (cc)
   control_8 tm tm' b false false false false h p e =
       let same : record tm { ctc = any_bit b 0x08; select = b % 8 } ≡ tm' = same_ok _ _ _ refl e in
-      subst (IsTimer8 which) same (record {
-        which_is = h.which_is;
+      subst (IsTimer8 prescaler) same (record {
+        prescaler_is = h.prescaler_is;
         select = omega arith;
-        no_pin = ap (λ w. clocked_by_pin w (b % 8)) (sym h.which_is) ∙ p;
+        no_pin = ap (λ w. is_pin w (b % 8)) (sym h.prescaler_is) ∙ p;
       })
 
-  pub put_8_kept : (tm tm' : Timer8) (reg : Reg8) (b : ℕ) → IsTimer8 which tm → put_8 tm reg b ≡ Ok tm' → IsTimer8 which tm'
+  pub put_8_kept : (tm tm' : Timer8) (reg : Reg8) (b : ℕ) → IsTimer8 prescaler tm → put_8 tm reg b ≡ Ok tm' → IsTimer8 prescaler tm'
   put_8_kept tm tm' reg8.Control b h e =
-      control_8 tm tm' b (any_bit b 0x80) (any_bit b 0x40) (any_bit b 0x30) (clocked_by_pin tm.which (b % 8)) h refl e
+      control_8 tm tm' b (any_bit b 0x80) (any_bit b 0x40) (any_bit b 0x30) (is_pin tm.prescaler (b % 8)) h refl e
   put_8_kept tm tm' reg8.Count b h e =
-      subst (IsTimer8 which) (same_ok _ _ _ refl e) (record { which_is = h.which_is; select = h.select; no_pin = h.no_pin })
+      subst (IsTimer8 prescaler) (same_ok _ _ _ refl e) (record { prescaler_is = h.prescaler_is; select = h.select; no_pin = h.no_pin })
   put_8_kept tm tm' reg8.Compare b h e =
-      subst (IsTimer8 which) (same_ok _ _ _ refl e) (record { which_is = h.which_is; select = h.select; no_pin = h.no_pin })
+      subst (IsTimer8 prescaler) (same_ok _ _ _ refl e) (record { prescaler_is = h.prescaler_is; select = h.select; no_pin = h.no_pin })
 
   -- another timer with the same select
-  pub again_8 : (tm tm' : Timer8) → tm'.which ≡ tm.which → tm'.select ≡ tm.select → IsTimer8 which tm → IsTimer8 which tm'
+  pub again_8 : (tm tm' : Timer8) → tm'.prescaler ≡ tm.prescaler → tm'.select ≡ tm.select → IsTimer8 prescaler tm → IsTimer8 prescaler tm'
   again_8 tm tm' e f h = record {
-    which_is = e ∙ h.which_is;
+    prescaler_is = e ∙ h.prescaler_is;
     select = omega (arith, h.select);
-    no_pin = ap (clocked_by_pin which) f ∙ h.no_pin;
+    no_pin = ap (is_pin prescaler) f ∙ h.no_pin;
   }
 
-  pub cleared_8 : (tm : Timer8) (f : TimerFlags) → IsTimer8 which tm → IsTimer8 which (timer8.cleared tm f)
-  cleared_8 tm f h = record { which_is = h.which_is; select = h.select; no_pin = h.no_pin }
-
-clock_16 : (tm : Timer16) → IsTimer16 tm → IsTimer16 (timer16.clock tm)
-unfolding timer16.clock
-clock_16 tm h = record { select = h.select }
+  pub cleared_8 : (tm : Timer8) (f : TimerFlags) → IsTimer8 prescaler tm → IsTimer8 prescaler (timer8.cleared tm f)
+  cleared_8 tm f h = record { prescaler_is = h.prescaler_is; select = h.select; no_pin = h.no_pin }
 
 pub cycle_16 : (t : ℕ) (tm : Timer16) → IsTimer16 tm → IsTimer16 (timer16.timer_cycle t tm)
-cycle_16 t tm h = kept_if IsTimer16 (clocked (timer16.divider tm) t) (timer16.clock tm) tm (clock_16 tm h) h
+cycle_16 t tm h = record { select = h.select }
 
 pub leap_16 : (t n : ℕ) (tm : Timer16) → IsTimer16 tm → IsTimer16 (cycles timer16.timer_cycle t n tm)
 unfolding cycles
@@ -115,7 +109,7 @@ control_a tm tm' b true mode h e = absurd (cc)
 control_a tm tm' b false None h e = absurd (cc)
 control_a tm tm' b false (Some mode) h e = subst IsTimer16 (same_ok _ _ _ refl e) (record { select = h.select })
 
-control_b : (tm tm' : Timer16) (b : ℕ) (pin : Bool) (mode : Mode16) → IsTimer16 tm → nat_lt 5 (b % 8) ≡ pin
+control_b : (tm tm' : Timer16) (b : ℕ) (pin : Bool) (mode : Mode16) → IsTimer16 tm → is_pin Shared (b % 8) ≡ pin
     → (if pin then Err stop.ExternalTimerClock
     else Ok (record tm { mode = mode; select = b % 8; noise_canceler = any_bit b 0x80; rising_edge = any_bit b 0x40 })) ≡ Ok tm'
     → IsTimer16 tm'
@@ -126,7 +120,7 @@ control_b tm tm' b false mode h p e =
 
 in_mode : (tm tm' : Timer16) (b : ℕ) (mode : Option Mode16) → IsTimer16 tm → with_control_b tm mode b ≡ Ok tm' → IsTimer16 tm'
 in_mode tm tm' b None h e = absurd (cc)
-in_mode tm tm' b (Some mode) h e = control_b tm tm' b (nat_lt 5 (b % 8)) mode h refl e
+in_mode tm tm' b (Some mode) h e = control_b tm tm' b (is_pin Shared (b % 8)) mode h refl e
 
 control_c : (tm tm' : Timer16) (forced : Bool) → IsTimer16 tm → (if forced then Err stop.ForcedCompare else Ok tm) ≡ Ok tm' → IsTimer16 tm'
 control_c tm tm' true h e = absurd (cc)

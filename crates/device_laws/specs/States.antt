@@ -8,11 +8,11 @@ use Rattle.board_io.specs.Board.{kept_at}
 use Rattle.board_io.specs.Table.{rule_of}
 use Rattle.byte_radio.specs.declared.radio.Radio.{Radio}
 use Rattle.device_clocks.specs.Bits.{any_bit}
+use Rattle.device_clocks.specs.declared.prescaler.Prescaler.{Prescaler}
+use Rattle.device_clocks.specs.declared.prescaler.Prescaler.TheVariants.{Own, Shared}
+use Rattle.device_clocks.specs.Prescaler.{is_pin}
 use Rattle.spi_port.specs.declared.spi.Spi.{Spi}
 use Rattle.timer8.specs.declared.timer8.Timer8.{Timer8}
-use Rattle.timer8.specs.declared.timer8.Which8.{Which8}
-use Rattle.timer8.specs.declared.timer8.Which8.TheVariants.{Zero, Two as TimerTwo}
-use Rattle.timer8.specs.Registers.{clocked_by_pin}
 use Rattle.timer16.specs.declared.timer16.Timer16.{Timer16}
 use Rattle.usart_port.specs.declared.inbox.Inbox.{Inbox}
 use Rattle.usart_port.specs.declared.inbox.Inbox.TheVariants.{Empty, One, Two}
@@ -24,10 +24,10 @@ abbrev pub IsWithin : ℕ → ℕ → Type 0
 IsWithin mask x = bit_and x mask ≡ x
 
 -- timer 0 or 2: its clock select is one that a write is accepted with
-pub record IsTimer8 (which : Which8) (tm : Timer8) : Type 0 where
-  pub which_is : tm.which ≡ which
+pub record IsTimer8 (prescaler : Prescaler) (tm : Timer8) : Type 0 where
+  pub prescaler_is : tm.prescaler ≡ prescaler
   pub select : tm.select < 8
-  pub no_pin : clocked_by_pin which tm.select ≡ false
+  pub no_pin : is_pin prescaler tm.select ≡ false
 
 -- timer 1 or 3: its clock select is one that a write is accepted with
 pub record IsTimer16 (tm : Timer16) : Type 0 where
@@ -68,9 +68,9 @@ IsKept CpuControl x = IsWithin 0x7C x
 IsKept _ x = x ≡ 0
 
 pub record IsBoard (b : Board) : Type 0 where
-  pub t0 : IsTimer8 Zero b.t0
+  pub t0 : IsTimer8 Own b.t0
   pub t1 : IsTimer16 b.t1
-  pub t2 : IsTimer8 TimerTwo b.t2
+  pub t2 : IsTimer8 Shared b.t2
   pub t3 : IsTimer16 b.t3
   pub usart : IsUsart b.usart
   pub spi : IsSpi b.spi

@@ -1,11 +1,10 @@
 // Calls that fail at one place after another.
-use crate::Failed;
 use crate::foreign::image;
 use crate::reading::{Place, Series};
 use crate::rows::Rows;
 use crate::shown::Due;
 use crate::trying::{Told, tried};
-use memory_calls::{Faults, Held, Stream};
+use memory_calls::{Failed, Faults, Held, Stream};
 use sim_io::Sink;
 use std::alloc::{AllocError, Global};
 use std::sync::Wait;

@@ -4,4 +4,3 @@ pub mod Lists
 pub mod Ends
 pub mod Epochs
 pub mod Crossing
-pub mod Ahead

@@ -29,7 +29,7 @@ use Rattle.fleet_plain.proofs.Advance.{adv_answer, adv_turn, adv_ask, adv_ended,
 use Rattle.fleet_plain.proofs.InFlight.{live_taken, still_over, home}
 use Rattle.fleet_threads.specs.declared.member.Member.{Member}
 use Rattle.fleet_threads.specs.Member.{IsPlaced, IsUnderWay, word_of}
-use Rattle.fleet_threads.proofs.Ahead.{below_ahead}
+use Rattle.world_core.proofs.Ahead.{below_ahead}
 
 -- ---- how far the word goes
 pub word_still : (end : ℕ) (p : Place) → is_live end p ≡ false → word_of end p ≡ end

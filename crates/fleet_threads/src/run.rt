@@ -69,17 +69,23 @@ fn lists_for(alloc: Global, nodes: usize) -> Result<Lists, AllocError>
     ensures waiting { IfOk result (λ l. (l.waiting.items ≡ []) × (vec_len l.waiting ≡ 0) × (nodes ≤ vec_capacity l.waiting)) }
     ensures done { IfOk result (λ l. (l.done.items ≡ []) × (vec_len l.done ≡ 0) × (nodes ≤ vec_capacity l.done)) }
 {
+    let refused = flags_for(alloc, nodes)?;
     let waiting = Vec::with_capacity(alloc, nodes)?;
     let done = Vec::with_capacity(alloc, nodes)?;
-    let mut refused = Vec::with_capacity(alloc, nodes)?;
-    for _ in 0..nodes {
-        refused.push(AtomicBool::new(false))?;
-    }
     Ok(Lists {
         waiting,
         done,
         refused,
     })
+}
+
+// A flag for each of so many nodes, which is not set.
+fn flags_for(alloc: Global, nodes: usize) -> Result<Vec<AtomicBool>, AllocError> {
+    let mut flags = Vec::with_capacity(alloc, nodes)?;
+    for _ in 0..nodes {
+        flags.push(AtomicBool::new(false))?;
+    }
+    Ok(flags)
 }
 
 // One epoch in a session of its own, which is made, used and taken apart.

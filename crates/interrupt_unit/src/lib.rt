@@ -3,4 +3,4 @@
 
 mod unit;
 
-pub use unit::{Lines, Vector, due, pending};
+pub use unit::{Lines, Vector, pending};

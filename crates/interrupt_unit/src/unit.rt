@@ -1,9 +1,7 @@
 // The interrupt lines and the one that is served.
 ghost use Rattle.std.specs.Prelude.{◌≡◌, ℕ, ◌≤◌, ◌↔◌, None};
 ghost use Rattle.std.specs.Int.{bit_at};
-ghost use Rattle.interrupt_unit.specs.Lines.{due_of, pending_of};
-
-use avr_base::Sreg;
+ghost use Rattle.interrupt_unit.specs.Lines.{pending_of};
 
 /// The interrupt lines: bit n, 1 to 34, is set where the source of the vector at word address 2n has its flag and its
 /// enable bit set (ATmega128 datasheet, "Interrupt Vectors in ATmega128"). The other bits are not looked at.
@@ -34,11 +32,4 @@ pub fn pending(lines: Lines) -> Option<Vector>
     } else {
         None
     }
-}
-
-/// The vector that is due: the pending one where the flag I of SREG is set.
-pub fn due(sreg: Sreg, lines: Lines) -> Option<Vector>
-    ensures { result ≡ due_of sreg.bits lines }
-{
-    if sreg.has(Sreg::I) { pending(lines) } else { None }
 }

@@ -3,7 +3,9 @@
 #![tactic(auto)]
 
 mod calling;
+mod failing;
 mod held;
 
 pub use calling::{Faults, Outcome, Stream, called, called_on_threads};
+pub use failing::{Failed, hold_file, text_of};
 pub use held::Held;

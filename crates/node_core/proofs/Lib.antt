@@ -8,3 +8,4 @@ pub mod Strides
 pub mod Untouched
 pub mod Clocks
 pub mod Sei
+pub mod Halting

@@ -15,6 +15,3 @@ mod stride;
 pub use bus::NodeBus;
 pub use law::steady_law;
 pub use node::{Node, Reached};
-
-#[cfg(test)]
-mod tests;

@@ -1,6 +1,8 @@
 // The inside of a node, cycle by cycle.
-ghost use Rattle.std.specs.Prelude.{◌≡◌, ◌<◌, ◌≤◌, ◌+◌, ◌^◌, ◌%◌, ◌++◌, ◌&&◌, ◌||◌, nat_le, nat_lt, None, Some, true, false, is_some, IfOk, OnOk, OnErr, vec_len, vec_capacity};
+ghost use Rattle.std.specs.Prelude.{◌≡◌, ◌==◌, ◌<◌, ◌≤◌, ◌+◌, ◌-◌, ◌^◌, ◌%◌, ◌++◌, ◌&&◌, ◌||◌, nat_le, nat_lt, None, Some, true, false, is_some, IfOk, OnOk, OnErr, vec_len, vec_capacity};
 ghost use Rattle.node_core.specs.Cycle.{acted, acted_rows, asks_after, asks_in, begun_in, begun_rows, cpu_cycle, cpu_rows, device_rows, devices_cycle, entered, entered_rows, finished_in, finished_rows, instructed, instructed_rows, is_idle, is_other, is_sei, is_sleep, owes, row, row_within, sends_after, sends_in, sent_rows, serial_rows};
+ghost use Rattle.avr_decoder.specs.Class.{class_of};
+ghost use Rattle.avr_decoder.specs.declared.op.Class.TheVariants as class;
 ghost use Rattle.trace_rows.specs.declared.row.Kind.TheVariants as kind;
 ghost use Rattle.node_core.specs.Inside.{IsAir, IsGoing};
 ghost use Rattle.node_core.specs.Interrupts.{due};
@@ -12,11 +14,11 @@ ghost use Rattle.ihex_loader.specs.Flash.{word_at};
 ghost use Rattle.interrupt_unit.specs.Lines.{pending_of};
 
 use crate::NodeBus;
-use crate::execute::execute;
+use crate::execute::{access, compute, go_on};
 use crate::interrupts::enter;
 use crate::rows::{is_within, put_row, tell, tell_instruction, unless_told};
 use avr_base::StopCause;
-use avr_decoder::Op;
+use avr_decoder::{Class, Op};
 use avr_program::Program;
 use board_io::Sleep;
 use data_space::{Cpu, Done};
@@ -30,13 +32,33 @@ use world_core::Heard;
 const ROWS_OF_A_CYCLE: usize = 4;
 
 // SEI and RETI.
-#[inline]
+#[inline(always)]
 fn is_set_interrupts(op: &Op) -> bool
     ensures { result ≡ is_sei op.now }
 {
     match op {
         Op::Bset { s } => *s == 7,
         Op::Reti => true,
+        _ => false,
+    }
+}
+
+// Whether a flag is I. Few instructions name a flag: it stands by itself, so that the test before it stays a jump.
+#[inline(never)]
+fn is_enable(flag: u8) -> bool
+    ensures { result ≡ (flag == 7) }
+{
+    flag == 7
+}
+
+// SEI, of the instructions on registers: one comparison, where a choice among several instructions is a table of jumps.
+#[inline(always)]
+fn is_enabling(op: &Op) -> bool
+    requires { class_of op.now ≡ class.Arith }
+    ensures { result ≡ is_sei op.now }
+{
+    match op {
+        Op::Bset { s } => is_enable(*s),
         _ => false,
     }
 }
@@ -68,8 +90,16 @@ fn is_other(mode: Sleep) -> bool
     }
 }
 
+// Whether an instruction turned the flag I on, by SREG before it and after it.
+#[inline(always)]
+fn turns_on(before: u8, after: u8) -> bool
+    ensures { result ≡ (nat_lt before 128 && nat_le 128 after) }
+{
+    before < 128 && after >= 128
+}
+
 // Whether an instruction is owed before the next interrupt is entered. SEI and RETI leave I set, so without it none is.
-#[inline]
+#[inline(always)]
 fn owes(op: &Op, before: u8, after: u8) -> bool
     requires { is_sei op.now ≡ true → 128 ≤ after }
     ensures { result ≡ owes op.now before after }
@@ -78,6 +108,19 @@ fn owes(op: &Op, before: u8, after: u8) -> bool
         return false;
     }
     before < 128 || is_set_interrupts(op)
+}
+
+// So an instruction on registers.
+#[inline(always)]
+fn owes_after_compute(op: &Op, before: u8, after: u8) -> bool
+    requires class { class_of op.now ≡ class.Arith }
+    requires on { is_sei op.now ≡ true → 128 ≤ after }
+    ensures { result ≡ owes op.now before after }
+{
+    if after < 128 {
+        return false;
+    }
+    before < 128 || is_enabling(op)
 }
 
 // What the radio does in a cycle, by whether it samples the air and what it sends.
@@ -167,8 +210,37 @@ impl Machine {
         unless_told(told, done.cycles)
     }
 
+    // What is left of the first cycle of an instruction that did not stop, by whether another is owed. The answer is that of
+    // `instruct`.
+    #[inline(always)]
+    fn end(&mut self, cycle: u64, pc: u16, owed: bool, done: Done) -> u8
+        requires going { self.old.stop ≡ None }
+        requires awake { self.old.asleep ≡ false }
+        requires few { self.old.count ≤ 2 ^ 41 }
+        requires takes { 1 ≤ done.cycles }
+        requires room { vec_len self.old.rows < vec_capacity self.old.rows }
+        ensures state { shown self.new ≡ record (shown self.old) { wait = done.cycles - 1; owed = owed; asleep = done.sleep && is_idle (sleep_mode self.old.bus.board); count = self.old.count + 1 } }
+        ensures rows { self.new.rows.items ≡ self.old.rows.items ++ row_within cycle (shown self.old) (kind.Instr pc (word_at self.old.program.bytes pc) (word_at self.old.program.bytes ((pc + 1) % 65536))) }
+        ensures going { 0 < result → IsGoing result (shown self.new) }
+        ensures same { 0 < result → vec_len self.new.rows ≡ vec_len self.old.rows }
+        ensures used { vec_len self.new.rows ≤ vec_len self.old.rows + 1 }
+        ensures room { vec_capacity self.new.rows ≡ vec_capacity self.old.rows }
+        ensures count { self.new.count ≡ self.old.count + 1 }
+        ensures script { self.new.script ≡ self.old.script }
+        ensures clock { self.new.bus.board.clock ≡ self.old.bus.board.clock }
+    {
+        self.wait = done.cycles - 1;
+        self.owed = owed;
+        self.count += 1;
+        if done.sleep || cycle < self.to {
+            return self.end_instruction(cycle, pc, done);
+        }
+        done.cycles
+    }
+
     // The first cycle of an instruction: how many it takes, or 0 where the node stopped, executed SLEEP, or has a row
     // more.
+    #[inline(always)]
     #[tactic(auto, unfolding(crate::specs::Cycle::instructed, crate::specs::Cycle::instructed_rows))]
     fn instruct(&mut self, cycle: u64) -> u8
         requires going { self.old.stop ≡ None }
@@ -189,23 +261,44 @@ impl Machine {
     {
         let pc = self.cpu.pc;
         let op = self.program.op(pc);
-        if is_sleep(&op) && is_other(self.bus.board.sleep_mode()) {
-            self.halt(cycle, pc, StopCause::SleepMode);
-            return 0;
-        }
         let before = self.cpu.sreg.bits;
-        self.bus.at(cycle);
-        match execute(&op, self.program.flash(), &mut self.cpu, &mut self.bus) {
-            Ok(done) => {
-                self.wait = done.cycles - 1;
-                self.owed = owes(&op, before, self.cpu.sreg.bits);
-                self.count += 1;
-                if done.sleep || cycle < self.to {
-                    return self.end_instruction(cycle, pc, done);
-                }
-                done.cycles
+        match op.class() {
+            Class::Arith => {
+                let done = compute(&op, &mut self.cpu);
+                let owed = owes_after_compute(&op, before, self.cpu.sreg.bits);
+                self.end(cycle, pc, owed, done)
             }
-            Err(cause) => {
+            Class::Flow => {
+                if is_sleep(&op) && is_other(self.bus.board.sleep_mode()) {
+                    self.halt(cycle, pc, StopCause::SleepMode);
+                    return 0;
+                }
+                self.bus.at(cycle);
+                match go_on(&op, self.program.flash(), &mut self.cpu, &mut self.bus) {
+                    Ok(done) => {
+                        let owed = owes(&op, before, self.cpu.sreg.bits);
+                        self.end(cycle, pc, owed, done)
+                    }
+                    Err(cause) => {
+                        self.halt(cycle, pc, cause);
+                        0
+                    }
+                }
+            }
+            Class::Memory => {
+                self.bus.at(cycle);
+                match access(&op, self.program.flash(), &mut self.cpu, &mut self.bus) {
+                    Ok(done) => {
+                        let owed = turns_on(before, self.cpu.sreg.bits);
+                        self.end(cycle, pc, owed, done)
+                    }
+                    Err(cause) => {
+                        self.halt(cycle, pc, cause);
+                        0
+                    }
+                }
+            }
+            Class::Halting(cause) => {
                 self.halt(cycle, pc, cause);
                 0
             }
@@ -259,7 +352,11 @@ impl Machine {
     fn pending(&self) -> Option<Vector>
         ensures { result ≡ pending_of (lines_of (shown self.now).bus.board) }
     {
-        interrupt_unit::pending(self.bus.board.lines())
+        let lines = self.bus.board.lines();
+        if lines.bits == 0 {
+            return None;
+        }
+        interrupt_unit::pending(lines)
     }
 
     // The interrupt that is due.
@@ -274,41 +371,16 @@ impl Machine {
         }
     }
 
-    // What the processor does that waits for nothing: how many cycles its instruction or its entry takes, or 0 where the
-    // node stopped, sleeps, executed SLEEP, or has a row more.
-    fn act(&mut self, cycle: u64) -> u8
-        requires few { self.old.count ≤ 2 ^ 41 }
-        requires now { self.old.bus.board.clock ≡ cycle }
-        requires going { self.old.stop ≡ None }
-        requires early { cycle ≤ 2 ^ 40 }
-        requires room { vec_len self.old.rows < vec_capacity self.old.rows }
-        ensures state { shown self.new ≡ acted cycle (shown self.old) (due (shown self.old)) }
-        ensures rows { self.new.rows.items ≡ self.old.rows.items ++ acted_rows cycle (shown self.old) (due (shown self.old)) }
-        ensures going { 0 < result → IsGoing result (shown self.new) }
-        ensures same { 0 < result → vec_len self.new.rows ≡ vec_len self.old.rows }
-        ensures used { vec_len self.new.rows ≤ vec_len self.old.rows + 1 }
-        ensures room { vec_capacity self.new.rows ≡ vec_capacity self.old.rows }
-        ensures count { self.new.count ≤ self.old.count + 1 }
-        ensures script { self.new.script ≡ self.old.script }
-        ensures clock { self.new.bus.board.clock ≡ self.old.bus.board.clock }
-    {
-        if let Some(vector) = self.due() {
-            if self.asleep {
-                return self.enter(cycle, 7, vector);
-            }
-            if !self.owed {
-                return self.enter(cycle, 3, vector);
-            }
-        }
-        if self.asleep { 0 } else { self.instruct(cycle) }
-    }
-
-    // The processor's part of a cycle. The answer is as that of `act`, and 0 where it only waits.
+    // The processor's part of a cycle in which it neither waits nor sleeps: how many cycles its instruction or its entry
+    // takes, or 0 where the node stopped, executed SLEEP, or has a row more.
+    #[inline(always)]
     #[tactic(auto, unfolding(crate::specs::Cycle::cpu_cycle, crate::specs::Cycle::cpu_rows))]
-    pub fn process(&mut self, cycle: u64) -> u8
+    pub fn act(&mut self, cycle: u64) -> u8
         requires few { self.old.count ≤ 2 ^ 41 }
         requires now { self.old.bus.board.clock ≡ cycle }
         requires going { self.old.stop ≡ None }
+        requires free { self.old.wait ≡ 0 }
+        requires awake { self.old.asleep ≡ false }
         requires early { cycle ≤ 2 ^ 40 }
         requires room { vec_len self.old.rows < vec_capacity self.old.rows }
         ensures state { shown self.new ≡ cpu_cycle cycle (shown self.old) }
@@ -321,11 +393,35 @@ impl Machine {
         ensures script { self.new.script ≡ self.old.script }
         ensures clock { self.new.bus.board.clock ≡ self.old.bus.board.clock }
     {
+        if let Some(vector) = self.due() {
+            if !self.owed {
+                return self.enter(cycle, 3, vector);
+            }
+        }
+        self.instruct(cycle)
+    }
+
+    // The processor's part of a cycle in which it waits or sleeps. Only what is due wakes it.
+    #[tactic(auto, unfolding(crate::specs::Cycle::cpu_cycle, crate::specs::Cycle::cpu_rows))]
+    pub fn idle(&mut self, cycle: u64)
+        requires now { self.old.bus.board.clock ≡ cycle }
+        requires going { self.old.stop ≡ None }
+        requires rests { self.old.wait ≡ 0 → self.old.asleep ≡ true }
+        requires early { cycle ≤ 2 ^ 40 }
+        requires room { vec_len self.old.rows < vec_capacity self.old.rows }
+        ensures state { shown self.new ≡ cpu_cycle cycle (shown self.old) }
+        ensures rows { self.new.rows.items ≡ self.old.rows.items ++ cpu_rows cycle (shown self.old) }
+        ensures used { vec_len self.new.rows ≤ vec_len self.old.rows + 1 }
+        ensures room { vec_capacity self.new.rows ≡ vec_capacity self.old.rows }
+        ensures count { self.new.count ≡ self.old.count }
+        ensures clock { self.new.bus.board.clock ≡ self.old.bus.board.clock }
+    {
         if self.wait > 0 {
             self.wait -= 1;
-            0
-        } else {
-            self.act(cycle)
+            return;
+        }
+        if let Some(vector) = self.due() {
+            self.enter(cycle, 7, vector);
         }
     }
 

@@ -9,32 +9,34 @@ use crate::machine::Machine;
 
 impl Machine {
     // The devices' part of the cycle `cycle`, in which an instruction begins that takes `taken` cycles, and its other cycles,
-    // if they are no more than `most`, in none of which a byte arrives, and the devices end nothing in them: how many it
-    // were. 0 where it is not so, and where `taken` is 0.
-    #[inline]
-    fn finish_instruction(&mut self, cycle: u64, most: u64, taken: u8) -> u64
+    // if they end by `end`, up to which no byte arrives, and the devices end nothing in them: whether it was so. Not where
+    // `taken` is 0.
+    #[inline(always)]
+    fn finish_instruction(&mut self, cycle: u64, end: u64, taken: u8) -> bool
         requires going { 0 < taken → IsGoing taken (shown self.old) }
         requires now { self.old.bus.board.clock ≡ cycle }
-        requires none { (i : ℕ) → i < most → script_byte self.old.script (cycle + i) ≡ None }
-        ensures passed { 0 < result → IsPassed cycle result (shown self.old) (shown self.new) }
-        ensures same { result ≡ 0 → self.new ≡ self.old }
-        ensures some { 0 < result → 0 < taken }
+        requires early { cycle ≤ 2 ^ 40 }
+        requires none { (i : ℕ) → cycle + i < end → script_byte self.old.script (cycle + i) ≡ None }
+        ensures passed { result ≡ true → IsPassed cycle taken (shown self.old) (shown self.new) }
+        ensures same { result ≡ false → self.new ≡ self.old }
+        ensures some { result ≡ true → 0 < taken }
         ensures rows { self.new.rows ≡ self.old.rows }
         ensures stop { self.new.stop ≡ self.old.stop }
+        ensures asleep { self.new.asleep ≡ self.old.asleep }
+        ensures free { result ≡ true → self.new.wait ≡ 0 }
         ensures script { self.new.script ≡ self.old.script }
         ensures count { self.new.count ≡ self.old.count }
-        ensures clock { self.new.bus.board.clock ≡ cycle + result }
-        ensures within { result ≤ most }
+        ensures clock { result ≡ true → self.new.bus.board.clock ≡ cycle + taken }
+        ensures within { result ≡ true → cycle + taken ≤ end }
     {
-        let n = u64::from(taken);
-        if n == 0 || n > most {
-            return 0;
+        if taken == 0 || cycle + u64::from(taken) > end {
+            return false;
         }
-        if !self.bus.board.passes(n) {
-            return 0;
+        if !self.bus.board.passes(cycle, taken) {
+            return false;
         }
         self.wait = 0;
-        n
+        true
     }
 
     /// Cycles from `cycle` on, of at most `most`, in which the devices end nothing: how many it were. Of the cycle after
@@ -52,15 +54,18 @@ impl Machine {
         ensures clock { self.new.bus.board.clock ≡ cycle + result }
         ensures within { result < most }
     {
-        let last = self.script.quiet(cycle, most - 1);
-        let mut n = 0;
+        if self.wait > 0 || self.asleep {
+            self.idle(cycle);
+            return 0;
+        }
+        let end = cycle + self.script.quiet(cycle, most - 1);
+        let mut at = cycle;
         loop {
-            let taken = self.process(cycle + n);
-            let more = self.finish_instruction(cycle + n, last - n, taken);
-            if more == 0 {
-                return n;
+            let taken = self.act(at);
+            if !self.finish_instruction(at, end, taken) {
+                return at - cycle;
             }
-            n += more;
+            at += u64::from(taken);
         }
     }
 }

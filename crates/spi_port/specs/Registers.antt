@@ -3,7 +3,7 @@
 use Rattle.std.specs.Prelude.{ℕ, ◌+◌, ◌&&◌, not, if◌then◌else◌, true, false, Some, None, is_some, Result, Ok, Err}
 use Rattle.avr_base.specs.declared.stop.StopCause.{StopCause}
 use Rattle.avr_base.specs.declared.stop.StopCause.TheVariants as stop
-use Rattle.device_clocks.specs.Bits.{any_bit}
+use Rattle.device_clocks.specs.Bits.{any_bit, bit}
 use Rattle.spi_port.specs.declared.registers.SpiReg.{SpiReg}
 use Rattle.spi_port.specs.declared.registers.SpiReg.TheVariants.{Control, Status, Spdr}
 use Rattle.spi_port.specs.declared.spi.Spi.{Spi}
@@ -11,7 +11,7 @@ use Rattle.spi_port.specs.Spi.{transfer_cycles}
 
 -- SPSR: SPIF 7, WCOL 6, SPI2X 0
 abbrev pub status_of : Spi → ℕ
-status_of s = (if s.spif then 0x80 else 0) + (if s.wcol then 0x40 else 0) + (if s.double then 0x01 else 0)
+status_of s = bit s.spif 0x80 + bit s.wcol 0x40 + bit s.double 0x01
 
 -- an access of SPDR clears the flags that the last read of SPSR saw set
 abbrev pub accessed : Spi → Spi

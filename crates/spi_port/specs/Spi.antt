@@ -1,9 +1,9 @@
 -- The serial peripheral interface as a master, cycle by cycle (ATmega128 datasheet, "Serial Peripheral Interface - SPI"
 -- and "SPI Status Register - SPSR"). The cycle of a transfer's end is this simulator's own choice.
-use Rattle.std.specs.Prelude.{ℕ, ◌*◌, ◌/◌, ◌%◌, ◌==◌, ◌&&◌, if◌then◌else◌, Bool, true, false, Option, Some, None}
+use Rattle.std.specs.Prelude.{ℕ, ◌*◌, ◌/◌, ◌%◌, ◌==◌, ◌&&◌, if◌then◌else◌, Bool, true, false, None}
 use Rattle.device_clocks.specs.Bits.{any_bit}
+use Rattle.device_clocks.specs.Transmission.{is_end}
 use Rattle.spi_port.specs.declared.spi.Spi.{Spi}
-use Rattle.spi_port.specs.declared.spi.Transfer.{Transfer}
 
 abbrev pub reset_spi : Spi
 reset_spi = record {
@@ -29,21 +29,9 @@ divider s = if s.double then prescale (s.control % 4) / 2 else prescale (s.contr
 unfoldable pub transfer_cycles : Spi → ℕ
 transfer_cycles s = 8 * divider s
 
-abbrev pub is_end : Option Transfer → ℕ → Bool
-is_end None t = false
-is_end (Some f) t = f.ends == t
-
 -- whether a transfer ends in cycle t
 abbrev pub ends_at : ℕ → Spi → Bool
 ends_at t s = is_end s.transfer t
-
-abbrev pub end_of : Option Transfer → Option ℕ
-end_of None = None
-end_of (Some f) = Some f.ends
-
-abbrev pub byte_of : Option Transfer → Option ℕ
-byte_of None = None
-byte_of (Some f) = Some f.byte
 
 -- after a transfer that brought the byte x
 abbrev pub spi_finished : ℕ → Spi → Spi

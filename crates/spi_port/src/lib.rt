@@ -6,4 +6,4 @@ mod registers;
 mod spi;
 
 pub use registers::SpiReg;
-pub use spi::{Spi, Transfer};
+pub use spi::Spi;

@@ -1,9 +1,9 @@
 // The registers of the interface.
 ghost use Rattle.std.specs.Prelude.{◌≡◌, ◌≤◌, ◌^◌, Ok, Err, OnOk, OnErr, IfErr};
 
-use crate::{Spi, Transfer};
+use crate::Spi;
 use avr_base::StopCause;
-use device_clocks::any_bit;
+use device_clocks::{Transmission, any_bit, bit};
 
 /// The registers of the serial peripheral interface (ATmega128 datasheet, "SPI Control Register - SPCR", "SPI Status
 /// Register - SPSR", "SPI Data Register - SPDR").
@@ -24,10 +24,7 @@ impl Spi {
     fn status(&self) -> u8
         ensures { result ≡ status_of self.now }
     {
-        let spif = if self.spif { 0x80 } else { 0 };
-        let wcol = if self.wcol { 0x40 } else { 0 };
-        let double = if self.double { 0x01 } else { 0 };
-        spif + wcol + double
+        bit(self.spif, 0x80) + bit(self.wcol, 0x40) + bit(self.double, 0x01)
     }
 
     // An access of SPDR: it clears the flags that the last read of SPSR saw set.
@@ -52,7 +49,7 @@ impl Spi {
             self.wcol = true;
             return;
         }
-        self.transfer = Some(Transfer {
+        self.transfer = Some(Transmission {
             ends: cycle + self.transfer_cycles(),
             byte: b,
         });

@@ -2,16 +2,7 @@
 ghost use Rattle.std.specs.Prelude.{◌≡◌, ◌≤◌, ◌<◌, ◌+◌, ◌%◌, ◌^◌, ℕ, false, true, is_some, Some};
 ghost use Rattle.device_clocks.specs.Clock.{cycles};
 
-use device_clocks::any_bit;
-
-/// A transfer that runs: eight bits out and eight bits in.
-#[derive(Clone, Copy, Debug, PartialEq, Eq)]
-pub struct Transfer {
-    /// The cycle in which it ends.
-    pub ends: u64,
-    /// The byte that goes out.
-    pub byte: u8,
-}
+use device_clocks::{Transmission, any_bit, byte_of, end_of, is_end};
 
 /// The serial peripheral interface as a master (ATmega128 datasheet, "Serial Peripheral Interface - SPI").
 #[derive(Clone, Copy, Debug, PartialEq, Eq)]
@@ -30,12 +21,13 @@ pub struct Spi {
     pub noted_spif: bool,
     /// Whether the last read of SPSR since an access of SPDR saw WCOL set.
     pub noted_wcol: bool,
-    /// The transfer that runs.
-    pub transfer: Option<Transfer>,
+    /// The transfer that runs: eight bits out and eight bits in.
+    pub transfer: Option<Transmission>,
 }
 
 impl Spi {
-    ghost use Rattle.spi_port.specs.Spi.{asks_interrupt, byte_of, end_of, ends_at, prescale, reset_spi, spi_cycle, spi_finished, transfer_cycles};
+    ghost use Rattle.device_clocks.specs.Transmission.{byte_of, end_of};
+    ghost use Rattle.spi_port.specs.Spi.{asks_interrupt, ends_at, prescale, reset_spi, spi_cycle, spi_finished, transfer_cycles};
 
     /// The interface after reset: disabled, with all registers and flags 0 and no transfer.
     pub fn new() -> Spi
@@ -80,30 +72,21 @@ impl Spi {
     pub fn done_at(&self) -> Option<u64>
         ensures { result ≡ end_of self.now.transfer }
     {
-        match self.transfer {
-            Some(transfer) => Some(transfer.ends),
-            None => None,
-        }
+        end_of(self.transfer)
     }
 
     /// The byte that the transfer that runs brings out; `None` exactly where none runs.
     pub fn sending(&self) -> Option<u8>
         ensures { result ≡ byte_of self.now.transfer }
     {
-        match self.transfer {
-            Some(transfer) => Some(transfer.byte),
-            None => None,
-        }
+        byte_of(self.transfer)
     }
 
     /// Whether the transfer that runs ends in the cycle `cycle`.
     pub fn ends_at(&self, cycle: u64) -> bool
         ensures { result ≡ ends_at cycle self.now }
     {
-        match self.transfer {
-            Some(transfer) => transfer.ends == cycle,
-            None => false,
-        }
+        is_end(self.transfer, cycle)
     }
 
     /// The `n` cycles from `cycle` on, in none of which a transfer ends: nothing changes.

@@ -1,14 +1,13 @@
 // The runs that gates look at: one network through `run_threads`, and the same by the words of the command line.
 use arrayvec::ArrayString;
-use avr_base::NoMemory;
 use avr_program::Program;
 use avrora_top::avrora;
 use fleet_threads::{Gate, run_threads};
 use ihex_loader::{Flash, load};
+use memory_calls::Failed;
 use node_runner::Scenario;
 use scenario_file::ScenarioText;
 use sim_io::{DirStore, MemSink, Sink, SinkFault, write_all};
-use std::alloc::{AllocError, AllocFailed, Global};
 use std::fs::{self, Files};
 use std::sync::Wait;
 use std::thread::Threads;
@@ -19,53 +18,26 @@ use world_core::{Link, Topo};
 // More than any stream of a run takes.
 const AMPLE: usize = 1_000_000;
 
-/// Why a run was not made: want of memory, or a file that is not there.
-pub struct NotMade;
-
-impl From<AllocError> for NotMade {
-    fn from(_error: AllocError) -> Self {
-        NotMade
-    }
-}
-
-impl<T: Drop> From<AllocFailed<T>> for NotMade {
-    fn from(_failed: AllocFailed<T>) -> Self {
-        NotMade
-    }
-}
-
-impl From<NoMemory> for NotMade {
-    fn from(_error: NoMemory) -> Self {
-        NotMade
-    }
-}
-
-impl From<SinkFault> for NotMade {
-    fn from(_fault: SinkFault) -> Self {
-        NotMade
-    }
-}
-
 // The flash of an image.
-fn flash_in<R: Files + AllocGlobal>(rt: &R, name: &str) -> Result<Flash, NotMade> {
+fn flash_in<R: Files + AllocGlobal>(rt: &R, name: &str) -> Result<Flash, Failed> {
     let Ok(text) = fs::read(rt, name) else {
-        return Err(NotMade);
+        return Err(Failed);
     };
     match load(rt.alloc(), text.as_slice()) {
         Ok(flash) => Ok(flash),
-        Err(_) => Err(NotMade),
+        Err(_) => Err(Failed),
     }
 }
 
-// The network of two.toml: node 1 hears node 0, both send and sample.
-fn two_rings<R: Files + AllocGlobal>(rt: &R) -> Result<Scenario, NotMade> {
+// The network of gates.toml: node 1 hears node 0, both send and sample.
+fn two_rings<R: Files + AllocGlobal>(rt: &R) -> Result<Scenario, Failed> {
     let alloc = rt.alloc();
     let links = vec![in alloc; Link { from: 0, to: 1 }]?;
     let Ok(topo) = Topo::new(2, 500, 100, 512, links) else {
-        return Err(NotMade);
+        return Err(Failed);
     };
-    let first = Program::new(alloc, flash_in(rt, "a.hex")?)?;
-    let second = Program::new(alloc, flash_in(rt, "b.hex")?)?;
+    let first = Program::new(alloc, flash_in(rt, "gates_a.hex")?)?;
+    let second = Program::new(alloc, flash_in(rt, "gates_b.hex")?)?;
     let text = ScenarioText {
         topo,
         images: Vec::new(alloc),
@@ -78,12 +50,12 @@ fn two_rings<R: Files + AllocGlobal>(rt: &R) -> Result<Scenario, NotMade> {
     Ok(Scenario::new(text, vec![in alloc; first, second]?))
 }
 
-/// Writes the trace of the network of two.toml, whose rows `run_threads` gives.
+/// Writes the trace of the network of gates.toml, whose rows `run_threads` gives.
 pub fn write_rows<R: Threads + Wait + Files + AllocGlobal + Sync, G: Gate + Sync, O: Sink>(
     rt: &R,
     gate: &G,
     out: &mut O,
-) -> Result<(), NotMade> {
+) -> Result<(), Failed> {
     let scenario = two_rings(rt)?;
     let rows = run_threads(rt, rt.alloc(), &scenario, gate)?;
     Ok(trace_writer::write(rows.as_slice(), out)?)
@@ -106,7 +78,7 @@ pub fn write_call<R: Threads + Wait + Files + AllocGlobal + Sync, G: Gate + Sync
     fails: Option<u64>,
     gate: &G,
     out: &mut O,
-) -> Result<(), NotMade> {
+) -> Result<(), Failed> {
     let alloc = rt.alloc();
     let mut fail = Vec::new(alloc);
     if let Some(number) = fails {

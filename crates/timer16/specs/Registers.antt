@@ -1,9 +1,11 @@
 -- The registers of the 16-bit timers (ATmega128 datasheet, "16-bit Timer/Counter Register Description" and "Accessing
 -- 16-bit Registers").
-use Rattle.std.specs.Prelude.{ℕ, ◌+◌, ◌*◌, ◌/◌, ◌%◌, nat_lt, if◌then◌else◌, true, Option, Some, None, Result, Ok, Err, bit_or}
+use Rattle.std.specs.Prelude.{ℕ, ◌+◌, ◌*◌, ◌/◌, ◌%◌, if◌then◌else◌, true, Option, Some, None, Result, Ok, Err, bit_or}
 use Rattle.avr_base.specs.declared.stop.StopCause.{StopCause}
 use Rattle.avr_base.specs.declared.stop.StopCause.TheVariants as stop
-use Rattle.device_clocks.specs.Bits.{any_bit}
+use Rattle.device_clocks.specs.Bits.{any_bit, bit}
+use Rattle.device_clocks.specs.declared.prescaler.Prescaler.TheVariants.{Shared}
+use Rattle.device_clocks.specs.Prescaler.{is_pin}
 use Rattle.timer16.specs.declared.mode.Mode16.{Mode16}
 use Rattle.timer16.specs.declared.registers.Chan.{Chan}
 use Rattle.timer16.specs.declared.registers.Chan.TheVariants.{A, B, C}
@@ -30,7 +32,7 @@ word_with tm low = tm.temp * 256 + low
 -- TCCRnB: ICNC 7, ICES 6, WGM3:2 in 4 and 3, clock select in 2 to 0; bit 5 reads 0
 abbrev pub control_b : Timer16 → ℕ
 control_b tm =
-    bit_or (bit_or (bit_or (if tm.noise_canceler then 0x80 else 0) (if tm.rising_edge then 0x40 else 0)) (number_of tm.mode / 4 * 8)) tm.select
+    bit_or (bit_or (bit_or (bit tm.noise_canceler 0x80) (bit tm.rising_edge 0x40)) (number_of tm.mode / 4 * 8)) tm.select
 
 -- what a read gives, and the timer after it: reading the low byte of TCNT or ICR fills TEMP with the high one, and
 -- their high byte reads TEMP; the compare values are read without it, and TCCRnC and TCCRnA read 0
@@ -54,7 +56,7 @@ with_control_a tm (Some mode) = Ok (record tm { mode = mode })
 abbrev pub with_control_b : Timer16 → Option Mode16 → ℕ → Result Timer16 StopCause
 with_control_b tm None b = Err stop.PwmMode
 with_control_b tm (Some mode) b =
-    if nat_lt 5 (b % 8) then Err stop.ExternalTimerClock
+    if is_pin Shared (b % 8) then Err stop.ExternalTimerClock
     else Ok (record tm { mode = mode; select = b % 8; noise_canceler = any_bit b 0x80; rising_edge = any_bit b 0x40 })
 
 -- the timer after a write of the byte b, or why that stops

@@ -1,6 +1,6 @@
-//! The timers of sixteen bits, timers 1 and 3 of the ATmega128: counter, prescaler, three compare values, the two
-//! modes that clear the counter, flags, and the registers with their shared byte TEMP. A timer moves cycle by cycle,
-//! or over many cycles at once in closed form.
+//! The timers of sixteen bits, timers 1 and 3 of the ATmega128: three compare values, the two modes that clear the counter,
+//! the flags, and the registers with their shared byte TEMP. A timer moves as its counter does, cycle by cycle, or over
+//! many cycles at once in closed form.
 #![tactic(auto)]
 
 mod mode;

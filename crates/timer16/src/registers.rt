@@ -3,7 +3,7 @@ ghost use Rattle.std.specs.Prelude.{◌≡◌, ◌/◌, ◌%◌, Ok, Err, OnOk, 
 
 use crate::{Mode16, Timer16};
 use avr_base::StopCause;
-use device_clocks::any_bit;
+use device_clocks::{Prescaler, any_bit, bit};
 
 /// The channel of a compare value.
 #[derive(Clone, Copy, Debug, PartialEq, Eq)]
@@ -83,9 +83,8 @@ impl Timer16 {
     fn control_b(&self) -> u8
         ensures { result ≡ control_b self.now }
     {
-        let noise = if self.noise_canceler { 0x80 } else { 0 };
-        let edge = if self.rising_edge { 0x40 } else { 0 };
-        noise | edge | self.mode.number() / 4 * 8 | self.select
+        let input_capture = bit(self.noise_canceler, 0x80) | bit(self.rising_edge, 0x40);
+        input_capture | self.mode.number() / 4 * 8 | self.select
     }
 
     /// What the register `reg` reads as. A read of the low byte of TCNT or ICR fills TEMP with the high one, and a
@@ -171,7 +170,7 @@ impl Timer16 {
         match Mode16::numbered(b / 8 % 4 * 4 + self.mode.number() % 4) {
             None => Err(StopCause::PwmMode),
             Some(mode) => {
-                if b % 8 > 5 {
+                if Prescaler::Shared.is_pin(b % 8) {
                     return Err(StopCause::ExternalTimerClock);
                 }
                 self.mode = mode;

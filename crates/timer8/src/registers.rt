@@ -1,9 +1,9 @@
 // The registers of a timer.
 ghost use Rattle.std.specs.Prelude.{◌≡◌, Ok, Err, OnOk, OnErr, IfErr};
 
-use crate::{Timer8, Which8};
+use crate::Timer8;
 use avr_base::StopCause;
-use device_clocks::any_bit;
+use device_clocks::{any_bit, bit};
 
 /// The registers of a timer (ATmega128 datasheet, "8-bit Timer/Counter Register Description").
 #[derive(Clone, Copy, Debug, PartialEq, Eq)]
@@ -17,27 +17,14 @@ pub enum Reg8 {
 }
 
 impl Timer8 {
-    ghost use Rattle.timer8.specs.Registers.{clocked_by_pin, get_of, put_of};
-
-    // Whether a clock select is that of a pin.
-    fn clocked_by_pin(&self, select: u8) -> bool
-        ensures { result ≡ clocked_by_pin self.now.which select }
-    {
-        match self.which {
-            Which8::Zero => false,
-            Which8::Two => select > 5,
-        }
-    }
+    ghost use Rattle.timer8.specs.Registers.{get_of, put_of};
 
     /// What the register `reg` reads as.
     pub fn get(&self, reg: Reg8) -> u8
         ensures { result ≡ get_of self.now reg }
     {
         match reg {
-            Reg8::Control => {
-                let mode = if self.ctc { 0x08 } else { 0 };
-                mode | self.select
-            }
+            Reg8::Control => bit(self.ctc, 0x08) | self.select,
             Reg8::Count => self.count,
             Reg8::Compare => self.compare,
         }
@@ -62,7 +49,7 @@ impl Timer8 {
                 if any_bit(b, 0x30) {
                     return Err(StopCause::CompareOutput);
                 }
-                if self.clocked_by_pin(b % 8) {
+                if self.prescaler.is_pin(b % 8) {
                     return Err(StopCause::ExternalTimerClock);
                 }
                 self.ctc = any_bit(b, 0x08);

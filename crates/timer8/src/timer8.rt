@@ -1,32 +1,20 @@
 // The timer, cycle by cycle and in leaps.
-ghost use Rattle.std.specs.Prelude.{◌≡◌, ◌≤◌, ◌<◌, ◌+◌, ◌-◌, ◌^◌, ◌↔◌, ◌==◌, false, None, Some, IsSome, IfSome};
+ghost use Rattle.std.specs.Prelude.{◌≡◌, ◌≤◌, ◌<◌, ◌+◌, ◌-◌, ◌^◌, ◌↔◌, None, Some, IfSome};
 ghost use Rattle.device_clocks.specs.Clock.{cycles, many};
 ghost use Rattle.device_clocks.specs.First.{First};
+ghost use Rattle.device_clocks.specs.Timer as counter;
 
-use device_clocks::{
-    TimerFlags, clocks_in, clocks_until, count_after, cycle_of_clock, earlier, flag_after,
-    has_clock,
-};
+use device_clocks::{Prescaler, TimerCounter, TimerFlags};
 
-/// Which of the two timers of eight bits: they differ in their prescaler.
-#[derive(Clone, Copy, Debug, PartialEq, Eq)]
-pub enum Which8 {
-    /// Timer 0.
-    Zero,
-    /// Timer 2.
-    Two,
-}
-
-/// A timer of eight bits, timer 0 or 2 (ATmega128 datasheet, "8-bit Timer/Counter0" and "8-bit Timer/Counter2"). Its
-/// prescaler counts from 0 in cycle 0 and is never reset.
+/// A timer of eight bits, timer 0 or 2 (ATmega128 datasheet, "8-bit Timer/Counter0" and "8-bit Timer/Counter2"), by its
+/// registers.
 #[derive(Clone, Copy, Debug, PartialEq, Eq)]
 pub struct Timer8 {
-    /// Timer 0 or 2.
-    pub which: Which8,
+    /// Timer 0's own prescaler, or the one that timer 2 shares with others: only so the two differ.
+    pub prescaler: Prescaler,
     /// WGM1: whether the counter is cleared at the compare value.
     pub ctc: bool,
-    /// CS2:0. Timer 0, 0 to 7: halted, or divided by 1, 8, 32, 64, 128, 256 or 1024. Timer 2, 0 to 5: halted, or
-    /// divided by 1, 8, 64, 256 or 1024.
+    /// CS2:0, which the prescaler gives a sense: 0 to 7 of timer 0, 0 to 5 of timer 2.
     pub select: u8,
     /// TCNT.
     pub count: u8,
@@ -41,14 +29,14 @@ pub struct Timer8 {
 }
 
 impl Timer8 {
-    ghost use Rattle.timer8.specs.Timer.{cleared, clock, divider, flags_of, meets, reset_timer, sets, sets_flag_at, timer_cycle, top, way};
+    ghost use Rattle.timer8.specs.Timer.{cleared, counter_of, flags_of, reset_timer, sets_flag_at, timer_cycle, with_counter};
 
     /// A timer after reset: halted, with all registers and flags 0.
-    pub fn new(which: Which8) -> Timer8
-        ensures { result ≡ reset_timer which }
+    pub fn new(prescaler: Prescaler) -> Timer8
+        ensures { result ≡ reset_timer prescaler }
     {
         Timer8 {
-            which,
+            prescaler,
             ctc: false,
             select: 0,
             count: 0,
@@ -60,6 +48,7 @@ impl Timer8 {
     }
 
     /// The flags: `over` and `comp_a` alone.
+    #[inline(always)]
     pub fn flags(&self) -> TimerFlags
         ensures { result ≡ flags_of self.now }
     {
@@ -78,55 +67,39 @@ impl Timer8 {
         self.comp_a = self.comp_a && !f.comp_a;
     }
 
-    // What its clock is divided by; 0 where it is halted.
-    #[tactic(auto, unfolding(crate::specs::Timer::divider))]
-    fn divider(&self) -> u64
-        ensures value { result ≡ divider self.now }
-        ensures most { result ≤ 1024 }
-        ensures halted { (result ≡ 0) ↔ (self.now.select ≡ 0) }
+    // Its counter, which goes to 255 at most.
+    #[inline(always)]
+    fn counter(&self) -> TimerCounter
+        ensures value { result ≡ counter_of self.now }
+        ensures maximum { result.maximum ≡ 255 }
+        ensures count { result.count ≤ 255 }
+        ensures top { counter.top result ≤ 255 }
     {
-        match (self.which, self.select) {
-            (_, 0) => 0,
-            (_, 1) => 1,
-            (_, 2) => 8,
-            (Which8::Zero, 3) => 32,
-            (Which8::Zero, 4) | (Which8::Two, 3) => 64,
-            (Which8::Zero, 5) => 128,
-            (Which8::Zero, 6) | (Which8::Two, 4) => 256,
-            _ => 1024,
+        TimerCounter {
+            maximum: 255,
+            prescaler: self.prescaler,
+            select: self.select,
+            count: u16::from(self.count),
+            blocked: self.blocked,
+            compare_a: u16::from(self.compare),
+            clears_at_a: self.ctc,
+            compare_b: None,
+            compare_c: None,
+            icr: None,
+            flags: self.flags(),
         }
     }
 
-    // The value at which the counter is cleared.
-    fn top(&self) -> u16
-        ensures value { result ≡ top self.now }
-        ensures most { result ≤ 255 }
+    // Takes over where its counter came to.
+    #[inline(always)]
+    fn set_counter(&mut self, counter: TimerCounter)
+        requires { counter.count ≤ 255 }
+        ensures { self.new ≡ with_counter self.old counter }
     {
-        let compare = u16::from(self.compare);
-        if self.ctc { compare } else { 255 }
-    }
-
-    // Whether the counter meets the compare value at a clock.
-    fn meets(&self) -> bool
-        ensures { result ≡ meets self.now }
-    {
-        !self.blocked && self.count == self.compare
-    }
-
-    // One clock.
-    #[tactic(auto, unfolding(crate::specs::Timer::clock))]
-    fn clock(&mut self)
-        ensures { self.new ≡ clock self.old }
-    {
-        let meets = self.meets();
-        self.over = self.over || self.count == u8::MAX;
-        self.comp_a = self.comp_a || meets;
-        self.count = if self.ctc && meets {
-            0
-        } else {
-            self.count.wrapping_add(1)
-        };
-        self.blocked = false;
+        self.count = counter.count as u8;
+        self.blocked = counter.blocked;
+        self.over = counter.flags.over;
+        self.comp_a = counter.flags.comp_a;
     }
 
     /// One cycle, with the number `cycle`: a clock where the prescaler has one.
@@ -134,93 +107,40 @@ impl Timer8 {
         requires { cycle ≤ 2 ^ 41 }
         ensures { self.new ≡ timer_cycle cycle self.old }
     {
-        if has_clock(self.divider(), cycle) {
-            self.clock();
-        }
-    }
-
-    // After how many clocks, none blocked, the counter first stands at a value.
-    #[tactic(auto, unfolding(crate::specs::Timer::way))]
-    fn reaches(&self, value: u8) -> Option<u64>
-        ensures first { First (λ k. way self.now k == value) result }
-        ensures found { value ≤ top self.now → IsSome result }
-        ensures few { IfSome result (λ w. w ≤ 131072) }
-    {
-        clocks_until(255, self.top(), u16::from(self.count), u16::from(value))
-    }
-
-    // The counter after so many clocks, none blocked.
-    #[tactic(auto, unfolding(crate::specs::Timer::way))]
-    fn count_after(&self, clocks: u64) -> u8
-        ensures { result ≡ way self.now clocks }
-    {
-        count_after(255, self.top(), u16::from(self.count), clocks) as u8
-    }
-
-    // So many clocks, none blocked.
-    fn run(&mut self, clocks: u64)
-        requires { self.old.blocked ≡ false }
-        ensures { self.new ≡ many clock clocks self.old }
-    {
-        let over = self.reaches(u8::MAX);
-        let met = self.reaches(self.compare);
-        self.count = self.count_after(clocks);
-        self.over = flag_after(self.over, over, clocks);
-        self.comp_a = flag_after(self.comp_a, met, clocks);
+        let mut counter = self.counter();
+        counter.tick(cycle);
+        self.set_counter(counter);
     }
 
     // So many clocks.
+    #[inline(always)]
     fn clock_times(&mut self, clocks: u64)
-        ensures { self.new ≡ many clock clocks self.old }
+        ensures { self.new ≡ with_counter self.old (many counter.clock clocks (counter_of self.old)) }
     {
-        if !self.blocked {
-            self.run(clocks);
-        } else if clocks > 0 {
-            self.clock();
-            self.run(clocks - 1);
-        }
+        let mut counter = self.counter();
+        counter.clock_times(clocks);
+        self.set_counter(counter);
     }
 
-    /// The `n` cycles from `cycle` on at once: the same as that many ticks, in a time that does not depend on `n`.
+    // The same, where they are many: apart, so that few cost little.
+    #[inline(never)]
+    fn clock_many_times(&mut self, clocks: u64)
+        ensures { self.new ≡ with_counter self.old (many counter.clock clocks (counter_of self.old)) }
+    {
+        self.clock_times(clocks);
+    }
+
+    /// The `n` cycles from `cycle` on at once: the same as that many ticks, in a time that does not depend on `n`. A
+    /// counter that a program reads again and again has no clock or one between two reads.
+    #[tactic(auto, using(crate::proofs::Clocks::leap_many, crate::proofs::Clocks::leap_none))]
     pub fn leap(&mut self, cycle: u64, n: u64)
         requires { cycle + n ≤ 2 ^ 41 }
         ensures { self.new ≡ cycles timer_cycle cycle n self.old }
     {
-        let d = self.divider();
-        if d > 0 {
-            self.clock_times(clocks_in(d, cycle, n));
-        }
-    }
-
-    // After how many clocks the first follows that sets a flag, none blocked.
-    fn run_to_event(&self) -> Option<u64>
-        requires { self.now.blocked ≡ false }
-        ensures first { First (λ k. sets (many clock k self.now)) result }
-        ensures found { IsSome result }
-        ensures few { IfSome result (λ w. w ≤ 131072) }
-    {
-        let over = self.reaches(u8::MAX);
-        let met = self.reaches(self.compare);
-        earlier(over, met)
-    }
-
-    // After how many clocks the first follows that sets a flag.
-    fn clocks_to_event(&self) -> Option<u64>
-        ensures first { First (λ k. sets (many clock k self.now)) result }
-        ensures found { IsSome result }
-        ensures few { IfSome result (λ w. w ≤ 131073) }
-    {
-        if !self.blocked {
-            return self.run_to_event();
-        }
-        if self.count == u8::MAX {
-            return Some(0);
-        }
-        let mut next = *self;
-        next.clock();
-        match next.run_to_event() {
-            Some(w) => Some(w + 1),
-            None => None,
+        match self.prescaler.clocks(self.select, cycle, n) {
+            0 => {}
+            1 => self.clock_times(1),
+            clocks => self.clock_many_times(clocks),
         }
     }
 
@@ -233,13 +153,6 @@ impl Timer8 {
         ensures near { IfSome result (λ e. e < cycle + 2 ^ 28) }
         ensures first { IfSome result (λ e. First (sets_flag_at cycle self.now) (Some (e - cycle))) }
     {
-        let d = self.divider();
-        if d == 0 {
-            return None;
-        }
-        match self.clocks_to_event() {
-            Some(w) => Some(cycle_of_clock(d, cycle, w)),
-            None => None,
-        }
+        self.counter().next_event(cycle)
     }
 }

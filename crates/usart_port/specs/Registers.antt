@@ -2,7 +2,7 @@
 use Rattle.std.specs.Prelude.{ℕ, ◌+◌, ◌*◌, ◌/◌, ◌%◌, ◌&&◌, not, if◌then◌else◌, false, Some, is_some, Result, Ok, Err, bit_and}
 use Rattle.avr_base.specs.declared.stop.StopCause.{StopCause}
 use Rattle.avr_base.specs.declared.stop.StopCause.TheVariants as stop
-use Rattle.device_clocks.specs.Bits.{any_bit}
+use Rattle.device_clocks.specs.Bits.{any_bit, bit}
 use Rattle.usart_port.specs.declared.inbox.Inbox.{Inbox}
 use Rattle.usart_port.specs.declared.inbox.Inbox.TheVariants.{Empty, One, Two}
 use Rattle.usart_port.specs.declared.registers.UsartReg.{UsartReg}
@@ -13,8 +13,7 @@ use Rattle.usart_port.specs.Usart.{is_filled, started}
 -- UCSR0A: RXC 7, TXC 6, UDRE 5, DOR 3, U2X 1; there are no frame and no parity errors
 abbrev pub status_of : Usart → ℕ
 status_of u =
-    (if is_filled u.inbox then 0x80 else 0) + (if u.txc then 0x40 else 0) + (if is_some u.waiting then 0 else 0x20)
-    + (if u.dor then 0x08 else 0) + (if u.double then 0x02 else 0)
+    bit (is_filled u.inbox) 0x80 + bit u.txc 0x40 + bit (not (is_some u.waiting)) 0x20 + bit u.dor 0x08 + bit u.double 0x02
 
 -- the oldest byte of the receive buffer, 0 where there is none
 abbrev pub oldest : Inbox → ℕ

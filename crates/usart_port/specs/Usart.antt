@@ -2,9 +2,9 @@
 -- buffer). The cycles in which a frame begins and ends are this simulator's own choice.
 use Rattle.std.specs.Prelude.{ℕ, ◌+◌, ◌*◌, ◌/◌, ◌%◌, ◌^◌, ◌==◌, ◌&&◌, not, if◌then◌else◌, Bool, true, false, Option, Some, None, is_some}
 use Rattle.device_clocks.specs.Bits.{any_bit}
+use Rattle.device_clocks.specs.Transmission.{ended_byte, is_end}
 use Rattle.usart_port.specs.declared.inbox.Inbox.{Inbox}
 use Rattle.usart_port.specs.declared.inbox.Inbox.TheVariants.{Empty, One, Two}
-use Rattle.usart_port.specs.declared.usart.Frame.{Frame}
 use Rattle.usart_port.specs.declared.usart.Usart.{Usart}
 use Rattle.usart_port.specs.declared.usart.UsartLines.{UsartLines}
 
@@ -45,21 +45,9 @@ cut u b = b % 2 ^ data_bits u
 abbrev pub started : ℕ → ℕ → Usart → Usart
 started t b u = record u { frame = Some (record { ends = t + frame_cycles u; byte = cut u b }) }
 
-abbrev pub is_end : Option Frame → ℕ → Bool
-is_end None t = false
-is_end (Some f) t = f.ends == t
-
 -- whether a frame ends in cycle t
 abbrev pub ends_at : ℕ → Usart → Bool
 ends_at t u = is_end u.frame t
-
-abbrev pub end_of : Option Frame → Option ℕ
-end_of None = None
-end_of (Some f) = Some f.ends
-
-abbrev pub ended_byte : Option Frame → ℕ → Option ℕ
-ended_byte None t = None
-ended_byte (Some f) t = if f.ends == t then Some f.byte else None
 
 -- the byte whose frame ends in cycle t
 unfoldable pub frame_ended : ℕ → Usart → Option ℕ

@@ -10,4 +10,4 @@ mod usart;
 pub use inbox::Inbox;
 pub use registers::UsartReg;
 pub use script::Script;
-pub use usart::{Frame, Usart, UsartLines};
+pub use usart::{Usart, UsartLines};

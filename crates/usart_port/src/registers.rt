@@ -1,9 +1,9 @@
 // The registers of the port.
-ghost use Rattle.std.specs.Prelude.{◌≡◌, ◌≤◌, ◌^◌, if◌then◌else◌, false, Ok, Err, OnOk, OnErr, IfErr};
+ghost use Rattle.std.specs.Prelude.{◌≡◌, ◌≤◌, ◌^◌, false, Ok, Err, OnOk, OnErr, IfErr};
 
 use crate::{Inbox, Usart};
 use avr_base::StopCause;
-use device_clocks::any_bit;
+use device_clocks::{any_bit, bit};
 
 /// The registers of USART0 (ATmega128 datasheet, "USART Register Description").
 #[derive(Clone, Copy, Debug, PartialEq, Eq)]
@@ -20,13 +20,6 @@ pub enum UsartReg {
     BaudH,
     /// UDR0.
     Udr,
-}
-
-// A bit of a register where its flag is set.
-fn bit(flag: bool, mask: u8) -> u8
-    ensures { result ≡ (if flag then mask else 0) }
-{
-    if flag { mask } else { 0 }
 }
 
 impl Usart {

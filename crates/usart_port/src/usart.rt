@@ -3,16 +3,7 @@ ghost use Rattle.std.specs.Prelude.{◌≡◌, ◌≤◌, ◌<◌, ◌+◌, ◌^
 ghost use Rattle.device_clocks.specs.Clock.{cycles};
 
 use crate::Inbox;
-use device_clocks::any_bit;
-
-/// A frame that the transmitter shifts out.
-#[derive(Clone, Copy, Debug, PartialEq, Eq)]
-pub struct Frame {
-    /// The cycle in which it ends.
-    pub ends: u64,
-    /// Its byte, cut to the data bits.
-    pub byte: u8,
-}
+use device_clocks::{Transmission, any_bit, end_of, is_end};
 
 /// USART0 as an asynchronous port (ATmega128 datasheet, "USART"). The cycles in which a frame begins and ends are this
 /// simulator's own choice: it begins in the cycle of the write of UDR0, or in the one that ends the frame before it.
@@ -32,8 +23,8 @@ pub struct Usart {
     pub dor: bool,
     /// The receive buffer.
     pub inbox: Inbox,
-    /// The frame that is sent.
-    pub frame: Option<Frame>,
+    /// The frame that is sent, with its byte cut to the data bits.
+    pub frame: Option<Transmission>,
     /// The byte that waits in the transmit buffer until the frame ends; UDRE is set where there is none.
     pub waiting: Option<u8>,
 }
@@ -50,7 +41,8 @@ pub struct UsartLines {
 }
 
 impl Usart {
-    ghost use Rattle.usart_port.specs.Usart.{arrived, buffered, cut, data_bits, end_of, ends_at, frame_cycles, frame_ended, lines_of, next_frame, reset_usart, started, usart_cycle};
+    ghost use Rattle.device_clocks.specs.Transmission.{end_of};
+    ghost use Rattle.usart_port.specs.Usart.{arrived, buffered, cut, data_bits, ends_at, frame_cycles, frame_ended, lines_of, next_frame, reset_usart, started, usart_cycle};
 
     /// The port after reset: eight data bits and one stop bit, nothing enabled, and all buffers empty.
     pub fn new() -> Usart
@@ -107,7 +99,7 @@ impl Usart {
         requires { cycle ≤ 2 ^ 41 }
         ensures { self.new ≡ started cycle byte self.old }
     {
-        self.frame = Some(Frame {
+        self.frame = Some(Transmission {
             ends: cycle + self.frame_cycles(),
             byte: self.cut(byte),
         });
@@ -180,20 +172,14 @@ impl Usart {
     pub fn next_event(&self) -> Option<u64>
         ensures { result ≡ end_of self.now.frame }
     {
-        match self.frame {
-            Some(frame) => Some(frame.ends),
-            None => None,
-        }
+        end_of(self.frame)
     }
 
     /// Whether a frame ends in `cycle`.
     pub fn ends_at(&self, cycle: u64) -> bool
         ensures { result ≡ ends_at cycle self.now }
     {
-        match self.frame {
-            Some(frame) => frame.ends == cycle,
-            None => false,
-        }
+        is_end(self.frame, cycle)
     }
 
     /// The `n` cycles from `cycle` on at once, in none of which a frame ends: the same as that many ticks.

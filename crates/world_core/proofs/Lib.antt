@@ -7,6 +7,7 @@ pub mod Latencies
 pub mod Search
 pub mod Order
 pub mod Spaced
+pub mod Ahead
 pub mod Final
 pub mod Counts
 pub mod Steps

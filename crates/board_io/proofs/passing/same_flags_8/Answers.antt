@@ -1,5 +1,6 @@
-use Rattle.std.proofs.Common.{◌-◌, arith}
+use Rattle.std.proofs.Common.{◌≡◌, ℕ, ◌-◌, ◌+◌, true, sym, subst, arith}
 use Rattle.board_io.proofs.Steady.{before_8, halted_8}
+use Rattle.timer8.specs.Timer.{sets_flag_at}
 use Rattle.board_io.proofs.passing.same_flags_8.Goals as goal
 
 pub returns-in-None-clause-same : goal.returns-in-None-clause-same
@@ -7,3 +8,8 @@ returns-in-None-clause-same c i l = halted_8 c.args.cycle i c.args.timer.now (c.
 
 pub returns-in-Some-clause-same : goal.returns-in-Some-clause-same
 returns-in-Some-clause-same c i l = before_8 c.args.cycle (c.in-Some.event - c.args.cycle) i c.args.timer.now c.in-Some.ensures.first (omega arith)
+
+pub returns-in-Some-clause-first : goal.returns-in-Some-clause-first
+returns-in-Some-clause-first c l =
+    let last : c.in-Some.event - c.args.cycle ≡ c.min.result - 1 = omega arith in
+    subst (λ (n : ℕ). sets_flag_at c.args.cycle c.args.timer.now n ≡ true) last c.in-Some.ensures.first.0

@@ -1,6 +1,6 @@
-use Rattle.std.proofs.Common.{◌+◌, ℕ, Option, sym, ap, ◌∙◌}
+use Rattle.std.proofs.Common.{Option, ℕ, sym, ap, ◌∙◌}
 use Rattle.board_io.specs.Board.{unclocked}
-use Rattle.board_io.specs.Cycle.{board_begun, timers_leap}
+use Rattle.board_io.specs.Cycle.{board_begun}
 use Rattle.board_io.specs.declared.board.Board.{Board}
 use Rattle.board_io.proofs.Lags.{quiet_now}
 use Rattle.board_io.proofs.Leaps.{asks_quiet, begun_quiet, sends_quiet, serial_quiet}
@@ -10,21 +10,21 @@ pub returns-then-passes-clause-state : goal.returns-then-passes-clause-state
 returns-then-passes-clause-state c =
     let t = c.args.cycle in
     let v : Board = unclocked c.args.self.now in
-    let quiet = quiet_now t c.args.self.now c.requires.now (c.passes.ensures.idle c.if-passes.true) in
+    let quiet = quiet_now t c.args.self.now (c.passes.ensures.idle c.if-passes.true) in
     c.passes.ensures.state c.if-passes.true
-    ∙ (ap (λ (u : ℕ). timers_leap u 1 v) c.requires.now ∙ (sym (begun_quiet t v quiet) ∙ ap (λ (a : Option ℕ). board_begun t a v) (sym c.in-None.is)))
+    ∙ (sym (begun_quiet t v quiet) ∙ ap (λ (a : Option ℕ). board_begun t a v) (sym c.in-None.is))
 
 pub returns-then-passes-clause-clock : goal.returns-then-passes-clause-clock
-returns-then-passes-clause-clock c = c.passes.ensures.clock c.if-passes.true ∙ ap (λ (t : ℕ). t + 1) c.requires.now
+returns-then-passes-clause-clock c = c.passes.ensures.clock c.if-passes.true
 
 pub returns-then-passes-clause-serial : goal.returns-then-passes-clause-serial
 returns-then-passes-clause-serial c =
-    sym (serial_quiet c.args.cycle (unclocked c.args.self.now) (quiet_now c.args.cycle c.args.self.now c.requires.now (c.passes.ensures.idle c.if-passes.true)))
+    sym (serial_quiet c.args.cycle (unclocked c.args.self.now) (quiet_now c.args.cycle c.args.self.now (c.passes.ensures.idle c.if-passes.true)))
 
 pub returns-then-passes-clause-sent : goal.returns-then-passes-clause-sent
 returns-then-passes-clause-sent c =
-    sym (sends_quiet c.args.cycle (unclocked c.args.self.now) (quiet_now c.args.cycle c.args.self.now c.requires.now (c.passes.ensures.idle c.if-passes.true)))
+    sym (sends_quiet c.args.cycle (unclocked c.args.self.now) (quiet_now c.args.cycle c.args.self.now (c.passes.ensures.idle c.if-passes.true)))
 
 pub returns-then-passes-clause-asks : goal.returns-then-passes-clause-asks
 returns-then-passes-clause-asks c =
-    sym (asks_quiet c.args.cycle (unclocked c.args.self.now) (quiet_now c.args.cycle c.args.self.now c.requires.now (c.passes.ensures.idle c.if-passes.true)))
+    sym (asks_quiet c.args.cycle (unclocked c.args.self.now) (quiet_now c.args.cycle c.args.self.now (c.passes.ensures.idle c.if-passes.true)))

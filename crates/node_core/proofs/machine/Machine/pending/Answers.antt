@@ -1,7 +1,17 @@
-use Rattle.std.proofs.Common.{ap, sym, ◌∙◌}
+use Rattle.std.proofs.Common.{◌≡◌, ℕ, None, refl, ap, sym, ◌∙◌}
 use Rattle.board_io.proofs.Lags.{lines_clock}
-use Rattle.interrupt_unit.specs.Lines.{pending_of}
+use Rattle.interrupt_unit.specs.Lines.{lowest_line, pending_of, vector_of}
 use Rattle.node_core.proofs.machine.Machine.pending.Goals as goal
 
+none_set : None ≡ vector_of (lowest_line 0)
+unfolding lowest_line
+none_set = refl
+
+pub returns-then-lines-eq0 : goal.returns-then-lines-eq0
+returns-then-lines-eq0 c =
+    none_set
+    ∙ (ap (λ (bits : ℕ). vector_of (lowest_line bits)) (sym c.if-lines-eq0.true)
+    ∙ ap pending_of (c.lines-lines.ensures ∙ sym (lines_clock 0 c.args.self.now.bus.board)))
+
 pub returns : goal.returns
-returns c = c.pending.ensures.value ∙ ap pending_of (c.lines.ensures ∙ sym (lines_clock 0 c.args.self.now.bus.board))
+returns c = c.pending.ensures.value ∙ ap pending_of (c.lines-lines.ensures ∙ sym (lines_clock 0 c.args.self.now.bus.board))

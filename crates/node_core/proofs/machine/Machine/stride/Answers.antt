@@ -1,4 +1,4 @@
-use Rattle.std.proofs.Common.{◌≡◌, ℕ, ◌+◌, ◌<◌, None, false, is_some, refl, add-zero, sym, subst, ap, ◌∙◌, arith}
+use Rattle.std.proofs.Common.{◌≡◌, ℕ, ◌+◌, ◌-◌, ◌<◌, None, false, is_some, refl, add-zero, sym, subst, ap, ◌∙◌, arith}
 use Rattle.std.specs.Prelude.{vec_len, vec_capacity}
 use Rattle.trace_rows.specs.declared.row.Row.{Row}
 use Rattle.usart_port.specs.Script.{ScriptBytes, script_byte}
@@ -16,12 +16,15 @@ loop-cycle-init c =
     let t : ℕ = c.args.cycle in
     let v : Timed NodeState Row = record { cycle = t; asking = false; state = shown c.args.self.now; rows = c.args.self.now.rows.items } in
     record {
+      from = omega arith;
       within = omega arith;
-      comes = subst (λ (at : ℕ). Comes node_kind v at v.state v.rows) (sym (add-zero t)) (comes_none node_kind v);
+      comes = comes_none node_kind v;
       going = c.requires.going;
-      clock = c.requires.now ∙ sym (add-zero t);
+      free = omega (arith, c.if-self-gt0.false);
+      awake = c.if-self.false;
+      clock = c.requires.now;
       script = refl;
-      count = omega (arith, c.requires.few);
+      count = c.requires.few;
       len = refl;
       capacity = refl;
     }
@@ -29,38 +32,54 @@ loop-cycle-init c =
 pub loop-cycle-preserved : goal.loop-cycle-preserved
 loop-cycle-preserved c =
     let t : ℕ = c.args.cycle in
-    let n : ℕ = c.loop-cycle.n in
+    let at : ℕ = c.loop-cycle.at in
     let i = c.loop-cycle.invariant in
     let v : Timed NodeState Row = record { cycle = t; asking = false; state = shown c.args.self.now; rows = c.args.self.now.rows.items } in
     let s : NodeState = shown c.loop-cycle.self in
-    let u : NodeState = shown c.process-taken.new.self in
-    let k = c.process-taken.new.self.rows.items in
-    let e = c.process-taken.ensures in
-    let f = c.finish_instruction-more.ensures in
-    let more : ℕ = c.finish_instruction-more.result in
-    let some : 0 < more = omega (arith, c.if-more-eq0.false) in
-    let passed = f.passed some in
-    let midway : IsMidway v (t + n) u k = record { state = s; rows = c.loop-cycle.self.rows.items; comes = i.comes; going = ap is_some i.going; part = e.state; told = e.rows } in
-    let w : NodeState = shown c.finish_instruction-more.new.self in
-    let there : Comes node_kind v (t + n + more) w k = passed_there v (t + n) more u w k midway passed in
-    let next : t + n + more ≡ t + (n + more) = omega arith in
+    let u : NodeState = shown c.act-taken.new.self in
+    let k = c.act-taken.new.self.rows.items in
+    let e = c.act-taken.ensures in
+    let f = c.finish_instruction.ensures in
+    let taken : ℕ = c.act-taken.result in
+    let done = c.if-not-finish_instruction.false in
+    let some = f.some done in
+    let midway : IsMidway v at u k = record { state = s; rows = c.loop-cycle.self.rows.items; comes = i.comes; going = ap is_some i.going; part = e.state; told = e.rows } in
+    let w : NodeState = shown c.finish_instruction.new.self in
+    let there : Comes node_kind v (at + taken) w k = passed_there v at taken u w k midway (f.passed done) in
     let rows = ap (λ x. x.items) f.rows in
+    let going = e.going some in
+    let more = c.from-at.ensures in
+    let next : at + taken ≡ at + c.from-at.result = omega (arith, more) in
     record {
-      within = omega (arith, f.within, i.within);
-      comes = subst (λ (at : ℕ). Comes node_kind v at w c.finish_instruction-more.new.self.rows.items) next (subst (Comes node_kind v (t + n + more) w) (sym rows) there);
-      going = f.stop ∙ passed.going;
-      clock = f.clock ∙ next;
+      from = omega (arith, i.from);
+      within = omega (arith, f.within done, next);
+      comes = subst (λ (t : ℕ). Comes node_kind v t w c.finish_instruction.new.self.rows.items) next (subst (Comes node_kind v (at + taken) w) (sym rows) there);
+      going = f.stop ∙ going.going;
+      free = f.free done;
+      awake = f.asleep ∙ going.awake;
+      clock = f.clock done ∙ next;
       script = f.script ∙ (e.script ∙ i.script);
-      count = omega (arith, f.count, e.count, i.count);
-      len = ap (λ x. vec_len x) f.rows ∙ (e.same (f.some some) ∙ i.len);
+      count = omega (arith, some, f.count, e.count, i.count, next);
+      len = ap (λ x. vec_len x) f.rows ∙ (e.same some ∙ i.len);
       capacity = ap (λ x. vec_capacity x) f.rows ∙ (e.room ∙ i.capacity);
     }
 
-pub finish_instruction-more-requires-clause-none : goal.finish_instruction-more-requires-clause-none
-finish_instruction-more-requires-clause-none c i l =
+pub finish_instruction-requires-clause-none : goal.finish_instruction-requires-clause-none
+finish_instruction-requires-clause-none c i l =
     let t : ℕ = c.args.cycle in
-    let n : ℕ = c.loop-cycle.n in
-    let script = c.process-taken.ensures.script ∙ c.loop-cycle.invariant.script in
-    let there : t + (n + i) ≡ t + n + i = omega arith in
-    ap (λ (x : ScriptBytes). script_byte x (t + n + i)) script
-    ∙ subst (λ (at : ℕ). script_byte c.args.self.now.script at ≡ None) there (c.quiet-last.ensures.none (n + i) (omega (arith, l)))
+    let at : ℕ = c.loop-cycle.at in
+    let from = c.loop-cycle.invariant.from in
+    let script = c.act-taken.ensures.script ∙ c.loop-cycle.invariant.script in
+    let there : t + (at - t + i) ≡ at + i = omega (arith, from) in
+    ap (λ (x : ScriptBytes). script_byte x (at + i)) script
+    ∙ subst (λ (u : ℕ). script_byte c.args.self.now.script u ≡ None) there (c.quiet.ensures.none (at - t + i) (omega (arith, l, from)))
+
+pub returns-then-self-gt0-clause-midway : goal.returns-then-self-gt0-clause-midway
+returns-then-self-gt0-clause-midway c =
+    let t : ℕ = c.args.cycle in
+    let v : Timed NodeState Row = record { cycle = t; asking = false; state = shown c.args.self.now; rows = c.args.self.now.rows.items } in
+    let u : NodeState = shown c.idle.new.self in
+    let k = c.idle.new.self.rows.items in
+    let e = c.idle.ensures in
+    let here : IsMidway v t u k = record { state = v.state; rows = v.rows; comes = comes_none node_kind v; going = ap is_some c.requires.going; part = e.state; told = e.rows } in
+    subst (λ (at : ℕ). IsMidway v at u k) (sym (add-zero t)) here

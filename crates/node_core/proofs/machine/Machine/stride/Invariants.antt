@@ -7,15 +7,18 @@ use Rattle.node_core.proofs.machine.Machine.stride.Given as goal
 
 abbrev pub invariant-loop-cycle : goal.invariant-loop-cycle
 invariant-loop-cycle l = record {
-  within : l.n ≤ l.last;
-  comes : Comes node_kind (record { cycle = l.cycle; asking = false; state = shown l.fn.self; rows = l.fn.self.rows.items }) (l.cycle + l.n) (shown l.self) l.self.rows.items;
+  from : l.cycle ≤ l.at;
+  within : l.at ≤ l.end;
+  comes : Comes node_kind (record { cycle = l.cycle; asking = false; state = shown l.fn.self; rows = l.fn.self.rows.items }) l.at (shown l.self) l.self.rows.items;
   going : l.self.stop ≡ None;
-  clock : l.self.bus.board.clock ≡ l.cycle + l.n;
+  free : l.self.wait ≡ 0;
+  awake : l.self.asleep ≡ false;
+  clock : l.self.bus.board.clock ≡ l.at;
   script : l.self.script ≡ l.fn.self.script;
-  count : l.self.count ≤ 2 ^ 40 + l.cycle + l.n;
+  count : l.self.count ≤ 2 ^ 40 + l.at;
   len : vec_len l.self.rows ≡ vec_len l.fn.self.rows;
   capacity : vec_capacity l.self.rows ≡ vec_capacity l.fn.self.rows;
 }
 
 abbrev pub decreases-loop-cycle : goal.decreases-loop-cycle
-decreases-loop-cycle l = l.last - l.n
+decreases-loop-cycle l = l.end - l.at

@@ -1,0 +1,168 @@
+// One cycle of the devices.
+ghost use Rattle.std.specs.Prelude.{◌≡◌, ◌≤◌, ◌^◌, true, is_some};
+ghost use Rattle.usart_port.specs.Usart.{frame_ended};
+ghost use Rattle.timer16.specs.Timer as timer16;
+ghost use Rattle.timer8.specs.Timer as timer8;
+
+use crate::Board;
+use byte_radio::Moved;
+use device_clocks::ended_byte;
+use timer8::Timer8;
+use timer16::Timer16;
+use world_core::Heard;
+
+/// What the devices did in a cycle.
+#[derive(Clone, Copy, Debug, PartialEq, Eq)]
+pub struct Begun {
+    /// The byte of the frame of USART0 that ended in it.
+    pub serial: Option<u8>,
+    /// The byte that the radio sent in it.
+    pub sent: Option<u8>,
+    /// Whether the radio samples the air in it: the cycle waits for `answer`.
+    pub asks: bool,
+}
+
+impl Begun {
+    /// Nothing.
+    pub const NOTHING: Begun = Begun {
+        serial: None,
+        sent: None,
+        asks: false,
+    };
+}
+
+// A cycle of a timer. Most are halted: one test.
+#[tactic(auto, using(crate::proofs::Halted::halted_8))]
+fn tick_8(timer: &mut Timer8, cycle: u64)
+    requires { cycle ≤ 2 ^ 41 }
+    ensures { timer.new ≡ timer8.timer_cycle cycle timer.old }
+{
+    if timer.select != 0 {
+        timer.tick(cycle);
+    }
+}
+
+// A cycle of a timer of sixteen bits.
+#[tactic(auto, using(crate::proofs::Halted::halted_16))]
+fn tick_16(timer: &mut Timer16, cycle: u64)
+    requires { cycle ≤ 2 ^ 41 }
+    ensures { timer.new ≡ timer16.timer_cycle cycle timer.old }
+{
+    if timer.select != 0 {
+        timer.tick(cycle);
+    }
+}
+
+impl Board {
+    ghost use Rattle.board_io.specs.Cycle.{board_answered, board_asks, board_begun, board_sends, board_serial, is_ask, moved, samples, sends, sent_by, timers_cycle, transfer_end, usart_cycle, with_moved};
+
+    // The timers' part of a cycle.
+    fn tick_timers(&mut self, cycle: u64)
+        requires { cycle ≤ 2 ^ 41 }
+        ensures { self.new ≡ timers_cycle cycle self.old }
+    {
+        tick_8(&mut self.t0, cycle);
+        tick_16(&mut self.t1, cycle);
+        tick_8(&mut self.t2, cycle);
+        tick_16(&mut self.t3, cycle);
+    }
+
+    // The part of USART0: a byte that arrives, and then the transmitter, with the byte whose frame ends.
+    fn tick_usart(&mut self, cycle: u64, arrival: Option<u8>) -> Option<u8>
+        requires { cycle ≤ 2 ^ 41 }
+        ensures state { self.new ≡ usart_cycle cycle arrival self.old }
+        ensures ended { result ≡ frame_ended cycle self.old.usart }
+    {
+        match arrival {
+            None => self.usart.tick(cycle),
+            Some(byte) => {
+                self.usart.arrive(byte);
+                self.usart.tick(cycle)
+            }
+        }
+    }
+
+    // The end of a transfer, by what the radio, which has it already, makes of its byte.
+    fn end_transfer(&mut self, moved: Moved, serial: Option<u8>) -> Begun
+        requires { is_some self.old.spi.transfer ≡ true }
+        ensures state { self.new ≡ transfer_end moved self.old.radio self.old }
+        ensures serial { result.serial ≡ serial }
+        ensures sent { result.sent ≡ sent_by moved }
+        ensures asks { result.asks ≡ is_ask moved }
+        ensures waits { result.asks ≡ true → is_some self.new.spi.transfer ≡ true }
+    {
+        match moved {
+            Moved::Answer(miso) => {
+                self.spi.finish(miso);
+                Begun {
+                    serial,
+                    sent: None,
+                    asks: false,
+                }
+            }
+            Moved::Send { byte, miso } => {
+                self.spi.finish(miso);
+                Begun {
+                    serial,
+                    sent: Some(byte),
+                    asks: false,
+                }
+            }
+            Moved::Ask => Begun {
+                serial,
+                sent: None,
+                asks: true,
+            },
+        }
+    }
+
+    // The part of the serial peripheral interface and the radio, up to a sample.
+    fn exchange(&mut self, cycle: u64, serial: Option<u8>) -> Begun
+        requires { cycle ≤ 2 ^ 41 }
+        ensures state { self.new ≡ with_moved (moved cycle self.old) self.old }
+        ensures serial { result.serial ≡ serial }
+        ensures sent { result.sent ≡ sends (moved cycle self.old) }
+        ensures asks { result.asks ≡ samples (moved cycle self.old) }
+        ensures waits { result.asks ≡ true → is_some self.new.spi.transfer ≡ true }
+    {
+        match ended_byte(self.spi.transfer, cycle) {
+            None => Begun {
+                serial,
+                sent: None,
+                asks: false,
+            },
+            Some(byte) => {
+                let selected = self.selected();
+                let moved = self.radio.transfer(cycle, selected, byte);
+                self.end_transfer(moved, serial)
+            }
+        }
+    }
+
+    /// The devices' part of the cycle `cycle`: the timers, then USART0 with the byte that arrives, then the serial
+    /// peripheral interface and the radio. Where the radio samples the air the cycle is left there, and `answer`, with
+    /// what is heard, does the rest.
+    #[tactic(auto, unfolding(crate::specs::Cycle::board_begun, crate::specs::Cycle::board_serial, crate::specs::Cycle::board_sends, crate::specs::Cycle::board_asks))]
+    pub fn begin(&mut self, cycle: u64, arrival: Option<u8>) -> Begun
+        requires { cycle ≤ 2 ^ 41 }
+        ensures state { self.new ≡ board_begun cycle arrival self.old }
+        ensures serial { result.serial ≡ board_serial cycle self.old }
+        ensures sent { result.sent ≡ board_sends cycle self.old }
+        ensures asks { result.asks ≡ board_asks cycle self.old }
+        ensures waits { result.asks ≡ true → is_some self.new.spi.transfer ≡ true }
+    {
+        self.tick_timers(cycle);
+        let serial = self.tick_usart(cycle, arrival);
+        self.exchange(cycle, serial)
+    }
+
+    /// The rest of a cycle that samples, with what is heard: the transfer that sampled ends, and answers 0.
+    #[tactic(auto, unfolding(crate::specs::Cycle::board_answered))]
+    pub fn answer(&mut self, h: Heard)
+        requires { is_some self.old.spi.transfer ≡ true }
+        ensures { self.new ≡ board_answered h self.old }
+    {
+        let miso = self.radio.answer(h);
+        self.spi.finish(miso);
+    }
+}

@@ -1,0 +1,3 @@
+	ldi r16, 1	; the loop of a.hex
+here:
+	rjmp here

@@ -1,0 +1,3 @@
+rjmp .+1
+here:
+jmp there

@@ -1,0 +1,61 @@
+//! Runs of whole networks: for each that a text file tells, the status, the trace and the error stream of `run FILE`, with
+//! each node on a thread of its own, and whether those of `run --plain FILE` are the same. `command_facts` runs it, and its
+//! stored run compares them with what a slow simulator that shares nothing with this one gives (`bench/network`).
+#![tactic(auto)]
+
+mod lines;
+mod runs;
+mod writing;
+
+use lines::{Line, read_line};
+use memory_calls::{Failed, Held, hold_file, text_of};
+use runs::made;
+use sim_io::{Sink, write_all};
+use std::fs::Files;
+use std::sync::Wait;
+use std::thread::Threads;
+use writing::{write_outcome, write_plain};
+
+// A line of a case file, which is written too, but for the lines of files.
+fn do_line<R: Threads + Wait + Files + AllocGlobal + Sync, O: Sink>(
+    rt: &R,
+    text: &str,
+    held: &mut Held,
+    out: &mut O,
+) -> Result<(), Failed> {
+    let alloc = rt.alloc();
+    let Some(line) = read_line(text) else {
+        return Err(Failed);
+    };
+    if let Line::Content(content) = line {
+        return Ok(held.extend(content)?);
+    }
+    write_all(out, text.as_bytes())?;
+    write_all(out, b"\n")?;
+    match line {
+        Line::Comment | Line::Content(_) => Ok(()),
+        Line::File(name) => Ok(held.add(alloc, name, Vec::new(alloc))?),
+        Line::Copy(name) => hold_file(rt, name, held),
+        Line::Blank(name, length) => Ok(held.add_blank(alloc, name, length)?),
+        Line::Run(name, limits) => {
+            let outcome = made(rt, &["run", name], limits, held)?;
+            let plain = made(rt, &["run", "--plain", name], limits, held)?;
+            write_outcome(&outcome, out)?;
+            Ok(write_plain(&outcome, &plain, out)?)
+        }
+    }
+}
+
+/// Does a case file, line after line.
+pub fn do_file<R: Threads + Wait + Files + AllocGlobal + Sync, O: Sink>(
+    rt: &R,
+    name: &str,
+    out: &mut O,
+) -> Result<(), Failed> {
+    let text = text_of(rt, name)?;
+    let mut held = Held::none(rt.alloc());
+    for line in text.as_str().lines() {
+        do_line(rt, line, &mut held, out)?;
+    }
+    Ok(())
+}
