@@ -17,4 +17,3 @@ pub use board::{Board, Sleep};
 pub use clock::Clock;
 pub use cycle::Begun;
 pub use lagging::LaggingBoard;
-

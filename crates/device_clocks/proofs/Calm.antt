@@ -1,5 +1,5 @@
 -- Flags that a clock leaves alone.
-use Rattle.std.proofs.Common.{◌≡◌, Bool, true, false, ◌||◌, refl}
+use Rattle.std.proofs.Common.{◌≡◌, Bool, true, false, ◌||◌, refl, sym}
 use Rattle.std.proofs.lemmas.Bool.{or_parts}
 use Rattle.device_clocks.specs.Flags.{any_flag, flags_or}
 use Rattle.device_clocks.specs.declared.flags.TimerFlags.{TimerFlags}
@@ -23,3 +23,6 @@ flags_or-none f g e =
     let fields : TimerFlags = record { over = f.over; comp_a = f.comp_a; comp_b = f.comp_b; comp_c = f.comp_c; icr = f.icr } in
     let same : flags_or f g ≡ fields = cc in
     same
+
+pub same_or : (f g : TimerFlags) → any_flag g ≡ false → f ≡ flags_or f g
+same_or f g e = sym (flags_or-none f g e)

@@ -1,6 +1,6 @@
 -- The counter of a timer, clock by clock and cycle by cycle (ATmega128 datasheet, "8-bit Timer/Counter0" and "16-bit
 -- Timer/Counter": counter unit, output compare unit, modes of operation).
-use Rattle.std.specs.Prelude.{ℕ, ◌==◌, ◌&&◌, not, if◌then◌else◌, Bool, true, false, Option, Some, None}
+use Rattle.std.specs.Prelude.{ℕ, ◌==◌, ◌&&◌, not, if◌then◌else◌, Bool, false, Option, Some, None}
 use Rattle.device_clocks.specs.declared.flags.TimerFlags.{TimerFlags}
 use Rattle.device_clocks.specs.declared.timer_counter.TimerCounter.{TimerCounter}
 use Rattle.device_clocks.specs.Clock.{prescaled, sets_at}

@@ -18,7 +18,7 @@ pub struct TimerFlags {
 }
 
 impl TimerFlags {
-    ghost use Rattle.device_clocks.specs.Flags.{flags_or, flags_without};
+    ghost use Rattle.device_clocks.specs.Flags.{any_flag, flags_or, flags_without};
 
     /// No flag.
     pub const NONE: TimerFlags = TimerFlags {
@@ -29,10 +29,23 @@ impl TimerFlags {
         icr: false,
     };
 
-    /// The flags that are set here or in `more`.
+    // Whether one is set.
+    #[inline(always)]
+    fn any(self) -> bool
+        ensures { result ≡ any_flag self }
+    {
+        self.over || self.comp_a || self.comp_b || self.comp_c || self.icr
+    }
+
+    /// The flags that are set here or in `more`. Most clocks of a counter set none.
+    #[inline(always)]
+    #[tactic(auto, using(crate::proofs::Calm::same_or))]
     pub fn or(self, more: TimerFlags) -> TimerFlags
         ensures { result ≡ flags_or self more }
     {
+        if !more.any() {
+            return self;
+        }
         TimerFlags {
             over: self.over || more.over,
             comp_a: self.comp_a || more.comp_a,

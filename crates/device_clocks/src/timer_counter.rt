@@ -5,8 +5,8 @@ ghost use Rattle.device_clocks.specs.First.{First};
 ghost use Rattle.device_clocks.specs.Timer.{meets};
 
 use crate::{
-    Prescaler, TimerFlags, clocks_until, count_after, cycle_of_clock, earlier,
-    flag_after, has_clock, stepped,
+    Prescaler, TimerFlags, clocks_until, count_after, cycle_of_clock, earlier, flag_after,
+    has_clock, stepped,
 };
 
 /// The counter of a timer of eight or sixteen bits, behind its prescaler, which counts from 0 in cycle 0 and is never

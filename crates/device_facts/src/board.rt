@@ -130,7 +130,9 @@ fn do_node(devices: &mut CoreAndBoard, words: &[&str]) -> Option<Answer> {
     match words {
         ["lines"] => Some(Answer::Lines(devices.board.lines().bits)),
         ["enter", word] => {
-            devices.board.entered(Vector { word: address(word)? });
+            devices.board.entered(Vector {
+                word: address(word)?,
+            });
             Some(Answer::Done)
         }
         ["sleep"] => Some(Answer::Sleep(devices.board.sleep_mode())),

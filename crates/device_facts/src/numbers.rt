@@ -20,7 +20,11 @@ pub fn byte(word: &str) -> Option<u8> {
 /// An address of four hexadecimal digits.
 pub fn address(word: &str) -> Option<u16> {
     let (high, low) = word.split_at_checked(2)?;
-    Some(u16::from(byte(high)?).wrapping_mul(256).wrapping_add(u16::from(byte(low)?)))
+    Some(
+        u16::from(byte(high)?)
+            .wrapping_mul(256)
+            .wrapping_add(u16::from(byte(low)?)),
+    )
 }
 
 /// A decimal number of 16 bits.

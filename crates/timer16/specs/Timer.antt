@@ -1,6 +1,6 @@
 -- The 16-bit timers, cycle by cycle (ATmega128 datasheet, "16-bit Timer/Counter (Timer/Counter1 and
 -- Timer/Counter3)"): after reset, their counter, and the flags.
-use Rattle.std.specs.Prelude.{ℕ, if◌then◌else◌, Bool, true, false, Option, Some, None}
+use Rattle.std.specs.Prelude.{ℕ, if◌then◌else◌, Bool, true, false, Some, None}
 use Rattle.device_clocks.specs.declared.flags.TimerFlags.{TimerFlags}
 use Rattle.device_clocks.specs.declared.prescaler.Prescaler.TheVariants.{Shared}
 use Rattle.device_clocks.specs.declared.timer_counter.TimerCounter.{TimerCounter}

@@ -1,4 +1,4 @@
-use Rattle.std.proofs.Common.{◌≡◌, ℕ, ◌-◌, ◌+◌, true, sym, subst, arith}
+use Rattle.std.proofs.Common.{◌≡◌, ℕ, ◌-◌, true, subst, arith}
 use Rattle.board_io.proofs.Steady.{before_8, halted_8}
 use Rattle.timer8.specs.Timer.{sets_flag_at}
 use Rattle.board_io.proofs.passing.same_flags_8.Goals as goal

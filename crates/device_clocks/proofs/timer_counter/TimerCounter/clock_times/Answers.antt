@@ -1,4 +1,4 @@
-use Rattle.std.proofs.Common.{◌≡◌, ℕ, ◌-◌, ◌<◌, sym, ap, ◌∙◌, arith}
+use Rattle.std.proofs.Common.{◌≡◌, ◌-◌, ◌<◌, sym, ap, ◌∙◌, arith}
 use Rattle.device_clocks.specs.Clock.{many}
 use Rattle.device_clocks.proofs.Cycles.{many-after, many-zero}
 use Rattle.device_clocks.specs.Timer.{clock}
