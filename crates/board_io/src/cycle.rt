@@ -32,6 +32,7 @@ impl Begun {
 }
 
 // A cycle of a timer. Most are halted: one test.
+#[inline(always)]
 #[tactic(auto, using(crate::proofs::Halted::halted_8))]
 fn tick_8(timer: &mut Timer8, cycle: u64)
     requires { cycle ≤ 2 ^ 41 }
@@ -43,6 +44,7 @@ fn tick_8(timer: &mut Timer8, cycle: u64)
 }
 
 // A cycle of a timer of sixteen bits.
+#[inline(always)]
 #[tactic(auto, using(crate::proofs::Halted::halted_16))]
 fn tick_16(timer: &mut Timer16, cycle: u64)
     requires { cycle ≤ 2 ^ 41 }

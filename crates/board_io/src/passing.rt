@@ -30,7 +30,7 @@ fn cycles_before(end: Option<u64>, cycle: u64, most: u64) -> u64
 }
 
 // The cycles of a timer at once. Most are halted: one test.
-#[inline]
+#[inline(always)]
 #[tactic(auto, using(crate::proofs::Steady::stopped_8))]
 fn leap_8(timer: &mut Timer8, cycle: u64, n: u64)
     requires { cycle + n ≤ 2 ^ 41 }
@@ -42,7 +42,7 @@ fn leap_8(timer: &mut Timer8, cycle: u64, n: u64)
 }
 
 // The cycles of a timer of sixteen bits at once.
-#[inline]
+#[inline(always)]
 #[tactic(auto, using(crate::proofs::Steady::stopped_16))]
 fn leap_16(timer: &mut Timer16, cycle: u64, n: u64)
     requires { cycle + n ≤ 2 ^ 41 }
@@ -54,7 +54,7 @@ fn leap_16(timer: &mut Timer16, cycle: u64, n: u64)
 }
 
 // For how many cycles from `cycle` on, of at most `most`, each begins with the flags that the timer has now.
-#[inline]
+#[inline(always)]
 #[tactic(auto, using(crate::proofs::Steady::halted_8))]
 fn same_flags_8(timer: &Timer8, cycle: u64, most: u64) -> u64
     requires { cycle ≤ 2 ^ 40 }
@@ -73,7 +73,7 @@ fn same_flags_8(timer: &Timer8, cycle: u64, most: u64) -> u64
 }
 
 // The same of a timer of sixteen bits.
-#[inline]
+#[inline(always)]
 #[tactic(auto, using(crate::proofs::Steady::halted_16))]
 fn same_flags_16(timer: &Timer16, cycle: u64, most: u64) -> u64
     requires { cycle ≤ 2 ^ 40 }

@@ -24,6 +24,9 @@ pub fn load<B: Bus>(cpu: &mut Cpu, bus: &mut B, at: u16) -> Result<u8, StopCause
     ensures core { cpu.new ≡ (loaded B.get_gives at cpu.old bus.old).cpu }
     ensures bus { bus.new ≡ (loaded B.get_gives at cpu.old bus.old).bus }
 {
+    if at > SREG {
+        return bus.get(at);
+    }
     match at {
         0..=0x1F => Ok(cpu.reg(Reg::numbered(at as u8))),
         RAMPZ => Ok(u8::from(cpu.rampz)),
@@ -43,6 +46,9 @@ pub fn store<B: Bus>(cpu: &mut Cpu, bus: &mut B, at: u16, b: u8) -> Result<(), S
     ensures core { cpu.new ≡ (stored B.put_gives at b cpu.old bus.old).cpu }
     ensures bus { bus.new ≡ (stored B.put_gives at b cpu.old bus.old).bus }
 {
+    if at > SREG {
+        return bus.put(at, b);
+    }
     match at {
         0..=0x1F => cpu.set_reg(Reg::numbered(at as u8), b),
         RAMPZ => cpu.rampz = b % 2 == 1,

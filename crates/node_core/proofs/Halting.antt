@@ -1,20 +1,16 @@
 -- An instruction that halts the node changes nothing else.
-use Rattle.std.proofs.Common.{◌≡◌, ◌∙◌, ◌&&◌, if◌then◌else◌, ℕ, Bool, true, false, List, Some, refl, ap}
+use Rattle.std.proofs.Common.{◌≡◌, ℕ, Bool, true, false, Some, refl, ap}
 use Rattle.std.proofs.lemmas.Bool.{false≢true}
 use Rattle.avr_base.specs.declared.stop.StopCause.{StopCause}
-use Rattle.avr_base.specs.declared.stop.StopCause.TheVariants as stop
 use Rattle.avr_decoder.specs.Class.{class_of}
 use Rattle.avr_decoder.specs.declared.op.Class.{Class}
 use Rattle.avr_decoder.specs.declared.op.Class.TheVariants as class
 use Rattle.avr_decoder.specs.declared.op.Op.{Op}
 use Rattle.avr_decoder.specs.declared.op.Op.TheVariants as op
-use Rattle.board_io.specs.Board.{sleep_mode}
-use Rattle.trace_rows.specs.declared.row.Row.{Row}
 use Rattle.trace_rows.specs.declared.row.Kind.TheVariants as kind
 use Rattle.node_core.specs.declared.machine.Machine.{Machine}
-use Rattle.node_core.specs.Bus.{bus_at}
-use Rattle.node_core.specs.Cycle.{after_instruction, instructed, instructed_rows, instruction_rows, is_other, is_sleep, op_now, row}
-use Rattle.node_core.specs.Execute.{executed, executed_by}
+use Rattle.node_core.specs.Cycle.{instructed, instructed_rows, is_sleep, op_now, row}
+use Rattle.node_core.specs.Execute.{executed}
 use Rattle.node_core.specs.Shown.{shown}
 use Rattle.node_core.specs.State.{NodeState}
 

@@ -1,4 +1,4 @@
-use Rattle.std.proofs.Common.{◌≡◌, ℕ, ◌+◌, ◌-◌, ◌<◌, None, false, is_some, refl, add-zero, sym, subst, ap, ◌∙◌, arith}
+use Rattle.std.proofs.Common.{◌≡◌, ℕ, ◌+◌, ◌-◌, None, false, is_some, refl, add-zero, sym, subst, ap, ◌∙◌, arith}
 use Rattle.std.specs.Prelude.{vec_len, vec_capacity}
 use Rattle.trace_rows.specs.declared.row.Row.{Row}
 use Rattle.usart_port.specs.Script.{ScriptBytes, script_byte}
