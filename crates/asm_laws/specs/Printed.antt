@@ -1,0 +1,37 @@
+-- What the text of an instruction that is printed assembles to.
+use Rattle.std.specs.Prelude.{ℕ, List, Option, Some, Result}
+use Rattle.avr_decoder.specs.declared.op.Op.{Op}
+use Rattle.avr_decoder.specs.declared.op.Op.TheVariants as op
+use Rattle.avr_decoder.specs.Opcodes.{op_at}
+use Rattle.avr_disassembler.specs.Text.{shown, operand_text}
+use Rattle.avr_disassembler.specs.declared.parts.Operands.{Operands}
+use Rattle.avr_disassembler.specs.declared.parts.Operands.TheVariants as printed
+use Rattle.asm_lines.specs.Line.{Texts, Zero, One, Two}
+use Rattle.asm_words.specs.Encoded.{encoded, piece}
+use Rattle.asm_words.specs.declared.labels.Label.{Label}
+use Rattle.asm_words.specs.declared.instruction.Piece.{Piece}
+use Rattle.asm_words.specs.declared.instruction.WordFault.{WordFault}
+
+-- where each label stands first
+abbrev pub Labels : Type 0
+Labels = List ℕ → Option Label
+
+-- the texts of printed operands, as a line of a source has them
+abbrev pub texts : Operands → Texts
+texts printed.Zero = Zero
+texts (printed.One a) = One (operand_text a)
+texts (printed.Two a b) = Two (operand_text a) (operand_text b)
+
+-- what the printed mnemonic and operands of an instruction assemble to, at a word address and with these labels
+abbrev pub assembled : Op → ℕ → Labels → Result Piece WordFault
+assembled instruction at labels = encoded (shown instruction).mnemonic (texts (shown instruction).operands) at labels
+
+-- the first word of an instruction, with the ignored bits of JMP and CALL 0
+abbrev pub without_ignored : Op → ℕ → ℕ
+without_ignored (op.Jmp k) word = 0x940C
+without_ignored (op.Call k) word = 0x940E
+without_ignored _ word = word
+
+-- the words of an instruction of two
+abbrev pub two_words : ℕ → ℕ → Piece
+two_words word next = piece (without_ignored (op_at word next) word) (Some next)
