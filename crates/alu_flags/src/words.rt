@@ -15,7 +15,10 @@ pub fn adiw(a: u16, k: u8, s: Sreg) -> (u16, Sreg)
     let sum = u32::from(a) + u32::from(k);
     let r = (sum % 65536) as u16;
     let v = overflows_word(signed_word(a) + i32::from(k));
-    (r, signs(s.with(Sreg::C, sum >= 65536), r >= 32768, r == 0, v))
+    (
+        r,
+        signs(s.with(Sreg::C, sum >= 65536), r >= 32768, r == 0, v),
+    )
 }
 
 /// SBIW: `a - k` modulo 65,536, and C, Z, N, V and S of that difference; H, T and I stay.

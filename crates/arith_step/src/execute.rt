@@ -5,8 +5,8 @@ ghost use Rattle.avr_decoder.specs.declared.op.Class.TheVariants.{Arith};
 ghost use Rattle.arith_step.specs.Table.{arith_cpu, arith_cycles, arith_done, effect};
 
 use crate::shapes::{
-    add, compare, compare_with_carry, copy, copy_pair, load_bit, multiply, put_bits, put_byte, put_word,
-    set_flag, store_bit, subtract, subtract_with_carry, swap,
+    add, compare, compare_with_carry, copy, copy_pair, load_bit, multiply, put_bits, put_byte,
+    put_word, set_flag, store_bit, subtract, subtract_with_carry, swap,
 };
 use alu_flags::{MulKind, adiw, asr, com, dec, inc, lsr, neg, ror, sbiw};
 use avr_base::Sreg;

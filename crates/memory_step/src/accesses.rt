@@ -69,7 +69,12 @@ pub fn load_at<B: Bus>(
 // LD rD, P+.
 #[inline]
 #[tactic(auto, unfolding(crate::specs::Shapes::loads_post_increment))]
-pub fn load_post_increment<B: Bus>(d: Reg, p: Reg, cpu: &mut Cpu, bus: &mut B) -> Result<Done, StopCause>
+pub fn load_post_increment<B: Bus>(
+    d: Reg,
+    p: Reg,
+    cpu: &mut Cpu,
+    bus: &mut B,
+) -> Result<Done, StopCause>
     ensures result { result ≡ (loads_post_increment B.get_gives d p cpu.old bus.old).result }
     ensures core { cpu.new ≡ (loads_post_increment B.get_gives d p cpu.old bus.old).cpu }
     ensures bus { bus.new ≡ (loads_post_increment B.get_gives d p cpu.old bus.old).bus }
@@ -86,7 +91,12 @@ pub fn load_post_increment<B: Bus>(d: Reg, p: Reg, cpu: &mut Cpu, bus: &mut B) -
 // A load at a pointer that is lowered for it, and stays as it was where the load stops.
 #[inline]
 #[tactic(auto, unfolding(crate::specs::Shapes::loads_pre_decrement))]
-pub fn load_pre_decrement<B: Bus>(d: Reg, p: Reg, cpu: &mut Cpu, bus: &mut B) -> Result<Done, StopCause>
+pub fn load_pre_decrement<B: Bus>(
+    d: Reg,
+    p: Reg,
+    cpu: &mut Cpu,
+    bus: &mut B,
+) -> Result<Done, StopCause>
     ensures result { result ≡ (loads_pre_decrement B.get_gives d p cpu.old bus.old).result }
     ensures core { cpu.new ≡ (loads_pre_decrement B.get_gives d p cpu.old bus.old).cpu }
     ensures bus { bus.new ≡ (loads_pre_decrement B.get_gives d p cpu.old bus.old).bus }
@@ -131,7 +141,12 @@ pub fn store_at<B: Bus>(
 // ST P+, rR. The store may be to the pointer itself, which then is one higher than it was all the same.
 #[inline]
 #[tactic(auto, unfolding(crate::specs::Shapes::stores_post_increment))]
-pub fn store_post_increment<B: Bus>(p: Reg, r: Reg, cpu: &mut Cpu, bus: &mut B) -> Result<Done, StopCause>
+pub fn store_post_increment<B: Bus>(
+    p: Reg,
+    r: Reg,
+    cpu: &mut Cpu,
+    bus: &mut B,
+) -> Result<Done, StopCause>
     ensures result { result ≡ (stores_post_increment B.put_gives p r cpu.old bus.old).result }
     ensures core { cpu.new ≡ (stores_post_increment B.put_gives p r cpu.old bus.old).cpu }
     ensures bus { bus.new ≡ (stores_post_increment B.put_gives p r cpu.old bus.old).bus }
@@ -148,7 +163,12 @@ pub fn store_post_increment<B: Bus>(p: Reg, r: Reg, cpu: &mut Cpu, bus: &mut B) 
 // ST -P, rR: the pointer stays as it was where the store stops.
 #[inline]
 #[tactic(auto, unfolding(crate::specs::Shapes::stores_pre_decrement))]
-pub fn store_pre_decrement<B: Bus>(p: Reg, r: Reg, cpu: &mut Cpu, bus: &mut B) -> Result<Done, StopCause>
+pub fn store_pre_decrement<B: Bus>(
+    p: Reg,
+    r: Reg,
+    cpu: &mut Cpu,
+    bus: &mut B,
+) -> Result<Done, StopCause>
     ensures result { result ≡ (stores_pre_decrement B.put_gives p r cpu.old bus.old).result }
     ensures core { cpu.new ≡ (stores_pre_decrement B.put_gives p r cpu.old bus.old).cpu }
     ensures bus { bus.new ≡ (stores_pre_decrement B.put_gives p r cpu.old bus.old).bus }

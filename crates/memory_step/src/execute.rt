@@ -5,10 +5,12 @@ ghost use Rattle.avr_decoder.specs.declared.op.Class.TheVariants.{Memory};
 ghost use Rattle.memory_step.specs.Table.{memory_effect};
 
 use crate::accesses::{
-    displaced, io, load_at, load_pre_decrement, load_post_increment, pop_reg, push_reg, set_bit, store_at, store_pre_decrement,
-    store_post_increment,
+    displaced, io, load_at, load_post_increment, load_pre_decrement, pop_reg, push_reg, set_bit,
+    store_at, store_post_increment, store_pre_decrement,
 };
-use crate::flash::{load_program, load_extended, load_extended_post_increment, load_program_post_increment};
+use crate::flash::{
+    load_extended, load_extended_post_increment, load_program, load_program_post_increment,
+};
 use avr_base::{Reg, StopCause};
 use avr_decoder::Op;
 use data_space::{Bus, Cpu, Done};

@@ -7,8 +7,8 @@ mod gates;
 mod runs;
 
 use gates::{BothBegin, FirstIsLate, LastTurn, SecondIsLate, Told};
-use runs::{write_call, write_rows};
 use memory_calls::Failed;
+use runs::{write_call, write_rows};
 use sim_io::{Sink, write_all};
 use std::fs::Files;
 use std::sync::Wait;
