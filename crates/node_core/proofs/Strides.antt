@@ -7,10 +7,10 @@ use Rattle.trace_rows.specs.declared.row.Row.{Row}
 use Rattle.usart_port.specs.Script.{script_byte}
 use Rattle.world_core.specs.NodeRun.{Comes, Timed, passed_rows}
 use Rattle.world_core.proofs.QuietCycles.{comes_step}
-use Rattle.node_core.specs.declared.machine.Air.{Air}
+use Rattle.node_core.specs.declared.machine.OnAir.{OnAir}
 use Rattle.node_core.specs.Bus.{with_board}
 use Rattle.node_core.specs.Cycle.{asks_after, asks_in, begun_in, begun_rows, cpu_cycle, cpu_rows, device_rows, devices_cycle, node_kind, sends_after, sends_in}
-use Rattle.node_core.specs.Inside.{IsAir, IsCalm, IsPassed}
+use Rattle.node_core.specs.Inside.{IsCalm, IsOnAir, IsPassed}
 use Rattle.node_core.specs.Midway.{IsMidway}
 use Rattle.node_core.specs.State.{NodeState}
 use Rattle.node_core.proofs.Cycles.{asks_calm, asks_parts, begun_calm, begun_parts, rows_calm, rows_parts, sends_calm, sends_parts}
@@ -108,8 +108,8 @@ module _ (v : Timed NodeState Row) (c : ℕ) (u : NodeState) (k : List Row) (h :
       e ∙ ((λ i. h.told i ++ device_rows c (h.part i))
       ∙ (append_assoc h.rows (cpu_rows c h.state) (device_rows c (cpu_cycle c h.state)) ∙ ap (λ (l : List Row). h.rows ++ l) (sym (rows_parts c h.state h.going))))
 
-  pub ended_air : (a : Air) → IsAir (asks_after c u) (sends_after c u) a → IsAir (asks_in c h.state) (sends_in c h.state) a
+  pub ended_air : (a : OnAir) → IsOnAir (asks_after c u) (sends_after c u) a → IsOnAir (asks_in c h.state) (sends_in c h.state) a
   ended_air a air =
-      subst (λ (o : Option ℕ). IsAir (asks_in c h.state) o a) (sym (sends_parts c h.state h.going))
-      (subst (λ (b : Bool). IsAir b (sends_after c (cpu_cycle c h.state)) a) (sym (asks_parts c h.state h.going))
-      (subst (λ (x : NodeState). IsAir (asks_after c x) (sends_after c x) a) h.part air))
+      subst (λ (o : Option ℕ). IsOnAir (asks_in c h.state) o a) (sym (sends_parts c h.state h.going))
+      (subst (λ (b : Bool). IsOnAir b (sends_after c (cpu_cycle c h.state)) a) (sym (asks_parts c h.state h.going))
+      (subst (λ (x : NodeState). IsOnAir (asks_after c x) (sends_after c x) a) h.part air))

@@ -4,7 +4,7 @@ ghost use Rattle.node_core.specs.Cycle.{acted, acted_rows, asks_after, asks_in, 
 ghost use Rattle.avr_decoder.specs.Class.{class_of};
 ghost use Rattle.avr_decoder.specs.declared.op.Class.TheVariants as class;
 ghost use Rattle.trace_rows.specs.declared.row.Kind.TheVariants as kind;
-ghost use Rattle.node_core.specs.Inside.{IsAir, IsGoing};
+ghost use Rattle.node_core.specs.Inside.{IsOnAir, IsGoing};
 ghost use Rattle.node_core.specs.Interrupts.{due};
 ghost use Rattle.node_core.specs.Shown.{shown};
 ghost use Rattle.usart_port.specs.Script.{script_byte};
@@ -17,7 +17,7 @@ use crate::NodeBus;
 use crate::execute::{access, compute, go_on};
 use crate::interrupts::enter;
 use crate::rows::{is_within, put_row, tell, tell_instruction, unless_told};
-use avr_base::StopCause;
+use avr_base::{Sreg, StopCause};
 use avr_decoder::{Class, Op};
 use avr_program::Program;
 use board_io::Sleep;
@@ -124,21 +124,21 @@ fn owes_after_compute(op: &Op, before: u8, after: u8) -> bool
 }
 
 // What the radio does in a cycle, by whether it samples the air and what it sends.
-fn in_the_air(asks: bool, sent: Option<u8>) -> Air
-    ensures { IsAir asks sent result }
+fn in_the_air(asks: bool, sent: Option<u8>) -> OnAir
+    ensures { IsOnAir asks sent result }
 {
     if asks {
-        return Air::Asks;
+        return OnAir::Asks;
     }
     match sent {
-        Some(byte) => Air::Sent { byte },
-        None => Air::Quiet,
+        Some(byte) => OnAir::Sent { byte },
+        None => OnAir::Quiet,
     }
 }
 
 /// What the radio does in a cycle.
 #[derive(Clone, Copy, Debug, PartialEq, Eq)]
-pub enum Air {
+pub enum OnAir {
     /// Nothing.
     Quiet,
     /// It sends a byte.
@@ -364,7 +364,7 @@ impl Machine {
     pub fn due(&self) -> Option<Vector>
         ensures { result ≡ due (shown self.now) }
     {
-        if self.cpu.sreg.has(7) {
+        if self.cpu.sreg.has(Sreg::I) {
             self.pending()
         } else {
             None
@@ -471,14 +471,14 @@ impl Machine {
 
     // The devices' part of a cycle, up to its sample.
     #[tactic(auto, unfolding(crate::specs::Cycle::devices_cycle, crate::specs::Cycle::device_rows, crate::specs::Cycle::asks_after, crate::specs::Cycle::sends_after))]
-    fn move_devices(&mut self, cycle: u64) -> Air
+    fn move_devices(&mut self, cycle: u64) -> OnAir
         requires going { self.old.stop ≡ None }
         requires now { self.old.bus.board.clock ≡ cycle }
         requires early { cycle < 2 ^ 40 }
         requires room { vec_len self.old.rows + 2 ≤ vec_capacity self.old.rows }
         ensures state { shown self.new ≡ devices_cycle cycle (shown self.old) }
         ensures rows { self.new.rows.items ≡ self.old.rows.items ++ device_rows cycle (shown self.old) }
-        ensures air { IsAir (asks_after cycle (shown self.old)) (sends_after cycle (shown self.old)) result }
+        ensures air { IsOnAir (asks_after cycle (shown self.old)) (sends_after cycle (shown self.old)) result }
         ensures waits { asks_after cycle (shown self.old) ≡ true → is_some self.new.bus.board.spi.transfer ≡ true }
         ensures used { vec_len self.new.rows ≤ vec_len self.old.rows + 2 }
         ensures room { vec_capacity self.new.rows ≡ vec_capacity self.old.rows }
@@ -507,13 +507,13 @@ impl Machine {
     /// The devices' part of a cycle up to its sample, which a node that stopped in this cycle does not reach. There is
     /// room for its rows, also for that of the sample.
     #[tactic(auto, unfolding(crate::specs::Cycle::devices_cycle, crate::specs::Cycle::device_rows, crate::specs::Cycle::asks_after, crate::specs::Cycle::sends_after))]
-    pub fn conclude(&mut self, cycle: u64) -> Air
+    pub fn conclude(&mut self, cycle: u64) -> OnAir
         requires now { self.old.bus.board.clock ≡ cycle }
         requires early { cycle < 2 ^ 40 }
         requires room { vec_len self.old.rows + 3 ≤ vec_capacity self.old.rows }
         ensures state { shown self.new ≡ devices_cycle cycle (shown self.old) }
         ensures rows { self.new.rows.items ≡ self.old.rows.items ++ device_rows cycle (shown self.old) }
-        ensures air { IsAir (asks_after cycle (shown self.old)) (sends_after cycle (shown self.old)) result }
+        ensures air { IsOnAir (asks_after cycle (shown self.old)) (sends_after cycle (shown self.old)) result }
         ensures waits { asks_after cycle (shown self.old) ≡ true → is_some self.new.bus.board.spi.transfer ≡ true }
         ensures room { vec_len self.new.rows < vec_capacity self.new.rows }
         ensures count { self.new.count ≡ self.old.count }
@@ -521,7 +521,7 @@ impl Machine {
         ensures clock { self.old.stop ≡ None → self.new.bus.board.clock ≡ cycle + 1 }
     {
         if self.stop.is_some() {
-            return Air::Quiet;
+            return OnAir::Quiet;
         }
         self.move_devices(cycle)
     }

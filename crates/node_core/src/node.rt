@@ -6,7 +6,7 @@ ghost use Rattle.node_core.specs.Cycle.{node_kind, end_row};
 ghost use Rattle.node_core.specs.Reached.{IsReached};
 
 use crate::NodeBus;
-use crate::machine::{Air, Machine};
+use crate::machine::{Machine, OnAir};
 use avr_base::{NoMemory, StopCause};
 use avr_program::Program;
 use data_space::Cpu;
@@ -117,12 +117,12 @@ impl Node {
             }
             let at = at + self.machine.stride(at, cycle - at);
             match self.machine.conclude(at) {
-                Air::Quiet => self.cycle = at + 1,
-                Air::Sent { byte } => {
+                OnAir::Quiet => self.cycle = at + 1,
+                OnAir::Sent { byte } => {
                     self.cycle = at + 1;
                     return Reached::Sent { cycle: at, byte };
                 }
-                Air::Asks => {
+                OnAir::Asks => {
                     self.cycle = at;
                     self.asking = true;
                     return Reached::Ask { cycle: at };

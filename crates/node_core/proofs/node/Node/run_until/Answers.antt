@@ -4,7 +4,7 @@ use Rattle.world_core.specs.NodeRun.{Timed, Comes}
 use Rattle.world_core.proofs.QuietCycles.{comes_none, running_next}
 use Rattle.node_core.specs.State.{NodeState}
 use Rattle.node_core.specs.Shown.{shown}
-use Rattle.node_core.specs.Inside.{IsAir, IsWhole}
+use Rattle.node_core.specs.Inside.{IsOnAir, IsWhole}
 use Rattle.node_core.specs.Midway.{IsMidway}
 use Rattle.node_core.specs.Cycle.{asks_in, node_kind, sends_in}
 use Rattle.node_core.proofs.Runs.{begun_comes, rested_comes}
@@ -60,7 +60,7 @@ loop-self-preserved c =
     let mid : IsMidway v there u c.stride.new.self.rows.items =
     joined v at there (shown c.make_room.new.self) u c.make_room.new.self.rows.items c.stride.new.self.rows.items kept c.stride.ensures.midway in
     let b = c.conclude.ensures in
-    let air = subst (λ a. IsAir (asks_in there mid.state) (sends_in there mid.state) a) c.in-Quiet.is (ended_air v there u c.stride.new.self.rows.items mid c.conclude.result b.air) in
+    let air = subst (λ a. IsOnAir (asks_in there mid.state) (sends_in there mid.state) a) c.in-Quiet.is (ended_air v there u c.stride.new.self.rows.items mid c.conclude.result b.air) in
     let state = ended v there u c.stride.new.self.rows.items mid w b.state in
     let rows = ended_rows v there u c.stride.new.self.rows.items mid c.conclude.new.self.rows.items b.rows in
     record {
@@ -90,7 +90,7 @@ returns-in-Sent c =
     let mid : IsMidway v there u c.stride.new.self.rows.items =
     joined v at there (shown c.make_room.new.self) u c.make_room.new.self.rows.items c.stride.new.self.rows.items kept c.stride.ensures.midway in
     let b = c.conclude.ensures in
-    let air = subst (λ a. IsAir (asks_in there mid.state) (sends_in there mid.state) a) c.in-Sent.is (ended_air v there u c.stride.new.self.rows.items mid c.conclude.result b.air) in
+    let air = subst (λ a. IsOnAir (asks_in there mid.state) (sends_in there mid.state) a) c.in-Sent.is (ended_air v there u c.stride.new.self.rows.items mid c.conclude.result b.air) in
     let state = ended v there u c.stride.new.self.rows.items mid w b.state in
     let rows = ended_rows v there u c.stride.new.self.rows.items mid c.conclude.new.self.rows.items b.rows in (
       omega (arith, e.within, c.stride.ensures.within),
@@ -122,7 +122,7 @@ returns-in-Asks c =
     let mid : IsMidway v there u c.stride.new.self.rows.items =
     joined v at there (shown c.make_room.new.self) u c.make_room.new.self.rows.items c.stride.new.self.rows.items kept c.stride.ensures.midway in
     let b = c.conclude.ensures in
-    let air = subst (λ a. IsAir (asks_in there mid.state) (sends_in there mid.state) a) c.in-Asks.is (ended_air v there u c.stride.new.self.rows.items mid c.conclude.result b.air) in
+    let air = subst (λ a. IsOnAir (asks_in there mid.state) (sends_in there mid.state) a) c.in-Asks.is (ended_air v there u c.stride.new.self.rows.items mid c.conclude.result b.air) in
     let state = ended v there u c.stride.new.self.rows.items mid w b.state in
     let rows = ended_rows v there u c.stride.new.self.rows.items mid c.conclude.new.self.rows.items b.rows in (
       omega (arith, e.within, c.stride.ensures.within),
