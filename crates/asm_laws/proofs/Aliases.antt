@@ -1,23 +1,19 @@
 -- Aliases, each against its long form.
-use Rattle.std.proofs.Common.{◌≡◌, ℕ, ◌+◌, ◌-◌, ◌*◌, ◌%◌, ◌/◌, ◌<◌, ◌≤◌, ◌==◌, ◌&&◌, ◌||◌, not, is_some, Bool, true, false, List, [], ◌∷◌, Option, Some, None, IfSome, Result, Ok, Err, inl, inr, refl, sym, ap, ◌∙◌, subst, arith, if◌then◌else◌}
+use Rattle.std.proofs.Common.{◌≡◌, ℕ, ◌+◌, ◌-◌, ◌*◌, ◌%◌, ◌/◌, ◌<◌, ◌==◌, ◌||◌, not, Bool, true, false, List, [], ◌∷◌, Option, Some, None, Result, Ok, Err, inl, inr, refl, sym, arith, if◌then◌else◌}
 use Rattle.std.specs.Prelude.{codes, nat_lt, nat_le}
-use Rattle.std.proofs.lemmas.Bool.{and_parts, not-true, not-false, eqb-true, cases_Bool}
+use Rattle.std.proofs.lemmas.Bool.{not-true, not-false, cases_Bool}
 use Rattle.std.proofs.lemmas.Bool.Decides.{nat_tests}
 use Rattle.avr_base.proofs.Computed.{all_from, all_from-at}
-use Rattle.avr_decoder.specs.Opcodes.{op_at, rows_at, bits_at}
-use Rattle.asm_lines.specs.Line.{One, Two}
-use Rattle.asm_words.specs.Encoded.{encoded, part, part_of, piece, bits_part, register_part, hop_part, reach_part, with_part, with_parts, checked, is_undefined}
+use Rattle.avr_decoder.specs.Opcodes.{op_at, rows_at}
+use Rattle.asm_words.specs.Encoded.{encoded, part, part_of, register_part, hop_part, reach_part, with_part, with_parts, is_undefined}
 use Rattle.asm_words.specs.Fields.{register_bits, number_bits, pointer, displaced_of}
 use Rattle.asm_words.specs.Number.{digit, digits_of, is_digit, number, register}
 use Rattle.asm_words.specs.Opcodes.{bare, one_plain, one_alias, two_registers, two_narrow, two_signed, two_constant, two_memory, two_bits}
 use Rattle.asm_words.specs.Target.{hop, hop_of, reach}
 use Rattle.asm_words.specs.declared.target.Hop.{Hop}
 use Rattle.asm_words.specs.declared.form.RegisterField.TheVariants.{Middle, Split, Both}
-use Rattle.asm_words.specs.declared.operand.Part.{Part}
-use Rattle.asm_words.specs.declared.instruction.Piece.{Piece}
 use Rattle.asm_words.specs.declared.instruction.WordFault.{WordFault}
 use Rattle.asm_words.specs.declared.instruction.WordFault.TheVariants.{OutOfReach}
-use Rattle.asm_laws.specs.Printed.{Labels}
 use Rattle.asm_laws.specs.Aliases.{IsBare, IsBranch, IsTwice, IsLoad, IsStore}
 
 -- without operands, and pointers: by computing

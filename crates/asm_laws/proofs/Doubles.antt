@@ -1,8 +1,8 @@
 -- The printed text of each instruction of two words assembles to those words.
-use Rattle.std.proofs.Common.{◌≡◌, ℕ, ◌+◌, ◌-◌, ◌*◌, ◌/◌, ◌%◌, ◌<◌, ◌≤◌, ◌==◌, ◌&&◌, ◌||◌, not, min, is_some, Bool, true, false, List, [], ◌∷◌, ◌++◌, Option, Some, None, Result, Ok, Err, inl, inr, refl, sym, ap, ◌∙◌, subst, arith}
+use Rattle.std.proofs.Common.{◌≡◌, ℕ, ◌+◌, ◌*◌, ◌/◌, ◌%◌, ◌<◌, ◌≤◌, ◌==◌, ◌&&◌, not, min, is_some, Bool, true, false, List, [], ◌∷◌, ◌++◌, Option, Some, None, Result, Ok, Err, inl, inr, refl, sym, ap, ◌∙◌, arith}
 use Rattle.std.specs.Prelude.{codes, decimal, nat_lt}
 use Rattle.std.specs.Fmt.{digit_glyph, digits}
-use Rattle.std.proofs.lemmas.Bool.{and_parts, not-true, eqb-true, cases_Bool, cases_lt}
+use Rattle.std.proofs.lemmas.Bool.{and_parts, eqb-true, cases_Bool, cases_lt}
 use Rattle.std.proofs.lemmas.Bool.Decides.{nat_tests}
 use Rattle.avr_base.proofs.Computed.{all_from, all_from-at}
 use Rattle.avr_decoder.specs.declared.op.Op.{Op}
@@ -16,13 +16,12 @@ use Rattle.avr_decoder.proofs.Widths.{by_fields, is_two_words-by_fields}
 use Rattle.avr_disassembler.specs.Text.{shown, operand_text}
 use Rattle.text_pieces.specs.Digits.{hex2, hex4}
 use Rattle.asm_lines.specs.Text.{is_label}
-use Rattle.asm_words.specs.Encoded.{encoded, part, part_of, piece, register_part, data_part, place_part, with_part, with_parts, checked, is_undefined, is_undefined_op}
+use Rattle.asm_words.specs.Encoded.{encoded, part, part_of, piece, register_part, data_part, with_part, with_parts, checked, is_undefined, is_undefined_op}
 use Rattle.asm_words.specs.Fields.{register_bits}
 use Rattle.asm_words.specs.Number.{digit, digits_from, digits_of, is_digit, number, register}
 use Rattle.asm_words.specs.Opcodes.{bare, one_plain, one_alias, two_registers, two_narrow, two_signed, two_constant, two_memory, two_bits}
 use Rattle.asm_words.specs.declared.form.RegisterField.TheVariants.{Middle}
 use Rattle.asm_words.specs.declared.operand.Part.{Part}
-use Rattle.asm_words.specs.declared.instruction.Piece.{Piece}
 use Rattle.asm_words.specs.declared.instruction.WordFault.{WordFault}
 use Rattle.asm_laws.specs.Printed.{Labels, assembled, two_words, without_ignored}
 

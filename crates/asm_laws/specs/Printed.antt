@@ -1,5 +1,5 @@
 -- What the text of an instruction that is printed assembles to.
-use Rattle.std.specs.Prelude.{ℕ, List, Option, Some, Result}
+use Rattle.std.specs.Prelude.{ℕ, List, Option, Some, None, Result}
 use Rattle.avr_decoder.specs.declared.op.Op.{Op}
 use Rattle.avr_decoder.specs.declared.op.Op.TheVariants as op
 use Rattle.avr_decoder.specs.Opcodes.{op_at}
@@ -32,6 +32,9 @@ without_ignored (op.Jmp k) word = 0x940C
 without_ignored (op.Call k) word = 0x940E
 without_ignored _ word = word
 
--- the words of an instruction of two
+-- the word of an instruction of one, and the words of one of two
+abbrev pub one_word : ℕ → Piece
+one_word word = piece word None
+
 abbrev pub two_words : ℕ → ℕ → Piece
 two_words word next = piece (without_ignored (op_at word next) word) (Some next)

@@ -1,17 +1,18 @@
-//! That what the disassembler prints of an instruction of two words assembles to it, and what aliases mean: laws about the
-//! definitions that assembler and disassembler are proved to compute. Each law is the contract of a function that does
-//! nothing.
+//! That what the disassembler prints of an instruction assembles to it, and what aliases mean: laws about the definitions
+//! that assembler and disassembler are proved to compute. Each law is the contract of a function that does nothing.
 #![tactic(auto)]
 
-ghost use Rattle.std.specs.Prelude.{◌≡◌, ◌<◌, ℕ, Ok, true, codes};
+ghost use Rattle.std.specs.Prelude.{◌≡◌, ◌<◌, ℕ, Ok, false, true, codes};
 ghost use Rattle.avr_decoder.specs.Opcodes.{is_two_words, op_at};
 ghost use Rattle.asm_laws.specs.Aliases.{IsBare, IsBranch, IsLoad, IsStore, IsTwice};
-ghost use Rattle.asm_laws.specs.Printed.{Labels, assembled, two_words, without_ignored};
+ghost use Rattle.asm_laws.specs.Printed.{Labels, assembled, one_word, two_words, without_ignored};
 
-/// The printed text of LDS, STS, JMP and CALL assembles to both of their words, whatever the second is, wherever the
-/// instruction stands and whatever the labels are; and those words decode to the instruction.
-pub fn two_word_law()
-    ensures words { (word next at : ℕ) (labels : Labels) → word < 65536 → next < 65536 → is_two_words word ≡ true
+/// The printed text of an instruction assembles to its words, whatever they are, wherever the instruction stands and whatever
+/// the labels are. Of JMP and CALL the ignored bits are 0 then; the words decode to the same instruction.
+pub fn instruction_law()
+    ensures one { (word next at : ℕ) (labels : Labels) → word < 65536 → is_two_words word ≡ false
+        → assembled (op_at word next) at labels ≡ Ok (one_word word) }
+    ensures two { (word next at : ℕ) (labels : Labels) → word < 65536 → next < 65536 → is_two_words word ≡ true
         → assembled (op_at word next) at labels ≡ Ok (two_words word next) }
     ensures same { (word next : ℕ) → word < 65536 → is_two_words word ≡ true
         → op_at (without_ignored (op_at word next) word) next ≡ op_at word next }

@@ -1,5 +1,5 @@
 -- The forms of accepted words, told apart.
-use Rattle.std.proofs.Common.{◌≡◌, ℕ, ◌≤◌, ◌&&◌, if◌then◌else◌, Bool, true, false, option_map, List, Option, Some, None, [], ◌∷◌, codes, refl, sym}
+use Rattle.std.proofs.Common.{◌≡◌, ℕ, ◌&&◌, if◌then◌else◌, Bool, true, false, option_map, List, Option, Some, None, [], ◌∷◌, codes, refl, sym}
 use Rattle.std.proofs.lemmas.Bool.{and_parts}
 use Rattle.std.proofs.lemmas.Slice.Eq.{bytes_eq-Decides}
 use Rattle.command_words.specs.Words.{Asked, Node, Run, RunPlain, Check, Disasm, Asm, Make, as_make, as_node, as_plain_run, asked_by, cycles_of, file_behind, is_file, is_word, or_else, sample_of, IsInLimits}

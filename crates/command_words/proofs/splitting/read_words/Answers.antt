@@ -1,5 +1,5 @@
-use Rattle.std.proofs.Common.{◌≡◌, map, Some}
-use Rattle.command_words.specs.Words.{asked_by, shown}
+use Rattle.std.proofs.Common.{map}
+use Rattle.command_words.specs.Words.{shown}
 use Rattle.command_words.proofs.Forms.{form_of, in_limits}
 use Rattle.command_words.proofs.splitting.read_words.Goals as goal
 
