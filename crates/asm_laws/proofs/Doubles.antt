@@ -7,7 +7,8 @@ use Rattle.std.proofs.lemmas.Bool.Decides.{nat_tests}
 use Rattle.avr_base.proofs.Computed.{all_from, all_from-at}
 use Rattle.avr_decoder.specs.declared.op.Op.{Op}
 use Rattle.avr_decoder.specs.declared.op.Op.TheVariants as op
-use Rattle.avr_decoder.specs.Opcodes.{op_at, bits_at, is_two_words}
+use Rattle.avr_decoder.specs.Opcodes.{op_at, bits_at}
+use Rattle.avr_decoder.specs.Words.{is_two_words}
 use Rattle.avr_decoder.proofs.Spelled.{middle}
 use Rattle.avr_decoder.proofs.Loads.{lds_at}
 use Rattle.avr_decoder.proofs.Stores.{sts_at}

@@ -3,7 +3,8 @@
 #![tactic(auto)]
 
 ghost use Rattle.std.specs.Prelude.{◌≡◌, ◌<◌, ℕ, Ok, false, true, codes};
-ghost use Rattle.avr_decoder.specs.Opcodes.{is_two_words, op_at};
+ghost use Rattle.avr_decoder.specs.Opcodes.{op_at};
+ghost use Rattle.avr_decoder.specs.Words.{is_two_words};
 ghost use Rattle.asm_laws.specs.Aliases.{IsBare, IsBranch, IsLoad, IsStore, IsTwice};
 ghost use Rattle.asm_laws.specs.Printed.{Labels, assembled, one_word, two_words, without_ignored};
 
