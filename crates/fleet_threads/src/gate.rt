@@ -9,7 +9,7 @@ pub trait Gate {
 }
 
 /// Holds nobody.
-#[derive(Clone, Copy, Debug, Default)]
+#[derive(Clone, Copy)]
 pub struct OpenGate;
 
 impl Gate for OpenGate {

@@ -25,7 +25,7 @@ pub struct Member {
 }
 
 /// What a node does at a sample while those that it hears are behind.
-#[derive(Clone, Copy, PartialEq, Eq)]
+#[derive(Clone, Copy)]
 pub enum Sampling {
     /// It waits, as a node does that has a thread of its own.
     Waits,

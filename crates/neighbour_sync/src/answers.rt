@@ -20,7 +20,7 @@ pub enum Tried {
 }
 
 /// The answer to a node that waits for its sample.
-#[derive(Clone, Copy, Debug, PartialEq, Eq)]
+#[derive(Clone, Copy)]
 pub enum Passed {
     /// What the node hears, which is recorded.
     Heard(Heard),

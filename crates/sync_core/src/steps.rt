@@ -1,7 +1,7 @@
 // The steps of the core, and why a list of them is refused.
 
 /// One step of the core.
-#[derive(Clone, Copy, Debug, PartialEq, Eq)]
+#[derive(Clone, Copy)]
 pub enum Step {
     /// A node raises its clock.
     Raise {
@@ -25,7 +25,7 @@ pub enum Step {
 }
 
 /// Why a list of steps is not replayed.
-#[derive(Clone, Copy, Debug, PartialEq, Eq)]
+#[derive(Clone, Copy)]
 pub enum ReplayFault {
     /// The step at this place, counted from 0, is the first that is not allowed.
     Illegal {
