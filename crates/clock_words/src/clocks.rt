@@ -8,7 +8,12 @@ use atomic_table::Table;
 use std::alloc::Global;
 use std::marker::Model;
 use std::snapshot::Snapshot;
+use std::sync::Wait;
+use std::time::Duration;
 use world_core::World;
+
+// The longest sleep of one call, in milliseconds: how late a halt is seen, and a raise behind which nobody was woken.
+const LONGEST_SLEEP: u64 = 10;
 
 pub(crate) type Words<W> = Table<(), View, Snapshot<W>, ClockRule, Global>;
 
@@ -101,6 +106,27 @@ impl<W: World> Clocks<W> {
             .shared
             .store::<StoreSent>(&mut seat.seat, word, count);
         seat.sent[usize::from(node)] = count;
+    }
+
+    /// Sleeps while the clock word of a node shows the cycle that was seen there, until it is woken (`wake`) and for 10 ms at
+    /// most. It may return at any time, as it does where there is no such node, and nothing follows from it.
+    pub fn sleep_at<R: Wait>(&self, rt: &R, node: u8, seen: u64) {
+        if node < self.nodes {
+            // The system compares the low half of the word, which changes with each raise of an epoch.
+            let low_half = (seen & u64::from(u32::MAX)) as u32;
+            let longest = Duration::from_millis(LONGEST_SLEEP);
+            self.table
+                .shared
+                .park_timeout(rt, clock_word(node), low_half, longest);
+        }
+    }
+
+    /// Wakes those who sleep at the clock of a node (`sleep_at`). A raise wakes nobody, since it costs a hundredth of a wake: a
+    /// node wakes the others before it waits itself, and now and then. It does nothing where there is no such node.
+    pub fn wake(&self, node: u8) {
+        if node < self.nodes {
+            self.table.shared.wake_all(clock_word(node));
+        }
     }
 
     /// How many sends of the seat's node are posted, which the seat then knows. The number never falls.

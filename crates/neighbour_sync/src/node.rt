@@ -3,11 +3,34 @@ use crate::answers::{Passed, Tried};
 use crate::session::Session;
 use crate::shared::Shared;
 use crate::steps::{record, see_posted, try_once};
-use clock_words::NodeSeat;
+use clock_words::{Clocks, NodeSeat};
 use crossbeam_utils::Backoff;
 use std::marker::Model;
 use std::sync::Wait;
 use world_core::{Send, Topo, World};
+
+// How often a node that waits looks again before it sleeps, and twice as long after each look: some microseconds in all, about
+// what a sleep and its wake cost.
+const LOOKS: u32 = 6;
+
+// Lets some time pass between two looks at the clock of a node, which showed this cycle. How often it was looked at so far, and
+// by now.
+fn pause<W: World, R: Wait>(
+    rt: &R,
+    clocks: &Clocks<W>,
+    backoff: &Backoff,
+    looks: u32,
+    node: u8,
+    clock: u64,
+) -> u32 {
+    if looks < LOOKS {
+        backoff.spin();
+        looks + 1
+    } else {
+        clocks.sleep_at(rt, node, clock);
+        looks
+    }
+}
 
 /// A node's part of the air: its seat at the clock words, and the topology, by which it sees for whom it has to wait.
 #[derive(Drop)]
@@ -118,7 +141,9 @@ impl NodeAir {
     }
 
     /// Takes one of the node's samples, not below the session's floor, as soon as the nodes that it may hear are far enough.
-    /// While it waits it looks at words, and at the lock not at all. `Halted` only where its last look at the halt gave 1, and
+    /// While it waits it looks at words, and at the lock not at all: at first again and again, in case that the one it waits for
+    /// runs beside it, and then it sleeps at that one's clock word, so that its processor is free for others. It yields to nobody: a
+    /// yield gives the rest of a time slice to whatever else the machine is at. `Halted` only where its last look at the halt gave 1, and
     /// no earlier one did.
     pub fn sample_when_passed<W: World, N: Session, R: Wait>(
         &mut self,
@@ -132,15 +157,23 @@ impl NodeAir {
         ensures { IsPassed N.world self.old cycle result self.new }
     {
         let backoff = Backoff::new();
+        let mut looks = 0;
         for _ in rt.forever() {
             match self.try_sample(rt, shared, cycle) {
                 Tried::Heard(heard) => return Passed::Heard(heard),
-                Tried::NotYet { .. } => backoff.snooze(),
+                Tried::NotYet { node, clock } => {
+                    looks = pause(rt, shared.clocks(), &backoff, looks, node, clock);
+                }
                 Tried::Halted => return Passed::Halted,
                 Tried::NoMemory => return Passed::NoMemory,
             }
         }
         unreachable!()
+    }
+
+    /// Wakes the nodes that sleep until this node's clock is raised (`sample_when_passed`). It takes no lock.
+    pub fn wake<W: World, N: Session>(&self, shared: &Shared<W, N>) {
+        shared.clocks().wake(self.number());
     }
 
     /// Tells all nodes to halt, for good. It takes no lock.
