@@ -1,18 +1,12 @@
 -- What may be moved to a thread, and what threads may share.
-use denote.Param.Send.{IsSend, IsSync, sendable}
+use denote.Param.Send.{IsSend, sendable}
 use Rattle.std.proofs.Crossing.{crosses}
-use Rattle.world_core.proofs.topo.Topo.TheSendSync.{the_sync as topo}
-use Rattle.avr_program.proofs.program.Program.TheSendSync.{the_sync as program}
 use Rattle.node_core.proofs.node.Node.TheSendSync.{the_send as node}
-use Rattle.node_runner.specs.contracts.scenario.Scenario as Scenario
 use Rattle.node_runner.specs.contracts.runner.Runner as Runner
 use Rattle.neighbour_sync.proofs.node.NodeAir.TheSendSync.{the_send as node_air}
 use Rattle.fleet_threads.specs.contracts.member.Member as Member
 use Rattle.fleet_threads.specs.contracts.handed.Sent as Sent
 use Rattle.fleet_threads.specs.contracts.handed.Handed as Handed
-
-pub scenario : IsSync Scenario.the_row
-scenario = search (sendable, crosses, topo, program) depth 40 fits 50000
 
 pub runner : IsSend Runner.the_row
 runner = search (sendable, crosses, node) depth 20

@@ -120,3 +120,9 @@ gathers_on old items i p q h e g r =
       rows = ap (flat_map rows_at) more ∙ flat_map-append rows_at (take i old) (o ∷ []) ∙ ap (λ (l : List Row). flat_map rows_at (take i old) ++ l) (append-nil (rows_at o) ∙ ap rows_at (sym same));
       same = same;
     }
+
+-- one turn of the loop that makes the last rows
+pub ends_on : (ms : List Member) (i : ℕ) (m : Member) (r : Row) (rows new : List Row) → i < length ms → m ≡ get_or ms i m → rows ≡ map end_row_at (take i ms) → r ≡ end_row_at m → new ≡ rows ++ r ∷ [] → new ≡ map end_row_at (take (i + 1) ms)
+ends_on ms i m r rows new h is e last f =
+    let here : r ≡ end_row_at (get_or ms i m) = last ∙ ap end_row_at is in
+    f ∙ (λ j. e j ++ here j ∷ []) ∙ sym (map_push end_row_at (take i ms) (get_or ms i m)) ∙ ap (map end_row_at) (sym (take_more ms i m h))
