@@ -1,3 +1,2 @@
 pub mod Doubles
-pub mod Aliases
 pub mod Singles
