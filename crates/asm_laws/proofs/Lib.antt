@@ -1,3 +1,5 @@
 pub mod Doubles
-pub mod Aliases
+pub mod Parts
+pub mod Families
+pub mod Displaced
 pub mod Singles

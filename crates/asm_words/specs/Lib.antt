@@ -4,3 +4,4 @@ pub mod Opcodes
 pub mod Labels
 pub mod Target
 pub mod Encoded
+pub mod Aliases

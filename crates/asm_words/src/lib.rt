@@ -6,6 +6,7 @@ mod field;
 mod form;
 mod instruction;
 mod labels;
+mod law;
 mod number;
 mod opcodes;
 mod operand;
@@ -13,4 +14,5 @@ mod target;
 
 pub use instruction::{Piece, WordFault, encode};
 pub use labels::{Label, add_label, find_label};
+pub use law::alias_law;
 pub use opcodes::{is_known, width};

@@ -1,5 +1,6 @@
 // The mnemonics, with the operands that they take and the words without these.
 ghost use Rattle.std.specs.Prelude.{◌≡◌, ◌≤◌};
+ghost use Rattle.std.specs.Str.{bytes_eq};
 ghost use Rattle.asm_words.specs.Opcodes.{bare, one_plain, one_alias, two_registers, two_narrow, two_signed, two_constant, two_memory, two_bits, one, two, has_word, is_known, one_has_word, two_has_word, width, with_one, with_two};
 
 use crate::form::Field::{
@@ -13,6 +14,13 @@ use crate::form::RegisterField::{
     WordPair,
 };
 use crate::form::{Field, OneForm, TwoForm};
+
+// Whether a mnemonic is this word: one equation for the proof, where a byte string as a pattern is one for each letter.
+fn is(mnemonic: &[u8], word: &str) -> bool
+    ensures { result ≡ bytes_eq mnemonic.now word.now }
+{
+    mnemonic == word.as_bytes()
+}
 
 fn with_one(field: Field, opcode: u16) -> Option<OneForm>
     ensures { result ≡ with_one field opcode }
@@ -36,19 +44,19 @@ pub fn bare(mnemonic: &[u8]) -> Option<u16>
     ensures { result ≡ bare mnemonic.now }
 {
     match mnemonic {
-        b"nop" => Some(0x0000),
-        b"ijmp" => Some(0x9409),
-        b"icall" => Some(0x9509),
-        b"ret" => Some(0x9508),
-        b"reti" => Some(0x9518),
-        b"sleep" => Some(0x9588),
-        b"break" => Some(0x9598),
-        b"wdr" => Some(0x95A8),
-        b"lpm" => Some(0x95C8),
-        b"elpm" => Some(0x95D8),
-        b"spm" => Some(0x95E8),
-        b"sei" => Some(0x9478),
-        b"cli" => Some(0x94F8),
+        m if is(m, "nop") => Some(0x0000),
+        m if is(m, "ijmp") => Some(0x9409),
+        m if is(m, "icall") => Some(0x9509),
+        m if is(m, "ret") => Some(0x9508),
+        m if is(m, "reti") => Some(0x9518),
+        m if is(m, "sleep") => Some(0x9588),
+        m if is(m, "break") => Some(0x9598),
+        m if is(m, "wdr") => Some(0x95A8),
+        m if is(m, "lpm") => Some(0x95C8),
+        m if is(m, "elpm") => Some(0x95D8),
+        m if is(m, "spm") => Some(0x95E8),
+        m if is(m, "sei") => Some(0x9478),
+        m if is(m, "cli") => Some(0x94F8),
         _ => None,
     }
 }
@@ -59,23 +67,23 @@ fn one_plain(mnemonic: &[u8]) -> Option<OneForm>
     ensures { result ≡ one_plain mnemonic.now }
 {
     match mnemonic {
-        b"com" => with_one(Register(Middle), 0x9400),
-        b"neg" => with_one(Register(Middle), 0x9401),
-        b"swap" => with_one(Register(Middle), 0x9402),
-        b"inc" => with_one(Register(Middle), 0x9403),
-        b"asr" => with_one(Register(Middle), 0x9405),
-        b"lsr" => with_one(Register(Middle), 0x9406),
-        b"ror" => with_one(Register(Middle), 0x9407),
-        b"dec" => with_one(Register(Middle), 0x940A),
-        b"pop" => with_one(Register(Middle), 0x900F),
-        b"push" => with_one(Register(Middle), 0x920F),
-        b"bset" => with_one(Number(Flag), 0x9408),
-        b"bclr" => with_one(Number(Flag), 0x9488),
-        b"jmp" => with_one(Place, 0x940C),
-        b"call" => with_one(Place, 0x940E),
-        b"rjmp" => with_one(Jump, 0xC000),
-        b"rcall" => with_one(Jump, 0xD000),
-        b".word" => with_one(Number(Word), 0x0000),
+        m if is(m, "com") => with_one(Register(Middle), 0x9400),
+        m if is(m, "neg") => with_one(Register(Middle), 0x9401),
+        m if is(m, "swap") => with_one(Register(Middle), 0x9402),
+        m if is(m, "inc") => with_one(Register(Middle), 0x9403),
+        m if is(m, "asr") => with_one(Register(Middle), 0x9405),
+        m if is(m, "lsr") => with_one(Register(Middle), 0x9406),
+        m if is(m, "ror") => with_one(Register(Middle), 0x9407),
+        m if is(m, "dec") => with_one(Register(Middle), 0x940A),
+        m if is(m, "pop") => with_one(Register(Middle), 0x900F),
+        m if is(m, "push") => with_one(Register(Middle), 0x920F),
+        m if is(m, "bset") => with_one(Number(Flag), 0x9408),
+        m if is(m, "bclr") => with_one(Number(Flag), 0x9488),
+        m if is(m, "jmp") => with_one(Place, 0x940C),
+        m if is(m, "call") => with_one(Place, 0x940E),
+        m if is(m, "rjmp") => with_one(Jump, 0xC000),
+        m if is(m, "rcall") => with_one(Jump, 0xD000),
+        m if is(m, ".word") => with_one(Number(Word), 0x0000),
         _ => None,
     }
 }
@@ -86,14 +94,14 @@ fn one_alias(mnemonic: &[u8]) -> Option<OneForm>
     ensures { result ≡ one_alias mnemonic.now }
 {
     match mnemonic {
-        b"brcs" => with_one(Branch, 0xF000),
-        b"brcc" => with_one(Branch, 0xF400),
-        b"breq" => with_one(Branch, 0xF001),
-        b"brne" => with_one(Branch, 0xF401),
-        b"clr" => with_one(Register(Both), 0x2400),
-        b"tst" => with_one(Register(Both), 0x2000),
-        b"lsl" => with_one(Register(Both), 0x0C00),
-        b"rol" => with_one(Register(Both), 0x1C00),
+        m if is(m, "brcs") => with_one(Branch, 0xF000),
+        m if is(m, "brcc") => with_one(Branch, 0xF400),
+        m if is(m, "breq") => with_one(Branch, 0xF001),
+        m if is(m, "brne") => with_one(Branch, 0xF401),
+        m if is(m, "clr") => with_one(Register(Both), 0x2400),
+        m if is(m, "tst") => with_one(Register(Both), 0x2000),
+        m if is(m, "lsl") => with_one(Register(Both), 0x0C00),
+        m if is(m, "rol") => with_one(Register(Both), 0x1C00),
         _ => None,
     }
 }
@@ -104,18 +112,18 @@ fn two_registers(mnemonic: &[u8]) -> Option<TwoForm>
     ensures { result ≡ two_registers mnemonic.now }
 {
     match mnemonic {
-        b"cpc" => with_two(Register(Middle), Register(Split), 0x0400),
-        b"sbc" => with_two(Register(Middle), Register(Split), 0x0800),
-        b"add" => with_two(Register(Middle), Register(Split), 0x0C00),
-        b"cpse" => with_two(Register(Middle), Register(Split), 0x1000),
-        b"cp" => with_two(Register(Middle), Register(Split), 0x1400),
-        b"sub" => with_two(Register(Middle), Register(Split), 0x1800),
-        b"adc" => with_two(Register(Middle), Register(Split), 0x1C00),
-        b"and" => with_two(Register(Middle), Register(Split), 0x2000),
-        b"eor" => with_two(Register(Middle), Register(Split), 0x2400),
-        b"or" => with_two(Register(Middle), Register(Split), 0x2800),
-        b"mov" => with_two(Register(Middle), Register(Split), 0x2C00),
-        b"mul" => with_two(Register(Middle), Register(Split), 0x9C00),
+        m if is(m, "cpc") => with_two(Register(Middle), Register(Split), 0x0400),
+        m if is(m, "sbc") => with_two(Register(Middle), Register(Split), 0x0800),
+        m if is(m, "add") => with_two(Register(Middle), Register(Split), 0x0C00),
+        m if is(m, "cpse") => with_two(Register(Middle), Register(Split), 0x1000),
+        m if is(m, "cp") => with_two(Register(Middle), Register(Split), 0x1400),
+        m if is(m, "sub") => with_two(Register(Middle), Register(Split), 0x1800),
+        m if is(m, "adc") => with_two(Register(Middle), Register(Split), 0x1C00),
+        m if is(m, "and") => with_two(Register(Middle), Register(Split), 0x2000),
+        m if is(m, "eor") => with_two(Register(Middle), Register(Split), 0x2400),
+        m if is(m, "or") => with_two(Register(Middle), Register(Split), 0x2800),
+        m if is(m, "mov") => with_two(Register(Middle), Register(Split), 0x2C00),
+        m if is(m, "mul") => with_two(Register(Middle), Register(Split), 0x9C00),
         _ => None,
     }
 }
@@ -126,9 +134,9 @@ fn two_narrow(mnemonic: &[u8]) -> Option<TwoForm>
     ensures { result ≡ two_narrow mnemonic.now }
 {
     match mnemonic {
-        b"movw" => with_two(Register(PairMiddle), Register(PairLow), 0x0100),
-        b"muls" => with_two(Register(UpperMiddle), Register(UpperLow), 0x0200),
-        b"fmul" => with_two(Register(ShortMiddle), Register(ShortLow), 0x0308),
+        m if is(m, "movw") => with_two(Register(PairMiddle), Register(PairLow), 0x0100),
+        m if is(m, "muls") => with_two(Register(UpperMiddle), Register(UpperLow), 0x0200),
+        m if is(m, "fmul") => with_two(Register(ShortMiddle), Register(ShortLow), 0x0308),
         _ => None,
     }
 }
@@ -138,13 +146,10 @@ fn two_narrow(mnemonic: &[u8]) -> Option<TwoForm>
 fn two_signed(mnemonic: &[u8]) -> Option<TwoForm>
     ensures { result ≡ two_signed mnemonic.now }
 {
-    let longest: &[u8] = b"fmulsu";
-    if mnemonic == longest {
-        return with_two(Register(ShortMiddle), Register(ShortLow), 0x0388);
-    }
     match mnemonic {
-        b"mulsu" => with_two(Register(ShortMiddle), Register(ShortLow), 0x0300),
-        b"fmuls" => with_two(Register(ShortMiddle), Register(ShortLow), 0x0380),
+        m if is(m, "fmulsu") => with_two(Register(ShortMiddle), Register(ShortLow), 0x0388),
+        m if is(m, "mulsu") => with_two(Register(ShortMiddle), Register(ShortLow), 0x0300),
+        m if is(m, "fmuls") => with_two(Register(ShortMiddle), Register(ShortLow), 0x0380),
         _ => None,
     }
 }
@@ -155,14 +160,14 @@ fn two_constant(mnemonic: &[u8]) -> Option<TwoForm>
     ensures { result ≡ two_constant mnemonic.now }
 {
     match mnemonic {
-        b"cpi" => with_two(Register(UpperMiddle), Number(Constant), 0x3000),
-        b"sbci" => with_two(Register(UpperMiddle), Number(Constant), 0x4000),
-        b"subi" => with_two(Register(UpperMiddle), Number(Constant), 0x5000),
-        b"ori" => with_two(Register(UpperMiddle), Number(Constant), 0x6000),
-        b"andi" => with_two(Register(UpperMiddle), Number(Constant), 0x7000),
-        b"ldi" => with_two(Register(UpperMiddle), Number(Constant), 0xE000),
-        b"adiw" => with_two(Register(WordPair), Number(ShortConstant), 0x9600),
-        b"sbiw" => with_two(Register(WordPair), Number(ShortConstant), 0x9700),
+        m if is(m, "cpi") => with_two(Register(UpperMiddle), Number(Constant), 0x3000),
+        m if is(m, "sbci") => with_two(Register(UpperMiddle), Number(Constant), 0x4000),
+        m if is(m, "subi") => with_two(Register(UpperMiddle), Number(Constant), 0x5000),
+        m if is(m, "ori") => with_two(Register(UpperMiddle), Number(Constant), 0x6000),
+        m if is(m, "andi") => with_two(Register(UpperMiddle), Number(Constant), 0x7000),
+        m if is(m, "ldi") => with_two(Register(UpperMiddle), Number(Constant), 0xE000),
+        m if is(m, "adiw") => with_two(Register(WordPair), Number(ShortConstant), 0x9600),
+        m if is(m, "sbiw") => with_two(Register(WordPair), Number(ShortConstant), 0x9700),
         _ => None,
     }
 }
@@ -173,16 +178,16 @@ fn two_memory(mnemonic: &[u8]) -> Option<TwoForm>
     ensures { result ≡ two_memory mnemonic.now }
 {
     match mnemonic {
-        b"ldd" => with_two(Register(Middle), Displaced, 0x8000),
-        b"std" => with_two(Displaced, Register(Middle), 0x8200),
-        b"ld" => with_two(Register(Middle), Pointer, 0x8000),
-        b"st" => with_two(Pointer, Register(Middle), 0x8200),
-        b"lds" => with_two(Register(Middle), Data, 0x9000),
-        b"sts" => with_two(Data, Register(Middle), 0x9200),
-        b"lpm" => with_two(Register(Middle), FlashPointer, 0x9004),
-        b"elpm" => with_two(Register(Middle), FlashPointer, 0x9006),
-        b"in" => with_two(Register(Middle), Number(Address), 0xB000),
-        b"out" => with_two(Number(Address), Register(Middle), 0xB800),
+        m if is(m, "ldd") => with_two(Register(Middle), Displaced, 0x8000),
+        m if is(m, "std") => with_two(Displaced, Register(Middle), 0x8200),
+        m if is(m, "ld") => with_two(Register(Middle), Pointer, 0x8000),
+        m if is(m, "st") => with_two(Pointer, Register(Middle), 0x8200),
+        m if is(m, "lds") => with_two(Register(Middle), Data, 0x9000),
+        m if is(m, "sts") => with_two(Data, Register(Middle), 0x9200),
+        m if is(m, "lpm") => with_two(Register(Middle), FlashPointer, 0x9004),
+        m if is(m, "elpm") => with_two(Register(Middle), FlashPointer, 0x9006),
+        m if is(m, "in") => with_two(Register(Middle), Number(Address), 0xB000),
+        m if is(m, "out") => with_two(Number(Address), Register(Middle), 0xB800),
         _ => None,
     }
 }
@@ -193,19 +198,20 @@ fn two_bits(mnemonic: &[u8]) -> Option<TwoForm>
     ensures { result ≡ two_bits mnemonic.now }
 {
     match mnemonic {
-        b"cbi" => with_two(Number(LowAddress), Number(LowThree), 0x9800),
-        b"sbic" => with_two(Number(LowAddress), Number(LowThree), 0x9900),
-        b"sbi" => with_two(Number(LowAddress), Number(LowThree), 0x9A00),
-        b"sbis" => with_two(Number(LowAddress), Number(LowThree), 0x9B00),
-        b"bld" => with_two(Register(Middle), Number(LowThree), 0xF800),
-        b"bst" => with_two(Register(Middle), Number(LowThree), 0xFA00),
-        b"sbrc" => with_two(Register(Middle), Number(LowThree), 0xFC00),
-        b"sbrs" => with_two(Register(Middle), Number(LowThree), 0xFE00),
-        b"brbs" => with_two(Number(LowThree), Branch, 0xF000),
-        b"brbc" => with_two(Number(LowThree), Branch, 0xF400),
+        m if is(m, "cbi") => with_two(Number(LowAddress), Number(LowThree), 0x9800),
+        m if is(m, "sbic") => with_two(Number(LowAddress), Number(LowThree), 0x9900),
+        m if is(m, "sbi") => with_two(Number(LowAddress), Number(LowThree), 0x9A00),
+        m if is(m, "sbis") => with_two(Number(LowAddress), Number(LowThree), 0x9B00),
+        m if is(m, "bld") => with_two(Register(Middle), Number(LowThree), 0xF800),
+        m if is(m, "bst") => with_two(Register(Middle), Number(LowThree), 0xFA00),
+        m if is(m, "sbrc") => with_two(Register(Middle), Number(LowThree), 0xFC00),
+        m if is(m, "sbrs") => with_two(Register(Middle), Number(LowThree), 0xFE00),
+        m if is(m, "brbs") => with_two(Number(LowThree), Branch, 0xF000),
+        m if is(m, "brbc") => with_two(Number(LowThree), Branch, 0xF400),
         _ => None,
     }
 }
+
 /// What a mnemonic takes as its one operand.
 pub fn one(mnemonic: &[u8]) -> Option<OneForm>
     ensures { result ≡ one mnemonic.now }

@@ -5,7 +5,7 @@ use std::marker::Model;
 
 /// One of the 32 general registers r0 to r31 (AVR Instruction Set Manual, "General Purpose Registers").
 /// A contract sees it as its number.
-#[derive(Clone, Copy, Debug, PartialEq, Eq)]
+#[derive(Clone, Copy, PartialEq, Eq)]
 pub struct Reg {
     n: u8,
 }

@@ -3,7 +3,7 @@ ghost use Rattle.std.specs.Prelude.{◌≡◌, ◌≤◌};
 ghost use Rattle.avr_base.specs.Flags.{has_flag, with_flag};
 
 /// The status register SREG: bits 0 to 7 are C, Z, N, V, S, H, T and I (AVR Instruction Set Manual, "Status Register").
-#[derive(Clone, Copy, Debug, PartialEq, Eq)]
+#[derive(Clone, Copy, PartialEq, Eq)]
 pub struct Sreg {
     /// The eight flags, flag i at bit i.
     pub bits: u8,

@@ -4,7 +4,7 @@ ghost use Rattle.avr_base.specs.Causes.{cause_number, cause_text};
 
 /// Why a node stopped: what its program asked for that the simulated part does not have. A stop is a row of the
 /// trace, and no fault.
-#[derive(Clone, Copy, Debug, PartialEq, Eq)]
+#[derive(Clone, Copy, PartialEq, Eq)]
 pub enum StopCause {
     /// No instruction has this opcode word.
     ReservedOpcode,

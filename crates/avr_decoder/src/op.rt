@@ -196,7 +196,7 @@ pub enum Op {
 }
 
 /// Which part of the processor executes an instruction.
-#[derive(Clone, Copy, Debug, PartialEq, Eq)]
+#[derive(Clone, Copy, PartialEq, Eq)]
 pub enum Class {
     /// It works on registers and flags alone.
     Arith,

@@ -8,7 +8,7 @@ use crate::Board;
 const LAST: u64 = 1 << 40;
 
 /// What is known of a board whose timers have done the cycles below one.
-#[derive(Clone, Copy, Debug, PartialEq, Eq)]
+#[derive(Clone, Copy)]
 pub struct Ahead {
     /// That cycle.
     pub settled: u64,

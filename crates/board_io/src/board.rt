@@ -18,7 +18,7 @@ const PORTB: usize = 0x38;
 const MCUCR: usize = 0x55;
 
 /// What SLEEP would do (ATmega128 datasheet, "MCU Control Register - MCUCR").
-#[derive(Clone, Copy, Debug, PartialEq, Eq)]
+#[derive(Clone, Copy)]
 pub enum Sleep {
     /// SE is clear: nothing.
     Off,
@@ -30,7 +30,7 @@ pub enum Sleep {
 
 /// All of a node but its core and its SRAM: the devices, and the registers that only hold a byte. As a bus it has the
 /// I/O registers at data addresses 0x0020 to 0x00FF.
-#[derive(Debug, Drop)]
+#[derive(Drop)]
 pub struct Board {
     /// The cycle in which its registers are accessed.
     pub clock: Clock,

@@ -12,7 +12,7 @@ use timer16::Timer16;
 use world_core::Heard;
 
 /// What the devices did in a cycle.
-#[derive(Clone, Copy, Debug, PartialEq, Eq)]
+#[derive(Clone, Copy)]
 pub struct Begun {
     /// The byte of the frame of USART0 that ended in it.
     pub serial: Option<u8>,

@@ -11,7 +11,7 @@ use world_core::Heard;
 /// A board, as the node runs it. Contracts see the board of its clock's cycle; behind that its timers lag, since most
 /// cycles only count: they are made up for at an access to a timer and at an event, and until the next event the
 /// interrupt lines are those that are kept.
-#[derive(Debug, Drop)]
+#[derive(Drop)]
 pub struct LaggingBoard {
     pub(crate) board: Board,
     pub(crate) ahead: Ahead,

@@ -9,7 +9,7 @@ use timer16::{Chan, Reg16};
 use usart_port::UsartReg;
 
 /// How a read and a write of an I/O register go (ATmega128 datasheet, the register descriptions).
-#[derive(Clone, Copy, Debug)]
+#[derive(Clone, Copy)]
 pub enum Rule {
     /// No register: every access stops.
     Reserved,

@@ -4,7 +4,7 @@ ghost use Rattle.std.specs.Prelude.{◌≡◌, ◌≤◌, ◌+◌, ◌^◌, ℕ}
 use world_core::Heard;
 
 /// What the byte of the next transfer is to a radio.
-#[derive(Clone, Copy, Debug, PartialEq, Eq)]
+#[derive(Clone, Copy)]
 pub enum RadioState {
     /// A command: 1 to send the byte that follows, 2 to sample the air, any other for nothing.
     Idle,
@@ -30,7 +30,7 @@ pub enum RadioState {
 }
 
 /// What a transfer of one byte comes to.
-#[derive(Clone, Copy, Debug, PartialEq, Eq)]
+#[derive(Clone, Copy)]
 pub enum Moved {
     /// It is answered by this byte.
     Answer(u8),
@@ -46,7 +46,7 @@ pub enum Moved {
 }
 
 /// The radio of a node.
-#[derive(Clone, Copy, Debug, PartialEq, Eq)]
+#[derive(Clone, Copy)]
 pub struct Radio {
     /// For how long a byte is on the air, in cycles.
     pub byte_time: u16,

@@ -5,7 +5,7 @@ ghost use Rattle.avr_base.specs.declared.stop.StopCause.{StopCause};
 use avr_base::StopCause;
 
 /// What an instruction reports when it did not stop.
-#[derive(Clone, Copy, Debug, PartialEq, Eq)]
+#[derive(Clone, Copy, PartialEq, Eq)]
 pub struct Done {
     /// The clock cycles that it took (AVR Instruction Set Manual, "Cycles"), at least 1.
     pub cycles: u8,

@@ -4,7 +4,7 @@ ghost use Rattle.std.specs.Prelude.{◌≡◌, ◌+◌, ◌%◌};
 use avr_base::{Reg, Sreg};
 
 /// The registers of the AVR core (ATmega128 datasheet, "AVR CPU Core"): all that an instruction changes beside the bus.
-#[derive(Clone, Copy, Debug, PartialEq, Eq)]
+#[derive(Clone, Copy, PartialEq, Eq)]
 pub struct Cpu {
     /// The general registers r0 to r31, data addresses 0x0000 to 0x001F.
     pub r: [u8; 32],

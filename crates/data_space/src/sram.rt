@@ -12,7 +12,7 @@ const START: u16 = 0x0100;
 
 /// The internal SRAM, 4,096 bytes at data addresses 0x0100 to 0x10FF (ATmega128 datasheet, "SRAM Data Memory"). A
 /// contract sees it as the list of its bytes.
-#[derive(Debug, Drop)]
+#[derive(Drop)]
 pub struct Sram {
     bytes: Vec<u8>,
 }

@@ -3,7 +3,7 @@ ghost use Rattle.std.specs.Prelude.{◌≡◌};
 
 /// The interrupt flags of a timer, or a choice of them to be cleared (ATmega128 datasheet, "TIFR" and "ETIFR"). A
 /// timer of eight bits has `over` and `comp_a` alone.
-#[derive(Clone, Copy, Debug, PartialEq, Eq)]
+#[derive(Clone, Copy)]
 pub struct TimerFlags {
     /// TOV: the counter passed its maximum.
     pub over: bool,

@@ -5,7 +5,7 @@ ghost use Rattle.device_clocks.specs.Clock.{clocks_of};
 use crate::clocks_in;
 
 /// Which prescaler a timer's clock comes from: they differ in what a clock select chooses.
-#[derive(Clone, Copy, Debug, PartialEq, Eq)]
+#[derive(Clone, Copy)]
 pub enum Prescaler {
     /// Timer 0's own.
     Own,

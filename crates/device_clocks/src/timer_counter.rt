@@ -11,7 +11,7 @@ use crate::{
 
 /// The counter of a timer of eight or sixteen bits, behind its prescaler, which counts from 0 in cycle 0 and is never
 /// reset (ATmega128 datasheet, "8-bit Timer/Counter0" and "16-bit Timer/Counter").
-#[derive(Clone, Copy, Debug, PartialEq, Eq)]
+#[derive(Clone, Copy)]
 pub struct TimerCounter {
     /// The largest value: 0xFF or 0xFFFF. The count and the value at which it is cleared are not above it.
     pub maximum: u16,

@@ -3,7 +3,7 @@ ghost use Rattle.std.specs.Prelude.{◌≡◌, true, is_some, IfSome};
 ghost use Rattle.device_clocks.specs.Transmission.{byte_of, end_of, ended_byte, is_end};
 
 /// A byte that is shifted out: a frame of USART0, or a transfer of the serial peripheral interface.
-#[derive(Clone, Copy, Debug, PartialEq, Eq)]
+#[derive(Clone, Copy, PartialEq, Eq)]
 pub struct Transmission {
     /// The cycle in which it ends.
     pub ends: u64,

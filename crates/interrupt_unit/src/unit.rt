@@ -5,14 +5,14 @@ ghost use Rattle.interrupt_unit.specs.Lines.{pending_of};
 
 /// The interrupt lines: bit n, 1 to 34, is set where the source of the vector at word address 2n has its flag and its
 /// enable bit set (ATmega128 datasheet, "Interrupt Vectors in ATmega128"). The other bits are not looked at.
-#[derive(Clone, Copy, Debug, PartialEq, Eq)]
+#[derive(Clone, Copy)]
 pub struct Lines {
     /// The lines, line n at bit n.
     pub bits: u64,
 }
 
 /// An interrupt vector.
-#[derive(Clone, Copy, Debug, PartialEq, Eq)]
+#[derive(Clone, Copy)]
 pub struct Vector {
     /// Its word address in the flash, 2 to 68.
     pub word: u16,

@@ -9,7 +9,7 @@ use std::alloc::Global;
 /// What a node holds beside the core (ATmega128 datasheet, "SRAM Data Memory"): the internal SRAM at data addresses
 /// 0x0100 to 0x10FF, and below it the I/O registers with their devices. An address above the SRAM is the stop
 /// `address past 0x10FF`.
-#[derive(Debug, Drop)]
+#[derive(Drop)]
 pub struct NodeBus {
     /// The internal SRAM.
     pub sram: Sram,

@@ -137,7 +137,7 @@ fn in_the_air(asks: bool, sent: Option<u8>) -> OnAir
 }
 
 /// What the radio does in a cycle.
-#[derive(Clone, Copy, Debug, PartialEq, Eq)]
+#[derive(Clone, Copy)]
 pub enum OnAir {
     /// Nothing.
     Quiet,

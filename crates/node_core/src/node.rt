@@ -18,7 +18,7 @@ use usart_port::Script;
 use world_core::Heard;
 
 /// Where a run of a node ended.
-#[derive(Clone, Copy, Debug, PartialEq, Eq)]
+#[derive(Clone, Copy)]
 pub enum Reached {
     /// The cycle that was asked for: all cycles below it are finished, and none of this call sent or sampled.
     Cycle,

@@ -7,7 +7,7 @@ use device_clocks::{Transmission, any_bit, bit};
 
 /// The registers of the serial peripheral interface (ATmega128 datasheet, "SPI Control Register - SPCR", "SPI Status
 /// Register - SPSR", "SPI Data Register - SPDR").
-#[derive(Clone, Copy, Debug, PartialEq, Eq)]
+#[derive(Clone, Copy)]
 pub enum SpiReg {
     /// SPCR.
     Control,

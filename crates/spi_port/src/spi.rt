@@ -5,7 +5,7 @@ ghost use Rattle.device_clocks.specs.Clock.{cycles};
 use device_clocks::{Transmission, any_bit, byte_of, end_of, is_end};
 
 /// The serial peripheral interface as a master (ATmega128 datasheet, "Serial Peripheral Interface - SPI").
-#[derive(Clone, Copy, Debug, PartialEq, Eq)]
+#[derive(Clone, Copy)]
 pub struct Spi {
     /// SPCR.
     pub control: u8,

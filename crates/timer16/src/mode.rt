@@ -3,7 +3,7 @@ ghost use Rattle.std.specs.Prelude.{◌≡◌, ◌≤◌};
 
 /// The modes of a timer that are simulated (ATmega128 datasheet, "Waveform Generation Mode Bit Description"). The
 /// others drive pins.
-#[derive(Clone, Copy, Debug, PartialEq, Eq)]
+#[derive(Clone, Copy)]
 pub enum Mode16 {
     /// Mode 0: the counter runs to 0xFFFF.
     Normal,

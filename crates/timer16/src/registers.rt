@@ -6,7 +6,7 @@ use avr_base::StopCause;
 use device_clocks::{Prescaler, any_bit, bit};
 
 /// The channel of a compare value.
-#[derive(Clone, Copy, Debug, PartialEq, Eq)]
+#[derive(Clone, Copy)]
 pub enum Chan {
     /// OCRA, the top in mode 4.
     A,
@@ -17,7 +17,7 @@ pub enum Chan {
 }
 
 /// The bytes of a timer's registers (ATmega128 datasheet, "16-bit Timer/Counter Register Description").
-#[derive(Clone, Copy, Debug, PartialEq, Eq)]
+#[derive(Clone, Copy)]
 pub enum Reg16 {
     /// TCCRA.
     ControlA,

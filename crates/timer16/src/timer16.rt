@@ -8,7 +8,7 @@ use crate::Mode16;
 use device_clocks::{Prescaler, TimerCounter, TimerFlags};
 
 /// A timer of sixteen bits, timer 1 or 3 (ATmega128 datasheet, "16-bit Timer/Counter"), by its registers.
-#[derive(Clone, Copy, Debug, PartialEq, Eq)]
+#[derive(Clone, Copy)]
 pub struct Timer16 {
     /// WGM3:0.
     pub mode: Mode16,

@@ -6,7 +6,7 @@ use avr_base::StopCause;
 use device_clocks::{any_bit, bit};
 
 /// The registers of a timer (ATmega128 datasheet, "8-bit Timer/Counter Register Description").
-#[derive(Clone, Copy, Debug, PartialEq, Eq)]
+#[derive(Clone, Copy)]
 pub enum Reg8 {
     /// TCCR.
     Control,

@@ -8,7 +8,7 @@ use device_clocks::{Prescaler, TimerCounter, TimerFlags};
 
 /// A timer of eight bits, timer 0 or 2 (ATmega128 datasheet, "8-bit Timer/Counter0" and "8-bit Timer/Counter2"), by its
 /// registers.
-#[derive(Clone, Copy, Debug, PartialEq, Eq)]
+#[derive(Clone, Copy)]
 pub struct Timer8 {
     /// Timer 0's own prescaler, or the one that timer 2 shares with others: only so the two differ.
     pub prescaler: Prescaler,

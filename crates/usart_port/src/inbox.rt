@@ -4,7 +4,7 @@ ghost use Rattle.usart_port.specs.Registers.{oldest, without_oldest};
 ghost use Rattle.usart_port.specs.Usart.{is_filled};
 
 /// The receive buffer: up to two bytes that UDR has not given yet.
-#[derive(Clone, Copy, Debug, PartialEq, Eq)]
+#[derive(Clone, Copy, PartialEq, Eq)]
 pub enum Inbox {
     /// No byte.
     Empty,

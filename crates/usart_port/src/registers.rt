@@ -6,7 +6,7 @@ use avr_base::StopCause;
 use device_clocks::{any_bit, bit};
 
 /// The registers of USART0 (ATmega128 datasheet, "USART Register Description").
-#[derive(Clone, Copy, Debug, PartialEq, Eq)]
+#[derive(Clone, Copy)]
 pub enum UsartReg {
     /// UCSR0A.
     StatusA,

@@ -7,7 +7,7 @@ use std::marker::Model;
 
 /// The bytes that arrive at a USART from outside: byte i in cycle `at + i * every`. A contract sees it as its
 /// `ScriptBytes`.
-#[derive(Debug, Drop)]
+#[derive(Drop)]
 pub struct Script {
     at: u64,
     every: u64,

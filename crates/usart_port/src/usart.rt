@@ -7,7 +7,7 @@ use device_clocks::{Transmission, any_bit, end_of, is_end};
 
 /// USART0 as an asynchronous port (ATmega128 datasheet, "USART"). The cycles in which a frame begins and ends are this
 /// simulator's own choice: it begins in the cycle of the write of UDR0, or in the one that ends the frame before it.
-#[derive(Clone, Copy, Debug, PartialEq, Eq)]
+#[derive(Clone, Copy, PartialEq, Eq)]
 pub struct Usart {
     /// UBRR0, 0 to 4,095.
     pub baud: u16,
@@ -30,7 +30,7 @@ pub struct Usart {
 }
 
 /// The lines of the port's three interrupts: a field is true where its flag is set and its interrupt is enabled.
-#[derive(Clone, Copy, Debug, PartialEq, Eq)]
+#[derive(Clone, Copy)]
 pub struct UsartLines {
     /// RXC and RXCIE.
     pub rxc: bool,

@@ -14,7 +14,7 @@ use Rattle.asm_words.specs.declared.target.Hop.{Hop}
 use Rattle.asm_words.specs.declared.form.RegisterField.TheVariants.{Middle, Split, Both}
 use Rattle.asm_words.specs.declared.instruction.WordFault.{WordFault}
 use Rattle.asm_words.specs.declared.instruction.WordFault.TheVariants.{OutOfReach}
-use Rattle.asm_laws.specs.Aliases.{IsBare, IsBranch, IsTwice, IsLoad, IsStore}
+use Rattle.asm_words.specs.Aliases.{IsBare, IsBranch, IsTwice, IsLoad, IsStore}
 
 -- without operands, and pointers: by computing
 pub sei_is : IsBare (codes "sei") (codes "bset") (codes "7")

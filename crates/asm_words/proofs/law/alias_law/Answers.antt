@@ -1,5 +1,5 @@
-use Rattle.asm_laws.proofs.Aliases.{sei_is, cli_is, brcs_is, brcc_is, breq_is, brne_is, clr_is, tst_is, lsl_is, rol_is, ld_y_is, ld_z_is, st_y_is, st_z_is}
-use Rattle.asm_laws.proofs.alias_law.Goals as goal
+use Rattle.asm_words.proofs.Aliases.{sei_is, cli_is, brcs_is, brcc_is, breq_is, brne_is, clr_is, tst_is, lsl_is, rol_is, ld_y_is, ld_z_is, st_y_is, st_z_is}
+use Rattle.asm_words.proofs.law.alias_law.Goals as goal
 
 pub returns-clause-sei : goal.returns-clause-sei
 returns-clause-sei c = sei_is
