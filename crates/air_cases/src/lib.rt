@@ -10,5 +10,5 @@ mod words;
 
 pub use asking::{count_below, is_asked, own_sends, send_number};
 pub use fault::CaseFault;
-pub use setting::{Setting, samples_of, sends_of};
+pub use setting::{Setting, copy_of, samples_of, send_of, sends_of};
 pub use words::{Command, Section, byte_of, sections_of};

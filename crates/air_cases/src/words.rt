@@ -2,7 +2,7 @@
 use crate::CaseFault;
 use std::alloc::Global;
 
-/// What a word of a case file says: how the numbers behind it are read, what is done, or what is answered.
+/// What a word of a case file says: how the numbers behind it are read, what is done or asked, or what is answered.
 #[derive(Clone, Copy)]
 pub enum Command {
     /// Nodes, limit, latency and byte time of a topology; it has no links and no spans yet.
@@ -13,7 +13,7 @@ pub enum Command {
     Own,
     /// Spans, each by the place of its link, its first cycle and the cycle after its last.
     Spans,
-    /// Sends of the world, each by its node, cycle and byte.
+    /// Sends, each by its node, cycle and byte.
     Sends,
     /// Samples of the world, each by its node and cycle.
     Asks,
@@ -21,7 +21,7 @@ pub enum Command {
     Open,
     /// A node raises its clock to a cycle.
     Raise,
-    /// A node's send of this number is posted.
+    /// A node posts: its send of this number, or its next one where no number is told.
     Post,
     /// A node samples in a cycle.
     Sample,
@@ -31,7 +31,7 @@ pub enum Command {
     Wait,
     /// A node tells all nodes to halt.
     Halt,
-    /// The record is cut up to a cycle.
+    /// The record is cut at a floor.
     Cut,
     /// The answer: the send is recorded now.
     Added,
@@ -55,15 +55,79 @@ pub enum Command {
     Done,
     /// The answer: this node is behind the cycle of the cut, and this is its clock.
     Behind,
-    /// All sends that the record holds, each by its node, cycle and byte.
+    /// The recorded sends, each by its node, cycle and byte.
     Record,
-    /// All samples that it holds, each by its node and cycle, and the status, byte and age that it heard.
+    /// The recorded samples, each by its node and cycle, and the status, byte and age that it heard.
     Heard,
-    /// The cycle up to which it is cut.
+    /// The cycle up to which the record is cut.
     Floor,
+    /// So many spans of the first link, each of one cycle, two cycles apart.
+    Many,
+    /// An empty list of steps.
+    Steps,
+    /// Each node's clock, in a state.
+    Clocks,
+    /// The number of each node's posted sends, in a state.
+    Sent,
+    /// Begins a record of sends, with room for so many.
+    Log,
+    /// Posts sends to the record, each by its node, cycle and byte.
+    Push,
+    /// Asks whether these numbers are a topology: of `Topo::new`.
+    IsNew,
+    /// The same, of `Topo::with_latencies`.
+    IsLatencies,
+    /// The same, of `Topo::with_spans`.
+    IsSpans,
+    /// Asks whether the lists are a world.
+    IsWorld,
+    /// Asks whether one node hears another.
+    Linked,
+    /// Asks how long a byte takes from one node to another.
+    Latency,
+    /// Asks for the greatest latency.
+    Reach,
+    /// Asks whether the link from one node to another is open in a cycle.
+    IsOpen,
+    /// Asks whether one node may hear a byte of another in a cycle.
+    Needs,
+    /// Asks what a node hears in a cycle of all the sends.
+    At,
+    /// Asks to what the steps lead.
+    Replay,
+    /// Asks what a sample is answered after the steps.
+    Then,
+    /// Asks what a node hears in a cycle of the record of sends.
+    Listen,
+    /// Asks what the record of sends holds.
+    Kept,
+    /// Asks whether the state is consistent.
+    Consistent,
+    /// The answer: it is accepted.
+    Ok,
+    /// The answer: a number is out of its range.
+    Range,
+    /// The answer: the link at this place goes to its own node.
+    SelfLink,
+    /// The answer: the link at this place equals an earlier one.
+    TwiceLinked,
+    /// The answer: the send at this place breaks a law.
+    SendOrder,
+    /// The answer: the sample at this place breaks a law.
+    AskOrder,
+    /// The answer.
+    Yes,
+    /// The answer.
+    No,
+    /// The answer: this number.
+    Is,
+    /// The answer: the step at this place is the first that is not allowed.
+    Illegal,
+    /// The answer: the state or the record that is given.
+    State,
 }
 
-static NAMES: [(&str, Command); 28] = [
+static NAMES: [(&str, Command); 60] = [
     ("topo", Command::Topo),
     ("links", Command::Links),
     ("own", Command::Own),
@@ -92,6 +156,38 @@ static NAMES: [(&str, Command); 28] = [
     ("record", Command::Record),
     ("samples", Command::Heard),
     ("floor", Command::Floor),
+    ("many", Command::Many),
+    ("steps", Command::Steps),
+    ("clocks", Command::Clocks),
+    ("sent", Command::Sent),
+    ("log", Command::Log),
+    ("push", Command::Push),
+    ("new", Command::IsNew),
+    ("with_latencies", Command::IsLatencies),
+    ("with_spans", Command::IsSpans),
+    ("world", Command::IsWorld),
+    ("linked", Command::Linked),
+    ("latency_of", Command::Latency),
+    ("reach", Command::Reach),
+    ("is_open", Command::IsOpen),
+    ("needs", Command::Needs),
+    ("at", Command::At),
+    ("replay", Command::Replay),
+    ("then", Command::Then),
+    ("listen", Command::Listen),
+    ("kept", Command::Kept),
+    ("consistent", Command::Consistent),
+    ("ok", Command::Ok),
+    ("range", Command::Range),
+    ("self_link", Command::SelfLink),
+    ("twice_linked", Command::TwiceLinked),
+    ("send_order", Command::SendOrder),
+    ("ask_order", Command::AskOrder),
+    ("yes", Command::Yes),
+    ("no", Command::No),
+    ("is", Command::Is),
+    ("illegal", Command::Illegal),
+    ("state", Command::State),
 ];
 
 /// A command, and the numbers that stand behind it.

@@ -1,6 +1,6 @@
 // Answers to the questions of a case file.
 use crate::fault::Fault;
-use crate::words::{Command, Section};
+use air_cases::{Command, Section};
 use world_core::Heard;
 
 /// What the answer to a question is, or is to be.

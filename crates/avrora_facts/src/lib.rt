@@ -4,7 +4,7 @@
 #![tactic(auto)]
 
 use avrora_top::{Status, avrora_alone};
-use memory_calls::{Failed, text_of};
+use case_files::{Failed, text_of};
 use sim_io::{DirStore, MemSink, Sink, SinkFault, write_all};
 use std::alloc::Global;
 use std::fs::Files;

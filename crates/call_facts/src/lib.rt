@@ -6,7 +6,8 @@
 mod reading;
 mod writing;
 
-use memory_calls::{Failed, Held, called, hold_file, text_of};
+use case_files::{Failed, text_of};
+use memory_calls::{Held, called, hold_file};
 use reading::{Line, read_line};
 use sim_io::{Sink, write_all};
 use std::fs::Files;

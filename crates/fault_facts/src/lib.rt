@@ -12,7 +12,8 @@ mod series;
 mod shown;
 mod trying;
 
-use memory_calls::{Failed, Held, hold_file, text_of};
+use case_files::{Failed, text_of};
+use memory_calls::{Held, hold_file};
 use reading::{Line, read_line};
 use series::do_series;
 use sim_io::{Sink, write_all};

@@ -3,9 +3,9 @@
 #![tactic(auto)]
 
 mod calling;
-mod failing;
+mod files;
 mod held;
 
 pub use calling::{Faults, Outcome, Stream, called, called_on_threads};
-pub use failing::{Failed, hold_file, text_of};
+pub use files::hold_file;
 pub use held::Held;

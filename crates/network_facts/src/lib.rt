@@ -7,8 +7,9 @@ mod lines;
 mod runs;
 mod writing;
 
+use case_files::{Failed, text_of};
 use lines::{Line, read_line};
-use memory_calls::{Failed, Held, hold_file, text_of};
+use memory_calls::{Held, hold_file};
 use runs::made;
 use sim_io::{Sink, write_all};
 use std::fs::Files;
