@@ -1,5 +1,5 @@
 // What the lines of a case file have set: a topology, with the sends and samples of a world.
-use crate::{CaseFault, Command, Section, byte_of};
+use crate::{CaseFault, Section, byte_of};
 use std::alloc::Global;
 use world_core::{Ask, Heard, Link, ListWorld, Send, Span, Topo, TopoFault, WorldFault};
 
@@ -186,16 +186,16 @@ impl Setting {
     }
 
     /// Sets what the section says, or answers false where it says nothing of a world.
-    pub fn set(&mut self, alloc: Global, section: &Section) -> Result<bool, CaseFault> {
+    pub fn set(&mut self, alloc: Global, section: &Section<'_>) -> Result<bool, CaseFault> {
         let numbers = section.numbers.as_slice();
-        match section.command {
-            Command::Topo => self.set_topo(alloc, numbers)?,
-            Command::Links => self.links = links_of(alloc, numbers)?,
-            Command::Own => self.own = copy_of(alloc, numbers)?,
-            Command::Spans => self.spans = spans_of(alloc, numbers)?,
-            Command::Many => self.spans = many_spans(alloc, numbers)?,
-            Command::Sends => self.sends = sends_of(alloc, numbers)?,
-            Command::Asks => self.asks = asks_of(alloc, numbers)?,
+        match section.word {
+            "topo" => self.set_topo(alloc, numbers)?,
+            "links" => self.links = links_of(alloc, numbers)?,
+            "own" => self.own = copy_of(alloc, numbers)?,
+            "spans" => self.spans = spans_of(alloc, numbers)?,
+            "many" => self.spans = many_spans(alloc, numbers)?,
+            "sends" => self.sends = sends_of(alloc, numbers)?,
+            "asks" => self.asks = asks_of(alloc, numbers)?,
             _ => return Ok(false),
         }
         Ok(true)

@@ -7,7 +7,7 @@ use crate::fault::Fault;
 use crate::logs::listens;
 use crate::plain::{are_inside, is_consistent};
 use crate::setting::Setting;
-use air_cases::{Command, Section, byte_of, is_asked};
+use air_cases::{Section, byte_of, is_asked};
 use std::alloc::Global;
 use sync_core::{Core, ReplayFault, Step, replay};
 use world_core::{Ask, ListWorld, Sampled, Topo, TopoFault, World, WorldFault, heard_of};
@@ -72,31 +72,28 @@ fn is_record(setting: &Setting) -> Answer {
 }
 
 // The answer of a reader of the topology, or of what is heard.
-fn of_reader(setting: &Setting, command: Command, numbers: &[u64]) -> Result<Answer, Fault> {
+fn of_reader(setting: &Setting, word: &str, numbers: &[u64]) -> Result<Answer, Fault> {
     let topo = setting.world.lawful_topo()?;
-    match (command, numbers) {
-        (Command::Reach, []) => Ok(Answer::Number(topo.reach())),
-        (Command::Linked, [from, to]) => Ok(Answer::Holds(topo.linked(
+    match (word, numbers) {
+        ("reach", []) => Ok(Answer::Number(topo.reach())),
+        ("linked", [from, to]) => Ok(Answer::Holds(topo.linked(byte_of(*from)?, byte_of(*to)?))),
+        ("latency_of", [from, to]) => Ok(Answer::Number(topo.latency_of(
             byte_of(*from)?,
             byte_of(*to)?,
         ))),
-        (Command::Latency, [from, to]) => Ok(Answer::Number(topo.latency_of(
-            byte_of(*from)?,
-            byte_of(*to)?,
-        ))),
-        (Command::IsOpen, [from, to, cycle]) => Ok(Answer::Holds(topo.is_open(
+        ("is_open", [from, to, cycle]) => Ok(Answer::Holds(topo.is_open(
             byte_of(*from)?,
             byte_of(*to)?,
             *cycle,
         ))),
-        (Command::Needs, [from, to, cycle]) => Ok(Answer::Holds(topo.needs(
+        ("needs", [from, to, cycle]) => Ok(Answer::Holds(topo.needs(
             byte_of(*from)?,
             byte_of(*to)?,
             *cycle,
         ))),
-        (Command::At, [node, cycle]) => hears(setting, byte_of(*node)?, *cycle),
-        (Command::Listen, [node, cycle]) => listens(&setting.log, &topo, byte_of(*node)?, *cycle),
-        (Command::Kept, []) => Ok(is_record(setting)),
+        ("at", [node, cycle]) => hears(setting, byte_of(*node)?, *cycle),
+        ("listen", [node, cycle]) => listens(&setting.log, &topo, byte_of(*node)?, *cycle),
+        ("kept", []) => Ok(is_record(setting)),
         _ => Err(Fault::Unreadable),
     }
 }
@@ -201,15 +198,19 @@ fn agrees(alloc: Global, setting: &Setting) -> Result<Answer, Fault> {
 }
 
 /// What the crates answer to a question; `Unreadable` where the section is none.
-pub fn ask_crates(alloc: Global, setting: &Setting, section: &Section) -> Result<Answer, Fault> {
-    match (section.command, section.numbers.as_slice()) {
-        (Command::IsNew, []) => by_new(&setting.world),
-        (Command::IsLatencies, []) => by_latencies(&setting.world),
-        (Command::IsSpans, []) => Ok(of_topo(setting.world.topo()?)),
-        (Command::IsWorld, []) => Ok(of_world(setting.world.listed_world()?)),
-        (Command::Replay, []) => leads_to(alloc, setting),
-        (Command::Then, [node, cycle]) => sampled(alloc, setting, byte_of(*node)?, *cycle),
-        (Command::Consistent, []) => agrees(alloc, setting),
-        (command, numbers) => of_reader(setting, command, numbers),
+pub fn ask_crates(
+    alloc: Global,
+    setting: &Setting,
+    section: &Section<'_>,
+) -> Result<Answer, Fault> {
+    match (section.word, section.numbers.as_slice()) {
+        ("new", []) => by_new(&setting.world),
+        ("with_latencies", []) => by_latencies(&setting.world),
+        ("with_spans", []) => Ok(of_topo(setting.world.topo()?)),
+        ("world", []) => Ok(of_world(setting.world.listed_world()?)),
+        ("replay", []) => leads_to(alloc, setting),
+        ("then", [node, cycle]) => sampled(alloc, setting, byte_of(*node)?, *cycle),
+        ("consistent", []) => agrees(alloc, setting),
+        (word, numbers) => of_reader(setting, word, numbers),
     }
 }

@@ -1,7 +1,7 @@
 // What the lines of a case file have set: a topology and a world, steps, and a state.
 use crate::fault::Fault;
 use crate::logs::push;
-use air_cases::{Command, Section, byte_of, copy_of, samples_of, send_of, sends_of};
+use air_cases::{Section, byte_of, copy_of, samples_of, send_of, sends_of};
 use send_log::SendLog;
 use std::alloc::Global;
 use sync_core::Step;
@@ -31,16 +31,16 @@ pub struct Setting {
 // The most sends that a record of a case file has room for.
 const MOST_ROOM: u64 = 10_000;
 
-fn step_of(section: &Section) -> Result<Option<Step>, Fault> {
-    match (section.command, section.numbers.as_slice()) {
-        (Command::Raise, [node, clock]) => Ok(Some(Step::Raise {
+fn step_of(section: &Section<'_>) -> Result<Option<Step>, Fault> {
+    match (section.word, section.numbers.as_slice()) {
+        ("r", [node, clock]) => Ok(Some(Step::Raise {
             node: byte_of(*node)?,
             clock: *clock,
         })),
-        (Command::Post, [node]) => Ok(Some(Step::Post {
+        ("p", [node]) => Ok(Some(Step::Post {
             node: byte_of(*node)?,
         })),
-        (Command::Sample, [node, cycle]) => Ok(Some(Step::Sample {
+        ("s", [node, cycle]) => Ok(Some(Step::Sample {
             node: byte_of(*node)?,
             cycle: *cycle,
         })),
@@ -69,29 +69,29 @@ impl Setting {
     }
 
     // Sets a part of a state, or begins a list of steps; it answers false where the section is neither.
-    fn set_state(&mut self, alloc: Global, section: &Section) -> Result<bool, Fault> {
-        match (section.command, section.numbers.as_slice()) {
-            (Command::Clocks, numbers) => self.clocks = copy_of(alloc, numbers)?,
-            (Command::Sent, numbers) => self.sent = copy_of(alloc, numbers)?,
-            (Command::Record, numbers) => self.record = sends_of(alloc, numbers)?,
-            (Command::Heard, numbers) => self.samples = samples_of(alloc, numbers)?,
-            (Command::Floor, [floor]) => self.floor = *floor,
-            (Command::Steps, []) => self.steps = Vec::new(alloc),
+    fn set_state(&mut self, alloc: Global, section: &Section<'_>) -> Result<bool, Fault> {
+        match (section.word, section.numbers.as_slice()) {
+            ("clocks", numbers) => self.clocks = copy_of(alloc, numbers)?,
+            ("sent", numbers) => self.sent = copy_of(alloc, numbers)?,
+            ("record", numbers) => self.record = sends_of(alloc, numbers)?,
+            ("samples", numbers) => self.samples = samples_of(alloc, numbers)?,
+            ("floor", [floor]) => self.floor = *floor,
+            ("steps", []) => self.steps = Vec::new(alloc),
             _ => return Ok(false),
         }
         Ok(true)
     }
 
     // Begins, lengthens or cuts the record of sends, or answers false where the section says nothing of it.
-    fn set_log(&mut self, alloc: Global, section: &Section) -> Result<bool, Fault> {
-        match (section.command, section.numbers.as_slice()) {
-            (Command::Log, [room]) => self.log = new_log(alloc, *room)?,
-            (Command::Push, numbers) => {
+    fn set_log(&mut self, alloc: Global, section: &Section<'_>) -> Result<bool, Fault> {
+        match (section.word, section.numbers.as_slice()) {
+            ("log", [room]) => self.log = new_log(alloc, *room)?,
+            ("push", numbers) => {
                 for numbers in numbers.chunks(3) {
                     push(alloc, &mut self.log, send_of(numbers)?)?;
                 }
             }
-            (Command::Cut, [floor]) => {
+            ("cut", [floor]) => {
                 let topo = self.world.lawful_topo()?;
                 self.log.cut(&topo, *floor);
             }
@@ -101,7 +101,7 @@ impl Setting {
     }
 
     /// Sets what the section says, or answers false where it is a question or an answer.
-    pub fn set(&mut self, alloc: Global, section: &Section) -> Result<bool, Fault> {
+    pub fn set(&mut self, alloc: Global, section: &Section<'_>) -> Result<bool, Fault> {
         if let Some(step) = step_of(section)? {
             self.steps.push(step)?;
             return Ok(true);

@@ -57,10 +57,10 @@ fn do_calls<R: Threads + Wait + Files + AllocGlobal + Sync, O: Sink>(
     out: &mut O,
 ) -> Result<(), Failed> {
     match kind {
-        "traces" => avrora_facts::do_file(rt, file, out),
-        "calls" => call_facts::do_file(rt, file, out),
-        "faults" => fault_facts::do_file(rt, file, out),
-        "networks" => network_facts::do_file(rt, file, out),
+        "traces" => call_facts::do_traces(rt, file, out),
+        "calls" => call_facts::do_calls(rt, file, out),
+        "faults" => call_facts::do_faults(rt, file, out),
+        "networks" => call_facts::do_networks(rt, file, out),
         _ => do_air(rt, kind, file, out),
     }
 }

@@ -1,6 +1,6 @@
 // What a node or the record answers to a step, or is to answer.
 use crate::fault::Fault;
-use air_cases::{Command, Section, byte_of};
+use air_cases::{Section, byte_of};
 use air_record::{Behind, Posted};
 use neighbour_sync::{Passed, Tried};
 use world_core::{Heard, Sampled};
@@ -65,14 +65,14 @@ fn heard_as(status: u8, byte: u8, age: u8) -> Answer {
 }
 
 // The answer to a post or a cut; `None` where the section is none.
-fn of_step(section: &Section) -> Result<Option<Answer>, Fault> {
-    let answer = match (section.command, section.numbers.as_slice()) {
-        (Command::Added, []) => Answer::Posted(Posted::Added),
-        (Command::There, []) => Answer::Posted(Posted::There),
-        (Command::Early, [count]) => Answer::Posted(Posted::Early { count: *count }),
-        (Command::Told, [count]) => Answer::Told(*count),
-        (Command::Done, []) => Answer::Cut(Ok(())),
-        (Command::Behind, [node, clock]) => Answer::Cut(Err(Behind {
+fn of_step(section: &Section<'_>) -> Result<Option<Answer>, Fault> {
+    let answer = match (section.word, section.numbers.as_slice()) {
+        ("added", []) => Answer::Posted(Posted::Added),
+        ("there", []) => Answer::Posted(Posted::There),
+        ("early", [count]) => Answer::Posted(Posted::Early { count: *count }),
+        ("told", [count]) => Answer::Told(*count),
+        ("done", []) => Answer::Cut(Ok(())),
+        ("behind", [node, clock]) => Answer::Cut(Err(Behind {
             node: byte_of(*node)?,
             clock: *clock,
         })),
@@ -82,13 +82,13 @@ fn of_step(section: &Section) -> Result<Option<Answer>, Fault> {
 }
 
 // The answer to a sample; `None` where the section is none.
-fn of_sample(section: &Section) -> Result<Option<Answer>, Fault> {
-    let answer = match (section.command, section.numbers.as_slice()) {
-        (Command::Halted, []) => Answer::Halted,
-        (Command::Quiet, []) => heard_as(0, 0, 0),
-        (Command::Byte, [byte, age]) => heard_as(1, byte_of(*byte)?, byte_of(*age)?),
-        (Command::Clash, [byte]) => heard_as(2, byte_of(*byte)?, 0),
-        (Command::Waits, [node, clock]) => Answer::Waits {
+fn of_sample(section: &Section<'_>) -> Result<Option<Answer>, Fault> {
+    let answer = match (section.word, section.numbers.as_slice()) {
+        ("halted", []) => Answer::Halted,
+        ("quiet", []) => heard_as(0, 0, 0),
+        ("byte", [byte, age]) => heard_as(1, byte_of(*byte)?, byte_of(*age)?),
+        ("clash", [byte]) => heard_as(2, byte_of(*byte)?, 0),
+        ("waits", [node, clock]) => Answer::Waits {
             node: byte_of(*node)?,
             clock: *clock,
         },
@@ -98,7 +98,7 @@ fn of_sample(section: &Section) -> Result<Option<Answer>, Fault> {
 }
 
 /// The answer that a file has; `None` where the section is none.
-pub fn answer_of(section: &Section) -> Result<Option<Answer>, Fault> {
+pub fn answer_of(section: &Section<'_>) -> Result<Option<Answer>, Fault> {
     match of_step(section)? {
         Some(answer) => Ok(Some(answer)),
         None => of_sample(section),

@@ -35,7 +35,7 @@ fn run_steps<N: Session, R: Wait>(
     world: &ListWorld,
     floor: u64,
     team: &mut Team<N>,
-    line: &[Section],
+    line: &[Section<'_>],
 ) -> Result<u32, Fault>
     requires world { N.world ≡ world.now }
     requires floor { floor ≡ N.floor }
@@ -70,7 +70,7 @@ fn in_session<N: Session, R: Wait>(
     air: Air,
     nodes: Vec<NodeAir>,
     world: &ListWorld,
-    line: &[Section],
+    line: &[Section<'_>],
 ) -> (Clocks<ListWorld>, Air, Vec<NodeAir>, Result<u32, Fault>)
     requires parts { AreParts N.table N.world N.floor clocks air }
     requires nodes { All (λ n. (n.table ≡ N.table) × (n.world ≡ N.world)) nodes.items }
@@ -104,7 +104,7 @@ impl Parts {
         self,
         rt: &R,
         alloc: Global,
-        line: &[Section],
+        line: &[Section<'_>],
     ) -> (Parts, Result<u32, Fault>) {
         let Parts {
             world,

@@ -1,7 +1,7 @@
 // A case file, line by line.
 use crate::fault::Fault;
 use crate::parts::Parts;
-use air_cases::{Command, Section, Setting, samples_of, sections_of, sends_of};
+use air_cases::{Section, Setting, samples_of, sections_of, sends_of};
 use std::alloc::Global;
 use std::sync::Wait;
 
@@ -13,12 +13,9 @@ struct Reader {
     count: u32,
 }
 
-// Whether a line that begins with this command has the steps of a session.
-fn is_step(command: Command) -> bool {
-    matches!(
-        command,
-        Command::Raise | Command::Post | Command::Try | Command::Wait | Command::Halt
-    )
+// Whether a line that begins with this word has the steps of a session.
+fn is_step(word: &str) -> bool {
+    matches!(word, "r" | "p" | "try" | "wait" | "halt")
 }
 
 // Cuts the record, or compares what it holds.
@@ -26,13 +23,13 @@ fn stand<R: Wait>(
     rt: &R,
     alloc: Global,
     parts: &mut Parts,
-    section: &Section,
+    section: &Section<'_>,
 ) -> Result<(), Fault> {
-    match (section.command, section.numbers.as_slice()) {
-        (Command::Cut, [floor]) => parts.cut(rt, *floor),
-        (Command::Record, numbers) => parts.expect_sends(&sends_of(alloc, numbers)?),
-        (Command::Heard, numbers) => parts.expect_samples(&samples_of(alloc, numbers)?),
-        (Command::Floor, [floor]) => parts.expect_floor(*floor),
+    match (section.word, section.numbers.as_slice()) {
+        ("cut", [floor]) => parts.cut(rt, *floor),
+        ("record", numbers) => parts.expect_sends(&sends_of(alloc, numbers)?),
+        ("samples", numbers) => parts.expect_samples(&samples_of(alloc, numbers)?),
+        ("floor", [floor]) => parts.expect_floor(*floor),
         _ => Err(Fault::Unreadable),
     }
 }
@@ -47,11 +44,11 @@ impl Reader {
     }
 
     // Reads what says a world, or what is done between two sessions.
-    fn read<R: Wait>(&mut self, rt: &R, alloc: Global, section: &Section) -> Result<(), Fault> {
+    fn read<R: Wait>(&mut self, rt: &R, alloc: Global, section: &Section<'_>) -> Result<(), Fault> {
         if self.setting.set(alloc, section)? {
             return Ok(());
         }
-        if let Command::Open = section.command {
+        if section.word == "open" {
             self.parts = Some(Parts::new(alloc, self.setting.world()?)?);
             return Ok(());
         }
@@ -64,7 +61,7 @@ impl Reader {
     }
 
     // Takes the steps of a line.
-    fn go<R: Wait>(&mut self, rt: &R, alloc: Global, line: &[Section]) -> Result<(), Fault> {
+    fn go<R: Wait>(&mut self, rt: &R, alloc: Global, line: &[Section<'_>]) -> Result<(), Fault> {
         let Some(parts) = self.parts.take() else {
             return Err(Fault::Unreadable);
         };
@@ -77,7 +74,7 @@ impl Reader {
     fn read_line<R: Wait>(&mut self, rt: &R, alloc: Global, line: &str) -> Result<(), Fault> {
         let sections = sections_of(alloc, line)?;
         match sections.first() {
-            Some(first) if is_step(first.command) => self.go(rt, alloc, &sections),
+            Some(first) if is_step(first.word) => self.go(rt, alloc, &sections),
             _ => {
                 for section in &sections {
                     self.read(rt, alloc, section)?;

@@ -2,7 +2,7 @@
 use crate::answer::{Answer, answer_of};
 use crate::fault::Fault;
 use crate::stand::Stand;
-use air_cases::{Command, Section, Setting, byte_of, samples_of, sections_of, sends_of};
+use air_cases::{Section, Setting, byte_of, samples_of, sections_of, sends_of};
 use std::alloc::Global;
 
 // How far a file is read.
@@ -16,21 +16,25 @@ struct Reader {
 }
 
 // What the record answers to a step; `None` where the step has no answer.
-fn answer_to(alloc: Global, stand: &mut Stand, section: &Section) -> Result<Option<Answer>, Fault> {
-    match (section.command, section.numbers.as_slice()) {
-        (Command::Raise, [node, clock]) => {
+fn answer_to(
+    alloc: Global,
+    stand: &mut Stand,
+    section: &Section<'_>,
+) -> Result<Option<Answer>, Fault> {
+    match (section.word, section.numbers.as_slice()) {
+        ("r", [node, clock]) => {
             stand.raise(byte_of(*node)?, *clock)?;
             Ok(None)
         }
-        (Command::Post, [node, number]) => {
+        ("p", [node, number]) => {
             let answer = stand.post(alloc, byte_of(*node)?, *number)?;
             Ok(Some(answer))
         }
-        (Command::Sample, [node, cycle]) => {
+        ("s", [node, cycle]) => {
             let answer = stand.sample(byte_of(*node)?, *cycle)?;
             Ok(Some(answer))
         }
-        (Command::Cut, [floor]) => {
+        ("cut", [floor]) => {
             let answer = stand.cut(*floor)?;
             Ok(Some(answer))
         }
@@ -39,11 +43,11 @@ fn answer_to(alloc: Global, stand: &mut Stand, section: &Section) -> Result<Opti
 }
 
 // Compares what the record holds, or answers false where the section says nothing of that.
-fn is_compared(alloc: Global, stand: &Stand, section: &Section) -> Result<bool, Fault> {
-    match (section.command, section.numbers.as_slice()) {
-        (Command::Record, numbers) => stand.expect_sends(&sends_of(alloc, numbers)?)?,
-        (Command::Heard, numbers) => stand.expect_samples(&samples_of(alloc, numbers)?)?,
-        (Command::Floor, [floor]) => stand.expect_floor(*floor)?,
+fn is_compared(alloc: Global, stand: &Stand, section: &Section<'_>) -> Result<bool, Fault> {
+    match (section.word, section.numbers.as_slice()) {
+        ("record", numbers) => stand.expect_sends(&sends_of(alloc, numbers)?)?,
+        ("samples", numbers) => stand.expect_samples(&samples_of(alloc, numbers)?)?,
+        ("floor", [floor]) => stand.expect_floor(*floor)?,
         _ => return Ok(false),
     }
     Ok(true)
@@ -73,7 +77,7 @@ impl Reader {
     }
 
     // Takes a step, or compares what the record holds.
-    fn step(&mut self, alloc: Global, section: &Section) -> Result<(), Fault> {
+    fn step(&mut self, alloc: Global, section: &Section<'_>) -> Result<(), Fault> {
         let Some(stand) = &mut self.stand else {
             return Err(Fault::Unreadable);
         };
@@ -85,7 +89,7 @@ impl Reader {
         Ok(())
     }
 
-    fn read(&mut self, alloc: Global, section: &Section) -> Result<(), Fault> {
+    fn read(&mut self, alloc: Global, section: &Section<'_>) -> Result<(), Fault> {
         if let Some(want) = answer_of(section)? {
             return self.compare(want);
         }
@@ -95,7 +99,7 @@ impl Reader {
         if self.setting.set(alloc, section)? {
             return Ok(());
         }
-        if let Command::Open = section.command {
+        if section.word == "open" {
             self.stand = Some(Stand::new(alloc, self.setting.world()?)?);
             return Ok(());
         }

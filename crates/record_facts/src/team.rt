@@ -5,7 +5,7 @@ ghost use Rattle.world_core.specs.Sends.{sends_below, IsSendNumber};
 
 use crate::answer::Answer;
 use crate::fault::Fault;
-use air_cases::{Command, Section, byte_of, count_below, is_asked, send_number};
+use air_cases::{Section, byte_of, count_below, is_asked, send_number};
 use neighbour_sync::{NodeAir, Session, Shared};
 use std::alloc::Global;
 use std::marker::PhantomData;
@@ -154,7 +154,7 @@ impl<N: Session> Team<N> {
         shared: &Shared<ListWorld, N>,
         world: &ListWorld,
         floor: u64,
-        section: &Section,
+        section: &Section<'_>,
     ) -> Result<Option<Answer>, Fault>
         requires world { N.world ≡ world.now }
         requires floor { floor ≡ N.floor }
@@ -165,27 +165,27 @@ impl<N: Session> Team<N> {
         };
         let place = self.place(node)?;
         let node = &mut self.nodes[place];
-        match (section.command, rest) {
-            (Command::Raise, [clock]) => {
+        match (section.word, rest) {
+            ("r", [clock]) => {
                 if raise_node(shared, world, node, *clock) {
                     Ok(None)
                 } else {
                     Err(Fault::Forbidden)
                 }
             }
-            (Command::Post, [number]) => {
+            ("p", [number]) => {
                 let answer = post_node(rt, alloc, shared, world, floor, node, *number)?;
                 Ok(Some(answer))
             }
-            (Command::Try, [cycle]) => {
+            ("try", [cycle]) => {
                 let answer = try_node(rt, shared, world, floor, node, *cycle)?;
                 Ok(Some(answer))
             }
-            (Command::Wait, [cycle]) => {
+            ("wait", [cycle]) => {
                 let answer = wait_node(rt, shared, world, floor, node, *cycle)?;
                 Ok(Some(answer))
             }
-            (Command::Halt, []) => {
+            ("halt", []) => {
                 node.halt(shared);
                 Ok(None)
             }

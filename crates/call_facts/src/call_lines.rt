@@ -1,5 +1,5 @@
 // One line of a file of calls.
-use memory_calls::{Faults, Stream};
+use crate::calling::{Faults, Stream};
 use std::alloc::{AllocError, Global};
 
 /// A call: its words, and where its outside fails.

@@ -1,6 +1,7 @@
 // A run over files and streams in memory.
-use crate::lines::Limits;
-use memory_calls::{Faults, Held, Outcome, called_on_threads};
+use crate::calling::{Faults, Outcome, called_on_threads};
+use crate::held::Held;
+use crate::network_lines::Limits;
 use std::alloc::{AllocError, Global};
 use std::sync::Wait;
 use std::thread::Threads;

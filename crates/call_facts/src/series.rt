@@ -1,11 +1,12 @@
 // Calls that fail at one place after another.
+use crate::calling::{Faults, Stream};
+use crate::fault_lines::{Place, Series};
 use crate::foreign::image;
-use crate::reading::{Place, Series};
+use crate::held::Held;
 use crate::rows::Rows;
 use crate::shown::Due;
 use crate::trying::{Told, tried};
 use case_files::Failed;
-use memory_calls::{Faults, Held, Stream};
 use sim_io::Sink;
 use std::alloc::{AllocError, Global};
 use std::sync::Wait;

@@ -1,6 +1,6 @@
 // What is told of a call.
+use crate::calling::Outcome;
 use arrayvec::ArrayString;
-use memory_calls::Outcome;
 use std::alloc::{AllocError, Global};
 use text_pieces::put_decimal;
 

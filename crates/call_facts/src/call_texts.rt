@@ -1,7 +1,7 @@
 // What is written of a call.
+use crate::calling::Outcome;
 use arrayvec::ArrayString;
 use avrora_top::Status;
-use memory_calls::Outcome;
 use sim_io::{Sink, SinkFault, write_all};
 use text_pieces::put_decimal;
 

@@ -1,21 +1,15 @@
-//! Runs of whole networks: for each that a text file tells, the status, the trace and the error stream of `run FILE`, with
-//! each node on a thread of its own, and whether those of `run --plain FILE` are the same. `command_facts` runs it, and its
-//! stored run compares them with what a slow simulator that shares nothing with this one gives (`bench/network`).
-#![tactic(auto)]
-
-mod lines;
-mod runs;
-mod writing;
-
-use case_files::{Failed, text_of};
-use lines::{Line, read_line};
-use memory_calls::{Held, hold_file};
-use runs::made;
-use sim_io::{Sink, write_all};
+// Runs of whole networks: for each that a text file tells, the status, the trace and the error stream of `run FILE`, with
+// each node on a thread of its own, and whether those of `run --plain FILE` are the same.
+use crate::files::hold_file;
+use crate::held::Held;
+use crate::network_lines::{Line, read_line};
+use crate::network_runs::made;
+use crate::network_texts::{write_outcome, write_plain};
+use case_files::{Failed, text_of, write_line};
+use sim_io::Sink;
 use std::fs::Files;
 use std::sync::Wait;
 use std::thread::Threads;
-use writing::{write_outcome, write_plain};
 
 // A line of a case file, which is written too, but for the lines of files.
 fn do_line<R: Threads + Wait + Files + AllocGlobal + Sync, O: Sink>(
@@ -31,8 +25,7 @@ fn do_line<R: Threads + Wait + Files + AllocGlobal + Sync, O: Sink>(
     if let Line::Content(content) = line {
         return Ok(held.extend(content)?);
     }
-    write_all(out, text.as_bytes())?;
-    write_all(out, b"\n")?;
+    write_line(text, out)?;
     match line {
         Line::Comment | Line::Content(_) => Ok(()),
         Line::File(name) => Ok(held.add(alloc, name, Vec::new(alloc))?),
@@ -48,7 +41,7 @@ fn do_line<R: Threads + Wait + Files + AllocGlobal + Sync, O: Sink>(
 }
 
 /// Does a case file, line after line.
-pub fn do_file<R: Threads + Wait + Files + AllocGlobal + Sync, O: Sink>(
+pub fn do_networks<R: Threads + Wait + Files + AllocGlobal + Sync, O: Sink>(
     rt: &R,
     name: &str,
     out: &mut O,

@@ -1,22 +1,12 @@
-//! Calls of the whole program that fail at every place: each read, each write to the output, each write to the error stream,
-//! a file that ends at each of its bytes, and images that nobody wrote as a program. For each call the status and what stands
-//! on the two streams; `run FILE`, by threads, is run a second time as `run --plain FILE`, which has to come to the same.
-//! `command_facts` runs it, and its stored run compares them with what docs/FORMATS.md says and a slow simulator gives
-//! (`bench/network`).
-#![tactic(auto)]
-
-mod foreign;
-mod reading;
-mod rows;
-mod series;
-mod shown;
-mod trying;
-
-use case_files::{Failed, text_of};
-use memory_calls::{Held, hold_file};
-use reading::{Line, read_line};
-use series::do_series;
-use sim_io::{Sink, write_all};
+// Calls that fail at every place: each read, each write to the output, each write to the error stream, a file that ends at each
+// of its bytes, and images that nobody wrote as a program. For each call the status and what stands on the two streams; `run
+// FILE`, by threads, is run a second time as `run --plain FILE`, which has to come to the same.
+use crate::fault_lines::{Line, read_line};
+use crate::files::hold_file;
+use crate::held::Held;
+use crate::series::do_series;
+use case_files::{Failed, text_of, write_line};
+use sim_io::Sink;
 use std::fs::Files;
 use std::sync::Wait;
 use std::thread::Threads;
@@ -35,8 +25,7 @@ fn do_line<R: Threads + Wait + Files + AllocGlobal + Sync, O: Sink>(
     if let Line::Content(content) = line {
         return Ok(held.extend(content)?);
     }
-    write_all(out, text.as_bytes())?;
-    write_all(out, b"\n")?;
+    write_line(text, out)?;
     match line {
         Line::Comment | Line::Content(_) => Ok(()),
         Line::File(name) => Ok(held.add(alloc, name, Vec::new(alloc))?),
@@ -46,7 +35,7 @@ fn do_line<R: Threads + Wait + Files + AllocGlobal + Sync, O: Sink>(
 }
 
 /// Does a case file, line after line.
-pub fn do_file<R: Threads + Wait + Files + AllocGlobal + Sync, O: Sink>(
+pub fn do_faults<R: Threads + Wait + Files + AllocGlobal + Sync, O: Sink>(
     rt: &R,
     name: &str,
     out: &mut O,

@@ -1,6 +1,7 @@
 // A call, and what is told of it.
+use crate::calling::{Faults, Outcome, called, called_on_threads};
+use crate::held::Held;
 use crate::shown::{Due, text_of};
-use memory_calls::{Faults, Held, Outcome, called, called_on_threads};
 use std::alloc::{AllocError, Global};
 use std::sync::Wait;
 use std::thread::Threads;

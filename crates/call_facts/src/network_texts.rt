@@ -1,6 +1,6 @@
 // What is written of a run.
+use crate::calling::Outcome;
 use arrayvec::ArrayString;
-use memory_calls::Outcome;
 use sim_io::{Sink, SinkFault, write_all};
 use text_pieces::put_decimal;
 

@@ -1,8 +1,5 @@
-//! Traces of whole nodes, one after another: for each line FILE CYCLES of a text file the trace of `node FILE CYCLES`, under a
-//! line that names it. `command_facts` runs it, and its stored run compares the traces with what an independent model of the
-//! node gives.
-#![tactic(auto)]
-
+// Traces of whole nodes, one after another: for each line FILE CYCLES of a text file the trace of `node FILE CYCLES`, under a
+// line that names it.
 use avrora_top::{Status, avrora_alone};
 use case_files::{Failed, text_of};
 use sim_io::{DirStore, MemSink, Sink, SinkFault, write_all};
@@ -47,7 +44,7 @@ fn quiet(alloc: Global) -> Result<MemSink, Failed> {
 }
 
 /// Does a file of runs, line after line, up to the first run that does not end well or the first line that is none.
-pub fn do_file<R: Files + AllocGlobal, O: Sink>(
+pub fn do_traces<R: Files + AllocGlobal, O: Sink>(
     rt: &R,
     name: &str,
     out: &mut O,
