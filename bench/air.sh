@@ -5,17 +5,17 @@
 set -eu
 top=$(cd "$(dirname "$0")/.." && pwd)
 samples=${1:-2000000}
-crate=$top/crates/air_bench
-program=$crate/out/air_bench
+crate=$top/crates/command_facts
+program=$crate/out/command_facts
 work=$(mktemp -d)
 trap 'rm -rf "$work"' EXIT
-(cd "$crate" && rt run >/dev/null)
+(cd "$crate" && rt run -- trials=all:10:1000 >/dev/null)
 
 # The least processor time of three runs, in seconds.
 least() {
     best=
     for _ in 1 2 3; do
-        { /usr/bin/env time -f '%U' "$program" "$@" >/dev/null; } 2>"$work/time"
+        { /usr/bin/env time -f '%U' "$program" "trials=$1" >/dev/null; } 2>"$work/time"
         read -r seconds <"$work/time"
         if [ -z "$best" ] || awk "BEGIN { exit !($seconds < $best) }"; then best=$seconds; fi
     done
@@ -23,9 +23,9 @@ least() {
 }
 
 for sends in 50 500 5000; do
-    start=$(least "$sends" 0 front)
+    start=$(least "front:$sends:0")
     for where in front all; do
-        took=$(least "$sends" "$samples" "$where")
+        took=$(least "$where:$sends:$samples")
         awk -v n="$sends" -v w="$where" -v t="$took" -v s="$start" -v c="$samples" \
             'BEGIN { d = t - s; printf "%d sends a node, %s: %.0f ns a sample, %.1f million a second\n", n, w, d / c * 1e9, c / d / 1e6 }'
     done

@@ -1,10 +1,10 @@
 #!/usr/bin/env python3
-"""Draws the case files of crates/air_facts and crates/record_facts that are too long to write by hand, with their answers.
+"""Draws the case files of `air_facts` and `record_facts` that are too long to write by hand, with their answers.
 
     bench/air_cases.py FOLDER
 
 writes drawn_steps.txt, drawn_states.txt, drawn_log.txt and drawn_taken.txt, which are of air_facts, and drawn_record.txt,
-which is of record_facts, into FOLDER, always the same bytes. drawn_taken.txt has for each record of drawn_record.txt the
+which is of record_facts, into FOLDER (crates/command_facts/data), always the same bytes. drawn_taken.txt has for each record of drawn_record.txt the
 same steps up to its first cut, so that the record and the core without a record are asked the same.
 
 It is the rules of docs/AIR.md once more, written plainly and slowly: to be heard, to be needed, to be consistent and to be

@@ -1,5 +1,5 @@
 #!/usr/bin/env python3
-"""Writes crates/asm_facts/data/rows.txt, aliases.txt and targets.txt: sources in assembly, with the words that avr-as of
+"""Writes crates/command_facts/data/rows.txt, aliases.txt and targets.txt: sources in assembly, with the words that avr-as of
 binutils gives for them. Wants avr-as and avr-objcopy (Debian: binutils-avr)."""
 import os, random, subprocess, sys, tempfile
 
@@ -134,7 +134,7 @@ def head(text):
 
 
 if __name__ == "__main__":
-    folder = os.path.join(os.path.dirname(os.path.abspath(__file__)), "..", "crates", "asm_facts", "data")
+    folder = os.path.join(os.path.dirname(os.path.abspath(__file__)), "..", "crates", "command_facts", "data")
     for name, text, made in (("rows", "each row of the opcode table", rows), ("aliases", "each alias", aliases), ("targets", "labels", targets)):
         with open(os.path.join(folder, name + ".txt"), "w") as out:
             out.write(head(text) + made())

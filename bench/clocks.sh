@@ -5,16 +5,16 @@
 set -eu
 top=$(cd "$(dirname "$0")/.." && pwd)
 count=${1:-100000000}
-crate=$top/crates/clock_trials
-program=$crate/out/clock_trials
+crate=$top/crates/command_facts
+program=$crate/out/command_facts
 work=$(mktemp -d)
 trap 'rm -rf "$work"' EXIT
-(cd "$crate" && rt run >/dev/null)
+(cd "$crate" && rt run -- trials=load:1 >/dev/null)
 
 for call in load peek raise; do
     best=
     for _ in 1 2 3 4 5; do
-        { /usr/bin/env time -f '%U' "$program" "$call" "$count" >/dev/null; } 2>"$work/time"
+        { /usr/bin/env time -f '%U' "$program" "trials=$call:$count" >/dev/null; } 2>"$work/time"
         read -r seconds <"$work/time"
         if [ -z "$best" ] || awk "BEGIN { exit !($seconds < $best) }"; then best=$seconds; fi
     done

@@ -1,8 +1,8 @@
 #!/usr/bin/env python3
-"""Writes data/registers.txt and data/selects.txt of crates/device_facts: what every I/O register reads after a write, or why
+"""Writes data/registers.txt and data/selects.txt of crates/command_facts: what every I/O register reads after a write, or why
 the write stops, and when each timer has its events behind each of its clock selects.
 
-    python3 bench/device_cases.py crates/device_facts
+    python3 bench/device_cases.py crates/command_facts
 
 The answers are those of bench/machine.py, which is docs/MACHINE.md once more. What the machine stops for is besides looked
 for here: of each register that some write stops, each bit alone is written too, and the largest byte that does not stop.

@@ -1,7 +1,7 @@
 #!/usr/bin/env python3
-"""Writes data/kindred.txt and data/causes.txt of crates/instruction_facts.
+"""Writes data/kindred.txt and data/causes.txt of crates/command_facts.
 
-    python3 bench/instruction_cases.py crates/instruction_facts
+    python3 bench/instruction_cases.py crates/command_facts
 
 kindred.txt has for each mnemonic rows that every kindred rule answers otherwise: the same instruction with or without the
 carry, with Z kept or not, signed or unsigned, with another pointer, another flag or another flash address. A row is wanted on

@@ -6,27 +6,27 @@
 set -eu
 top=$(cd "$(dirname "$0")/.." && pwd)
 rounds=${1:-2000}
-crate=$top/crates/shared_trials
-program=$crate/out/shared_trials
+crate=$top/crates/command_facts
+program=$crate/out/command_facts
 work=$(mktemp -d)
 trap 'rm -rf "$work"' EXIT
-(cd "$crate" && rt run >/dev/null)
+(cd "$crate" && rt run -- trials=both:1 >/dev/null)
 
 # The least time of five runs, in seconds.
 least() {
     best=
     for _ in 1 2 3 4 5; do
-        { /usr/bin/env time -f '%e' "$program" "$@" >/dev/null; } 2>"$work/time"
+        { /usr/bin/env time -f '%e' "$program" "trials=$1" >/dev/null; } 2>"$work/time"
         read -r seconds <"$work/time"
         if [ -z "$best" ] || awk "BEGIN { exit !($seconds < $best) }"; then best=$seconds; fi
     done
     echo "$best"
 }
 
-start=$(least post 0)
-post=$(least post "$rounds")
-sample=$(least sample "$rounds")
-both=$(least both "$rounds")
+start=$(least post:0)
+post=$(least "post:$rounds")
+sample=$(least "sample:$rounds")
+both=$(least "both:$rounds")
 awk -v r="$rounds" -v a="$start" -v p="$post" -v s="$sample" -v b="$both" 'BEGIN {
     n = r * 1000; post = (p - a) / n * 1e9; sample = (s - p) / n * 1e9; both = (b - a) / n * 1e9
     printf "one thread: %.0f ns a post with its raise, %.1f million a second\n", post, 1e3 / post

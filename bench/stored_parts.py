@@ -9,11 +9,12 @@ def put_part(crate, word, lines):
     """Puts the lines that a word is to come to in the place of those that stand in stdout."""
     stdout = crate / "stdout"
     parts, part = {}, None
-    for line in stdout.read_text().splitlines():
+    for line in stdout.read_bytes().decode().removesuffix("\n").split("\n"):
         if line.startswith(HEAD):
             part = parts.setdefault(line[len(HEAD):], [])
         else:
             part.append(line)
     assert word in parts, (word, list(parts))
     parts[word] = list(lines)
-    stdout.write_text("".join(line + "\n" for word, part in parts.items() for line in [HEAD + word, *part]))
+    text = "".join(line + "\n" for word, part in parts.items() for line in [HEAD + word, *part])
+    stdout.write_bytes(text.encode())

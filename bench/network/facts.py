@@ -1,5 +1,5 @@
 #!/usr/bin/env python3
-"""Writes the case files of `network_facts` and what the stored run of `command_facts` is to give of them, by the slow simulator beside this file.
+"""Writes the files of cases of networks (`call_facts`) and what the stored run of `command_facts` is to give of them, by the slow simulator beside this file.
 
     bench/network/facts.py FOLDER        FOLDER is crates/command_facts: writes its files of these cases in data/,
                                           and what they are to come to in stdout

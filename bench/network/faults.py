@@ -1,5 +1,5 @@
 #!/usr/bin/env python3
-"""Writes the case file of `fault_facts` and what the stored run of `command_facts` is to give of it, by the slow simulator beside this file.
+"""Writes the file of cases that fail (`call_facts`) and what the stored run of `command_facts` is to give of it, by the slow simulator beside this file.
 
     bench/network/faults.py FOLDER        FOLDER is crates/command_facts: writes its files of these cases in data/,
                                           and what they are to come to in stdout

@@ -1,17 +1,20 @@
 #!/usr/bin/env python3
-"""Writes the cases of crates/scenario_facts, and what is to be read of each, from the rules of docs/FORMATS.md alone.
+"""Writes the scenario texts that `run_facts` reads, and what is to be read of each, from the rules of docs/FORMATS.md alone.
 
 It shares nothing with the crate scenario_file: TOML is read by Python's tomllib, and the rules stand below a second time.
 What tomllib takes otherwise than TOML 1.1 (a BOM, whole numbers of more than 64 bits, nesting, new lines in inline tables) is
 said at the case, by hand.
 
-    python3 bench/scenario/cases.py crates/scenario_facts      writes data/*.cases, args and stdout
+    python3 bench/scenario/cases.py crates/command_facts       writes data/*.cases, and their parts of stdout
     python3 bench/scenario/cases.py --large FILE               writes the largest scenario, to be timed
     python3 bench/scenario/cases.py --hostile FILE             writes hostile texts of 1 MiB, to be timed
 """
 import sys
 import tomllib
 from pathlib import Path
+
+sys.path.append(str(Path(__file__).resolve().parent.parent))
+from stored_parts import put_part
 
 PROBES = [0, 1, 2, 9, 10, 11, 19, 20, 92, 93, 94, 99, 100, 2**40 - 2, 2**40 - 1, 2**40]
 TOP = {"version", "cycles", "latency", "byte_time", "window", "node", "link", "input"}
@@ -564,19 +567,13 @@ class Cases:
 
 def main(folder):
     groups = {"alone": alone, "strangers": strangers, "pairs": pairs, "kinds": kinds, "bounds": bounds, "prefixes": prefixes, "forms": forms}
-    data = folder / "data"
-    data.mkdir(exist_ok=True)
-    wanted = []
     total = 0
     for name, group in groups.items():
         out = Cases()
         group(out)
         total += len(out.cases)
-        (data / f"{name}.cases").write_bytes(b"".join(b"== " + n.encode() + b"\n" + d + b"\n" for n, d, _ in out.cases))
-        for n, _, lines in out.cases:
-            wanted.append(f"{n}: {lines[0]}\n" + "".join(line + "\n" for line in lines[1:]))
-    (folder / "args").write_text("".join(f"{name}.cases\n" for name in groups))
-    (folder / "stdout").write_text("".join(wanted))
+        (folder / "data" / f"{name}.cases").write_bytes(b"".join(b"== " + n.encode() + b"\n" + d + b"\n" for n, d, _ in out.cases))
+        put_part(folder, f"scenarios={name}.cases", [line for n, _, lines in out.cases for line in [f"{n}: {lines[0]}", *lines[1:]]])
     print(total, "cases")
 
 

@@ -1,20 +1,29 @@
 // What the lines of a case file have set: a topology, with the sends and samples of a world.
-use crate::{CaseFault, Command, Section, byte_of};
+use crate::{CaseFault, Section, byte_of};
 use std::alloc::Global;
-use world_core::{Ask, Heard, Link, ListWorld, Send, Span, Topo};
+use world_core::{Ask, Heard, Link, ListWorld, Send, Span, Topo, TopoFault, WorldFault};
 
-/// What is set, for the records to come.
+/// What is set, for what is to come.
 #[derive(Drop)]
 pub struct Setting {
-    nodes: u8,
-    limit: u64,
-    latency: u64,
-    byte_time: u64,
-    links: Vec<Link>,
-    own: Vec<u64>,
-    spans: Vec<Span>,
-    sends: Vec<Send>,
-    asks: Vec<Ask>,
+    /// How many nodes there are.
+    pub nodes: u8,
+    /// The cycle at which a run ends.
+    pub limit: u64,
+    /// The topology's latency, in cycles.
+    pub latency: u64,
+    /// The byte time, in cycles.
+    pub byte_time: u64,
+    /// The links.
+    pub links: Vec<Link>,
+    /// The links' own latencies, in cycles.
+    pub own: Vec<u64>,
+    /// When links are open.
+    pub spans: Vec<Span>,
+    /// The sends of a world.
+    pub sends: Vec<Send>,
+    /// The samples of a world.
+    pub asks: Vec<Ask>,
 }
 
 fn link_of(numbers: &[u64]) -> Result<Link, CaseFault> {
@@ -54,7 +63,24 @@ fn spans_of(alloc: Global, numbers: &[u64]) -> Result<Vec<Span>, CaseFault> {
     Ok(spans)
 }
 
-fn send_of(numbers: &[u64]) -> Result<Send, CaseFault> {
+// So many spans of the first link: each of one cycle, from cycles 0, 2, 4 and so on.
+fn many_spans(alloc: Global, numbers: &[u64]) -> Result<Vec<Span>, CaseFault> {
+    let [count] = numbers else {
+        return Err(CaseFault::Unreadable);
+    };
+    let mut spans = Vec::new(alloc);
+    for number in 0..(*count).min(10_000) {
+        spans.push(Span {
+            link: 0,
+            from: 2 * number,
+            until: 2 * number + 1,
+        })?;
+    }
+    Ok(spans)
+}
+
+/// A send by its node, cycle and byte.
+pub fn send_of(numbers: &[u64]) -> Result<Send, CaseFault> {
     match numbers {
         [node, cycle, byte] => Ok(Send {
             node: byte_of(*node)?,
@@ -119,7 +145,8 @@ pub fn samples_of(alloc: Global, numbers: &[u64]) -> Result<Vec<(Ask, Heard)>, C
     Ok(samples)
 }
 
-fn copy_of(alloc: Global, numbers: &[u64]) -> Result<Vec<u64>, CaseFault> {
+/// A list of numbers.
+pub fn copy_of(alloc: Global, numbers: &[u64]) -> Result<Vec<u64>, CaseFault> {
     let mut list = Vec::new(alloc);
     list.extend_from_slice(numbers)?;
     Ok(list)
@@ -159,25 +186,27 @@ impl Setting {
     }
 
     /// Sets what the section says, or answers false where it says nothing of a world.
-    pub fn set(&mut self, alloc: Global, section: &Section) -> Result<bool, CaseFault> {
+    pub fn set(&mut self, alloc: Global, section: &Section<'_>) -> Result<bool, CaseFault> {
         let numbers = section.numbers.as_slice();
-        match section.command {
-            Command::Topo => self.set_topo(alloc, numbers)?,
-            Command::Links => self.links = links_of(alloc, numbers)?,
-            Command::Own => self.own = copy_of(alloc, numbers)?,
-            Command::Spans => self.spans = spans_of(alloc, numbers)?,
-            Command::Sends => self.sends = sends_of(alloc, numbers)?,
-            Command::Asks => self.asks = asks_of(alloc, numbers)?,
+        match section.word {
+            "topo" => self.set_topo(alloc, numbers)?,
+            "links" => self.links = links_of(alloc, numbers)?,
+            "own" => self.own = copy_of(alloc, numbers)?,
+            "spans" => self.spans = spans_of(alloc, numbers)?,
+            "many" => self.spans = many_spans(alloc, numbers)?,
+            "sends" => self.sends = sends_of(alloc, numbers)?,
+            "asks" => self.asks = asks_of(alloc, numbers)?,
             _ => return Ok(false),
         }
         Ok(true)
     }
 
-    fn topo(&self) -> Result<Topo, CaseFault> {
+    /// The topology of these numbers and lists, of all its links' latencies and spans, or why there is none.
+    pub fn topo(&self) -> Result<Result<Topo, TopoFault>, CaseFault> {
         let links = self.links.clone()?;
         let own = self.own.clone()?;
         let spans = self.spans.clone()?;
-        let made = Topo::with_spans(
+        Ok(Topo::with_spans(
             self.nodes,
             self.limit,
             self.latency,
@@ -185,15 +214,27 @@ impl Setting {
             links,
             own,
             spans,
-        );
-        made.map_err(|_| CaseFault::Unreadable)
+        ))
     }
 
-    /// The world that is set.
-    pub fn world(&self) -> Result<ListWorld, CaseFault> {
-        let topo = self.topo()?;
+    /// A copy of the topology, where there is one.
+    pub fn lawful_topo(&self) -> Result<Topo, CaseFault> {
+        match self.topo()? {
+            Ok(topo) => topo.copy().map_err(|_| CaseFault::NoMemory),
+            Err(_) => Err(CaseFault::Unreadable),
+        }
+    }
+
+    /// The world of the topology, the sends and the samples, or why there is none.
+    pub fn listed_world(&self) -> Result<Result<ListWorld, WorldFault>, CaseFault> {
+        let topo = self.lawful_topo()?;
         let sends = self.sends.clone()?;
         let asks = self.asks.clone()?;
-        ListWorld::new(topo, sends, asks).map_err(|_| CaseFault::Unreadable)
+        Ok(ListWorld::new(topo, sends, asks))
+    }
+
+    /// The world, where there is one.
+    pub fn world(&self) -> Result<ListWorld, CaseFault> {
+        self.listed_world()?.map_err(|_| CaseFault::Unreadable)
     }
 }

@@ -1,6 +1,6 @@
 // Answers to the questions of a case file.
 use crate::fault::Fault;
-use crate::words::{Command, Section};
+use air_cases::Section;
 use world_core::Heard;
 
 /// What the answer to a question is, or is to be.
@@ -46,30 +46,30 @@ pub fn heard_as(status: u8, byte: u64, age: u64) -> Result<Answer, Fault> {
 }
 
 // An answer that has no number, or one.
-fn with_place(section: &Section) -> Option<Answer> {
-    match (section.command, section.numbers.as_slice()) {
-        (Command::Ok, []) => Some(Answer::Accepted),
-        (Command::Range, []) => Some(Answer::Range),
-        (Command::SelfLink, [place]) => Some(Answer::SelfLink(*place)),
-        (Command::TwiceLinked, [place]) => Some(Answer::TwiceLinked(*place)),
-        (Command::SendOrder, [place]) => Some(Answer::SendOrder(*place)),
-        (Command::AskOrder, [place]) => Some(Answer::AskOrder(*place)),
-        (Command::Illegal, [place]) => Some(Answer::Illegal(*place)),
-        (Command::State, []) => Some(Answer::State),
-        (Command::Yes, []) => Some(Answer::Holds(true)),
-        (Command::No, []) => Some(Answer::Holds(false)),
-        (Command::Is, [n]) => Some(Answer::Number(*n)),
-        (Command::Waits, [node, clock]) => Some(Answer::Waits(*node, *clock)),
+fn with_place(section: &Section<'_>) -> Option<Answer> {
+    match (section.word, section.numbers.as_slice()) {
+        ("ok", []) => Some(Answer::Accepted),
+        ("range", []) => Some(Answer::Range),
+        ("self_link", [place]) => Some(Answer::SelfLink(*place)),
+        ("twice_linked", [place]) => Some(Answer::TwiceLinked(*place)),
+        ("send_order", [place]) => Some(Answer::SendOrder(*place)),
+        ("ask_order", [place]) => Some(Answer::AskOrder(*place)),
+        ("illegal", [place]) => Some(Answer::Illegal(*place)),
+        ("state", []) => Some(Answer::State),
+        ("yes", []) => Some(Answer::Holds(true)),
+        ("no", []) => Some(Answer::Holds(false)),
+        ("is", [n]) => Some(Answer::Number(*n)),
+        ("waits", [node, clock]) => Some(Answer::Waits(*node, *clock)),
         _ => None,
     }
 }
 
 /// The answer that a file has; `None` where the section is none.
-pub fn answer_of(section: &Section) -> Result<Option<Answer>, Fault> {
-    match (section.command, section.numbers.as_slice()) {
-        (Command::Quiet, []) => Ok(Some(heard_as(0, 0, 0)?)),
-        (Command::Byte, [byte, age]) => Ok(Some(heard_as(1, *byte, *age)?)),
-        (Command::Clash, [byte]) => Ok(Some(heard_as(2, *byte, 0)?)),
+pub fn answer_of(section: &Section<'_>) -> Result<Option<Answer>, Fault> {
+    match (section.word, section.numbers.as_slice()) {
+        ("quiet", []) => Ok(Some(heard_as(0, 0, 0)?)),
+        ("byte", [byte, age]) => Ok(Some(heard_as(1, *byte, *age)?)),
+        ("clash", [byte]) => Ok(Some(heard_as(2, *byte, 0)?)),
         _ => Ok(with_place(section)),
     }
 }

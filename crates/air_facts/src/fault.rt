@@ -1,9 +1,10 @@
 // Why a case file is not as it should be.
 use crate::answer::Answer;
+use air_cases::CaseFault;
 use std::alloc::{AllocError, AllocFailed};
 
 /// Why a line of a case file stops a run.
-#[derive(Clone, Copy, Debug, PartialEq, Eq)]
+#[derive(Clone, Copy, Debug)]
 pub enum Fault {
     /// An answer is another than the file has.
     Differs {
@@ -28,5 +29,14 @@ impl From<AllocError> for Fault {
 impl<T: Drop> From<AllocFailed<T>> for Fault {
     fn from(_error: AllocFailed<T>) -> Self {
         Fault::NoMemory
+    }
+}
+
+impl From<CaseFault> for Fault {
+    fn from(fault: CaseFault) -> Self {
+        match fault {
+            CaseFault::Unreadable => Fault::Unreadable,
+            CaseFault::NoMemory => Fault::NoMemory,
+        }
     }
 }

@@ -4,7 +4,8 @@ ghost use Rattle.std.specs.List.{All};
 
 use crate::answer::Answer;
 use crate::fault::Fault;
-use crate::plain::{are_inside, own};
+use crate::plain::are_inside;
+use air_cases::own_sends;
 use send_log::SendLog;
 use std::alloc::Global;
 use world_core::{Send, Topo};
@@ -21,7 +22,7 @@ pub fn push(alloc: Global, log: &mut SendLog, send: Send) -> Result<(), Fault> {
     if send.node >= 64 || log.sends().len() >= log.room() {
         return Err(Fault::Unreadable);
     }
-    let earlier = own(alloc, send.node, log.sends())?;
+    let earlier = own_sends(alloc, send.node, log.sends())?;
     if !are_below(&earlier, send.cycle) {
         return Err(Fault::Unreadable);
     }

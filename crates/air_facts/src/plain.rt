@@ -1,49 +1,20 @@
 // A plain, slow program that says whether a state of the air is consistent, straight from the definition.
 ghost use Rattle.std.specs.Prelude.{◌≡◌, ◌↔◌, ◌<◌, ◌≤◌, length, take, IfOk, IsTrue};
-ghost use Rattle.std.specs.List.{All, Contains, filter};
+ghost use Rattle.std.specs.List.{All, filter};
 ghost use Rattle.world_core.specs.Topology.{IsInside};
-ghost use Rattle.world_core.specs.Sends.{sends_of, sends_below};
 ghost use Rattle.world_core.specs.Posted.{posted};
 ghost use Rattle.world_core.specs.Kept.{is_kept};
 ghost use Rattle.world_core.specs.Consistent.{IsConsistent};
 ghost use Rattle.air_facts.specs.ByNode.{NodeAgrees, NodesPostedFor, SampleAgrees};
 
+use air_cases::{count_below, is_asked, own_sends};
 use std::alloc::{AllocError, Global};
 use world_core::{Ask, Heard, ListWorld, Send, Topo, World, heard_of};
-
-/// The sends of one node.
-pub fn own(alloc: Global, node: u8, sends: &[Send]) -> Result<Vec<Send>, AllocError>
-    ensures { IfOk result (λ v. v.items ≡ sends_of node sends.now) }
-{
-    sends
-        .iter()
-        .filter(|s| s.node == node)
-        .copied()
-        .collect(alloc)
-}
-
-// How many sends of one node lie below a cycle.
-#[tactic(auto, unfolding(world_core::specs::Sends::sends_below))]
-fn count_below(sends: &[Send], node: u8, cycle: u64) -> u64
-    ensures { result ≡ sends_below sends.now node cycle }
-{
-    sends
-        .iter()
-        .filter(|s| s.node == node)
-        .filter(|s| s.cycle < cycle)
-        .count() as u64
-}
 
 fn are_same(a: &[Send], b: &[Send]) -> bool
     ensures { IsTrue result ↔ (a.now ≡ b.now) }
 {
     a == b
-}
-
-fn is_asked(asks: &[Ask], ask: &Ask) -> bool
-    ensures { IsTrue result ↔ Contains asks.now ask.now }
-{
-    asks.contains(ask)
 }
 
 /// Whether all sends lie inside the topology.
@@ -62,7 +33,7 @@ fn posted_of(alloc: Global, world: &ListWorld, sent: &[u64]) -> Result<Vec<Send>
 {
     let mut all = Vec::new(alloc);
     for node in 0..world.topo().nodes() {
-        let sends = own(alloc, node, world.sends())?;
+        let sends = own_sends(alloc, node, world.sends())?;
         let count = sends.len().min(sent[usize::from(node)] as usize);
         all.extend_from_slice(&sends[..count])?;
     }
@@ -110,8 +81,8 @@ fn node_agrees(
 {
     let clock = clocks[usize::from(node)];
     let count = sent[usize::from(node)];
-    let all = own(alloc, node, world.sends())?;
-    let recorded = own(alloc, node, sends)?;
+    let all = own_sends(alloc, node, world.sends())?;
+    let recorded = own_sends(alloc, node, sends)?;
     if clock > world.topo().limit() {
         return Ok(false);
     }

@@ -1,6 +1,5 @@
 // What the crates answer to the questions of a case file.
 ghost use Rattle.std.specs.Prelude.{◌≡◌, ◌↔◌, ◌≤◌, IfOk, IsTrue};
-ghost use Rattle.std.specs.List.{Contains};
 ghost use Rattle.world_core.specs.Topology.{IsShort};
 
 use crate::answer::Answer;
@@ -8,7 +7,7 @@ use crate::fault::Fault;
 use crate::logs::listens;
 use crate::plain::{are_inside, is_consistent};
 use crate::setting::Setting;
-use crate::words::{Command, Section};
+use air_cases::{Section, byte_of, is_asked};
 use std::alloc::Global;
 use sync_core::{Core, ReplayFault, Step, replay};
 use world_core::{Ask, ListWorld, Sampled, Topo, TopoFault, World, WorldFault, heard_of};
@@ -30,25 +29,25 @@ fn of_world(got: Result<ListWorld, WorldFault>) -> Answer {
     }
 }
 
-fn by_new(setting: &Setting) -> Result<Answer, Fault> {
-    let links = setting.links.clone()?;
+fn by_new(world: &air_cases::Setting) -> Result<Answer, Fault> {
+    let links = world.links.clone()?;
     Ok(of_topo(Topo::new(
-        setting.nodes,
-        setting.limit,
-        setting.latency,
-        setting.byte_time,
+        world.nodes,
+        world.limit,
+        world.latency,
+        world.byte_time,
         links,
     )))
 }
 
-fn by_latencies(setting: &Setting) -> Result<Answer, Fault> {
-    let links = setting.links.clone()?;
-    let own = setting.own.clone()?;
+fn by_latencies(world: &air_cases::Setting) -> Result<Answer, Fault> {
+    let links = world.links.clone()?;
+    let own = world.own.clone()?;
     Ok(of_topo(Topo::with_latencies(
-        setting.nodes,
-        setting.limit,
-        setting.latency,
-        setting.byte_time,
+        world.nodes,
+        world.limit,
+        world.latency,
+        world.byte_time,
         links,
         own,
     )))
@@ -56,15 +55,11 @@ fn by_latencies(setting: &Setting) -> Result<Answer, Fault> {
 
 // What a node hears of all the sends, which are to lie inside the topology.
 fn hears(setting: &Setting, node: u8, cycle: u64) -> Result<Answer, Fault> {
-    let topo = setting.lawful_topo()?;
-    if !are_inside(&topo, &setting.sends) {
+    let topo = setting.world.lawful_topo()?;
+    if !are_inside(&topo, &setting.world.sends) {
         return Err(Fault::Unreadable);
     }
-    Ok(Answer::Heard(heard_of(&topo, &setting.sends, node, cycle)))
-}
-
-fn node_of(n: u64) -> Result<u8, Fault> {
-    u8::try_from(n).map_err(|_| Fault::Unreadable)
+    Ok(Answer::Heard(heard_of(&topo, &setting.world.sends, node, cycle)))
 }
 
 // Whether the record of sends is the one that is given.
@@ -77,31 +72,28 @@ fn is_record(setting: &Setting) -> Answer {
 }
 
 // The answer of a reader of the topology, or of what is heard.
-fn of_reader(setting: &Setting, command: Command, numbers: &[u64]) -> Result<Answer, Fault> {
-    let topo = setting.lawful_topo()?;
-    match (command, numbers) {
-        (Command::Reach, []) => Ok(Answer::Number(topo.reach())),
-        (Command::Linked, [from, to]) => Ok(Answer::Holds(topo.linked(
-            node_of(*from)?,
-            node_of(*to)?,
+fn of_reader(setting: &Setting, word: &str, numbers: &[u64]) -> Result<Answer, Fault> {
+    let topo = setting.world.lawful_topo()?;
+    match (word, numbers) {
+        ("reach", []) => Ok(Answer::Number(topo.reach())),
+        ("linked", [from, to]) => Ok(Answer::Holds(topo.linked(byte_of(*from)?, byte_of(*to)?))),
+        ("latency_of", [from, to]) => Ok(Answer::Number(topo.latency_of(
+            byte_of(*from)?,
+            byte_of(*to)?,
         ))),
-        (Command::Latency, [from, to]) => Ok(Answer::Number(topo.latency_of(
-            node_of(*from)?,
-            node_of(*to)?,
-        ))),
-        (Command::Open, [from, to, cycle]) => Ok(Answer::Holds(topo.is_open(
-            node_of(*from)?,
-            node_of(*to)?,
+        ("is_open", [from, to, cycle]) => Ok(Answer::Holds(topo.is_open(
+            byte_of(*from)?,
+            byte_of(*to)?,
             *cycle,
         ))),
-        (Command::Needs, [from, to, cycle]) => Ok(Answer::Holds(topo.needs(
-            node_of(*from)?,
-            node_of(*to)?,
+        ("needs", [from, to, cycle]) => Ok(Answer::Holds(topo.needs(
+            byte_of(*from)?,
+            byte_of(*to)?,
             *cycle,
         ))),
-        (Command::At, [node, cycle]) => hears(setting, node_of(*node)?, *cycle),
-        (Command::Listen, [node, cycle]) => listens(&setting.log, &topo, node_of(*node)?, *cycle),
-        (Command::Kept, []) => Ok(is_record(setting)),
+        ("at", [node, cycle]) => hears(setting, byte_of(*node)?, *cycle),
+        ("listen", [node, cycle]) => listens(&setting.log, &topo, byte_of(*node)?, *cycle),
+        ("kept", []) => Ok(is_record(setting)),
         _ => Err(Fault::Unreadable),
     }
 }
@@ -150,7 +142,7 @@ fn is_given(core: &Core<ListWorld>, nodes: u8, setting: &Setting) -> bool
 
 // To what the steps lead.
 fn leads_to(alloc: Global, setting: &Setting) -> Result<Answer, Fault> {
-    let world = setting.lawful_world()?;
+    let world = setting.world.world()?;
     if !is_short(&world) {
         return Err(Fault::Unreadable);
     }
@@ -174,19 +166,13 @@ fn of_sample(got: Sampled) -> Result<Answer, Fault> {
     }
 }
 
-fn is_asked(world: &ListWorld, ask: &Ask) -> bool
-    ensures { IsTrue result ↔ Contains world.now.asks ask.now }
-{
-    world.asks().contains(ask)
-}
-
 // What a sample of the world is answered after the steps.
 fn sampled(alloc: Global, setting: &Setting, node: u8, cycle: u64) -> Result<Answer, Fault> {
-    let world = setting.lawful_world()?;
+    let world = setting.world.world()?;
     if !is_short(&world) {
         return Err(Fault::Unreadable);
     }
-    if !is_asked(&world, &Ask { node, cycle }) {
+    if !is_asked(world.asks(), &Ask { node, cycle }) {
         return Err(Fault::Unreadable);
     }
     match replayed(alloc, world, &setting.steps) {
@@ -198,7 +184,7 @@ fn sampled(alloc: Global, setting: &Setting, node: u8, cycle: u64) -> Result<Ans
 
 // Whether the state that is given is consistent.
 fn agrees(alloc: Global, setting: &Setting) -> Result<Answer, Fault> {
-    let world = setting.lawful_world()?;
+    let world = setting.world.world()?;
     let so = is_consistent(
         alloc,
         &world,
@@ -212,15 +198,19 @@ fn agrees(alloc: Global, setting: &Setting) -> Result<Answer, Fault> {
 }
 
 /// What the crates answer to a question; `Unreadable` where the section is none.
-pub fn ask_crates(alloc: Global, setting: &Setting, section: &Section) -> Result<Answer, Fault> {
-    match (section.command, section.numbers.as_slice()) {
-        (Command::IsNew, []) => by_new(setting),
-        (Command::IsLatencies, []) => by_latencies(setting),
-        (Command::IsSpans, []) => Ok(of_topo(setting.topo()?)),
-        (Command::IsWorld, []) => Ok(of_world(setting.world()?)),
-        (Command::Replay, []) => leads_to(alloc, setting),
-        (Command::Then, [node, cycle]) => sampled(alloc, setting, node_of(*node)?, *cycle),
-        (Command::Consistent, []) => agrees(alloc, setting),
-        (command, numbers) => of_reader(setting, command, numbers),
+pub fn ask_crates(
+    alloc: Global,
+    setting: &Setting,
+    section: &Section<'_>,
+) -> Result<Answer, Fault> {
+    match (section.word, section.numbers.as_slice()) {
+        ("new", []) => by_new(&setting.world),
+        ("with_latencies", []) => by_latencies(&setting.world),
+        ("with_spans", []) => Ok(of_topo(setting.world.topo()?)),
+        ("world", []) => Ok(of_world(setting.world.listed_world()?)),
+        ("replay", []) => leads_to(alloc, setting),
+        ("then", [node, cycle]) => sampled(alloc, setting, byte_of(*node)?, *cycle),
+        ("consistent", []) => agrees(alloc, setting),
+        (word, numbers) => of_reader(setting, word, numbers),
     }
 }

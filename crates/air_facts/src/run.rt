@@ -3,7 +3,7 @@ use crate::answer::{Answer, answer_of};
 use crate::fault::Fault;
 use crate::questions::ask_crates;
 use crate::setting::Setting;
-use crate::words::sections_of;
+use air_cases::sections_of;
 use std::alloc::Global;
 
 // Reads a line: what it sets, and the questions with their answers. It gives the number of answers.

@@ -1,49 +1,28 @@
-//! Calls of the whole program over stores and streams in memory, which fail where a line of a text file says so: for each
-//! the status, and what stands on the output and on the error stream. `command_facts` runs it, and its stored run compares
-//! them with what was worked out by hand.
+//! Calls of the whole program, in cases of four kinds: traces of nodes over real files; and over files and streams in memory
+//! single calls, runs of whole networks, and calls that fail at every place. What each comes to is written, to be compared with
+//! what docs/FORMATS.md says and slow programs give that share nothing with this one (`bench/machine.py`, `bench/network`).
 #![tactic(auto)]
 
-mod reading;
-mod writing;
+mod call_cases;
+mod call_lines;
+mod call_texts;
+mod calling;
+mod fault_cases;
+mod fault_lines;
+mod files;
+mod foreign;
+mod held;
+mod network_cases;
+mod network_lines;
+mod network_runs;
+mod network_texts;
+mod rows;
+mod series;
+mod shown;
+mod trace_cases;
+mod trying;
 
-use memory_calls::{Failed, Held, called, hold_file, text_of};
-use reading::{Line, read_line};
-use sim_io::{Sink, write_all};
-use std::fs::Files;
-use writing::{write_outcome, write_statuses};
-
-fn do_line<R: Files + AllocGlobal, O: Sink>(
-    rt: &R,
-    line: &str,
-    held: &mut Held,
-    out: &mut O,
-) -> Result<(), Failed> {
-    let alloc = rt.alloc();
-    match read_line(alloc, line)? {
-        Line::Comment => Ok(()),
-        Line::File(name) => hold_file(rt, name, held),
-        Line::Blank(name, length) => Ok(held.add_blank(alloc, name, length)?),
-        Line::Call(call) => {
-            let outcome = called(alloc, call.words.as_slice(), held, &call.faults)?;
-            Ok(write_outcome(&outcome, out)?)
-        }
-        Line::Statuses => Ok(write_statuses(out)?),
-        Line::Other => Err(Failed),
-    }
-}
-
-/// Does a case file, line after line; the lines are written too.
-pub fn do_file<R: Files + AllocGlobal, O: Sink>(
-    rt: &R,
-    name: &str,
-    out: &mut O,
-) -> Result<(), Failed> {
-    let text = text_of(rt, name)?;
-    let mut held = Held::none(rt.alloc());
-    for line in text.as_str().lines() {
-        write_all(out, line.as_bytes())?;
-        write_all(out, b"\n")?;
-        do_line(rt, line, &mut held, out)?;
-    }
-    Ok(())
-}
+pub use call_cases::do_calls;
+pub use fault_cases::do_faults;
+pub use network_cases::do_networks;
+pub use trace_cases::do_traces;

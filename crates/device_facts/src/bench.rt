@@ -15,7 +15,7 @@ use timer16::Timer16;
 use usart_port::Usart;
 
 /// What a line comes to.
-#[derive(Clone, Copy, PartialEq, Eq)]
+#[derive(Clone, Copy)]
 pub enum Verdict {
     /// It is empty, or a comment.
     Comment,

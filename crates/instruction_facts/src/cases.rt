@@ -16,7 +16,7 @@ use ihex_loader::{Flash, flash_of};
 use std::alloc::{AllocError, Global};
 
 /// What a line comes to.
-#[derive(Clone, Copy, PartialEq, Eq)]
+#[derive(Clone, Copy)]
 pub enum Verdict {
     /// A comment, an empty line, or a part of the machine.
     NoCase,

@@ -1,44 +1,106 @@
-// What the record answers to a step, or is to answer.
+// What a node or the record answers to a step, or is to answer.
 use crate::fault::Fault;
-use air_cases::{Command, Section, byte_of};
+use air_cases::{Section, byte_of};
 use air_record::{Behind, Posted};
+use neighbour_sync::{Passed, Tried};
 use world_core::{Heard, Sampled};
 
-/// An answer of the record.
+/// An answer.
 #[derive(Clone, Copy, Debug, PartialEq, Eq)]
 pub enum Answer {
-    /// To a node that posts a send.
+    /// Of the record, to a node that posts a send.
     Posted(Posted),
-    /// To a node that samples the air.
-    Sampled(Sampled),
-    /// To whoever cuts the record: it is cut, or this node is behind.
+    /// A node posted a send in a session, and has seen that so many of its sends are posted.
+    Told(u64),
+    /// A sample hears this.
+    Heard(Heard),
+    /// A sample has to wait for this node, whose clock this is.
+    Waits {
+        /// The node.
+        node: u8,
+        /// Its clock.
+        clock: u64,
+    },
+    /// All nodes are told to halt.
+    Halted,
+    /// There was no memory for a sample.
+    NoMemory,
+    /// Of the record, to whoever cuts it: it is cut, or this node is behind.
     Cut(Result<(), Behind>),
+}
+
+impl Answer {
+    /// To a sample of the record.
+    pub fn of_sampled(sampled: Sampled) -> Self {
+        match sampled {
+            Sampled::Heard(heard) => Answer::Heard(heard),
+            Sampled::NotYet { node, clock } => Answer::Waits { node, clock },
+            Sampled::NoMemory => Answer::NoMemory,
+        }
+    }
+
+    /// To a node of a session that tried to sample.
+    pub fn of_tried(tried: Tried) -> Self {
+        match tried {
+            Tried::Heard(heard) => Answer::Heard(heard),
+            Tried::NotYet { node, clock } => Answer::Waits { node, clock },
+            Tried::Halted => Answer::Halted,
+            Tried::NoMemory => Answer::NoMemory,
+        }
+    }
+
+    /// To a node of a session that waited for its sample.
+    pub fn of_passed(passed: Passed) -> Self {
+        match passed {
+            Passed::Heard(heard) => Answer::Heard(heard),
+            Passed::Halted => Answer::Halted,
+            Passed::NoMemory => Answer::NoMemory,
+        }
+    }
 }
 
 // A sample that hears this.
 fn heard_as(status: u8, byte: u8, age: u8) -> Answer {
-    Answer::Sampled(Sampled::Heard(Heard { status, byte, age }))
+    Answer::Heard(Heard { status, byte, age })
 }
 
-/// The answer that a file has; `None` where the section is none.
-pub fn answer_of(section: &Section) -> Result<Option<Answer>, Fault> {
-    let answer = match (section.command, section.numbers.as_slice()) {
-        (Command::Added, []) => Answer::Posted(Posted::Added),
-        (Command::There, []) => Answer::Posted(Posted::There),
-        (Command::Early, [count]) => Answer::Posted(Posted::Early { count: *count }),
-        (Command::Quiet, []) => heard_as(0, 0, 0),
-        (Command::Byte, [byte, age]) => heard_as(1, byte_of(*byte)?, byte_of(*age)?),
-        (Command::Clash, [byte]) => heard_as(2, byte_of(*byte)?, 0),
-        (Command::Waits, [node, clock]) => Answer::Sampled(Sampled::NotYet {
-            node: byte_of(*node)?,
-            clock: *clock,
-        }),
-        (Command::Done, []) => Answer::Cut(Ok(())),
-        (Command::Behind, [node, clock]) => Answer::Cut(Err(Behind {
+// The answer to a post or a cut; `None` where the section is none.
+fn of_step(section: &Section<'_>) -> Result<Option<Answer>, Fault> {
+    let answer = match (section.word, section.numbers.as_slice()) {
+        ("added", []) => Answer::Posted(Posted::Added),
+        ("there", []) => Answer::Posted(Posted::There),
+        ("early", [count]) => Answer::Posted(Posted::Early { count: *count }),
+        ("told", [count]) => Answer::Told(*count),
+        ("done", []) => Answer::Cut(Ok(())),
+        ("behind", [node, clock]) => Answer::Cut(Err(Behind {
             node: byte_of(*node)?,
             clock: *clock,
         })),
         _ => return Ok(None),
     };
     Ok(Some(answer))
+}
+
+// The answer to a sample; `None` where the section is none.
+fn of_sample(section: &Section<'_>) -> Result<Option<Answer>, Fault> {
+    let answer = match (section.word, section.numbers.as_slice()) {
+        ("halted", []) => Answer::Halted,
+        ("quiet", []) => heard_as(0, 0, 0),
+        ("byte", [byte, age]) => heard_as(1, byte_of(*byte)?, byte_of(*age)?),
+        ("clash", [byte]) => heard_as(2, byte_of(*byte)?, 0),
+        ("waits", [node, clock]) => Answer::Waits {
+            node: byte_of(*node)?,
+            clock: *clock,
+        },
+        _ => return Ok(None),
+    };
+    Ok(Some(answer))
+}
+
+/// The answer that a file has; `None` where the section is none.
+pub fn answer_of(section: &Section<'_>) -> Result<Option<Answer>, Fault> {
+    match of_step(section)? {
+        Some(answer) => Ok(Some(answer)),
+        None => of_sample(section),
+    }
 }

@@ -5,11 +5,11 @@ use std::alloc::{AllocError, AllocFailed};
 use world_core::NoMemory;
 
 /// Why a line of a case file stops a run.
-#[derive(Clone, Copy, Debug, PartialEq, Eq)]
+#[derive(Clone, Copy, Debug)]
 pub enum Fault {
     /// An answer is another than the file has.
     Differs {
-        /// What the record answers.
+        /// What is answered.
         got: Answer,
         /// What the file has.
         want: Answer,
@@ -20,7 +20,7 @@ pub enum Fault {
     OtherSamples,
     /// The record is cut up to this cycle, and not up to the file's.
     OtherFloor(u64),
-    /// The step is one that a contract forbids.
+    /// The step is one that a contract forbids, or would wait for ever on one thread.
     Forbidden,
     /// The line is none of a case file, or has no world to speak of.
     Unreadable,

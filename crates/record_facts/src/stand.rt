@@ -8,7 +8,7 @@ use air_cases::{count_below, is_asked, send_number};
 use air_record::Air;
 use clock_words::{Clocks, NodeSeat};
 use std::alloc::Global;
-use world_core::{Ask, EPOCH, Heard, ListWorld, Sampled, Send, World};
+use world_core::{Ask, EPOCH, Heard, ListWorld, Send, World};
 
 /// All that steps on the record of a world.
 #[derive(Drop)]
@@ -85,10 +85,7 @@ impl Stand {
         if cycle < self.air.floor() || !is_asked(self.world.asks(), &Ask { node, cycle }) {
             return Err(Fault::Forbidden);
         }
-        match self.air.sample(&self.clocks, node, cycle) {
-            Sampled::NoMemory => Err(Fault::NoMemory),
-            sampled => Ok(Answer::Sampled(sampled)),
-        }
+        Ok(Answer::of_sampled(self.air.sample(&self.clocks, node, cycle)))
     }
 
     /// The record is cut.

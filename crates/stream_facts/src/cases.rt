@@ -1,14 +1,14 @@
 // What a case comes to.
-use crate::Failed;
 use crate::halting::{Halting, Turn};
 use crate::reading::{Asked, Case};
 use arrayvec::ArrayString;
+use case_files::Failed;
 use sim_io::{
     DirStore, MemSink, MemStore, Name, ReadFault, Sink, SinkFault, StdSink, Store, make_room,
     read_whole, write_all,
 };
 use std::alloc::Global;
-use std::fs;
+use std::fs::{self, Files};
 
 // A line of an answer and, behind a space, a text that is not empty; one that ends with LF has no other.
 fn answer<O: Sink>(what: &str, text: &[u8], out: &mut O) -> Result<(), Failed> {
@@ -105,7 +105,7 @@ fn do_page<O: Sink>(alloc: Global, rooms: &[u64], text: &str, out: &mut O) -> Re
     Ok(())
 }
 
-fn do_device<O: Sink>(rt: &HostRuntime, name: &str, text: &str, out: &mut O) -> Result<(), Failed> {
+fn do_device<R: Files, O: Sink>(rt: &R, name: &str, text: &str, out: &mut O) -> Result<(), Failed> {
     let Ok(file) = fs::create(rt, name) else {
         return Err(Failed);
     };
@@ -128,7 +128,11 @@ fn do_stream<O: Sink>(
 }
 
 /// Does what a case asks for, and writes what comes of it.
-pub fn do_case<O: Sink>(rt: &HostRuntime, case: &Case<'_>, out: &mut O) -> Result<(), Failed> {
+pub fn do_case<R: Files + AllocGlobal, O: Sink>(
+    rt: &R,
+    case: &Case<'_>,
+    out: &mut O,
+) -> Result<(), Failed> {
     let alloc = rt.alloc();
     match case {
         Case::Store(fail, asked) => {

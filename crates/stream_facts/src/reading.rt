@@ -1,6 +1,6 @@
 // One line of a file of cases.
-use crate::Failed;
 use crate::halting::Turn;
+use case_files::Failed;
 use std::alloc::{AllocError, Global};
 
 /// A read: the file's name and the most bytes that it may have.

@@ -6,8 +6,8 @@
 mod gates;
 mod runs;
 
+use case_files::Failed;
 use gates::{BothBegin, FirstIsLate, LastTurn, SecondIsLate, Told};
-use memory_calls::Failed;
 use runs::{write_call, write_rows};
 use sim_io::{Sink, write_all};
 use std::fs::Files;

@@ -2,9 +2,9 @@
 use arrayvec::ArrayString;
 use avr_program::Program;
 use avrora_top::avrora;
+use case_files::Failed;
 use fleet_threads::{Gate, run_threads};
 use ihex_loader::{Flash, load};
-use memory_calls::Failed;
 use node_runner::Scenario;
 use scenario_file::ScenarioText;
 use sim_io::{DirStore, MemSink, Sink, SinkFault, write_all};

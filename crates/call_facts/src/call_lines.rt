@@ -1,0 +1,127 @@
+// One line of a file of calls.
+use crate::calling::{Faults, Stream};
+use std::alloc::{AllocError, Global};
+
+/// A call: its words, and where its outside fails.
+#[derive(Drop)]
+pub struct Call<'l> {
+    pub words: Vec<&'l str>,
+    pub faults: Faults,
+}
+
+/// What a line says.
+#[derive(Drop)]
+pub enum Line<'l> {
+    /// Nothing.
+    Comment,
+    /// That the store holds a file.
+    File(&'l str),
+    /// That it holds a text of so many blank lines.
+    Blank(&'l str, usize),
+    /// What is called.
+    Call(Call<'l>),
+    /// That the number of each status is told.
+    Statuses,
+    /// None of these.
+    Other,
+}
+
+// The numbers of a text; `None` where a word is none.
+fn numbers(alloc: Global, text: &str) -> Result<Option<Vec<u64>>, AllocError> {
+    let mut all = Vec::new(alloc);
+    for word in text.split_whitespace() {
+        match word.parse::<u64>() {
+            Ok(n) => all.push(n)?,
+            Err(_) => return Ok(None),
+        }
+    }
+    Ok(Some(all))
+}
+
+fn words(alloc: Global, text: &str) -> Result<Vec<&str>, AllocError> {
+    let mut all = Vec::new(alloc);
+    for word in text.split_whitespace() {
+        all.push(word)?;
+    }
+    Ok(all)
+}
+
+// `ROOM STEP FAIL ..`
+fn stream_of(alloc: Global, text: &str) -> Result<Option<Stream>, AllocError> {
+    let Some(all) = numbers(alloc, text)? else {
+        return Ok(None);
+    };
+    let [room, step, fail @ ..] = all.as_slice() else {
+        return Ok(None);
+    };
+    Ok(Some(Stream {
+        room: usize::try_from(*room).unwrap_or(0),
+        step: usize::try_from(*step).unwrap_or(0),
+        fail: Vec::from_slice(alloc, fail)?,
+    }))
+}
+
+// The part of a line behind ` | NAME `, up to the next bar; empty where there is none.
+fn part<'l>(line: &'l str, name: &str) -> &'l str {
+    for piece in line.split('|') {
+        if let Some((first, rest)) = piece.trim().split_once(' ') {
+            if first == name {
+                return rest;
+            }
+        }
+    }
+    ""
+}
+
+fn named_stream(alloc: Global, line: &str, name: &str) -> Result<Option<Stream>, AllocError> {
+    let text = part(line, name);
+    if text.is_empty() {
+        return Ok(Some(Stream::ample(alloc)));
+    }
+    stream_of(alloc, text)
+}
+
+// `call WORD .. | reads FAIL .. | out ROOM STEP FAIL .. | err ROOM STEP FAIL ..`, where what is ample is left out.
+fn read_call<'l>(alloc: Global, line: &'l str) -> Result<Line<'l>, AllocError> {
+    let Some(reads) = numbers(alloc, part(line, "reads"))? else {
+        return Ok(Line::Other);
+    };
+    let Some(out) = named_stream(alloc, line, "out")? else {
+        return Ok(Line::Other);
+    };
+    let Some(err) = named_stream(alloc, line, "err")? else {
+        return Ok(Line::Other);
+    };
+    Ok(Line::Call(Call {
+        words: words(alloc, part(line, "call"))?,
+        faults: Faults { reads, out, err },
+    }))
+}
+
+fn read_blank(rest: &str) -> Line<'_> {
+    match rest.split_once(' ') {
+        Some((name, length)) => match length.parse::<usize>() {
+            Ok(length) => Line::Blank(name, length),
+            Err(_) => Line::Other,
+        },
+        None => Line::Other,
+    }
+}
+
+/// Reads a line.
+pub fn read_line<'l>(alloc: Global, line: &'l str) -> Result<Line<'l>, AllocError> {
+    if line.is_empty() || line.starts_with('#') {
+        return Ok(Line::Comment);
+    }
+    if line == "statuses" {
+        return Ok(Line::Statuses);
+    }
+    if line.starts_with("call") {
+        return read_call(alloc, line);
+    }
+    match line.split_once(' ') {
+        Some(("file", name)) => Ok(Line::File(name)),
+        Some(("blank", rest)) => Ok(read_blank(rest)),
+        _ => Ok(Line::Other),
+    }
+}

@@ -1,0 +1,74 @@
+// What is written of a call.
+use crate::calling::Outcome;
+use arrayvec::ArrayString;
+use avrora_top::Status;
+use sim_io::{Sink, SinkFault, write_all};
+use text_pieces::put_decimal;
+
+// Of a text of more lines than this only the first two and the last two are written.
+const MOST_LINES: usize = 20;
+
+// `NAME: N bytes, M lines`
+fn write_size<O: Sink>(
+    name: &str,
+    text: &[u8],
+    lines: usize,
+    out: &mut O,
+) -> Result<(), SinkFault> {
+    let mut line = ArrayString::<64>::new();
+    put_decimal(text.len() as u64, &mut line);
+    line.push_str(" bytes, ");
+    put_decimal(lines as u64, &mut line);
+    line.push_str(" lines\n");
+    write_all(out, name.as_bytes())?;
+    write_all(out, b": ")?;
+    write_all(out, line.as_str().as_bytes())
+}
+
+// A text under its size, each of its lines behind a bar; a last one that has no end too.
+fn write_text<O: Sink>(name: &str, text: &[u8], out: &mut O) -> Result<(), SinkFault> {
+    let lines = text.iter().filter(|c| **c == b'\n').count();
+    write_size(name, text, lines, out)?;
+    if text.is_empty() {
+        return Ok(());
+    }
+    let body = text.strip_suffix(b"\n").unwrap_or(text);
+    let mut number: usize = 0;
+    for line in body.split(|c| *c == b'\n') {
+        if lines <= MOST_LINES || number < 2 || number.saturating_add(2) >= lines {
+            write_all(out, b"| ")?;
+            write_all(out, line)?;
+            write_all(out, b"\n")?;
+        }
+        number = number.saturating_add(1);
+    }
+    Ok(())
+}
+
+fn write_status<O: Sink>(name: &str, status: u8, out: &mut O) -> Result<(), SinkFault> {
+    let mut line = ArrayString::<8>::new();
+    line.push_str(" ");
+    put_decimal(status, &mut line);
+    line.push_str("\n");
+    write_all(out, name.as_bytes())?;
+    write_all(out, line.as_str().as_bytes())
+}
+
+/// The name and the number of each status.
+pub fn write_statuses<O: Sink>(out: &mut O) -> Result<(), SinkFault> {
+    write_status("Done", Status::Done.number(), out)?;
+    write_status("SinkFailed", Status::SinkFailed.number(), out)?;
+    write_status("BadWords", Status::BadWords.number(), out)?;
+    write_status("ReadFailed", Status::ReadFailed.number(), out)?;
+    write_status("BadScenario", Status::BadScenario.number(), out)?;
+    write_status("BadImage", Status::BadImage.number(), out)?;
+    write_status("NoMemory", Status::NoMemory.number(), out)?;
+    write_status("BadSource", Status::BadSource.number(), out)
+}
+
+/// The status, the output and the error stream.
+pub fn write_outcome<O: Sink>(outcome: &Outcome, out: &mut O) -> Result<(), SinkFault> {
+    write_status("status", outcome.status, out)?;
+    write_text("out", outcome.out.taken(), out)?;
+    write_text("err", outcome.err.taken(), out)
+}

@@ -1,0 +1,120 @@
+// The sources of a file: it is lines of bytes. A line `== NAME` begins a case, a line `-> ..` ends it with what comes of it, and
+// the source is what stands between them, without the last LF. In it a line `* N TEXT` stands for N lines of the text.
+use asm_text::{AsmFault, assemble};
+use case_files::{Failed, Tally, bytes_of, write_line};
+use sim_io::{Sink, write_all};
+use std::alloc::{AllocError, Global};
+use std::fs::Files;
+
+// A case as far as it was read: its name, and its source with a LF behind each line.
+#[derive(Drop)]
+struct Case<'t> {
+    name: &'t [u8],
+    source: Vec<u8>,
+}
+
+impl<'t> Case<'t> {
+    // The source without its last LF.
+    fn source(&self) -> &[u8] {
+        match self.source.as_slice() {
+            [source @ .., _] => source,
+            [] => &[],
+        }
+    }
+
+    // A line, as often as it says.
+    fn add(&mut self, line: &[u8]) -> Result<(), AllocError> {
+        let (times, text) = repeated(line);
+        for _ in 0..times {
+            self.source.extend_from_slice(text)?;
+            self.source.push(b'\n')?;
+        }
+        Ok(())
+    }
+}
+
+// A line `* N TEXT` stands for N lines of the text.
+fn repeated(line: &[u8]) -> (u32, &[u8]) {
+    if let [b'*', b' ', rest @ ..] = line {
+        let mut parts = rest.splitn(2, |b| *b == b' ');
+        if let (Some(count), Some(text)) = (parts.next(), parts.next()) {
+            if let Some(n) = number(count) {
+                return (n, text);
+            }
+        }
+    }
+    (1, line)
+}
+
+fn number(digits: &[u8]) -> Option<u32> {
+    std::str::from_utf8(digits).ok()?.parse::<u32>().ok()
+}
+
+fn fault_text(alloc: Global, fault: AsmFault) -> Result<String, AllocError> {
+    let name = fault.name();
+    match fault.line() {
+        Some(line) => format!(in alloc; "-> {name} {line}"),
+        None => format!(in alloc; "-> {name}"),
+    }
+}
+
+fn words_text(alloc: Global, words: &[u16]) -> Result<String, AllocError> {
+    let mut text = String::from_str(alloc, "->")?;
+    for word in words {
+        text.push_str(format!(in alloc; " {word:04X}")?.as_str())?;
+    }
+    Ok(text)
+}
+
+// What comes of a source, as the line that ends a case has it.
+fn answer(alloc: Global, source: &[u8]) -> Result<String, AllocError> {
+    match assemble(alloc, source) {
+        Ok(words) => words_text(alloc, words.as_slice()),
+        Err(fault) => fault_text(alloc, fault),
+    }
+}
+
+// Judges a case by the line that ends it; what came of one that is wrong is written.
+fn is_right<O: Sink>(
+    alloc: Global,
+    case: &Case<'_>,
+    line: &[u8],
+    out: &mut O,
+) -> Result<bool, Failed> {
+    let got = answer(alloc, case.source())?;
+    if got.as_str().as_bytes() == line {
+        return Ok(true);
+    }
+    write_all(out, case.name)?;
+    write_all(out, b": ")?;
+    write_line(got.as_str(), out)?;
+    Ok(false)
+}
+
+/// The sources of one file, each with its words or its fault.
+pub fn do_sources<R: Files + AllocGlobal, O: Sink>(
+    rt: &R,
+    file: &str,
+    out: &mut O,
+) -> Result<(), Failed> {
+    let alloc = rt.alloc();
+    let bytes = bytes_of(rt, file)?;
+    let mut tally = Tally::none();
+    let mut open: Option<Case<'_>> = None;
+    for line in bytes.as_slice().split(|b| *b == b'\n') {
+        if let Some(name) = line.strip_prefix(b"== ") {
+            open = Some(Case {
+                name,
+                source: Vec::new(alloc),
+            });
+        } else if let Some(mut case) = open.take() {
+            if line.starts_with(b"->") {
+                tally.count(is_right(alloc, &case, line, out)?);
+            } else {
+                case.add(line)?;
+                open = Some(case);
+            }
+        }
+    }
+    tally.tell(alloc, file, out)
+}
