@@ -1,8 +1,8 @@
 -- A TOML document as lists: the keys of a table, the elements of an array, and what stands at a key.
-use Rattle.std.specs.Prelude.{ℕ, ℤ, pos, negsuc, ◌==◌, Bool, true, false, List, [], ◌∷◌, Option, Some, None, is_some}
+use Rattle.std.specs.Prelude.{ℕ, ℤ, pos, negsuc, ◌==◌, Bool, true, false, List, [], ◌∷◌, Option, Some, None, is_some, unwrap_or}
 use Rattle.std.specs.Option.{option_map_or}
 use Rattle.std.specs.Cmp.Lexicographic.{pointwise}
-use Rattle.toml.specs.Data.{Data, string, integer, array, table, Items, no_items, item, Members, no_members, member, get_member}
+use Rattle.toml.specs.Data.{Data, string, integer, array, as_table, Items, no_items, item, Members, no_members, member, get_member}
 
 abbrev pub same_text : List ℕ → List ℕ → Bool
 same_text a b = pointwise ◌==◌ a b
@@ -34,8 +34,7 @@ at_key test key ms = option_map_or test (get_member key ms) true
 
 -- the value is a table that passes the test
 abbrev pub on_table : (Members → Bool) → Data → Bool
-on_table test (table ms) = test ms
-on_table test _ = false
+on_table test d = option_map_or test (as_table d) false
 
 -- the value is an array whose elements pass the test
 abbrev pub on_array : (List Data → Bool) → Data → Bool
@@ -52,13 +51,16 @@ is_text _ = false
 
 -- the members of a table; none where the value is no table
 abbrev pub members_of : Data → Members
-members_of (table ms) = ms
-members_of _ = no_members
+members_of d = unwrap_or (as_table d) no_members
+
+-- a whole number that is not negative
+abbrev pub natural : ℤ → Option ℕ
+natural (pos n) = Some n
+natural (negsuc n) = None
 
 -- a whole number, 0 where it is negative
 abbrev pub number : ℤ → ℕ
-number (pos n) = n
-number (negsuc n) = 0
+number z = unwrap_or (natural z) 0
 
 -- the whole number at a key, and the default where none stands there
 abbrev pub number_of : Option Data → ℕ → ℕ
@@ -77,9 +79,12 @@ abbrev pub text_at : List ℕ → Members → List ℕ
 text_at key ms = text_of (get_member key ms)
 
 -- the numbers of an array of two whole numbers of which none is negative
+abbrev pub pair_made : Option ℕ → Option ℕ → Option (ℕ × ℕ)
+pair_made (Some a) (Some b) = Some (a, b)
+pair_made _ _ = None
+
 abbrev pub pair_from : ℤ → ℤ → Option (ℕ × ℕ)
-pair_from (pos a) (pos b) = Some (a, b)
-pair_from _ _ = None
+pair_from a b = pair_made (natural a) (natural b)
 
 abbrev pub pair_in : List Data → Option (ℕ × ℕ)
 pair_in (integer a ∷ integer b ∷ []) = pair_from a b

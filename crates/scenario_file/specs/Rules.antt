@@ -1,10 +1,11 @@
 -- The rules of a scenario's tables, one kind of table after another: which keys it may have, which it must have, of which kind a value
 -- is, and which numbers and texts are in range. They depend on the version of the text. Own to this simulator.
-use Rattle.std.specs.Prelude.{ℕ, ℤ, pos, negsuc, ◌-◌, ◌/◌, ◌%◌, ◌==◌, ◌&&◌, ◌||◌, nat_lt, nat_le, length, Bool, true, false, not, List, [], ◌∷◌, Option, Some, None, codes, if◌then◌else◌}
+use Rattle.std.specs.Prelude.{ℕ, ℤ, ◌-◌, ◌/◌, ◌%◌, ◌==◌, ◌&&◌, ◌||◌, nat_lt, nat_le, length, Bool, true, false, not, List, [], ◌∷◌, Option, Some, None, codes, if◌then◌else◌}
 use Rattle.std.specs.List.{list_all}
+use Rattle.std.specs.Option.{option_map_or}
 use Rattle.std.specs.Char.{is_ascii_hexdigit}
 use Rattle.toml.specs.Data.{Data, string, integer, Members, get_member}
-use Rattle.scenario_file.specs.Document.{same_text, elements, has_key, at_key, on_array, is_whole, is_text, number_at, text_at, pair_of}
+use Rattle.scenario_file.specs.Document.{natural, same_text, elements, has_key, at_key, on_array, is_whole, is_text, number_at, text_at, pair_of}
 use Rattle.scenario_file.specs.declared.keys.Keys.{Keys}
 use Rattle.scenario_file.specs.declared.keys.Keys.TheVariants.{Top, OfNode, OfLink, OfInput}
 use Rattle.scenario_file.specs.declared.keys.Version.{Version}
@@ -15,8 +16,7 @@ abbrev pub version_numbered : ℕ → Version
 version_numbered n = if n == 3 then Third else if n == 2 then Second else First
 
 abbrev pub version_from : ℤ → Version
-version_from (pos n) = version_numbered n
-version_from (negsuc n) = First
+version_from z = option_map_or version_numbered (natural z) First
 
 abbrev pub version_in : Option Data → Version
 version_in (Some (integer z)) = version_from z
@@ -43,14 +43,25 @@ most_cycles Second = 10000000
 most_cycles Third = 1099511627776
 
 -- ---- the keys that a table may have
-abbrev pub is_top_key : List ℕ → Bool
-is_top_key key = same_text key (codes "version") || same_text key (codes "cycles") || same_text key (codes "latency") || same_text key (codes "byte_time") || same_text key (codes "window")
-    || same_text key (codes "node") || same_text key (codes "link") || same_text key (codes "input")
+-- what the run has, at the top
+unfoldable pub is_run_key : List ℕ → Bool
+is_run_key key = same_text key (codes "version") || same_text key (codes "cycles") || same_text key (codes "window")
 
-abbrev pub is_link_key : Version → List ℕ → Bool
+-- what the air has
+unfoldable pub is_air_key : List ℕ → Bool
+is_air_key key = same_text key (codes "latency") || same_text key (codes "byte_time")
+
+-- and the arrays of tables
+unfoldable pub is_array_key : List ℕ → Bool
+is_array_key key = same_text key (codes "node") || same_text key (codes "link") || same_text key (codes "input")
+
+abbrev pub is_top_key : List ℕ → Bool
+is_top_key key = is_run_key key || is_air_key key || is_array_key key
+
+unfoldable pub is_link_key : Version → List ℕ → Bool
 is_link_key version key = same_text key (codes "from") || same_text key (codes "to") || (has_latencies version && same_text key (codes "latency")) || (has_spans version && same_text key (codes "open"))
 
-abbrev pub is_input_key : List ℕ → Bool
+unfoldable pub is_input_key : List ℕ → Bool
 is_input_key key = same_text key (codes "node") || same_text key (codes "at") || same_text key (codes "hex") || same_text key (codes "every")
 
 abbrev pub is_known : Version → Keys → List ℕ → Bool
@@ -86,8 +97,7 @@ has_kinds OfInput ms = at_key is_whole (codes "node") ms && at_key is_whole (cod
 
 -- ---- the ranges of its numbers, and the sizes of its texts; what is of another kind passes here
 abbrev pub is_within : ℕ → ℕ → ℤ → Bool
-is_within least most (pos n) = nat_le least n && nat_le n most
-is_within least most (negsuc n) = false
+is_within least most z = option_map_or (λ n. nat_le least n && nat_le n most) (natural z) false
 
 abbrev pub fits : ℕ → ℕ → Data → Bool
 fits least most (integer z) = is_within least most z

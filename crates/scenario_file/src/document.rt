@@ -2,7 +2,7 @@
 ghost use Rattle.std.specs.Prelude.{◌≡◌, option_map, map};
 ghost use Rattle.toml.specs.Data.{get_member};
 ghost use Rattle.toml.specs.View.{view, table_view};
-ghost use Rattle.scenario_file.specs.Document.{elements, has_key, members_of, number, number_at, text_at, pair_from, pair_in, pair_of, pair_or, pair_at};
+ghost use Rattle.scenario_file.specs.Document.{elements, has_key, members_of, natural, number, number_at, text_at, pair_from, pair_in, pair_of, pair_or, pair_at};
 
 use toml::{Table, Value};
 
@@ -31,12 +31,22 @@ pub fn elements<'t>(table: &'t Table, key: &str) -> &'t [Value]
     }
 }
 
+/// A whole number that is not negative.
+pub fn natural(value: i64) -> Option<u64>
+    ensures { result ≡ natural value }
+{
+    match u64::try_from(value) {
+        Ok(n) => Some(n),
+        Err(_) => None,
+    }
+}
+
 fn number(value: i64) -> u64
     ensures { result ≡ number value }
 {
-    match u64::try_from(value) {
-        Ok(n) => n,
-        Err(_) => 0,
+    match natural(value) {
+        Some(n) => n,
+        None => 0,
     }
 }
 
@@ -69,10 +79,9 @@ pub fn text_at<'t>(table: &'t Table, key: &str) -> &'t str
 fn pair_from(first: i64, second: i64) -> Option<(u64, u64)>
     ensures { result ≡ pair_from first second }
 {
-    match (u64::try_from(first), u64::try_from(second)) {
-        (Ok(a), Ok(b)) => Some((a, b)),
-        _ => None,
-    }
+    let a = natural(first)?;
+    let b = natural(second)?;
+    Some((a, b))
 }
 
 fn pair_in(values: &[Value]) -> Option<(u64, u64)>

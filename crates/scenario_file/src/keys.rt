@@ -1,13 +1,13 @@
 // Which keys a table may have.
 ghost use Rattle.std.specs.Prelude.{◌≡◌};
 ghost use Rattle.toml.specs.View.{table_view};
-ghost use Rattle.scenario_file.specs.Rules.{version_from, version_of, has_latencies, has_spans, most_cycles, is_known, is_top_key, is_link_key, is_input_key};
+ghost use Rattle.scenario_file.specs.Rules.{version_from, version_of, has_latencies, has_spans, most_cycles, is_known, is_run_key, is_air_key, is_array_key, is_top_key, is_link_key, is_input_key};
 
-use crate::document::member;
+use crate::document::{member, natural};
 use toml::Table;
 
 /// The kind of a table.
-#[derive(Clone, Copy, Debug, PartialEq, Eq)]
+#[derive(Clone, Copy)]
 pub enum Keys {
     Top,
     OfNode,
@@ -16,7 +16,7 @@ pub enum Keys {
 }
 
 /// The version of a text.
-#[derive(Clone, Copy, Debug, PartialEq, Eq)]
+#[derive(Clone, Copy)]
 pub enum Version {
     First,
     Second,
@@ -26,17 +26,10 @@ pub enum Version {
 fn version_from(number: i64) -> Version
     ensures { result ≡ version_from number }
 {
-    match u64::try_from(number) {
-        Ok(n) => {
-            if n == 3 {
-                Version::Third
-            } else if n == 2 {
-                Version::Second
-            } else {
-                Version::First
-            }
-        }
-        Err(_) => Version::First,
+    match natural(number) {
+        Some(3) => Version::Third,
+        Some(2) => Version::Second,
+        _ => Version::First,
     }
 }
 
@@ -93,19 +86,34 @@ pub fn is_known(version: Version, keys: Keys, key: &str) -> bool
     }
 }
 
+#[tactic(auto, unfolding(crate::specs::Rules::is_run_key))]
+fn is_run_key(key: &str) -> bool
+    ensures { result ≡ is_run_key key.now }
+{
+    key == "version" || key == "cycles" || key == "window"
+}
+
+#[tactic(auto, unfolding(crate::specs::Rules::is_air_key))]
+fn is_air_key(key: &str) -> bool
+    ensures { result ≡ is_air_key key.now }
+{
+    key == "latency" || key == "byte_time"
+}
+
+#[tactic(auto, unfolding(crate::specs::Rules::is_array_key))]
+fn is_array_key(key: &str) -> bool
+    ensures { result ≡ is_array_key key.now }
+{
+    key == "node" || key == "link" || key == "input"
+}
+
 fn is_top_key(key: &str) -> bool
     ensures { result ≡ is_top_key key.now }
 {
-    key == "version"
-        || key == "cycles"
-        || key == "latency"
-        || key == "byte_time"
-        || key == "window"
-        || key == "node"
-        || key == "link"
-        || key == "input"
+    is_run_key(key) || is_air_key(key) || is_array_key(key)
 }
 
+#[tactic(auto, unfolding(crate::specs::Rules::is_link_key))]
 fn is_link_key(version: Version, key: &str) -> bool
     ensures { result ≡ is_link_key version key.now }
 {
@@ -115,6 +123,7 @@ fn is_link_key(version: Version, key: &str) -> bool
         || (has_spans(version) && key == "open")
 }
 
+#[tactic(auto, unfolding(crate::specs::Rules::is_input_key))]
 fn is_input_key(key: &str) -> bool
     ensures { result ≡ is_input_key key.now }
 {

@@ -7,7 +7,7 @@ ghost use Rattle.scenario_file.specs.Document.{on_table, on_array, at_key};
 ghost use Rattle.scenario_file.specs.Rules.{is_within, fits, is_name, is_hex, is_window_pair, is_window, has_window, is_node, is_span_behind, end_of, are_spans_behind, are_spans, has_top_ranges, has_ranges};
 ghost use Rattle.scenario_file.specs.Faults.{nodes, all_in_range};
 
-use crate::document::{elements, member, number_at, pair_of};
+use crate::document::{elements, member, natural, number_at, pair_of};
 use crate::keys::{Keys, Version, most_cycles};
 use toml::{Table, Value};
 
@@ -16,9 +16,9 @@ const MOST_CYCLE: u64 = 1_099_511_627_776;
 fn is_within(least: u64, most: u64, value: i64) -> bool
     ensures { result ≡ is_within least most value }
 {
-    match u64::try_from(value) {
-        Ok(n) => least <= n && n <= most,
-        Err(_) => false,
+    match natural(value) {
+        Some(n) => least <= n && n <= most,
+        None => false,
     }
 }
 

@@ -3,7 +3,7 @@ ghost use Rattle.std.specs.Prelude.{◌≡◌, ◌<◌, ◌≤◌, List, ℕ, Op
 ghost use Rattle.sim_io.specs.Outside.{Rose, extended, TookFront};
 
 /// A write failed, and the sink's count of faults rose.
-#[derive(Clone, Copy, Debug, PartialEq, Eq)]
+#[derive(Clone, Copy)]
 pub struct SinkFault;
 
 /// A sink of bytes, as a stream of the process.

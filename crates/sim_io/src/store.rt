@@ -6,7 +6,7 @@ ghost use Rattle.sim_io.specs.Outside.{Rose};
 use std::alloc::{AllocError, Global};
 
 /// Why a file was not read.
-#[derive(Clone, Copy, Debug, PartialEq, Eq)]
+#[derive(Clone, Copy)]
 pub enum ReadFault {
     /// There is no such file, or it could not be read. The store's count rose.
     Failed,

@@ -1,0 +1,11 @@
+use Rattle.std.proofs.Common.{◌≡◌, ◌++◌, ◌∷◌, [], ap, sym, ◌∙◌, rules}
+use Rattle.toml.specs.View.{view}
+use Rattle.scenario_file.specs.Scenario.{latency_of}
+use Rattle.scenario_file.proofs.Lists.{map_more}
+use Rattle.scenario_file.proofs.links.latencies_of.Goals as goal
+
+pub loop-value-preserved : goal.loop-value-preserved
+loop-value-preserved c =
+    let pushed : c.push.new.self.items ≡ c.loop-value.own.items ++ c.number_in.result ∷ [] = search (rules, c.in_ok-push.ensures) in
+    let item = c.number_in.ensures ∙ ap (λ v. latency_of c.args.latency (view v)) c.value-item.is in
+    pushed ∙ (λ i. c.loop-value.invariant i ++ item i ∷ []) ∙ sym (map_more (latency_of c.args.latency) view c.args.values.now c.loop-value.value-index c.value-item.result c.loop-value-test.true)
