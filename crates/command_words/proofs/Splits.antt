@@ -2,7 +2,7 @@
 use Rattle.std.proofs.Common.{◌≡◌, ℕ, is_some, ◌==◌, Bool, true, false, not, List, Option, Some, None, [], ◌∷◌, refl, sym, ◌∙◌}
 use Rattle.std.specs.Str.{bytes_eq}
 use Rattle.clap.specs.Lexer.{strip_byte}
-use Rattle.clap.specs.Words.{matches_of, takes}
+use Rattle.clap.specs.Words.{subcommand_of, takes}
 use Rattle.clap.proofs.OnLiterals.{clap_on_literals}
 use Rattle.command_words.specs.Words.{Asked, asked_by, is_file}
 use Rattle.command_words.specs.Apps.{the_app}
@@ -40,8 +40,8 @@ taken _ _ (IsAsm file f) = let a = plain_file file f in simp (a.short, a.long) r
 taken _ _ (IsMake number n e) = let a = plain_file number (number_file 5 0 65535 number n e) in simp (a.short, a.long) refl
 
 -- and its matches ask for what the words ask for
-pub kept : (words : List (List ℕ)) (asked : Asked) → Form words asked → asked_of (matches_of the_app words) ≡ Some asked
-unfolding clap_on_literals asked_in
+pub kept : (words : List (List ℕ)) (asked : Asked) → Form words asked → asked_of (subcommand_of the_app words) ≡ Some asked
+unfolding clap_on_literals asked_of asked_in
 kept _ _ (IsNode file cycles n f e) =
     let a = plain_file file f in
     let b = plain_file cycles (number_file 8 1 10000000 cycles n e) in
@@ -60,5 +60,5 @@ some_of (Some asked) h = (asked, refl)
 pub accepted_taken : (words : List (List ℕ)) → is_some (asked_by words) ≡ true → takes the_app words ≡ true
 accepted_taken words h = let s = some_of (asked_by words) h in taken words s.0 (form_of words s.0 s.1)
 
-pub accepted_kept : (words : List (List ℕ)) → is_some (asked_by words) ≡ true → asked_of (matches_of the_app words) ≡ asked_by words
+pub accepted_kept : (words : List (List ℕ)) → is_some (asked_by words) ≡ true → asked_of (subcommand_of the_app words) ≡ asked_by words
 accepted_kept words h = let s = some_of (asked_by words) h in kept words s.0 (form_of words s.0 s.1) ∙ sym s.1

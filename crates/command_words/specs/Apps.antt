@@ -1,6 +1,6 @@
--- The command that `clap` splits the words by.
+-- The command that `clap` splits the words by: a subcommand for each word that a form begins with.
 use Rattle.std.specs.Prelude.{true, codes, Some}
-use Rattle.clap.specs.Words.{App, Rule, Text, new_app, new_rule, with_rule}
+use Rattle.clap.specs.Words.{App, Rule, Text, new_app, new_rule, with_rule, with_subcommand}
 use Rattle.clap.specs.declared.builder.ArgAction.TheVariants.{SetTrue}
 
 -- a word that is required at its place
@@ -11,10 +11,29 @@ required id = record (new_rule id) { required = true }
 abbrev pub plain_flag : Rule
 plain_flag = record (new_rule (codes "plain")) { long = Some (codes "plain"); action = Some SetTrue }
 
+abbrev pub node_app : App
+node_app = with_rule (with_rule (new_app (codes "node")) (required (codes "file"))) (required (codes "cycles"))
+
+abbrev pub run_app : App
+run_app = with_rule (with_rule (new_app (codes "run")) plain_flag) (required (codes "file"))
+
+-- a subcommand with one word
+abbrev pub one_word_app : Text → Text → App
+one_word_app name id = with_rule (new_app name) (required id)
+
 -- the words begin behind the program's name
 abbrev pub without_first : App → App
 without_first a = record a { top = record a.top { no_binary_name = true } }
 
--- the name of a command, the word behind it, and the cycles of `node`
+-- the subcommands that simulate
+abbrev pub simulating : App → App
+simulating app = with_subcommand (with_subcommand (with_subcommand app node_app.top) run_app.top) (one_word_app (codes "make") (codes "number")).top
+
+-- and those that simulate nothing
+abbrev pub reading : App → App
+reading app =
+    with_subcommand (with_subcommand (with_subcommand app (one_word_app (codes "check") (codes "file")).top) (one_word_app (codes "disasm") (codes "file")).top)
+    (one_word_app (codes "asm") (codes "file")).top
+
 abbrev pub the_app : App
-the_app = with_rule (with_rule (with_rule (with_rule (without_first (new_app (codes "avrora"))) plain_flag) (required (codes "command"))) (required (codes "word"))) (new_rule (codes "cycles"))
+the_app = reading (simulating (without_first (new_app (codes "avrora"))))

@@ -9,19 +9,22 @@ use Rattle.command_words.specs.Words.{Asked, Node, Run, RunPlain, Check, Disasm,
 abbrev pub text_in : Text → List Row → Text
 text_in id rows = option_map_or (λ t. t) (first_of id rows) []
 
-abbrev pub run_in : Text → List Row → Asked
-run_in file rows = if bytes_eq (text_in (codes "plain") rows) (codes "true") then RunPlain file else Run file
+abbrev pub run_in : List Row → Asked
+run_in rows =
+    if bytes_eq (text_in (codes "plain") rows) (codes "true") then RunPlain (text_in (codes "file") rows)
+    else Run (text_in (codes "file") rows)
 
--- what a command asks for with this word behind it
-unfoldable pub asked_in : Text → Text → List Row → Option Asked
-asked_in name word rows =
-    if bytes_eq name (codes "run") then Some (run_in word rows)
-    else if bytes_eq name (codes "make") then option_map Make (sample_of word)
-    else if bytes_eq name (codes "node") then option_map (Node word) (cycles_of (text_in (codes "cycles") rows))
-    else if bytes_eq name (codes "check") then Some (Check word)
-    else if bytes_eq name (codes "disasm") then Some (Disasm word)
-    else if bytes_eq name (codes "asm") then Some (Asm word)
+-- what a subcommand asks for with these words
+unfoldable pub asked_in : Text → List Row → Option Asked
+asked_in name rows =
+    if bytes_eq name (codes "run") then Some (run_in rows)
+    else if bytes_eq name (codes "make") then option_map Make (sample_of (text_in (codes "number") rows))
+    else if bytes_eq name (codes "node") then option_map (Node (text_in (codes "file") rows)) (cycles_of (text_in (codes "cycles") rows))
+    else if bytes_eq name (codes "check") then Some (Check (text_in (codes "file") rows))
+    else if bytes_eq name (codes "disasm") then Some (Disasm (text_in (codes "file") rows))
+    else if bytes_eq name (codes "asm") then Some (Asm (text_in (codes "file") rows))
     else None
 
-abbrev pub asked_of : List Row → Option Asked
-asked_of rows = asked_in (text_in (codes "command") rows) (text_in (codes "word") rows) rows
+unfoldable pub asked_of : Option (Text × List Row) → Option Asked
+asked_of None = None
+asked_of (Some p) = asked_in p.0 p.1

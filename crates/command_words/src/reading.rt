@@ -1,6 +1,6 @@
 // What the words that were split ask for.
 ghost use Rattle.std.specs.Prelude.{◌≡◌, option_map};
-ghost use Rattle.clap.specs.Words.{found_of, rows_of};
+ghost use Rattle.clap.specs.Words.{found_of, rows_of, subcommand_rows_of};
 ghost use Rattle.command_words.specs.Words.{shown};
 ghost use Rattle.command_words.specs.Split.{asked_in, asked_of, run_in, text_in};
 
@@ -17,9 +17,10 @@ fn text_at<'w>(matches: &ArgMatches<'w>, id: &str) -> &'w str
     }
 }
 
-fn run_order<'w>(file: &'w str, matches: &ArgMatches<'w>) -> Order<'w>
-    ensures { shown result ≡ run_in file.now (rows_of (found_of matches.now)) }
+fn run_order<'w>(matches: &ArgMatches<'w>) -> Order<'w>
+    ensures { shown result ≡ run_in (rows_of (found_of matches.now)) }
 {
+    let file = text_at(matches, "file");
     if text_at(matches, "plain") == "true" {
         Order::RunPlain { file }
     } else {
@@ -28,30 +29,38 @@ fn run_order<'w>(file: &'w str, matches: &ArgMatches<'w>) -> Order<'w>
 }
 
 #[tactic(auto, unfolding(crate::specs::Split::asked_in))]
-fn order_in<'w>(name: &str, word: &'w str, matches: &ArgMatches<'w>) -> Option<Order<'w>>
-    ensures { option_map shown result ≡ asked_in name.now word.now (rows_of (found_of matches.now)) }
+fn order_in<'w>(name: &str, matches: &ArgMatches<'w>) -> Option<Order<'w>>
+    ensures { option_map shown result ≡ asked_in name.now (rows_of (found_of matches.now)) }
 {
-    match name {
-        "run" => Some(run_order(word, matches)),
-        "make" => match sample(word) {
+    if name == "run" {
+        return Some(run_order(matches));
+    }
+    if name == "make" {
+        return match sample(text_at(matches, "number")) {
             Some(number) => Some(Order::Make { number }),
             None => None,
-        },
+        };
+    }
+    let file = text_at(matches, "file");
+    match name {
         "node" => match cycles(text_at(matches, "cycles")) {
-            Some(cycles) => Some(Order::Node { file: word, cycles }),
+            Some(cycles) => Some(Order::Node { file, cycles }),
             None => None,
         },
-        "check" => Some(Order::Check { file: word }),
-        "disasm" => Some(Order::Disasm { file: word }),
-        "asm" => Some(Order::Asm { file: word }),
+        "check" => Some(Order::Check { file }),
+        "disasm" => Some(Order::Disasm { file }),
+        "asm" => Some(Order::Asm { file }),
         _ => None,
     }
 }
 
-/// What the command asks for, with the words behind it.
+/// What the subcommand asks for, with the words behind it.
+#[tactic(auto, unfolding(crate::specs::Split::asked_of))]
 pub fn order_of<'w>(matches: &ArgMatches<'w>) -> Option<Order<'w>>
-    ensures { option_map shown result ≡ asked_of (rows_of (found_of matches.now)) }
+    ensures { option_map shown result ≡ asked_of (subcommand_rows_of matches.now) }
 {
-    let name = text_at(matches, "command");
-    order_in(name, text_at(matches, "word"), matches)
+    match matches.subcommand() {
+        Some((name, matches)) => order_in(name, matches),
+        None => None,
+    }
 }

@@ -1,6 +1,6 @@
 // Splits the words of a command line.
 ghost use Rattle.std.specs.Prelude.{◌≡◌, IfOk, IfErr, IfSome, OnErr, Some, is_some, true, map, option_map};
-ghost use Rattle.clap.specs.Words.{found_of, kind_of, matches_of, rows_of};
+ghost use Rattle.clap.specs.Words.{kind_of, subcommand_of, subcommand_rows_of};
 ghost use Rattle.command_words.specs.Apps.{the_app};
 ghost use Rattle.command_words.specs.Words.{IsInLimits, asked_by, shown};
 
@@ -15,7 +15,7 @@ use std::alloc::{AllocError, Global};
 // The words as `clap` splits them. It refuses accepted words for want of memory alone.
 fn matches_of<'w>(alloc: Global, words: &'w [&'w str]) -> Result<ArgMatches<'w>, Error>
     requires { is_some (asked_by (map (λ w. w.now) words.now)) ≡ true }
-    ensures ok { IfOk result (λ m. rows_of (found_of m) ≡ matches_of the_app (map (λ w. w.now) words.entry.now)) }
+    ensures ok { IfOk result (λ m. subcommand_rows_of m ≡ subcommand_of the_app (map (λ w. w.now) words.entry.now)) }
     ensures err { IfErr result (λ e. kind_of e ≡ ErrorKind.OutOfMemory) }
 {
     let command = match command(alloc) {
