@@ -1,10 +1,13 @@
 -- How a part of the work ends the call.
 use Rattle.std.proofs.Common.{◌≡◌, ℕ, nat_lt, ◌<◌, ◌≤◌, length, true, false, List, Option, Some, None, IfSome, Result, if◌then◌else◌, inl, inr, refl, subst, arith}
 use Rattle.std.proofs.lemmas.Bool.Decides.{nat_tests}
-use Rattle.avrora_top.specs.Plan.{Plan, Give, Refuse, Refusal, Job}
+use Rattle.command_words.specs.Words.{Asked, shown}
+use Rattle.command_words.specs.declared.order.Order.{Order}
+use Rattle.avrora_top.specs.Plan.{Plan, Give, Refuse, Refusal, Job, plan, plan_of}
 use Rattle.avrora_top.specs.Reading.{Files, Reached, Here, Fitting, TooLong, Accepts, Refuses, Verdict, Refused, Accepted, Says, verdict, on_bytes}
 use Rattle.avrora_top.specs.Ends.{Ends, Reads, Stream}
-use Rattle.avrora_top.specs.Parts.{JobEnds, StopsAt, end_at, end_of}
+use Rattle.avrora_top.specs.Parts.{AsksFor, Called, JobEnds, StopsAt, end_at, end_of}
+use Rattle.avrora_top.specs.declared.status.Status.{Status}
 use Rattle.avrora_top.specs.declared.trouble.Trouble.{Trouble}
 use Rattle.avrora_top.specs.declared.trouble.Trouble.TheVariants as trouble
 
@@ -61,3 +64,13 @@ ends_job files plan job store store' out out' (Result.Err trouble.OutFailed) rea
 ends_job files plan job store store' out out' (Result.Err trouble.NoMemory) reached same h = (same, inr (job, accepts files plan job reached, h.0, h.1))
 ends_job files plan job store store' out out' (Result.Err (trouble.ReadFailed name)) reached same h = absurd h
 ends_job files plan job store store' out out' (Result.Err (trouble.Refused c)) reached same h = absurd h
+
+-- what the words ask for was done, and nothing was said before
+pub called_silent : (files : Files) (words : List (List ℕ)) (order : Order) (store store' : Reads) (out out' err mid err' : Stream) (answer : Status)
+    → AsksFor words err mid order → Called files (plan_of (shown order)) store store' out out' mid err' answer
+    → Called files (plan words) store store' out out' err err' answer
+called_silent files words order store store' out out' err mid err' answer asks called =
+    rw asks.asked (subst (λ e. Called files (plan_of (shown order)) store store' out out' e err' answer) asks.silent called)
+
+pub asked_not_none : (o : Option Asked) (asked : Asked) → o ≡ Some asked → o ≡ None → ⊥
+asked_not_none o asked e none = cc

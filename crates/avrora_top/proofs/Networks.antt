@@ -1,5 +1,5 @@
--- How a command over a network ends: at the scenario, at an image, or with its job.
-use Rattle.std.proofs.Common.{◌≡◌, ℕ, List, Result, ◌∙◌, subst}
+-- How the reading of a network ends, and a command over it.
+use Rattle.std.proofs.Common.{◌≡◌, ℕ, List, Result, sym, subst}
 use Rattle.ihex_loader.specs.Flash.{Image}
 use Rattle.scenario_file.specs.Scenario.{ScenarioParts}
 use Rattle.node_runner.specs.Scenario.{ScenarioOf}
@@ -7,7 +7,8 @@ use Rattle.avrora_top.specs.Network.{network_of}
 use Rattle.avrora_top.specs.Plan.{Plan, Give, Job, images_plan, network_plan, scenario_plan}
 use Rattle.avrora_top.specs.Reading.{Files, Reached}
 use Rattle.avrora_top.specs.Ends.{Ends, Reads, Stream}
-use Rattle.avrora_top.specs.Parts.{JobEnds, StopsAt, end_at, end_of}
+use Rattle.avrora_top.specs.Parts.{Called, HasRead, JobEnds, Reported, StopsAt, end_at, end_of}
+use Rattle.avrora_top.specs.declared.status.Status.{Status}
 use Rattle.avrora_top.specs.declared.trouble.Trouble.{Trouble}
 use Rattle.avrora_top.proofs.Steps.{both, stops_on, stops_moved, reached_moved}
 use Rattle.avrora_top.proofs.Endings.{ends_stopped, ends_job}
@@ -34,16 +35,22 @@ module _ (files files' : Files) (name : List ℕ) (job : ScenarioOf → Job) whe
       (stops_on files Whole (Rest parts) store store' t (reached Rest)
       (stops_moved files files' (Rest parts) store mid store' t e f (stops (λ images. Give (job (network_of parts images))))))
 
-  pub ends_with_job : {A : Type 0} (parts : ScenarioParts) (images : List Image) (network : ScenarioOf) (store mid store' : Reads) (out out' : Stream) (r : Result A Trouble)
-      → files' ≡ files → mid ≡ store → store' ≡ mid
+  pub network_reached : (parts : ScenarioParts) (images : List Image) (network : ScenarioOf) → files' ≡ files
       → ((next : ScenarioParts → Plan) → Reached files (scenario_plan name next) (next parts))
       → ((next : List Image → Plan) → Reached files' (images_plan parts.images next) (next images))
-      → network ≡ network_of parts images → JobEnds (job network) out out' r
-      → Ends files Whole store store' out out' (end_of r)
-  ends_with_job parts images network store mid store' out out' r e f h reached more same ends =
+      → network ≡ network_of parts images → Reached files Whole (Give (job network))
+  network_reached parts images network e reached more same =
       let made : ScenarioOf = network_of parts images in
-      ends_job files Whole (job made) store store' out out' r
+      subst (λ n. Reached files Whole (Give (job n))) (sym same)
       (both files Whole (Rest parts) (Give (job made)) (reached Rest)
       (reached_moved files files' (Rest parts) (Give (job made)) e (more (λ it. Give (job (network_of parts it))))))
-      (h ∙ f)
-      (subst (λ n. JobEnds (job n) out out' r) same ends)
+
+-- a command over the network that was read ends as its job does
+pub called_with : {A : Type 0} (files : Files) (name : List ℕ) (job : ScenarioOf → Job) (network : ScenarioOf) (store store' : Reads) (out out' err mid err' : Stream) (r : Result A Trouble) (answer : Status)
+    → HasRead files name store store' err mid network → JobEnds (job network) out out' r → Reported (end_of r) mid err' answer
+    → Called files (network_plan name (λ it. Give (job it))) store store' out out' err err' answer
+called_with files name job network store store' out out' err mid err' r answer read ends reported = record {
+  end = end_of r;
+  ends = ends_job files (network_plan name (λ it. Give (job it))) (job network) store store' out out' r (read.reached job) read.same ends;
+  reported = subst (λ e. Reported (end_of r) e err' answer) read.silent reported;
+}

@@ -1,8 +1,11 @@
 -- What the parts of a call owe to one another: how reading stops, how a job ends, and that an end was told. These are the
 -- contracts of functions inside this crate, and no part of what the top clause says.
-use Rattle.std.specs.Prelude.{◌≡◌, Result, Ok, Err}
+use Rattle.std.specs.Prelude.{◌≡◌, ℕ, List, Some, None, Result, Ok, Err}
 use Rattle.sim_io.specs.Outside.{TookFront}
-use Rattle.avrora_top.specs.Plan.{Plan, Refuse, Refusal, BadWords, BadScenario, BadImage, BadSource, Job, output}
+use Rattle.node_runner.specs.Scenario.{ScenarioOf}
+use Rattle.command_words.specs.Words.{IsInLimits, asked_by, shown}
+use Rattle.command_words.specs.declared.order.Order.{Order}
+use Rattle.avrora_top.specs.Plan.{Plan, Give, Refuse, Refusal, BadWords, BadScenario, BadImage, BadSource, Job, network_plan, output, plan}
 use Rattle.avrora_top.specs.Reading.{Files, Reached, IsNext}
 use Rattle.avrora_top.specs.Ends.{Reads, Stream, took, FailedIn, FailedRead, End, Done, OutFailed, NoMemory, ReadFailed, Refused, Ends, line_due, status_due}
 use Rattle.avrora_top.specs.declared.trouble.Complaint.{Complaint}
@@ -62,3 +65,25 @@ pub record Called (files : Files) (plan : Plan) (store store' : Reads) (out out'
   pub end : End
   pub ends : Ends files plan store store' out out' end
   pub reported : Reported end err err' answer
+
+-- the network of the scenario in this file was read, whatever is to be done with it, and nothing was said
+pub record HasRead (files : Files) (name : List ℕ) (store store' : Reads) (err err' : Stream) (network : ScenarioOf) : Type 0 where
+  pub reached : (job : ScenarioOf → Job) → Reached files (network_plan name (λ it. Give (job it))) (Give (job network))
+  pub same : store' ≡ store
+  pub silent : err' ≡ err
+
+-- the call ended with the reading of that network, whatever was to be done with it
+abbrev pub EndedReading : Files → List ℕ → Reads → Reads → Stream → Stream → Status → Type 0
+EndedReading files name store store' err err' answer =
+    (job : ScenarioOf → Job) (out : Stream) → Called files (network_plan name (λ it. Give (job it))) store store' out out err err' answer
+
+-- the call ended with its words: over any store and output it ended and was reported so, and words that are not accepted were refused
+pub record EndedAtWords (words : List (List ℕ)) (err err' : Stream) (answer : Status) : Type 0 where
+  pub called : (files : Files) (store : Reads) (out : Stream) → Called files (plan words) store store out out err err' answer
+  pub first : asked_by words ≡ None → Reported (Refused BadWords) err err' answer
+
+-- the words ask for this order, and nothing was said
+pub record AsksFor (words : List (List ℕ)) (err err' : Stream) (order : Order) : Type 0 where
+  pub asked : asked_by words ≡ Some (shown order)
+  pub limits : IsInLimits (shown order)
+  pub silent : err' ≡ err

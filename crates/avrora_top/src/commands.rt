@@ -1,9 +1,9 @@
 // The commands, behind the words that ask for them.
-ghost use Rattle.std.specs.Prelude.{◌≡◌, ◌≤◌, length};
+ghost use Rattle.std.specs.Prelude.{◌≡◌, ◌≤◌, length, IfErr, IfOk};
 ghost use Rattle.command_words.specs.Words.{Node, Run, RunPlain, Check, Disasm, Asm};
 ghost use Rattle.avrora_top.specs.Plan.{AsmJob, DisasmJob, plan_of};
 ghost use Rattle.avrora_top.specs.Ends.{Ends, reads, stream};
-ghost use Rattle.avrora_top.specs.Parts.{JobEnds, end_of, Called};
+ghost use Rattle.avrora_top.specs.Parts.{JobEnds, end_of, Called, HasRead, EndedReading};
 
 use crate::Status;
 use crate::files::{read_image, read_images, read_scenario, read_source};
@@ -104,8 +104,33 @@ pub fn asm<'w, S: Store, O: Sink>(
     }
 }
 
-/// `run --plain FILE`: the trace of the network of the scenario in `file`, on one thread. It says itself how it ended, since the line on `err` may name a
-/// file of the scenario's own.
+/// The network of the scenario in `file`, with the image of each node. Where it is not to be had, `err` has the line that says why, and
+/// the answer is the status of the call: that line may name a file of the scenario's own, so it cannot be written later.
+pub fn read_network<'w, S: Store, E: Sink>(
+    alloc: Global,
+    file: &'w str,
+    store: &mut S,
+    err: &mut E,
+) -> Result<Scenario, Status>
+    ensures held { S.held store.new ≡ S.held store.old }
+    ensures ok { IfOk result (HasRead (S.held store.old) file.entry.now
+        (reads (S.faults store.old) (S.failed store.old)) (reads (S.faults store.new) (S.failed store.new))
+        (stream (E.taken err.old) (E.faults err.old)) (stream (E.taken err.new) (E.faults err.new))) }
+    ensures err { IfErr result (EndedReading (S.held store.old) file.entry.now
+        (reads (S.faults store.old) (S.failed store.old)) (reads (S.faults store.new) (S.failed store.new))
+        (stream (E.taken err.old) (E.faults err.old)) (stream (E.taken err.new) (E.faults err.new))) }
+{
+    let text = match read_scenario(alloc, file, store) {
+        Ok(text) => text,
+        Err(trouble) => return Err(report(err, Err(trouble))),
+    };
+    match read_images(alloc, text.images.as_slice(), store) {
+        Ok(images) => Ok(Scenario::new(text, images)),
+        Err(trouble) => Err(report(err, Err(trouble))),
+    }
+}
+
+/// `run --plain FILE`: the trace of the network of the scenario in `file`, on one thread.
 pub fn run_plain<'w, S: Store, O: Sink, E: Sink>(
     alloc: Global,
     file: &'w str,
@@ -119,17 +144,13 @@ pub fn run_plain<'w, S: Store, O: Sink, E: Sink>(
         (stream (O.taken out.old) (O.faults out.old)) (stream (O.taken out.new) (O.faults out.new))
         (stream (E.taken err.old) (E.faults err.old)) (stream (E.taken err.new) (E.faults err.new)) result }
 {
-    let text = match read_scenario(alloc, file, store) {
-        Ok(text) => text,
-        Err(trouble) => return report(err, Err(trouble)),
-    };
-    let images = match read_images(alloc, text.images.as_slice(), store) {
-        Ok(images) => images,
-        Err(trouble) => return report(err, Err(trouble)),
-    };
-    let network = Scenario::new(text, images);
-    let outcome = write_trace(alloc, &network, out);
-    report(err, outcome)
+    match read_network(alloc, file, store, err) {
+        Ok(network) => {
+            let outcome = write_trace(alloc, &network, out);
+            report(err, outcome)
+        }
+        Err(status) => status,
+    }
 }
 
 /// `run FILE` on one thread: the same trace, for a caller that has no threads to give.
@@ -164,15 +185,11 @@ pub fn check<'w, S: Store, O: Sink, E: Sink>(
         (stream (O.taken out.old) (O.faults out.old)) (stream (O.taken out.new) (O.faults out.new))
         (stream (E.taken err.old) (E.faults err.old)) (stream (E.taken err.new) (E.faults err.new)) result }
 {
-    let text = match read_scenario(alloc, file, store) {
-        Ok(text) => text,
-        Err(trouble) => return report(err, Err(trouble)),
-    };
-    let images = match read_images(alloc, text.images.as_slice(), store) {
-        Ok(images) => images,
-        Err(trouble) => return report(err, Err(trouble)),
-    };
-    let network = Scenario::new(text, images);
-    let outcome = write_size(&network, out);
-    report(err, outcome)
+    match read_network(alloc, file, store, err) {
+        Ok(network) => {
+            let outcome = write_size(&network, out);
+            report(err, outcome)
+        }
+        Err(status) => status,
+    }
 }

@@ -6,7 +6,7 @@ ghost use Rattle.avrora_top.specs.Ends.{reads, stream};
 ghost use Rattle.avrora_top.specs.Parts.{JobEnds, Called};
 
 use crate::Status;
-use crate::files::{read_images, read_scenario};
+use crate::commands::read_network;
 use crate::report::report;
 use crate::sample::{NODES, write_counts};
 use crate::trouble::Trouble;
@@ -43,8 +43,7 @@ fn write_trace<'n, R: Threads + Wait + Sync, O: Sink, G: Gate + Sync>(
     Ok(())
 }
 
-/// `run FILE`: the trace of the network of the scenario in `file`, each node on a thread of its own. It says itself how it ended,
-/// since the line on `err` may name a file of the scenario's own.
+/// `run FILE`: the trace of the network of the scenario in `file`, each node on a thread of its own.
 pub fn run<'w, R: Threads + Wait + Sync, S: Store, O: Sink, E: Sink, G: Gate + Sync>(
     rt: &R,
     alloc: Global,
@@ -60,17 +59,13 @@ pub fn run<'w, R: Threads + Wait + Sync, S: Store, O: Sink, E: Sink, G: Gate + S
         (stream (O.taken out.old) (O.faults out.old)) (stream (O.taken out.new) (O.faults out.new))
         (stream (E.taken err.old) (E.faults err.old)) (stream (E.taken err.new) (E.faults err.new)) result }
 {
-    let text = match read_scenario(alloc, file, store) {
-        Ok(text) => text,
-        Err(trouble) => return report(err, Err(trouble)),
-    };
-    let images = match read_images(alloc, text.images.as_slice(), store) {
-        Ok(images) => images,
-        Err(trouble) => return report(err, Err(trouble)),
-    };
-    let network = Scenario::new(text, images);
-    let outcome = write_trace(rt, alloc, &network, out, gate);
-    report(err, outcome)
+    match read_network(alloc, file, store, err) {
+        Ok(network) => {
+            let outcome = write_trace(rt, alloc, &network, out, gate);
+            report(err, outcome)
+        }
+        Err(status) => status,
+    }
 }
 
 /// `make NUMBER`: runs the sample of a number, each of its nodes on a thread of its own, and writes how often they sent and

@@ -1,10 +1,10 @@
 // From the words to a status.
-ghost use Rattle.std.specs.Prelude.{◌≡◌, map};
+ghost use Rattle.std.specs.Prelude.{◌≡◌, map, IfErr, IfOk};
 ghost use Rattle.command_words.specs.Words.{IsInLimits, asked_by, shown};
 ghost use Rattle.avrora_top.specs.Plan.{BadWords, plan, plan_of};
 ghost use Rattle.avrora_top.specs.Ends.{Refused, reads, stream};
 ghost use Rattle.avrora_top.specs.TopClause.{TopClause};
-ghost use Rattle.avrora_top.specs.Parts.{Called, Reported};
+ghost use Rattle.avrora_top.specs.Parts.{AsksFor, Called, EndedAtWords, Reported};
 
 use crate::commands::{asm, check, disasm, node, run, run_plain};
 use crate::report::report;
@@ -56,6 +56,25 @@ fn obey<'w, S: Store, O: Sink, E: Sink>(
     }
 }
 
+// The order that the words ask for. Where they ask for none, or memory is short, `err` has the line that says so, and the answer is
+// the status of the call.
+fn read_order<'w, E: Sink>(
+    alloc: Global,
+    words: &'w [&'w str],
+    err: &mut E,
+) -> Result<Order<'w>, Status>
+    ensures ok { IfOk result (AsksFor (map (λ w. w.now) words.entry.now)
+        (stream (E.taken err.old) (E.faults err.old)) (stream (E.taken err.new) (E.faults err.new))) }
+    ensures err { IfErr result (EndedAtWords (map (λ w. w.now) words.entry.now)
+        (stream (E.taken err.old) (E.faults err.old)) (stream (E.taken err.new) (E.faults err.new))) }
+{
+    match read_words(alloc, words) {
+        Ok(Some(order)) => Ok(order),
+        Ok(None) => Err(report(err, Err(Trouble::Refused(Complaint::BadWords)))),
+        Err(_) => Err(report(err, Err(Trouble::NoMemory))),
+    }
+}
+
 // Does what the words ask for, and says how it ended.
 fn call<'w, S: Store, O: Sink, E: Sink>(
     alloc: Global,
@@ -72,13 +91,9 @@ fn call<'w, S: Store, O: Sink, E: Sink>(
     ensures words { asked_by (map (λ w. w.now) words.entry.now) ≡ None
         → Reported (Refused BadWords) (stream (E.taken err.old) (E.faults err.old)) (stream (E.taken err.new) (E.faults err.new)) result }
 {
-    let asked = match read_words(alloc, words) {
-        Ok(asked) => asked,
-        Err(_) => return report(err, Err(Trouble::NoMemory)),
-    };
-    match asked {
-        Some(order) => obey(alloc, order, store, out, err),
-        None => report(err, Err(Trouble::Refused(Complaint::BadWords))),
+    match read_order(alloc, words, err) {
+        Ok(order) => obey(alloc, order, store, out, err),
+        Err(status) => status,
     }
 }
 
@@ -159,13 +174,9 @@ fn call_on_threads<'w, R: Threads + Wait + Sync, S: Store, O: Sink, E: Sink, G: 
     ensures words { asked_by (map (λ w. w.now) words.entry.now) ≡ None
         → Reported (Refused BadWords) (stream (E.taken err.old) (E.faults err.old)) (stream (E.taken err.new) (E.faults err.new)) result }
 {
-    let asked = match read_words(alloc, words) {
-        Ok(asked) => asked,
-        Err(_) => return report(err, Err(Trouble::NoMemory)),
-    };
-    match asked {
-        Some(order) => obey_on_threads(rt, alloc, order, store, out, err, gate),
-        None => report(err, Err(Trouble::Refused(Complaint::BadWords))),
+    match read_order(alloc, words, err) {
+        Ok(order) => obey_on_threads(rt, alloc, order, store, out, err, gate),
+        Err(status) => status,
     }
 }
 

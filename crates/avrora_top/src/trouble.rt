@@ -4,7 +4,7 @@ use ihex_loader::HexFault;
 use scenario_file::ScenarioFault;
 
 /// Why a scenario is refused.
-#[derive(Clone, Copy, Debug, PartialEq, Eq)]
+#[derive(Clone, Copy)]
 pub enum ScenarioCause {
     /// Its text has more than 524,288 bytes.
     TooLong,
@@ -13,7 +13,7 @@ pub enum ScenarioCause {
 }
 
 /// Why an image is refused.
-#[derive(Clone, Copy, Debug, PartialEq, Eq)]
+#[derive(Clone, Copy)]
 pub enum ImageCause {
     /// Its text has more than 1,048,576 bytes.
     TooLong,
@@ -22,7 +22,7 @@ pub enum ImageCause {
 }
 
 /// Why a source is refused.
-#[derive(Clone, Copy, Debug, PartialEq, Eq)]
+#[derive(Clone, Copy)]
 pub enum SourceCause {
     /// Its text has more than 1,048,576 bytes.
     TooLong,

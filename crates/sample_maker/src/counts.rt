@@ -6,7 +6,7 @@ ghost use Rattle.sample_maker.specs.Counts.{is_sent, is_heard, counts_of};
 use trace_rows::{Kind, Row};
 
 /// How often the nodes of a run sent, and what they heard when they sampled the air.
-#[derive(Clone, Copy, Debug, PartialEq, Eq)]
+#[derive(Clone, Copy)]
 pub struct Counts {
     /// Bytes that were sent.
     pub sent: u64,
