@@ -9,7 +9,8 @@ crate=$top/crates/command_facts
 program=$crate/out/command_facts
 work=$(mktemp -d)
 trap 'rm -rf "$work"' EXIT
-(cd "$crate" && rt run -- trials=all:10:1000 >/dev/null)
+# The gate leaves the program there.
+[ -x "$program" ] || (cd "$crate" && rt run -- trials=all:10:1000 >/dev/null)
 
 # The least processor time of three runs, in seconds.
 least() {

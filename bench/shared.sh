@@ -10,7 +10,8 @@ crate=$top/crates/command_facts
 program=$crate/out/command_facts
 work=$(mktemp -d)
 trap 'rm -rf "$work"' EXIT
-(cd "$crate" && rt run -- trials=both:1 >/dev/null)
+# The gate leaves the program there.
+[ -x "$program" ] || (cd "$crate" && rt run -- trials=both:1 >/dev/null)
 
 # The least time of five runs, in seconds.
 least() {
