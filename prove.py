@@ -1,0 +1,298 @@
+#!/usr/bin/env python3
+"""Proves a program of this repository and every crate below it, as many side by side as there are processors and
+memory, and builds it. `./avrora` calls it before each command; where nothing changed, it ends at once.
+
+    prove.py PROGRAM ROOM
+
+leaves the program at ROOM/PROGRAM. What is proved of a crate is kept in ROOM too, until the kit changes, or a source of the
+crate or of one below it. Exit status: 0 the program is there, 1 a crate was not proved or built, 2 bad words.
+
+Each crate is proved by one `rattle build` of the kit, over the statements of the crates below it; that ends well only for a
+crate that is proved. The gate, `rt ci`, proves them so too, and does more: it takes nothing that was kept, looks for
+contracts that no call can meet, tries the must-fail edits, and runs the programs as two compilers build them.
+"""
+import fcntl
+import hashlib
+import os
+import re
+import shutil
+import subprocess
+import sys
+import time
+
+TOP = os.path.dirname(os.path.realpath(__file__))
+
+# The folders of a crate that its proof and its code are made from.
+PARTS = ("src", "specs", "proofs")
+
+# What a check reads before its first function, as so many lines of source that take as long.
+LINES_OF_A_START = 150
+
+# Lines of proofs are checked faster than lines of code, about so many times.
+PROOF_LINES_PER_LINE = 3
+
+# The most memory that a check here was seen to take, in bytes.
+MEMORY_OF_A_CHECK = 2_500_000_000
+
+# How many forked copies may share a check: with more it gets no faster.
+MOST_COPIES = 4
+
+# What rattle says of what went well.
+WENT_WELL = re.compile(r"(statements|logic|crate|axioms|by-macro|built:|  +|logic=proved) ?|.*: (proved|assumed)$|note: ")
+
+
+class NotProved(Exception):
+    """Why the program is not there, with what the kit said of it."""
+
+    def __init__(self, why, said=""):
+        super().__init__(why)
+        self.said = said
+
+
+class Kit:
+    """The Rattle kit: its folder, and the text that tells it from other kits."""
+
+    def __init__(self):
+        rt = shutil.which("rt")
+        if not rt:
+            raise NotProved("there is no `rt` on the PATH: this needs the Rattle kit")
+        self.folder = os.path.dirname(os.path.dirname(os.path.realpath(rt)))
+        if not os.path.isfile(f"{self.folder}/KIT-ID"):
+            # slower, and right wherever rt lies
+            self.folder = os.path.dirname(subprocess.run(["rt", "doc"], capture_output=True, text=True, check=True).stdout.strip())
+        with open(f"{self.folder}/KIT-ID", encoding="utf-8") as it:
+            self.identity = it.read()
+
+    def library(self, name):
+        return f"{self.folder}/rlibs/{name}.rlib"
+
+
+class Crate:
+    """A crate of the repository: a line of crates.txt."""
+
+    def __init__(self, line):
+        name, _, uses = line.partition(":")
+        self.name = name.strip()
+        self.uses = uses.split()
+        self.folder = f"{TOP}/crates/{self.name}"
+        self.is_program = os.path.isfile(f"{self.folder}/src/main.rt")
+
+    def sources(self):
+        """The paths of its files below its folder, in order."""
+        for part in PARTS:
+            for at, folders, names in os.walk(f"{self.folder}/{part}"):
+                folders.sort()
+                for name in sorted(names):
+                    if name.endswith((".rt", ".antt")):
+                        yield os.path.relpath(f"{at}/{name}", self.folder)
+
+    def text(self, source):
+        with open(f"{self.folder}/{source}", "rb") as it:
+            return it.read()
+
+    def work(self):
+        """How long its check is likely to take, in lines of code."""
+        lines = {".rt": 0, ".antt": 0}
+        for source in self.sources():
+            lines[os.path.splitext(source)[1]] += self.text(source).count(b"\n")
+        return LINES_OF_A_START + lines[".rt"] + lines[".antt"] // PROOF_LINES_PER_LINE
+
+
+def crates_below(program):
+    """The program and the crates below it by name, each behind those that it uses."""
+    with open(f"{TOP}/crates.txt", encoding="utf-8") as it:
+        lines = [line.partition("#")[0] for line in it]
+    listed = {it.name: it for it in map(Crate, filter(str.strip, lines))}
+    found = {}
+
+    def visit(name):
+        if name in listed and name not in found:
+            for used in listed[name].uses:
+                visit(used)
+            found[name] = listed[name]
+
+    visit(program)
+    return found
+
+
+class Room:
+    """The folder that keeps what is proved: a crate's library or program, and the sum of all that it was made from."""
+
+    def __init__(self, folder, kit, crates):
+        self.folder, self.kit, self.crates = folder, kit, crates
+        self.sums = {}
+        for crate in crates.values():
+            self.sums[crate.name] = self.sum_of(crate)
+
+    def sum_of(self, crate):
+        made = hashlib.sha256(repr((self.kit.identity, crate.name, crate.uses)).encode())
+        for source in crate.sources():
+            made.update(repr((source, crate.text(source))).encode())
+        made.update(repr([self.sums[it] for it in crate.uses if it in self.sums]).encode())
+        return made.hexdigest()
+
+    def made(self, crate):
+        return f"{self.folder}/{crate.name}" + ("" if crate.is_program else ".rlib")
+
+    def log(self, crate):
+        return f"{self.folder}/{crate.name}.log"
+
+    def is_kept(self, crate):
+        try:
+            with open(f"{self.folder}/{crate.name}.sum", encoding="utf-8") as it:
+                return it.read() == self.sums[crate.name] and os.path.exists(self.made(crate))
+        except OSError:
+            return False
+
+    def clear(self, crate):
+        for path in (f"{self.folder}/{crate.name}.sum", self.made(crate)):
+            if os.path.isdir(path):
+                shutil.rmtree(path)
+            elif os.path.lexists(path):
+                os.remove(path)
+
+    def keep(self, crate):
+        with open(f"{self.folder}/{crate.name}.sum", "w", encoding="utf-8") as it:
+            it.write(self.sums[crate.name])
+        os.remove(self.log(crate))
+
+    def given(self, crate, copies):
+        """What rattle is given to check a crate, by so many copies of itself."""
+        kit = self.kit.folder
+        words = ["--crate-name", crate.name, f"src/{'main' if crate.is_program else 'lib'}.rt"]
+        for used in ["std", *crate.uses]:
+            words += ["--extern", f"{used}={self.made(self.crates[used]) if used in self.crates else self.kit.library(used)}"]
+        words += ["-L", f"dependency={kit}/rlibs", "-L", f"dependency={self.folder}"]
+        words += ["--antt-project", f"{kit}/rattle/logic/antt-project.json", "--logic-built", f"{kit}/logic_built"]
+        return [*words, "--links", f"{crate.name}=", "--jobs", str(copies)]
+
+    def check_words(self, crate, copies):
+        """The command that proves a crate and writes its library, or the object file of a program."""
+        kit = self.kit.folder
+        words = [f"{kit}/bin/rattle", "build", *self.given(crate, copies)]
+        if crate.is_program:
+            return [*words, "--toolchain", f"{kit}/toolchain", "--backend", "llvm", "-o", f"{self.made(crate)}.o"]
+        return [*words, "--statements", "-o", self.made(crate)]
+
+    def link_words(self, crate):
+        kit = self.kit.folder
+        words = [f"{kit}/bin/rattle-link", "--target", "x86_64-unknown-linux-gnu", "--toolchain", f"{kit}/toolchain"]
+        return [*words, "-o", self.made(crate), f"{self.made(crate)}.o", f"{kit}/c/libos_c.a", f"{kit}/c/liblibc_c.a"]
+
+
+class Check:
+    """The check of a crate that runs."""
+
+    def __init__(self, room, crate, copies):
+        self.room, self.crate = room, crate
+        room.clear(crate)
+        with open(room.log(crate), "wb") as said:
+            self.process = self.start(room.check_words(crate, copies), said)
+
+    def start(self, words, said):
+        return subprocess.Popen(words, cwd=self.crate.folder, stdin=subprocess.DEVNULL, stdout=said, stderr=subprocess.STDOUT)
+
+    def ended(self):
+        return self.process.poll() is not None
+
+    def finish(self):
+        """Keeps what an ended check proved, or says that it proved nothing."""
+        with open(self.room.log(self.crate), "a+", encoding="utf-8", errors="replace") as said:
+            well = self.process.returncode == 0
+            if well and self.crate.is_program:
+                well = self.start(self.room.link_words(self.crate), said).wait() == 0
+            said.seek(0)
+            text = said.read()
+        if not well or not re.search(r"^logic=proved ", text, re.M):
+            raise NotProved(f"{self.crate.name} was not proved; {self.room.log(self.crate)} has all that was said of it", text)
+        self.room.keep(self.crate)
+
+
+class Order:
+    """In which order crates are proved, and by how many copies each."""
+
+    def __init__(self, crates):
+        self.works = {it.name: it.work() for it in crates.values()}
+        self.above = {name: set() for name in crates}
+        # the work from a crate up to the program: what it holds up
+        self.ways = {}
+        for crate in reversed(crates.values()):
+            users = [it.name for it in crates.values() if crate.name in it.uses]
+            self.above[crate.name] = set(users).union(*(self.above[it] for it in users))
+            self.ways[crate.name] = self.works[crate.name] + max((self.ways[it] for it in users), default=0)
+
+    def copies(self, crate, undone, lanes):
+        """How many copies share the check of a crate: the processors that no other crate can use while it lasts."""
+        work = self.works[crate.name]
+        beside = [it for it in undone if it != crate.name and it not in self.above[crate.name]]
+        taken = sum(min(1, self.works[it] / work) for it in beside)
+        return max(1, min(MOST_COPIES, lanes, round(lanes - taken)))
+
+
+def lanes_here():
+    """How many checks may run at once: one a processor, as far as memory goes."""
+    with open("/proc/meminfo", encoding="utf-8") as it:
+        free = next((1024 * int(line.split()[1]) for line in it if line.startswith("MemAvailable:")), MEMORY_OF_A_CHECK)
+    return max(1, min(len(os.sched_getaffinity(0)), free // MEMORY_OF_A_CHECK))
+
+
+def tell(done, of_all, is_last):
+    """One line of how many crates are done; where somebody looks, it is written over."""
+    if sys.stderr.isatty() or is_last:
+        ends = "\r" if sys.stderr.isatty() and not is_last else "\n"
+        print(f"avrora: {done} of {of_all} crates are proved", end=ends, file=sys.stderr, flush=True)
+
+
+def prove(room, names):
+    """Proves each of these crates that is not kept, once those below it are; first what holds up the most."""
+    crates, order, lanes = room.crates, Order(room.crates), lanes_here()
+    undone = {it for it in names if not room.is_kept(crates[it])}
+    waiting = sorted(undone, key=lambda it: -order.ways[it])
+    running = []
+    try:
+        while undone:
+            ready = [it for it in waiting if not undone.intersection(crates[it].uses)]
+            for name in ready[: lanes - len(running)]:
+                waiting.remove(name)
+                running.append(Check(room, crates[name], order.copies(crates[name], undone, lanes)))
+            tell(len(names) - len(undone), len(names), False)
+            time.sleep(0.1)
+            for check in [it for it in running if it.ended()]:
+                running.remove(check)
+                check.finish()
+                undone.remove(check.crate.name)
+    finally:
+        for check in running:
+            check.process.kill()
+            check.process.wait()
+    tell(len(names), len(names), True)
+
+
+def main(words):
+    if len(words) != 2:
+        print("usage: prove.py PROGRAM ROOM", file=sys.stderr)
+        return 2
+    program, folder = words
+    try:
+        room = Room(os.path.realpath(folder), Kit(), crates_below(program))
+        if room.is_kept(room.crates[program]):
+            return 0
+        os.makedirs(folder, exist_ok=True)
+        with open(f"{folder}/lock", "w", encoding="utf-8") as lock:
+            # Two calls at once: the second one waits, and finds the program.
+            fcntl.flock(lock, fcntl.LOCK_EX)
+            if not room.is_kept(room.crates[program]):
+                print("avrora: proving and building the program; the first time takes minutes", file=sys.stderr)
+                prove(room, list(room.crates))
+                print(f"avrora: the program lies at {room.made(room.crates[program])}", file=sys.stderr)
+    except NotProved as it:
+        for line in [*filter(lambda said: not WENT_WELL.match(said), it.said.splitlines()), f"avrora: {it}"]:
+            print(line, file=sys.stderr)
+        return 1
+    except KeyboardInterrupt:
+        return 130
+    return 0
+
+
+if __name__ == "__main__":
+    sys.exit(main(sys.argv[1:]))
