@@ -8,7 +8,7 @@ use avr_base::Sreg;
 
 /// A multiply instruction (AVR Instruction Set Manual): which of its factors are in two's complement, and whether its
 /// product is shifted left by one, as that of fractions with 7 bits behind the point.
-#[derive(Clone, Copy, Debug, PartialEq, Eq)]
+#[derive(Clone, Copy)]
 pub enum MulKind {
     /// Unsigned by unsigned.
     Mul,

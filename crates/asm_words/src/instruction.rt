@@ -22,7 +22,7 @@ pub struct Piece {
 }
 
 /// Why an instruction has no words. The first that applies is told.
-#[derive(Clone, Copy, Debug, PartialEq, Eq)]
+#[derive(Clone, Copy)]
 pub enum WordFault {
     /// The mnemonic is none.
     UnknownMnemonic,

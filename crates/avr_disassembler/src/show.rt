@@ -3,7 +3,7 @@ ghost use Rattle.std.specs.Prelude.{◌≡◌, ◌+◌, ◌≤◌, ◌++◌, len
 ghost use Rattle.arrayvec.specs.ArrayString.{array_string_len};
 ghost use Rattle.avr_disassembler.specs.Text.{text_of, line_of, operand_text, operands_text, pointer_text};
 
-use crate::parts::{Operand, Operands, Pointer, parts_of};
+use crate::parts::{Operand, Operands, Pointer, mnemonic_of, operands_of};
 use arrayvec::ArrayString;
 use avr_decoder::Op;
 use text_pieces::{put_decimal, put_distance, put_hex2, put_hex4};
@@ -89,9 +89,8 @@ fn put_text<const N: usize>(op: Op, out: &mut ArrayString<N>)
     ensures bytes { out.new.bytes ≡ out.old.bytes ++ text_of op }
     ensures len { array_string_len out.new ≤ array_string_len out.old + 23 }
 {
-    let parts = parts_of(op);
-    out.push_str(parts.mnemonic);
-    put_operands(parts.operands, out);
+    out.push_str(mnemonic_of(&op));
+    put_operands(operands_of(op), out);
 }
 
 /// Replaces `out` by the text of an instruction: the mnemonic and the operands, as `ldi r16, 0x01`, `rjmp .-2`,

@@ -2,7 +2,7 @@
 use world_core::Heard;
 
 /// The answer to one try.
-#[derive(Clone, Copy, Debug, PartialEq, Eq)]
+#[derive(Clone, Copy)]
 pub enum Tried {
     /// What the node hears, which is recorded.
     Heard(Heard),

@@ -6,7 +6,7 @@ ghost use Rattle.scenario_file.specs.declared.fault.ScenarioFault.TheVariants.{N
 use std::alloc::AllocError;
 
 /// Why a scenario's text was refused: of the first ten the lowest that applies, in this order.
-#[derive(Clone, Copy, Debug, PartialEq, Eq)]
+#[derive(Clone, Copy)]
 pub enum ScenarioFault {
     /// The bytes are no TOML document.
     NotToml,
