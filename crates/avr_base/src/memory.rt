@@ -2,7 +2,7 @@
 use std::alloc::AllocError;
 
 /// An allocation was refused. Calls that answer it say what state they leave.
-#[derive(Clone, Copy, Debug, PartialEq, Eq)]
+#[derive(Clone, Copy)]
 pub struct NoMemory;
 
 impl From<AllocError> for NoMemory {

@@ -1,6 +1,6 @@
 // The inside of a node, cycle by cycle.
 ghost use Rattle.std.specs.Prelude.{◌≡◌, ◌==◌, ◌<◌, ◌≤◌, ◌+◌, ◌-◌, ◌^◌, ◌%◌, ◌++◌, ◌&&◌, ◌||◌, nat_le, nat_lt, None, Some, true, false, is_some, IfOk, OnOk, OnErr, vec_len, vec_capacity};
-ghost use Rattle.node_core.specs.Cycle.{acted, acted_rows, asks_after, asks_in, begun_in, begun_rows, cpu_cycle, cpu_rows, device_rows, devices_cycle, entered, entered_rows, finished_in, finished_rows, instructed, instructed_rows, is_idle, is_other, is_sei, is_sleep, owes, row, row_within, sends_after, sends_in, sent_rows, serial_rows};
+ghost use Rattle.node_core.specs.Cycle.{acted, acted_rows, asks_after, asks_in, begun_in, begun_rows, cpu_cycle, cpu_rows, device_rows, devices_cycle, entered, entered_rows, finished_in, finished_rows, instructed, instructed_rows, is_idle, is_other, is_sei, is_sleep, op_now, owes, row, row_within, sends_after, sends_in, sent_rows, serial_rows};
 ghost use Rattle.avr_decoder.specs.Class.{class_of};
 ghost use Rattle.avr_decoder.specs.declared.op.Class.TheVariants as class;
 ghost use Rattle.trace_rows.specs.declared.row.Kind.TheVariants as kind;
@@ -238,11 +238,12 @@ impl Machine {
         done.cycles
     }
 
-    // The first cycle of an instruction: how many it takes, or 0 where the node stopped, executed SLEEP, or has a row
-    // more.
+    // The first cycle of an instruction on registers and flags. The answer is that of `instruct`.
     #[inline(always)]
     #[tactic(auto, unfolding(crate::specs::Cycle::instructed, crate::specs::Cycle::instructed_rows))]
-    fn instruct(&mut self, cycle: u64) -> u8
+    fn instruct_registers(&mut self, cycle: u64, op: &Op) -> u8
+        requires fetched { op.now ≡ op_now (shown self.old) }
+        requires class { class_of op.now ≡ class.Arith }
         requires going { self.old.stop ≡ None }
         requires awake { self.old.asleep ≡ false }
         requires few { self.old.count ≤ 2 ^ 41 }
@@ -260,48 +261,142 @@ impl Machine {
         ensures clock { self.new.bus.board.clock ≡ self.old.bus.board.clock }
     {
         let pc = self.cpu.pc;
-        let op = self.program.op(pc);
         let before = self.cpu.sreg.bits;
-        match op.class() {
-            Class::Arith => {
-                let done = compute(&op, &mut self.cpu);
-                let owed = owes_after_compute(&op, before, self.cpu.sreg.bits);
+        let done = compute(op, &mut self.cpu);
+        let owed = owes_after_compute(op, before, self.cpu.sreg.bits);
+        self.end(cycle, pc, owed, done)
+    }
+
+    // The first cycle of an instruction of the program's flow. The answer is that of `instruct`.
+    #[inline(always)]
+    #[tactic(auto, unfolding(crate::specs::Cycle::instructed, crate::specs::Cycle::instructed_rows))]
+    fn instruct_flow(&mut self, cycle: u64, op: &Op) -> u8
+        requires fetched { op.now ≡ op_now (shown self.old) }
+        requires class { class_of op.now ≡ class.Flow }
+        requires going { self.old.stop ≡ None }
+        requires awake { self.old.asleep ≡ false }
+        requires few { self.old.count ≤ 2 ^ 41 }
+        requires now { self.old.bus.board.clock ≡ cycle }
+        requires early { cycle ≤ 2 ^ 40 }
+        requires room { vec_len self.old.rows < vec_capacity self.old.rows }
+        ensures state { shown self.new ≡ instructed cycle (shown self.old) }
+        ensures rows { self.new.rows.items ≡ self.old.rows.items ++ instructed_rows cycle (shown self.old) }
+        ensures going { 0 < result → IsGoing result (shown self.new) }
+        ensures same { 0 < result → vec_len self.new.rows ≡ vec_len self.old.rows }
+        ensures used { vec_len self.new.rows ≤ vec_len self.old.rows + 1 }
+        ensures room { vec_capacity self.new.rows ≡ vec_capacity self.old.rows }
+        ensures count { self.new.count ≤ self.old.count + 1 }
+        ensures script { self.new.script ≡ self.old.script }
+        ensures clock { self.new.bus.board.clock ≡ self.old.bus.board.clock }
+    {
+        let pc = self.cpu.pc;
+        if is_sleep(op) && is_other(self.bus.board.sleep_mode()) {
+            self.halt(cycle, pc, StopCause::SleepMode);
+            return 0;
+        }
+        let before = self.cpu.sreg.bits;
+        self.bus.at(cycle);
+        match go_on(op, self.program.flash(), &mut self.cpu, &mut self.bus) {
+            Ok(done) => {
+                let owed = owes(op, before, self.cpu.sreg.bits);
                 self.end(cycle, pc, owed, done)
             }
-            Class::Flow => {
-                if is_sleep(&op) && is_other(self.bus.board.sleep_mode()) {
-                    self.halt(cycle, pc, StopCause::SleepMode);
-                    return 0;
-                }
-                self.bus.at(cycle);
-                match go_on(&op, self.program.flash(), &mut self.cpu, &mut self.bus) {
-                    Ok(done) => {
-                        let owed = owes(&op, before, self.cpu.sreg.bits);
-                        self.end(cycle, pc, owed, done)
-                    }
-                    Err(cause) => {
-                        self.halt(cycle, pc, cause);
-                        0
-                    }
-                }
-            }
-            Class::Memory => {
-                self.bus.at(cycle);
-                match access(&op, self.program.flash(), &mut self.cpu, &mut self.bus) {
-                    Ok(done) => {
-                        let owed = turns_on(before, self.cpu.sreg.bits);
-                        self.end(cycle, pc, owed, done)
-                    }
-                    Err(cause) => {
-                        self.halt(cycle, pc, cause);
-                        0
-                    }
-                }
-            }
-            Class::Halting(cause) => {
+            Err(cause) => {
                 self.halt(cycle, pc, cause);
                 0
             }
+        }
+    }
+
+    // The first cycle of an instruction on memory. The answer is that of `instruct`.
+    #[inline(always)]
+    #[tactic(auto, unfolding(crate::specs::Cycle::instructed, crate::specs::Cycle::instructed_rows))]
+    fn instruct_memory(&mut self, cycle: u64, op: &Op) -> u8
+        requires fetched { op.now ≡ op_now (shown self.old) }
+        requires class { class_of op.now ≡ class.Memory }
+        requires going { self.old.stop ≡ None }
+        requires awake { self.old.asleep ≡ false }
+        requires few { self.old.count ≤ 2 ^ 41 }
+        requires now { self.old.bus.board.clock ≡ cycle }
+        requires early { cycle ≤ 2 ^ 40 }
+        requires room { vec_len self.old.rows < vec_capacity self.old.rows }
+        ensures state { shown self.new ≡ instructed cycle (shown self.old) }
+        ensures rows { self.new.rows.items ≡ self.old.rows.items ++ instructed_rows cycle (shown self.old) }
+        ensures going { 0 < result → IsGoing result (shown self.new) }
+        ensures same { 0 < result → vec_len self.new.rows ≡ vec_len self.old.rows }
+        ensures used { vec_len self.new.rows ≤ vec_len self.old.rows + 1 }
+        ensures room { vec_capacity self.new.rows ≡ vec_capacity self.old.rows }
+        ensures count { self.new.count ≤ self.old.count + 1 }
+        ensures script { self.new.script ≡ self.old.script }
+        ensures clock { self.new.bus.board.clock ≡ self.old.bus.board.clock }
+    {
+        let pc = self.cpu.pc;
+        let before = self.cpu.sreg.bits;
+        self.bus.at(cycle);
+        match access(op, self.program.flash(), &mut self.cpu, &mut self.bus) {
+            Ok(done) => {
+                let owed = turns_on(before, self.cpu.sreg.bits);
+                self.end(cycle, pc, owed, done)
+            }
+            Err(cause) => {
+                self.halt(cycle, pc, cause);
+                0
+            }
+        }
+    }
+
+    // An instruction that halts the node. The answer is that of `instruct`.
+    #[inline(always)]
+    #[tactic(auto, unfolding(crate::specs::Cycle::instructed, crate::specs::Cycle::instructed_rows))]
+    fn instruct_halt(&mut self, cycle: u64, op: &Op, cause: StopCause) -> u8
+        requires fetched { op.now ≡ op_now (shown self.old) }
+        requires class { class_of op.now ≡ class.Halting cause }
+        requires going { self.old.stop ≡ None }
+        requires awake { self.old.asleep ≡ false }
+        requires few { self.old.count ≤ 2 ^ 41 }
+        requires now { self.old.bus.board.clock ≡ cycle }
+        requires early { cycle ≤ 2 ^ 40 }
+        requires room { vec_len self.old.rows < vec_capacity self.old.rows }
+        ensures state { shown self.new ≡ instructed cycle (shown self.old) }
+        ensures rows { self.new.rows.items ≡ self.old.rows.items ++ instructed_rows cycle (shown self.old) }
+        ensures going { 0 < result → IsGoing result (shown self.new) }
+        ensures same { 0 < result → vec_len self.new.rows ≡ vec_len self.old.rows }
+        ensures used { vec_len self.new.rows ≤ vec_len self.old.rows + 1 }
+        ensures room { vec_capacity self.new.rows ≡ vec_capacity self.old.rows }
+        ensures count { self.new.count ≤ self.old.count + 1 }
+        ensures script { self.new.script ≡ self.old.script }
+        ensures clock { self.new.bus.board.clock ≡ self.old.bus.board.clock }
+    {
+        self.halt(cycle, self.cpu.pc, cause);
+        0
+    }
+
+    // The first cycle of an instruction: how many it takes, or 0 where the node stopped, executed SLEEP, or has a row
+    // more.
+    #[inline(always)]
+    fn instruct(&mut self, cycle: u64) -> u8
+        requires going { self.old.stop ≡ None }
+        requires awake { self.old.asleep ≡ false }
+        requires few { self.old.count ≤ 2 ^ 41 }
+        requires now { self.old.bus.board.clock ≡ cycle }
+        requires early { cycle ≤ 2 ^ 40 }
+        requires room { vec_len self.old.rows < vec_capacity self.old.rows }
+        ensures state { shown self.new ≡ instructed cycle (shown self.old) }
+        ensures rows { self.new.rows.items ≡ self.old.rows.items ++ instructed_rows cycle (shown self.old) }
+        ensures going { 0 < result → IsGoing result (shown self.new) }
+        ensures same { 0 < result → vec_len self.new.rows ≡ vec_len self.old.rows }
+        ensures used { vec_len self.new.rows ≤ vec_len self.old.rows + 1 }
+        ensures room { vec_capacity self.new.rows ≡ vec_capacity self.old.rows }
+        ensures count { self.new.count ≤ self.old.count + 1 }
+        ensures script { self.new.script ≡ self.old.script }
+        ensures clock { self.new.bus.board.clock ≡ self.old.bus.board.clock }
+    {
+        let op = self.program.op(self.cpu.pc);
+        match op.class() {
+            Class::Arith => self.instruct_registers(cycle, &op),
+            Class::Flow => self.instruct_flow(cycle, &op),
+            Class::Memory => self.instruct_memory(cycle, &op),
+            Class::Halting(cause) => self.instruct_halt(cycle, &op, cause),
         }
     }
 

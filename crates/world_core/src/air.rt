@@ -1,7 +1,7 @@
 // What is sent over the air, and what is heard.
 
 /// A link of a topology: a node that hears another one.
-#[derive(Clone, Copy, Debug, PartialEq, Eq)]
+#[derive(Clone, Copy)]
 pub struct Link {
     /// The number of the node that is heard.
     pub from: u8,
@@ -10,7 +10,7 @@ pub struct Link {
 }
 
 /// A span of cycles in which a link is open.
-#[derive(Clone, Copy, Debug, PartialEq, Eq)]
+#[derive(Clone, Copy)]
 pub struct Span {
     /// The place of the link in the list of links.
     pub link: u32,
@@ -21,7 +21,7 @@ pub struct Span {
 }
 
 /// A byte that a node sends over the air.
-#[derive(Clone, Copy, Debug, PartialEq, Eq)]
+#[derive(Clone, Copy, PartialEq, Eq)]
 pub struct Send {
     /// The number of the node that sends.
     pub node: u8,
@@ -32,7 +32,7 @@ pub struct Send {
 }
 
 /// A cycle in which a node samples the air.
-#[derive(Clone, Copy, Debug, PartialEq, Eq)]
+#[derive(Clone, Copy, PartialEq, Eq)]
 pub struct Ask {
     /// The number of the node that samples.
     pub node: u8,
@@ -52,7 +52,7 @@ pub struct Heard {
 }
 
 /// The answer to a node that samples the air.
-#[derive(Clone, Copy, Debug, PartialEq, Eq)]
+#[derive(Clone, Copy)]
 pub enum Sampled {
     /// What it hears.
     Heard(Heard),

@@ -2,7 +2,7 @@
 use std::alloc::AllocError;
 
 /// Why a topology is refused.
-#[derive(Clone, Copy, Debug, PartialEq, Eq)]
+#[derive(Clone, Copy)]
 pub enum TopoFault {
     /// A number is out of its range, or a link ends at a node that there is not.
     Range,
@@ -19,7 +19,7 @@ pub enum TopoFault {
 }
 
 /// Why the lists of a world are refused.
-#[derive(Clone, Copy, Debug, PartialEq, Eq)]
+#[derive(Clone, Copy)]
 pub enum WorldFault {
     /// The send at this place, counted from 0, is the first that breaks a law.
     SendOrder {
@@ -34,7 +34,7 @@ pub enum WorldFault {
 }
 
 /// An allocation was refused. Calls that answer it say what state they leave.
-#[derive(Clone, Copy, Debug, PartialEq, Eq)]
+#[derive(Clone, Copy)]
 pub struct NoMemory;
 
 impl From<AllocError> for NoMemory {

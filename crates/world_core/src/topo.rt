@@ -372,12 +372,21 @@ impl Topo {
         greatest(&self.own, self.latency)
     }
 
+    // When links are open, as a search among them wants it: in order, and none of them empty.
+    fn spans(&self) -> &[Span]
+        ensures value { result.now ≡ self.now.spans }
+        ensures apart { AllPairs IsSpanOrder result.now }
+        ensures some { All (λ x. x.from < x.until) result.now }
+    {
+        &self.spans
+    }
+
     /// Whether the link from node `from` to node `to` is open in this cycle.
     pub fn is_open(&self, from: u8, to: u8, cycle: u64) -> bool
         ensures { result ≡ is_open self.now from to cycle }
     {
         let place = self.place_of(from, to) as u64;
-        is_open_at(&self.spans, place, cycle)
+        is_open_at(self.spans(), place, cycle)
     }
 
     /// Whether node `to` may hear in this cycle a byte of node `from`: it hears that node, and their link was open in a cycle
@@ -390,6 +399,6 @@ impl Topo {
         }
         let place = self.place_of(from, to) as u64;
         let latency = self.latency_of(from, to);
-        is_reached(&self.spans, place, latency, self.byte_time, cycle)
+        is_reached(self.spans(), place, latency, self.byte_time(), cycle)
     }
 }
