@@ -1,22 +1,11 @@
--- The rows of all nodes, and where each begins. Own to this simulator.
-use Rattle.std.specs.Prelude.{◌≡◌, ℕ, ◌<◌, false, List, length}
-use Rattle.trace_rows.specs.declared.row.Row.{Row}
-use Rattle.node_core.specs.Cycle.{end_row}
+-- Where all nodes begin. Own to this simulator.
+use Rattle.std.specs.Prelude.{◌≡◌, ℕ, ◌<◌, List, length}
 use Rattle.node_runner.specs.Scenario.{ScenarioOf}
-use Rattle.node_runner.specs.Place.{Place, state_at}
-use Rattle.fleet_plain.specs.Flight.{place_at}
-
-abbrev pub start_of : ScenarioOf → ℕ → Place
-start_of sc k = record { scenario = sc; number = k; since = 0; cycle = 0; asking = false; unnoted = false }
+use Rattle.node_runner.specs.Place.{Place}
+use Rattle.epoch_rows.specs.Flight.{place_at}
+use Rattle.epoch_rows.specs.Gather.{start_of}
 
 -- the first n runners, each at reset
 pub record AllStart (sc : ScenarioOf) (n : ℕ) (ps : List Place) : Type 0 where
   pub count : length ps ≡ n
   pub each : (k : ℕ) (d : Place) → k < n → place_at ps k d ≡ start_of sc k
-
-abbrev pub end_row_of : Place → Row
-end_row_of p = end_row p.scenario.topo.limit (state_at p)
-
--- its rows are taken
-abbrev pub taken : Place → Place
-taken p = record p { since = p.cycle }

@@ -5,7 +5,8 @@ ghost use Rattle.world_core.specs.Topology.{IsInside};
 ghost use Rattle.world_core.specs.Kept.{kept_room_of};
 ghost use Rattle.node_runner.specs.Place.{is_live};
 ghost use Rattle.node_runner.specs.Scenario.{IsScenario};
-ghost use Rattle.fleet_plain.specs.Flight.{epoch, InFlight, IsAt, Advanced, HearsRight, CanPost, IsBehind};
+ghost use Rattle.epoch_rows.specs.Flight.{epoch, IsAt, Advanced};
+ghost use Rattle.fleet_plain.specs.Flight.{InFlight, HearsRight, CanPost, IsBehind};
 
 use avr_base::NoMemory;
 use node_runner::{Event, Runner, Scenario};

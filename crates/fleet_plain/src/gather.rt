@@ -1,10 +1,9 @@
-// The rows of all nodes in order.
+// Where the runners begin, and the rows that are taken from them.
 ghost use Rattle.std.specs.Prelude.{◌≡◌, map, IfOk, OnOk, true, false, [], if◌then◌else◌};
 ghost use Rattle.std.specs.List.{All, flat_map};
-ghost use Rattle.std.specs.List.Sorted.{IsNonDecreasingBy, IsStableByKey};
-ghost use Rattle.std.specs.Ordering.{nat_cmp};
 ghost use Rattle.node_runner.specs.Place.{rows_of, HasEnded};
-ghost use Rattle.fleet_plain.specs.Gather.{AllStart, taken, end_row_of};
+ghost use Rattle.epoch_rows.specs.Gather.{taken, end_row_of};
+ghost use Rattle.fleet_plain.specs.Gather.{AllStart};
 
 use avr_base::NoMemory;
 use node_runner::{Runner, Scenario};
@@ -60,13 +59,4 @@ pub fn gather(alloc: Global, runners: &mut Vec<Runner>) -> Result<Vec<Row>, Allo
         rows.append(&mut runner.take_rows())?;
     }
     Ok(rows)
-}
-
-/// In order of cycle; rows of one cycle stay in their order, which is that of the nodes.
-pub fn sort(rows: &mut Vec<Row>) -> Result<(), AllocError>
-    ensures sorted { OnOk result (IsNonDecreasingBy (λ r. r.cycle) rows.new.items) }
-    ensures stable { OnOk result (IsStableByKey (λ r. r.cycle) nat_cmp rows.old.items rows.new.items) }
-{
-    rows.sort_by_key(|r| r.cycle)?;
-    Ok(())
 }

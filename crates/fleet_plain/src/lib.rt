@@ -3,7 +3,7 @@
 #![tactic(auto)]
 
 mod fleet;
-pub mod gather;
+mod gather;
 mod plain;
 
 pub use plain::{PlainRun, run_plain};

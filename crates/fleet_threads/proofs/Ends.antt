@@ -1,25 +1,21 @@
 -- The rows of an epoch, when all nodes have come to its end.
 use Rattle.std.specs.Prelude.{is_some}
-use Rattle.std.proofs.Common.{◌≡◌, ℕ, ◌+◌, ◌<◌, ◌≤◌, inl, inr, ⊎_elim, Bool, true, false, cond, ◌==◌, List, [], ◌∷◌, ◌++◌, map, length, take, drop, get_or, set, min, refl, sym, subst, ◌∙◌, ap, arith, append-nil, append_assoc, length-take}
+use Rattle.std.proofs.Common.{◌≡◌, ℕ, ◌+◌, ◌<◌, ◌≤◌, inl, inr, ⊎_elim, true, false, cond, ◌==◌, List, [], ◌∷◌, ◌++◌, map, length, take, drop, get_or, set, min, refl, sym, subst, ◌∙◌, ap, arith, append-nil, append_assoc, length-take}
 use Rattle.std.specs.List.{All, flat_map}
 use Rattle.std.specs.List.Sorted.{IsNonDecreasingBy, IsStableByKey}
 use Rattle.std.specs.Ordering.{nat_cmp}
 use Rattle.std.proofs.lemmas.List.{length-map, get_or-map, get_or_at, set_at, drop_more, take_more, map_push}
 use Rattle.std.proofs.lemmas.List.Concat.{flat_map-append}
-use native.Mathlib.Decide.{ℕ_discrete}
 use Rattle.clock_words.specs.Seats.{first_node}
 use Rattle.trace_rows.specs.declared.row.Row.{Row}
-use Rattle.node_core.specs.State.{NodeState}
-use Rattle.global_order.specs.Order.{Fleet, world_at, end_rows}
 use Rattle.node_runner.specs.Scenario.{ScenarioOf, IsScenario, fleet_of}
 use Rattle.node_runner.specs.Place.{Place, is_live, state_at, rows_of}
 use Rattle.neighbour_sync.specs.NoSession.{no_table, no_world}
-use Rattle.fleet_plain.specs.Flight.{place_at, IsAt, IsTaken}
-use Rattle.fleet_plain.specs.Gather.{start_of, end_row_of}
-use Rattle.fleet_plain.specs.Run.{rows_upto}
-use Rattle.fleet_plain.proofs.InFlight.{still_calm, still_over}
-use Rattle.fleet_plain.proofs.Gathered.{gathered, ends_are}
-use Rattle.fleet_plain.proofs.Epoch.{differ}
+use Rattle.epoch_rows.specs.Flight.{place_at, IsAt, IsTaken}
+use Rattle.epoch_rows.specs.Gather.{start_of, end_row_of}
+use Rattle.epoch_rows.specs.Run.{rows_upto}
+use Rattle.epoch_rows.proofs.Places.{still_calm, still_over}
+use Rattle.epoch_rows.proofs.Epoch.{next_rows as place_rows}
 use Rattle.fleet_threads.specs.declared.member.Member.{Member}
 use Rattle.fleet_threads.specs.Member.{IsPlaced, AreAtEnd}
 use Rattle.fleet_threads.specs.Ending.{rows_at, end_row_at, taken_at, HasEndedAt, IsCalm}
@@ -78,22 +74,11 @@ module _ (sc : ScenarioOf) (floor end : ℕ) (ms : List Member) (a : AreAtEnd sc
             (still_over end p (a.still k d lt));
       }
 
-  last_case : IsScenario sc → end ≤ sc.topo.limit → floor ≤ end → Dec (end ≡ sc.topo.limit) → cond (end == sc.topo.limit) (map end_row_at ms) [] ≡ cond (end == sc.topo.limit) (end_rows (fleet_of sc)) []
-  last_case ok lim rises (yes e) = ap (λ (l : List Row). cond (end == sc.topo.limit) l []) (end_places ms ∙ ends_are sc floor end (map place_of ms) ok lim count at took still rises (start_of sc 0) e)
-  last_case ok lim rises (no d) =
-      let q = differ end sc.topo.limit d in
-      ap (λ (b : Bool). cond b (map end_row_at ms) []) q ∙ sym (ap (λ (b : Bool). cond b (end_rows (fleet_of sc)) []) q)
-
   pub next_rows : (ys last zs : List Row) → IsScenario sc → end ≤ sc.topo.limit → floor < end → IsNonDecreasingBy (λ r. r.cycle) ys → IsStableByKey (λ r. r.cycle) nat_cmp (flat_map rows_at ms) ys
       → last ≡ cond (end == sc.topo.limit) (map end_row_at ms) [] → zs ≡ ys ++ last → rows_upto (fleet_of sc) end ≡ rows_upto (fleet_of sc) floor ++ zs
   next_rows ys last zs ok lim more up stable l e =
-      let f : Fleet NodeState Row = fleet_of sc in
-      let w : List Row = (world_at f floor).rows in
-      let rises : floor ≤ end = omega arith in
-      let before : rows_upto f floor ≡ w = (let q = differ floor sc.topo.limit (λ g. absurd (omega arith)) in ap (λ (b : Bool). w ++ cond b (end_rows f) []) q ∙ append-nil w) in
-      let ends : cond (end == sc.topo.limit) (end_rows f) [] ≡ last = sym (l ∙ last_case ok lim rises (ℕ_discrete end sc.topo.limit)) in
-      let rows : (world_at f end).rows ≡ w ++ ys = gathered sc floor end (map place_of ms) ok lim count at took still rises (start_of sc 0) ys up (subst (λ (r : List Row). IsStableByKey (λ r. r.cycle) nat_cmp r ys) (flat_places ms) stable) in
-      (λ i. rows i ++ ends i) ∙ append_assoc w ys last ∙ (λ i. sym before i ++ sym e i)
+      place_rows sc floor end (map place_of ms) ok lim count at took still (omega arith) ys last zs (omega arith) up (subst (λ (r : List Row). IsStableByKey (λ r. r.cycle) nat_cmp r ys) (flat_places ms) stable)
+      (l ∙ ap (λ (r : List Row). cond (end == sc.topo.limit) r []) (end_places ms)) e
 
 -- the node with another place
 abbrev pub with_runner : Member → Place → Member

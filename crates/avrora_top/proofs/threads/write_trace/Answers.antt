@@ -3,7 +3,7 @@ use Rattle.sim_io.specs.Outside.{Rose, TookFront, extended}
 use Rattle.trace_rows.specs.declared.row.Row.{Row}
 use Rattle.trace_writer.specs.Line.{rows_text}
 use Rattle.node_runner.specs.Scenario.{ScenarioOf}
-use Rattle.fleet_plain.specs.Run.{RunAt}
+use Rattle.epoch_rows.specs.Run.{RunAt}
 use Rattle.avrora_top.specs.Ends.{stream}
 use Rattle.avrora_top.specs.Plan.{output}
 use Rattle.avrora_top.proofs.Traces.{front_taken, front_failed, meets, rows_whole, taken_first, taken_next}

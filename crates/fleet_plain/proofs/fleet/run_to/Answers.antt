@@ -1,8 +1,8 @@
-use Rattle.std.proofs.Common.{◌≡◌, ℕ, ◌<◌, ◌≤◌, true, Some, List, length, MatchOption, refl, sym, subst, ◌∙◌, ap, arith}
+use Rattle.std.proofs.Common.{ℕ, Some, List, sym, subst, ◌∙◌, arith}
 use Rattle.std.specs.declared.option.Option.{Option}
-use Rattle.send_log.specs.Chain.{LogFacts}
 use Rattle.node_runner.specs.Place.{Place}
-use Rattle.fleet_plain.specs.Flight.{HearsRight, CanPost, IsBehind, Advanced}
+use Rattle.epoch_rows.specs.Flight.{Advanced}
+use Rattle.fleet_plain.specs.Flight.{HearsRight, CanPost, IsBehind}
 use Rattle.fleet_plain.proofs.InFlight.{hears_right, can_post, flight_on}
 use Rattle.fleet_plain.proofs.fleet.run_to.Goals as goal
 

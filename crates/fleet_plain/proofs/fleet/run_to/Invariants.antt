@@ -1,6 +1,7 @@
-use Rattle.std.proofs.Common.{◌≡◌, ◌≤◌}
+use Rattle.std.proofs.Common.{◌≡◌}
 use Rattle.std.specs.List.{sum_by}
-use Rattle.fleet_plain.specs.Flight.{InFlight, rank}
+use Rattle.epoch_rows.specs.Flight.{rank}
+use Rattle.fleet_plain.specs.Flight.{InFlight}
 use Rattle.fleet_plain.proofs.fleet.run_to.Given as goal
 
 abbrev pub invariant-loop-k : goal.invariant-loop-k

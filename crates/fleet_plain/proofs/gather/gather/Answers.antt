@@ -1,9 +1,6 @@
-use Rattle.std.proofs.Common.{◌≡◌, ℕ, ◌<◌, ◌++◌, List, length, sym, ap, ◌∙◌, arith}
-use Rattle.std.proofs.Common.{length-append, length-take, length-drop}
-use Rattle.std.specs.List.{flat_map}
-use Rattle.trace_rows.specs.declared.row.Row.{Row}
+use Rattle.std.proofs.Common.{ℕ, ◌<◌, ◌++◌, List, length, sym, ap, ◌∙◌, arith}
 use Rattle.node_runner.specs.Place.{Place, rows_of}
-use Rattle.fleet_plain.specs.Gather.{taken}
+use Rattle.epoch_rows.specs.Gather.{taken}
 use Rattle.fleet_plain.proofs.Gathered.{gathers_on}
 use Rattle.fleet_plain.proofs.gather.gather.Goals as goal
 

@@ -1,4 +1,4 @@
-use Rattle.std.proofs.Common.{◌≡◌, List, ◌∷◌, [], ◌++◌, rules}
+use Rattle.std.proofs.Common.{◌≡◌, ◌∷◌, [], ◌++◌, rules}
 use Rattle.fleet_plain.proofs.Gathered.{starts_on}
 use Rattle.fleet_plain.proofs.gather.start.Goals as goal
 

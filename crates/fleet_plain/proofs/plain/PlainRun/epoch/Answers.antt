@@ -1,17 +1,16 @@
-use Rattle.std.proofs.Common.{◌≡◌, ℕ, ◌+◌, ◌<◌, ◌≤◌, Bool, true, false, cond, ◌==◌, List, [], ◌∷◌, ◌++◌, map, min, refl, sym, subst, ap, ◌∙◌, arith, append-nil, append_assoc}
-use Rattle.std.specs.List.{All, filter, flat_map}
+use Rattle.std.proofs.Common.{◌≡◌, ℕ, ◌+◌, ◌<◌, ◌≤◌, false, cond, ◌==◌, List, [], ◌++◌, map, min, sym, subst, ap, ◌∙◌, arith}
+use Rattle.std.specs.List.{filter}
 use Rattle.std.specs.List.Sorted.{IsStableByKey}
 use Rattle.std.specs.Ordering.{nat_cmp}
-use Rattle.world_core.specs.declared.air.Send.{Send}
 use Rattle.world_core.specs.Topology.{Topology}
 use Rattle.world_core.specs.Kept.{is_kept, kept_room_of}
 use Rattle.send_log.specs.Chain.{LogFacts, log_of}
 use Rattle.trace_rows.specs.declared.row.Row.{Row}
-use Rattle.node_runner.specs.Scenario.{ScenarioOf, IsScenario, fleet_of}
-use Rattle.node_runner.specs.Place.{Place, is_live, rows_of}
-use Rattle.fleet_plain.specs.Flight.{InFlight}
-use Rattle.fleet_plain.specs.Gather.{end_row_of, taken}
-use Rattle.fleet_plain.specs.Run.{RunAt, IsRun, IsResting, rows_upto}
+use Rattle.node_runner.specs.Scenario.{ScenarioOf, fleet_of}
+use Rattle.node_runner.specs.Place.{Place}
+use Rattle.epoch_rows.specs.Gather.{end_row_of}
+use Rattle.epoch_rows.specs.Run.{RunAt, rows_upto}
+use Rattle.fleet_plain.specs.Run.{IsResting}
 use Rattle.fleet_plain.proofs.Epoch.{next_rests, next_rows}
 use Rattle.fleet_plain.proofs.plain.PlainRun.epoch.Goals as goal
 

@@ -1,9 +1,9 @@
-use Rattle.std.proofs.Common.{◌≡◌, ℕ, false, [], ◌≤◌, refl, sym, subst, ap, ◌∙◌, arith}
+use Rattle.std.proofs.Common.{◌≡◌, false, [], sym, subst, ap, ◌∙◌, arith}
 use Rattle.world_core.specs.Topology.{Topology}
 use Rattle.send_log.specs.Chain.{LogFacts, log_of}
 use Rattle.world_core.specs.Kept.{kept_room_of}
 use Rattle.node_runner.specs.Scenario.{ScenarioOf}
-use Rattle.fleet_plain.specs.Run.{IsRun, RunAt}
+use Rattle.fleet_plain.specs.Run.{IsRun}
 use Rattle.fleet_plain.proofs.Gathered.{first_flight, start_still}
 use Rattle.fleet_plain.proofs.plain.PlainRun.new.Goals as goal
 

@@ -1,6 +1,6 @@
 use Rattle.std.proofs.Common.{◌≡◌, ◌+◌, min, refl, sym, subst, ap, ◌∙◌, arith}
 use Rattle.node_runner.specs.Scenario.{ScenarioOf}
-use Rattle.fleet_plain.specs.Run.{RunAt}
+use Rattle.epoch_rows.specs.Run.{RunAt}
 use Rattle.fleet_threads.specs.declared.parts.Parts.{Parts}
 use Rattle.fleet_threads.specs.Run.{IsTied}
 use Rattle.fleet_threads.proofs.Epochs.{tied_taken}

@@ -1,4 +1,4 @@
--- What one step of one runner makes of the fleet.
+-- What one step of one runner is.
 use Rattle.std.proofs.Common.{◌≡◌, ℕ, ◌+◌, ◌-◌, ◌*◌, ◌<◌, ◌≤◌, ◌⊎◌, inl, inr, ⊎_elim, min, Bool, true, false, cond, not, ◌&&◌, ◌||◌, List, [], ◌∷◌, ◌++◌, refl, sym, subst, ◌∙◌, ap, arith}
 use Rattle.std.specs.Prelude.{nat_lt, is_some}
 use Rattle.std.proofs.Math.Nat.{sub-zero}
@@ -7,12 +7,11 @@ use Rattle.std.proofs.lemmas.Bool.Decides.{nat_tests}
 use Rattle.world_core.specs.declared.air.Send.{Send}
 use Rattle.world_core.specs.Sends.{IsSendNumber}
 use Rattle.global_order.specs.Order.{facts_of}
-use Rattle.node_runner.specs.declared.runner.Event.{Event}
 use Rattle.node_runner.specs.declared.runner.Event.TheVariants.{Ask, Sent, Turn, Ended}
 use Rattle.node_runner.specs.Scenario.{fleet_of}
 use Rattle.node_runner.specs.Place.{Place, HasEnded, is_live, state_at, noted_of, sends_passed}
 use Rattle.node_runner.specs.Event.{IsEvent}
-use Rattle.fleet_plain.specs.Flight.{IsAt, Advanced, rank}
+use Rattle.epoch_rows.specs.Flight.{IsAt, Advanced, rank}
 
 bit : (b : Bool) → cond b 1 0 ≤ 1
 bit true = omega arith

@@ -1,0 +1,4 @@
+pub mod Advance
+pub mod Places
+pub mod Gathered
+pub mod Epoch

@@ -1,0 +1,16 @@
+-- How far a run has come, and the rows up to there. Own to this simulator.
+use Rattle.std.specs.Prelude.{ℕ, Bool, ◌==◌, if◌then◌else◌, List, [], ◌++◌}
+use Rattle.trace_rows.specs.declared.row.Row.{Row}
+use Rattle.node_core.specs.State.{NodeState}
+use Rattle.global_order.specs.Order.{Fleet, world_at, end_rows}
+use Rattle.node_runner.specs.Scenario.{ScenarioOf}
+
+-- the scenario, the cycle reached, and whether there was want of memory
+pub record RunAt : Type 0 where
+  pub scenario : ScenarioOf
+  pub floor : ℕ
+  pub failed : Bool
+
+-- the rows below a cycle, and the last ones where it is the limit
+abbrev pub rows_upto : Fleet NodeState Row → ℕ → List Row
+rows_upto f c = (world_at f c).rows ++ (if c == f.topo.limit then end_rows f else [])
