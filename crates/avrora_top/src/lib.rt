@@ -1,17 +1,10 @@
 //! The top call: from the words of the command line, the files and the streams to a status. Its one clause,
-//! `TopClause`, says what each status wrote, and when it comes.
+//! `TopClause`, says what each status wrote, and when it comes. The commands that run a network give each node a thread;
+//! all others are those of `plain_commands`.
 #![tactic(auto)]
 
-mod commands;
-mod files;
-mod listing;
-mod network;
-mod report;
-mod sample;
-mod status;
 mod threads;
 mod top;
-mod trouble;
 
-pub use status::Status;
-pub use top::{avrora, avrora_alone};
+pub use plain_commands::{Status, avrora_alone};
+pub use top::avrora;

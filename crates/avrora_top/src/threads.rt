@@ -1,17 +1,13 @@
 // The commands that run each node on a thread of its own.
 ghost use Rattle.std.specs.Prelude.{◌≡◌};
 ghost use Rattle.command_words.specs.Words.{Run};
-ghost use Rattle.avrora_top.specs.Plan.{SampleJob, TraceJob, plan_of};
-ghost use Rattle.avrora_top.specs.Ends.{reads, stream};
-ghost use Rattle.avrora_top.specs.Parts.{JobEnds, Called};
+ghost use Rattle.plain_commands.specs.Plan.{SampleJob, TraceJob, plan_of};
+ghost use Rattle.plain_commands.specs.Ends.{reads, stream};
+ghost use Rattle.plain_commands.specs.Parts.{JobEnds, Called};
 
-use crate::Status;
-use crate::commands::read_network;
-use crate::report::report;
-use crate::sample::{NODES, write_counts};
-use crate::trouble::Trouble;
 use fleet_threads::{Gate, ThreadRun, run_threads};
 use node_runner::Scenario;
+use plain_commands::{NODES, Status, Trouble, read_network, report, write_counts};
 use sample_maker::make;
 use sim_io::{Sink, Store};
 use std::alloc::Global;

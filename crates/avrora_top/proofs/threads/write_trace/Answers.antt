@@ -4,9 +4,9 @@ use Rattle.trace_rows.specs.declared.row.Row.{Row}
 use Rattle.trace_writer.specs.Line.{rows_text}
 use Rattle.node_runner.specs.Scenario.{ScenarioOf}
 use Rattle.fleet_plain.specs.Run.{RunAt}
-use Rattle.avrora_top.specs.Ends.{stream}
-use Rattle.avrora_top.specs.Plan.{output}
-use Rattle.avrora_top.proofs.Traces.{front_taken, front_failed, meets, rows_whole, taken_first, taken_next}
+use Rattle.plain_commands.specs.Ends.{stream}
+use Rattle.plain_commands.specs.Plan.{output}
+use Rattle.plain_commands.proofs.Traces.{front_taken, front_failed, meets, rows_whole, taken_first, taken_next}
 use Rattle.avrora_top.proofs.threads.write_trace.Goals as goal
 
 pub loop-run-init : goal.loop-run-init

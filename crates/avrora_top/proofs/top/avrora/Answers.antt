@@ -1,4 +1,4 @@
-use Rattle.avrora_top.proofs.Statuses.{top_clause}
+use Rattle.plain_commands.proofs.Statuses.{top_clause}
 use Rattle.avrora_top.proofs.top.avrora.Goals as goal
 
 pub returns : goal.returns

@@ -1,4 +1,4 @@
-use Rattle.avrora_top.proofs.Endings.{asked_not_none, called_silent}
+use Rattle.plain_commands.proofs.Endings.{asked_not_none, called_silent}
 use Rattle.avrora_top.proofs.top.call_on_threads.Goals as goal
 
 pub returns-in-Ok-clause-called : goal.returns-in-Ok-clause-called

@@ -1,8 +1,8 @@
 use Rattle.std.proofs.Common.{refl}
-use Rattle.avrora_top.specs.Plan.{Give, SampleJob, plan_of}
-use Rattle.avrora_top.specs.Reading.{Here}
-use Rattle.avrora_top.specs.Parts.{end_of}
-use Rattle.avrora_top.proofs.Endings.{ends_job}
+use Rattle.plain_commands.specs.Plan.{Give, SampleJob, plan_of}
+use Rattle.plain_commands.specs.Reading.{Here}
+use Rattle.plain_commands.specs.Parts.{end_of}
+use Rattle.plain_commands.proofs.Endings.{ends_job}
 use Rattle.avrora_top.proofs.top.obey_on_threads.Goals as goal
 
 pub returns-in-Make-clause-called : goal.returns-in-Make-clause-called
