@@ -1,10 +1,15 @@
-//! The top call: from the words of the command line, the files and the streams to a status. Its one clause,
-//! `TopClause`, says what each status wrote, and when it comes. The commands that run a network give each node a thread;
-//! all others are those of `plain_commands`.
+//! The program: from the words of the command line, the files and the streams to a status. The one clause of its top call
+//! `avrora`, `TopClause`, says what each status wrote, and when it comes. The commands that run a network give each node a
+//! thread; all others are those of `plain_commands`. `run_program` is that call over the real files and streams, which is what
+//! `main` does, as a call, so that each program that is run by the gate has the same one.
 #![tactic(auto)]
 
+mod program;
 mod threads;
 mod top;
+mod words;
 
 pub use plain_commands::{Status, avrora_alone};
+pub use program::run_program;
 pub use top::avrora;
+pub use words::{borrowed, owned_words};

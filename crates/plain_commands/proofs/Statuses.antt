@@ -1,7 +1,8 @@
 -- What each status says of a call.
 use Rattle.std.proofs.Common.{◌≡◌, ◌≢◌, ◌⊎◌, ℕ, List, [], ◌∷◌, Option, Some, None, Result, Ok, Err, inl, inr, refl, sym, ◌∙◌, subst}
 use Rattle.sim_io.specs.Outside.{Rose}
-use Rattle.command_words.specs.Words.{Asked, Node, Run, RunPlain, Check, Disasm, Asm, Make, asked_by}
+use Rattle.command_words.specs.Words.{Asked, Node, Run, RunPlain, Check, Disasm, Asm, Make, asked_by, shown}
+use Rattle.command_words.specs.declared.order.Order.{Order}
 use Rattle.asm_text.specs.Source.{assembled}
 use Rattle.asm_text.specs.declared.fault.AsmFault.{AsmFault}
 use Rattle.ihex_loader.specs.Flash.{Image}
@@ -15,7 +16,8 @@ use Rattle.plain_commands.specs.Plan.{Plan, Give, Refuse, Read, BadWords, BadSce
 use Rattle.plain_commands.specs.Reading.{Files, Reached, Here, Fitting, TooLong, Verdict, Untold, Refused as RefusedVerdict, Accepted, Says, verdict}
 use Rattle.plain_commands.specs.Ends.{Ends, End, Done, OutFailed, NoMemory, ReadFailed, Refused, Reads, Stream, status_due, EndedSaying, EndedUnsaid, HasStatus}
 use Rattle.plain_commands.specs.TopClause.{TopClause}
-use Rattle.plain_commands.specs.Parts.{Called, Told, Said, Unsaid, Reported}
+use Rattle.plain_commands.specs.Parts.{AsksFor, Called, EndedAtWords, Told, Said, Unsaid, Reported}
+use Rattle.plain_commands.proofs.Endings.{asked_not_none, called_silent}
 use Rattle.plain_commands.specs.declared.trouble.ImageCause.{ImageCause}
 use Rattle.plain_commands.specs.declared.trouble.ImageCause.TheVariants as cause
 use Rattle.plain_commands.specs.declared.trouble.ScenarioCause.{ScenarioCause}
@@ -217,7 +219,7 @@ module _ (files : Files) (words : List (List ℕ)) (store store' : Reads) (out o
   words_told (Said s t) = inl s
   words_told (Unsaid s f) = inr (s, f.rose)
 
-  pub top_clause : (files' : Files) → files' ≡ files → Called files (plan words) store store' out out' err err' answer
+  top_clause : (files' : Files) → files' ≡ files → Called files (plan words) store store' out out' err err' answer
       → (asked_by words ≡ None → Reported (Refused BadWords) err err' answer)
       → TopClause files files' words store store' out out' err err' answer
   top_clause files' same c none = record {
@@ -233,3 +235,18 @@ module _ (files : Files) (words : List (List ℕ)) (store store' : Reads) (out o
     words_first = λ e. words_told (none e);
     complete = expected_from (how c);
   }
+
+-- words that ask for an order are followed by it
+pub asked_clause : (files files' : Files) (words : List (List ℕ)) (order : Order) (store store' : Reads) (out out' err mid err' : Stream) (answer : Status) → files' ≡ files
+    → AsksFor words err mid order → Called files (plan_of (shown order)) store store' out out' mid err' answer
+    → TopClause files files' words store store' out out' err err' answer
+asked_clause files files' words order store store' out out' err mid err' answer same asks called =
+    top_clause files words store store' out out' err err' answer files' same
+    (called_silent files words order store store' out out' err mid err' answer asks called)
+    (λ none. absurd (asked_not_none (asked_by words) (shown order) asks.asked none))
+
+-- words that ask for none, or for which memory is short, end the call
+pub unasked_clause : (files : Files) (words : List (List ℕ)) (store : Reads) (out err err' : Stream) (answer : Status)
+    → EndedAtWords words err err' answer → TopClause files files words store store out out err err' answer
+unasked_clause files words store out err err' answer ended =
+    top_clause files words store store out out err err' answer files refl (ended.called files store out) ended.first

@@ -71,12 +71,8 @@ pub fn read_image<'n, S: Store>(
     };
     match load(alloc, bytes.as_slice()) {
         Ok(flash) => Ok(flash),
-        Err(fault) => {
-            if fault == HexFault::NoMemory {
-                return Err(Trouble::NoMemory);
-            }
-            Err(Trouble::Refused(Complaint::BadImage(name, ImageCause::Faulty(fault))))
-        }
+        Err(HexFault::NoMemory) => Err(Trouble::NoMemory),
+        Err(fault) => Err(Trouble::Refused(Complaint::BadImage(name, ImageCause::Faulty(fault)))),
     }
 }
 
@@ -134,12 +130,11 @@ pub fn read_scenario<'n, S: Store>(
     };
     match scenario_file::read(alloc, bytes.as_slice()) {
         Ok(text) => Ok(text),
-        Err(fault) => {
-            if fault == ScenarioFault::NoMemory {
-                return Err(Trouble::NoMemory);
-            }
-            Err(Trouble::Refused(Complaint::BadScenario(name, ScenarioCause::Faulty(fault))))
-        }
+        Err(ScenarioFault::NoMemory) => Err(Trouble::NoMemory),
+        Err(fault) => Err(Trouble::Refused(Complaint::BadScenario(
+            name,
+            ScenarioCause::Faulty(fault),
+        ))),
     }
 }
 
@@ -165,11 +160,7 @@ pub fn read_source<'n, S: Store>(
     };
     match assemble(alloc, bytes.as_slice()) {
         Ok(words) => Ok(words),
-        Err(fault) => {
-            if fault == AsmFault::NoMemory {
-                return Err(Trouble::NoMemory);
-            }
-            Err(Trouble::Refused(Complaint::BadSource(name, SourceCause::Faulty(fault))))
-        }
+        Err(AsmFault::NoMemory) => Err(Trouble::NoMemory),
+        Err(fault) => Err(Trouble::Refused(Complaint::BadSource(name, SourceCause::Faulty(fault)))),
     }
 }

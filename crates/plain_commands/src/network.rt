@@ -34,13 +34,13 @@ pub fn lone_node(alloc: Global, flash: Flash, cycles: u64) -> Result<Scenario, N
     requires limit { cycles ≤ 10000000 }
     ensures { IfOk result (λ network. network ≡ lone_node flash cycles) }
 {
-    let Ok(topo) = Topo::new(1, cycles, LATENCY, BYTE_TIME, Vec::new(alloc)) else {
-        unreachable!();
-    };
     let mut images = Vec::with_capacity(alloc, 1)?;
     images.push_reserved(Program::new(alloc, flash)?);
     let mut scripts = Vec::with_capacity(alloc, 1)?;
     scripts.push_reserved(Script::new(0, 7_680, Vec::new(alloc)));
+    let Ok(topo) = Topo::new(1, cycles, LATENCY, BYTE_TIME, Vec::new(alloc)) else {
+        unreachable!();
+    };
     let text = ScenarioText {
         topo,
         images: Vec::new(alloc),

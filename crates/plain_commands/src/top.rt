@@ -1,10 +1,10 @@
 // From the words to a status.
 ghost use Rattle.std.specs.Prelude.{◌≡◌, map, IfErr, IfOk};
-ghost use Rattle.command_words.specs.Words.{IsInLimits, asked_by, shown};
-ghost use Rattle.plain_commands.specs.Plan.{BadWords, plan, plan_of};
-ghost use Rattle.plain_commands.specs.Ends.{Refused, reads, stream};
+ghost use Rattle.command_words.specs.Words.{IsInLimits, shown};
+ghost use Rattle.plain_commands.specs.Plan.{plan_of};
+ghost use Rattle.plain_commands.specs.Ends.{reads, stream};
 ghost use Rattle.plain_commands.specs.TopClause.{TopClause};
-ghost use Rattle.plain_commands.specs.Parts.{AsksFor, Called, EndedAtWords, Reported};
+ghost use Rattle.plain_commands.specs.Parts.{AsksFor, Called, EndedAtWords};
 
 use crate::Status;
 use crate::commands::{asm, check, disasm, node, run, run_plain};
@@ -72,28 +72,6 @@ pub fn read_order<'w, E: Sink>(
     }
 }
 
-// Does what the words ask for, and says how it ended.
-fn call<'w, S: Store, O: Sink, E: Sink>(
-    alloc: Global,
-    words: &'w [&'w str],
-    store: &mut S,
-    out: &mut O,
-    err: &mut E,
-) -> Status
-    ensures held { S.held store.new ≡ S.held store.old }
-    ensures called { Called (S.held store.old) (plan (map (λ w. w.now) words.entry.now))
-        (reads (S.faults store.old) (S.failed store.old)) (reads (S.faults store.new) (S.failed store.new))
-        (stream (O.taken out.old) (O.faults out.old)) (stream (O.taken out.new) (O.faults out.new))
-        (stream (E.taken err.old) (E.faults err.old)) (stream (E.taken err.new) (E.faults err.new)) result }
-    ensures words { asked_by (map (λ w. w.now) words.entry.now) ≡ None
-        → Reported (Refused BadWords) (stream (E.taken err.old) (E.faults err.old)) (stream (E.taken err.new) (E.faults err.new)) result }
-{
-    match read_order(alloc, words, err) {
-        Ok(order) => obey(alloc, order, store, out, err),
-        Err(status) => status,
-    }
-}
-
 /// The whole program over a store of files and two streams, on one thread: does what the words after the program's
 /// name ask for, and answers how it ended. Files are read in the order in which the command needs them, each whole, and
 /// `out` is written only when all of them are accepted: a scenario first, then the image of each node in order of number.
@@ -123,5 +101,8 @@ pub fn avrora_alone<'w, S: Store, O: Sink, E: Sink>(
         (stream (O.taken out.old) (O.faults out.old)) (stream (O.taken out.new) (O.faults out.new))
         (stream (E.taken err.old) (E.faults err.old)) (stream (E.taken err.new) (E.faults err.new)) result }
 {
-    call(alloc, words, store, out, err)
+    match read_order(alloc, words, err) {
+        Ok(order) => obey(alloc, order, store, out, err),
+        Err(status) => status,
+    }
 }

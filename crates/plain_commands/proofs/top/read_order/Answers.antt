@@ -1,5 +1,5 @@
-use Rattle.std.proofs.Common.{◌≡◌, false, true, is_some, Some, None, inl, refl, sym, ap, ◌∙◌, map, option_map}
-use Rattle.command_words.specs.Words.{asked_by, shown}
+use Rattle.std.proofs.Common.{◌≡◌, false, true, is_some, None, inl, refl, sym, ap, ◌∙◌, map}
+use Rattle.command_words.specs.Words.{asked_by}
 use Rattle.plain_commands.specs.Plan.{BadWords, Refuse}
 use Rattle.plain_commands.specs.Reading.{Here}
 use Rattle.plain_commands.specs.Ends.{NoMemory, Refused}

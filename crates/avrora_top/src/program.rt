@@ -1,6 +1,6 @@
 // From the words of the command line to the exit status.
+use crate::top::avrora;
 use crate::words::{borrowed, owned_words};
-use avrora_top::avrora;
 use fleet_threads::OpenGate;
 use sim_io::{DirStore, StdSink};
 use std::env::Env;
