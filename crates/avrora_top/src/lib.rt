@@ -7,9 +7,7 @@
 mod program;
 mod threads;
 mod top;
-mod words;
 
 pub use plain_commands::{Status, avrora_alone};
 pub use program::run_program;
 pub use top::avrora;
-pub use words::{borrowed, owned_words};

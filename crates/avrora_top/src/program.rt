@@ -1,7 +1,7 @@
 // From the words of the command line to the exit status.
 use crate::top::avrora;
-use crate::words::{borrowed, owned_words};
 use fleet_threads::OpenGate;
+use plain_commands::{borrowed, owned_words};
 use sim_io::{DirStore, StdSink};
 use std::env::Env;
 use std::fs::Files;
