@@ -1,17 +1,13 @@
-//! The top call: from the words of the command line, the files and the streams to a status. Its one clause,
-//! `TopClause`, says what each status wrote, and when it comes.
+//! The program: from the words of the command line, the files and the streams to a status. The one clause of its top call
+//! `avrora`, `TopClause`, says what each status wrote, and when it comes. The commands that run a network give each node a
+//! thread; all others are those of `plain_commands`. `run_program` is that call over the real files and streams, which is what
+//! `main` does, as a call, so that each program that is run by the gate has the same one.
 #![tactic(auto)]
 
-mod commands;
-mod files;
-mod listing;
-mod network;
-mod report;
-mod sample;
-mod status;
+mod program;
 mod threads;
 mod top;
-mod trouble;
 
-pub use status::Status;
-pub use top::{avrora, avrora_alone};
+pub use plain_commands::{Status, avrora_alone};
+pub use program::run_program;
+pub use top::avrora;

@@ -1,36 +1,32 @@
 // The commands that run each node on a thread of its own.
-ghost use Rattle.std.specs.Prelude.{◌≡◌};
-ghost use Rattle.command_words.specs.Words.{Run};
-ghost use Rattle.avrora_top.specs.Plan.{SampleJob, TraceJob, plan_of};
-ghost use Rattle.avrora_top.specs.Ends.{reads, stream};
-ghost use Rattle.avrora_top.specs.Parts.{JobEnds, Called};
+ghost use Rattle.std.specs.Prelude.{◌≡◌, false};
+ghost use Rattle.node_runner.specs.Scenario.{IsScenario};
+ghost use Rattle.command_words.specs.Words.{Make, Run};
+ghost use Rattle.plain_commands.specs.Plan.{SampleJob, TraceJob, plan_of};
+ghost use Rattle.plain_commands.specs.Reading.{Files};
+ghost use Rattle.plain_commands.specs.Ends.{Reads, reads, stream};
+ghost use Rattle.plain_commands.specs.Parts.{JobEnds, Called};
 
-use crate::Status;
-use crate::commands::read_network;
-use crate::report::report;
-use crate::sample::{NODES, write_counts};
-use crate::trouble::Trouble;
 use fleet_threads::{Gate, ThreadRun, run_threads};
 use node_runner::Scenario;
-use sample_maker::make;
+use plain_commands::{NODES, Status, Trouble, read_network, report, write_counts};
 use sim_io::{Sink, Store};
 use std::alloc::Global;
 use std::sync::Wait;
 use std::thread::Threads;
 
-// Runs a network, each node on a thread of its own, and writes its trace, the rows of each epoch before the next one is run.
-fn write_trace<'n, R: Threads + Wait + Sync, O: Sink, G: Gate + Sync>(
+// Writes the rows of each epoch of a run from its first on, before the next one is run.
+fn write_epochs<'n, R: Threads + Wait + Sync, O: Sink, G: Gate + Sync>(
     rt: &R,
-    alloc: Global,
     network: &Scenario,
+    run: &mut ThreadRun,
     out: &mut O,
     gate: &G,
 ) -> Result<(), Trouble<'n>>
+    requires sound { IsScenario network.now }
+    requires first { run.old ≡ record { scenario = network.now; floor = 0; failed = false } }
     ensures { JobEnds (TraceJob network.now) (stream (O.taken out.old) (O.faults out.old)) (stream (O.taken out.new) (O.faults out.new)) result }
 {
-    let Ok(mut run) = ThreadRun::new(alloc, network) else {
-        return Err(Trouble::NoMemory);
-    };
     while !run.done() {
         let Ok(rows) = run.epoch(rt, network, gate) else {
             return Err(Trouble::NoMemory);
@@ -41,6 +37,22 @@ fn write_trace<'n, R: Threads + Wait + Sync, O: Sink, G: Gate + Sync>(
         }
     }
     Ok(())
+}
+
+// Runs a network, each node on a thread of its own, and writes its trace.
+fn write_trace<'n, R: Threads + Wait + Sync, O: Sink, G: Gate + Sync>(
+    rt: &R,
+    alloc: Global,
+    network: &Scenario,
+    out: &mut O,
+    gate: &G,
+) -> Result<(), Trouble<'n>>
+    ensures { JobEnds (TraceJob network.now) (stream (O.taken out.old) (O.faults out.old)) (stream (O.taken out.new) (O.faults out.new)) result }
+{
+    match ThreadRun::new(alloc, network) {
+        Ok(mut run) => write_epochs(rt, network, &mut run, out, gate),
+        Err(_) => Err(Trouble::NoMemory),
+    }
 }
 
 /// `run FILE`: the trace of the network of the scenario in `file`, each node on a thread of its own.
@@ -68,9 +80,8 @@ pub fn run<'w, R: Threads + Wait + Sync, S: Store, O: Sink, E: Sink, G: Gate + S
     }
 }
 
-/// `make NUMBER`: runs the sample of a number, each of its nodes on a thread of its own, and writes how often they sent and
-/// what they heard.
-pub fn write_sample<'n, R: Threads + Wait + Sync, O: Sink, G: Gate + Sync>(
+// Runs the sample of a number, each of its nodes on a thread of its own, and writes how often they sent and what they heard.
+fn write_sample<'n, R: Threads + Wait + Sync, O: Sink, G: Gate + Sync>(
     rt: &R,
     alloc: Global,
     number: u16,
@@ -79,11 +90,28 @@ pub fn write_sample<'n, R: Threads + Wait + Sync, O: Sink, G: Gate + Sync>(
 ) -> Result<(), Trouble<'n>>
     ensures { JobEnds (SampleJob number) (stream (O.taken out.old) (O.faults out.old)) (stream (O.taken out.new) (O.faults out.new)) result }
 {
-    let Ok(network) = make(alloc, number, NODES) else {
+    let Ok(network) = sample_maker::make(alloc, number, NODES) else {
         return Err(Trouble::NoMemory);
     };
     let Ok(rows) = run_threads(rt, alloc, &network, gate) else {
         return Err(Trouble::NoMemory);
     };
     write_counts(number, rows.as_slice(), out)
+}
+
+/// `make NUMBER`: what came out of the sample of a number, each of its nodes on a thread of its own. It reads no file.
+pub fn make<R: Threads + Wait + Sync, O: Sink, E: Sink, G: Gate + Sync>(
+    rt: &R,
+    alloc: Global,
+    number: u16,
+    out: &mut O,
+    err: &mut E,
+    gate: &G,
+) -> Status
+    ensures { (files : Files) (store : Reads) → Called files (plan_of (Make number)) store store
+        (stream (O.taken out.old) (O.faults out.old)) (stream (O.taken out.new) (O.faults out.new))
+        (stream (E.taken err.old) (E.faults err.old)) (stream (E.taken err.new) (E.faults err.new)) result }
+{
+    let outcome = write_sample(rt, alloc, number, out, gate);
+    report(err, outcome)
 }

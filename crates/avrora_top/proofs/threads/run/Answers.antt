@@ -1,5 +1,5 @@
-use Rattle.avrora_top.specs.Plan.{TraceJob, plan_of}
-use Rattle.avrora_top.proofs.Networks.{called_with}
+use Rattle.plain_commands.specs.Plan.{TraceJob, plan_of}
+use Rattle.plain_commands.proofs.Networks.{called_with}
 use Rattle.avrora_top.proofs.threads.run.Goals as goal
 
 pub returns-in-Ok-clause-called : goal.returns-in-Ok-clause-called

@@ -1,5 +1,17 @@
-use Rattle.avrora_top.proofs.Statuses.{top_clause}
+use Rattle.std.proofs.Common.{refl}
+use Rattle.plain_commands.proofs.Statuses.{asked_clause, unasked_clause}
 use Rattle.avrora_top.proofs.top.avrora.Goals as goal
 
-pub returns : goal.returns
-returns g c = top_clause _ _ _ _ _ _ _ _ _ _ c.call_on_threads.ensures.held c.call_on_threads.ensures.called c.call_on_threads.ensures.words
+pub returns-in-Ok-Run : goal.returns-in-Ok-Run
+returns-in-Ok-Run g c =
+    asked_clause _ _ _ c.in-Ok-Run.field-0 _ _ _ _ _ _ _ _ c.run.ensures.held c.in-Ok-Run.ensures.ok (rw c.in-Ok-Run.field-0-is c.run.ensures.called)
+
+pub returns-in-Ok-Make : goal.returns-in-Ok-Make
+returns-in-Ok-Make g c =
+    asked_clause _ _ _ c.in-Ok-Make.field-0 _ _ _ _ _ _ _ _ refl c.in-Ok-Make.ensures.ok (rw c.in-Ok-Make.field-0-is (c.make.ensures _ _))
+
+pub returns-in-Ok : goal.returns-in-Ok
+returns-in-Ok g c = asked_clause _ _ _ _ _ _ _ _ _ _ _ _ c.obey.ensures.held c.in-Ok.ensures.ok c.obey.ensures.called
+
+pub returns-in-Err : goal.returns-in-Err
+returns-in-Err g c = unasked_clause _ _ _ _ _ _ _ c.in-Err.ensures.err

@@ -1,0 +1,56 @@
+-- How the reading of a network ends, and a command over it.
+use Rattle.std.proofs.Common.{◌≡◌, ℕ, List, Result, sym, subst}
+use Rattle.ihex_loader.specs.Flash.{Image}
+use Rattle.scenario_file.specs.Scenario.{ScenarioParts}
+use Rattle.node_runner.specs.Scenario.{ScenarioOf}
+use Rattle.plain_commands.specs.Network.{network_of}
+use Rattle.plain_commands.specs.Plan.{Plan, Give, Job, images_plan, network_plan, scenario_plan}
+use Rattle.plain_commands.specs.Reading.{Files, Reached}
+use Rattle.plain_commands.specs.Ends.{Ends, Reads, Stream}
+use Rattle.plain_commands.specs.Parts.{Called, HasRead, JobEnds, Reported, StopsAt, end_at, end_of}
+use Rattle.plain_commands.specs.declared.status.Status.{Status}
+use Rattle.plain_commands.specs.declared.trouble.Trouble.{Trouble}
+use Rattle.plain_commands.proofs.Steps.{both, stops_on, stops_moved, reached_moved}
+use Rattle.plain_commands.proofs.Endings.{ends_stopped, ends_job}
+
+module _ (files files' : Files) (name : List ℕ) (job : ScenarioOf → Job) where
+  -- what is left behind the scenario
+  abbrev Rest : ScenarioParts → Plan
+  Rest parts = images_plan parts.images (λ images. Give (job (network_of parts images)))
+
+  abbrev Whole : Plan
+  Whole = network_plan name (λ network. Give (job network))
+
+  pub ends_at_scenario : (store store' : Reads) (out : Stream) (t : Trouble)
+      → ((next : ScenarioParts → Plan) → StopsAt files (scenario_plan name next) store store' t)
+      → Ends files Whole store store' out out (end_at t)
+  ends_at_scenario store store' out t stops = ends_stopped files Whole store store' out t (stops Rest)
+
+  pub ends_at_image : (parts : ScenarioParts) (store mid store' : Reads) (out : Stream) (t : Trouble) → files' ≡ files → mid ≡ store
+      → ((next : ScenarioParts → Plan) → Reached files (scenario_plan name next) (next parts))
+      → ((next : List Image → Plan) → StopsAt files' (images_plan parts.images next) mid store' t)
+      → Ends files Whole store store' out out (end_at t)
+  ends_at_image parts store mid store' out t e f reached stops =
+      ends_stopped files Whole store store' out t
+      (stops_on files Whole (Rest parts) store store' t (reached Rest)
+      (stops_moved files files' (Rest parts) store mid store' t e f (stops (λ images. Give (job (network_of parts images))))))
+
+  pub network_reached : (parts : ScenarioParts) (images : List Image) (network : ScenarioOf) → files' ≡ files
+      → ((next : ScenarioParts → Plan) → Reached files (scenario_plan name next) (next parts))
+      → ((next : List Image → Plan) → Reached files' (images_plan parts.images next) (next images))
+      → network ≡ network_of parts images → Reached files Whole (Give (job network))
+  network_reached parts images network e reached more same =
+      let made : ScenarioOf = network_of parts images in
+      subst (λ n. Reached files Whole (Give (job n))) (sym same)
+      (both files Whole (Rest parts) (Give (job made)) (reached Rest)
+      (reached_moved files files' (Rest parts) (Give (job made)) e (more (λ it. Give (job (network_of parts it))))))
+
+-- a command over the network that was read ends as its job does
+pub called_with : {A : Type 0} (files : Files) (name : List ℕ) (job : ScenarioOf → Job) (network : ScenarioOf) (store store' : Reads) (out out' err mid err' : Stream) (r : Result A Trouble) (answer : Status)
+    → HasRead files name store store' err mid network → JobEnds (job network) out out' r → Reported (end_of r) mid err' answer
+    → Called files (network_plan name (λ it. Give (job it))) store store' out out' err err' answer
+called_with files name job network store store' out out' err mid err' r answer read ends reported = record {
+  end = end_of r;
+  ends = ends_job files (network_plan name (λ it. Give (job it))) (job network) store store' out out' r (read.reached job) read.same ends;
+  reported = subst (λ e. Reported (end_of r) e err' answer) read.silent reported;
+}

@@ -1,0 +1,89 @@
+-- What the parts of a call owe to one another: how reading stops, how a job ends, and that an end was told. These are the
+-- contracts of functions inside this crate, and no part of what the top clause says.
+use Rattle.std.specs.Prelude.{◌≡◌, ℕ, List, Some, None, Result, Ok, Err}
+use Rattle.sim_io.specs.Outside.{TookFront}
+use Rattle.node_runner.specs.Scenario.{ScenarioOf}
+use Rattle.command_words.specs.Words.{IsInLimits, asked_by, shown}
+use Rattle.command_words.specs.declared.order.Order.{Order}
+use Rattle.plain_commands.specs.Plan.{Plan, Give, Refuse, Refusal, BadWords, BadScenario, BadImage, BadSource, Job, network_plan, output, plan}
+use Rattle.plain_commands.specs.Reading.{Files, Reached, IsNext}
+use Rattle.plain_commands.specs.Ends.{Reads, Stream, took, FailedIn, FailedRead, End, Done, OutFailed, NoMemory, ReadFailed, Refused, Ends, line_due, status_due}
+use Rattle.plain_commands.specs.declared.trouble.Complaint.{Complaint}
+use Rattle.plain_commands.specs.declared.trouble.Complaint.TheVariants as complaint
+use Rattle.plain_commands.specs.declared.trouble.Trouble.{Trouble}
+use Rattle.plain_commands.specs.declared.trouble.Trouble.TheVariants as trouble
+use Rattle.plain_commands.specs.declared.status.Status.{Status}
+use Rattle.plain_commands.specs.declared.status.Status.TheVariants as status
+
+-- the refusal and the end that the code's values stand for
+abbrev pub refusal_of : Complaint → Refusal
+refusal_of complaint.BadWords = BadWords
+refusal_of (complaint.BadScenario name why) = BadScenario name.now why
+refusal_of (complaint.BadImage name why) = BadImage name.now why
+refusal_of (complaint.BadSource name why) = BadSource name.now why
+
+abbrev pub end_at : Trouble → End
+end_at trouble.OutFailed = OutFailed
+end_at trouble.NoMemory = NoMemory
+end_at (trouble.ReadFailed name) = ReadFailed name.now
+end_at (trouble.Refused c) = Refused (refusal_of c)
+
+abbrev pub end_of : {A : Type 0} → Result A Trouble → End
+end_of (Ok x) = Done
+end_of (Err t) = end_at t
+
+-- reading stopped so in this plan
+abbrev pub StopsAt : Files → Plan → Reads → Reads → Trouble → Type 0
+StopsAt files plan store store' trouble.OutFailed = ⊥
+StopsAt files plan store store' trouble.NoMemory = store' ≡ store
+StopsAt files plan store store' (trouble.ReadFailed name) = FailedRead store name.now store' × IsNext files plan name.now
+StopsAt files plan store store' (trouble.Refused c) = (store' ≡ store) × Reached files plan (Refuse (refusal_of c))
+
+-- the work of a job ended so: its whole output was written, or a write failed, or there was want of memory behind a front of it
+abbrev pub JobEnds : {A : Type 0} → Job → Stream → Stream → Result A Trouble → Type 0
+JobEnds job out out' (Ok x) = out' ≡ took out (output job)
+JobEnds job out out' (Err trouble.OutFailed) = FailedIn out (output job) out'
+JobEnds job out out' (Err trouble.NoMemory) = TookFront out.taken (output job) out'.taken × (out'.faults ≡ out.faults)
+JobEnds job out out' (Err (trouble.ReadFailed name)) = ⊥
+JobEnds job out out' (Err (trouble.Refused c)) = ⊥
+
+-- an end was told: `err` took its line, or failed in the midst of it
+pub data Told (end : End) (err err' : Stream) (answer : Status) : Type 0 where
+  Said : answer ≡ status_due end → err' ≡ took err (line_due end) → Told end err err' answer
+  Unsaid : answer ≡ status.SinkFailed → FailedIn err (line_due end) err' → Told end err err' answer
+
+-- at the end of all work there is nothing to tell
+abbrev pub Reported : End → Stream → Stream → Status → Type 0
+Reported Done err err' answer = (answer ≡ status.Done) × (err' ≡ err)
+Reported OutFailed err err' answer = Told OutFailed err err' answer
+Reported NoMemory err err' answer = Told NoMemory err err' answer
+Reported (ReadFailed name) err err' answer = Told (ReadFailed name) err err' answer
+Reported (Refused refusal) err err' answer = Told (Refused refusal) err err' answer
+
+-- a call with this plan ended in some way, and reported it
+pub record Called (files : Files) (plan : Plan) (store store' : Reads) (out out' err err' : Stream) (answer : Status) : Type 0 where
+  pub end : End
+  pub ends : Ends files plan store store' out out' end
+  pub reported : Reported end err err' answer
+
+-- the network of the scenario in this file was read, whatever is to be done with it, and nothing was said
+pub record HasRead (files : Files) (name : List ℕ) (store store' : Reads) (err err' : Stream) (network : ScenarioOf) : Type 0 where
+  pub reached : (job : ScenarioOf → Job) → Reached files (network_plan name (λ it. Give (job it))) (Give (job network))
+  pub same : store' ≡ store
+  pub silent : err' ≡ err
+
+-- the call ended with the reading of that network, whatever was to be done with it
+abbrev pub EndedReading : Files → List ℕ → Reads → Reads → Stream → Stream → Status → Type 0
+EndedReading files name store store' err err' answer =
+    (job : ScenarioOf → Job) (out : Stream) → Called files (network_plan name (λ it. Give (job it))) store store' out out err err' answer
+
+-- the call ended with its words: over any store and output it ended and was reported so, and words that are not accepted were refused
+pub record EndedAtWords (words : List (List ℕ)) (err err' : Stream) (answer : Status) : Type 0 where
+  pub called : (files : Files) (store : Reads) (out : Stream) → Called files (plan words) store store out out err err' answer
+  pub first : asked_by words ≡ None → Reported (Refused BadWords) err err' answer
+
+-- the words ask for this order, and nothing was said
+pub record AsksFor (words : List (List ℕ)) (err err' : Stream) (order : Order) : Type 0 where
+  pub asked : asked_by words ≡ Some (shown order)
+  pub limits : IsInLimits (shown order)
+  pub silent : err' ≡ err

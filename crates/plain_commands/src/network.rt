@@ -1,0 +1,102 @@
+// Networks, and what is written of them.
+ghost use Rattle.std.specs.Prelude.{◌≡◌, ◌≤◌, ◌++◌, IfOk};
+ghost use Rattle.plain_commands.specs.Network.{lone_node, size_line};
+ghost use Rattle.plain_commands.specs.Plan.{SizeJob, TraceJob};
+ghost use Rattle.plain_commands.specs.Ends.{stream};
+ghost use Rattle.plain_commands.specs.Parts.{JobEnds};
+
+use crate::trouble::Trouble;
+use arrayvec::ArrayString;
+use avr_base::NoMemory;
+use avr_program::Program;
+use fleet_plain::PlainRun;
+use ihex_loader::Flash;
+use node_runner::Scenario;
+use scenario_file::ScenarioText;
+use sim_io::{Sink, write_all};
+use std::alloc::Global;
+use text_pieces::put_decimal;
+use usart_port::Script;
+use world_core::Topo;
+
+// The latency and the byte time of a scenario that names none, in cycles.
+const LATENCY: u64 = 3_072;
+
+const BYTE_TIME: u64 = 3_072;
+
+// The cycles from 0 on in which the instructions of a lone node are traced.
+const TRACED: u64 = 20_000;
+
+/// The network of one node that hears nobody and at which nothing arrives, over `cycles` cycles, 1 to 10,000,000. `Err` only for
+/// want of memory.
+pub fn lone_node(alloc: Global, flash: Flash, cycles: u64) -> Result<Scenario, NoMemory>
+    requires some { 1 ≤ cycles }
+    requires limit { cycles ≤ 10000000 }
+    ensures { IfOk result (λ network. network ≡ lone_node flash cycles) }
+{
+    let mut images = Vec::with_capacity(alloc, 1)?;
+    images.push_reserved(Program::new(alloc, flash)?);
+    let mut scripts = Vec::with_capacity(alloc, 1)?;
+    scripts.push_reserved(Script::new(0, 7_680, Vec::new(alloc)));
+    let Ok(topo) = Topo::new(1, cycles, LATENCY, BYTE_TIME, Vec::new(alloc)) else {
+        unreachable!();
+    };
+    let text = ScenarioText {
+        topo,
+        images: Vec::new(alloc),
+        scripts,
+        window: (0, cycles.min(TRACED)),
+    };
+    Ok(Scenario::new(text, images))
+}
+
+/// Runs a network and writes its trace, the rows of each epoch before the next one is run.
+pub fn write_trace<'n, O: Sink>(
+    alloc: Global,
+    network: &Scenario,
+    out: &mut O,
+) -> Result<(), Trouble<'n>>
+    ensures { JobEnds (TraceJob network.now) (stream (O.taken out.old) (O.faults out.old)) (stream (O.taken out.new) (O.faults out.new)) result }
+{
+    let Ok(mut run) = PlainRun::new(alloc, network) else {
+        return Err(Trouble::NoMemory);
+    };
+    while !run.done() {
+        let Ok(rows) = run.epoch(network) else {
+            return Err(Trouble::NoMemory);
+        };
+        match trace_writer::write(rows.as_slice(), out) {
+            Ok(()) => {}
+            Err(_) => return Err(Trouble::OutFailed),
+        }
+    }
+    Ok(())
+}
+
+// The line that says how large a network is.
+#[tactic(auto, unfolding(crate::specs::Network::size_line))]
+fn size_line(network: &Scenario) -> ArrayString<128>
+    ensures { result.bytes ≡ size_line network.now }
+{
+    let topo = network.lawful_topo();
+    let mut line = ArrayString::new();
+    line.push_str("ok ");
+    put_decimal(usize::from(topo.nodes()), &mut line);
+    line.push_str(" nodes, ");
+    put_decimal(topo.links().len(), &mut line);
+    line.push_str(" links, ");
+    put_decimal(topo.limit() as usize, &mut line);
+    line.push_str(" cycles\n");
+    line
+}
+
+/// Writes how many nodes, links and cycles a network has.
+pub fn write_size<'n, O: Sink>(network: &Scenario, out: &mut O) -> Result<(), Trouble<'n>>
+    ensures { JobEnds (SizeJob network.now) (stream (O.taken out.old) (O.faults out.old)) (stream (O.taken out.new) (O.faults out.new)) result }
+{
+    let line = size_line(network);
+    match write_all(out, line.as_str().as_bytes()) {
+        Ok(()) => Ok(()),
+        Err(_) => Err(Trouble::OutFailed),
+    }
+}
