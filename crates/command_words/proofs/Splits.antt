@@ -4,9 +4,9 @@ use Rattle.std.specs.Str.{bytes_eq}
 use Rattle.clap.specs.Lexer.{strip_byte}
 use Rattle.clap.specs.Words.{subcommand_of, takes}
 use Rattle.clap.proofs.OnLiterals.{clap_on_literals}
-use Rattle.command_words.specs.Words.{Asked, asked_by, is_file}
+use Rattle.command_words.specs.Words.{Asked, Node, Run, RunPlain, Check, Disasm, Asm, Make, asked_by, is_file}
 use Rattle.command_words.specs.Apps.{the_app}
-use Rattle.command_words.specs.Split.{asked_in, asked_of}
+use Rattle.command_words.specs.Split.{asked_in, asked_of, read_in}
 use Rattle.command_words.proofs.Numerals.{number_file}
 use Rattle.command_words.proofs.Forms.{Form, IsNode, IsRun, IsPlainRun, IsCheck, IsDisasm, IsAsm, IsMake, form_of}
 
@@ -31,27 +31,27 @@ unfolding clap_on_literals
 taken _ _ (IsNode file cycles n f e) =
     let a = plain_file file f in
     let b = plain_file cycles (number_file 8 1 10000000 cycles n e) in
-    simp (a.short, a.long, b.short, b.long) refl
-taken _ _ (IsRun file f) = let a = plain_file file f in simp (a.short, a.long) refl
-taken _ _ (IsPlainRun file f) = let a = plain_file file f in simp (a.short, a.long) refl
-taken _ _ (IsCheck file f) = let a = plain_file file f in simp (a.short, a.long) refl
-taken _ _ (IsDisasm file f) = let a = plain_file file f in simp (a.short, a.long) refl
-taken _ _ (IsAsm file f) = let a = plain_file file f in simp (a.short, a.long) refl
-taken _ _ (IsMake number n e) = let a = plain_file number (number_file 5 0 65535 number n e) in simp (a.short, a.long) refl
+    simp (a.short, a.long, b.short, b.long) (refl {a = true})
+taken _ _ (IsRun file f) = let a = plain_file file f in simp (a.short, a.long) (refl {a = true})
+taken _ _ (IsPlainRun file f) = let a = plain_file file f in simp (a.short, a.long) (refl {a = true})
+taken _ _ (IsCheck file f) = let a = plain_file file f in simp (a.short, a.long) (refl {a = true})
+taken _ _ (IsDisasm file f) = let a = plain_file file f in simp (a.short, a.long) (refl {a = true})
+taken _ _ (IsAsm file f) = let a = plain_file file f in simp (a.short, a.long) (refl {a = true})
+taken _ _ (IsMake number n e) = let a = plain_file number (number_file 5 0 65535 number n e) in simp (a.short, a.long) (refl {a = true})
 
 -- and its matches ask for what the words ask for
 pub kept : (words : List (List ℕ)) (asked : Asked) → Form words asked → asked_of (subcommand_of the_app words) ≡ Some asked
-unfolding clap_on_literals asked_of asked_in
+unfolding clap_on_literals asked_of asked_in read_in
 kept _ _ (IsNode file cycles n f e) =
     let a = plain_file file f in
     let b = plain_file cycles (number_file 8 1 10000000 cycles n e) in
-    simp (a.short, a.long, b.short, b.long, e) refl
-kept _ _ (IsRun file f) = let a = plain_file file f in simp (a.short, a.long) refl
-kept _ _ (IsPlainRun file f) = let a = plain_file file f in simp (a.short, a.long) refl
-kept _ _ (IsCheck file f) = let a = plain_file file f in simp (a.short, a.long) refl
-kept _ _ (IsDisasm file f) = let a = plain_file file f in simp (a.short, a.long) refl
-kept _ _ (IsAsm file f) = let a = plain_file file f in simp (a.short, a.long) refl
-kept _ _ (IsMake number n e) = let a = plain_file number (number_file 5 0 65535 number n e) in simp (a.short, a.long, e) refl
+    simp (a.short, a.long, b.short, b.long, e) (refl {a = Some (Node file n)})
+kept _ _ (IsRun file f) = let a = plain_file file f in simp (a.short, a.long) (refl {a = Some (Run file)})
+kept _ _ (IsPlainRun file f) = let a = plain_file file f in simp (a.short, a.long) (refl {a = Some (RunPlain file)})
+kept _ _ (IsCheck file f) = let a = plain_file file f in simp (a.short, a.long) (refl {a = Some (Check file)})
+kept _ _ (IsDisasm file f) = let a = plain_file file f in simp (a.short, a.long) (refl {a = Some (Disasm file)})
+kept _ _ (IsAsm file f) = let a = plain_file file f in simp (a.short, a.long) (refl {a = Some (Asm file)})
+kept _ _ (IsMake number n e) = let a = plain_file number (number_file 5 0 65535 number n e) in simp (a.short, a.long, e) (refl {a = Some (Make n)})
 
 some_of : (o : Option Asked) → is_some o ≡ true → (asked : Asked) × (o ≡ Some asked)
 some_of None h = absurd (cc)

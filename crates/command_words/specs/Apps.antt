@@ -1,6 +1,9 @@
 -- The command that `clap` splits the words by: a subcommand for each word that a form begins with.
-use Rattle.std.specs.Prelude.{true, codes, Some}
-use Rattle.clap.specs.Words.{App, Rule, Text, new_app, new_rule, with_rule, with_subcommand}
+use Rattle.std.specs.Prelude.{◌≡◌, IfOk, Result, false, true, codes, Some}
+use Rattle.std.specs.declared.alloc.AllocError.{AllocError}
+use Rattle.clap.specs.Words.{App, Rule, Text, app_of, new_app, new_rule, with_rule, with_subcommand}
+use Rattle.clap.specs.declared.builder.command.Command.{Command}
+use Rattle.clap.specs.declared.Command.TheViews.{out-Command}
 use Rattle.clap.specs.declared.builder.ArgAction.TheVariants.{SetTrue}
 
 -- a word that is required at its place
@@ -37,3 +40,11 @@ reading app =
 
 abbrev pub the_app : App
 the_app = reading (simulating (without_first (new_app (codes "avrora"))))
+
+-- where a command could be made, it is this one
+abbrev pub Makes : App → Result Command AllocError → Type 0
+Makes app made = IfOk made (λ c. app_of c ≡ app)
+
+-- the same of a subcommand, which has no word that its own subcommands would have too
+abbrev pub MakesLeaf : App → Result Command AllocError → Type 0
+MakesLeaf app made = IfOk made (λ c. (app_of c ≡ app) × ((out-Command c).has_globals ≡ false))

@@ -14,16 +14,27 @@ run_in rows =
     if bytes_eq (text_in (codes "plain") rows) (codes "true") then RunPlain (text_in (codes "file") rows)
     else Run (text_in (codes "file") rows)
 
--- what a subcommand asks for with these words
-unfoldable pub asked_in : Text → List Row → Option Asked
-asked_in name rows =
-    if bytes_eq name (codes "run") then Some (run_in rows)
-    else if bytes_eq name (codes "make") then option_map Make (sample_of (text_in (codes "number") rows))
-    else if bytes_eq name (codes "node") then option_map (Node (text_in (codes "file") rows)) (cycles_of (text_in (codes "cycles") rows))
-    else if bytes_eq name (codes "check") then Some (Check (text_in (codes "file") rows))
+abbrev pub make_in : List Row → Option Asked
+make_in rows = option_map Make (sample_of (text_in (codes "number") rows))
+
+abbrev pub node_in : List Row → Option Asked
+node_in rows = option_map (Node (text_in (codes "file") rows)) (cycles_of (text_in (codes "cycles") rows))
+
+-- what a subcommand that simulates nothing asks for with these words
+unfoldable pub read_in : Text → List Row → Option Asked
+read_in name rows =
+    if bytes_eq name (codes "check") then Some (Check (text_in (codes "file") rows))
     else if bytes_eq name (codes "disasm") then Some (Disasm (text_in (codes "file") rows))
     else if bytes_eq name (codes "asm") then Some (Asm (text_in (codes "file") rows))
     else None
+
+-- what any subcommand asks for with these words
+unfoldable pub asked_in : Text → List Row → Option Asked
+asked_in name rows =
+    if bytes_eq name (codes "run") then Some (run_in rows)
+    else if bytes_eq name (codes "make") then make_in rows
+    else if bytes_eq name (codes "node") then node_in rows
+    else read_in name rows
 
 unfoldable pub asked_of : Option (Text × List Row) → Option Asked
 asked_of None = None

@@ -2,7 +2,7 @@
 ghost use Rattle.std.specs.Prelude.{◌≡◌, option_map};
 ghost use Rattle.clap.specs.Words.{found_of, rows_of, subcommand_rows_of};
 ghost use Rattle.command_words.specs.Words.{shown};
-ghost use Rattle.command_words.specs.Split.{asked_in, asked_of, run_in, text_in};
+ghost use Rattle.command_words.specs.Split.{asked_in, asked_of, make_in, node_in, read_in, run_in, text_in};
 
 use crate::Order;
 use crate::operands::{cycles, sample};
@@ -28,29 +28,48 @@ fn run_order<'w>(matches: &ArgMatches<'w>) -> Order<'w>
     }
 }
 
-#[tactic(auto, unfolding(crate::specs::Split::asked_in))]
-fn order_in<'w>(name: &str, matches: &ArgMatches<'w>) -> Option<Order<'w>>
-    ensures { option_map shown result ≡ asked_in name.now (rows_of (found_of matches.now)) }
+// What a subcommand that simulates nothing asks for.
+#[tactic(auto, unfolding(crate::specs::Split::read_in))]
+fn reading_in<'w>(name: &str, matches: &ArgMatches<'w>) -> Option<Order<'w>>
+    ensures { option_map shown result ≡ read_in name.now (rows_of (found_of matches.now)) }
 {
-    if name == "run" {
-        return Some(run_order(matches));
-    }
-    if name == "make" {
-        return match sample(text_at(matches, "number")) {
-            Some(number) => Some(Order::Make { number }),
-            None => None,
-        };
-    }
     let file = text_at(matches, "file");
     match name {
-        "node" => match cycles(text_at(matches, "cycles")) {
-            Some(cycles) => Some(Order::Node { file, cycles }),
-            None => None,
-        },
         "check" => Some(Order::Check { file }),
         "disasm" => Some(Order::Disasm { file }),
         "asm" => Some(Order::Asm { file }),
         _ => None,
+    }
+}
+
+fn make_order<'w>(matches: &ArgMatches<'w>) -> Option<Order<'w>>
+    ensures { option_map shown result ≡ make_in (rows_of (found_of matches.now)) }
+{
+    match sample(text_at(matches, "number")) {
+        Some(number) => Some(Order::Make { number }),
+        None => None,
+    }
+}
+
+fn node_order<'w>(matches: &ArgMatches<'w>) -> Option<Order<'w>>
+    ensures { option_map shown result ≡ node_in (rows_of (found_of matches.now)) }
+{
+    let file = text_at(matches, "file");
+    match cycles(text_at(matches, "cycles")) {
+        Some(cycles) => Some(Order::Node { file, cycles }),
+        None => None,
+    }
+}
+
+#[tactic(auto, unfolding(crate::specs::Split::asked_in))]
+fn order_in<'w>(name: &str, matches: &ArgMatches<'w>) -> Option<Order<'w>>
+    ensures { option_map shown result ≡ asked_in name.now (rows_of (found_of matches.now)) }
+{
+    match name {
+        "run" => Some(run_order(matches)),
+        "make" => make_order(matches),
+        "node" => node_order(matches),
+        _ => reading_in(name, matches),
     }
 }
 
