@@ -1,7 +1,7 @@
 -- Lists of nodes: their numbers, and what holds of each.
 use Rattle.std.proofs.Common.{◌≡◌, ℕ, zero, suc, ◌+◌, ◌<◌, List, [], ◌∷◌, ◌++◌, Option, Some, None, IfSome, length, get_or, set, refl, sym, subst, ◌∙◌, ap, arith}
 use Rattle.std.specs.Prelude.{option_to_list}
-use Rattle.std.proofs.lemmas.List.{map_push, length-map, get_or-map, get_or-set_same, get_or-set_other}
+use Rattle.std.proofs.lemmas.List.{length_push, map_push, length-map, get_or-map, get_or-set_same, get_or-set_other}
 use native.Mathlib.Decide.{ℕ_discrete}
 use Rattle.fleet_threads.specs.declared.member.Member.{Member}
 use Rattle.fleet_threads.specs.Member.{IsOver, InOrder, numbers, number_of}
@@ -9,6 +9,10 @@ use Rattle.fleet_threads.specs.Member.{IsOver, InOrder, numbers, number_of}
 pub popped : (xs ys : List Member) (r : Option Member) → xs ≡ ys ++ option_to_list r → IfSome r (λ m. numbers xs ≡ numbers ys ++ m.runner.number ∷ [])
 popped xs ys (Some m) e = ap numbers e ∙ map_push number_of ys m
 popped xs ys None e = tt
+
+-- a list with an element put behind it is not empty
+pub not_emptied : (xs : List ℕ) (x : ℕ) → [] ≡ xs ++ x ∷ [] → ⊥
+not_emptied xs x e = let n = ap length e in let m = length_push xs x in omega arith
 
 pub emptied : (xs : List Member) → length xs ≡ 0 → numbers xs ≡ []
 emptied [] e = refl

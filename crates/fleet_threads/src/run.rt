@@ -5,6 +5,7 @@ ghost use Rattle.global_order.specs.Order.{facts_of, run_rows};
 ghost use Rattle.node_runner.specs.Scenario.{fleet_of, IsScenario};
 ghost use Rattle.neighbour_sync.specs.Parts.{AreParts};
 ghost use Rattle.epoch_rows.specs.Flight.{epoch};
+ghost use Rattle.epoch_rows.specs.Run.{rows_upto};
 ghost use Rattle.fleet_threads.specs.Member.{IsEpoch, IsUnderWay, IsBack, numbers};
 ghost use Rattle.fleet_threads.specs.Run.{IsTied, IsFirst, air_of};
 
@@ -36,6 +37,29 @@ struct Lists {
     refused: Vec<AtomicBool>,
 }
 
+// A node at reset.
+fn first_member(alloc: Global, scenario: &Scenario, air: NodeAir) -> Result<Member, NoMemory>
+    requires { air.number < scenario.now.topo.nodes }
+    ensures { IfOk result (λ m. (m.air ≡ air) × IsFirst scenario.now m) }
+{
+    let gap = scenario.lawful_topo().byte_time();
+    let runner = Runner::new(alloc, scenario, air.number())?;
+    Ok(Member {
+        runner,
+        air,
+        turn: 0,
+        gap,
+        halted: false,
+    })
+}
+
+// What an epoch leaves: the parts, for the next one, and its rows.
+#[derive(Drop)]
+struct Epoch {
+    parts: Parts,
+    rows: Vec<Row>,
+}
+
 // The nodes at reset.
 fn first_members(
     alloc: Global,
@@ -46,17 +70,9 @@ fn first_members(
     ensures airs { IfOk result (λ v. map air_of v.items ≡ airs.items) }
     ensures first { IfOk result (λ v. All (IsFirst scenario.now) v.items) }
 {
-    let gap = scenario.lawful_topo().byte_time();
     let mut members = Vec::new(alloc);
     for air in airs {
-        let runner = Runner::new(alloc, scenario, air.number())?;
-        let member = Member {
-            runner,
-            air,
-            turn: 0,
-            gap,
-            halted: false,
-        };
+        let member = first_member(alloc, scenario, air)?;
         if members.push(member).is_err() {
             return Err(NoMemory);
         }
@@ -143,21 +159,33 @@ fn through<R: Threads + Wait + Sync, G: Gate + Sync>(
 {
     let _ = floor;
     let lists = lists_for(alloc, parts.members.len())?;
-    let parts = in_session::<Brand, R, G>(rt, gate, scenario, end, parts, lists);
-    let Parts {
-        clocks,
-        mut air,
-        members,
-    } = parts;
-    if any_halted(&members) {
+    let mut parts = in_session::<Brand, R, G>(rt, gate, scenario, end, parts, lists);
+    if any_halted(&parts.members) {
         return Err(NoMemory);
     }
-    cut_when_passed(rt, &clocks, &mut air, end);
-    Ok(Parts {
-        clocks,
-        air,
-        members,
-    })
+    cut_when_passed(rt, &parts.clocks, &mut parts.air, end);
+    Ok(parts)
+}
+
+// The same, with the rows of the epoch, which are taken from the nodes.
+fn rows_through<R: Threads + Wait + Sync, G: Gate + Sync>(
+    rt: &R,
+    alloc: Global,
+    gate: &G,
+    scenario: &Scenario,
+    floor: u64,
+    end: u64,
+    parts: Parts,
+) -> Result<Epoch, NoMemory>
+    requires tied { IsTied scenario.now floor floor parts }
+    requires epoch { IsEpoch (facts_of (fleet_of scenario.now)) scenario.now floor end }
+    requires more { floor < end }
+    ensures rows { IfOk result (λ e. rows_upto (fleet_of scenario.now) end ≡ rows_upto (fleet_of scenario.now) floor ++ e.rows.items) }
+    ensures tied { IfOk result (λ e. IsTied scenario.now end end e.parts) }
+{
+    let mut parts = through(rt, alloc, gate, scenario, floor, end, parts)?;
+    let rows = epoch_rows(alloc, scenario, floor, end, &mut parts.members)?;
+    Ok(Epoch { parts, rows })
 }
 
 /// A run of all nodes of a scenario on threads of their own, epoch by epoch. It has a record of bounded room; the rows of an
@@ -265,12 +293,30 @@ impl ThreadRun {
         let _lawful = scenario.lawful_topo();
         let floor = self.floor;
         let end = (floor + EPOCH).min(self.limit);
-        let mut parts = through(rt, self.alloc, gate, scenario, floor, end, parts)?;
-        let rows = epoch_rows(self.alloc, scenario, floor, end, &mut parts.members)?;
+        let epoch = rows_through(rt, self.alloc, gate, scenario, floor, end, parts)?;
         self.floor = end;
-        self.parts = Some(parts);
-        Ok(rows)
+        self.parts = Some(epoch.parts);
+        Ok(epoch.rows)
     }
+}
+
+// Puts the rows of the next epoch behind those of the epochs before it.
+fn add_epoch<R: Threads + Wait + Sync, G: Gate + Sync>(
+    rt: &R,
+    scenario: &Scenario,
+    gate: &G,
+    run: &mut ThreadRun,
+    rows: &mut Vec<Row>,
+) -> Result<(), NoMemory>
+    requires same { scenario.now ≡ run.old.scenario }
+    requires more { run.old.floor < run.old.scenario.topo.limit }
+    requires sound { run.old.failed ≡ false }
+    requires rows { rows.old.items ≡ rows_upto (fleet_of scenario.now) run.old.floor }
+    ensures rows { OnOk result (rows.new.items ≡ rows_upto (fleet_of scenario.now) run.new.floor) }
+    ensures after { OnOk result (run.new ≡ record run.old { floor = min (run.old.floor + epoch) run.old.scenario.topo.limit }) }
+{
+    rows.append(&mut run.epoch(rt, scenario, gate)?)?;
+    Ok(())
 }
 
 /// The rows of a whole run of all nodes on threads of their own, in the single global order of cycles: cycle by cycle, in a
@@ -286,7 +332,7 @@ pub fn run_threads<R: Threads + Wait + Sync, G: Gate + Sync>(
     let mut run = ThreadRun::new(alloc, scenario)?;
     let mut rows = Vec::new(alloc);
     while !run.done() {
-        rows.append(&mut run.epoch(rt, scenario, gate)?)?;
+        add_epoch(rt, scenario, gate, &mut run, &mut rows)?;
     }
     Ok(rows)
 }

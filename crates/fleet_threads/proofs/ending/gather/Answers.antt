@@ -1,8 +1,16 @@
-use Rattle.std.proofs.Common.{◌≡◌, ℕ, ◌<◌, ◌++◌, List, length, get_or, sym, ap, ◌∙◌, arith}
+use Rattle.std.proofs.Common.{◌≡◌, ℕ, ◌<◌, ◌++◌, List, length, get_or, refl, sym, subst, ap, ◌∙◌, arith}
 use Rattle.fleet_threads.specs.declared.member.Member.{Member}
-use Rattle.fleet_threads.specs.Ending.{rows_at, taken_at}
+use Rattle.fleet_threads.specs.Ending.{rows_at, taken_at, IsCalm}
 use Rattle.fleet_threads.proofs.Ends.{gathers_on, with_runner}
 use Rattle.fleet_threads.proofs.ending.gather.Goals as goal
+
+pub take_rows-requires : goal.take_rows-requires
+take_rows-requires c =
+    let old : List Member = c.args.members.now.items in
+    let i : ℕ = c.loop-member.member-index in
+    let m : Member = c.member-item.result in
+    let h : i < length old = omega (arith, c.loop-member-test.true, c.loop-member.auto.member-items, c.deref_mut-member-items.ensures.len, c.deref_mut-member-items.ensures.value) in
+    subst IsCalm c.member-item.is (subst IsCalm (sym (gathers_on old c.loop-member.member-items i m (taken_at m) h c.loop-member.invariant.left c.member-item.is refl).same) (c.requires i m h))
 
 pub loop-member-preserved : goal.loop-member-preserved
 loop-member-preserved c =

@@ -6,7 +6,8 @@ use denote.Struct.Field.{row_field, shr_ref_field, shr_slice_field, u64-field}
 use denote.Struct.Tuple.{TupleAt, type_at}
 use denote.Param.SendFields.{declared_send, as_row_send}
 use Rattle.std.specs.Prelude.{codes}
-use Rattle.std.proofs.Common.{List, ◌∷◌, []}
+use Rattle.std.proofs.Common.{◌≡◌, ℕ, ◌+◌, ◌≤◌, ◌<◌, List, ◌∷◌, [], ◌++◌, vec_len, vec_capacity, sym, ap, ◌∙◌, arith}
+use Rattle.std.proofs.lemmas.List.{same_from_push}
 use denote.Param.Send.{IsSend, IsSync, sendable, param_send}
 use Rattle.std.proofs.Crossing.{crosses}
 use Rattle.neighbour_sync.proofs.shared.Shared.TheSendSync.{the_sync as shared}
@@ -16,7 +17,9 @@ use Rattle.neighbour_sync.specs.contracts.shared.Shared as Shared
 use Rattle.node_runner.specs.contracts.scenario.Scenario as Scenario
 use Rattle.node_runner.specs.contracts.scenario.ScenarioWorld.TheImpl.{ghosts}
 use Rattle.fleet_threads.specs.contracts.handed.Sent as Sent
+use Rattle.fleet_threads.specs.Member.{numbers}
 use Rattle.fleet_threads.proofs.Crossing.{sent, handed}
+use Rattle.fleet_threads.proofs.Lists.{not_emptied}
 use Rattle.fleet_threads.proofs.threads.+run_from.Given.{Over}
 use Rattle.fleet_threads.proofs.threads.+run_from.Lts-run_from.{arg-7-2}
 use Rattle.fleet_threads.proofs.threads.+run_from.Goals as goal
@@ -59,3 +62,50 @@ spawn_with-requires-send-F g t c κs within = param_send 2 _ (job g κs c.requir
 
 pub spawn_with-requires-send-T : goal.spawn_with-requires-send-T
 spawn_with-requires-send-T g t c κs within = search (sendable, crosses, handed) depth 20
+
+-- ---- the node has a thread
+pub run_from-requires-clause-places : goal.run_from-requires-clause-places
+run_from-requires-clause-places g t c κs within = let p = c.requires.places in let n = c.in-Some.ensures.len in omega arith
+
+pub run_from-requires-clause-room : goal.run_from-requires-clause-room
+run_from-requires-clause-room g t c κs within = let r = c.requires.room in let n = c.in-Some.ensures.len in (r.0, (let l = r.1 in omega arith))
+
+pub put-requires-clause-room : goal.put-requires-clause-room
+put-requires-clause-room g t c = let r = c.requires.room.1 in let n = c.in-Some.ensures.len in let l = c.run_from.ensures.len in let k = c.run_from.ensures.kept in omega arith
+
+pub returns-in-Ok-clause-numbers : goal.returns-in-Ok-clause-numbers
+returns-in-Ok-clause-numbers g t c = c.put.ensures.numbers ∙ (λ i. c.run_from.ensures.numbers i ++ (c.finished-back.ensures.number ∙ c.number-number.ensures) i ∷ []) ∙ sym c.in-Some.ensures.numbers
+
+pub returns-in-Ok-clause-len : goal.returns-in-Ok-clause-len
+returns-in-Ok-clause-len g t c = c.put.ensures.len ∙ ap (λ (n : ℕ). n + 1) c.run_from.ensures.len ∙ sym c.in-Some.ensures.len
+
+pub returns-in-Ok-clause-kept : goal.returns-in-Ok-clause-kept
+returns-in-Ok-clause-kept g t c = c.put.ensures.kept ∙ c.run_from.ensures.kept
+
+-- ---- no thread was found for it
+pub run_from-requires-in-Err-clause-places : goal.run_from-requires-in-Err-clause-places
+run_from-requires-in-Err-clause-places g t c κs within = let p = c.requires.places in let n = c.in-Some.ensures.len in let l = c.wait.ensures.len in let k = c.wait.ensures.kept in omega arith
+
+pub run_from-requires-in-Err-clause-room : goal.run_from-requires-in-Err-clause-room
+run_from-requires-in-Err-clause-room g t c κs within = let r = c.requires.room in let n = c.in-Some.ensures.len in (r.0, (let l = r.1 in omega arith))
+
+pub put-requires-in-Err-clause-room : goal.put-requires-in-Err-clause-room
+put-requires-in-Err-clause-room g t c = let r = c.requires.room.1 in let n = c.in-Some.ensures.len in let l = c.run_from-in-Err.ensures.len in let k = c.run_from-in-Err.ensures.kept in omega arith
+
+pub unreachable-unreachable : goal.unreachable-unreachable
+unreachable-unreachable g t c = not_emptied (numbers c.args.waiting.now.items) c.under_way.result.runner.number (sym c.in_default-last.ensures.none ∙ c.run_from-in-Err.ensures.others ∙ c.wait.ensures.numbers)
+
+pub returns-in-Some-last-clause-numbers : goal.returns-in-Some-last-clause-numbers
+returns-in-Some-last-clause-numbers g t c =
+    let same = (same_from_push (numbers c.last.new.waiting.items) (numbers c.args.waiting.now.items) c.in-Some-last.back.runner.number c.under_way.result.runner.number (sym c.in-Some-last.ensures.numbers ∙ c.run_from-in-Err.ensures.others ∙ c.wait.ensures.numbers)).1 in
+    c.put-in-Err.ensures.numbers ∙ (λ i. c.run_from-in-Err.ensures.numbers i ++ (same ∙ c.under_way.ensures.number ∙ c.number-number.ensures) i ∷ []) ∙ sym c.in-Some.ensures.numbers
+
+pub returns-in-Some-last-clause-len : goal.returns-in-Some-last-clause-len
+returns-in-Some-last-clause-len g t c = c.put-in-Err.ensures.len ∙ ap (λ (n : ℕ). n + 1) c.run_from-in-Err.ensures.len ∙ sym c.in-Some.ensures.len
+
+pub returns-in-Some-last-clause-kept : goal.returns-in-Some-last-clause-kept
+returns-in-Some-last-clause-kept g t c = c.put-in-Err.ensures.kept ∙ c.run_from-in-Err.ensures.kept
+
+pub returns-in-Some-last-clause-others : goal.returns-in-Some-last-clause-others
+returns-in-Some-last-clause-others g t c =
+    (same_from_push (numbers c.last.new.waiting.items) (numbers c.args.waiting.now.items) c.in-Some-last.back.runner.number c.under_way.result.runner.number (sym c.in-Some-last.ensures.numbers ∙ c.run_from-in-Err.ensures.others ∙ c.wait.ensures.numbers)).0

@@ -1,9 +1,7 @@
 use Rattle.std.proofs.Common.{◌≡◌, ◌+◌, min, refl, sym, subst, ap, ◌∙◌, arith}
 use Rattle.node_runner.specs.Scenario.{ScenarioOf}
 use Rattle.epoch_rows.specs.Run.{RunAt}
-use Rattle.fleet_threads.specs.declared.parts.Parts.{Parts}
 use Rattle.fleet_threads.specs.Run.{IsTied}
-use Rattle.fleet_threads.proofs.Epochs.{tied_taken}
 use Rattle.fleet_threads.proofs.run.ThreadRun.epoch.Goals as goal
 
 pub invariant_of-self-2 : goal.invariant_of-self-2
@@ -12,11 +10,9 @@ invariant_of-self-2 g c =
     let sc : ScenarioOf = c.args.scenario.now in
     let same : sc ≡ i.scenario.value = c.requires.same ∙ ap (λ (r : RunAt). r.scenario) (sym c.self.view_is) in
     let e : c.min-end.result ≡ min (i.floor + 262144) i.limit = c.min-end.ensures in
-    let next : Parts = record { clocks = c.in_ok-parts.parts.clocks; air = c.in_ok-parts.parts.air; members = c.epoch_rows.new.members } in
     record {
       scenario = c.self.invariant.scenario;
       limit = c.self.invariant.limit;
       within = omega arith;
-      tied = subst (λ (s : ScenarioOf). IsTied s c.min-end.result c.min-end.result next) same
-          (tied_taken sc i.floor c.min-end.result c.in_ok-parts.parts next c.in_ok-parts.ensures refl refl c.in_ok-rows.ensures.left);
+      tied = subst (λ (s : ScenarioOf). IsTied s c.min-end.result c.min-end.result c.in_ok-epoch.epoch.parts) same c.in_ok-epoch.ensures.tied;
     }
