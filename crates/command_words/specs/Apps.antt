@@ -45,6 +45,6 @@ the_app = reading (simulating (without_first (new_app (codes "avrora"))))
 abbrev pub Makes : App → Result Command AllocError → Type 0
 Makes app made = IfOk made (λ c. app_of c ≡ app)
 
--- the same of a subcommand, which has no word that its own subcommands would have too
+-- the same of a subcommand, none of whose words is global
 abbrev pub MakesLeaf : App → Result Command AllocError → Type 0
 MakesLeaf app made = IfOk made (λ c. (app_of c ≡ app) × ((out-Command c).has_globals ≡ false))

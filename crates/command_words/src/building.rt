@@ -6,8 +6,8 @@ ghost use Rattle.command_words.specs.Apps.{Makes, MakesLeaf, node_app, one_word_
 use clap::{Arg, ArgAction, Command};
 use std::alloc::{AllocError, Global};
 
-// The functions below take the `Result` of the step before and pass its `Err` on, so a command is given up in two of
-// them alone, and the others are steps in a row.
+// The functions below take the `Result` of the step before and pass its `Err` on: a command is given up in
+// `with_subcommand` alone, and the others are steps in a row.
 
 // The command with one word more, behind those that it has.
 fn with_word<'w>(

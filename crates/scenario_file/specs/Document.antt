@@ -70,6 +70,10 @@ number_of _ default = default
 abbrev pub number_at : List ℕ → ℕ → Members → ℕ
 number_at key default ms = number_of (get_member key ms) default
 
+-- the same of a value that is a table
+abbrev pub number_in : List ℕ → ℕ → Data → ℕ
+number_in key default d = number_at key default (members_of d)
+
 -- the text at a key, empty where none stands there
 abbrev pub text_of : Option Data → List ℕ
 text_of (Some (string s)) = s

@@ -1,7 +1,7 @@
 -- The rules of a scenario's tables, one kind of table after another: which keys it may have, which it must have, of which kind a value
 -- is, and which numbers and texts are in range. They depend on the version of the text. Own to this simulator.
 use Rattle.std.specs.Prelude.{ℕ, ℤ, ◌-◌, ◌/◌, ◌%◌, ◌==◌, ◌&&◌, ◌||◌, nat_lt, nat_le, length, Bool, true, false, not, List, [], ◌∷◌, Option, Some, None, codes, if◌then◌else◌}
-use Rattle.std.specs.List.{list_all}
+use Rattle.std.specs.List.{list_all, list_any}
 use Rattle.std.specs.Option.{option_map_or}
 use Rattle.std.specs.Char.{is_ascii_hexdigit}
 use Rattle.toml.specs.Data.{Data, string, integer, Members, get_member}
@@ -25,44 +25,29 @@ version_in _ = First
 abbrev pub version_of : Members → Version
 version_of ms = version_in (get_member (codes "version") ms)
 
--- from version 2 on a link may have a latency of its own
-abbrev pub has_latencies : Version → Bool
-has_latencies First = false
-has_latencies Second = true
-has_latencies Third = true
-
--- from version 3 on a link may be open in spans alone, and a run may be long
-abbrev pub has_spans : Version → Bool
-has_spans First = false
-has_spans Second = false
-has_spans Third = true
-
+-- from version 3 on a run may be long
 abbrev pub most_cycles : Version → ℕ
 most_cycles First = 10000000
 most_cycles Second = 10000000
 most_cycles Third = 1099511627776
 
 -- ---- the keys that a table may have
--- what the run has, at the top
-unfoldable pub is_run_key : List ℕ → Bool
-is_run_key key = same_text key (codes "version") || same_text key (codes "cycles") || same_text key (codes "window")
+abbrev pub is_one_of : List (List ℕ) → List ℕ → Bool
+is_one_of names key = list_any (λ name. same_text name key) names
 
--- what the air has
-unfoldable pub is_air_key : List ℕ → Bool
-is_air_key key = same_text key (codes "latency") || same_text key (codes "byte_time")
+-- what the run has, what the air has, and the arrays of tables
+unfoldable pub is_top_key : List ℕ → Bool
+is_top_key key =
+    is_one_of (codes "version" ∷ codes "cycles" ∷ codes "window" ∷ codes "latency" ∷ codes "byte_time" ∷ codes "node" ∷ codes "link" ∷ codes "input" ∷ []) key
 
--- and the arrays of tables
-unfoldable pub is_array_key : List ℕ → Bool
-is_array_key key = same_text key (codes "node") || same_text key (codes "link") || same_text key (codes "input")
-
-abbrev pub is_top_key : List ℕ → Bool
-is_top_key key = is_run_key key || is_air_key key || is_array_key key
-
+-- from version 2 on a link may have a latency of its own, and from version 3 on it may be open in spans alone
 unfoldable pub is_link_key : Version → List ℕ → Bool
-is_link_key version key = same_text key (codes "from") || same_text key (codes "to") || (has_latencies version && same_text key (codes "latency")) || (has_spans version && same_text key (codes "open"))
+is_link_key First key = is_one_of (codes "from" ∷ codes "to" ∷ []) key
+is_link_key Second key = is_one_of (codes "from" ∷ codes "to" ∷ codes "latency" ∷ []) key
+is_link_key Third key = is_one_of (codes "from" ∷ codes "to" ∷ codes "latency" ∷ codes "open" ∷ []) key
 
 unfoldable pub is_input_key : List ℕ → Bool
-is_input_key key = same_text key (codes "node") || same_text key (codes "at") || same_text key (codes "hex") || same_text key (codes "every")
+is_input_key key = is_one_of (codes "node" ∷ codes "at" ∷ codes "hex" ∷ codes "every" ∷ []) key
 
 abbrev pub is_known : Version → Keys → List ℕ → Bool
 is_known version Top key = is_top_key key

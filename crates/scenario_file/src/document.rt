@@ -1,9 +1,10 @@
 // What stands at a key of a document.
-ghost use Rattle.std.specs.Prelude.{◌≡◌, option_map, map};
+ghost use Rattle.std.specs.Prelude.{◌≡◌, IfOk, option_map, map};
 ghost use Rattle.toml.specs.Data.{get_member};
 ghost use Rattle.toml.specs.View.{view, table_view};
-ghost use Rattle.scenario_file.specs.Document.{elements, has_key, members_of, natural, number, number_at, text_at, pair_from, pair_in, pair_of, pair_or, pair_at};
+ghost use Rattle.scenario_file.specs.Document.{elements, has_key, members_of, natural, number, number_at, number_in, text_at, pair_from, pair_in, pair_of, pair_or, pair_at};
 
+use std::alloc::{AllocError, Global};
 use toml::{Table, Value};
 
 pub fn member<'t>(table: &'t Table, key: &str) -> Option<&'t Value>
@@ -134,6 +135,22 @@ pub fn number_in(value: &Value, key: &str, default: u64) -> u64
         Some(table) => number_at(table, key, default),
         None => default,
     }
+}
+
+/// The same of each of these tables.
+pub fn numbers_in(
+    alloc: Global,
+    values: &[Value],
+    key: &str,
+    default: u64,
+) -> Result<Vec<u64>, AllocError>
+    ensures { IfOk result (λ numbers. numbers.items ≡ map (number_in key.now default) (map view values.now)) }
+{
+    let mut numbers = Vec::new(alloc);
+    for value in values {
+        numbers.push(number_in(value, key, default))?;
+    }
+    Ok(numbers)
 }
 
 /// The text at a key of a table, or no text.

@@ -8,7 +8,7 @@ ghost use Rattle.scenario_file.specs.Faults.{all_in_range, amount_of, is_few, no
 ghost use Rattle.scenario_file.specs.Scenario.{bytes_in, script_of, script_for, scripts_below};
 ghost use Rattle.scenario_file.specs.declared.keys.Keys.TheVariants.{OfInput};
 
-use crate::document::{number_in, text_in};
+use crate::document::{number_in, numbers_in, text_in};
 use crate::keys::Version;
 use std::alloc::{AllocError, Global};
 use toml::Value;
@@ -18,11 +18,7 @@ use usart_port::Script;
 pub fn nodes_of(alloc: Global, values: &[Value]) -> Result<Vec<u64>, AllocError>
     ensures { IfOk result (λ nodes. nodes.items ≡ map node_of (map view values.now)) }
 {
-    let mut nodes = Vec::new(alloc);
-    for value in values {
-        nodes.push(number_in(value, "node", 0))?;
-    }
-    Ok(nodes)
+    numbers_in(alloc, values, "node", 0)
 }
 
 fn count_of(node: u64, nodes: &[u64]) -> usize

@@ -1,7 +1,7 @@
 // Which keys a table may have.
 ghost use Rattle.std.specs.Prelude.{◌≡◌};
 ghost use Rattle.toml.specs.View.{table_view};
-ghost use Rattle.scenario_file.specs.Rules.{version_from, version_of, has_latencies, has_spans, most_cycles, is_known, is_run_key, is_air_key, is_array_key, is_top_key, is_link_key, is_input_key};
+ghost use Rattle.scenario_file.specs.Rules.{version_from, version_of, most_cycles, is_known, is_top_key, is_link_key, is_input_key};
 
 use crate::document::{member, natural};
 use toml::Table;
@@ -46,24 +46,6 @@ pub fn version_of(table: &Table) -> Version
     }
 }
 
-fn has_latencies(version: Version) -> bool
-    ensures { result ≡ has_latencies version }
-{
-    match version {
-        Version::First => false,
-        Version::Second | Version::Third => true,
-    }
-}
-
-fn has_spans(version: Version) -> bool
-    ensures { result ≡ has_spans version }
-{
-    match version {
-        Version::First | Version::Second => false,
-        Version::Third => true,
-    }
-}
-
 /// The largest number of cycles.
 pub fn most_cycles(version: Version) -> u64
     ensures { result ≡ most_cycles version }
@@ -86,46 +68,37 @@ pub fn is_known(version: Version, keys: Keys, key: &str) -> bool
     }
 }
 
-#[tactic(auto, unfolding(crate::specs::Rules::is_run_key))]
-fn is_run_key(key: &str) -> bool
-    ensures { result ≡ is_run_key key.now }
-{
-    key == "version" || key == "cycles" || key == "window"
-}
-
-#[tactic(auto, unfolding(crate::specs::Rules::is_air_key))]
-fn is_air_key(key: &str) -> bool
-    ensures { result ≡ is_air_key key.now }
-{
-    key == "latency" || key == "byte_time"
-}
-
-#[tactic(auto, unfolding(crate::specs::Rules::is_array_key))]
-fn is_array_key(key: &str) -> bool
-    ensures { result ≡ is_array_key key.now }
-{
-    key == "node" || key == "link" || key == "input"
-}
-
+#[tactic(auto, unfolding(crate::specs::Rules::is_top_key))]
 fn is_top_key(key: &str) -> bool
     ensures { result ≡ is_top_key key.now }
 {
-    is_run_key(key) || is_air_key(key) || is_array_key(key)
+    [
+        "version",
+        "cycles",
+        "window",
+        "latency",
+        "byte_time",
+        "node",
+        "link",
+        "input",
+    ]
+    .contains(&key)
 }
 
 #[tactic(auto, unfolding(crate::specs::Rules::is_link_key))]
 fn is_link_key(version: Version, key: &str) -> bool
     ensures { result ≡ is_link_key version key.now }
 {
-    key == "from"
-        || key == "to"
-        || (has_latencies(version) && key == "latency")
-        || (has_spans(version) && key == "open")
+    match version {
+        Version::First => ["from", "to"].contains(&key),
+        Version::Second => ["from", "to", "latency"].contains(&key),
+        Version::Third => ["from", "to", "latency", "open"].contains(&key),
+    }
 }
 
 #[tactic(auto, unfolding(crate::specs::Rules::is_input_key))]
 fn is_input_key(key: &str) -> bool
     ensures { result ≡ is_input_key key.now }
 {
-    key == "node" || key == "at" || key == "hex" || key == "every"
+    ["node", "at", "hex", "every"].contains(&key)
 }

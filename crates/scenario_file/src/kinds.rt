@@ -57,7 +57,7 @@ fn is_two_at(table: &Table, key: &str) -> bool
 fn all_two(values: &[Value]) -> bool
     ensures { result ≡ all_two (map view values.now) }
 {
-    values.iter().all(|value| is_two(value))
+    values.iter().all(is_two)
 }
 
 fn is_array_of_two(value: &Value) -> bool

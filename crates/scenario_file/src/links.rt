@@ -7,7 +7,7 @@ ghost use Rattle.scenario_file.specs.Faults.{all_in_range, links, link_of, goes_
 ghost use Rattle.scenario_file.specs.Scenario.{latency_of, span_of, spans_from};
 ghost use Rattle.scenario_file.specs.declared.keys.Keys.TheVariants.{OfLink};
 
-use crate::document::{elements, elements_in, number_in, pair_or_zeros};
+use crate::document::{elements, elements_in, number_in, numbers_in, pair_or_zeros};
 use crate::keys::Version;
 use crate::ranges::node_count;
 use std::alloc::{AllocError, Global};
@@ -26,7 +26,7 @@ fn goes_to_itself(value: &Value) -> bool
 pub fn any_self_link(values: &[Value]) -> bool
     ensures { result ≡ any_self_link (map view values.now) }
 {
-    values.iter().any(|value| goes_to_itself(value))
+    values.iter().any(goes_to_itself)
 }
 
 fn link_of(version: Version, count: u64, value: &Value) -> Link
@@ -79,11 +79,7 @@ pub fn any_twice_linked(alloc: Global, version: Version, table: &Table) -> Resul
 pub fn latencies_of(alloc: Global, latency: u64, values: &[Value]) -> Result<Vec<u64>, AllocError>
     ensures { IfOk result (λ own. own.items ≡ map (latency_of latency) (map view values.now)) }
 {
-    let mut own = Vec::new(alloc);
-    for value in values {
-        own.push(number_in(value, "latency", latency))?;
-    }
-    Ok(own)
+    numbers_in(alloc, values, "latency", latency)
 }
 
 fn span_of(place: u32, value: &Value) -> Span
