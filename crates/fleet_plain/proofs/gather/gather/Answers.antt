@@ -1,8 +1,20 @@
-use Rattle.std.proofs.Common.{ℕ, ◌<◌, ◌++◌, List, length, sym, ap, ◌∙◌, arith}
+use Rattle.std.proofs.Common.{◌≡◌, ℕ, ◌<◌, ◌++◌, false, List, length, get_or, refl, sym, subst, ap, ◌∙◌, arith}
 use Rattle.node_runner.specs.Place.{Place, rows_of}
 use Rattle.epoch_rows.specs.Gather.{taken}
 use Rattle.fleet_plain.proofs.Gathered.{gathers_on}
 use Rattle.fleet_plain.proofs.gather.gather.Goals as goal
+
+abbrev IsCalm : Place → Type 0
+IsCalm p = p.asking ≡ false
+
+pub take_rows-requires : goal.take_rows-requires
+take_rows-requires c =
+    let old : List Place = c.args.runners.now.items in
+    let i : ℕ = c.loop-runner.runner-index in
+    let p : Place = c.runner-item.result in
+    let h : i < length old = omega (arith, c.loop-runner-test.true, c.loop-runner.auto.runner-items, c.deref_mut-runner-items.ensures.len, c.deref_mut-runner-items.ensures.value) in
+    let same : p ≡ get_or old i p = (gathers_on old c.loop-runner.runner-items i p (taken p) h c.loop-runner.invariant.left c.runner-item.is refl).same in
+    subst IsCalm c.runner-item.is (subst IsCalm (sym same) (c.requires i p h))
 
 pub loop-runner-preserved : goal.loop-runner-preserved
 loop-runner-preserved c =

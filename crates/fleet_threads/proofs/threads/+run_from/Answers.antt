@@ -6,8 +6,10 @@ use denote.Struct.Field.{row_field, shr_ref_field, shr_slice_field, u64-field}
 use denote.Struct.Tuple.{TupleAt, type_at}
 use denote.Param.SendFields.{declared_send, as_row_send}
 use Rattle.std.specs.Prelude.{codes}
-use Rattle.std.proofs.Common.{◌≡◌, ℕ, ◌+◌, ◌≤◌, ◌<◌, List, ◌∷◌, [], ◌++◌, vec_len, vec_capacity, sym, ap, ◌∙◌, arith}
-use Rattle.std.proofs.lemmas.List.{same_from_push}
+use Rattle.std.proofs.Common.{◌≡◌, ℕ, ◌+◌, List, ◌∷◌, [], ◌++◌, vec_len, length, sym, subst, ap, ◌∙◌, arith, rules}
+use Rattle.std.specs.List.{All}
+use Rattle.node_runner.specs.Scenario.{ScenarioOf}
+use Rattle.std.proofs.lemmas.List.{same_from_push, length-map}
 use denote.Param.Send.{IsSend, IsSync, sendable, param_send}
 use Rattle.std.proofs.Crossing.{crosses}
 use Rattle.neighbour_sync.proofs.shared.Shared.TheSendSync.{the_sync as shared}
@@ -17,7 +19,7 @@ use Rattle.neighbour_sync.specs.contracts.shared.Shared as Shared
 use Rattle.node_runner.specs.contracts.scenario.Scenario as Scenario
 use Rattle.node_runner.specs.contracts.scenario.ScenarioWorld.TheImpl.{ghosts}
 use Rattle.fleet_threads.specs.contracts.handed.Sent as Sent
-use Rattle.fleet_threads.specs.Member.{numbers}
+use Rattle.fleet_threads.specs.Member.{IsBack, numbers, number_of}
 use Rattle.fleet_threads.proofs.Crossing.{sent, handed}
 use Rattle.fleet_threads.proofs.Lists.{not_emptied}
 use Rattle.fleet_threads.proofs.threads.+run_from.Given.{Over}
@@ -63,7 +65,29 @@ spawn_with-requires-send-F g t c κs within = param_send 2 _ (job g κs c.requir
 pub spawn_with-requires-send-T : goal.spawn_with-requires-send-T
 spawn_with-requires-send-T g t c κs within = search (sendable, crosses, handed) depth 20
 
+-- ---- no node is left
+pub returns-in_default-clause-numbers : goal.returns-in_default-clause-numbers
+returns-in_default-clause-numbers g t c = ap numbers c.requires.done ∙ sym c.in_default.ensures.none
+
+pub returns-in_default-clause-len : goal.returns-in_default-clause-len
+returns-in_default-clause-len g t c =
+    let none = ap length c.in_default.ensures.none in
+    let same = length-map c.args.members.items number_of in
+    let long : length c.args.members.items ≡ vec_len c.args.members = search rules in
+    let room = c.requires.room.0 in
+    omega arith
+
+pub returns-in_default-clause-rest : goal.returns-in_default-clause-rest
+returns-in_default-clause-rest g t c =
+    subst (λ (s : ScenarioOf). All (IsBack g.N.Session.table g.N.Session.world s g.N.Session.floor c.args.end) c.rotate.new.waiting.items) c.of.ensures c.rotate.ensures.all
+
+pub returns-in_default-clause-others : goal.returns-in_default-clause-others
+returns-in_default-clause-others g t c = c.rotate.ensures.numbers
+
 -- ---- the node has a thread
+pub run_from-requires-clause-members : goal.run_from-requires-clause-members
+run_from-requires-clause-members g t c κs within = c.next.ensures.rest
+
 pub run_from-requires-clause-places : goal.run_from-requires-clause-places
 run_from-requires-clause-places g t c κs within = let p = c.requires.places in let n = c.in-Some.ensures.len in omega arith
 
@@ -72,6 +96,21 @@ run_from-requires-clause-room g t c κs within = let r = c.requires.room in let 
 
 pub put-requires-clause-room : goal.put-requires-clause-room
 put-requires-clause-room g t c = let r = c.requires.room.1 in let n = c.in-Some.ensures.len in let l = c.run_from.ensures.len in let k = c.run_from.ensures.kept in omega arith
+
+pub put-requires-clause-done : goal.put-requires-clause-done
+put-requires-clause-done g t c = c.run_from.ensures.all
+
+pub put-requires-clause-member : goal.put-requires-clause-member
+put-requires-clause-member g t c = subst (λ (s : ScenarioOf). IsBack g.N.Session.table g.N.Session.world s g.N.Session.floor c.args.end c.finished-back.result) c.of-in-Ok.ensures c.finished-back.ensures.back
+
+pub returns-in-Ok-clause-all : goal.returns-in-Ok-clause-all
+returns-in-Ok-clause-all g t c = c.put.ensures.all
+
+pub returns-in-Ok-clause-rest : goal.returns-in-Ok-clause-rest
+returns-in-Ok-clause-rest g t c = c.run_from.ensures.rest
+
+pub returns-in-Ok-clause-others : goal.returns-in-Ok-clause-others
+returns-in-Ok-clause-others g t c = c.run_from.ensures.others
 
 pub returns-in-Ok-clause-numbers : goal.returns-in-Ok-clause-numbers
 returns-in-Ok-clause-numbers g t c = c.put.ensures.numbers ∙ (λ i. c.run_from.ensures.numbers i ++ (c.finished-back.ensures.number ∙ c.number-number.ensures) i ∷ []) ∙ sym c.in-Some.ensures.numbers
@@ -83,6 +122,12 @@ pub returns-in-Ok-clause-kept : goal.returns-in-Ok-clause-kept
 returns-in-Ok-clause-kept g t c = c.put.ensures.kept ∙ c.run_from.ensures.kept
 
 -- ---- no thread was found for it
+pub run_from-requires-in-Err-clause-members : goal.run_from-requires-in-Err-clause-members
+run_from-requires-in-Err-clause-members g t c κs within = c.next.ensures.rest
+
+pub run_from-requires-in-Err-clause-waiting : goal.run_from-requires-in-Err-clause-waiting
+run_from-requires-in-Err-clause-waiting g t c κs within = c.wait.ensures.all
+
 pub run_from-requires-in-Err-clause-places : goal.run_from-requires-in-Err-clause-places
 run_from-requires-in-Err-clause-places g t c κs within = let p = c.requires.places in let n = c.in-Some.ensures.len in let l = c.wait.ensures.len in let k = c.wait.ensures.kept in omega arith
 
@@ -92,8 +137,20 @@ run_from-requires-in-Err-clause-room g t c κs within = let r = c.requires.room 
 pub put-requires-in-Err-clause-room : goal.put-requires-in-Err-clause-room
 put-requires-in-Err-clause-room g t c = let r = c.requires.room.1 in let n = c.in-Some.ensures.len in let l = c.run_from-in-Err.ensures.len in let k = c.run_from-in-Err.ensures.kept in omega arith
 
+pub put-requires-in-Err-clause-done : goal.put-requires-in-Err-clause-done
+put-requires-in-Err-clause-done g t c = c.run_from-in-Err.ensures.all
+
+pub put-requires-in-Err-clause-member : goal.put-requires-in-Err-clause-member
+put-requires-in-Err-clause-member g t c = c.in-Some-last.ensures.some
+
 pub unreachable-unreachable : goal.unreachable-unreachable
 unreachable-unreachable g t c = not_emptied (numbers c.args.waiting.now.items) c.under_way.result.runner.number (sym c.in_default-last.ensures.none ∙ c.run_from-in-Err.ensures.others ∙ c.wait.ensures.numbers)
+
+pub returns-in-Some-last-clause-all : goal.returns-in-Some-last-clause-all
+returns-in-Some-last-clause-all g t c = c.put-in-Err.ensures.all
+
+pub returns-in-Some-last-clause-rest : goal.returns-in-Some-last-clause-rest
+returns-in-Some-last-clause-rest g t c = c.last.ensures.rest
 
 pub returns-in-Some-last-clause-numbers : goal.returns-in-Some-last-clause-numbers
 returns-in-Some-last-clause-numbers g t c =

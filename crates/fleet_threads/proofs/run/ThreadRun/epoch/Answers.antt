@@ -1,4 +1,4 @@
-use Rattle.std.proofs.Common.{◌≡◌, ◌+◌, min, refl, sym, subst, ap, ◌∙◌, arith}
+use Rattle.std.proofs.Common.{◌≡◌, ◌+◌, min, sym, subst, ap, ◌∙◌, arith}
 use Rattle.node_runner.specs.Scenario.{ScenarioOf}
 use Rattle.epoch_rows.specs.Run.{RunAt}
 use Rattle.fleet_threads.specs.Run.{IsTied}
