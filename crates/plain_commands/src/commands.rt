@@ -1,6 +1,6 @@
 // The commands, behind the words that ask for them.
 ghost use Rattle.std.specs.Prelude.{◌≡◌, ◌≤◌, length, IfErr, IfOk};
-ghost use Rattle.command_words.specs.Words.{Node, Run, RunPlain, Check, Disasm, Asm};
+ghost use Rattle.command_words.specs.Words.{Node, RunPlain, Check, Disasm, Asm};
 ghost use Rattle.plain_commands.specs.Plan.{AsmJob, DisasmJob, plan_of};
 ghost use Rattle.plain_commands.specs.Ends.{Ends, reads, stream};
 ghost use Rattle.plain_commands.specs.Parts.{JobEnds, end_of, Called, HasRead, EndedReading};
@@ -151,24 +151,6 @@ pub fn run_plain<'w, S: Store, O: Sink, E: Sink>(
         }
         Err(status) => status,
     }
-}
-
-/// `run FILE` on one thread: the same trace, for a caller that has no threads to give.
-#[tactic(auto, unfolding(crate::specs::Plan::plan_of))]
-pub fn run<'w, S: Store, O: Sink, E: Sink>(
-    alloc: Global,
-    file: &'w str,
-    store: &mut S,
-    out: &mut O,
-    err: &mut E,
-) -> Status
-    ensures held { S.held store.new ≡ S.held store.old }
-    ensures called { Called (S.held store.old) (plan_of (Run file.entry.now))
-        (reads (S.faults store.old) (S.failed store.old)) (reads (S.faults store.new) (S.failed store.new))
-        (stream (O.taken out.old) (O.faults out.old)) (stream (O.taken out.new) (O.faults out.new))
-        (stream (E.taken err.old) (E.faults err.old)) (stream (E.taken err.new) (E.faults err.new)) result }
-{
-    run_plain(alloc, file, store, out, err)
 }
 
 /// `check FILE`: the size of the network of the scenario in `file`; the scenario and its images are read as `run` reads them.

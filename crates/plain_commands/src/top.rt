@@ -7,7 +7,7 @@ ghost use Rattle.plain_commands.specs.TopClause.{TopClause};
 ghost use Rattle.plain_commands.specs.Parts.{AsksFor, Called, EndedAtWords};
 
 use crate::Status;
-use crate::commands::{asm, check, disasm, node, run, run_plain};
+use crate::commands::{asm, check, disasm, node, run_plain};
 use crate::reports::report;
 use crate::sample::write_sample;
 use crate::trouble::{Complaint, Trouble};
@@ -35,7 +35,8 @@ pub fn obey<'w, S: Store, O: Sink, E: Sink>(
             let outcome = node(alloc, file, cycles, store, out);
             report(err, outcome)
         }
-        Order::Run { file } => run(alloc, file, store, out, err),
+        // The same trace, for a caller that has no threads to give.
+        Order::Run { file } => run_plain(alloc, file, store, out, err),
         Order::RunPlain { file } => run_plain(alloc, file, store, out, err),
         Order::Check { file } => check(alloc, file, store, out, err),
         Order::Disasm { file } => {

@@ -13,10 +13,11 @@ returns-in-Node-clause-called g c = record {
 }
 
 pub returns-in-Run-clause-called : goal.returns-in-Run-clause-called
-returns-in-Run-clause-called g c = rw c.in-Run.is c.run.ensures.called
+unfolding plan_of
+returns-in-Run-clause-called g c = rw c.in-Run.is c.run_plain.ensures.called
 
 pub returns-in-RunPlain-clause-called : goal.returns-in-RunPlain-clause-called
-returns-in-RunPlain-clause-called g c = rw c.in-RunPlain.is c.run_plain.ensures.called
+returns-in-RunPlain-clause-called g c = rw c.in-RunPlain.is c.run_plain-in-RunPlain.ensures.called
 
 pub returns-in-Check-clause-called : goal.returns-in-Check-clause-called
 returns-in-Check-clause-called g c = rw c.in-Check.is c.check.ensures.called
