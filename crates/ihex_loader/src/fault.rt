@@ -4,50 +4,58 @@ ghost use Rattle.ihex_loader.specs.Fault.{at_line, fault_name, fault_line};
 ghost use Rattle.ihex_loader.specs.declared.fault.HexFault.TheVariants.{NoMemory};
 
 use std::alloc::AllocError;
-use std::error::Error;
-use std::fmt::{self, Display};
+use thiserror::Error;
 
 /// Why an image was refused. Lines count from 1, and the first faulty line decides.
-#[derive(Clone, Copy, Debug, PartialEq, Eq)]
+#[derive(Clone, Copy, Debug, PartialEq, Eq, Error)]
 pub enum HexFault {
     /// No leading colon, an odd number of digits, another character, or fewer than five pairs of digits.
+    #[error("line {line}: not a record")]
     NotARecord {
         /// The line, from 1.
         line: usize,
     },
     /// The bytes of the record do not add up to 0 modulo 256.
+    #[error("line {line}: wrong check byte")]
     BadSum {
         /// The line, from 1.
         line: usize,
     },
     /// A record type above 05.
+    #[error("line {line}: unknown record type")]
     BadType {
         /// The line, from 1.
         line: usize,
     },
     /// The count is not the number of data bytes, or not the one that the record type has.
+    #[error("line {line}: wrong count of bytes")]
     BadLength {
         /// The line, from 1.
         line: usize,
     },
     /// A data record that goes past the last offset, 0xFFFF.
+    #[error("line {line}: the data crosses the end of its segment")]
     Crossing {
         /// The line, from 1.
         line: usize,
     },
     /// A data record that goes past the last byte address of the flash, 0x1FFFF.
+    #[error("line {line}: the data goes past the flash")]
     PastFlash {
         /// The line, from 1.
         line: usize,
     },
     /// A line that is not blank, after the end record.
+    #[error("line {line}: text after the end record")]
     AfterEnd {
         /// The line, from 1.
         line: usize,
     },
     /// No line is faulty, and none is an end record.
+    #[error("no end record")]
     NoEnd,
     /// An allocation was refused.
+    #[error("out of memory")]
     NoMemory,
 }
 
@@ -78,21 +86,6 @@ impl HexFault {
         }
     }
 
-    // What is wrong, in words.
-    fn meaning(&self) -> &'static str {
-        match self {
-            HexFault::NotARecord { .. } => "not a record",
-            HexFault::BadSum { .. } => "wrong check byte",
-            HexFault::BadType { .. } => "unknown record type",
-            HexFault::BadLength { .. } => "wrong count of bytes",
-            HexFault::Crossing { .. } => "the data crosses the end of its segment",
-            HexFault::PastFlash { .. } => "the data goes past the flash",
-            HexFault::AfterEnd { .. } => "text after the end record",
-            HexFault::NoEnd => "no end record",
-            HexFault::NoMemory => "out of memory",
-        }
-    }
-
     /// The faulty line, from 1. `None` for `NoEnd` and `NoMemory`, which have none.
     pub fn line(&self) -> Option<usize>
         ensures { result ≡ fault_line self.now }
@@ -109,17 +102,6 @@ impl HexFault {
         }
     }
 }
-
-impl Display for HexFault {
-    fn fmt<W: fmt::Write>(&self, f: &mut fmt::Formatter<W>) -> fmt::Result {
-        if let Some(line) = self.line() {
-            write!(f, "line {line}: ")?;
-        }
-        f.write_str(self.meaning())
-    }
-}
-
-impl Error for HexFault {}
 
 /// What can be wrong with a line.
 #[derive(Clone, Copy)]
