@@ -5,7 +5,7 @@
 # cannot hold this: it wants devices, pipes and a C compiler. It prints a line a check; its exit status is 1 where one failed.
 set -u
 top=$(cd "$(dirname "$0")/.." && pwd)
-program=${1:-$top/crates/avrora_program/out/avrora_program}
+program=${1:-$top/crates/avrora_program/out/rlib/avrora_program}
 [ -n "${1:-}" ] || "$top/avrora" node "$top/examples/two.hex" 1 >/dev/null
 program=$(realpath "$program")
 work=$(mktemp -d)

@@ -1,7 +1,7 @@
 # For the scripts beside it that run the program on networks; they read this in with their own words, of which the first may
 # name the program (the one that ./avrora builds where absent). It sets `top`, `program` and `work`, a folder for the run.
 top=$(cd "$(dirname "${BASH_SOURCE[0]}")/.." && pwd)
-program=${1:-$top/crates/avrora_program/out/avrora_program}
+program=${1:-$top/crates/avrora_program/out/rlib/avrora_program}
 work=$(mktemp -d)
 trap 'rm -rf "$work"' EXIT
 [ -n "${1:-}" ] || "$top/avrora" node "$top/examples/two.hex" 1 >/dev/null

@@ -8,7 +8,7 @@
 set -eu
 top=$(cd "$(dirname "$0")/.." && pwd)
 cycles=${1:-10000000}
-program=${2:-$top/crates/avrora_program/out/avrora_program}
+program=${2:-$top/crates/avrora_program/out/rlib/avrora_program}
 work=$(mktemp -d)
 trap 'rm -rf "$work"' EXIT
 [ -n "${2:-}" ] || "$top/avrora" node "$top/examples/two.hex" 1 >/dev/null
