@@ -25,8 +25,8 @@ TOP = os.path.dirname(os.path.realpath(__file__))
 # The folders of a crate that its proof and its code are made from.
 PARTS = ("src", "specs", "proofs")
 
-# What a check reads before its first function, and of each library that it names, as so many lines of code that take as
-# long. Fitted to the crates here; lines of proofs count for nothing beside the code that they are for.
+# How long a check is likely to take, beside its lines of code: so many lines for its start, and so many for each library
+# that the crate names, since code over many libraries is dearer. Fitted to the crates here; lines of proofs hardly count.
 LINES_OF_A_START = 170
 LINES_OF_A_LIBRARY = 30
 
