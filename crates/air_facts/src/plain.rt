@@ -8,8 +8,9 @@ ghost use Rattle.world_core.specs.Consistent.{IsConsistent};
 ghost use Rattle.air_facts.specs.ByNode.{NodeAgrees, NodesPostedFor, SampleAgrees};
 
 use air_cases::{count_below, is_asked, own_sends};
+use list_world::{ListWorld, heard_of};
 use std::alloc::{AllocError, Global};
-use world_core::{Ask, Heard, ListWorld, Send, Topo, World, heard_of};
+use world_core::{Ask, Heard, Send, Topo, World};
 
 fn are_same(a: &[Send], b: &[Send]) -> bool
     ensures { IsTrue result ↔ (a.now ≡ b.now) }

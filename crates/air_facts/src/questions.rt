@@ -8,9 +8,10 @@ use crate::logs::listens;
 use crate::plain::{are_inside, is_consistent};
 use crate::setting::Setting;
 use air_cases::{Section, byte_of, is_asked};
+use list_world::{ListWorld, heard_of};
 use std::alloc::Global;
 use sync_core::{Core, ReplayFault, Step, replay};
-use world_core::{Ask, ListWorld, Sampled, Topo, TopoFault, World, WorldFault, heard_of};
+use world_core::{Ask, Sampled, Topo, TopoFault, World, WorldFault};
 
 fn of_topo(got: Result<Topo, TopoFault>) -> Answer {
     match got {

@@ -2,7 +2,7 @@
 ghost use Rattle.std.specs.Prelude.{◌≡◌, ◌≤◌, ◌<◌, []};
 
 use clock_words::{AirSeat, Clocks, NodeSeat};
-use world_core::ListWorld;
+use list_world::ListWorld;
 
 #[tactic(auto, using(crate::proofs::Silent::none_below))]
 /// Raises the clock of a silent node through each cycle up to the last, and answers where it then stands.

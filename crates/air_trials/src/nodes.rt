@@ -4,9 +4,10 @@ ghost use Rattle.std.specs.List.{All};
 ghost use Rattle.world_core.specs.Sends.{sends_of};
 ghost use Rattle.air_record.specs.Record.{epoch};
 
+use list_world::ListWorld;
 use neighbour_sync::{NodeAir, Passed, Session, Shared};
 use std::sync::Wait;
-use world_core::{Ask, EPOCH, ListWorld, Send, World};
+use world_core::{Ask, EPOCH, Send, World};
 
 /// Whether all sends lie below this floor and an epoch.
 pub fn are_early(sends: &[Send], floor: u64) -> bool

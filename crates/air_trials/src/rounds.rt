@@ -12,12 +12,13 @@ use crate::world::line_world;
 use air_cases::own_sends;
 use air_record::Air;
 use clock_words::Clocks;
+use list_world::ListWorld;
 use neighbour_sync::{NodeAir, Session, Shared, open_air};
 use std::alloc::Global;
 use std::marker::Brand;
 use std::sync::Wait;
 use std::thread::{Threads, join};
-use world_core::{ListWorld, Send, World};
+use world_core::{Send, World};
 
 // How many bytes node 0 sends.
 const BYTES: u64 = 1_000;

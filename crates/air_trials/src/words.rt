@@ -3,8 +3,9 @@ ghost use Rattle.std.specs.Prelude.{◌≡◌, [], IfSome};
 ghost use Rattle.clock_words.specs.Seats.{AreFirstNodes, first_node};
 
 use clock_words::{AirSeat, Clocks, NodeSeat};
+use list_world::ListWorld;
 use std::alloc::Global;
-use world_core::{ListWorld, Topo};
+use world_core::Topo;
 
 /// The words with all their seats.
 #[derive(Drop)]

@@ -1,6 +1,7 @@
 // The world of the trials.
+use list_world::ListWorld;
 use std::alloc::Global;
-use world_core::{Ask, Link, ListWorld, Send, Topo};
+use world_core::{Ask, Link, Send, Topo};
 
 const LATENCY: u64 = 300;
 

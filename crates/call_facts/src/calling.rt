@@ -2,7 +2,7 @@
 use crate::held::Held;
 use avrora_top::{avrora, avrora_alone};
 use fleet_threads::OpenGate;
-use sim_io::MemSink;
+use memory_io::MemSink;
 use std::alloc::{AllocError, Global};
 use std::sync::Wait;
 use std::thread::Threads;

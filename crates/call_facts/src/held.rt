@@ -1,5 +1,6 @@
 // The files that a call can read.
-use sim_io::{MemStore, Name};
+use memory_io::MemStore;
+use sim_io::Name;
 use std::alloc::{AllocError, Global};
 
 /// Files by their names.

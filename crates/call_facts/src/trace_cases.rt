@@ -2,7 +2,8 @@
 // line that names it.
 use avrora_top::{Status, avrora_alone};
 use case_files::{Failed, text_of};
-use sim_io::{DirStore, MemSink, Sink, SinkFault, write_all};
+use memory_io::MemSink;
+use sim_io::{DirStore, Sink, SinkFault, write_all};
 use std::alloc::Global;
 use std::fs::Files;
 

@@ -9,11 +9,12 @@ use crate::team::Team;
 use air_cases::Section;
 use air_record::Air;
 use clock_words::Clocks;
+use list_world::ListWorld;
 use neighbour_sync::{NodeAir, Session, Shared, cut_when_passed, open_air};
 use std::alloc::Global;
 use std::marker::Brand;
 use std::sync::Wait;
-use world_core::{Ask, Heard, ListWorld, Send, World};
+use world_core::{Ask, Heard, Send, World};
 
 /// A world, its words, its record, and the parts of its nodes.
 #[derive(Drop)]

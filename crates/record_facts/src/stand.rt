@@ -7,8 +7,9 @@ use crate::fault::Fault;
 use air_cases::{count_below, is_asked, send_number};
 use air_record::Air;
 use clock_words::{Clocks, NodeSeat};
+use list_world::ListWorld;
 use std::alloc::Global;
-use world_core::{Ask, EPOCH, Heard, ListWorld, Send, World};
+use world_core::{Ask, EPOCH, Heard, Send, World};
 
 /// All that steps on the record of a world.
 #[derive(Drop)]

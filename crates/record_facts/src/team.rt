@@ -6,11 +6,12 @@ ghost use Rattle.world_core.specs.Sends.{sends_below, IsSendNumber};
 use crate::answer::Answer;
 use crate::fault::Fault;
 use air_cases::{Section, byte_of, count_below, is_asked, send_number};
+use list_world::ListWorld;
 use neighbour_sync::{NodeAir, Session, Shared};
 use std::alloc::Global;
 use std::marker::PhantomData;
 use std::sync::Wait;
-use world_core::{Ask, EPOCH, ListWorld, World};
+use world_core::{Ask, EPOCH, World};
 
 /// The parts of all nodes, in order of number.
 #[derive(Drop)]

@@ -1,11 +1,10 @@
 //! What the outside is to a call: a store of files to read from and a sink of bytes to write to. Both are traits with
 //! a count of their faults and an optional meaning, so that a contract can say what was read and written where the
-//! outside tells. The forms over memory tell all; those over the real system tell nothing, and are its trusted edge.
+//! outside tells. Forms over memory (`memory_io`) tell all; those here are over the real system, tell nothing, and are its
+//! trusted edge.
 #![tactic(auto)]
 
 mod dir_store;
-mod mem_sink;
-mod mem_store;
 mod name;
 mod page;
 mod sink;
@@ -14,8 +13,6 @@ mod store;
 
 pub use avr_base::NoMemory;
 pub use dir_store::{DirStore, read_whole};
-pub use mem_sink::MemSink;
-pub use mem_store::MemStore;
 pub use name::Name;
 pub use page::make_room;
 pub use sink::{Sink, SinkFault, write_all};

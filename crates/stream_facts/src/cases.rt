@@ -3,8 +3,9 @@ use crate::halting::{Halting, Turn};
 use crate::reading::{Asked, Case};
 use arrayvec::ArrayString;
 use case_files::Failed;
+use memory_io::{MemSink, MemStore};
 use sim_io::{
-    DirStore, MemSink, MemStore, Name, ReadFault, Sink, SinkFault, StdSink, Store, make_room,
+    DirStore, Name, ReadFault, Sink, SinkFault, StdSink, Store, make_room,
     read_whole, write_all,
 };
 use std::alloc::Global;

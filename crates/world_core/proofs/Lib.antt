@@ -15,6 +15,3 @@ pub mod Room
 pub mod Records
 pub mod Cuts
 pub mod Rows
-pub mod More
-pub mod NextEntry
-pub mod Lawfulness

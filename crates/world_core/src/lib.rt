@@ -6,7 +6,6 @@ mod air;
 mod faults;
 mod hear;
 mod kept;
-mod laws;
 mod link_table;
 mod neighbours;
 mod spans;
@@ -15,7 +14,7 @@ mod world;
 
 pub use air::{Ask, Heard, Link, Sampled, Send, Span};
 pub use faults::{NoMemory, TopoFault, WorldFault};
-pub use hear::{heard_of, heard_with};
+pub use hear::heard_with;
 pub use kept::{EPOCH, cut_law, kept_law, needed_law, part_law, room_law};
 pub use topo::Topo;
-pub use world::{ListWorld, World, WorldFacts};
+pub use world::{World, WorldFacts};

@@ -1,9 +1,9 @@
 // A store of files over memory, whose reads fail where it is told.
 ghost use Rattle.std.specs.Prelude.{◌≡◌, ◌<◌, ◌≤◌, [], true, false, Some, None, length, IfOk, IfSome, IfNone, IsErrOf};
-ghost use Rattle.sim_io.specs.Files.{file_of, fails_at, held_by};
+ghost use Rattle.memory_io.specs.Files.{file_of, fails_at, held_by};
 ghost use Rattle.sim_io.specs.Outside.{Rose};
 
-use crate::{Name, ReadFault, Store};
+use sim_io::{Name, ReadFault, Store};
 use std::alloc::Global;
 use std::marker::Model;
 use std::snapshot::Snapshot;
@@ -20,7 +20,7 @@ pub struct MemStore {
 }
 
 impl Model for MemStore {
-    ghost use Rattle.sim_io.specs.Files.{MemoryStore};
+    ghost use Rattle.memory_io.specs.Files.{MemoryStore};
     ghost use Rattle.sim_io.specs.Failed.{last_failed};
 
     ghost Value = { MemoryStore };
@@ -86,7 +86,7 @@ impl MemStore {
 }
 
 impl Store for MemStore {
-    ghost use Rattle.sim_io.specs.Files.{ReadGives, held_by};
+    ghost use Rattle.memory_io.specs.Files.{ReadGives, held_by};
 
     ghost held = { held_by };
 

@@ -2,9 +2,9 @@ use Rattle.std.proofs.Common.{sym, ◌∙◌, arith}
 use Rattle.std.proofs.lemmas.Bool.{false≢true}
 use Rattle.world_core.specs.declared.air.Send.{Send}
 use Rattle.world_core.specs.Heard.{age_of, is_audible}
-use Rattle.world_core.proofs.hear.heard_of.Goals as goal
-use Rattle.world_core.proofs.hear.heard_of.Goals.{then-hears, else-hears}
-use Rattle.world_core.proofs.More.{heard_step, heard_all}
+use Rattle.list_world.proofs.hear.heard_of.Goals as goal
+use Rattle.list_world.proofs.hear.heard_of.Goals.{then-hears, else-hears}
+use Rattle.list_world.proofs.More.{heard_step, heard_all}
 
 pub loop-send-preserved : goal.loop-send-preserved
 loop-send-preserved c =

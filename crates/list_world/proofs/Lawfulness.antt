@@ -5,7 +5,7 @@ use Rattle.world_core.specs.declared.world.WorldFacts.{WorldFacts}
 use Rattle.world_core.specs.FirstFault.{AllKeep}
 use Rattle.world_core.specs.Topology.{IsTopology}
 use Rattle.world_core.specs.Lawful.{IsLawful, IsNextSend, IsNextAsk}
-use Rattle.world_core.proofs.NextEntry.{inside_all, apart_all, keep_all}
+use Rattle.list_world.proofs.NextEntry.{inside_all, apart_all, keep_all}
 
 pub lawful_from : (w : WorldFacts) → IsTopology w.topo → AllKeep (IsNextSend w.topo) w.sends → AllKeep (IsNextAsk w.topo) w.asks → IsLawful w
 lawful_from w topo sends asks = record {

@@ -1,7 +1,7 @@
 -- A sink over memory: what it took, how much it takes at a call, and which of its calls fail.
 use Rattle.std.specs.Prelude.{◌≡◌, ℕ, ◌-◌, ◌==◌, ◌||◌, ◌&&◌, min, nat_lt, List, ◌++◌, Bool, true, false, Result, Ok, Err, length, take}
 use Rattle.sim_io.specs.declared.sink.SinkFault.{SinkFault}
-use Rattle.sim_io.specs.Files.{is_marked, one_more}
+use Rattle.memory_io.specs.Files.{is_marked, one_more}
 
 pub record MemorySink : Type 0 where
   pub taken : List ℕ

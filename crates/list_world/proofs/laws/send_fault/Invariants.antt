@@ -2,8 +2,8 @@ use Rattle.std.proofs.Common.{take}
 use Rattle.world_core.specs.declared.air.Send.{Send}
 use Rattle.world_core.specs.FirstFault.{KeepsBelow}
 use Rattle.world_core.specs.Lawful.{IsNextSend}
-use Rattle.world_core.proofs.NextEntry.{IsFree}
-use Rattle.world_core.proofs.laws.send_fault.Given as goal
+use Rattle.list_world.proofs.NextEntry.{IsFree}
+use Rattle.list_world.proofs.laws.send_fault.Given as goal
 
 abbrev pub invariant-loop-place : goal.invariant-loop-place
 invariant-loop-place l = record {

@@ -1,9 +1,9 @@
 // A sink of bytes over memory, whose writes are short and fail where it is told.
 ghost use Rattle.std.specs.Prelude.{◌≡◌, ◌<◌, ◌≤◌, [], length, take, Some, IfOk, OnOk, OnErr};
-ghost use Rattle.sim_io.specs.Bytes.{fails_on, share_of};
+ghost use Rattle.memory_io.specs.Bytes.{fails_on, share_of};
 ghost use Rattle.sim_io.specs.Outside.{Rose, extended};
 
-use crate::{Sink, SinkFault};
+use sim_io::{Sink, SinkFault};
 use avr_base::NoMemory;
 use std::alloc::Global;
 use std::marker::Model;
@@ -22,7 +22,7 @@ pub struct MemSink {
 
 impl Model for MemSink {
     ghost use Rattle.std.specs.Prelude.{◌≤◌, vec_len, vec_capacity};
-    ghost use Rattle.sim_io.specs.Bytes.{MemorySink};
+    ghost use Rattle.memory_io.specs.Bytes.{MemorySink};
 
     ghost Value = { MemorySink };
 
@@ -85,7 +85,7 @@ impl MemSink {
 }
 
 impl Sink for MemSink {
-    ghost use Rattle.sim_io.specs.Bytes.{WriteGives};
+    ghost use Rattle.memory_io.specs.Bytes.{WriteGives};
 
     ghost taken = { λ s. Some s.taken };
 

@@ -6,8 +6,8 @@ use Rattle.world_core.specs.declared.world.WorldFacts.{WorldFacts}
 use Rattle.world_core.specs.FirstFault.{AllKeep, IsFirstFault}
 use Rattle.world_core.specs.Lawful.{IsNextSend, IsNextAsk}
 use Rattle.world_core.proofs.FirstFaults.{fault_excludes}
-use Rattle.world_core.proofs.Lawfulness.{lawful_from, sends_keep, asks_keep}
-use Rattle.world_core.proofs.world.ListWorld.new.Goals as goal
+use Rattle.list_world.proofs.Lawfulness.{lawful_from, sends_keep, asks_keep}
+use Rattle.list_world.proofs.lists.ListWorld.new.Goals as goal
 
 pub returns-in-Some-clause-ok : goal.returns-in-Some-clause-ok
 returns-in-Some-clause-ok c =

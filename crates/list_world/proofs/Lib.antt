@@ -1,0 +1,3 @@
+mod More
+mod NextEntry
+mod Lawfulness
