@@ -3,7 +3,7 @@ use avr_base::StopCause;
 use world_core::Heard;
 
 /// How a node stands when a run is over.
-#[derive(Clone, Copy, PartialEq, Eq)]
+#[derive(Clone, Copy)]
 pub enum NodeEnd {
     /// It is running.
     Running,
@@ -14,7 +14,7 @@ pub enum NodeEnd {
 }
 
 /// What a row tells. Program addresses are word addresses.
-#[derive(Clone, Copy, PartialEq, Eq)]
+#[derive(Clone, Copy)]
 pub enum Kind {
     /// An instruction was executed: its address, its opcode word, and the word after it.
     Instr { pc: u16, word: u16, next: u16 },
@@ -33,7 +33,7 @@ pub enum Kind {
 }
 
 /// One row: 32 bytes.
-#[derive(Clone, Copy, PartialEq, Eq)]
+#[derive(Clone, Copy)]
 pub struct Row {
     /// The cycle in which it happened, from 0; of an End row the cycle limit.
     pub cycle: u64,
