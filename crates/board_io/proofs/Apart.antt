@@ -16,7 +16,7 @@ use Rattle.board_io.specs.Registers.{get_by, put_by}
 use Rattle.board_io.proofs.Radio.{get_by_clock, put_by_clock}
 use Rattle.device_clocks.specs.Bits.{any_bit}
 use Rattle.device_clocks.specs.Clock.{cycles}
-use Rattle.interrupt_unit.specs.declared.unit.Lines.{Lines}
+use Rattle.avr_base.specs.declared.interrupts.Lines.{Lines}
 use Rattle.spi_port.specs.declared.registers.SpiReg.TheVariants as spi
 use Rattle.timer16.specs.declared.registers.Reg16.TheVariants as reg16
 use Rattle.timer16.specs.declared.timer16.Timer16.{Timer16}

@@ -13,7 +13,7 @@ use Rattle.board_io.specs.Lines.{lines_of}
 use Rattle.board_io.proofs.Leaps.{leap_quiet, leap_zero}
 use Rattle.device_clocks.proofs.Cycles.{cycles-add}
 use Rattle.device_clocks.specs.Transmission.{ended_byte}
-use Rattle.interrupt_unit.specs.declared.unit.Lines.{Lines}
+use Rattle.avr_base.specs.declared.interrupts.Lines.{Lines}
 use Rattle.timer16.specs.Timer as timer16
 use Rattle.timer8.specs.Timer as timer8
 

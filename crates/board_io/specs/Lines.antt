@@ -5,7 +5,7 @@ use Rattle.board_io.specs.declared.board.Board.{Board}
 use Rattle.board_io.specs.Board.{kept_at}
 use Rattle.device_clocks.specs.Bits.{any_bit}
 use Rattle.device_clocks.specs.declared.flags.TimerFlags.{TimerFlags}
-use Rattle.interrupt_unit.specs.declared.unit.Lines.{Lines}
+use Rattle.avr_base.specs.declared.interrupts.Lines.{Lines}
 use Rattle.spi_port.specs.Spi.{asks_interrupt}
 use Rattle.timer16.specs.Timer as timer16
 use Rattle.timer8.specs.Timer as timer8

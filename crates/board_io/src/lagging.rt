@@ -4,7 +4,7 @@ ghost use Rattle.board_io.specs.Lagging.{IsIdle};
 
 use crate::ahead::Ahead;
 use crate::{Begun, Board, Clock, Sleep};
-use interrupt_unit::{Lines, Vector};
+use avr_base::{Lines, Vector};
 use std::marker::Model;
 use world_core::Heard;
 

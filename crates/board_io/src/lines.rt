@@ -3,31 +3,44 @@ ghost use Rattle.std.specs.Prelude.{◌≡◌, ◌≤◌, ◌^◌, true};
 ghost use Rattle.board_io.specs.Lines.{line};
 
 use crate::Board;
+use avr_base::{Lines, Vector};
 use device_clocks::{TimerFlags, any_bit};
-use interrupt_unit::{Lines, Vector};
 
 const TIMSK: usize = 0x57;
 
 const ETIMSK: usize = 0x7D;
 
+// Each flag by itself.
 const OVER: TimerFlags = TimerFlags {
     over: true,
-    ..TimerFlags::NONE
+    comp_a: false,
+    comp_b: false,
+    comp_c: false,
+    icr: false,
 };
 
 const COMP_A: TimerFlags = TimerFlags {
+    over: false,
     comp_a: true,
-    ..TimerFlags::NONE
+    comp_b: false,
+    comp_c: false,
+    icr: false,
 };
 
 const COMP_B: TimerFlags = TimerFlags {
+    over: false,
+    comp_a: false,
     comp_b: true,
-    ..TimerFlags::NONE
+    comp_c: false,
+    icr: false,
 };
 
 const COMP_C: TimerFlags = TimerFlags {
+    over: false,
+    comp_a: false,
+    comp_b: false,
     comp_c: true,
-    ..TimerFlags::NONE
+    icr: false,
 };
 
 // Line n of a source: its flag, and whether its interrupt is enabled.

@@ -44,7 +44,9 @@ impl Board {
         self.t0.clear(TimerFlags {
             over: any_bit(x, 0x01),
             comp_a: any_bit(x, 0x02),
-            ..TimerFlags::NONE
+            comp_b: false,
+            comp_c: false,
+            icr: false,
         });
         self.t1.clear(TimerFlags {
             over: any_bit(x, 0x04),
@@ -56,7 +58,9 @@ impl Board {
         self.t2.clear(TimerFlags {
             over: any_bit(x, 0x40),
             comp_a: any_bit(x, 0x80),
-            ..TimerFlags::NONE
+            comp_b: false,
+            comp_c: false,
+            icr: false,
         });
     }
 
@@ -65,8 +69,11 @@ impl Board {
         ensures { self.new ≡ extended_flags_cleared x self.old }
     {
         self.t1.clear(TimerFlags {
+            over: false,
+            comp_a: false,
+            comp_b: false,
             comp_c: any_bit(x, 0x01),
-            ..TimerFlags::NONE
+            icr: false,
         });
         self.t3.clear(TimerFlags {
             over: any_bit(x, 0x04),
@@ -93,15 +100,10 @@ impl Board {
         match rule {
             Rule::Reserved => Err(StopCause::ReservedAddress),
             Rule::Pin { port } => Ok(self.kept(port)),
-            Rule::Kept { mask: _ } => Ok(self.kept(at)),
-            Rule::Guarded {
-                bits: _,
-                cause: _,
-                mask: _,
-            } => Ok(self.kept(at)),
+            Rule::Kept { .. } | Rule::Guarded { .. } | Rule::ResetFlags | Rule::CpuControl => {
+                Ok(self.kept(at))
+            }
             Rule::WatchdogControl => Ok(0),
-            Rule::ResetFlags => Ok(self.kept(at)),
-            Rule::CpuControl => Ok(self.kept(at)),
             Rule::TimerFlags => Ok(self.timer_flags()),
             Rule::ExtendedTimerFlags => Ok(self.extended_timer_flags()),
             Rule::Timer0 { reg } => Ok(self.t0.get(reg)),

@@ -6,7 +6,7 @@ use crate::numbers::{address, byte, cycle};
 use board_io::Board;
 use data_space::{Bus, Cpu, load, store};
 use device_clocks::TimerFlags;
-use interrupt_unit::Vector;
+use avr_base::Vector;
 use usart_port::Inbox;
 use world_core::Heard;
 

@@ -5,7 +5,7 @@ use device_clocks::{
     any_bit, clocks_in, clocks_until, count_after, cycle_of_clock, earlier, flag_after, has_clock,
     stepped,
 };
-use interrupt_unit::{Lines, Vector, pending};
+use avr_base::{Lines, Vector, pending};
 
 // The maximum, the top and the count of a counter.
 fn counter(max: &str, top: &str, count: &str) -> Option<(u16, u16, u16)> {

@@ -6,8 +6,8 @@ use Rattle.board_io.specs.declared.board.Board.{Board}
 use Rattle.board_io.specs.Cycle.{board_quiet, timers_cycle, timers_leap}
 use Rattle.board_io.specs.Lines.{lines_of}
 use Rattle.board_io.proofs.Leaps.{leap_next, leap_quiet, leap_zero}
-use Rattle.interrupt_unit.specs.declared.unit.Lines.{Lines}
-use Rattle.interrupt_unit.specs.Lines.{due_of}
+use Rattle.avr_base.specs.declared.interrupts.Lines.{Lines}
+use Rattle.avr_base.specs.Lines.{due_of}
 use Rattle.world_core.specs.NodeRun.{passed, passed_rows, AllQuiet}
 use Rattle.node_core.specs.Bus.{with_board}
 use Rattle.node_core.specs.State.{NodeState}

@@ -9,7 +9,7 @@ use Rattle.byte_radio.specs.declared.radio.Radio.{Radio}
 use Rattle.data_space.specs.declared.bus.Done.{Done}
 use Rattle.data_space.specs.declared.cpu.Cpu.{Cpu}
 use Rattle.data_space.specs.Space.{Access}
-use Rattle.interrupt_unit.specs.declared.unit.Vector.{Vector}
+use Rattle.avr_base.specs.declared.interrupts.Vector.{Vector}
 use Rattle.usart_port.specs.Script.{script_byte}
 use Rattle.world_core.specs.declared.air.Heard.{Heard}
 use Rattle.node_core.specs.declared.bus.NodeBus.{NodeBus}

@@ -6,7 +6,7 @@ use Rattle.std.proofs.lemmas.List.Elements.{All-nil, All-cons, All-append}
 use Rattle.avr_base.specs.declared.stop.StopCause.{StopCause}
 use Rattle.board_io.specs.Cycle.{board_sends, board_serial}
 use Rattle.data_space.specs.declared.bus.Done.{Done}
-use Rattle.interrupt_unit.specs.declared.unit.Vector.{Vector}
+use Rattle.avr_base.specs.declared.interrupts.Vector.{Vector}
 use Rattle.trace_rows.specs.declared.row.Row.{Row}
 use Rattle.trace_rows.specs.declared.row.Kind.{Kind as RowKind}
 use Rattle.world_core.specs.NodeKind.{IsSteady}

@@ -17,7 +17,7 @@ use Rattle.data_space.specs.declared.cpu.Cpu.{Cpu}
 use Rattle.data_space.specs.declared.bus.Done.{Done}
 use Rattle.data_space.specs.Space.{Access}
 use Rattle.ihex_loader.specs.Flash.{word_at}
-use Rattle.interrupt_unit.specs.declared.unit.Vector.{Vector}
+use Rattle.avr_base.specs.declared.interrupts.Vector.{Vector}
 use Rattle.trace_rows.specs.declared.row.Row.{Row}
 use Rattle.trace_rows.specs.declared.row.Kind.{Kind as RowKind}
 use Rattle.trace_rows.specs.declared.row.Kind.TheVariants as kind

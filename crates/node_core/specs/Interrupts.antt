@@ -6,8 +6,8 @@ use Rattle.board_io.specs.Lines.{lines_of}
 use Rattle.data_space.specs.declared.cpu.Cpu.{Cpu}
 use Rattle.data_space.specs.Space.{Access, takes}
 use Rattle.data_space.specs.Sequence.{pushed_word, then_do}
-use Rattle.interrupt_unit.specs.declared.unit.Vector.{Vector}
-use Rattle.interrupt_unit.specs.Lines.{due_of}
+use Rattle.avr_base.specs.declared.interrupts.Vector.{Vector}
+use Rattle.avr_base.specs.Lines.{due_of}
 use Rattle.node_core.specs.declared.bus.NodeBus.{NodeBus}
 use Rattle.node_core.specs.Bus.{bus_put}
 use Rattle.node_core.specs.State.{NodeState}

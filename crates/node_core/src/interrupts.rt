@@ -3,9 +3,8 @@ ghost use Rattle.std.specs.Prelude.{◌≡◌};
 ghost use Rattle.node_core.specs.Interrupts.{entry};
 
 use crate::NodeBus;
-use avr_base::{Sreg, StopCause};
+use avr_base::{Sreg, StopCause, Vector};
 use data_space::{Cpu, push_word};
-use interrupt_unit::Vector;
 
 /// Pushes the program counter, its low byte first, shuts interrupts out, and goes on at the vector. Where a push stops,
 /// the one before it stays and nothing follows.

@@ -11,18 +11,17 @@ ghost use Rattle.usart_port.specs.Script.{script_byte};
 ghost use Rattle.board_io.specs.Board.{sleep_mode};
 ghost use Rattle.board_io.specs.Lines.{lines_of};
 ghost use Rattle.ihex_loader.specs.Flash.{word_at};
-ghost use Rattle.interrupt_unit.specs.Lines.{pending_of};
+ghost use Rattle.avr_base.specs.Lines.{pending_of};
 
 use crate::NodeBus;
 use crate::execute::{access, compute, go_on};
 use crate::interrupts::enter;
 use crate::rows::{is_within, put_row, tell, tell_instruction, unless_told};
-use avr_base::{Sreg, StopCause};
+use avr_base::{Sreg, StopCause, Vector};
 use avr_decoder::{Class, Op};
 use avr_program::Program;
 use board_io::Sleep;
 use data_space::{Cpu, Done};
-use interrupt_unit::Vector;
 use std::alloc::AllocError;
 use trace_rows::{Kind, Row};
 use usart_port::Script;
@@ -451,7 +450,7 @@ impl Machine {
         if lines.bits == 0 {
             return None;
         }
-        interrupt_unit::pending(lines)
+        avr_base::pending(lines)
     }
 
     // The interrupt that is due.

@@ -55,7 +55,9 @@ impl Timer8 {
         TimerFlags {
             over: self.over,
             comp_a: self.comp_a,
-            ..TimerFlags::NONE
+            comp_b: false,
+            comp_c: false,
+            icr: false,
         }
     }
 

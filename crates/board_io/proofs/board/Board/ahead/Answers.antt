@@ -1,7 +1,7 @@
 use Rattle.std.proofs.Common.{◌≡◌, ℕ, ◌+◌, ◌-◌, true, sym, ap, ◌∙◌, subst, arith}
 use Rattle.board_io.specs.Cycle.{board_quiet}
 use Rattle.board_io.specs.declared.board.Board.{Board}
-use Rattle.interrupt_unit.specs.declared.unit.Lines.{Lines}
+use Rattle.avr_base.specs.declared.interrupts.Lines.{Lines}
 use Rattle.board_io.proofs.board.Board.ahead.Goals as goal
 
 pub returns-clause-ahead : goal.returns-clause-ahead

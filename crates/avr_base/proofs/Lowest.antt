@@ -6,7 +6,7 @@ use Rattle.std.specs.Int.Count.{trailing_of_zero}
 use Rattle.std.specs.List.{range_with_len}
 use Rattle.std.proofs.lemmas.Bool.{cases_lt, cases_order}
 use Rattle.std.proofs.lemmas.Nat.Bits.{bit_at-suc, bit_at-trailing_zeros, bit_at-zero}
-use Rattle.interrupt_unit.specs.Lines.{line_set, lowest_line}
+use Rattle.avr_base.specs.Lines.{line_set, lowest_line}
 
 -- the first number of a range at which a test holds
 find-first : (p : ℕ → Bool) (a n w : ℕ) → a ≤ w → w < a + n → p w ≡ true → ((i : ℕ) → a ≤ i → i < w → p i ≡ false) → find p (range_with_len a n) ≡ Some w

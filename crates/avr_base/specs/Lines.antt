@@ -4,8 +4,8 @@ use Rattle.std.specs.Prelude.{ℕ, ◌*◌, ◌==◌, if◌then◌else◌, Bool,
 use Rattle.std.specs.Int.{bit_at}
 use Rattle.std.specs.List.{range_with_len}
 use Rattle.avr_base.specs.Flags.{I, has_flag}
-use Rattle.interrupt_unit.specs.declared.unit.Lines.{Lines}
-use Rattle.interrupt_unit.specs.declared.unit.Vector.{Vector}
+use Rattle.avr_base.specs.declared.interrupts.Lines.{Lines}
+use Rattle.avr_base.specs.declared.interrupts.Vector.{Vector}
 
 -- whether line n is set
 abbrev pub line_set : ℕ → ℕ → Bool

@@ -1,7 +1,7 @@
 // The interrupt lines and the one that is served.
 ghost use Rattle.std.specs.Prelude.{◌≡◌, ℕ, ◌≤◌, ◌↔◌, None};
 ghost use Rattle.std.specs.Int.{bit_at};
-ghost use Rattle.interrupt_unit.specs.Lines.{pending_of};
+ghost use Rattle.avr_base.specs.Lines.{pending_of};
 
 /// The interrupt lines: bit n, 1 to 34, is set where the source of the vector at word address 2n has its flag and its
 /// enable bit set (ATmega128 datasheet, "Interrupt Vectors in ATmega128"). The other bits are not looked at.

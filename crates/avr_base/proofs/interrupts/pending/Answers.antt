@@ -1,7 +1,7 @@
 use Rattle.std.proofs.Common.{ap, sym, refl, arith}
-use Rattle.interrupt_unit.specs.Lines.{vector_of}
-use Rattle.interrupt_unit.proofs.Lowest.{clear-below, lowest-found, lowest-none, not-clear}
-use Rattle.interrupt_unit.proofs.unit.pending.Goals as goal
+use Rattle.avr_base.specs.Lines.{vector_of}
+use Rattle.avr_base.proofs.Lowest.{clear-below, lowest-found, lowest-none, not-clear}
+use Rattle.avr_base.proofs.interrupts.pending.Goals as goal
 
 pub returns-then-first-lt34-clause-value : goal.returns-then-first-lt34-clause-value
 returns-then-first-lt34-clause-value c = sym (ap vector_of (lowest-found c.args.lines.bits _ (omega arith) refl c.if-first-lt34.true))
