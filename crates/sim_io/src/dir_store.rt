@@ -95,15 +95,11 @@ impl<'a, R: Files> Store for DirStore<'a, R> {
 
     fn read(&mut self, alloc: Global, name: &str, most: usize) -> Result<Vec<u8>, ReadFault> {
         let asked = Name::new(alloc, name)?;
-        match open_and_read(alloc, self.files, name, most) {
-            Ok(bytes) => Ok(bytes),
-            Err(ReadFault::TooLong) => Err(ReadFault::TooLong),
-            Err(ReadFault::NoMemory) => Err(ReadFault::NoMemory),
-            Err(ReadFault::Failed) => {
-                self.count = self.count.saturating_add(1);
-                self.failed = Some(Snapshot::of(&asked));
-                Err(ReadFault::Failed)
-            }
+        let answer = open_and_read(alloc, self.files, name, most);
+        if let Err(ReadFault::Failed) = answer {
+            self.count = self.count.saturating_add(1);
+            self.failed = Some(Snapshot::of(&asked));
         }
+        answer
     }
 }
