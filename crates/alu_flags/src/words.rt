@@ -1,5 +1,5 @@
 // Sums and differences of a word and a constant.
-ghost use Rattle.std.specs.Prelude.{◌≡◌};
+ghost use Rattle.std.specs.Prelude.{◌≡◌, ◌+◌, ◌-◌, ◌%◌};
 ghost use Rattle.alu_flags.specs.Words.{added_word, subtracted_word};
 
 use crate::flags::signs;
@@ -28,7 +28,15 @@ pub fn sbiw(a: u16, k: u8, s: Sreg) -> (u16, Sreg)
     ensures { result ≡ subtracted_word a k s }
 {
     let k = u16::from(k);
-    let r = a.wrapping_sub(k);
+    let r = difference(a, k);
     let v = overflows_word(signed_word(a) - i32::from(k));
     (r, signs(s.with(Sreg::C, a < k), r >= 32768, r == 0, v))
+}
+
+// `a - k` modulo 65,536.
+#[inline]
+fn difference(a: u16, k: u16) -> u16
+    ensures { result ≡ (a + 65536 - k) % 65536 }
+{
+    a.wrapping_sub(k)
 }

@@ -70,5 +70,9 @@ arith_cycles (op.Fmuls d r) = 2
 arith_cycles (op.Fmulsu d r) = 2
 arith_cycles _ = 1
 
+-- registers and flags after an instruction, and the cycles that it takes
+abbrev pub applied : Op → Cpu → Cpu × ℕ
+applied instruction cpu = (effect instruction cpu, arith_cycles instruction)
+
 abbrev pub arith_done : Op → Done
 arith_done instruction = done (arith_cycles instruction)

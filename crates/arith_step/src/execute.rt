@@ -2,7 +2,7 @@
 ghost use Rattle.std.specs.Prelude.{◌≡◌};
 ghost use Rattle.avr_decoder.specs.Class.{class_of};
 ghost use Rattle.avr_decoder.specs.declared.op.Class.TheVariants.{Arith};
-ghost use Rattle.arith_step.specs.Table.{arith_cpu, arith_cycles, arith_done, effect};
+ghost use Rattle.arith_step.specs.Table.{applied, arith_cpu, arith_done};
 
 use crate::shapes::{
     add, compare, compare_with_carry, copy, copy_pair, load_bit, multiply, put_bits, put_byte,
@@ -36,8 +36,7 @@ pub fn exec(op: Op, cpu: &mut Cpu) -> Done
 #[tactic(auto, unfolding(crate::specs::Table::effect))]
 fn apply(op: Op, cpu: &mut Cpu) -> u8
     requires { class_of op ≡ Arith }
-    ensures core { cpu.new ≡ effect op cpu.old }
-    ensures cycles { result ≡ arith_cycles op }
+    ensures { (cpu.new, result) ≡ applied op cpu.old }
 {
     match op {
         Op::Add { d, r } => add(d, cpu.reg(r), false, cpu),

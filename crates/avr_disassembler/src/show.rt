@@ -83,7 +83,7 @@ fn put_operands<const N: usize>(operands: Operands, out: &mut ArrayString<N>)
 }
 
 /// Appends the text of an instruction, at most 23 bytes, to a text of any capacity that has room for them.
-#[tactic(auto, unfolding(crate::specs::Text::text_of))]
+#[tactic(auto, unfolding(crate::specs::Text::text_of), using(crate::proofs::Short::short))]
 fn put_text<const N: usize>(op: Op, out: &mut ArrayString<N>)
     requires { array_string_len out.old + 23 ≤ N }
     ensures bytes { out.new.bytes ≡ out.old.bytes ++ text_of op }

@@ -18,9 +18,7 @@ pub fn z(cpu: &Cpu) -> u16
 // Pushes the address `words` on.
 #[inline]
 fn push_return<B: Bus>(words: u16, cpu: &mut Cpu, bus: &mut B) -> Result<(), StopCause>
-    ensures result { result ≡ (pushes_return B.put_gives words cpu.old bus.old).result }
-    ensures core { cpu.new ≡ (pushes_return B.put_gives words cpu.old bus.old).cpu }
-    ensures bus { bus.new ≡ (pushes_return B.put_gives words cpu.old bus.old).bus }
+    ensures { record { result = result; cpu = cpu.new; bus = bus.new } ≡ pushes_return B.put_gives words cpu.old bus.old }
 {
     let back = cpu.pc.wrapping_add(words);
     push_word(cpu, bus, back)
@@ -30,10 +28,7 @@ fn push_return<B: Bus>(words: u16, cpu: &mut Cpu, bus: &mut B) -> Result<(), Sto
 #[inline]
 #[tactic(auto, unfolding(crate::specs::Shapes::calls))]
 pub fn call<B: Bus>(k: u16, cpu: &mut Cpu, bus: &mut B) -> Result<Done, StopCause>
-    ensures result { result ≡ (calls B.put_gives 4 2 (λ _. k) cpu.old bus.old).result }
-    ensures core { cpu.new ≡ (calls B.put_gives 4 2 (λ _. k) cpu.old bus.old).cpu }
-    ensures bus { bus.new ≡ (calls B.put_gives 4 2 (λ _. k) cpu.old bus.old).bus }
-    ensures takes { IfOk result (λ d. 1 ≤ d.cycles) }
+    ensures { record { result = result; cpu = cpu.new; bus = bus.new } ≡ calls B.put_gives 4 2 (λ _. k) cpu.old bus.old }
 {
     push_return(2, cpu, bus)?;
     Ok(jump(4, k, cpu))
@@ -43,10 +38,7 @@ pub fn call<B: Bus>(k: u16, cpu: &mut Cpu, bus: &mut B) -> Result<Done, StopCaus
 #[inline]
 #[tactic(auto, unfolding(crate::specs::Shapes::calls))]
 pub fn call_near<B: Bus>(k: i16, cpu: &mut Cpu, bus: &mut B) -> Result<Done, StopCause>
-    ensures result { result ≡ (calls B.put_gives 3 1 (relative k) cpu.old bus.old).result }
-    ensures core { cpu.new ≡ (calls B.put_gives 3 1 (relative k) cpu.old bus.old).cpu }
-    ensures bus { bus.new ≡ (calls B.put_gives 3 1 (relative k) cpu.old bus.old).bus }
-    ensures takes { IfOk result (λ d. 1 ≤ d.cycles) }
+    ensures { record { result = result; cpu = cpu.new; bus = bus.new } ≡ calls B.put_gives 3 1 (relative k) cpu.old bus.old }
 {
     push_return(1, cpu, bus)?;
     Ok(jump(3, relative_to(k, cpu), cpu))
@@ -56,10 +48,7 @@ pub fn call_near<B: Bus>(k: i16, cpu: &mut Cpu, bus: &mut B) -> Result<Done, Sto
 #[inline]
 #[tactic(auto, unfolding(crate::specs::Shapes::calls))]
 pub fn call_at_z<B: Bus>(cpu: &mut Cpu, bus: &mut B) -> Result<Done, StopCause>
-    ensures result { result ≡ (calls B.put_gives 3 1 (pair_at 30) cpu.old bus.old).result }
-    ensures core { cpu.new ≡ (calls B.put_gives 3 1 (pair_at 30) cpu.old bus.old).cpu }
-    ensures bus { bus.new ≡ (calls B.put_gives 3 1 (pair_at 30) cpu.old bus.old).bus }
-    ensures takes { IfOk result (λ d. 1 ≤ d.cycles) }
+    ensures { record { result = result; cpu = cpu.new; bus = bus.new } ≡ calls B.put_gives 3 1 (pair_at 30) cpu.old bus.old }
 {
     push_return(1, cpu, bus)?;
     Ok(jump(3, z(cpu), cpu))
@@ -69,10 +58,7 @@ pub fn call_at_z<B: Bus>(cpu: &mut Cpu, bus: &mut B) -> Result<Done, StopCause>
 #[inline]
 #[tactic(auto, unfolding(crate::specs::Shapes::returns))]
 pub fn ret<B: Bus>(cpu: &mut Cpu, bus: &mut B) -> Result<Done, StopCause>
-    ensures result { result ≡ (returns B.get_gives cpu.old bus.old).result }
-    ensures core { cpu.new ≡ (returns B.get_gives cpu.old bus.old).cpu }
-    ensures bus { bus.new ≡ (returns B.get_gives cpu.old bus.old).bus }
-    ensures takes { IfOk result (λ d. 1 ≤ d.cycles) }
+    ensures { record { result = result; cpu = cpu.new; bus = bus.new } ≡ returns B.get_gives cpu.old bus.old }
 {
     let pc = pop_word(cpu, bus)?;
     Ok(jump(4, pc, cpu))
@@ -82,10 +68,7 @@ pub fn ret<B: Bus>(cpu: &mut Cpu, bus: &mut B) -> Result<Done, StopCause>
 #[inline]
 #[tactic(auto, unfolding(crate::specs::Shapes::returns_enabling))]
 pub fn reti<B: Bus>(cpu: &mut Cpu, bus: &mut B) -> Result<Done, StopCause>
-    ensures result { result ≡ (returns_enabling B.get_gives cpu.old bus.old).result }
-    ensures core { cpu.new ≡ (returns_enabling B.get_gives cpu.old bus.old).cpu }
-    ensures bus { bus.new ≡ (returns_enabling B.get_gives cpu.old bus.old).bus }
-    ensures takes { IfOk result (λ d. 1 ≤ d.cycles) }
+    ensures { record { result = result; cpu = cpu.new; bus = bus.new } ≡ returns_enabling B.get_gives cpu.old bus.old }
 {
     let pc = pop_word(cpu, bus)?;
     cpu.sreg = cpu.sreg.with(Sreg::I, true);

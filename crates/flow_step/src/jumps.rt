@@ -41,8 +41,7 @@ pub fn bit(on: bool, b: u8, byte: u8) -> bool
 
 #[inline]
 pub fn jump(cycles: u8, pc: u16, cpu: &mut Cpu) -> Done
-    ensures core { cpu.new ≡ (jumped cycles pc cpu.old).1 }
-    ensures reported { result ≡ (jumped cycles pc cpu.old).0 }
+    ensures { (result, cpu.new) ≡ jumped cycles pc cpu.old }
 {
     cpu.pc = pc;
     took(cycles)
@@ -51,9 +50,7 @@ pub fn jump(cycles: u8, pc: u16, cpu: &mut Cpu) -> Done
 #[inline]
 #[tactic(auto, unfolding(crate::specs::Shapes::branched))]
 pub fn branch(on: bool, k: i16, cpu: &mut Cpu) -> Done
-    ensures core { cpu.new ≡ (branched on k cpu.old).1 }
-    ensures reported { result ≡ (branched on k cpu.old).0 }
-    ensures takes { 1 ≤ result.cycles }
+    ensures { (result, cpu.new) ≡ branched on k cpu.old }
 {
     if on {
         let pc = relative_to(k, cpu);
@@ -67,8 +64,7 @@ pub fn branch(on: bool, k: i16, cpu: &mut Cpu) -> Done
 #[inline]
 #[tactic(auto, unfolding(crate::specs::Shapes::skipping))]
 fn words_on(on: bool, flash: &Flash, cpu: &Cpu) -> u8
-    ensures words { result ≡ skipping flash.now.bytes on cpu.now }
-    ensures some { 1 ≤ result }
+    ensures { result ≡ skipping flash.now.bytes on cpu.now }
 {
     if on {
         1 + width(flash.word(cpu.pc.wrapping_add(1)))
@@ -79,9 +75,7 @@ fn words_on(on: bool, flash: &Flash, cpu: &Cpu) -> u8
 
 #[inline]
 pub fn skip(on: bool, flash: &Flash, cpu: &mut Cpu) -> Done
-    ensures core { cpu.new ≡ (skipped flash.now.bytes on cpu.old).1 }
-    ensures reported { result ≡ (skipped flash.now.bytes on cpu.old).0 }
-    ensures takes { 1 ≤ result.cycles }
+    ensures { (result, cpu.new) ≡ skipped flash.now.bytes on cpu.old }
 {
     let words = words_on(on, flash, cpu);
     cpu.advance(u16::from(words));
@@ -100,10 +94,7 @@ pub fn skip_by_io<B: Bus>(
     bus: &mut B,
 ) -> Result<Done, StopCause>
     requires { b < 8 }
-    ensures result { result ≡ (skips_by_io B.get_gives flash.now.bytes a b on cpu.old bus.old).result }
-    ensures core { cpu.new ≡ (skips_by_io B.get_gives flash.now.bytes a b on cpu.old bus.old).cpu }
-    ensures bus { bus.new ≡ (skips_by_io B.get_gives flash.now.bytes a b on cpu.old bus.old).bus }
-    ensures takes { IfOk result (λ d. 1 ≤ d.cycles) }
+    ensures { record { result = result; cpu = cpu.new; bus = bus.new } ≡ skips_by_io B.get_gives flash.now.bytes a b on cpu.old bus.old }
 {
     let byte = load(cpu, bus, IO_START + u16::from(a))?;
     Ok(skip(bit(on, b, byte), flash, cpu))

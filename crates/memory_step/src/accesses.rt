@@ -55,11 +55,7 @@ pub fn load_at<B: Bus>(
     cpu: &mut Cpu,
     bus: &mut B,
 ) -> Result<Done, StopCause>
-    requires { 1 ≤ cycles }
-    ensures result { result ≡ (loads B.get_gives d at words cycles cpu.old bus.old).result }
-    ensures core { cpu.new ≡ (loads B.get_gives d at words cycles cpu.old bus.old).cpu }
-    ensures bus { bus.new ≡ (loads B.get_gives d at words cycles cpu.old bus.old).bus }
-    ensures takes { IfOk result (λ d. 1 ≤ d.cycles) }
+    ensures { record { result = result; cpu = cpu.new; bus = bus.new } ≡ loads B.get_gives d at words cycles cpu.old bus.old }
 {
     let byte = load(cpu, bus, at)?;
     cpu.set_reg(d, byte);
@@ -75,10 +71,7 @@ pub fn load_post_increment<B: Bus>(
     cpu: &mut Cpu,
     bus: &mut B,
 ) -> Result<Done, StopCause>
-    ensures result { result ≡ (loads_post_increment B.get_gives d p cpu.old bus.old).result }
-    ensures core { cpu.new ≡ (loads_post_increment B.get_gives d p cpu.old bus.old).cpu }
-    ensures bus { bus.new ≡ (loads_post_increment B.get_gives d p cpu.old bus.old).bus }
-    ensures takes { IfOk result (λ d. 1 ≤ d.cycles) }
+    ensures { record { result = result; cpu = cpu.new; bus = bus.new } ≡ loads_post_increment B.get_gives d p cpu.old bus.old }
 {
     let at = cpu.pair(p);
     let next = displaced(p, 1, cpu);
@@ -97,10 +90,7 @@ pub fn load_pre_decrement<B: Bus>(
     cpu: &mut Cpu,
     bus: &mut B,
 ) -> Result<Done, StopCause>
-    ensures result { result ≡ (loads_pre_decrement B.get_gives d p cpu.old bus.old).result }
-    ensures core { cpu.new ≡ (loads_pre_decrement B.get_gives d p cpu.old bus.old).cpu }
-    ensures bus { bus.new ≡ (loads_pre_decrement B.get_gives d p cpu.old bus.old).bus }
-    ensures takes { IfOk result (λ d. 1 ≤ d.cycles) }
+    ensures { record { result = result; cpu = cpu.new; bus = bus.new } ≡ loads_pre_decrement B.get_gives d p cpu.old bus.old }
 {
     let as_it_was = *cpu;
     let at = decremented(p, cpu);
@@ -128,11 +118,7 @@ pub fn store_at<B: Bus>(
     cpu: &mut Cpu,
     bus: &mut B,
 ) -> Result<Done, StopCause>
-    requires { 1 ≤ cycles }
-    ensures result { result ≡ (stores B.put_gives at byte words cycles cpu.old bus.old).result }
-    ensures core { cpu.new ≡ (stores B.put_gives at byte words cycles cpu.old bus.old).cpu }
-    ensures bus { bus.new ≡ (stores B.put_gives at byte words cycles cpu.old bus.old).bus }
-    ensures takes { IfOk result (λ d. 1 ≤ d.cycles) }
+    ensures { record { result = result; cpu = cpu.new; bus = bus.new } ≡ stores B.put_gives at byte words cycles cpu.old bus.old }
 {
     store(cpu, bus, at, byte)?;
     Ok(end(words, cycles, cpu))
@@ -147,10 +133,7 @@ pub fn store_post_increment<B: Bus>(
     cpu: &mut Cpu,
     bus: &mut B,
 ) -> Result<Done, StopCause>
-    ensures result { result ≡ (stores_post_increment B.put_gives p r cpu.old bus.old).result }
-    ensures core { cpu.new ≡ (stores_post_increment B.put_gives p r cpu.old bus.old).cpu }
-    ensures bus { bus.new ≡ (stores_post_increment B.put_gives p r cpu.old bus.old).bus }
-    ensures takes { IfOk result (λ d. 1 ≤ d.cycles) }
+    ensures { record { result = result; cpu = cpu.new; bus = bus.new } ≡ stores_post_increment B.put_gives p r cpu.old bus.old }
 {
     let at = cpu.pair(p);
     let next = displaced(p, 1, cpu);
@@ -169,10 +152,7 @@ pub fn store_pre_decrement<B: Bus>(
     cpu: &mut Cpu,
     bus: &mut B,
 ) -> Result<Done, StopCause>
-    ensures result { result ≡ (stores_pre_decrement B.put_gives p r cpu.old bus.old).result }
-    ensures core { cpu.new ≡ (stores_pre_decrement B.put_gives p r cpu.old bus.old).cpu }
-    ensures bus { bus.new ≡ (stores_pre_decrement B.put_gives p r cpu.old bus.old).bus }
-    ensures takes { IfOk result (λ d. 1 ≤ d.cycles) }
+    ensures { record { result = result; cpu = cpu.new; bus = bus.new } ≡ stores_pre_decrement B.put_gives p r cpu.old bus.old }
 {
     let as_it_was = *cpu;
     let at = decremented(p, cpu);
@@ -191,10 +171,7 @@ pub fn store_pre_decrement<B: Bus>(
 #[inline]
 #[tactic(auto, unfolding(crate::specs::Shapes::pushes))]
 pub fn push_reg<B: Bus>(r: Reg, cpu: &mut Cpu, bus: &mut B) -> Result<Done, StopCause>
-    ensures result { result ≡ (pushes B.put_gives r cpu.old bus.old).result }
-    ensures core { cpu.new ≡ (pushes B.put_gives r cpu.old bus.old).cpu }
-    ensures bus { bus.new ≡ (pushes B.put_gives r cpu.old bus.old).bus }
-    ensures takes { IfOk result (λ d. 1 ≤ d.cycles) }
+    ensures { record { result = result; cpu = cpu.new; bus = bus.new } ≡ pushes B.put_gives r cpu.old bus.old }
 {
     let byte = cpu.reg(r);
     push(cpu, bus, byte)?;
@@ -205,10 +182,7 @@ pub fn push_reg<B: Bus>(r: Reg, cpu: &mut Cpu, bus: &mut B) -> Result<Done, Stop
 #[inline]
 #[tactic(auto, unfolding(crate::specs::Shapes::pops))]
 pub fn pop_reg<B: Bus>(d: Reg, cpu: &mut Cpu, bus: &mut B) -> Result<Done, StopCause>
-    ensures result { result ≡ (pops B.get_gives d cpu.old bus.old).result }
-    ensures core { cpu.new ≡ (pops B.get_gives d cpu.old bus.old).cpu }
-    ensures bus { bus.new ≡ (pops B.get_gives d cpu.old bus.old).bus }
-    ensures takes { IfOk result (λ d. 1 ≤ d.cycles) }
+    ensures { record { result = result; cpu = cpu.new; bus = bus.new } ≡ pops B.get_gives d cpu.old bus.old }
 {
     let byte = pop(cpu, bus)?;
     cpu.set_reg(d, byte);
@@ -226,10 +200,7 @@ pub fn set_bit<B: Bus>(
     bus: &mut B,
 ) -> Result<Done, StopCause>
     requires { b < 8 }
-    ensures result { result ≡ (sets_bit B.get_gives B.put_gives a b on cpu.old bus.old).result }
-    ensures core { cpu.new ≡ (sets_bit B.get_gives B.put_gives a b on cpu.old bus.old).cpu }
-    ensures bus { bus.new ≡ (sets_bit B.get_gives B.put_gives a b on cpu.old bus.old).bus }
-    ensures takes { IfOk result (λ d. 1 ≤ d.cycles) }
+    ensures { record { result = result; cpu = cpu.new; bus = bus.new } ≡ sets_bit B.get_gives B.put_gives a b on cpu.old bus.old }
 {
     let byte = Sreg {
         bits: load(cpu, bus, io(a))?,
