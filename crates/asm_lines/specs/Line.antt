@@ -1,5 +1,5 @@
 -- What a line of an assembler's source says by itself.
-use Rattle.std.specs.Prelude.{ℕ, ◌-◌, ◌+◌, ◌==◌, ◌&&◌, not, Bool, true, if◌then◌else◌, List, [], ◌∷◌, length, take, drop, slice_index, position, is_some, Option, Some, None}
+use Rattle.std.specs.Prelude.{ℕ, ◌-◌, ◌+◌, ◌==◌, ◌&&◌, not, if◌then◌else◌, List, length, take, drop, slice_index, position, is_some, Option, Some, None}
 use Rattle.std.specs.List.{list_all}
 use Rattle.asm_lines.specs.Text.{is_blank, is_printed, is_label, trim_start, body_of, address_of}
 use Rattle.asm_lines.specs.declared.line.Operands.{Operands}

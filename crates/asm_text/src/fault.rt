@@ -1,63 +1,60 @@
-// What can be wrong with a source.
+// What can be wrong with a source, in one line by itself and in the whole.
 ghost use Rattle.std.specs.Prelude.{◌≡◌, ◌≤◌, length};
 ghost use Rattle.asm_text.specs.Fault.{at_line, fault_line, fault_name};
 ghost use Rattle.asm_text.specs.declared.fault.AsmFault.TheVariants.{NoMemory};
 
 use std::alloc::AllocError;
+use std::fmt;
 use thiserror::Error;
 
-/// Why a source was refused. Lines count from 1. The first line with a fault other than `OutOfReach` decides, and on it
-/// the first fault in this order; where there is none, the first line with `OutOfReach`.
-#[derive(Clone, Copy, Debug, PartialEq, Eq, Error)]
-pub enum AsmFault {
+/// What can be wrong with a line.
+#[derive(Clone, Copy, Debug)]
+pub enum LineFault {
     /// A byte other than a tab, a space and the visible ASCII characters, or a `:` in a line that is no `LABEL:`.
-    #[error("line {line}: not a line")]
-    NotALine {
-        /// The line, from 1.
-        line: usize,
-    },
+    NotALine,
     /// The mnemonic is none.
-    #[error("line {line}: unknown mnemonic")]
-    UnknownMnemonic {
-        /// The line, from 1.
-        line: usize,
-    },
+    UnknownMnemonic,
     /// The operands have no form of the mnemonic, a register or a number cannot stand there, or the manual leaves the
     /// result undefined.
-    #[error("line {line}: operands that the mnemonic does not have")]
-    BadOperand {
-        /// The line, from 1.
-        line: usize,
-    },
+    BadOperand,
     /// The address that the line names is not its own.
-    #[error("line {line}: not the address of this line")]
-    BadAddress {
-        /// The line, from 1.
-        line: usize,
-    },
+    BadAddress,
     /// An earlier line has the label.
-    #[error("line {line}: a label that an earlier line has")]
-    TwiceLabelled {
-        /// The line, from 1.
-        line: usize,
-    },
+    TwiceLabelled,
     /// No line has the label that is used.
-    #[error("line {line}: no line has the label")]
-    NoLabel {
-        /// The line, from 1.
-        line: usize,
-    },
+    NoLabel,
     /// The last word of the line would stand past word address 0xFFFF.
-    #[error("line {line}: past the end of the flash")]
-    PastFlash {
-        /// The line, from 1.
-        line: usize,
-    },
+    PastFlash,
     /// A relative target at an odd number of bytes or too far away, or a `jmp` or `call` to a label at word 65,536.
-    #[error("line {line}: target out of reach")]
-    OutOfReach {
+    OutOfReach,
+}
+
+impl fmt::Display for LineFault {
+    fn fmt<W: fmt::Write>(&self, f: &mut fmt::Formatter<W>) -> Result<(), fmt::Error> {
+        f.write_str(match self {
+            LineFault::NotALine => "not a line",
+            LineFault::UnknownMnemonic => "unknown mnemonic",
+            LineFault::BadOperand => "operands that the mnemonic does not have",
+            LineFault::BadAddress => "not the address of this line",
+            LineFault::TwiceLabelled => "a label that an earlier line has",
+            LineFault::NoLabel => "no line has the label",
+            LineFault::PastFlash => "past the end of the flash",
+            LineFault::OutOfReach => "target out of reach",
+        })
+    }
+}
+
+/// Why a source was refused. The first line with a fault other than `OutOfReach` decides, and on it the first fault in the order
+/// of `LineFault`; where there is none, the first line with `OutOfReach`.
+#[derive(Clone, Copy, Debug, Error)]
+pub enum AsmFault {
+    /// A line is faulty.
+    #[error("line {line}: {fault}")]
+    AtLine {
         /// The line, from 1.
         line: usize,
+        /// What is wrong with it.
+        fault: LineFault,
     },
     /// An allocation was refused.
     #[error("out of memory")]
@@ -79,14 +76,16 @@ impl AsmFault {
         ensures short { length result.now ≤ 15 }
     {
         match self {
-            AsmFault::NotALine { .. } => "NotALine",
-            AsmFault::UnknownMnemonic { .. } => "UnknownMnemonic",
-            AsmFault::BadOperand { .. } => "BadOperand",
-            AsmFault::BadAddress { .. } => "BadAddress",
-            AsmFault::TwiceLabelled { .. } => "TwiceLabelled",
-            AsmFault::NoLabel { .. } => "NoLabel",
-            AsmFault::PastFlash { .. } => "PastFlash",
-            AsmFault::OutOfReach { .. } => "OutOfReach",
+            AsmFault::AtLine { fault, .. } => match fault {
+                LineFault::NotALine => "NotALine",
+                LineFault::UnknownMnemonic => "UnknownMnemonic",
+                LineFault::BadOperand => "BadOperand",
+                LineFault::BadAddress => "BadAddress",
+                LineFault::TwiceLabelled => "TwiceLabelled",
+                LineFault::NoLabel => "NoLabel",
+                LineFault::PastFlash => "PastFlash",
+                LineFault::OutOfReach => "OutOfReach",
+            },
             AsmFault::NoMemory => "NoMemory",
         }
     }
@@ -96,46 +95,17 @@ impl AsmFault {
         ensures { result ≡ fault_line self.now }
     {
         match self {
-            AsmFault::NotALine { line }
-            | AsmFault::UnknownMnemonic { line }
-            | AsmFault::BadOperand { line }
-            | AsmFault::BadAddress { line }
-            | AsmFault::TwiceLabelled { line }
-            | AsmFault::NoLabel { line }
-            | AsmFault::PastFlash { line }
-            | AsmFault::OutOfReach { line } => Some(*line),
+            AsmFault::AtLine { line, .. } => Some(*line),
             AsmFault::NoMemory => None,
         }
     }
 }
 
-/// What can be wrong with a line.
-#[derive(Clone, Copy, Debug, PartialEq, Eq)]
-pub enum LineFault {
-    NotALine,
-    UnknownMnemonic,
-    BadOperand,
-    BadAddress,
-    TwiceLabelled,
-    NoLabel,
-    PastFlash,
-    OutOfReach,
-}
-
 impl LineFault {
     /// The fault of a source that has this one on a line, from 1.
-    pub fn at(self, line: usize) -> AsmFault
+    pub(super) fn at(self, line: usize) -> AsmFault
         ensures { result ≡ at_line self line }
     {
-        match self {
-            LineFault::NotALine => AsmFault::NotALine { line },
-            LineFault::UnknownMnemonic => AsmFault::UnknownMnemonic { line },
-            LineFault::BadOperand => AsmFault::BadOperand { line },
-            LineFault::BadAddress => AsmFault::BadAddress { line },
-            LineFault::TwiceLabelled => AsmFault::TwiceLabelled { line },
-            LineFault::NoLabel => AsmFault::NoLabel { line },
-            LineFault::PastFlash => AsmFault::PastFlash { line },
-            LineFault::OutOfReach => AsmFault::OutOfReach { line },
-        }
+        AsmFault::AtLine { line, fault: self }
     }
 }

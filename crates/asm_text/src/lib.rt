@@ -8,4 +8,4 @@ mod program;
 mod source;
 
 pub use assembly::assemble;
-pub use fault::AsmFault;
+pub use fault::{AsmFault, LineFault};

@@ -1,2 +1,4 @@
 pub mod Added
 pub mod Aliases
+pub mod Digits
+pub mod Tables

@@ -1,6 +1,7 @@
 pub mod Number
 pub mod Fields
 pub mod Opcodes
+pub mod Table
 pub mod Labels
 pub mod Target
 pub mod Encoded

@@ -4,6 +4,21 @@ ghost use Rattle.asm_words.specs.Fields.{register_bits, number_bits, pointer, fl
 
 use crate::form::{NumberField, RegisterField};
 use crate::number::number;
+use crate::table::find;
+
+static POINTERS: [(&str, u16); 9] = [
+    ("X", 0x100C),
+    ("X+", 0x100D),
+    ("-X", 0x100E),
+    ("Y", 0x0008),
+    ("Y+", 0x1009),
+    ("-Y", 0x100A),
+    ("Z", 0x0000),
+    ("Z+", 0x1001),
+    ("-Z", 0x1002),
+];
+
+static FLASH_POINTERS: [(&str, u16); 2] = [("Z", 0), ("Z+", 1)];
 
 /// The bits of register `n`, 0 to 31, where the field can have it.
 #[tactic(auto, unfolding(crate::specs::Fields::register_bits))]
@@ -112,34 +127,17 @@ pub fn number_bits(field: NumberField, n: u32) -> Option<u16>
 }
 
 /// The bits of a pointer of LD and ST; Y and Z are Y+0 and Z+0.
-#[tactic(auto, unfolding(crate::specs::Fields::pointer))]
 pub fn pointer(text: &[u8]) -> Option<u16>
     ensures { result ≡ pointer text.now }
 {
-    match text {
-        b"X" => Some(0x100C),
-        b"X+" => Some(0x100D),
-        b"-X" => Some(0x100E),
-        b"Y" => Some(0x0008),
-        b"Y+" => Some(0x1009),
-        b"-Y" => Some(0x100A),
-        b"Z" => Some(0x0000),
-        b"Z+" => Some(0x1001),
-        b"-Z" => Some(0x1002),
-        _ => None,
-    }
+    find(&POINTERS, text)
 }
 
 /// The bits of a pointer of LPM and ELPM.
-#[tactic(auto, unfolding(crate::specs::Fields::flash_pointer))]
 pub fn flash_pointer(text: &[u8]) -> Option<u16>
     ensures { result ≡ flash_pointer text.now }
 {
-    match text {
-        b"Z" => Some(0),
-        b"Z+" => Some(1),
-        _ => None,
-    }
+    find(&FLASH_POINTERS, text)
 }
 
 // The bits of Y or Z, by its letter.

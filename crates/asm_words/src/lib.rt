@@ -10,6 +10,7 @@ mod law;
 mod number;
 mod opcodes;
 mod operand;
+mod table;
 mod target;
 
 pub use instruction::{Piece, WordFault, encode};

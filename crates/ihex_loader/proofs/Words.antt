@@ -1,6 +1,7 @@
 -- Words as bytes, and what is behind them.
-use Rattle.std.proofs.Common.{◌≡◌, ℕ, zero, suc, ◌+◌, ◌-◌, ◌*◌, ◌/◌, ◌%◌, ◌<◌, false, List, [], ◌∷◌, length, get_or, refl, ap, ◌∙◌, arith}
-use Rattle.std.proofs.lemmas.List.{get_or-replicate, get_or_append_left}
+use Rattle.std.proofs.Common.{◌≡◌, ℕ, zero, suc, ◌+◌, ◌-◌, ◌*◌, ◌/◌, ◌%◌, ◌<◌, false, List, [], ◌∷◌, ◌++◌, length, take, get_or, refl, ap, ◌∙◌, arith}
+use Rattle.std.proofs.lemmas.List.{get_or-replicate, get_or_append_left, take_more}
+use Rattle.std.proofs.lemmas.List.Concat.{flat_map-append}
 use Rattle.ihex_loader.specs.Flash.{Image, bytes_of_words, padded, word_at, image_of_words}
 use Rattle.ihex_loader.specs.Pass.{Stands}
 use Rattle.ihex_loader.proofs.Lines.{Stands_nothing}
@@ -8,6 +9,15 @@ use Rattle.ihex_loader.proofs.Lines.{Stands_nothing}
 pub length-bytes_of_words : (words : List ℕ) → length (bytes_of_words words) ≡ 2 * length words
 length-bytes_of_words [] = refl
 length-bytes_of_words (w ∷ ws) = let e = length-bytes_of_words ws in omega (arith, e)
+
+-- the bytes of one word more, as the code makes them
+high_fits : (w : ℕ) → w < 65536 → w / 256 ≡ w / 256 % 256
+high_fits w h = omega (arith, h)
+
+pub bytes_more : (words : List ℕ) (i : ℕ) → i < length words → get_or words i 0 < 65536 → bytes_of_words (take (i + 1) words) ≡ bytes_of_words (take i words) ++ get_or words i 0 % 256 ∷ get_or words i 0 / 256 % 256 ∷ []
+bytes_more words i h fits =
+    ap bytes_of_words (take_more words i 0 h) ∙ flat_map-append (λ (w : ℕ). w % 256 ∷ w / 256 ∷ []) (take i words) (get_or words i 0 ∷ [])
+    ∙ ap (λ (b : ℕ). bytes_of_words (take i words) ++ get_or words i 0 % 256 ∷ b ∷ []) (high_fits (get_or words i 0) fits)
 
 -- the bytes of a word in its place
 pub low_byte : (words : List ℕ) (pc : ℕ) → get_or (bytes_of_words words) (2 * pc) 0 ≡ get_or words pc 0 % 256

@@ -1,55 +1,55 @@
 // What can be wrong with an image, of one line by itself and of a whole file.
 ghost use Rattle.std.specs.Prelude.{◌≡◌, ◌≤◌, length};
-ghost use Rattle.ihex_loader.specs.Fault.{at_line, fault_name, fault_line};
+ghost use Rattle.ihex_loader.specs.Fault.{fault_name, fault_line};
 ghost use Rattle.ihex_loader.specs.declared.fault.HexFault.TheVariants.{NoMemory};
 
 use std::alloc::AllocError;
+use std::fmt;
 use thiserror::Error;
 
-/// Why an image was refused. Lines count from 1, and the first faulty line decides.
-#[derive(Clone, Copy, Debug, PartialEq, Eq, Error)]
-pub enum HexFault {
+/// What can be wrong with a line.
+#[derive(Clone, Copy, Debug)]
+pub enum LineFault {
     /// No leading colon, an odd number of digits, another character, or fewer than five pairs of digits.
-    #[error("line {line}: not a record")]
-    NotARecord {
-        /// The line, from 1.
-        line: usize,
-    },
+    NotARecord,
     /// The bytes of the record do not add up to 0 modulo 256.
-    #[error("line {line}: wrong check byte")]
-    BadSum {
-        /// The line, from 1.
-        line: usize,
-    },
+    BadSum,
     /// A record type above 05.
-    #[error("line {line}: unknown record type")]
-    BadType {
-        /// The line, from 1.
-        line: usize,
-    },
+    BadType,
     /// The count is not the number of data bytes, or not the one that the record type has.
-    #[error("line {line}: wrong count of bytes")]
-    BadLength {
-        /// The line, from 1.
-        line: usize,
-    },
+    BadLength,
     /// A data record that goes past the last offset, 0xFFFF.
-    #[error("line {line}: the data crosses the end of its segment")]
-    Crossing {
-        /// The line, from 1.
-        line: usize,
-    },
+    Crossing,
     /// A data record that goes past the last byte address of the flash, 0x1FFFF.
-    #[error("line {line}: the data goes past the flash")]
-    PastFlash {
-        /// The line, from 1.
-        line: usize,
-    },
+    PastFlash,
     /// A line that is not blank, after the end record.
-    #[error("line {line}: text after the end record")]
-    AfterEnd {
+    AfterEnd,
+}
+
+impl fmt::Display for LineFault {
+    fn fmt<W: fmt::Write>(&self, f: &mut fmt::Formatter<W>) -> Result<(), fmt::Error> {
+        f.write_str(match self {
+            LineFault::NotARecord => "not a record",
+            LineFault::BadSum => "wrong check byte",
+            LineFault::BadType => "unknown record type",
+            LineFault::BadLength => "wrong count of bytes",
+            LineFault::Crossing => "the data crosses the end of its segment",
+            LineFault::PastFlash => "the data goes past the flash",
+            LineFault::AfterEnd => "text after the end record",
+        })
+    }
+}
+
+/// Why an image was refused. The first faulty line decides.
+#[derive(Clone, Copy, Debug, Error)]
+pub enum HexFault {
+    /// A line is faulty.
+    #[error("line {line}: {fault}")]
+    AtLine {
         /// The line, from 1.
         line: usize,
+        /// What is wrong with it.
+        fault: LineFault,
     },
     /// No line is faulty, and none is an end record.
     #[error("no end record")]
@@ -74,13 +74,15 @@ impl HexFault {
         ensures short { length result.now ≤ 10 }
     {
         match self {
-            HexFault::NotARecord { .. } => "NotARecord",
-            HexFault::BadSum { .. } => "BadSum",
-            HexFault::BadType { .. } => "BadType",
-            HexFault::BadLength { .. } => "BadLength",
-            HexFault::Crossing { .. } => "Crossing",
-            HexFault::PastFlash { .. } => "PastFlash",
-            HexFault::AfterEnd { .. } => "AfterEnd",
+            HexFault::AtLine { fault, .. } => match fault {
+                LineFault::NotARecord => "NotARecord",
+                LineFault::BadSum => "BadSum",
+                LineFault::BadType => "BadType",
+                LineFault::BadLength => "BadLength",
+                LineFault::Crossing => "Crossing",
+                LineFault::PastFlash => "PastFlash",
+                LineFault::AfterEnd => "AfterEnd",
+            },
             HexFault::NoEnd => "NoEnd",
             HexFault::NoMemory => "NoMemory",
         }
@@ -91,43 +93,8 @@ impl HexFault {
         ensures { result ≡ fault_line self.now }
     {
         match self {
-            HexFault::NotARecord { line }
-            | HexFault::BadSum { line }
-            | HexFault::BadType { line }
-            | HexFault::BadLength { line }
-            | HexFault::Crossing { line }
-            | HexFault::PastFlash { line }
-            | HexFault::AfterEnd { line } => Some(*line),
+            HexFault::AtLine { line, .. } => Some(*line),
             HexFault::NoEnd | HexFault::NoMemory => None,
-        }
-    }
-}
-
-/// What can be wrong with a line.
-#[derive(Clone, Copy)]
-pub enum LineFault {
-    NotARecord,
-    BadSum,
-    BadType,
-    BadLength,
-    Crossing,
-    PastFlash,
-    AfterEnd,
-}
-
-impl LineFault {
-    /// The fault of a file that has this one on a line, from 1.
-    pub fn at(self, line: usize) -> HexFault
-        ensures { result ≡ at_line self line }
-    {
-        match self {
-            LineFault::NotARecord => HexFault::NotARecord { line },
-            LineFault::BadSum => HexFault::BadSum { line },
-            LineFault::BadType => HexFault::BadType { line },
-            LineFault::BadLength => HexFault::BadLength { line },
-            LineFault::Crossing => HexFault::Crossing { line },
-            LineFault::PastFlash => HexFault::PastFlash { line },
-            LineFault::AfterEnd => HexFault::AfterEnd { line },
         }
     }
 }

@@ -9,7 +9,7 @@ mod line;
 mod loader;
 mod record;
 
-pub use fault::HexFault;
+pub use fault::{HexFault, LineFault};
 pub use flash::{Flash, flash_of};
 pub use law::{accepted_image_is_determined, written_record_is_read};
 pub use loader::load;

@@ -106,7 +106,10 @@ impl Loader {
         };
         match self.take_parsed(&parsed) {
             Ok(()) => Ok(()),
-            Err(fault) => Err(fault.at(number)),
+            Err(fault) => Err(HexFault::AtLine {
+                line: number,
+                fault,
+            }),
         }
     }
 }
@@ -116,7 +119,7 @@ impl Loader {
 /// later byte replaces an earlier one; 01 ends the file; 02 sets the base to its word times 16, 04 to its word times
 /// 65,536; 03 and 05 have no effect. Bytes that are not given are 0xFF.
 ///
-/// The first faulty line decides, and on it the first that applies in the order of `HexFault`, but `AfterEnd` before
+/// The first faulty line decides, and on it the first that applies in the order of `LineFault`, but `AfterEnd` before
 /// all others. `NoEnd` comes where no line is faulty and none has type 01. `NoMemory` answers to want of memory.
 pub fn load(alloc: Global, bytes: &[u8]) -> Result<Flash, HexFault>
     ensures sound { OnOk result (hex_fault bytes.now ≡ None) }

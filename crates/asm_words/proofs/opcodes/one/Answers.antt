@@ -1,0 +1,9 @@
+use Rattle.std.proofs.Common.{ap, sym, ◌∙◌, option_map}
+use Rattle.asm_words.proofs.Tables.{one_form, one_is}
+use Rattle.asm_words.proofs.opcodes.one.Goals as goal
+
+pub returns-in-Some : goal.returns-in-Some
+returns-in-Some c = ap (option_map one_form) (sym c.in-Some.is ∙ c.find.ensures) ∙ one_is c.args.mnemonic.now
+
+pub returns-in-None : goal.returns-in-None
+returns-in-None c = ap (option_map one_form) (sym c.in-None.is ∙ c.find.ensures) ∙ one_is c.args.mnemonic.now
