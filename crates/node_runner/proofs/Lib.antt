@@ -1,3 +1,7 @@
 pub mod Sound
 pub mod Counts
 pub mod Events
+pub mod Advance
+pub mod Places
+pub mod Gathered
+pub mod Epoch

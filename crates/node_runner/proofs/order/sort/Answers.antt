@@ -1,7 +1,7 @@
 use Rattle.std.proofs.Common.{rules}
 use Rattle.std.proofs.lemmas.List.Sorted.{IsNonDecreasingBy-from_sort_by_key, answers_always}
 use Rattle.trace_rows.specs.declared.row.Row.{Row}
-use Rattle.epoch_rows.proofs.order.sort.Goals as goal
+use Rattle.node_runner.proofs.order.sort.Goals as goal
 
 pub returns-clause-sorted : goal.returns-clause-sorted
 returns-clause-sorted c = IsNonDecreasingBy-from_sort_by_key (λ (r : Row). r.cycle) _ c.in_ok-sort_by_key.ensures.sorted (λ a r q k. search rules)

@@ -10,10 +10,10 @@ use Rattle.node_core.specs.State.{NodeState}
 use Rattle.global_order.specs.Order.{Fleet, world_at, end_rows}
 use Rattle.node_runner.specs.Scenario.{ScenarioOf, IsScenario, fleet_of}
 use Rattle.node_runner.specs.Place.{Place, is_live, rows_of}
-use Rattle.epoch_rows.specs.Flight.{place_at, IsAt, IsTaken}
-use Rattle.epoch_rows.specs.Gather.{start_of, end_row_of}
-use Rattle.epoch_rows.specs.Run.{rows_upto}
-use Rattle.epoch_rows.proofs.Gathered.{gathered, ends_are, no_rows_yet}
+use Rattle.node_runner.specs.Flight.{place_at, IsAt, IsTaken}
+use Rattle.node_runner.specs.Gather.{start_of, end_row_of}
+use Rattle.node_runner.specs.Run.{rows_upto}
+use Rattle.node_runner.proofs.Gathered.{gathered, ends_are, no_rows_yet}
 
 differ : (a b : ℕ) → a ≢ b → (a == b) ≡ false
 differ a b e = grind (arith, nat_tests)

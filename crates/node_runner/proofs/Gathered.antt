@@ -20,9 +20,9 @@ use Rattle.global_order.proofs.Rows.{rows_merged, stopped_rows, stopped_state}
 use Rattle.node_runner.specs.Scenario.{ScenarioOf, IsScenario, fleet_of}
 use Rattle.node_runner.specs.Place.{Place, is_live, rows_of}
 use Rattle.node_runner.proofs.Sound.{sound}
-use Rattle.epoch_rows.specs.Flight.{place_at, IsAt, IsTaken}
-use Rattle.epoch_rows.specs.Gather.{end_row_of}
-use Rattle.epoch_rows.proofs.Places.{still_calm, still_over, home}
+use Rattle.node_runner.specs.Flight.{place_at, IsAt, IsTaken}
+use Rattle.node_runner.specs.Gather.{end_row_of}
+use Rattle.node_runner.proofs.Places.{still_calm, still_over, home}
 
 -- lists by number and lists of places
 module _ {X : Type 0} where

@@ -11,7 +11,7 @@ use Rattle.node_runner.specs.declared.runner.Event.TheVariants.{Ask, Sent, Turn,
 use Rattle.node_runner.specs.Scenario.{fleet_of}
 use Rattle.node_runner.specs.Place.{Place, HasEnded, is_live, state_at, noted_of, sends_passed}
 use Rattle.node_runner.specs.Event.{IsEvent}
-use Rattle.epoch_rows.specs.Flight.{IsAt, Advanced, rank}
+use Rattle.node_runner.specs.Flight.{IsAt, Advanced, rank}
 
 bit : (b : Bool) → cond b 1 0 ≤ 1
 bit true = omega arith

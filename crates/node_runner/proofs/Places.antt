@@ -9,7 +9,7 @@ use Rattle.node_core.proofs.Steady.{steady}
 use Rattle.global_order.specs.Order.{node_at}
 use Rattle.node_runner.specs.Scenario.{ScenarioOf, fleet_of}
 use Rattle.node_runner.specs.Place.{Place, is_live, state_at}
-use Rattle.epoch_rows.specs.Flight.{IsAt, IsTaken}
+use Rattle.node_runner.specs.Flight.{IsAt, IsTaken}
 
 -- what is not live: it stopped, or came to the end
 still_case : (a stopped : Bool) (c end : ℕ) → (a || (not stopped && nat_lt c end)) ≡ false → (stopped ≡ true) ⊎ (end ≤ c)

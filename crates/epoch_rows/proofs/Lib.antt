@@ -1,4 +1,0 @@
-pub mod Advance
-pub mod Places
-pub mod Gathered
-pub mod Epoch
