@@ -3,10 +3,10 @@ ghost use Rattle.std.specs.Prelude.{◌≤◌, ◌^◌};
 
 use crate::answers::Answer;
 use crate::numbers::{address, byte, cycle};
+use avr_base::Vector;
 use board_io::Board;
 use data_space::{Bus, Cpu, load, store};
 use device_clocks::TimerFlags;
-use avr_base::Vector;
 use usart_port::Inbox;
 use world_core::Heard;
 

@@ -1,11 +1,11 @@
 // The clocks and counters that the timers share, and which interrupt waits.
 use crate::answers::Answer;
 use crate::numbers::{byte, cycle, long, perhaps, short};
+use avr_base::{Lines, Vector, pending};
 use device_clocks::{
     any_bit, clocks_in, clocks_until, count_after, cycle_of_clock, earlier, flag_after, has_clock,
     stepped,
 };
-use avr_base::{Lines, Vector, pending};
 
 // The maximum, the top and the count of a counter.
 fn counter(max: &str, top: &str, count: &str) -> Option<(u16, u16, u16)> {

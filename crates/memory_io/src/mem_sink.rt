@@ -3,8 +3,8 @@ ghost use Rattle.std.specs.Prelude.{◌≡◌, ◌<◌, ◌≤◌, [], length, t
 ghost use Rattle.memory_io.specs.Bytes.{fails_on, share_of};
 ghost use Rattle.sim_io.specs.Outside.{Rose, extended};
 
-use sim_io::{Sink, SinkFault};
 use avr_base::NoMemory;
+use sim_io::{Sink, SinkFault};
 use std::alloc::Global;
 use std::marker::Model;
 

@@ -5,8 +5,7 @@ use arrayvec::ArrayString;
 use case_files::Failed;
 use memory_io::{MemSink, MemStore};
 use sim_io::{
-    DirStore, Name, ReadFault, Sink, SinkFault, StdSink, Store, make_room,
-    read_whole, write_all,
+    DirStore, Name, ReadFault, Sink, SinkFault, StdSink, Store, make_room, read_whole, write_all,
 };
 use std::alloc::Global;
 use std::fs::{self, Files};
