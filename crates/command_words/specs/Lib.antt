@@ -1,3 +1,4 @@
 pub mod Words
 pub mod Apps
+pub mod Table
 pub mod Split

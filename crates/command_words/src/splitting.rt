@@ -1,5 +1,5 @@
 // Splits the words of a command line.
-ghost use Rattle.std.specs.Prelude.{◌≡◌, IfOk, IfErr, IfSome, OnErr, Some, is_some, true, map, option_map};
+ghost use Rattle.std.specs.Prelude.{◌≡◌, IfOk, IfErr, IfSome, OnErr, is_some, true, map, option_map};
 ghost use Rattle.clap.specs.Words.{kind_of, subcommand_of, subcommand_rows_of};
 ghost use Rattle.command_words.specs.Apps.{the_app};
 ghost use Rattle.command_words.specs.Words.{IsInLimits, asked_by, shown};
@@ -18,25 +18,9 @@ fn matches_of<'w>(alloc: Global, words: &'w [&'w str]) -> Result<ArgMatches<'w>,
     ensures ok { IfOk result (λ m. subcommand_rows_of m ≡ subcommand_of the_app (map (λ w. w.now) words.entry.now)) }
     ensures err { IfErr result (λ e. kind_of e ≡ ErrorKind.OutOfMemory) }
 {
-    let command = match command(alloc) {
-        Ok(command) => command,
-        Err(e) => return Err(Error::from(e)),
-    };
-    command.try_get_matches_from(words)
-}
-
-// What accepted words ask for.
-fn split<'w>(alloc: Global, words: &'w [&'w str]) -> Result<Order<'w>, AllocError>
-    requires { is_some (asked_by (map (λ w. w.now) words.now)) ≡ true }
-    ensures { IfOk result (λ order. asked_by (map (λ w. w.now) words.entry.now) ≡ Some (shown order)) }
-{
-    let matches = match matches_of(alloc, words) {
-        Ok(matches) => matches,
-        Err(_) => return Err(AllocError),
-    };
-    match order_of(&matches) {
-        Some(order) => Ok(order),
-        None => unreachable!(),
+    match command(alloc) {
+        Ok(command) => command.try_get_matches_from(words),
+        Err(error) => Err(Error::from(error)),
     }
 }
 
@@ -50,8 +34,8 @@ pub fn read_words<'w>(alloc: Global, words: &'w [&'w str]) -> Result<Option<Orde
     if !is_accepted(words) {
         return Ok(None);
     }
-    match split(alloc, words) {
-        Ok(order) => Ok(Some(order)),
-        Err(error) => Err(error),
+    match matches_of(alloc, words) {
+        Ok(matches) => Ok(order_of(&matches)),
+        Err(_) => Err(AllocError),
     }
 }

@@ -1,5 +1,6 @@
 // Networks, and what is written of them.
-ghost use Rattle.std.specs.Prelude.{◌≡◌, ◌≤◌, ◌++◌, IfOk};
+ghost use Rattle.std.specs.Prelude.{◌≡◌, ◌≤◌, ◌++◌, IfOk, false};
+ghost use Rattle.node_runner.specs.Scenario.{IsScenario};
 ghost use Rattle.plain_commands.specs.Network.{lone_node, size_line};
 ghost use Rattle.plain_commands.specs.Plan.{SizeJob, TraceJob};
 ghost use Rattle.plain_commands.specs.Ends.{stream};
@@ -50,17 +51,16 @@ pub fn lone_node(alloc: Global, flash: Flash, cycles: u64) -> Result<Scenario, N
     Ok(Scenario::new(text, images))
 }
 
-/// Runs a network and writes its trace, the rows of each epoch before the next one is run.
-pub fn write_trace<'n, O: Sink>(
-    alloc: Global,
+// Writes the rows of each epoch of a run from its first on, before the next one is run.
+fn write_epochs<'n, O: Sink>(
     network: &Scenario,
+    run: &mut PlainRun,
     out: &mut O,
 ) -> Result<(), Trouble<'n>>
+    requires sound { IsScenario network.now }
+    requires first { run.old ≡ record { scenario = network.now; floor = 0; failed = false } }
     ensures { JobEnds (TraceJob network.now) (stream (O.taken out.old) (O.faults out.old)) (stream (O.taken out.new) (O.faults out.new)) result }
 {
-    let Ok(mut run) = PlainRun::new(alloc, network) else {
-        return Err(Trouble::NoMemory);
-    };
     while !run.done() {
         let Ok(rows) = run.epoch(network) else {
             return Err(Trouble::NoMemory);
@@ -71,6 +71,20 @@ pub fn write_trace<'n, O: Sink>(
         }
     }
     Ok(())
+}
+
+/// Runs a network and writes its trace, the rows of each epoch before the next one is run.
+pub fn write_trace<'n, O: Sink>(
+    alloc: Global,
+    network: &Scenario,
+    out: &mut O,
+) -> Result<(), Trouble<'n>>
+    ensures { JobEnds (TraceJob network.now) (stream (O.taken out.old) (O.faults out.old)) (stream (O.taken out.new) (O.faults out.new)) result }
+{
+    match PlainRun::new(alloc, network) {
+        Ok(mut run) => write_epochs(network, &mut run, out),
+        Err(_) => Err(Trouble::NoMemory),
+    }
 }
 
 // The line that says how large a network is.

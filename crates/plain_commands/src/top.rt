@@ -30,28 +30,17 @@ pub fn obey<'w, S: Store, O: Sink, E: Sink>(
         (stream (O.taken out.old) (O.faults out.old)) (stream (O.taken out.new) (O.faults out.new))
         (stream (E.taken err.old) (E.faults err.old)) (stream (E.taken err.new) (E.faults err.new)) result }
 {
-    match order {
-        Order::Node { file, cycles } => {
-            let outcome = node(alloc, file, cycles, store, out);
-            report(err, outcome)
-        }
+    let outcome = match order {
         // The same trace, for a caller that has no threads to give.
-        Order::Run { file } => run_plain(alloc, file, store, out, err),
-        Order::RunPlain { file } => run_plain(alloc, file, store, out, err),
-        Order::Check { file } => check(alloc, file, store, out, err),
-        Order::Disasm { file } => {
-            let outcome = disasm(alloc, file, store, out);
-            report(err, outcome)
-        }
-        Order::Asm { file } => {
-            let outcome = asm(alloc, file, store, out);
-            report(err, outcome)
-        }
-        Order::Make { number } => {
-            let outcome = write_sample(alloc, number, out);
-            report(err, outcome)
-        }
-    }
+        Order::Run { file } => return run_plain(alloc, file, store, out, err),
+        Order::RunPlain { file } => return run_plain(alloc, file, store, out, err),
+        Order::Check { file } => return check(alloc, file, store, out, err),
+        Order::Node { file, cycles } => node(alloc, file, cycles, store, out),
+        Order::Disasm { file } => disasm(alloc, file, store, out),
+        Order::Asm { file } => asm(alloc, file, store, out),
+        Order::Make { number } => write_sample(alloc, number, out),
+    };
+    report(err, outcome)
 }
 
 /// The order that the words ask for. Where they ask for none, or memory is short, `err` has the line that says so, and the answer is

@@ -6,11 +6,7 @@ use std::env::{self, Env};
 
 /// The words after the program's name; `None` where they cannot be had: for want of memory, or where one is no UTF-8.
 pub fn owned_words<R: Env + AllocGlobal>(rt: &R) -> Option<Vec<String>> {
-    let mut words = Vec::new(rt.alloc());
-    for word in env::args(rt).ok()?.skip(1) {
-        words.push(word).ok()?;
-    }
-    Some(words)
+    env::args(rt).ok()?.skip(1).collect(rt.alloc()).ok()
 }
 
 /// The words as the top call takes them: the same, in their order.

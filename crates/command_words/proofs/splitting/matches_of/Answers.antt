@@ -5,8 +5,8 @@ use Rattle.command_words.specs.Apps.{the_app}
 use Rattle.command_words.proofs.Splits.{accepted_taken}
 use Rattle.command_words.proofs.splitting.matches_of.Goals as goal
 
-pub returns-clause-err : goal.returns-clause-err
-returns-clause-err c =
+pub returns-in-Ok-clause-err : goal.returns-in-Ok-clause-err
+returns-in-Ok-clause-err c =
     let texts = map (λ w. w.now) c.args.words.now in
     let app : app_of c.in-Ok.command ≡ the_app = search (rules, c.in-Ok.ensures) in
     let is : takes (app_of c.in-Ok.command) texts ≡ true = ap (λ a. takes a texts) app ∙ accepted_taken texts c.requires in

@@ -1,16 +1,12 @@
 use Rattle.std.proofs.Common.{refl}
+use Rattle.command_words.specs.Words.{shown}
 use Rattle.plain_commands.specs.Plan.{Give, SampleJob, plan_of}
 use Rattle.plain_commands.specs.Reading.{Here}
+use Rattle.plain_commands.specs.Ends.{Ends, reads, stream}
 use Rattle.plain_commands.specs.Parts.{end_of}
 use Rattle.plain_commands.proofs.Endings.{ends_job}
+use Rattle.plain_commands.proofs.top.obey.Goals.{in-Node, in-Disasm, in-Asm, in-Make}
 use Rattle.plain_commands.proofs.top.obey.Goals as goal
-
-pub returns-in-Node-clause-called : goal.returns-in-Node-clause-called
-returns-in-Node-clause-called g c = record {
-  end = end_of c.node-outcome.result;
-  ends = rw c.in-Node.is c.node-outcome.ensures.ends;
-  reported = c.report.ensures;
-}
 
 pub returns-in-Run-clause-called : goal.returns-in-Run-clause-called
 unfolding plan_of
@@ -22,24 +18,19 @@ returns-in-RunPlain-clause-called g c = rw c.in-RunPlain.is c.run_plain-in-RunPl
 pub returns-in-Check-clause-called : goal.returns-in-Check-clause-called
 returns-in-Check-clause-called g c = rw c.in-Check.is c.check.ensures.called
 
-pub returns-in-Disasm-clause-called : goal.returns-in-Disasm-clause-called
-returns-in-Disasm-clause-called g c = record {
-  end = end_of c.disasm-outcome.result;
-  ends = rw c.in-Disasm.is c.disasm-outcome.ensures.ends;
-  reported = c.report-in-Disasm.ensures;
-}
-
-pub returns-in-Asm-clause-called : goal.returns-in-Asm-clause-called
-returns-in-Asm-clause-called g c = record {
-  end = end_of c.asm-outcome.result;
-  ends = rw c.in-Asm.is c.asm-outcome.ensures.ends;
-  reported = c.report-in-Asm.ensures;
-}
-
-pub returns-in-Make-clause-called : goal.returns-in-Make-clause-called
+pub returns-clause-called : goal.returns-clause-called
 unfolding plan_of
-returns-in-Make-clause-called g c = record {
-  end = end_of c.write_sample-outcome.result;
-  ends = rw c.in-Make.is (ends_job _ _ (SampleJob c.in-Make.number) _ _ _ _ c.write_sample-outcome.result (Here (Give (SampleJob c.in-Make.number))) refl c.write_sample-outcome.ensures);
-  reported = c.report-in-Make.ensures;
-}
+returns-clause-called g c =
+    let at = c.match-order in
+    let ends : Ends (g.S.Store.held c.args.store.now) (plan_of (shown c.args.order)) (reads (g.S.Store.faults c.args.store.now) (g.S.Store.failed c.args.store.now))
+    (reads (g.S.Store.faults at.store) (g.S.Store.failed at.store)) (stream (g.O.Sink.taken c.args.out.now) (g.O.Sink.faults c.args.out.now))
+    (stream (g.O.Sink.taken at.out) (g.O.Sink.faults at.out)) (end_of at.outcome) =
+    elim at.branch [
+      | in-Node w ↦ rw (w.in-Node.is, w.store-is, w.out-is, w.outcome-is) w.node-outcome.ensures.ends
+      | in-Disasm w ↦ rw (w.in-Disasm.is, w.store-is, w.out-is, w.outcome-is) w.disasm-outcome.ensures.ends
+      | in-Asm w ↦ rw (w.in-Asm.is, w.store-is, w.out-is, w.outcome-is) w.asm-outcome.ensures.ends
+      | in-Make w ↦
+          rw (w.in-Make.is, w.store-is, w.out-is, w.outcome-is)
+          (ends_job _ _ (SampleJob w.in-Make.number) _ _ _ _ w.write_sample-outcome.result (Here (Give (SampleJob w.in-Make.number))) refl w.write_sample-outcome.ensures)
+    ] in
+    record { end = end_of at.outcome; ends = ends; reported = c.report.ensures }
