@@ -41,10 +41,6 @@ reading app =
 abbrev pub the_app : App
 the_app = reading (simulating (without_first (new_app (codes "avrora"))))
 
--- where a command could be made, it is this one
-abbrev pub Makes : App → Result Command AllocError → Type 0
-Makes app made = IfOk made (λ c. app_of c ≡ app)
-
--- the same of a subcommand, none of whose words is global
+-- where a subcommand could be made, it is this one, and none of its words is global
 abbrev pub MakesLeaf : App → Result Command AllocError → Type 0
 MakesLeaf app made = IfOk made (λ c. (app_of c ≡ app) × ((out-Command c).has_globals ≡ false))
