@@ -25,10 +25,16 @@ TOP = os.path.dirname(os.path.realpath(__file__))
 # The folders of a crate that its proof and its code are made from.
 PARTS = ("src", "specs", "proofs")
 
-# How long a check is likely to take, beside its lines of code: so many lines for its start, and so many for each library
-# that the crate names, since code over many libraries is dearer. Fitted to the crates here; lines of proofs hardly count.
-LINES_OF_A_START = 170
-LINES_OF_A_LIBRARY = 30
+# How many processor seconds the check of each crate took when it was last measured, a line each; bench/seconds.py writes it.
+SECONDS = f"{TOP}/bench/seconds.txt"
+
+# How long the check of a crate that was not measured is likely to take: so many processor seconds for its start, for each
+# library that it names, for a line of code, and for a `?`, behind which all that lives is let go of. Fitted to the crates
+# here; lines of proofs hardly count.
+OF_A_START = 6.1
+OF_A_LIBRARY = 1.7
+OF_A_LINE = 0.058
+OF_A_QUESTION_MARK = 2.7
 
 # The most memory that a check here was seen to take, in bytes.
 MEMORY_OF_A_CHECK = 2_500_000_000
@@ -89,13 +95,14 @@ class Crate:
         with open(f"{self.folder}/{source}", "rb") as it:
             return it.read()
 
-    def work(self):
-        """How long its check is likely to take, in lines of code."""
-        lines = LINES_OF_A_START + LINES_OF_A_LIBRARY * len(self.uses)
+    def likely_seconds(self):
+        """How many processor seconds its check is likely to take, by its sources."""
+        seconds = OF_A_START + OF_A_LIBRARY * len(self.uses)
         for source in filter(lambda it: it.endswith(".rt"), self.sources()):
-            code = (line.strip() for line in self.text(source).splitlines())
-            lines += sum(1 for line in code if line and not line.startswith(b"//"))
-        return lines
+            stripped = (line.strip() for line in self.text(source).splitlines())
+            for code in (line for line in stripped if line and not line.startswith(b"//")):
+                seconds += OF_A_LINE + OF_A_QUESTION_MARK * code.count(b"?")
+        return seconds
 
 
 def crates_below(program):
@@ -151,7 +158,9 @@ class Room:
             elif os.path.lexists(path):
                 os.remove(path)
 
-    def keep(self, crate):
+    def keep(self, crate, seconds):
+        with open(f"{self.folder}/{crate.name}.seconds", "w", encoding="utf-8") as it:
+            it.write(f"{seconds:.0f}")
         with open(f"{self.folder}/{crate.name}.sum", "w", encoding="utf-8") as it:
             it.write(self.sums[crate.name])
         os.remove(self.log(crate))
@@ -185,6 +194,7 @@ class Check:
 
     def __init__(self, room, crate, copies):
         self.room, self.crate = room, crate
+        self.seconds = 0.0
         room.clear(crate)
         with open(room.log(crate), "wb") as said:
             self.process = self.start(room.check_words(crate, copies), said)
@@ -193,7 +203,13 @@ class Check:
         return subprocess.Popen(words, cwd=self.crate.folder, stdin=subprocess.DEVNULL, stdout=said, stderr=subprocess.STDOUT)
 
     def ended(self):
-        return self.process.poll() is not None
+        """Whether it ended. Then it is known how many processor seconds it took, with its copies."""
+        if self.process.returncode is None:
+            pid, status, used = os.wait4(self.process.pid, os.WNOHANG)
+            if pid:
+                self.process.returncode = os.waitstatus_to_exitcode(status)
+                self.seconds = used.ru_utime + used.ru_stime
+        return self.process.returncode is not None
 
     def finish(self):
         """Keeps what an ended check proved, or says that it proved nothing."""
@@ -205,14 +221,24 @@ class Check:
             text = said.read()
         if not well or not re.search(r"^logic=proved ", text, re.M):
             raise NotProved(f"{self.crate.name} was not proved; {self.room.log(self.crate)} has all that was said of it", text)
-        self.room.keep(self.crate)
+        self.room.keep(self.crate, self.seconds)
+
+
+def measured_seconds():
+    """What bench/seconds.txt says; nothing where it is not there."""
+    try:
+        with open(SECONDS, encoding="utf-8") as it:
+            return {name: float(seconds) for name, seconds in map(str.split, it)}
+    except OSError:
+        return {}
 
 
 class Order:
     """In which order crates are proved, and by how many copies each."""
 
     def __init__(self, crates):
-        self.works = {it.name: it.work() for it in crates.values()}
+        measured = measured_seconds()
+        self.works = {it.name: measured.get(it.name) or it.likely_seconds() for it in crates.values()}
         self.above = {name: set() for name in crates}
         # the work from a crate up to the program: what it holds up
         self.ways = {}
