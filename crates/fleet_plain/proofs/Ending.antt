@@ -3,7 +3,7 @@ use Rattle.std.proofs.Common.{◌≡◌, ℕ, ◌+◌, ◌<◌, List, [], ◌∷
 use Rattle.std.proofs.lemmas.List.{take_more, map_push}
 use Rattle.trace_rows.specs.declared.row.Row.{Row}
 use Rattle.node_runner.specs.Place.{Place}
-use Rattle.epoch_rows.specs.Gather.{end_row_of}
+use Rattle.node_runner.specs.Gather.{end_row_of}
 
 pub ends_on : (ps : List Place) (i : ℕ) (p : Place) (r : Row) (rows new : List Row) → i < length ps → p ≡ get_or ps i p → rows ≡ map end_row_of (take i ps) → r ≡ end_row_of p → new ≡ rows ++ r ∷ [] → new ≡ map end_row_of (take (i + 1) ps)
 ends_on ps i p r rows new h is e last f =

@@ -9,10 +9,10 @@ use Rattle.node_runner.specs.Scenario.{ScenarioOf, IsScenario, fleet_of}
 use Rattle.node_runner.specs.Place.{Place, is_live, rows_of}
 use Rattle.world_core.specs.Kept.{is_kept, kept_room_of}
 use Rattle.send_log.specs.Chain.{LogFacts}
-use Rattle.epoch_rows.specs.Flight.{epoch}
-use Rattle.epoch_rows.specs.Gather.{end_row_of, taken}
-use Rattle.epoch_rows.specs.Run.{rows_upto}
-use Rattle.epoch_rows.proofs.Epoch.{next_rows as gathered_rows}
+use Rattle.node_runner.specs.Flight.{epoch}
+use Rattle.node_runner.specs.Gather.{end_row_of, taken}
+use Rattle.node_runner.specs.Run.{rows_upto}
+use Rattle.node_runner.proofs.Epoch.{next_rows as gathered_rows}
 use Rattle.fleet_plain.specs.Flight.{InFlight}
 use Rattle.fleet_plain.specs.Run.{IsResting}
 use Rattle.fleet_plain.proofs.Gathered.{cut, still_taken}

@@ -20,11 +20,11 @@ use Rattle.global_order.proofs.Rows.{stopped_count}
 use Rattle.node_runner.specs.Scenario.{ScenarioOf, IsScenario, fleet_of}
 use Rattle.node_runner.specs.Place.{Place, is_live, state_at, rows_of}
 use Rattle.node_runner.proofs.Sound.{sound, scenario_lawful}
-use Rattle.epoch_rows.specs.Flight.{place_at, IsAt, IsTaken}
+use Rattle.node_runner.specs.Flight.{place_at, IsAt, IsTaken}
 use Rattle.fleet_plain.specs.Flight.{InFlight}
-use Rattle.epoch_rows.specs.Gather.{taken, start_of}
+use Rattle.node_runner.specs.Gather.{taken, start_of}
 use Rattle.fleet_plain.specs.Gather.{AllStart}
-use Rattle.epoch_rows.proofs.Gathered.{over_at}
+use Rattle.node_runner.proofs.Gathered.{over_at}
 
 -- one turn of the loop over the runners
 pub record GathersOn (old items : List Place) (i : ℕ) (p q : Place) : Type 0 where

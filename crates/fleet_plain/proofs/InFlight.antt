@@ -31,8 +31,8 @@ use Rattle.global_order.proofs.Rows.{stopped_count}
 use Rattle.node_runner.specs.Scenario.{ScenarioOf, IsScenario, fleet_of}
 use Rattle.node_runner.specs.Place.{Place, is_live, state_at, sends_passed}
 use Rattle.node_runner.proofs.Sound.{sound, scenario_lawful}
-use Rattle.epoch_rows.specs.Flight.{epoch, place_at, IsAt, IsTaken, Advanced, PostsNothing, PostsOne, rank}
-use Rattle.epoch_rows.proofs.Places.{still_over, live_taken, bool_cases, home, away}
+use Rattle.node_runner.specs.Flight.{epoch, place_at, IsAt, IsTaken, Advanced, PostsNothing, PostsOne, rank}
+use Rattle.node_runner.proofs.Places.{still_over, live_taken, bool_cases, home, away}
 use Rattle.fleet_plain.specs.Flight.{InFlight, HearsRight, CanPost}
 
 linked_of : (a b : Bool) → (a && b) ≡ true → a ≡ true

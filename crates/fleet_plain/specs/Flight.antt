@@ -11,7 +11,7 @@ use Rattle.send_log.specs.Chain.{LogFacts}
 use Rattle.global_order.specs.Order.{facts_of}
 use Rattle.node_runner.specs.Scenario.{ScenarioOf, fleet_of}
 use Rattle.node_runner.specs.Place.{Place, is_live, sends_passed}
-use Rattle.epoch_rows.specs.Flight.{place_at, IsAt, IsTaken}
+use Rattle.node_runner.specs.Flight.{place_at, IsAt, IsTaken}
 
 -- All runners, and the record of the sends that can still be heard from the cycle `floor` on: of each node the sends below its cycle
 -- are posted.

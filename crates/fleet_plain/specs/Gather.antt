@@ -2,8 +2,8 @@
 use Rattle.std.specs.Prelude.{◌≡◌, ℕ, ◌<◌, List, length}
 use Rattle.node_runner.specs.Scenario.{ScenarioOf}
 use Rattle.node_runner.specs.Place.{Place}
-use Rattle.epoch_rows.specs.Flight.{place_at}
-use Rattle.epoch_rows.specs.Gather.{start_of}
+use Rattle.node_runner.specs.Flight.{place_at}
+use Rattle.node_runner.specs.Gather.{start_of}
 
 -- the first n runners, each at reset
 pub record AllStart (sc : ScenarioOf) (n : ℕ) (ps : List Place) : Type 0 where

@@ -5,8 +5,8 @@ use Rattle.world_core.specs.Kept.{kept_room_of}
 use Rattle.send_log.specs.Chain.{LogFacts}
 use Rattle.node_runner.specs.Scenario.{ScenarioOf, IsScenario}
 use Rattle.node_runner.specs.Place.{Place, is_live}
-use Rattle.epoch_rows.specs.Flight.{epoch}
-use Rattle.epoch_rows.specs.Run.{RunAt}
+use Rattle.node_runner.specs.Flight.{epoch}
+use Rattle.node_runner.specs.Run.{RunAt}
 use Rattle.fleet_plain.specs.Flight.{InFlight}
 
 -- all nodes have come to the floor, or stopped before

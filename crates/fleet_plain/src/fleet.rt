@@ -5,7 +5,7 @@ ghost use Rattle.world_core.specs.Topology.{IsInside};
 ghost use Rattle.world_core.specs.Kept.{kept_room_of};
 ghost use Rattle.node_runner.specs.Place.{is_live};
 ghost use Rattle.node_runner.specs.Scenario.{IsScenario};
-ghost use Rattle.epoch_rows.specs.Flight.{epoch, IsAt, Advanced};
+ghost use Rattle.node_runner.specs.Flight.{epoch, IsAt, Advanced};
 ghost use Rattle.fleet_plain.specs.Flight.{InFlight, HearsRight, CanPost, IsBehind};
 
 use avr_base::NoMemory;

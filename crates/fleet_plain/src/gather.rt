@@ -2,7 +2,7 @@
 ghost use Rattle.std.specs.Prelude.{◌≡◌, map, IfOk, OnOk, true, false, [], if◌then◌else◌};
 ghost use Rattle.std.specs.List.{All, flat_map};
 ghost use Rattle.node_runner.specs.Place.{rows_of, HasEnded};
-ghost use Rattle.epoch_rows.specs.Gather.{taken, end_row_of};
+ghost use Rattle.node_runner.specs.Gather.{taken, end_row_of};
 ghost use Rattle.fleet_plain.specs.Gather.{AllStart};
 
 use avr_base::NoMemory;

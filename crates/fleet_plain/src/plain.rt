@@ -3,14 +3,13 @@ ghost use Rattle.std.specs.Prelude.{◌≡◌, ◌<◌, ◌≤◌, ◌+◌, ◌+
 ghost use Rattle.world_core.specs.Kept.{kept_room_of};
 ghost use Rattle.global_order.specs.Order.{run_rows};
 ghost use Rattle.node_runner.specs.Scenario.{fleet_of, IsScenario};
-ghost use Rattle.epoch_rows.specs.Flight.{epoch};
-ghost use Rattle.epoch_rows.specs.Run.{rows_upto};
+ghost use Rattle.node_runner.specs.Flight.{epoch};
+ghost use Rattle.node_runner.specs.Run.{rows_upto};
 
 use crate::fleet::run_to;
 use crate::gather::{ends_at, gather, start};
 use avr_base::NoMemory;
-use epoch_rows::sort;
-use node_runner::{Runner, Scenario};
+use node_runner::{Runner, Scenario, sort};
 use send_log::SendLog;
 use std::alloc::Global;
 use std::marker::Model;
@@ -41,7 +40,7 @@ pub struct PlainRun {
 }
 
 impl Model for PlainRun {
-    ghost use Rattle.epoch_rows.specs.Run.{RunAt};
+    ghost use Rattle.node_runner.specs.Run.{RunAt};
     ghost use Rattle.fleet_plain.specs.Run.{IsRun};
 
     ghost Value = { RunAt };

@@ -11,11 +11,11 @@ use Rattle.trace_rows.specs.declared.row.Row.{Row}
 use Rattle.node_runner.specs.Scenario.{ScenarioOf, IsScenario, fleet_of}
 use Rattle.node_runner.specs.Place.{Place, is_live, state_at, rows_of}
 use Rattle.neighbour_sync.specs.NoSession.{no_table, no_world}
-use Rattle.epoch_rows.specs.Flight.{place_at, IsAt, IsTaken}
-use Rattle.epoch_rows.specs.Gather.{start_of, end_row_of}
-use Rattle.epoch_rows.specs.Run.{rows_upto}
-use Rattle.epoch_rows.proofs.Places.{still_calm, still_over}
-use Rattle.epoch_rows.proofs.Epoch.{next_rows as place_rows}
+use Rattle.node_runner.specs.Flight.{place_at, IsAt, IsTaken}
+use Rattle.node_runner.specs.Gather.{start_of, end_row_of}
+use Rattle.node_runner.specs.Run.{rows_upto}
+use Rattle.node_runner.proofs.Places.{still_calm, still_over}
+use Rattle.node_runner.proofs.Epoch.{next_rows as place_rows}
 use Rattle.fleet_threads.specs.declared.member.Member.{Member}
 use Rattle.fleet_threads.specs.Member.{IsPlaced, AreAtEnd}
 use Rattle.fleet_threads.specs.Ending.{rows_at, end_row_at, taken_at, HasEndedAt, IsCalm}

@@ -15,9 +15,9 @@ use Rattle.global_order.specs.Order.{facts_of, node_at}
 use Rattle.node_runner.specs.Scenario.{ScenarioOf, IsScenario, fleet_of}
 use Rattle.node_runner.specs.Place.{Place, is_live, state_at, sends_passed}
 use Rattle.neighbour_sync.specs.Parts.{AreParts}
-use Rattle.epoch_rows.specs.Flight.{IsAt, IsTaken}
-use Rattle.epoch_rows.specs.Gather.{start_of, taken}
-use Rattle.epoch_rows.proofs.Places.{still_calm, still_over}
+use Rattle.node_runner.specs.Flight.{IsAt, IsTaken}
+use Rattle.node_runner.specs.Gather.{start_of, taken}
+use Rattle.node_runner.proofs.Places.{still_calm, still_over}
 use Rattle.fleet_threads.specs.declared.member.Member.{Member}
 use Rattle.fleet_threads.specs.declared.parts.Parts.{Parts}
 use Rattle.fleet_threads.specs.Member.{IsEpoch, IsPlaced, IsUnderWay, IsBack, InOrder, AreAtEnd, numbers}

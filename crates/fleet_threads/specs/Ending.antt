@@ -2,7 +2,7 @@
 use Rattle.std.specs.Prelude.{◌≡◌, false, List}
 use Rattle.trace_rows.specs.declared.row.Row.{Row}
 use Rattle.node_runner.specs.Place.{rows_of, HasEnded}
-use Rattle.epoch_rows.specs.Gather.{taken, end_row_of}
+use Rattle.node_runner.specs.Gather.{taken, end_row_of}
 use Rattle.fleet_threads.specs.declared.member.Member.{Member}
 
 abbrev pub rows_at : Member → List Row

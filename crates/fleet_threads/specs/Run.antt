@@ -8,7 +8,7 @@ use Rattle.global_order.specs.Order.{facts_of}
 use Rattle.node_runner.specs.Scenario.{ScenarioOf, IsScenario, fleet_of}
 use Rattle.node_runner.specs.Place.{is_live}
 use Rattle.neighbour_sync.specs.Parts.{AreParts}
-use Rattle.epoch_rows.specs.Gather.{start_of}
+use Rattle.node_runner.specs.Gather.{start_of}
 use Rattle.fleet_threads.specs.declared.member.Member.{Member}
 use Rattle.fleet_threads.specs.declared.parts.Parts.{Parts}
 use Rattle.fleet_threads.specs.Member.{IsUnderWay, InOrder}

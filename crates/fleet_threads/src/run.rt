@@ -3,8 +3,8 @@ ghost use Rattle.std.specs.Prelude.{◌≡◌, ◌<◌, ◌≤◌, ◌+◌, ◌+
 ghost use Rattle.std.specs.List.{All};
 ghost use Rattle.global_order.specs.Order.{facts_of, run_rows};
 ghost use Rattle.node_runner.specs.Scenario.{fleet_of, IsScenario};
-ghost use Rattle.epoch_rows.specs.Flight.{epoch};
-ghost use Rattle.epoch_rows.specs.Run.{rows_upto};
+ghost use Rattle.node_runner.specs.Flight.{epoch};
+ghost use Rattle.node_runner.specs.Run.{rows_upto};
 ghost use Rattle.fleet_threads.specs.Member.{IsEpoch};
 ghost use Rattle.fleet_threads.specs.Run.{IsTied, IsFirst, air_of};
 
@@ -121,7 +121,7 @@ impl Drop for ThreadRun {
 }
 
 impl Model for ThreadRun {
-    ghost use Rattle.epoch_rows.specs.Run.{RunAt};
+    ghost use Rattle.node_runner.specs.Run.{RunAt};
     ghost use Rattle.fleet_threads.specs.Run.{IsRun, is_gone};
 
     ghost Value = { RunAt };
@@ -136,8 +136,8 @@ impl ThreadRun {
     ghost use Rattle.world_core.specs.Kept.{IsPostedTo};
     ghost use Rattle.global_order.specs.Order.{facts_of};
     ghost use Rattle.node_runner.specs.Scenario.{fleet_of, IsScenario};
-    ghost use Rattle.epoch_rows.specs.Flight.{epoch};
-    ghost use Rattle.epoch_rows.specs.Run.{RunAt, rows_upto};
+    ghost use Rattle.node_runner.specs.Flight.{epoch};
+    ghost use Rattle.node_runner.specs.Run.{RunAt, rows_upto};
 
     /// The run before its first epoch: all nodes at reset.
     pub fn new(alloc: Global, scenario: &Scenario) -> Result<ThreadRun, NoMemory>

@@ -12,8 +12,8 @@ use Rattle.world_core.specs.NodeKind.{ticked_rows}
 use Rattle.world_core.specs.Each.{each_below}
 use Rattle.global_order.specs.Order.{Fleet, world_after, world_at, hears, end_rows, run_rows}
 use Rattle.node_runner.specs.Scenario.{ScenarioOf, IsScenario, fleet_of}
-use Rattle.epoch_rows.specs.Run.{rows_upto}
-use Rattle.epoch_rows.proofs.Epoch.{first_rows}
+use Rattle.node_runner.specs.Run.{rows_upto}
+use Rattle.node_runner.proofs.Epoch.{first_rows}
 use Rattle.plain_commands.specs.Network.{trace_of}
 
 -- a list begins with another one

@@ -3,7 +3,7 @@ use Rattle.sim_io.specs.Outside.{Rose, TookFront, extended}
 use Rattle.trace_rows.specs.declared.row.Row.{Row}
 use Rattle.trace_writer.specs.Line.{rows_text}
 use Rattle.node_runner.specs.Scenario.{ScenarioOf}
-use Rattle.epoch_rows.specs.Run.{RunAt}
+use Rattle.node_runner.specs.Run.{RunAt}
 use Rattle.plain_commands.specs.Ends.{stream}
 use Rattle.plain_commands.specs.Plan.{output}
 use Rattle.plain_commands.proofs.Traces.{front_taken, front_failed, meets, rows_whole, taken_first, taken_next}

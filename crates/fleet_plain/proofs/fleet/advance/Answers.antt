@@ -2,7 +2,7 @@ use Rattle.std.proofs.Common.{◌≡◌, ◌-◌, ◌≤◌, min, sym, subst, ap
 use Rattle.world_core.specs.Topology.{Topology}
 use Rattle.send_log.specs.Chain.{LogFacts}
 use Rattle.node_runner.specs.Place.{Place}
-use Rattle.epoch_rows.proofs.Advance.{adv_answer, adv_turn, adv_ask, adv_ended, adv_sent}
+use Rattle.node_runner.proofs.Advance.{adv_answer, adv_turn, adv_ask, adv_ended, adv_sent}
 use Rattle.fleet_plain.proofs.fleet.advance.Goals as goal
 
 pub returns-then-asking-clause-step : goal.returns-then-asking-clause-step

@@ -1,6 +1,6 @@
 use Rattle.std.proofs.Common.{◌≡◌, ℕ, ◌<◌, ◌≤◌, true, false}
 use Rattle.node_runner.specs.Place.{Place, is_live}
-use Rattle.epoch_rows.specs.Flight.{place_at}
+use Rattle.node_runner.specs.Flight.{place_at}
 use Rattle.fleet_plain.proofs.fleet.behind.Given as goal
 
 abbrev pub invariant-loop-k : goal.invariant-loop-k

@@ -1,7 +1,7 @@
 use Rattle.std.proofs.Common.{ℕ, Some, List, sym, subst, ◌∙◌, arith}
 use Rattle.std.specs.declared.option.Option.{Option}
 use Rattle.node_runner.specs.Place.{Place}
-use Rattle.epoch_rows.specs.Flight.{Advanced}
+use Rattle.node_runner.specs.Flight.{Advanced}
 use Rattle.fleet_plain.specs.Flight.{HearsRight, CanPost, IsBehind}
 use Rattle.fleet_plain.proofs.InFlight.{hears_right, can_post, flight_on}
 use Rattle.fleet_plain.proofs.fleet.run_to.Goals as goal

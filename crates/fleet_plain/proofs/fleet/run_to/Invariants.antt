@@ -1,6 +1,6 @@
 use Rattle.std.proofs.Common.{◌≡◌}
 use Rattle.std.specs.List.{sum_by}
-use Rattle.epoch_rows.specs.Flight.{rank}
+use Rattle.node_runner.specs.Flight.{rank}
 use Rattle.fleet_plain.specs.Flight.{InFlight}
 use Rattle.fleet_plain.proofs.fleet.run_to.Given as goal
 

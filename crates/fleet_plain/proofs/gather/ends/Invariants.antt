@@ -1,5 +1,5 @@
 use Rattle.std.proofs.Common.{◌≡◌, map, take}
-use Rattle.epoch_rows.specs.Gather.{end_row_of}
+use Rattle.node_runner.specs.Gather.{end_row_of}
 use Rattle.fleet_plain.proofs.gather.ends.Given as goal
 
 abbrev pub invariant-loop-runner : goal.invariant-loop-runner

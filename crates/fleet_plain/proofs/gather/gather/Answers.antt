@@ -1,6 +1,6 @@
 use Rattle.std.proofs.Common.{◌≡◌, ℕ, ◌<◌, ◌++◌, false, List, length, get_or, refl, sym, subst, ap, ◌∙◌, arith}
 use Rattle.node_runner.specs.Place.{Place, rows_of}
-use Rattle.epoch_rows.specs.Gather.{taken}
+use Rattle.node_runner.specs.Gather.{taken}
 use Rattle.fleet_plain.proofs.Gathered.{gathers_on}
 use Rattle.fleet_plain.proofs.gather.gather.Goals as goal
 

@@ -1,7 +1,7 @@
 use Rattle.std.proofs.Common.{◌≡◌, ◌++◌, map, take, drop}
 use Rattle.std.specs.List.{flat_map}
 use Rattle.node_runner.specs.Place.{rows_of}
-use Rattle.epoch_rows.specs.Gather.{taken}
+use Rattle.node_runner.specs.Gather.{taken}
 use Rattle.fleet_plain.proofs.gather.gather.Given as goal
 
 abbrev pub invariant-loop-runner : goal.invariant-loop-runner

@@ -1,7 +1,7 @@
 use Rattle.std.proofs.Common.{sym, ap, ◌∙◌}
 use Rattle.node_runner.specs.Scenario.{fleet_of}
-use Rattle.epoch_rows.specs.Run.{RunAt, rows_upto}
-use Rattle.epoch_rows.proofs.Epoch.{first_rows}
+use Rattle.node_runner.specs.Run.{RunAt, rows_upto}
+use Rattle.node_runner.proofs.Epoch.{first_rows}
 use Rattle.fleet_plain.proofs.plain.run_plain.Goals as goal
 
 pub loop-rows-init : goal.loop-rows-init

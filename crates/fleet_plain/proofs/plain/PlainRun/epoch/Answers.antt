@@ -8,8 +8,8 @@ use Rattle.send_log.specs.Chain.{LogFacts, log_of}
 use Rattle.trace_rows.specs.declared.row.Row.{Row}
 use Rattle.node_runner.specs.Scenario.{ScenarioOf, fleet_of}
 use Rattle.node_runner.specs.Place.{Place}
-use Rattle.epoch_rows.specs.Gather.{end_row_of}
-use Rattle.epoch_rows.specs.Run.{RunAt, rows_upto}
+use Rattle.node_runner.specs.Gather.{end_row_of}
+use Rattle.node_runner.specs.Run.{RunAt, rows_upto}
 use Rattle.fleet_plain.specs.Run.{IsResting}
 use Rattle.fleet_plain.proofs.Epoch.{next_rests, next_rows}
 use Rattle.fleet_plain.proofs.plain.PlainRun.epoch.Goals as goal

@@ -1,6 +1,6 @@
 use Rattle.std.proofs.Common.{◌≡◌, ◌+◌, min, sym, subst, ap, ◌∙◌, arith}
 use Rattle.node_runner.specs.Scenario.{ScenarioOf}
-use Rattle.epoch_rows.specs.Run.{RunAt}
+use Rattle.node_runner.specs.Run.{RunAt}
 use Rattle.fleet_threads.specs.Run.{IsTied}
 use Rattle.fleet_threads.proofs.run.ThreadRun.epoch.Goals as goal
 
