@@ -62,23 +62,25 @@ all_rest t sc floor end ms back goes = λ k d lt.
     let g = goes k d lt in
     record { is = b.is; still = (b.over g).0; clock = (b.over g).1; goes = g }
 
-pub tied : (sc : ScenarioOf) (floor end : ℕ) (x : Parts) (c : ClocksFacts) (a b : AirRecord) (ms : List Member) (waits : List (ℕ × ℕ)) → IsTied sc floor floor x → AreParts x.air.table (facts_of (fleet_of sc)) x.air.floor c a
-    → b.table ≡ a.table → b.world ≡ a.world → IsPostedTo a.world end a.sent → b ≡ cut_at (with_loads a waits) end
-    → numbers ms ≡ numbers x.members.items → All (IsBack x.air.table (facts_of (fleet_of sc)) sc x.air.floor end) ms → All (λ m. m.halted ≡ false) ms
-    → AreParts b.table (facts_of (fleet_of sc)) end c b × IsPostedTo (facts_of (fleet_of sc)) end b.sent × InOrder sc.topo.nodes ms × All (IsResting b.table sc floor end) ms
-tied sc floor end x c a b ms waits was parts same_table same_world posted cut order back goes =
-    let table : b.table ≡ x.air.table = same_table ∙ parts.table in (
-      record {
+pub tied : (sc : ScenarioOf) (floor end : ℕ) (x y : Parts) (a : AirRecord) (waits : List (ℕ × ℕ)) → IsTied sc floor floor x → AreParts x.air.table (facts_of (fleet_of sc)) x.air.floor y.clocks a
+    → y.air.table ≡ a.table → y.air.world ≡ a.world → IsPostedTo a.world end a.sent → y.air ≡ cut_at (with_loads a waits) end
+    → numbers y.members.items ≡ numbers x.members.items → All (IsBack x.air.table (facts_of (fleet_of sc)) sc x.air.floor end) y.members.items → All (λ m. m.halted ≡ false) y.members.items
+    → IsTied sc floor end y
+tied sc floor end x y a waits was parts same_table same_world posted cut order back goes =
+    let ms : List Member = y.members.items in
+    let table : y.air.table ≡ x.air.table = same_table ∙ parts.table in
+    record {
+      parts = record {
         words = parts.words ∙ sym table;
         scene = parts.scene;
         table = refl;
         world = same_world ∙ parts.world;
         floor = ap (λ (r : AirRecord). r.floor) cut;
-      },
-      subst (λ (v : WorldFacts). IsPostedTo v end b.sent) parts.world (subst (IsPostedTo a.world end) (sym (ap (λ (r : AirRecord). r.sent) cut)) posted),
-      ordered sc.topo.nodes x.members.items ms was.order order,
-      subst (λ (z : TableId). All (IsResting z sc floor end) ms) (sym table) (subst (λ (n : ℕ). All (IsResting x.air.table sc n end) ms) was.parts.floor (all_rest x.air.table sc x.air.floor end ms back goes)),
-    )
+      };
+      posted = subst (λ (v : WorldFacts). IsPostedTo v end y.air.sent) parts.world (subst (IsPostedTo a.world end) (sym (ap (λ (r : AirRecord). r.sent) cut)) posted);
+      order = ordered sc.topo.nodes x.members.items ms was.order order;
+      rests = subst (λ (z : TableId). All (IsResting z sc floor end) ms) (sym table) (subst (λ (n : ℕ). All (IsResting x.air.table sc n end) ms) was.parts.floor (all_rest x.air.table sc x.air.floor end ms back goes));
+    }
 
 pub at_end : (sc : ScenarioOf) (floor end : ℕ) (x : Parts) → IsTied sc floor end x → AreAtEnd sc floor end x.members.items
 at_end sc floor end x t = record { order = t.order; placed = (λ k d lt. (t.rests k d lt).is.place); still = (λ k d lt. (t.rests k d lt).still) }

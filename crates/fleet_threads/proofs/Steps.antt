@@ -19,6 +19,8 @@ use Rattle.node_core.specs.Cycle.{node_kind}
 use Rattle.global_order.specs.Order.{Fleet, facts_of, node_at}
 use Rattle.global_order.proofs.Rows.{stopped_count}
 use Rattle.global_order.proofs.Steps.{asked}
+use Rattle.neighbour_sync.specs.declared.answers.Tried.{Tried}
+use Rattle.neighbour_sync.specs.declared.answers.Tried.TheVariants.{Heard, NotYet, Halted, NoMemory as NoAnswer}
 use Rattle.node_runner.specs.declared.runner.Event.TheVariants.{Ask, Sent, Turn, Ended, NoMemory}
 use Rattle.node_runner.specs.Scenario.{ScenarioOf, fleet_of}
 use Rattle.node_runner.specs.Place.{Place, is_live, state_at, noted_of, sends_passed}
@@ -28,6 +30,7 @@ use Rattle.node_runner.specs.Flight.{epoch, IsAt, Advanced}
 use Rattle.node_runner.proofs.Advance.{adv_answer, adv_turn, adv_ask, adv_ended, adv_sent, sent_early, noted_plain}
 use Rattle.node_runner.proofs.Places.{live_taken, still_over, home}
 use Rattle.fleet_threads.specs.declared.member.Member.{Member}
+use Rattle.fleet_threads.specs.Answers.{HasLooked, IsAnswered}
 use Rattle.fleet_threads.specs.Member.{IsPlaced, IsUnderWay, word_of}
 use Rattle.world_core.proofs.Ahead.{below_ahead}
 
@@ -42,6 +45,17 @@ below_case false d e l = omega arith
 either : (c d : ℕ) → Dec (d ≤ c) → (max c d ≡ c) ⊎ (max c d ≡ d)
 either c d (yes h) = inl (omega arith)
 either c d (no h) = inr (omega arith)
+
+-- the cycles of a turn, at most, by the cycle at which it begins
+pub turn_of : (end now cycle turn : ℕ) → cycle ≡ now → turn ≡ min (end - cycle) 1024 → turn ≡ min (end - now) 1024
+turn_of end now cycle turn e is = is ∙ ap (λ (n : ℕ). min (end - n) 1024) e
+
+-- whatever it is answered, a seat has looked at words
+pub has_looked : (w : WorldFacts) (a b : NodeFacts) (s : ℕ) (r : Tried) → IsAnswered w a s r b → HasLooked a b
+has_looked w a b s (Heard h) e = e.1
+has_looked w a b s (NotYet k c) e = e
+has_looked w a b s Halted e = e
+has_looked w a b s NoAnswer e = e
 
 -- the node whose sample is unanswered is live
 pub asking_live : (end : ℕ) (p : Place) → p.asking ≡ true → is_live end p ≡ true
@@ -119,6 +133,14 @@ module _ (t : TableId) (w : WorldFacts) (sc : ScenarioOf) (floor end : ℕ) (m :
     clock = clock;
     passed = subst (λ (q : Place). sends_below w.sends n.air.number n.air.clock ≤ sends_passed q) (sym r) (subst (λ (k : ℕ). sends_below w.sends k n.air.clock ≤ sends_passed m.runner) (sym num) passed);
   }
+
+  -- the seat has looked at words
+  pub looked : (n : Member) → n.runner ≡ m.runner → n.gap ≡ m.gap → HasLooked m.air n.air → IsUnderWay t w sc floor end n
+  looked n r gap l =
+      let clock = l.clock in
+      let told = l.told in
+      let inside = u.clock in
+      stays n r gap l.number l.table l.world (omega arith) (omega arith) (subst (λ (k : ℕ). sends_below w.sends m.air.number k ≤ sends_passed m.runner) (sym clock) u.passed)
 
   -- its word was raised, not past the end
   pub raised : (n : Member) (c : ℕ) → n.runner ≡ m.runner → n.gap ≡ m.gap → n.air ≡ node_raised m.air c → c ≤ end → sends_below w.sends m.air.number c ≤ sends_passed m.runner → IsUnderWay t w sc floor end n

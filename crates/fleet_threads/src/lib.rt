@@ -4,6 +4,7 @@
 #![tactic(auto)]
 
 mod ending;
+mod epoch_lists;
 mod gate;
 mod handed;
 mod member;

@@ -18,7 +18,6 @@ const WAKE_TURNS: u64 = 16;
 
 /// A node: its runner, its part of the air, the number of its next turn, and the least number of cycles from one of its sends
 /// to the next, which is the byte time.
-#[derive(Drop)]
 pub struct Member {
     pub runner: Runner,
     pub air: NodeAir,
@@ -26,6 +25,19 @@ pub struct Member {
     pub gap: u64,
     /// Whether it wanted memory, or another node did and told it to halt.
     pub halted: bool,
+}
+
+// By hand, so that an exit that lets go of a node has one call to prove, and not one for each list in it.
+impl Drop for Member {
+    fn drop(self) {
+        let Member {
+            runner: _,
+            air: _,
+            turn: _,
+            gap: _,
+            halted: _,
+        } = self;
+    }
 }
 
 /// What a node does at a sample while those that it hears are behind.
@@ -153,8 +165,7 @@ impl Member {
         match ask(rt, shared, sampling, &mut self.air, cycle) {
             Tried::Heard(heard) => self.runner.answer(heard),
             Tried::NotYet { .. } => {}
-            Tried::Halted => self.halt(shared, scenario, end),
-            Tried::NoMemory => self.halt(shared, scenario, end),
+            Tried::Halted | Tried::NoMemory => self.halt(shared, scenario, end),
         }
     }
 

@@ -1,13 +1,75 @@
 // A run between two epochs.
+use crate::epoch_lists::Lists;
+use crate::gate::Gate;
 use crate::member::Member;
+use crate::threads::run_all;
 use air_record::Air;
 use clock_words::Clocks;
+use neighbour_sync::{Session, Shared};
 use node_runner::Scenario;
+use std::sync::Wait;
+use std::thread::Threads;
 
 /// What goes from one epoch to the next: the clock words, the record, and the nodes in order.
-#[derive(Drop)]
 pub struct Parts {
     pub clocks: Clocks<Scenario>,
     pub air: Air,
     pub members: Vec<Member>,
+}
+
+// By hand, so that an exit that lets go of them has one call to prove, and not one for each list in them.
+impl Drop for Parts {
+    fn drop(self) {
+        let Parts {
+            clocks: _,
+            air: _,
+            members: _,
+        } = self;
+    }
+}
+
+impl Parts {
+    ghost use Rattle.std.specs.Prelude.{◌≡◌, ◌≤◌, [], vec_len, vec_capacity};
+    ghost use Rattle.std.specs.List.{All};
+    ghost use Rattle.neighbour_sync.specs.Parts.{AreParts};
+    ghost use Rattle.fleet_threads.specs.Member.{IsUnderWay, IsBack, numbers};
+
+    /// One epoch in a session of its own, which is made, used and taken apart.
+    pub fn in_session<N: Session + Send + Sync, R: Threads + Wait + Sync, G: Gate + Sync>(
+        self,
+        rt: &R,
+        gate: &G,
+        scenario: &Scenario,
+        end: u64,
+        lists: Lists,
+    ) -> Parts
+        requires parts { AreParts N.table N.world N.floor self.clocks self.air }
+        requires members { All (IsUnderWay N.table N.world scenario.now N.floor end) self.members.items }
+        requires waiting { (lists.waiting.items ≡ []) × (vec_len lists.waiting ≡ 0) × (vec_len self.members ≤ vec_capacity lists.waiting) }
+        requires done { (lists.done.items ≡ []) × (vec_len lists.done ≡ 0) × (vec_len self.members ≤ vec_capacity lists.done) }
+        ensures parts { AreParts N.table N.world N.floor result.clocks result.air }
+        ensures members { All (IsBack N.table N.world scenario.now N.floor end) result.members.items }
+        ensures numbers { numbers result.members.items ≡ numbers self.members.items }
+    {
+        let Parts {
+            clocks,
+            air,
+            members,
+        } = self;
+        let Lists {
+            waiting,
+            done,
+            refused,
+        } = lists;
+        let shared: Shared<Scenario, N> = Shared::new(clocks, air);
+        let members = run_all(
+            rt, &shared, gate, scenario, &refused, end, members, waiting, done,
+        );
+        let (clocks, air) = shared.into_parts();
+        Parts {
+            clocks,
+            air,
+            members,
+        }
+    }
 }

@@ -4,8 +4,8 @@ use Rattle.node_runner.specs.Run.{RunAt, rows_upto}
 use Rattle.node_runner.proofs.Epoch.{first_rows}
 use Rattle.fleet_threads.proofs.run.run_threads.Goals as goal
 
-pub loop-run-init : goal.loop-run-init
-loop-run-init g c =
+pub loop-rows-init : goal.loop-rows-init
+loop-rows-init g c =
     let e = c.in_ok-run.ensures.run in
     record {
       same = ap (λ (r : RunAt). r.scenario) e;

@@ -9,3 +9,7 @@ returns-clause-rest g c =
 
 pub returns-clause-numbers : goal.returns-clause-numbers
 returns-clause-numbers g c = popped c.args.waiting.now.items c.pop.new.self.items c.pop.result c.pop.ensures.items
+
+pub returns-clause-some : goal.returns-clause-some
+returns-clause-some g c =
+    (All-pop (IsBack g.N.Session.table g.N.Session.world c.args.scenario.now g.N.Session.floor c.args.end) c.args.waiting.now.items c.pop.new.self.items c.pop.result c.pop.ensures.items c.requires).1

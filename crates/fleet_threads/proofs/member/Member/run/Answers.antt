@@ -1,53 +1,53 @@
-use Rattle.std.proofs.Common.{◌≡◌, ◌-◌, min, refl, rules}
+use Rattle.std.proofs.Common.{◌≡◌, ◌-◌, min, refl}
 use Rattle.fleet_threads.specs.declared.member.Member.{Member}
-use Rattle.fleet_threads.proofs.Steps.{turned, asks, ended, sent, cut_off, ahead}
+use Rattle.fleet_threads.proofs.Steps.{turn_of, turned, asks, ended, sent, cut_off, ahead}
 use Rattle.fleet_threads.proofs.member.Member.run.Goals as goal
 
 pub look_ahead-requires-clause-none : goal.look_ahead-requires-clause-none
 look_ahead-requires-clause-none g c =
     let old : Member = c.args.self.now in
     let new : Member = record { runner = c.noted.new.self; air = c.post.new.self; turn = c.saturating_add-self.result; gap = old.gap; halted = old.halted } in
-    let few : c.min-quantum.result ≡ min (c.args.end - old.runner.cycle) 1024 = search rules in
+    let few : c.min-quantum.result ≡ min (c.args.end - old.runner.cycle) 1024 = turn_of c.args.end old.runner.cycle c.cycle.result c.min-quantum.result c.cycle.ensures.value c.min-quantum.ensures in
     ahead _ _ _ _ _ old c.requires.member c.requires.live _ c.requires.calm few _ _ c.in-Sent.ensures.event c.in-Sent.ensures.count new c.count-number.result _ c.count-number.ensures c.noted.ensures.place c.noted.ensures.count c.post.ensures.told c.post.ensures.same refl refl
 
 pub returns-in-Ask-clause-member : goal.returns-in-Ask-clause-member
 returns-in-Ask-clause-member g c =
     let old : Member = c.args.self.now in
     let new : Member = record { runner = c.event.new.self; air = old.air; turn = c.saturating_add-self.result; gap = old.gap; halted = old.halted } in
-    let few : c.min-quantum.result ≡ min (c.args.end - old.runner.cycle) 1024 = search rules in
+    let few : c.min-quantum.result ≡ min (c.args.end - old.runner.cycle) 1024 = turn_of c.args.end old.runner.cycle c.cycle.result c.min-quantum.result c.cycle.ensures.value c.min-quantum.ensures in
     (asks _ _ _ _ _ old c.requires.member c.requires.live _ c.requires.calm few new _ c.in-Ask.ensures.event c.in-Ask.ensures.count refl refl).0
 
 pub returns-in-Turn-clause-member : goal.returns-in-Turn-clause-member
 returns-in-Turn-clause-member g c =
     let old : Member = c.args.self.now in
     let new : Member = record { runner = c.event.new.self; air = old.air; turn = c.saturating_add-self.result; gap = old.gap; halted = old.halted } in
-    let few : c.min-quantum.result ≡ min (c.args.end - old.runner.cycle) 1024 = search rules in
+    let few : c.min-quantum.result ≡ min (c.args.end - old.runner.cycle) 1024 = turn_of c.args.end old.runner.cycle c.cycle.result c.min-quantum.result c.cycle.ensures.value c.min-quantum.ensures in
     (turned _ _ _ _ _ old c.requires.member c.requires.live _ c.requires.calm few new _ c.in-Turn.ensures.event c.in-Turn.ensures.count refl refl).0
 
 pub returns-else-self-eq0-clause-member : goal.returns-else-self-eq0-clause-member
 returns-else-self-eq0-clause-member g c =
     let old : Member = c.args.self.now in
     let new : Member = record { runner = c.event.new.self; air = old.air; turn = c.saturating_add-self.result; gap = old.gap; halted = old.halted } in
-    let few : c.min-quantum.result ≡ min (c.args.end - old.runner.cycle) 1024 = search rules in
+    let few : c.min-quantum.result ≡ min (c.args.end - old.runner.cycle) 1024 = turn_of c.args.end old.runner.cycle c.cycle.result c.min-quantum.result c.cycle.ensures.value c.min-quantum.ensures in
     (turned _ _ _ _ _ old c.requires.member c.requires.live _ c.requires.calm few new _ c.in-Turn.ensures.event c.in-Turn.ensures.count refl refl).0
 
 pub returns-in-Ended-clause-member : goal.returns-in-Ended-clause-member
 returns-in-Ended-clause-member g c =
     let old : Member = c.args.self.now in
     let new : Member = record { runner = c.event.new.self; air = old.air; turn = c.saturating_add-self.result; gap = old.gap; halted = old.halted } in
-    let few : c.min-quantum.result ≡ min (c.args.end - old.runner.cycle) 1024 = search rules in
+    let few : c.min-quantum.result ≡ min (c.args.end - old.runner.cycle) 1024 = turn_of c.args.end old.runner.cycle c.cycle.result c.min-quantum.result c.cycle.ensures.value c.min-quantum.ensures in
     (ended _ _ _ _ _ old c.requires.member c.requires.live _ c.requires.calm few new c.in-Ended.ensures.event c.in-Ended.ensures.count refl refl).0
 
 pub halt-requires : goal.halt-requires
 halt-requires g c =
     let old : Member = c.args.self.now in
     let new : Member = record { runner = c.event.new.self; air = old.air; turn = c.saturating_add-self.result; gap = old.gap; halted = old.halted } in
-    let few : c.min-quantum.result ≡ min (c.args.end - old.runner.cycle) 1024 = search rules in
+    let few : c.min-quantum.result ≡ min (c.args.end - old.runner.cycle) 1024 = turn_of c.args.end old.runner.cycle c.cycle.result c.min-quantum.result c.cycle.ensures.value c.min-quantum.ensures in
     (cut_off _ _ _ _ _ old c.requires.member c.requires.live _ c.requires.calm few new c.in-NoMemory.ensures.event c.in-NoMemory.ensures.count refl refl).0
 
 pub look_ahead-requires-clause-member : goal.look_ahead-requires-clause-member
 look_ahead-requires-clause-member g c =
     let old : Member = c.args.self.now in
     let new : Member = record { runner = c.noted.new.self; air = c.post.new.self; turn = c.saturating_add-self.result; gap = old.gap; halted = old.halted } in
-    let few : c.min-quantum.result ≡ min (c.args.end - old.runner.cycle) 1024 = search rules in
+    let few : c.min-quantum.result ≡ min (c.args.end - old.runner.cycle) 1024 = turn_of c.args.end old.runner.cycle c.cycle.result c.min-quantum.result c.cycle.ensures.value c.min-quantum.ensures in
     (sent _ _ _ _ _ old c.requires.member c.requires.live _ c.requires.calm few _ _ c.in-Sent.ensures.event c.in-Sent.ensures.count new c.count-number.result c.count-number.ensures c.noted.ensures.place c.noted.ensures.count c.post.ensures.told c.post.ensures.same refl).0

@@ -1,6 +1,7 @@
-use Rattle.std.proofs.Common.{◌≤◌, refl, arith}
+use Rattle.std.proofs.Common.{◌≤◌, refl, ap, arith}
+use Rattle.node_runner.specs.Place.{Place}
 use Rattle.fleet_threads.specs.declared.member.Member.{Member}
-use Rattle.fleet_threads.proofs.Steps.{asked_here, late, answered}
+use Rattle.fleet_threads.proofs.Steps.{asked_here, late, has_looked, looked, answered}
 use Rattle.fleet_threads.proofs.member.Member.sample.Goals as goal
 
 pub ask-requires-clause-asked : goal.ask-requires-clause-asked
@@ -17,3 +18,21 @@ returns-in-Heard-clause-member g c =
     let looked = c.in-Heard.ensures.1 in
     let new : Member = record { runner = c.answer.new.self; air = c.ask.new.air; turn = c.args.self.now.turn; gap = c.args.self.now.gap; halted = c.args.self.now.halted } in
     (answered _ _ _ _ _ c.args.self.now c.requires.member c.requires.asking new c.answer.ensures.place c.answer.ensures.count looked.number looked.table looked.world looked.told looked.clock refl).0
+
+pub returns-in-NotYet-clause-member : goal.returns-in-NotYet-clause-member
+returns-in-NotYet-clause-member g c =
+    let m : Member = c.args.self.now in
+    let new : Member = record { runner = m.runner; air = c.ask.new.air; turn = m.turn; gap = m.gap; halted = m.halted } in
+    looked _ _ _ _ _ m c.requires.member new refl refl (has_looked g.N.Session.world m.air c.ask.new.air c.cycle-cycle.result c.ask.result c.ask.ensures)
+
+pub halt-requires : goal.halt-requires
+halt-requires g c =
+    let m : Member = c.args.self.now in
+    let new : Member = record { runner = m.runner; air = c.ask.new.air; turn = m.turn; gap = m.gap; halted = m.halted } in
+    looked _ _ _ _ _ m c.requires.member new refl refl (has_looked g.N.Session.world m.air c.ask.new.air c.cycle-cycle.result c.ask.result c.ask.ensures)
+
+pub returns-in-Halted-clause-member : goal.returns-in-Halted-clause-member
+returns-in-Halted-clause-member g c = c.halt.ensures.member
+
+pub returns-in-Heard-clause-number : goal.returns-in-Heard-clause-number
+returns-in-Heard-clause-number g c = ap (λ (p : Place). p.number) c.answer.ensures.place

@@ -4,7 +4,7 @@ use Rattle.std.proofs.lemmas.List.{map_push}
 use Rattle.std.proofs.lemmas.List.Elements.{All-push}
 use Rattle.fleet_threads.specs.declared.member.Member.{Member}
 use Rattle.fleet_threads.specs.Run.{IsFirst, air_of}
-use Rattle.fleet_threads.proofs.run.first_members.Goals as goal
+use Rattle.fleet_threads.proofs.run.add_members.Goals as goal
 
 pub loop-air-preserved : goal.loop-air-preserved
 loop-air-preserved c =

@@ -1,7 +1,7 @@
 use Rattle.std.proofs.Common.{◌≡◌, map}
 use Rattle.std.specs.List.{All}
 use Rattle.fleet_threads.specs.Run.{IsFirst, air_of}
-use Rattle.fleet_threads.proofs.run.first_members.Given as goal
+use Rattle.fleet_threads.proofs.run.add_members.Given as goal
 
 abbrev pub invariant-loop-air : goal.invariant-loop-air
 invariant-loop-air l = record {
