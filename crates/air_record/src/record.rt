@@ -15,13 +15,25 @@ use world_core::{Ask, EPOCH, Heard, NoMemory, Sampled, Send, Topo, World};
 /// The record of the sends and samples of a world, with the air's seat. Whenever no call is at work on it, each recorded
 /// sample is what the one order of all cycles gives, and no send that is still to be posted can alter it.
 /// Its room is that of the sends of an epoch: it is cut at the end of each.
-#[derive(Drop)]
 pub struct Air {
     seat: AirSeat,
     topo: Topo,
     log: SendLog,
     samples: Vec<(Ask, Heard)>,
     floor: u64,
+}
+
+// By hand, so that an exit that lets go of one, here and in the crates above, has one call to prove.
+impl Drop for Air {
+    fn drop(self) {
+        let Air {
+            seat: _,
+            topo: _,
+            log: _,
+            samples: _,
+            floor: _,
+        } = self;
+    }
 }
 
 impl Model for Air {

@@ -10,10 +10,16 @@ use atomic_table::Seat;
 use std::marker::Model;
 
 /// The air's seat: whoever has it counts the posted sends, and what it loads of a clock may be relied on. There is one.
-#[derive(Drop)]
 pub struct AirSeat {
     pub(crate) seat: Seat<(), View>,
     pub(crate) sent: Vec<u64>,
+}
+
+// By hand, so that an exit that lets go of one, here and in the crates above, has one call to prove.
+impl Drop for AirSeat {
+    fn drop(self) {
+        let AirSeat { seat: _, sent: _ } = self;
+    }
 }
 
 impl Model for AirSeat {
@@ -28,12 +34,23 @@ impl Model for AirSeat {
 }
 
 /// The seat of one node: whoever has it raises the node's clock.
-#[derive(Drop)]
 pub struct NodeSeat {
     pub(crate) seat: Seat<(), View>,
     number: u8,
     pub(crate) clock: u64,
     pub(crate) told: u64,
+}
+
+// By hand, so that an exit that lets go of one, here and in the crates above, has one call to prove.
+impl Drop for NodeSeat {
+    fn drop(self) {
+        let NodeSeat {
+            seat: _,
+            number: _,
+            clock: _,
+            told: _,
+        } = self;
+    }
 }
 
 impl Model for NodeSeat {

@@ -11,10 +11,16 @@ use std::marker::Model;
 pub const FLASH_BYTES: usize = 131_072;
 
 /// The flash of a node: 131,072 bytes, and how far they were given. A contract sees it as its `Image`.
-#[derive(Drop)]
 pub struct Flash {
     bytes: Vec<u8>,
     used: u32,
+}
+
+// By hand, so that an exit that lets go of one, here and in the crates above, has one call to prove.
+impl Drop for Flash {
+    fn drop(self) {
+        let Flash { bytes: _, used: _ } = self;
+    }
 }
 
 impl Model for Flash {

@@ -33,10 +33,16 @@ fn pause<W: World, R: Wait>(
 }
 
 /// A node's part of the air: its seat at the clock words, and the topology, by which it sees for whom it has to wait.
-#[derive(Drop)]
 pub struct NodeAir {
     seat: NodeSeat,
     topo: Topo,
+}
+
+// By hand, so that an exit that lets go of one, here and in the crates above, has one call to prove.
+impl Drop for NodeAir {
+    fn drop(self) {
+        let NodeAir { seat: _, topo: _ } = self;
+    }
 }
 
 impl Model for NodeAir {

@@ -6,9 +6,15 @@ use std::alloc::Global;
 use std::marker::Model;
 
 /// An owned file name. A contract sees it as its bytes, in UTF-8.
-#[derive(Drop)]
 pub struct Name {
     text: String,
+}
+
+// By hand, so that an exit that lets go of one, here and in the crates above, has one call to prove.
+impl Drop for Name {
+    fn drop(self) {
+        let Name { text: _ } = self;
+    }
 }
 
 impl Model for Name {

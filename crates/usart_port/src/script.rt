@@ -7,11 +7,21 @@ use std::marker::Model;
 
 /// The bytes that arrive at a USART from outside: byte i in cycle `at + i * every`. A contract sees it as its
 /// `ScriptBytes`.
-#[derive(Drop)]
 pub struct Script {
     at: u64,
     every: u64,
     bytes: Vec<u8>,
+}
+
+// By hand, so that an exit that lets go of one, here and in the crates above, has one call to prove.
+impl Drop for Script {
+    fn drop(self) {
+        let Script {
+            at: _,
+            every: _,
+            bytes: _,
+        } = self;
+    }
 }
 
 impl Model for Script {
