@@ -28,9 +28,7 @@ pub fn compute(op: &Op, cpu: &mut Cpu) -> Done
 #[tactic(auto, unfolding(crate::specs::Execute::executed))]
 pub fn go_on(op: &Op, flash: &Flash, cpu: &mut Cpu, bus: &mut NodeBus) -> Result<Done, StopCause>
     requires { class_of op.now ≡ Flow }
-    ensures result { result ≡ (executed flash.now.bytes op.now cpu.old bus.old).result }
-    ensures cpu { cpu.new ≡ (executed flash.now.bytes op.now cpu.old bus.old).cpu }
-    ensures bus { bus.new ≡ (executed flash.now.bytes op.now cpu.old bus.old).bus }
+    ensures done { record { result = result; cpu = cpu.new; bus = bus.new } ≡ executed flash.now.bytes op.now cpu.old bus.old }
     ensures takes { IfOk result (λ d. 1 ≤ d.cycles) }
 {
     flow_step::exec(*op, flash, cpu, bus)
@@ -41,9 +39,7 @@ pub fn go_on(op: &Op, flash: &Flash, cpu: &mut Cpu, bus: &mut NodeBus) -> Result
 #[tactic(auto, unfolding(crate::specs::Execute::executed))]
 pub fn access(op: &Op, flash: &Flash, cpu: &mut Cpu, bus: &mut NodeBus) -> Result<Done, StopCause>
     requires { class_of op.now ≡ Memory }
-    ensures result { result ≡ (executed flash.now.bytes op.now cpu.old bus.old).result }
-    ensures cpu { cpu.new ≡ (executed flash.now.bytes op.now cpu.old bus.old).cpu }
-    ensures bus { bus.new ≡ (executed flash.now.bytes op.now cpu.old bus.old).bus }
+    ensures done { record { result = result; cpu = cpu.new; bus = bus.new } ≡ executed flash.now.bytes op.now cpu.old bus.old }
     ensures takes { IfOk result (λ d. 1 ≤ d.cycles) }
 {
     memory_step::exec(*op, flash, cpu, bus)

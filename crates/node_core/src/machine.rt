@@ -169,10 +169,7 @@ impl Machine {
         requires room { vec_len self.old.rows < vec_capacity self.old.rows }
         ensures state { shown self.new ≡ record (shown self.old) { stop = Some cause } }
         ensures rows { self.new.rows.items ≡ self.old.rows.items ++ row cycle (shown self.old) (kind.Stop pc cause) }
-        ensures used { vec_len self.new.rows ≤ vec_len self.old.rows + 1 }
         ensures room { vec_capacity self.new.rows ≡ vec_capacity self.old.rows }
-        ensures count { self.new.count ≡ self.old.count }
-        ensures script { self.new.script ≡ self.old.script }
         ensures clock { self.new.bus.board.clock ≡ self.old.bus.board.clock }
     {
         let node = self.number;
@@ -192,12 +189,9 @@ impl Machine {
         ensures awake { 0 < result → done.sleep ≡ false }
         ensures cycles { 0 < result → result ≡ done.cycles }
         ensures same { 0 < result → vec_len self.new.rows ≡ vec_len self.old.rows }
-        ensures used { vec_len self.new.rows ≤ vec_len self.old.rows + 1 }
         ensures room { vec_capacity self.new.rows ≡ vec_capacity self.old.rows }
         ensures wait { self.new.wait ≡ self.old.wait }
         ensures stop { self.new.stop ≡ self.old.stop }
-        ensures count { self.new.count ≡ self.old.count }
-        ensures script { self.new.script ≡ self.old.script }
         ensures clock { self.new.bus.board.clock ≡ self.old.bus.board.clock }
     {
         let told = is_within(self.from, self.to, cycle);
@@ -222,10 +216,7 @@ impl Machine {
         ensures rows { self.new.rows.items ≡ self.old.rows.items ++ row_within cycle (shown self.old) (kind.Instr pc (word_at self.old.program.bytes pc) (word_at self.old.program.bytes ((pc + 1) % 65536))) }
         ensures going { 0 < result → IsGoing result (shown self.new) }
         ensures same { 0 < result → vec_len self.new.rows ≡ vec_len self.old.rows }
-        ensures used { vec_len self.new.rows ≤ vec_len self.old.rows + 1 }
         ensures room { vec_capacity self.new.rows ≡ vec_capacity self.old.rows }
-        ensures count { self.new.count ≡ self.old.count + 1 }
-        ensures script { self.new.script ≡ self.old.script }
         ensures clock { self.new.bus.board.clock ≡ self.old.bus.board.clock }
     {
         self.wait = done.cycles - 1;
@@ -247,16 +238,12 @@ impl Machine {
         requires awake { self.old.asleep ≡ false }
         requires few { self.old.count ≤ 2 ^ 41 }
         requires now { self.old.bus.board.clock ≡ cycle }
-        requires early { cycle ≤ 2 ^ 40 }
         requires room { vec_len self.old.rows < vec_capacity self.old.rows }
         ensures state { shown self.new ≡ instructed cycle (shown self.old) }
         ensures rows { self.new.rows.items ≡ self.old.rows.items ++ instructed_rows cycle (shown self.old) }
         ensures going { 0 < result → IsGoing result (shown self.new) }
         ensures same { 0 < result → vec_len self.new.rows ≡ vec_len self.old.rows }
-        ensures used { vec_len self.new.rows ≤ vec_len self.old.rows + 1 }
         ensures room { vec_capacity self.new.rows ≡ vec_capacity self.old.rows }
-        ensures count { self.new.count ≤ self.old.count + 1 }
-        ensures script { self.new.script ≡ self.old.script }
         ensures clock { self.new.bus.board.clock ≡ self.old.bus.board.clock }
     {
         let pc = self.cpu.pc;
@@ -276,16 +263,12 @@ impl Machine {
         requires awake { self.old.asleep ≡ false }
         requires few { self.old.count ≤ 2 ^ 41 }
         requires now { self.old.bus.board.clock ≡ cycle }
-        requires early { cycle ≤ 2 ^ 40 }
         requires room { vec_len self.old.rows < vec_capacity self.old.rows }
         ensures state { shown self.new ≡ instructed cycle (shown self.old) }
         ensures rows { self.new.rows.items ≡ self.old.rows.items ++ instructed_rows cycle (shown self.old) }
         ensures going { 0 < result → IsGoing result (shown self.new) }
         ensures same { 0 < result → vec_len self.new.rows ≡ vec_len self.old.rows }
-        ensures used { vec_len self.new.rows ≤ vec_len self.old.rows + 1 }
         ensures room { vec_capacity self.new.rows ≡ vec_capacity self.old.rows }
-        ensures count { self.new.count ≤ self.old.count + 1 }
-        ensures script { self.new.script ≡ self.old.script }
         ensures clock { self.new.bus.board.clock ≡ self.old.bus.board.clock }
     {
         let pc = self.cpu.pc;
@@ -317,16 +300,12 @@ impl Machine {
         requires awake { self.old.asleep ≡ false }
         requires few { self.old.count ≤ 2 ^ 41 }
         requires now { self.old.bus.board.clock ≡ cycle }
-        requires early { cycle ≤ 2 ^ 40 }
         requires room { vec_len self.old.rows < vec_capacity self.old.rows }
         ensures state { shown self.new ≡ instructed cycle (shown self.old) }
         ensures rows { self.new.rows.items ≡ self.old.rows.items ++ instructed_rows cycle (shown self.old) }
         ensures going { 0 < result → IsGoing result (shown self.new) }
         ensures same { 0 < result → vec_len self.new.rows ≡ vec_len self.old.rows }
-        ensures used { vec_len self.new.rows ≤ vec_len self.old.rows + 1 }
         ensures room { vec_capacity self.new.rows ≡ vec_capacity self.old.rows }
-        ensures count { self.new.count ≤ self.old.count + 1 }
-        ensures script { self.new.script ≡ self.old.script }
         ensures clock { self.new.bus.board.clock ≡ self.old.bus.board.clock }
     {
         let pc = self.cpu.pc;
@@ -354,16 +333,12 @@ impl Machine {
         requires awake { self.old.asleep ≡ false }
         requires few { self.old.count ≤ 2 ^ 41 }
         requires now { self.old.bus.board.clock ≡ cycle }
-        requires early { cycle ≤ 2 ^ 40 }
         requires room { vec_len self.old.rows < vec_capacity self.old.rows }
         ensures state { shown self.new ≡ instructed cycle (shown self.old) }
         ensures rows { self.new.rows.items ≡ self.old.rows.items ++ instructed_rows cycle (shown self.old) }
         ensures going { 0 < result → IsGoing result (shown self.new) }
         ensures same { 0 < result → vec_len self.new.rows ≡ vec_len self.old.rows }
-        ensures used { vec_len self.new.rows ≤ vec_len self.old.rows + 1 }
         ensures room { vec_capacity self.new.rows ≡ vec_capacity self.old.rows }
-        ensures count { self.new.count ≤ self.old.count + 1 }
-        ensures script { self.new.script ≡ self.old.script }
         ensures clock { self.new.bus.board.clock ≡ self.old.bus.board.clock }
     {
         self.halt(cycle, self.cpu.pc, cause);
@@ -378,16 +353,12 @@ impl Machine {
         requires awake { self.old.asleep ≡ false }
         requires few { self.old.count ≤ 2 ^ 41 }
         requires now { self.old.bus.board.clock ≡ cycle }
-        requires early { cycle ≤ 2 ^ 40 }
         requires room { vec_len self.old.rows < vec_capacity self.old.rows }
         ensures state { shown self.new ≡ instructed cycle (shown self.old) }
         ensures rows { self.new.rows.items ≡ self.old.rows.items ++ instructed_rows cycle (shown self.old) }
         ensures going { 0 < result → IsGoing result (shown self.new) }
         ensures same { 0 < result → vec_len self.new.rows ≡ vec_len self.old.rows }
-        ensures used { vec_len self.new.rows ≤ vec_len self.old.rows + 1 }
         ensures room { vec_capacity self.new.rows ≡ vec_capacity self.old.rows }
-        ensures count { self.new.count ≤ self.old.count + 1 }
-        ensures script { self.new.script ≡ self.old.script }
         ensures clock { self.new.bus.board.clock ≡ self.old.bus.board.clock }
     {
         let op = self.program.op(self.cpu.pc);
@@ -406,16 +377,12 @@ impl Machine {
         requires short { wait ≤ 7 }
         requires going { self.old.stop ≡ None }
         requires now { self.old.bus.board.clock ≡ cycle }
-        requires early { cycle ≤ 2 ^ 40 }
         requires room { vec_len self.old.rows < vec_capacity self.old.rows }
         ensures state { shown self.new ≡ entered cycle wait vector (shown self.old) }
         ensures rows { self.new.rows.items ≡ self.old.rows.items ++ entered_rows cycle vector (shown self.old) }
         ensures going { 0 < result → IsGoing result (shown self.new) }
         ensures same { 0 < result → vec_len self.new.rows ≡ vec_len self.old.rows }
-        ensures used { vec_len self.new.rows ≤ vec_len self.old.rows + 1 }
         ensures room { vec_capacity self.new.rows ≡ vec_capacity self.old.rows }
-        ensures count { self.new.count ≡ self.old.count }
-        ensures script { self.new.script ≡ self.old.script }
         ensures clock { self.new.bus.board.clock ≡ self.old.bus.board.clock }
     {
         let back = self.cpu.pc;
@@ -475,16 +442,12 @@ impl Machine {
         requires going { self.old.stop ≡ None }
         requires free { self.old.wait ≡ 0 }
         requires awake { self.old.asleep ≡ false }
-        requires early { cycle ≤ 2 ^ 40 }
         requires room { vec_len self.old.rows < vec_capacity self.old.rows }
         ensures state { shown self.new ≡ cpu_cycle cycle (shown self.old) }
         ensures rows { self.new.rows.items ≡ self.old.rows.items ++ cpu_rows cycle (shown self.old) }
         ensures going { 0 < result → IsGoing result (shown self.new) }
         ensures same { 0 < result → vec_len self.new.rows ≡ vec_len self.old.rows }
-        ensures used { vec_len self.new.rows ≤ vec_len self.old.rows + 1 }
         ensures room { vec_capacity self.new.rows ≡ vec_capacity self.old.rows }
-        ensures count { self.new.count ≤ self.old.count + 1 }
-        ensures script { self.new.script ≡ self.old.script }
         ensures clock { self.new.bus.board.clock ≡ self.old.bus.board.clock }
     {
         if let Some(vector) = self.due() {
@@ -501,13 +464,10 @@ impl Machine {
         requires now { self.old.bus.board.clock ≡ cycle }
         requires going { self.old.stop ≡ None }
         requires rests { self.old.wait ≡ 0 → self.old.asleep ≡ true }
-        requires early { cycle ≤ 2 ^ 40 }
         requires room { vec_len self.old.rows < vec_capacity self.old.rows }
         ensures state { shown self.new ≡ cpu_cycle cycle (shown self.old) }
         ensures rows { self.new.rows.items ≡ self.old.rows.items ++ cpu_rows cycle (shown self.old) }
-        ensures used { vec_len self.new.rows ≤ vec_len self.old.rows + 1 }
         ensures room { vec_capacity self.new.rows ≡ vec_capacity self.old.rows }
-        ensures count { self.new.count ≡ self.old.count }
         ensures clock { self.new.bus.board.clock ≡ self.old.bus.board.clock }
     {
         if self.wait > 0 {

@@ -1,0 +1,65 @@
+-- What an instruction leaves that is not refused, by what it does to the core and the data space.
+use Rattle.std.proofs.Common.{◌≡◌, ℕ, ◌&&◌, ◌||◌, nat_le, nat_lt, Bool, true, false, cond, List, refl, sym, ap, ◌∙◌}
+use Rattle.std.proofs.lemmas.Bool.{false≢true}
+use Rattle.std.specs.Prelude.{Result, Ok, Err, Some}
+use Rattle.avr_base.specs.declared.stop.StopCause.{StopCause}
+use Rattle.avr_decoder.specs.Class.{class_of}
+use Rattle.avr_decoder.specs.declared.op.Class.{Class}
+use Rattle.avr_decoder.specs.declared.op.Class.TheVariants as class
+use Rattle.avr_decoder.specs.declared.op.Op.{Op}
+use Rattle.avr_decoder.specs.declared.op.Op.TheVariants as op
+use Rattle.board_io.specs.Board.{sleep_mode}
+use Rattle.data_space.specs.declared.bus.Done.{Done}
+use Rattle.data_space.specs.Sequence.{Outcome}
+use Rattle.trace_rows.specs.declared.row.Row.{Row}
+use Rattle.node_core.specs.declared.bus.NodeBus.{NodeBus}
+use Rattle.node_core.specs.declared.machine.Machine.{Machine}
+use Rattle.node_core.specs.Bus.{bus_at}
+use Rattle.node_core.specs.Cycle.{after_instruction, instructed, instructed_rows, instruction_rows, is_idle, is_other, is_refused, is_sei, op_now, owes}
+use Rattle.node_core.specs.Execute.{executed}
+use Rattle.node_core.specs.Shown.{shown}
+use Rattle.node_core.specs.State.{NodeState}
+use Rattle.node_core.proofs.Halting.{is_no_flow, no_sleep}
+
+-- SEI and RETI do not access memory
+abbrev is_memory : Class → Bool
+is_memory class.Memory = true
+is_memory _ = false
+
+no_sei : (o : Op) → is_memory (class_of o) ≡ true → is_sei o ≡ false
+no_sei (op.Bset s) e = absurd (false≢true e)
+no_sei op.Reti e = absurd (false≢true e)
+no_sei _ e = refl
+
+skip : {A : Type 0} (b : Bool) (p q : A) → b ≡ false → q ≡ cond b p q
+skip b p q e = sym (ap (λ (x : Bool). cond x p q) e)
+
+module _ (t : ℕ) (m : Machine) (o : Op) (fetched : o ≡ op_now (shown m)) (runs : is_refused (shown m) o ≡ false)
+    (a : Outcome NodeBus) (flash : List ℕ) (bus : NodeBus) (done : a ≡ executed flash o m.cpu bus) (kept : flash ≡ m.program.bytes) (at : bus ≡ bus_at t m.bus) where
+  abbrev s : NodeState
+  s = shown m
+
+  fetched_runs : is_refused s (op_now s) ≡ false
+  fetched_runs = ap (is_refused s) (sym fetched) ∙ runs
+
+  whole : a ≡ executed s.flash (op_now s) s.cpu (bus_at t s.bus)
+  whole = done ∙ (λ i. executed (kept i) (fetched i) m.cpu (at i))
+
+  pub ran : (r : Result Done StopCause) → a.result ≡ r → after_instruction s o r a.cpu a.bus ≡ instructed t s
+  unfolding instructed
+  ran r is =
+      (λ i. after_instruction s (fetched i) (sym is i) a.cpu a.bus)
+      ∙ (ap (λ (x : Outcome NodeBus). after_instruction s (op_now s) x.result x.cpu x.bus) whole ∙ skip (is_refused s (op_now s)) _ _ fetched_runs)
+
+  pub ran_rows : (r : Result Done StopCause) → a.result ≡ r → instruction_rows t s r ≡ instructed_rows t s
+  unfolding instructed_rows
+  ran_rows r is =
+      ap (instruction_rows t s) (sym is)
+      ∙ (ap (λ (x : Outcome NodeBus). instruction_rows t s x.result) whole ∙ skip (is_refused s (op_now s)) _ _ fetched_runs)
+
+-- an instruction on memory, and one on registers, by its class
+pub no_flow_runs : (s : NodeState) (o : Op) (k : Class) → class_of o ≡ k → is_no_flow k ≡ true → is_refused s o ≡ false
+no_flow_runs s o k e no_flow = ap (λ (b : Bool). b && is_other (sleep_mode s.bus.board)) (no_sleep o (ap is_no_flow e ∙ no_flow))
+
+pub memory_owes : (o : Op) (before after : ℕ) → class_of o ≡ class.Memory → (nat_lt before 128 && nat_le 128 after) ≡ owes o before after
+memory_owes o before after e = sym (ap (λ (b : Bool). b || (nat_lt before 128 && nat_le 128 after)) (no_sei o (ap is_memory e)))
