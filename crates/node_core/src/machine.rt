@@ -22,13 +22,12 @@ use avr_decoder::{Class, Op};
 use avr_program::Program;
 use board_io::Sleep;
 use data_space::{Cpu, Done};
-use std::alloc::AllocError;
 use trace_rows::{Kind, Row};
 use usart_port::Script;
 use world_core::Heard;
 
 // The rows that a cycle makes at most: the processor's, a frame's, and one of the radio's before and after its sample.
-const ROWS_OF_A_CYCLE: usize = 4;
+pub const ROWS_OF_A_CYCLE: usize = 4;
 
 // SEI and RETI.
 #[inline(always)]
@@ -323,28 +322,6 @@ impl Machine {
         }
     }
 
-    // An instruction that halts the node. The answer is that of `instruct`.
-    #[inline(always)]
-    #[tactic(auto, unfolding(crate::specs::Cycle::instructed, crate::specs::Cycle::instructed_rows))]
-    fn instruct_halt(&mut self, cycle: u64, op: &Op, cause: StopCause) -> u8
-        requires fetched { op.now ≡ op_now (shown self.old) }
-        requires class { class_of op.now ≡ class.Halting cause }
-        requires going { self.old.stop ≡ None }
-        requires awake { self.old.asleep ≡ false }
-        requires few { self.old.count ≤ 2 ^ 41 }
-        requires now { self.old.bus.board.clock ≡ cycle }
-        requires room { vec_len self.old.rows < vec_capacity self.old.rows }
-        ensures state { shown self.new ≡ instructed cycle (shown self.old) }
-        ensures rows { self.new.rows.items ≡ self.old.rows.items ++ instructed_rows cycle (shown self.old) }
-        ensures going { 0 < result → IsGoing result (shown self.new) }
-        ensures same { 0 < result → vec_len self.new.rows ≡ vec_len self.old.rows }
-        ensures room { vec_capacity self.new.rows ≡ vec_capacity self.old.rows }
-        ensures clock { self.new.bus.board.clock ≡ self.old.bus.board.clock }
-    {
-        self.halt(cycle, self.cpu.pc, cause);
-        0
-    }
-
     // The first cycle of an instruction: how many it takes, or 0 where the node stopped, executed SLEEP, or has a row
     // more.
     #[inline(always)]
@@ -366,7 +343,10 @@ impl Machine {
             Class::Arith => self.instruct_registers(cycle, &op),
             Class::Flow => self.instruct_flow(cycle, &op),
             Class::Memory => self.instruct_memory(cycle, &op),
-            Class::Halting(cause) => self.instruct_halt(cycle, &op, cause),
+            Class::Halting(cause) => {
+                self.halt(cycle, self.cpu.pc, cause);
+                0
+            }
         }
     }
 
@@ -523,41 +503,6 @@ impl Machine {
         }
     }
 
-    // The devices' part of a cycle, up to its sample.
-    #[tactic(auto, unfolding(crate::specs::Cycle::devices_cycle, crate::specs::Cycle::device_rows, crate::specs::Cycle::asks_after, crate::specs::Cycle::sends_after))]
-    fn move_devices(&mut self, cycle: u64) -> OnAir
-        requires going { self.old.stop ≡ None }
-        requires now { self.old.bus.board.clock ≡ cycle }
-        requires early { cycle < 2 ^ 40 }
-        requires room { vec_len self.old.rows + 2 ≤ vec_capacity self.old.rows }
-        ensures state { shown self.new ≡ devices_cycle cycle (shown self.old) }
-        ensures rows { self.new.rows.items ≡ self.old.rows.items ++ device_rows cycle (shown self.old) }
-        ensures air { IsOnAir (asks_after cycle (shown self.old)) (sends_after cycle (shown self.old)) result }
-        ensures waits { asks_after cycle (shown self.old) ≡ true → is_some self.new.bus.board.spi.transfer ≡ true }
-        ensures used { vec_len self.new.rows ≤ vec_len self.old.rows + 2 }
-        ensures room { vec_capacity self.new.rows ≡ vec_capacity self.old.rows }
-        ensures count { self.new.count ≡ self.old.count }
-        ensures clock { self.new.bus.board.clock ≡ cycle + 1 }
-    {
-        let arrival = self.arrival(cycle);
-        let begun = self.bus.board.begin(cycle, arrival);
-        self.put_serial(cycle, begun.serial);
-        self.put_sent(cycle, begun.sent);
-        in_the_air(begun.asks, begun.sent)
-    }
-
-    /// Room for the rows of a cycle.
-    pub fn make_room(&mut self) -> Result<(), AllocError>
-        ensures state { shown self.new ≡ shown self.old }
-        ensures rows { self.new.rows.items ≡ self.old.rows.items }
-        ensures room { OnOk result (vec_len self.new.rows + 4 ≤ vec_capacity self.new.rows) }
-        ensures clock { self.new.bus.board.clock ≡ self.old.bus.board.clock }
-        ensures stop { self.new.stop ≡ self.old.stop }
-        ensures count { self.new.count ≡ self.old.count }
-    {
-        self.rows.reserve(ROWS_OF_A_CYCLE)
-    }
-
     /// The devices' part of a cycle up to its sample, which a node that stopped in this cycle does not reach. There is
     /// room for its rows, also for that of the sample.
     #[tactic(auto, unfolding(crate::specs::Cycle::devices_cycle, crate::specs::Cycle::device_rows, crate::specs::Cycle::asks_after, crate::specs::Cycle::sends_after))]
@@ -577,7 +522,11 @@ impl Machine {
         if self.stop.is_some() {
             return OnAir::Quiet;
         }
-        self.move_devices(cycle)
+        let arrival = self.arrival(cycle);
+        let begun = self.bus.board.begin(cycle, arrival);
+        self.put_serial(cycle, begun.serial);
+        self.put_sent(cycle, begun.sent);
+        in_the_air(begun.asks, begun.sent)
     }
 
     // The rest of a cycle that samples the air.

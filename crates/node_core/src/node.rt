@@ -6,7 +6,7 @@ ghost use Rattle.node_core.specs.Cycle.{node_kind, end_row};
 ghost use Rattle.node_core.specs.Reached.{IsReached};
 
 use crate::NodeBus;
-use crate::machine::{Machine, OnAir};
+use crate::machine::{Machine, OnAir, ROWS_OF_A_CYCLE};
 use avr_base::{NoMemory, StopCause};
 use avr_program::Program;
 use data_space::Cpu;
@@ -113,7 +113,7 @@ impl Node {
         requires calm { self.old.asking ≡ false }
         ensures { IsReached self.old cycle result self.new }
     {
-        while self.cycle < cycle {
+        loop {
             if self.machine.stop.is_some() {
                 return Reached::Stopped;
             }
@@ -122,7 +122,7 @@ impl Node {
             if at == cycle {
                 return Reached::Cycle;
             }
-            if self.machine.make_room().is_err() {
+            if self.machine.rows.reserve(ROWS_OF_A_CYCLE).is_err() {
                 return Reached::NoMemory;
             }
             let at = at + self.machine.stride(at, cycle - at);
@@ -138,11 +138,6 @@ impl Node {
                     return Reached::Ask { cycle: at };
                 }
             }
-        }
-        if self.machine.stop.is_some() {
-            Reached::Stopped
-        } else {
-            Reached::Cycle
         }
     }
 
