@@ -1,6 +1,6 @@
 // The inside of a node, cycle by cycle.
 ghost use Rattle.std.specs.Prelude.{◌≡◌, ◌==◌, ◌<◌, ◌≤◌, ◌+◌, ◌-◌, ◌^◌, ◌%◌, ◌++◌, ◌&&◌, ◌||◌, nat_le, nat_lt, None, Some, true, false, is_some, IfOk, OnOk, OnErr, vec_len, vec_capacity};
-ghost use Rattle.node_core.specs.Cycle.{acted, acted_rows, asks_after, asks_in, begun_in, begun_rows, cpu_cycle, cpu_rows, device_rows, devices_cycle, entered, entered_rows, finished_in, finished_rows, instructed, instructed_rows, is_idle, is_other, is_sei, is_sleep, op_now, owes, row, row_within, sends_after, sends_in, sent_rows, serial_rows};
+ghost use Rattle.node_core.specs.Cycle.{acted, acted_rows, asks_after, asks_in, begun_in, begun_rows, cpu_cycle, cpu_rows, device_rows, devices_cycle, entered, entered_rows, finished_in, finished_rows, instructed, instructed_rows, is_idle, is_other, is_refused, is_sei, is_sleep, op_now, owes, row, row_within, sends_after, sends_in, sent_rows, serial_rows};
 ghost use Rattle.avr_decoder.specs.Class.{class_of};
 ghost use Rattle.avr_decoder.specs.declared.op.Class.TheVariants as class;
 ghost use Rattle.trace_rows.specs.declared.row.Kind.TheVariants as kind;
@@ -252,6 +252,14 @@ impl Machine {
         self.end(cycle, pc, owed, done)
     }
 
+    // Whether an instruction is SLEEP in a mode other than idle.
+    #[inline(always)]
+    fn refuses(&self, op: &Op) -> bool
+        ensures { result ≡ is_refused (shown self.now) op.now }
+    {
+        is_sleep(op) && is_other(self.bus.board.sleep_mode())
+    }
+
     // The first cycle of an instruction of the program's flow. The answer is that of `instruct`.
     #[inline(always)]
     #[tactic(auto, unfolding(crate::specs::Cycle::instructed, crate::specs::Cycle::instructed_rows))]
@@ -271,12 +279,11 @@ impl Machine {
         ensures clock { self.new.bus.board.clock ≡ self.old.bus.board.clock }
     {
         let pc = self.cpu.pc;
-        if is_sleep(op) && is_other(self.bus.board.sleep_mode()) {
+        if self.refuses(op) {
             self.halt(cycle, pc, StopCause::SleepMode);
             return 0;
         }
         let before = self.cpu.sreg.bits;
-        self.bus.at(cycle);
         match go_on(op, self.program.flash(), &mut self.cpu, &mut self.bus) {
             Ok(done) => {
                 let owed = owes(op, before, self.cpu.sreg.bits);
@@ -309,7 +316,6 @@ impl Machine {
     {
         let pc = self.cpu.pc;
         let before = self.cpu.sreg.bits;
-        self.bus.at(cycle);
         match access(op, self.program.flash(), &mut self.cpu, &mut self.bus) {
             Ok(done) => {
                 let owed = turns_on(before, self.cpu.sreg.bits);
@@ -367,7 +373,6 @@ impl Machine {
     {
         let back = self.cpu.pc;
         let node = self.number;
-        self.bus.at(cycle);
         match enter(vector, &mut self.cpu, &mut self.bus) {
             Ok(()) => {
                 self.bus.board.entered(vector);

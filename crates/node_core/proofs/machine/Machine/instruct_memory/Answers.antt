@@ -1,27 +1,14 @@
-use Rattle.std.proofs.Common.{◌++◌, Bool, List, refl, sym, ap, ◌∙◌}
+use Rattle.std.proofs.Common.{Bool, refl, ap, ◌∙◌}
 use Rattle.std.specs.Prelude.{Ok, Err}
 use Rattle.avr_decoder.specs.declared.op.Class.TheVariants as class
 use Rattle.data_space.specs.Sequence.{Outcome}
 use Rattle.node_core.specs.declared.bus.NodeBus.{NodeBus}
-use Rattle.trace_rows.specs.declared.row.Row.{Row}
 use Rattle.node_core.specs.Cycle.{after_instruction}
 use Rattle.node_core.specs.Shown.{shown}
 use Rattle.node_core.specs.State.{NodeState}
-use Rattle.node_core.proofs.Ran.{memory_owes, no_flow_runs, ran, ran_rows}
 use Rattle.node_core.proofs.Clocks.{executed_clock}
+use Rattle.node_core.proofs.Ran.{memory_owes, no_flow_runs, ran, ran_rows}
 use Rattle.node_core.proofs.machine.Machine.instruct_memory.Goals as goal
-
-pub returns-in-Ok-clause-clock : goal.returns-in-Ok-clause-clock
-returns-in-Ok-clause-clock c =
-    let set = ap (λ (bus : NodeBus). bus.board.clock) c.at.ensures ∙ sym c.requires.now in
-    let kept = ap (λ (o : Outcome NodeBus). o.bus.board.clock) c.access.ensures.done ∙ executed_clock _ _ _ _ in
-    c.end.ensures.clock ∙ (kept ∙ set)
-
-pub returns-in-Err-clause-clock : goal.returns-in-Err-clause-clock
-returns-in-Err-clause-clock c =
-    let set = ap (λ (bus : NodeBus). bus.board.clock) c.at.ensures ∙ sym c.requires.now in
-    let kept = ap (λ (o : Outcome NodeBus). o.bus.board.clock) c.access.ensures.done ∙ executed_clock _ _ _ _ in
-    c.halt.ensures.clock ∙ (kept ∙ set)
 
 pub returns-in-Ok-clause-state : goal.returns-in-Ok-clause-state
 returns-in-Ok-clause-state c =
@@ -33,7 +20,7 @@ returns-in-Ok-clause-state c =
     let owed = c.turns_on-owed.ensures ∙ memory_owes o m.cpu.sreg.bits a.cpu.sreg.bits c.requires.class in
     c.end.ensures.state
     ∙ (ap (λ (b : Bool). let u : NodeState = record (after_instruction s o (Ok c.in-Ok.done) a.cpu a.bus) { owed = b } in u) owed
-    ∙ ran c.args.cycle m o c.requires.fetched runs a c.flash.result.now.bytes c.at.new.self c.access.ensures.done (λ i. (c.flash.ensures i).bytes) c.at.ensures (Ok c.in-Ok.done) c.in-Ok.is)
+    ∙ ran c.args.cycle m o c.requires.fetched runs c.requires.now a c.flash.result.now.bytes (λ i. (c.flash.ensures i).bytes) c.access.ensures.done (Ok c.in-Ok.done) c.in-Ok.is)
 
 pub returns-in-Ok-clause-rows : goal.returns-in-Ok-clause-rows
 returns-in-Ok-clause-rows c =
@@ -41,8 +28,10 @@ returns-in-Ok-clause-rows c =
     let o = c.args.op.now in
     let a : Outcome NodeBus = record { result = c.access.result; cpu = c.access.new.cpu; bus = c.access.new.bus } in
     let runs = no_flow_runs (shown m) o class.Memory c.requires.class refl in
-    c.end.ensures.rows
-    ∙ ap (λ (l : List Row). m.rows.items ++ l) (ran_rows c.args.cycle m o c.requires.fetched runs a c.flash.result.now.bytes c.at.new.self c.access.ensures.done (λ i. (c.flash.ensures i).bytes) c.at.ensures (Ok c.in-Ok.done) c.in-Ok.is)
+    c.end.ensures.rows ∙ ran_rows c.args.cycle m o c.requires.fetched runs c.requires.now a c.flash.result.now.bytes (λ i. (c.flash.ensures i).bytes) c.access.ensures.done m.rows.items (Ok c.in-Ok.done) c.in-Ok.is
+
+pub returns-in-Ok-clause-clock : goal.returns-in-Ok-clause-clock
+returns-in-Ok-clause-clock c = c.end.ensures.clock ∙ (ap (λ (o : Outcome NodeBus). o.bus.board.clock) c.access.ensures.done ∙ executed_clock _ _ _ _)
 
 pub returns-in-Err-clause-state : goal.returns-in-Err-clause-state
 returns-in-Err-clause-state c =
@@ -50,7 +39,7 @@ returns-in-Err-clause-state c =
     let o = c.args.op.now in
     let a : Outcome NodeBus = record { result = c.access.result; cpu = c.access.new.cpu; bus = c.access.new.bus } in
     let runs = no_flow_runs (shown m) o class.Memory c.requires.class refl in
-    c.halt.ensures.state ∙ ran c.args.cycle m o c.requires.fetched runs a c.flash.result.now.bytes c.at.new.self c.access.ensures.done (λ i. (c.flash.ensures i).bytes) c.at.ensures (Err c.in-Err.cause) c.in-Err.is
+    c.halt.ensures.state ∙ ran c.args.cycle m o c.requires.fetched runs c.requires.now a c.flash.result.now.bytes (λ i. (c.flash.ensures i).bytes) c.access.ensures.done (Err c.in-Err.cause) c.in-Err.is
 
 pub returns-in-Err-clause-rows : goal.returns-in-Err-clause-rows
 returns-in-Err-clause-rows c =
@@ -58,5 +47,7 @@ returns-in-Err-clause-rows c =
     let o = c.args.op.now in
     let a : Outcome NodeBus = record { result = c.access.result; cpu = c.access.new.cpu; bus = c.access.new.bus } in
     let runs = no_flow_runs (shown m) o class.Memory c.requires.class refl in
-    c.halt.ensures.rows
-    ∙ ap (λ (l : List Row). m.rows.items ++ l) (ran_rows c.args.cycle m o c.requires.fetched runs a c.flash.result.now.bytes c.at.new.self c.access.ensures.done (λ i. (c.flash.ensures i).bytes) c.at.ensures (Err c.in-Err.cause) c.in-Err.is)
+    c.halt.ensures.rows ∙ ran_rows c.args.cycle m o c.requires.fetched runs c.requires.now a c.flash.result.now.bytes (λ i. (c.flash.ensures i).bytes) c.access.ensures.done m.rows.items (Err c.in-Err.cause) c.in-Err.is
+
+pub returns-in-Err-clause-clock : goal.returns-in-Err-clause-clock
+returns-in-Err-clause-clock c = c.halt.ensures.clock ∙ (ap (λ (o : Outcome NodeBus). o.bus.board.clock) c.access.ensures.done ∙ executed_clock _ _ _ _)
