@@ -11,6 +11,7 @@ use Rattle.avr_decoder.specs.declared.op.Op.TheVariants as op
 use Rattle.avr_base.specs.declared.interrupts.Vector.{Vector}
 use Rattle.board_io.specs.Board.{clock_at, sleep_mode}
 use Rattle.data_space.specs.declared.bus.Done.{Done}
+use Rattle.data_space.specs.declared.cpu.Cpu.{Cpu}
 use Rattle.data_space.specs.Sequence.{Outcome}
 use Rattle.data_space.specs.Space.{Access}
 use Rattle.trace_rows.specs.declared.row.Row.{Row}
@@ -18,7 +19,7 @@ use Rattle.node_core.specs.declared.bus.NodeBus.{NodeBus}
 use Rattle.node_core.specs.declared.machine.Machine.{Machine}
 use Rattle.node_core.specs.Bus.{bus_at, with_board}
 use Rattle.node_core.specs.Cycle.{after_entry, after_instruction, entered, entered_rows, entry_rows, instructed, instructed_rows, instruction_rows, is_idle, is_other, is_refused, is_sei, op_now, owes}
-use Rattle.node_core.specs.Execute.{executed}
+use Rattle.node_core.specs.Execute.{executed, executed_by}
 use Rattle.node_core.specs.Interrupts.{entry}
 use Rattle.node_core.specs.Shown.{shown}
 use Rattle.node_core.specs.State.{NodeState}
@@ -40,6 +41,11 @@ skip b p q e = sym (ap (λ (x : Bool). cond x p q) e)
 -- the clock of the board that runs shows the cycle already
 now_at : (t : ℕ) (m : Machine) → m.bus.board.clock ≡ t → m.bus ≡ bus_at t m.bus
 now_at t m now = λ i. with_board m.bus (clock_at (now i) m.bus.board)
+
+-- the effect of an instruction, by its class
+pub by_class : (k : Class) (flash : List ℕ) (o : Op) (cpu : Cpu) (bus : NodeBus) → class_of o ≡ k → executed_by k flash o cpu bus ≡ executed flash o cpu bus
+unfolding executed
+by_class k flash o cpu bus e = ap (λ (c : Class). executed_by c flash o cpu bus) (sym e)
 
 module _ (t : ℕ) (m : Machine) (o : Op) (fetched : o ≡ op_now (shown m)) (runs : is_refused (shown m) o ≡ false) (now : m.bus.board.clock ≡ t)
     (a : Outcome NodeBus) (flash : List ℕ) (kept : flash ≡ m.program.bytes) (done : a ≡ executed flash o m.cpu m.bus) where

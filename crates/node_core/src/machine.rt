@@ -14,7 +14,6 @@ ghost use Rattle.ihex_loader.specs.Flash.{word_at};
 ghost use Rattle.avr_base.specs.Lines.{pending_of};
 
 use crate::NodeBus;
-use crate::execute::{access, compute, go_on};
 use crate::interrupts::enter;
 use crate::rows::{is_within, put_row, tell, tell_instruction, unless_told};
 use avr_base::{Sreg, StopCause, Vector};
@@ -229,7 +228,6 @@ impl Machine {
 
     // The first cycle of an instruction on registers and flags. The answer is that of `instruct`.
     #[inline(always)]
-    #[tactic(auto, unfolding(crate::specs::Cycle::instructed, crate::specs::Cycle::instructed_rows))]
     fn instruct_registers(&mut self, cycle: u64, op: &Op) -> u8
         requires fetched { op.now ≡ op_now (shown self.old) }
         requires class { class_of op.now ≡ class.Arith }
@@ -247,7 +245,7 @@ impl Machine {
     {
         let pc = self.cpu.pc;
         let before = self.cpu.sreg.bits;
-        let done = compute(op, &mut self.cpu);
+        let done = arith_step::exec(*op, &mut self.cpu);
         let owed = owes_after_compute(op, before, self.cpu.sreg.bits);
         self.end(cycle, pc, owed, done)
     }
@@ -284,7 +282,7 @@ impl Machine {
             return 0;
         }
         let before = self.cpu.sreg.bits;
-        match go_on(op, self.program.flash(), &mut self.cpu, &mut self.bus) {
+        match flow_step::exec(*op, self.program.flash(), &mut self.cpu, &mut self.bus) {
             Ok(done) => {
                 let owed = owes(op, before, self.cpu.sreg.bits);
                 self.end(cycle, pc, owed, done)
@@ -298,7 +296,6 @@ impl Machine {
 
     // The first cycle of an instruction on memory. The answer is that of `instruct`.
     #[inline(always)]
-    #[tactic(auto, unfolding(crate::specs::Cycle::instructed, crate::specs::Cycle::instructed_rows))]
     fn instruct_memory(&mut self, cycle: u64, op: &Op) -> u8
         requires fetched { op.now ≡ op_now (shown self.old) }
         requires class { class_of op.now ≡ class.Memory }
@@ -316,7 +313,7 @@ impl Machine {
     {
         let pc = self.cpu.pc;
         let before = self.cpu.sreg.bits;
-        match access(op, self.program.flash(), &mut self.cpu, &mut self.bus) {
+        match memory_step::exec(*op, self.program.flash(), &mut self.cpu, &mut self.bus) {
             Ok(done) => {
                 let owed = turns_on(before, self.cpu.sreg.bits);
                 self.end(cycle, pc, owed, done)
@@ -358,7 +355,6 @@ impl Machine {
 
     // The first cycle of an interrupt, of which so many cycles more follow: how many it takes, or 0 where the node stopped
     // or has a row more.
-    #[tactic(auto, unfolding(crate::specs::Cycle::entered, crate::specs::Cycle::entered_rows))]
     fn enter(&mut self, cycle: u64, wait: u8, vector: Vector) -> u8
         requires short { wait ≤ 7 }
         requires going { self.old.stop ≡ None }
