@@ -113,7 +113,7 @@ impl Node {
         requires calm { self.old.asking ≡ false }
         ensures { IsReached self.old cycle result self.new }
     {
-        loop {
+        while self.cycle < cycle {
             if self.machine.stop.is_some() {
                 return Reached::Stopped;
             }
@@ -138,6 +138,11 @@ impl Node {
                     return Reached::Ask { cycle: at };
                 }
             }
+        }
+        if self.machine.stop.is_some() {
+            Reached::Stopped
+        } else {
+            Reached::Cycle
         }
     }
 
