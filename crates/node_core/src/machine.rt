@@ -504,6 +504,29 @@ impl Machine {
         }
     }
 
+    // The devices' part of a cycle, up to its sample.
+    #[tactic(auto, unfolding(crate::specs::Cycle::devices_cycle, crate::specs::Cycle::device_rows, crate::specs::Cycle::asks_after, crate::specs::Cycle::sends_after))]
+    fn move_devices(&mut self, cycle: u64) -> OnAir
+        requires going { self.old.stop ≡ None }
+        requires now { self.old.bus.board.clock ≡ cycle }
+        requires early { cycle < 2 ^ 40 }
+        requires room { vec_len self.old.rows + 2 ≤ vec_capacity self.old.rows }
+        ensures state { shown self.new ≡ devices_cycle cycle (shown self.old) }
+        ensures rows { self.new.rows.items ≡ self.old.rows.items ++ device_rows cycle (shown self.old) }
+        ensures air { IsOnAir (asks_after cycle (shown self.old)) (sends_after cycle (shown self.old)) result }
+        ensures waits { asks_after cycle (shown self.old) ≡ true → is_some self.new.bus.board.spi.transfer ≡ true }
+        ensures used { vec_len self.new.rows ≤ vec_len self.old.rows + 2 }
+        ensures room { vec_capacity self.new.rows ≡ vec_capacity self.old.rows }
+        ensures count { self.new.count ≡ self.old.count }
+        ensures clock { self.new.bus.board.clock ≡ cycle + 1 }
+    {
+        let arrival = self.arrival(cycle);
+        let begun = self.bus.board.begin(cycle, arrival);
+        self.put_serial(cycle, begun.serial);
+        self.put_sent(cycle, begun.sent);
+        in_the_air(begun.asks, begun.sent)
+    }
+
     /// The devices' part of a cycle up to its sample, which a node that stopped in this cycle does not reach. There is
     /// room for its rows, also for that of the sample.
     #[tactic(auto, unfolding(crate::specs::Cycle::devices_cycle, crate::specs::Cycle::device_rows, crate::specs::Cycle::asks_after, crate::specs::Cycle::sends_after))]
@@ -523,11 +546,7 @@ impl Machine {
         if self.stop.is_some() {
             return OnAir::Quiet;
         }
-        let arrival = self.arrival(cycle);
-        let begun = self.bus.board.begin(cycle, arrival);
-        self.put_serial(cycle, begun.serial);
-        self.put_sent(cycle, begun.sent);
-        in_the_air(begun.asks, begun.sent)
+        self.move_devices(cycle)
     }
 
     // The rest of a cycle that samples the air.
