@@ -54,7 +54,7 @@ fn line(n: u32, flag: bool, enabled: bool) -> u64
 }
 
 impl Board {
-    ghost use Rattle.board_io.specs.Lines.{entered_of, extended_timer_lines, lines_of, port_lines, timer_lines};
+    ghost use Rattle.board_io.specs.Lines.{entered_beside, entered_of, extended_timer_lines, lines_of, port_lines, timer_lines};
 
     // The lines of TIMSK. In much firmware none is enabled.
     #[tactic(auto, using(crate::proofs::Enabled::no_timer_lines))]
@@ -115,6 +115,23 @@ impl Board {
         }
     }
 
+    // What serving an interrupt clears, of the vectors of the ports and of ETIMSK.
+    #[inline(always)]
+    fn entered_beside(&mut self, v: Vector)
+        ensures { self.new ≡ entered_beside v.word self.old }
+    {
+        match v.word {
+            0x22 => self.spi.clear(),
+            0x28 => self.usart.clear_txc(),
+            0x30 => self.t1.clear(COMP_C),
+            0x34 => self.t3.clear(COMP_A),
+            0x36 => self.t3.clear(COMP_B),
+            0x38 => self.t3.clear(COMP_C),
+            0x3A => self.t3.clear(OVER),
+            _ => {}
+        }
+    }
+
     /// What serving the interrupt of the vector `v` does to its source: it clears its flag, but for RXC and UDRE of
     /// USART0, which stand as long as there is a byte to read and room for one to write.
     #[tactic(auto, unfolding(crate::specs::Lines::entered_of))]
@@ -129,14 +146,7 @@ impl Board {
             0x1C => self.t1.clear(OVER),
             0x1E => self.t0.clear(COMP_A),
             0x20 => self.t0.clear(OVER),
-            0x22 => self.spi.clear(),
-            0x28 => self.usart.clear_txc(),
-            0x30 => self.t1.clear(COMP_C),
-            0x34 => self.t3.clear(COMP_A),
-            0x36 => self.t3.clear(COMP_B),
-            0x38 => self.t3.clear(COMP_C),
-            0x3A => self.t3.clear(OVER),
-            _ => {}
+            _ => self.entered_beside(v),
         }
     }
 }
