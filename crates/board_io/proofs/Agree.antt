@@ -53,6 +53,11 @@ pub put_past : (b : Board) (at x : ℕ) → 255 < at → io_put b at x ≡ Err s
 unfolding io_put
 put_past b at x h = ap (λ r. put_by r b at x) (rule_past at (omega arith))
 
+-- ---- an access, by the rule that the array has
+pub get_ruled : (b : Board) (at : ℕ) (r : Rule) → r ≡ rule_of at → get_by r b at ≡ io_get b at
+unfolding io_get
+get_ruled b at r e = ap (λ (k : Rule). get_by k b at) e
+
 -- ---- after reset
 pub starts_are : slice_set (slice_set (slice_set (slice_set (slice_set (slice_set (replicate 256 0) 0x54 0x01) 0x71 0xF8) 0x72 0xFE) 0x73 0xFF) 0x9B 0x20) 0x9D 0x06
     ≡ map start_of (range_with_len 0 256)

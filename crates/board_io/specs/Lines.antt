@@ -54,7 +54,19 @@ abbrev pub no_flags : TimerFlags
 no_flags = record { over = false; comp_a = false; comp_b = false; comp_c = false; icr = false }
 
 -- the interrupt of the vector at this word address is served: its flag is cleared, but for RXC and UDRE of USART0, which
--- stand as long as there is a byte to read and room for one to write
+-- stand as long as there is a byte to read and room for one to write. First those of the ports and of ETIMSK
+abbrev pub entered_beside : ℕ → Board → Board
+entered_beside word b =
+    if word == 0x22 then record b { spi = record b.spi { spif = false } }
+    else if word == 0x28 then record b { usart = record b.usart { txc = false } }
+    else if word == 0x30 then record b { t1 = timer16.cleared b.t1 (record no_flags { comp_c = true }) }
+    else if word == 0x34 then record b { t3 = timer16.cleared b.t3 (record no_flags { comp_a = true }) }
+    else if word == 0x36 then record b { t3 = timer16.cleared b.t3 (record no_flags { comp_b = true }) }
+    else if word == 0x38 then record b { t3 = timer16.cleared b.t3 (record no_flags { comp_c = true }) }
+    else if word == 0x3A then record b { t3 = timer16.cleared b.t3 (record no_flags { over = true }) }
+    else b
+
+-- and, before them, those of TIMSK
 unfoldable pub entered_of : ℕ → Board → Board
 entered_of word b =
     if word == 0x12 then record b { t2 = timer8.cleared b.t2 (record no_flags { comp_a = true }) }
@@ -64,11 +76,4 @@ entered_of word b =
     else if word == 0x1C then record b { t1 = timer16.cleared b.t1 (record no_flags { over = true }) }
     else if word == 0x1E then record b { t0 = timer8.cleared b.t0 (record no_flags { comp_a = true }) }
     else if word == 0x20 then record b { t0 = timer8.cleared b.t0 (record no_flags { over = true }) }
-    else if word == 0x22 then record b { spi = record b.spi { spif = false } }
-    else if word == 0x28 then record b { usart = record b.usart { txc = false } }
-    else if word == 0x30 then record b { t1 = timer16.cleared b.t1 (record no_flags { comp_c = true }) }
-    else if word == 0x34 then record b { t3 = timer16.cleared b.t3 (record no_flags { comp_a = true }) }
-    else if word == 0x36 then record b { t3 = timer16.cleared b.t3 (record no_flags { comp_b = true }) }
-    else if word == 0x38 then record b { t3 = timer16.cleared b.t3 (record no_flags { comp_c = true }) }
-    else if word == 0x3A then record b { t3 = timer16.cleared b.t3 (record no_flags { over = true }) }
-    else b
+    else entered_beside word b

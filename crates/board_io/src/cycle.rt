@@ -88,9 +88,7 @@ impl Board {
     fn end_transfer(&mut self, moved: Moved, serial: Option<u8>) -> Begun
         requires { is_some self.old.spi.transfer ≡ true }
         ensures state { self.new ≡ transfer_end moved self.old.radio self.old }
-        ensures serial { result.serial ≡ serial }
-        ensures sent { result.sent ≡ sent_by moved }
-        ensures asks { result.asks ≡ is_ask moved }
+        ensures begun { result ≡ record { serial = serial; sent = sent_by moved; asks = is_ask moved } }
         ensures waits { result.asks ≡ true → is_some self.new.spi.transfer ≡ true }
     {
         match moved {
@@ -122,9 +120,7 @@ impl Board {
     fn exchange(&mut self, cycle: u64, serial: Option<u8>) -> Begun
         requires { cycle ≤ 2 ^ 41 }
         ensures state { self.new ≡ with_moved (moved cycle self.old) self.old }
-        ensures serial { result.serial ≡ serial }
-        ensures sent { result.sent ≡ sends (moved cycle self.old) }
-        ensures asks { result.asks ≡ samples (moved cycle self.old) }
+        ensures begun { result ≡ record { serial = serial; sent = sends (moved cycle self.old); asks = samples (moved cycle self.old) } }
         ensures waits { result.asks ≡ true → is_some self.new.spi.transfer ≡ true }
     {
         match ended_byte(self.spi.transfer, cycle) {

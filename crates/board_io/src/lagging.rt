@@ -126,16 +126,10 @@ impl LaggingBoard {
         ensures asks { result.asks ≡ board_asks cycle (unclocked self.old) }
         ensures waits { result.asks ≡ true → is_some self.new.spi.transfer ≡ true }
     {
-        match arrival {
-            None => {
-                if self.passes(cycle, 1) {
-                    Begun::NOTHING
-                } else {
-                    self.turn(cycle, None)
-                }
-            }
-            Some(byte) => self.turn(cycle, Some(byte)),
+        if arrival.is_none() && self.passes(cycle, 1) {
+            return Begun::NOTHING;
         }
+        self.turn(cycle, arrival)
     }
 
     /// The rest of a cycle that samples, with what is heard: the transfer that sampled ends, and answers 0.

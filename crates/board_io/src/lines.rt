@@ -54,19 +54,7 @@ fn line(n: u32, flag: bool, enabled: bool) -> u64
 }
 
 impl Board {
-    ghost use Rattle.board_io.specs.Lines.{entered_of, etimsk, extended_timer_lines, lines_of, port_lines, timer_lines, timsk};
-
-    fn timsk(&self, mask: u8) -> bool
-        ensures { result ≡ timsk self.now mask }
-    {
-        any_bit(self.kept[TIMSK], mask)
-    }
-
-    fn etimsk(&self, mask: u8) -> bool
-        ensures { result ≡ etimsk self.now mask }
-    {
-        any_bit(self.kept[ETIMSK], mask)
-    }
+    ghost use Rattle.board_io.specs.Lines.{entered_beside, entered_of, extended_timer_lines, lines_of, port_lines, timer_lines};
 
     // The lines of TIMSK. In much firmware none is enabled.
     #[tactic(auto, using(crate::proofs::Enabled::no_timer_lines))]
@@ -74,16 +62,17 @@ impl Board {
         ensures value { result ≡ timer_lines self.now }
         ensures most { result ≤ 2 ^ 32 }
     {
-        if self.kept[TIMSK] == 0 {
+        let enabled = self.kept[TIMSK];
+        if enabled == 0 {
             return 0;
         }
-        line(9, self.t2.comp_a, self.timsk(0x80))
-            + line(10, self.t2.over, self.timsk(0x40))
-            + line(12, self.t1.flags.comp_a, self.timsk(0x10))
-            + line(13, self.t1.flags.comp_b, self.timsk(0x08))
-            + line(14, self.t1.flags.over, self.timsk(0x04))
-            + line(15, self.t0.comp_a, self.timsk(0x02))
-            + line(16, self.t0.over, self.timsk(0x01))
+        line(9, self.t2.comp_a, any_bit(enabled, 0x80))
+            + line(10, self.t2.over, any_bit(enabled, 0x40))
+            + line(12, self.t1.flags.comp_a, any_bit(enabled, 0x10))
+            + line(13, self.t1.flags.comp_b, any_bit(enabled, 0x08))
+            + line(14, self.t1.flags.over, any_bit(enabled, 0x04))
+            + line(15, self.t0.comp_a, any_bit(enabled, 0x02))
+            + line(16, self.t0.over, any_bit(enabled, 0x01))
     }
 
     // The lines of ETIMSK. In most firmware none is enabled.
@@ -92,14 +81,15 @@ impl Board {
         ensures value { result ≡ extended_timer_lines self.now }
         ensures most { result ≤ 2 ^ 32 }
     {
-        if self.kept[ETIMSK] == 0 {
+        let enabled = self.kept[ETIMSK];
+        if enabled == 0 {
             return 0;
         }
-        line(24, self.t1.flags.comp_c, self.etimsk(0x01))
-            + line(26, self.t3.flags.comp_a, self.etimsk(0x10))
-            + line(27, self.t3.flags.comp_b, self.etimsk(0x08))
-            + line(28, self.t3.flags.comp_c, self.etimsk(0x02))
-            + line(29, self.t3.flags.over, self.etimsk(0x04))
+        line(24, self.t1.flags.comp_c, any_bit(enabled, 0x01))
+            + line(26, self.t3.flags.comp_a, any_bit(enabled, 0x10))
+            + line(27, self.t3.flags.comp_b, any_bit(enabled, 0x08))
+            + line(28, self.t3.flags.comp_c, any_bit(enabled, 0x02))
+            + line(29, self.t3.flags.over, any_bit(enabled, 0x04))
     }
 
     // The lines of the serial peripheral interface and of USART0.
@@ -125,6 +115,23 @@ impl Board {
         }
     }
 
+    // What serving an interrupt clears, of the vectors of the ports and of ETIMSK.
+    #[inline(always)]
+    fn entered_beside(&mut self, v: Vector)
+        ensures { self.new ≡ entered_beside v.word self.old }
+    {
+        match v.word {
+            0x22 => self.spi.clear(),
+            0x28 => self.usart.clear_txc(),
+            0x30 => self.t1.clear(COMP_C),
+            0x34 => self.t3.clear(COMP_A),
+            0x36 => self.t3.clear(COMP_B),
+            0x38 => self.t3.clear(COMP_C),
+            0x3A => self.t3.clear(OVER),
+            _ => {}
+        }
+    }
+
     /// What serving the interrupt of the vector `v` does to its source: it clears its flag, but for RXC and UDRE of
     /// USART0, which stand as long as there is a byte to read and room for one to write.
     #[tactic(auto, unfolding(crate::specs::Lines::entered_of))]
@@ -139,14 +146,7 @@ impl Board {
             0x1C => self.t1.clear(OVER),
             0x1E => self.t0.clear(COMP_A),
             0x20 => self.t0.clear(OVER),
-            0x22 => self.spi.clear(),
-            0x28 => self.usart.clear_txc(),
-            0x30 => self.t1.clear(COMP_C),
-            0x34 => self.t3.clear(COMP_A),
-            0x36 => self.t3.clear(COMP_B),
-            0x38 => self.t3.clear(COMP_C),
-            0x3A => self.t3.clear(OVER),
-            _ => {}
+            _ => self.entered_beside(v),
         }
     }
 }

@@ -15,11 +15,11 @@ use Rattle.node_core.specs.Shown.{shown}
 use Rattle.node_core.specs.State.{NodeState}
 
 -- SLEEP is of another class
-abbrev is_no_flow : Class → Bool
+abbrev pub is_no_flow : Class → Bool
 is_no_flow class.Flow = false
 is_no_flow _ = true
 
-no_sleep : (o : Op) → is_no_flow (class_of o) ≡ true → is_sleep o ≡ false
+pub no_sleep : (o : Op) → is_no_flow (class_of o) ≡ true → is_sleep o ≡ false
 no_sleep op.Sleep e = absurd (false≢true e)
 no_sleep _ e = refl
 

@@ -9,3 +9,5 @@ pub mod Untouched
 pub mod Clocks
 pub mod Sei
 pub mod Halting
+pub mod Acts
+pub mod Ran

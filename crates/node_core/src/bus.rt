@@ -1,5 +1,5 @@
 // The data space of a node beside the core.
-ghost use Rattle.std.specs.Prelude.{◌≡◌, ◌≤◌, ◌^◌, IfOk};
+ghost use Rattle.std.specs.Prelude.{◌≡◌, ◌≤◌, IfOk};
 
 use avr_base::{NoMemory, StopCause};
 use board_io::LaggingBoard;
@@ -18,7 +18,7 @@ pub struct NodeBus {
 }
 
 impl NodeBus {
-    ghost use Rattle.node_core.specs.Bus.{bus_at, reset_bus};
+    ghost use Rattle.node_core.specs.Bus.{reset_bus};
 
     /// The data space after reset, with the byte time of its radio in cycles, at most 4,096. `Err` only for want of
     /// memory.
@@ -32,13 +32,6 @@ impl NodeBus {
             board: LaggingBoard::new(byte_time),
         })
     }
-
-    /// Its registers are accessed in this cycle: that of its clock already.
-    #[inline]
-    pub fn at(&mut self, cycle: u64)
-        requires { self.old.board.clock ≡ cycle }
-        ensures { self.new ≡ bus_at cycle self.old }
-    {}
 }
 
 impl Bus for NodeBus {

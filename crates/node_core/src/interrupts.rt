@@ -10,9 +10,7 @@ use data_space::{Cpu, push_word};
 /// the one before it stays and nothing follows.
 #[tactic(auto, unfolding(crate::specs::Interrupts::entry))]
 pub fn enter(vector: Vector, cpu: &mut Cpu, bus: &mut NodeBus) -> Result<(), StopCause>
-    ensures result { result ≡ (entry vector.word cpu.old bus.old).result }
-    ensures core { cpu.new ≡ (entry vector.word cpu.old bus.old).cpu }
-    ensures bus { bus.new ≡ (entry vector.word cpu.old bus.old).bus }
+    ensures { record { result = result; cpu = cpu.new; bus = bus.new } ≡ entry vector.word cpu.old bus.old }
 {
     let back = cpu.pc;
     push_word(cpu, bus, back)?;

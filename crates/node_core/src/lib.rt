@@ -3,7 +3,6 @@
 #![tactic(auto)]
 
 mod bus;
-mod execute;
 mod interrupts;
 mod law;
 mod machine;

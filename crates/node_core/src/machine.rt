@@ -1,6 +1,6 @@
 // The inside of a node, cycle by cycle.
 ghost use Rattle.std.specs.Prelude.{◌≡◌, ◌==◌, ◌<◌, ◌≤◌, ◌+◌, ◌-◌, ◌^◌, ◌%◌, ◌++◌, ◌&&◌, ◌||◌, nat_le, nat_lt, None, Some, true, false, is_some, IfOk, OnOk, OnErr, vec_len, vec_capacity};
-ghost use Rattle.node_core.specs.Cycle.{acted, acted_rows, asks_after, asks_in, begun_in, begun_rows, cpu_cycle, cpu_rows, device_rows, devices_cycle, entered, entered_rows, finished_in, finished_rows, instructed, instructed_rows, is_idle, is_other, is_sei, is_sleep, op_now, owes, row, row_within, sends_after, sends_in, sent_rows, serial_rows};
+ghost use Rattle.node_core.specs.Cycle.{acted, acted_rows, asks_after, asks_in, begun_in, begun_rows, cpu_cycle, cpu_rows, device_rows, devices_cycle, entered, entered_rows, finished_in, finished_rows, instructed, instructed_rows, is_idle, is_other, is_refused, is_sei, is_sleep, op_now, owes, row, row_within, sends_after, sends_in, sent_rows, serial_rows};
 ghost use Rattle.avr_decoder.specs.Class.{class_of};
 ghost use Rattle.avr_decoder.specs.declared.op.Class.TheVariants as class;
 ghost use Rattle.trace_rows.specs.declared.row.Kind.TheVariants as kind;
@@ -14,7 +14,6 @@ ghost use Rattle.ihex_loader.specs.Flash.{word_at};
 ghost use Rattle.avr_base.specs.Lines.{pending_of};
 
 use crate::NodeBus;
-use crate::execute::{access, compute, go_on};
 use crate::interrupts::enter;
 use crate::rows::{is_within, put_row, tell, tell_instruction, unless_told};
 use avr_base::{Sreg, StopCause, Vector};
@@ -22,13 +21,12 @@ use avr_decoder::{Class, Op};
 use avr_program::Program;
 use board_io::Sleep;
 use data_space::{Cpu, Done};
-use std::alloc::AllocError;
 use trace_rows::{Kind, Row};
 use usart_port::Script;
 use world_core::Heard;
 
 // The rows that a cycle makes at most: the processor's, a frame's, and one of the radio's before and after its sample.
-const ROWS_OF_A_CYCLE: usize = 4;
+pub const ROWS_OF_A_CYCLE: usize = 4;
 
 // SEI and RETI.
 #[inline(always)]
@@ -169,10 +167,7 @@ impl Machine {
         requires room { vec_len self.old.rows < vec_capacity self.old.rows }
         ensures state { shown self.new ≡ record (shown self.old) { stop = Some cause } }
         ensures rows { self.new.rows.items ≡ self.old.rows.items ++ row cycle (shown self.old) (kind.Stop pc cause) }
-        ensures used { vec_len self.new.rows ≤ vec_len self.old.rows + 1 }
         ensures room { vec_capacity self.new.rows ≡ vec_capacity self.old.rows }
-        ensures count { self.new.count ≡ self.old.count }
-        ensures script { self.new.script ≡ self.old.script }
         ensures clock { self.new.bus.board.clock ≡ self.old.bus.board.clock }
     {
         let node = self.number;
@@ -192,12 +187,9 @@ impl Machine {
         ensures awake { 0 < result → done.sleep ≡ false }
         ensures cycles { 0 < result → result ≡ done.cycles }
         ensures same { 0 < result → vec_len self.new.rows ≡ vec_len self.old.rows }
-        ensures used { vec_len self.new.rows ≤ vec_len self.old.rows + 1 }
         ensures room { vec_capacity self.new.rows ≡ vec_capacity self.old.rows }
         ensures wait { self.new.wait ≡ self.old.wait }
         ensures stop { self.new.stop ≡ self.old.stop }
-        ensures count { self.new.count ≡ self.old.count }
-        ensures script { self.new.script ≡ self.old.script }
         ensures clock { self.new.bus.board.clock ≡ self.old.bus.board.clock }
     {
         let told = is_within(self.from, self.to, cycle);
@@ -222,10 +214,7 @@ impl Machine {
         ensures rows { self.new.rows.items ≡ self.old.rows.items ++ row_within cycle (shown self.old) (kind.Instr pc (word_at self.old.program.bytes pc) (word_at self.old.program.bytes ((pc + 1) % 65536))) }
         ensures going { 0 < result → IsGoing result (shown self.new) }
         ensures same { 0 < result → vec_len self.new.rows ≡ vec_len self.old.rows }
-        ensures used { vec_len self.new.rows ≤ vec_len self.old.rows + 1 }
         ensures room { vec_capacity self.new.rows ≡ vec_capacity self.old.rows }
-        ensures count { self.new.count ≡ self.old.count + 1 }
-        ensures script { self.new.script ≡ self.old.script }
         ensures clock { self.new.bus.board.clock ≡ self.old.bus.board.clock }
     {
         self.wait = done.cycles - 1;
@@ -239,7 +228,6 @@ impl Machine {
 
     // The first cycle of an instruction on registers and flags. The answer is that of `instruct`.
     #[inline(always)]
-    #[tactic(auto, unfolding(crate::specs::Cycle::instructed, crate::specs::Cycle::instructed_rows))]
     fn instruct_registers(&mut self, cycle: u64, op: &Op) -> u8
         requires fetched { op.now ≡ op_now (shown self.old) }
         requires class { class_of op.now ≡ class.Arith }
@@ -247,23 +235,27 @@ impl Machine {
         requires awake { self.old.asleep ≡ false }
         requires few { self.old.count ≤ 2 ^ 41 }
         requires now { self.old.bus.board.clock ≡ cycle }
-        requires early { cycle ≤ 2 ^ 40 }
         requires room { vec_len self.old.rows < vec_capacity self.old.rows }
         ensures state { shown self.new ≡ instructed cycle (shown self.old) }
         ensures rows { self.new.rows.items ≡ self.old.rows.items ++ instructed_rows cycle (shown self.old) }
         ensures going { 0 < result → IsGoing result (shown self.new) }
         ensures same { 0 < result → vec_len self.new.rows ≡ vec_len self.old.rows }
-        ensures used { vec_len self.new.rows ≤ vec_len self.old.rows + 1 }
         ensures room { vec_capacity self.new.rows ≡ vec_capacity self.old.rows }
-        ensures count { self.new.count ≤ self.old.count + 1 }
-        ensures script { self.new.script ≡ self.old.script }
         ensures clock { self.new.bus.board.clock ≡ self.old.bus.board.clock }
     {
         let pc = self.cpu.pc;
         let before = self.cpu.sreg.bits;
-        let done = compute(op, &mut self.cpu);
+        let done = arith_step::exec(*op, &mut self.cpu);
         let owed = owes_after_compute(op, before, self.cpu.sreg.bits);
         self.end(cycle, pc, owed, done)
+    }
+
+    // Whether an instruction is SLEEP in a mode other than idle.
+    #[inline(always)]
+    fn refuses(&self, op: &Op) -> bool
+        ensures { result ≡ is_refused (shown self.now) op.now }
+    {
+        is_sleep(op) && is_other(self.bus.board.sleep_mode())
     }
 
     // The first cycle of an instruction of the program's flow. The answer is that of `instruct`.
@@ -276,26 +268,21 @@ impl Machine {
         requires awake { self.old.asleep ≡ false }
         requires few { self.old.count ≤ 2 ^ 41 }
         requires now { self.old.bus.board.clock ≡ cycle }
-        requires early { cycle ≤ 2 ^ 40 }
         requires room { vec_len self.old.rows < vec_capacity self.old.rows }
         ensures state { shown self.new ≡ instructed cycle (shown self.old) }
         ensures rows { self.new.rows.items ≡ self.old.rows.items ++ instructed_rows cycle (shown self.old) }
         ensures going { 0 < result → IsGoing result (shown self.new) }
         ensures same { 0 < result → vec_len self.new.rows ≡ vec_len self.old.rows }
-        ensures used { vec_len self.new.rows ≤ vec_len self.old.rows + 1 }
         ensures room { vec_capacity self.new.rows ≡ vec_capacity self.old.rows }
-        ensures count { self.new.count ≤ self.old.count + 1 }
-        ensures script { self.new.script ≡ self.old.script }
         ensures clock { self.new.bus.board.clock ≡ self.old.bus.board.clock }
     {
         let pc = self.cpu.pc;
-        if is_sleep(op) && is_other(self.bus.board.sleep_mode()) {
+        if self.refuses(op) {
             self.halt(cycle, pc, StopCause::SleepMode);
             return 0;
         }
         let before = self.cpu.sreg.bits;
-        self.bus.at(cycle);
-        match go_on(op, self.program.flash(), &mut self.cpu, &mut self.bus) {
+        match flow_step::exec(*op, self.program.flash(), &mut self.cpu, &mut self.bus) {
             Ok(done) => {
                 let owed = owes(op, before, self.cpu.sreg.bits);
                 self.end(cycle, pc, owed, done)
@@ -309,7 +296,6 @@ impl Machine {
 
     // The first cycle of an instruction on memory. The answer is that of `instruct`.
     #[inline(always)]
-    #[tactic(auto, unfolding(crate::specs::Cycle::instructed, crate::specs::Cycle::instructed_rows))]
     fn instruct_memory(&mut self, cycle: u64, op: &Op) -> u8
         requires fetched { op.now ≡ op_now (shown self.old) }
         requires class { class_of op.now ≡ class.Memory }
@@ -317,22 +303,17 @@ impl Machine {
         requires awake { self.old.asleep ≡ false }
         requires few { self.old.count ≤ 2 ^ 41 }
         requires now { self.old.bus.board.clock ≡ cycle }
-        requires early { cycle ≤ 2 ^ 40 }
         requires room { vec_len self.old.rows < vec_capacity self.old.rows }
         ensures state { shown self.new ≡ instructed cycle (shown self.old) }
         ensures rows { self.new.rows.items ≡ self.old.rows.items ++ instructed_rows cycle (shown self.old) }
         ensures going { 0 < result → IsGoing result (shown self.new) }
         ensures same { 0 < result → vec_len self.new.rows ≡ vec_len self.old.rows }
-        ensures used { vec_len self.new.rows ≤ vec_len self.old.rows + 1 }
         ensures room { vec_capacity self.new.rows ≡ vec_capacity self.old.rows }
-        ensures count { self.new.count ≤ self.old.count + 1 }
-        ensures script { self.new.script ≡ self.old.script }
         ensures clock { self.new.bus.board.clock ≡ self.old.bus.board.clock }
     {
         let pc = self.cpu.pc;
         let before = self.cpu.sreg.bits;
-        self.bus.at(cycle);
-        match access(op, self.program.flash(), &mut self.cpu, &mut self.bus) {
+        match memory_step::exec(*op, self.program.flash(), &mut self.cpu, &mut self.bus) {
             Ok(done) => {
                 let owed = turns_on(before, self.cpu.sreg.bits);
                 self.end(cycle, pc, owed, done)
@@ -344,32 +325,6 @@ impl Machine {
         }
     }
 
-    // An instruction that halts the node. The answer is that of `instruct`.
-    #[inline(always)]
-    #[tactic(auto, unfolding(crate::specs::Cycle::instructed, crate::specs::Cycle::instructed_rows))]
-    fn instruct_halt(&mut self, cycle: u64, op: &Op, cause: StopCause) -> u8
-        requires fetched { op.now ≡ op_now (shown self.old) }
-        requires class { class_of op.now ≡ class.Halting cause }
-        requires going { self.old.stop ≡ None }
-        requires awake { self.old.asleep ≡ false }
-        requires few { self.old.count ≤ 2 ^ 41 }
-        requires now { self.old.bus.board.clock ≡ cycle }
-        requires early { cycle ≤ 2 ^ 40 }
-        requires room { vec_len self.old.rows < vec_capacity self.old.rows }
-        ensures state { shown self.new ≡ instructed cycle (shown self.old) }
-        ensures rows { self.new.rows.items ≡ self.old.rows.items ++ instructed_rows cycle (shown self.old) }
-        ensures going { 0 < result → IsGoing result (shown self.new) }
-        ensures same { 0 < result → vec_len self.new.rows ≡ vec_len self.old.rows }
-        ensures used { vec_len self.new.rows ≤ vec_len self.old.rows + 1 }
-        ensures room { vec_capacity self.new.rows ≡ vec_capacity self.old.rows }
-        ensures count { self.new.count ≤ self.old.count + 1 }
-        ensures script { self.new.script ≡ self.old.script }
-        ensures clock { self.new.bus.board.clock ≡ self.old.bus.board.clock }
-    {
-        self.halt(cycle, self.cpu.pc, cause);
-        0
-    }
-
     // The first cycle of an instruction: how many it takes, or 0 where the node stopped, executed SLEEP, or has a row
     // more.
     #[inline(always)]
@@ -378,16 +333,12 @@ impl Machine {
         requires awake { self.old.asleep ≡ false }
         requires few { self.old.count ≤ 2 ^ 41 }
         requires now { self.old.bus.board.clock ≡ cycle }
-        requires early { cycle ≤ 2 ^ 40 }
         requires room { vec_len self.old.rows < vec_capacity self.old.rows }
         ensures state { shown self.new ≡ instructed cycle (shown self.old) }
         ensures rows { self.new.rows.items ≡ self.old.rows.items ++ instructed_rows cycle (shown self.old) }
         ensures going { 0 < result → IsGoing result (shown self.new) }
         ensures same { 0 < result → vec_len self.new.rows ≡ vec_len self.old.rows }
-        ensures used { vec_len self.new.rows ≤ vec_len self.old.rows + 1 }
         ensures room { vec_capacity self.new.rows ≡ vec_capacity self.old.rows }
-        ensures count { self.new.count ≤ self.old.count + 1 }
-        ensures script { self.new.script ≡ self.old.script }
         ensures clock { self.new.bus.board.clock ≡ self.old.bus.board.clock }
     {
         let op = self.program.op(self.cpu.pc);
@@ -395,32 +346,29 @@ impl Machine {
             Class::Arith => self.instruct_registers(cycle, &op),
             Class::Flow => self.instruct_flow(cycle, &op),
             Class::Memory => self.instruct_memory(cycle, &op),
-            Class::Halting(cause) => self.instruct_halt(cycle, &op, cause),
+            Class::Halting(cause) => {
+                self.halt(cycle, self.cpu.pc, cause);
+                0
+            }
         }
     }
 
     // The first cycle of an interrupt, of which so many cycles more follow: how many it takes, or 0 where the node stopped
     // or has a row more.
-    #[tactic(auto, unfolding(crate::specs::Cycle::entered, crate::specs::Cycle::entered_rows))]
     fn enter(&mut self, cycle: u64, wait: u8, vector: Vector) -> u8
         requires short { wait ≤ 7 }
         requires going { self.old.stop ≡ None }
         requires now { self.old.bus.board.clock ≡ cycle }
-        requires early { cycle ≤ 2 ^ 40 }
         requires room { vec_len self.old.rows < vec_capacity self.old.rows }
         ensures state { shown self.new ≡ entered cycle wait vector (shown self.old) }
         ensures rows { self.new.rows.items ≡ self.old.rows.items ++ entered_rows cycle vector (shown self.old) }
         ensures going { 0 < result → IsGoing result (shown self.new) }
         ensures same { 0 < result → vec_len self.new.rows ≡ vec_len self.old.rows }
-        ensures used { vec_len self.new.rows ≤ vec_len self.old.rows + 1 }
         ensures room { vec_capacity self.new.rows ≡ vec_capacity self.old.rows }
-        ensures count { self.new.count ≡ self.old.count }
-        ensures script { self.new.script ≡ self.old.script }
         ensures clock { self.new.bus.board.clock ≡ self.old.bus.board.clock }
     {
         let back = self.cpu.pc;
         let node = self.number;
-        self.bus.at(cycle);
         match enter(vector, &mut self.cpu, &mut self.bus) {
             Ok(()) => {
                 self.bus.board.entered(vector);
@@ -475,16 +423,12 @@ impl Machine {
         requires going { self.old.stop ≡ None }
         requires free { self.old.wait ≡ 0 }
         requires awake { self.old.asleep ≡ false }
-        requires early { cycle ≤ 2 ^ 40 }
         requires room { vec_len self.old.rows < vec_capacity self.old.rows }
         ensures state { shown self.new ≡ cpu_cycle cycle (shown self.old) }
         ensures rows { self.new.rows.items ≡ self.old.rows.items ++ cpu_rows cycle (shown self.old) }
         ensures going { 0 < result → IsGoing result (shown self.new) }
         ensures same { 0 < result → vec_len self.new.rows ≡ vec_len self.old.rows }
-        ensures used { vec_len self.new.rows ≤ vec_len self.old.rows + 1 }
         ensures room { vec_capacity self.new.rows ≡ vec_capacity self.old.rows }
-        ensures count { self.new.count ≤ self.old.count + 1 }
-        ensures script { self.new.script ≡ self.old.script }
         ensures clock { self.new.bus.board.clock ≡ self.old.bus.board.clock }
     {
         if let Some(vector) = self.due() {
@@ -501,13 +445,10 @@ impl Machine {
         requires now { self.old.bus.board.clock ≡ cycle }
         requires going { self.old.stop ≡ None }
         requires rests { self.old.wait ≡ 0 → self.old.asleep ≡ true }
-        requires early { cycle ≤ 2 ^ 40 }
         requires room { vec_len self.old.rows < vec_capacity self.old.rows }
         ensures state { shown self.new ≡ cpu_cycle cycle (shown self.old) }
         ensures rows { self.new.rows.items ≡ self.old.rows.items ++ cpu_rows cycle (shown self.old) }
-        ensures used { vec_len self.new.rows ≤ vec_len self.old.rows + 1 }
         ensures room { vec_capacity self.new.rows ≡ vec_capacity self.old.rows }
-        ensures count { self.new.count ≡ self.old.count }
         ensures clock { self.new.bus.board.clock ≡ self.old.bus.board.clock }
     {
         if self.wait > 0 {
@@ -584,18 +525,6 @@ impl Machine {
         self.put_serial(cycle, begun.serial);
         self.put_sent(cycle, begun.sent);
         in_the_air(begun.asks, begun.sent)
-    }
-
-    /// Room for the rows of a cycle.
-    pub fn make_room(&mut self) -> Result<(), AllocError>
-        ensures state { shown self.new ≡ shown self.old }
-        ensures rows { self.new.rows.items ≡ self.old.rows.items }
-        ensures room { OnOk result (vec_len self.new.rows + 4 ≤ vec_capacity self.new.rows) }
-        ensures clock { self.new.bus.board.clock ≡ self.old.bus.board.clock }
-        ensures stop { self.new.stop ≡ self.old.stop }
-        ensures count { self.new.count ≡ self.old.count }
-    {
-        self.rows.reserve(ROWS_OF_A_CYCLE)
     }
 
     /// The devices' part of a cycle up to its sample, which a node that stopped in this cycle does not reach. There is

@@ -6,7 +6,7 @@ ghost use Rattle.node_core.specs.Cycle.{node_kind, end_row};
 ghost use Rattle.node_core.specs.Reached.{IsReached};
 
 use crate::NodeBus;
-use crate::machine::{Machine, OnAir};
+use crate::machine::{Machine, OnAir, ROWS_OF_A_CYCLE};
 use avr_base::{NoMemory, StopCause};
 use avr_program::Program;
 use data_space::Cpu;
@@ -122,7 +122,7 @@ impl Node {
             if at == cycle {
                 return Reached::Cycle;
             }
-            if self.machine.make_room().is_err() {
+            if self.machine.rows.reserve(ROWS_OF_A_CYCLE).is_err() {
                 return Reached::NoMemory;
             }
             let at = at + self.machine.stride(at, cycle - at);

@@ -19,13 +19,7 @@ impl Machine {
         requires none { (i : ℕ) → cycle + i < end → script_byte self.old.script (cycle + i) ≡ None }
         ensures passed { result ≡ true → IsPassed cycle taken (shown self.old) (shown self.new) }
         ensures same { result ≡ false → self.new ≡ self.old }
-        ensures some { result ≡ true → 0 < taken }
         ensures rows { self.new.rows ≡ self.old.rows }
-        ensures stop { self.new.stop ≡ self.old.stop }
-        ensures asleep { self.new.asleep ≡ self.old.asleep }
-        ensures free { result ≡ true → self.new.wait ≡ 0 }
-        ensures script { self.new.script ≡ self.old.script }
-        ensures count { self.new.count ≡ self.old.count }
         ensures clock { result ≡ true → self.new.bus.board.clock ≡ cycle + taken }
         ensures within { result ≡ true → cycle + taken ≤ end }
     {

@@ -1,4 +1,5 @@
-use Rattle.std.proofs.Common.{Option, ℕ, sym, ap, ◌∙◌}
+use Rattle.std.proofs.Common.{◌≡◌, Option, Some, None, is_some, not, false, ℕ, refl, sym, ap, ◌∙◌}
+use Rattle.std.proofs.lemmas.Bool.{false≢true}
 use Rattle.board_io.specs.Board.{unclocked}
 use Rattle.board_io.specs.Cycle.{board_begun}
 use Rattle.board_io.specs.declared.board.Board.{Board}
@@ -6,13 +7,17 @@ use Rattle.board_io.proofs.Lags.{quiet_now}
 use Rattle.board_io.proofs.Leaps.{asks_quiet, begun_quiet, sends_quiet, serial_quiet}
 use Rattle.board_io.proofs.lagging.LaggingBoard.begin.Goals as goal
 
+none_is : (a : Option ℕ) → is_some a ≡ false → a ≡ None
+none_is None e = refl
+none_is (Some byte) e = absurd (false≢true (sym e))
+
 pub returns-then-passes-clause-state : goal.returns-then-passes-clause-state
 returns-then-passes-clause-state c =
     let t = c.args.cycle in
     let v : Board = unclocked c.args.self.now in
     let quiet = quiet_now t c.args.self.now (c.passes.ensures.idle c.if-passes.true) in
     c.passes.ensures.state c.if-passes.true
-    ∙ (sym (begun_quiet t v quiet) ∙ ap (λ (a : Option ℕ). board_begun t a v) (sym c.in-None.is))
+    ∙ (sym (begun_quiet t v quiet) ∙ ap (λ (a : Option ℕ). board_begun t a v) (sym (none_is c.args.arrival (c.is_none.ensures ∙ ap not c.if-is_none.true))))
 
 pub returns-then-passes-clause-clock : goal.returns-then-passes-clause-clock
 returns-then-passes-clause-clock c = c.passes.ensures.clock c.if-passes.true

@@ -1,4 +1,4 @@
-use Rattle.std.proofs.Common.{◌≡◌, ℕ, ◌+◌, ◌-◌, None, false, is_some, refl, add-zero, sym, subst, ap, ◌∙◌, arith}
+use Rattle.std.proofs.Common.{◌≡◌, ℕ, ◌+◌, ◌-◌, ◌<◌, ◌≤◌, ◌^◌, None, false, is_some, refl, add-zero, sym, subst, ap, ◌∙◌, arith}
 use Rattle.std.specs.Prelude.{vec_len, vec_capacity}
 use Rattle.trace_rows.specs.declared.row.Row.{Row}
 use Rattle.usart_port.specs.Script.{ScriptBytes, script_byte}
@@ -8,6 +8,7 @@ use Rattle.node_core.specs.Cycle.{node_kind}
 use Rattle.node_core.specs.Midway.{IsMidway}
 use Rattle.node_core.specs.Shown.{shown}
 use Rattle.node_core.specs.State.{NodeState}
+use Rattle.node_core.proofs.Acts.{arrives_still, one_more, one_row}
 use Rattle.node_core.proofs.Strides.{passed_there}
 use Rattle.node_core.proofs.machine.Machine.stride.Goals as goal
 
@@ -42,10 +43,12 @@ loop-cycle-preserved c =
     let f = c.finish_instruction.ensures in
     let taken : ℕ = c.act-taken.result in
     let done = c.if-not-finish_instruction.false in
-    let some = f.some done in
+    let passed = f.passed done in
+    let some : 0 < taken = omega (arith, passed.wait) in
+    let more_count = one_more at s u e.state in
     let midway : IsMidway v at u k = record { state = s; rows = c.loop-cycle.self.rows.items; comes = i.comes; going = ap is_some i.going; part = e.state; told = e.rows } in
     let w : NodeState = shown c.finish_instruction.new.self in
-    let there : Comes node_kind v (at + taken) w k = passed_there v at taken u w k midway (f.passed done) in
+    let there : Comes node_kind v (at + taken) w k = passed_there v at taken u w k midway passed in
     let rows = ap (λ x. x.items) f.rows in
     let going = e.going some in
     let more = c.from-at.ensures in
@@ -54,12 +57,12 @@ loop-cycle-preserved c =
       from = omega (arith, i.from);
       within = omega (arith, f.within done, next);
       comes = subst (λ (t : ℕ). Comes node_kind v t w c.finish_instruction.new.self.rows.items) next (subst (Comes node_kind v (at + taken) w) (sym rows) there);
-      going = f.stop ∙ going.going;
-      free = f.free done;
-      awake = f.asleep ∙ going.awake;
+      going = ap (λ (x : NodeState). x.stop) passed.after ∙ going.going;
+      free = ap (λ (x : NodeState). x.wait) passed.after;
+      awake = ap (λ (x : NodeState). x.asleep) passed.after ∙ going.awake;
       clock = f.clock done ∙ next;
-      script = f.script ∙ (e.script ∙ i.script);
-      count = omega (arith, some, f.count, e.count, i.count, next);
+      script = ap (λ (x : NodeState). x.script) passed.after ∙ (arrives_still at s u e.state ∙ i.script);
+      count = subst (λ (n : ℕ). n ≤ 2 ^ 40 + (at + c.from-at.result)) (sym (ap (λ (x : NodeState). x.count) passed.after)) (omega (arith, some, more_count, i.count, next));
       len = ap (λ x. vec_len x) f.rows ∙ (e.same some ∙ i.len);
       capacity = ap (λ x. vec_capacity x) f.rows ∙ (e.room ∙ i.capacity);
     }
@@ -69,7 +72,7 @@ finish_instruction-requires-clause-none c i l =
     let t : ℕ = c.args.cycle in
     let at : ℕ = c.loop-cycle.at in
     let from = c.loop-cycle.invariant.from in
-    let script = c.act-taken.ensures.script ∙ c.loop-cycle.invariant.script in
+    let script = arrives_still at (shown c.loop-cycle.self) (shown c.act-taken.new.self) c.act-taken.ensures.state ∙ c.loop-cycle.invariant.script in
     let there : t + (at - t + i) ≡ at + i = omega (arith, from) in
     ap (λ (x : ScriptBytes). script_byte x (at + i)) script
     ∙ subst (λ (u : ℕ). script_byte c.args.self.now.script u ≡ None) there (c.quiet.ensures.none (at - t + i) (omega (arith, l, from)))
@@ -83,3 +86,30 @@ returns-then-self-gt0-clause-midway c =
     let e = c.idle.ensures in
     let here : IsMidway v t u k = record { state = v.state; rows = v.rows; comes = comes_none node_kind v; going = ap is_some c.requires.going; part = e.state; told = e.rows } in
     subst (λ (at : ℕ). IsMidway v at u k) (sym (add-zero t)) here
+
+pub returns-then-self-gt0-clause-room : goal.returns-then-self-gt0-clause-room
+returns-then-self-gt0-clause-room c =
+    let few = one_row c.args.cycle (shown c.args.self.now) c.args.self.now.rows.items c.idle.new.self.rows.items c.idle.ensures.rows in
+    omega (arith, few, c.requires.room, c.idle.ensures.room)
+
+pub returns-then-not-finish_instruction-clause-room : goal.returns-then-not-finish_instruction-clause-room
+returns-then-not-finish_instruction-clause-room c =
+    let i = c.loop-cycle.invariant in
+    let e = c.act-taken.ensures in
+    let few = one_row c.loop-cycle.at (shown c.loop-cycle.self) c.loop-cycle.self.rows.items c.act-taken.new.self.rows.items e.rows in
+    let same = c.finish_instruction.ensures.rows in
+    let long : vec_len c.finish_instruction.new.self.rows ≡ vec_len c.act-taken.new.self.rows = ap (λ x. vec_len x) same in
+    let wide : vec_capacity c.finish_instruction.new.self.rows ≡ vec_capacity c.act-taken.new.self.rows = ap (λ x. vec_capacity x) same in
+    omega (arith, few, long, wide, e.room, i.len, i.capacity, c.requires.room)
+
+pub returns-then-not-finish_instruction-clause-count : goal.returns-then-not-finish_instruction-clause-count
+returns-then-not-finish_instruction-clause-count c =
+    let i = c.loop-cycle.invariant in
+    let more = one_more c.loop-cycle.at (shown c.loop-cycle.self) (shown c.act-taken.new.self) c.act-taken.ensures.state in
+    let same : c.finish_instruction.new.self.count ≡ c.act-taken.new.self.count = ap (λ x. x.count) (c.finish_instruction.ensures.same c.if-not-finish_instruction.true) in
+    omega (arith, more, same, i.from, i.count)
+
+pub returns-then-self-gt0-clause-count : goal.returns-then-self-gt0-clause-count
+returns-then-self-gt0-clause-count c =
+    let more = one_more c.args.cycle (shown c.args.self.now) (shown c.idle.new.self) c.idle.ensures.state in
+    omega (arith, more, c.requires.few)

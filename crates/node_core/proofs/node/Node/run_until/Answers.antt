@@ -52,13 +52,9 @@ loop-self-preserved c =
     let s : NodeState = shown c.rest.new.self in
     let u : NodeState = shown c.stride.new.self in
     let w : NodeState = shown c.conclude.new.self in
-    let rested = rested_comes v i.cycle c.rest.result (shown i.machine) s i.machine.rows.items c.rest.new.self.rows.items c.loop-self.invariant.comes e.quiet e.state e.rows (ap (λ x. x.items) e.same) in
-    let room = c.make_room.ensures in
-    let kept : Comes node_kind v at (shown c.make_room.new.self) c.make_room.new.self.rows.items =
-    subst (λ (l : List Row). Comes node_kind v at (shown c.make_room.new.self) l) (sym room.rows)
-    (subst (λ (x : NodeState). Comes node_kind v at x c.rest.new.self.rows.items) (sym room.state) rested) in
+    let kept = rested_comes v i.cycle c.rest.result (shown i.machine) s i.machine.rows.items c.reserve.new.self.items c.loop-self.invariant.comes e.quiet e.state e.rows (c.reserve.ensures.items ∙ ap (λ x. x.items) e.same) in
     let mid : IsMidway v there u c.stride.new.self.rows.items =
-    joined v at there (shown c.make_room.new.self) u c.make_room.new.self.rows.items c.stride.new.self.rows.items kept c.stride.ensures.midway in
+    joined v at there s u c.reserve.new.self.items c.stride.new.self.rows.items kept c.stride.ensures.midway in
     let b = c.conclude.ensures in
     let air = subst (λ a. IsOnAir (asks_in there mid.state) (sends_in there mid.state) a) c.in-Quiet.is (ended_air v there u c.stride.new.self.rows.items mid c.conclude.result b.air) in
     let state = ended v there u c.stride.new.self.rows.items mid w b.state in
@@ -82,13 +78,9 @@ returns-in-Sent c =
     let s : NodeState = shown c.rest.new.self in
     let u : NodeState = shown c.stride.new.self in
     let w : NodeState = shown c.conclude.new.self in
-    let rested = rested_comes v i.cycle c.rest.result (shown i.machine) s i.machine.rows.items c.rest.new.self.rows.items c.loop-self.invariant.comes e.quiet e.state e.rows (ap (λ x. x.items) e.same) in
-    let room = c.make_room.ensures in
-    let kept : Comes node_kind v at (shown c.make_room.new.self) c.make_room.new.self.rows.items =
-    subst (λ (l : List Row). Comes node_kind v at (shown c.make_room.new.self) l) (sym room.rows)
-    (subst (λ (x : NodeState). Comes node_kind v at x c.rest.new.self.rows.items) (sym room.state) rested) in
+    let kept = rested_comes v i.cycle c.rest.result (shown i.machine) s i.machine.rows.items c.reserve.new.self.items c.loop-self.invariant.comes e.quiet e.state e.rows (c.reserve.ensures.items ∙ ap (λ x. x.items) e.same) in
     let mid : IsMidway v there u c.stride.new.self.rows.items =
-    joined v at there (shown c.make_room.new.self) u c.make_room.new.self.rows.items c.stride.new.self.rows.items kept c.stride.ensures.midway in
+    joined v at there s u c.reserve.new.self.items c.stride.new.self.rows.items kept c.stride.ensures.midway in
     let b = c.conclude.ensures in
     let air = subst (λ a. IsOnAir (asks_in there mid.state) (sends_in there mid.state) a) c.in-Sent.is (ended_air v there u c.stride.new.self.rows.items mid c.conclude.result b.air) in
     let state = ended v there u c.stride.new.self.rows.items mid w b.state in
@@ -114,13 +106,9 @@ returns-in-Asks c =
     let s : NodeState = shown c.rest.new.self in
     let u : NodeState = shown c.stride.new.self in
     let w : NodeState = shown c.conclude.new.self in
-    let rested = rested_comes v i.cycle c.rest.result (shown i.machine) s i.machine.rows.items c.rest.new.self.rows.items c.loop-self.invariant.comes e.quiet e.state e.rows (ap (λ x. x.items) e.same) in
-    let room = c.make_room.ensures in
-    let kept : Comes node_kind v at (shown c.make_room.new.self) c.make_room.new.self.rows.items =
-    subst (λ (l : List Row). Comes node_kind v at (shown c.make_room.new.self) l) (sym room.rows)
-    (subst (λ (x : NodeState). Comes node_kind v at x c.rest.new.self.rows.items) (sym room.state) rested) in
+    let kept = rested_comes v i.cycle c.rest.result (shown i.machine) s i.machine.rows.items c.reserve.new.self.items c.loop-self.invariant.comes e.quiet e.state e.rows (c.reserve.ensures.items ∙ ap (λ x. x.items) e.same) in
     let mid : IsMidway v there u c.stride.new.self.rows.items =
-    joined v at there (shown c.make_room.new.self) u c.make_room.new.self.rows.items c.stride.new.self.rows.items kept c.stride.ensures.midway in
+    joined v at there s u c.reserve.new.self.items c.stride.new.self.rows.items kept c.stride.ensures.midway in
     let b = c.conclude.ensures in
     let air = subst (λ a. IsOnAir (asks_in there mid.state) (sends_in there mid.state) a) c.in-Asks.is (ended_air v there u c.stride.new.self.rows.items mid c.conclude.result b.air) in
     let state = ended v there u c.stride.new.self.rows.items mid w b.state in
@@ -142,13 +130,11 @@ returns-then-is_err c =
     let at : ℕ = i.cycle + c.rest.result in
     let v = c.args.self.now in
     let u : NodeState = shown c.rest.new.self in
-    let room = c.make_room.ensures in
-    let comes = rested_comes v i.cycle c.rest.result (shown i.machine) u i.machine.rows.items c.rest.new.self.rows.items c.loop-self.invariant.comes e.quiet e.state e.rows (ap (λ x. x.items) e.same) in (
+    let comes = rested_comes v i.cycle c.rest.result (shown i.machine) u i.machine.rows.items c.reserve.new.self.items c.loop-self.invariant.comes e.quiet e.state e.rows (c.reserve.ensures.items ∙ ap (λ x. x.items) e.same) in (
       omega (arith, e.within),
       record {
         cycle = refl;
         asking = c.loop-self.invariant.calm;
-        comes = subst (λ (l : List Row). Comes node_kind v at (shown c.make_room.new.self) l) (sym room.rows)
-            (subst (λ (w : NodeState). Comes node_kind v at w c.rest.new.self.rows.items) (sym room.state) comes);
+        comes = comes;
       },
     )
