@@ -2,7 +2,7 @@
 use Rattle.std.proofs.Common.{◌≡◌, ℕ, zero, suc, ◌+◌, ◌-◌, ◌<◌, ◌≤◌, ◌⊎◌, inl, inr, Bool, true, false, not, ◌&&◌, List, [], ◌∷◌, ◌++◌, map, length, take, drop, get_or, set, refl, sym, subst, ◌∙◌, ap, arith, append-nil, append_assoc, length-take, min, replicate}
 use Rattle.std.specs.Prelude.{nat_lt, is_some}
 use Rattle.std.specs.List.{All, filter, flat_map}
-use Rattle.std.proofs.lemmas.List.{length-append, get_or_append_left, get_or-append_right, length-map, get_or-map, get_or_at, set_at, drop_more, take_more, map_push}
+use Rattle.std.proofs.lemmas.List.{length-append, get_or_append_left, get_or-append_right, length-map, get_or-map, get_or_at, set_at, drop_more, take_more, take_all, drop_all, map_push}
 use Rattle.std.proofs.lemmas.List.Concat.{flat_map-append}
 use Rattle.std.proofs.lemmas.List.Elements.{All-filter}
 use Rattle.std.proofs.lemmas.Bool.{false≢true}
@@ -48,12 +48,19 @@ gathers_on old items i p q h e g r =
       same = same;
     }
 
+-- the loop has come to the end
+pub all_taken : (old items : List Place) (i : ℕ) → length old ≤ i → items ≡ map taken (take i old) ++ drop i old → items ≡ map taken old
+all_taken old items i h e = e ∙ (λ j. map taken (take_all i old h j) ++ drop_all i old h j) ∙ append-nil (map taken old)
+
 -- one more runner at reset
 start_case : (sc : ScenarioOf) (n : ℕ) (ps : List Place) (p : Place) (all : AllStart sc n ps) → p ≡ start_of sc n → (k : ℕ) (d : Place) → Dec (k ≡ n) → k < n + 1 → place_at (ps ++ p ∷ []) k d ≡ start_of sc k
 start_case sc n ps p all e k d (yes q) l =
     let z : n - n ≡ 0 = omega arith in
     ap (λ (m : ℕ). place_at (ps ++ p ∷ []) m d) q ∙ get_or-append_right ps (p ∷ []) n n d all.count (omega arith) ∙ ap (λ (m : ℕ). get_or (p ∷ []) m d) z ∙ e ∙ ap (start_of sc) (sym q)
 start_case sc n ps p all e k d (no g) l = let c = all.count in get_or_append_left ps (p ∷ []) d k (omega arith) ∙ all.each k d (omega arith)
+
+pub none_start : (sc : ScenarioOf) (ps : List Place) → ps ≡ [] → AllStart sc 0 ps
+none_start sc ps e = record { count = ap length e; each = (λ k d l. absurd (omega arith)) }
 
 pub starts_on : (sc : ScenarioOf) (n : ℕ) (ps qs : List Place) (p : Place) → AllStart sc n ps → p ≡ start_of sc n → qs ≡ ps ++ p ∷ [] → AllStart sc (n + 1) qs
 starts_on sc n ps qs p all e q =

@@ -197,3 +197,6 @@ module _ (sc : ScenarioOf) (floor end : ℕ) (ps : List Place) (sends : List Sen
 
     pub rank_falls : sum_by (rank end) (set ps k new) < sum_by (rank end) ps
     rank_falls = let n = fl.count in let e = sum_by-set (rank end) ps k new d (omega arith) in let l = adv.less in omega arith
+
+pub at_own : (sc : ScenarioOf) (end k : ℕ) (p : Place) → IsAt sc end k p → IsAt p.scenario end p.number p
+at_own sc end k p a = subst (λ (s : ScenarioOf). IsAt s end p.number p) (sym a.scenario) (subst (λ (n : ℕ). IsAt sc end n p) (sym a.number) a)

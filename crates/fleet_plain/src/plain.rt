@@ -5,6 +5,7 @@ ghost use Rattle.global_order.specs.Order.{run_rows};
 ghost use Rattle.node_runner.specs.Scenario.{fleet_of, IsScenario};
 ghost use Rattle.node_runner.specs.Flight.{epoch};
 ghost use Rattle.node_runner.specs.Run.{rows_upto};
+ghost use Rattle.fleet_plain.specs.Run.{IsResting};
 
 use crate::fleet::run_to;
 use crate::gather::{ends_at, gather, start};
@@ -26,9 +27,34 @@ fn room_for(topo: &Topo) -> usize
     usize::from(topo.nodes()) * each as usize
 }
 
+// The rows of the epoch from `floor` to `end`, where all nodes come to rest. They are taken from the runners.
+fn rows_to(
+    alloc: Global,
+    runners: &mut Vec<Runner>,
+    log: &mut SendLog,
+    scenario: &Scenario,
+    floor: u64,
+    end: u64,
+) -> Result<Vec<Row>, NoMemory>
+    requires rests { IsResting scenario.now floor runners.old.items log.old }
+    requires more { floor < end }
+    requires end { end ≤ scenario.now.topo.limit }
+    requires span { end ≤ floor + epoch }
+    ensures rows { IfOk result (λ v. rows_upto (fleet_of scenario.now) end ≡ rows_upto (fleet_of scenario.now) floor ++ v.items) }
+    ensures rests { OnOk result (IsResting scenario.now end runners.new.items log.new) }
+{
+    let topo = scenario.lawful_topo();
+    run_to(runners, log, scenario, floor, end)?;
+    let last = ends_at(alloc, runners, end == topo.limit())?;
+    let mut rows = gather(alloc, runners)?;
+    sort(&mut rows)?;
+    rows.extend_from_slice(&last)?;
+    log.cut(topo, end);
+    Ok(rows)
+}
+
 /// A run of all nodes of a scenario on one thread, epoch by epoch. It has a record of sends of bounded room; the rows of an
 /// epoch are given as it ends.
-#[derive(Drop)]
 pub struct PlainRun {
     alloc: Global,
     scenario: Snapshot<Scenario>,
@@ -37,6 +63,21 @@ pub struct PlainRun {
     failed: bool,
     runners: Vec<Runner>,
     log: SendLog,
+}
+
+// By hand, so that an exit that lets go of a run has one call to prove.
+impl Drop for PlainRun {
+    fn drop(self) {
+        let PlainRun {
+            alloc: _,
+            scenario: _,
+            limit: _,
+            floor: _,
+            failed: _,
+            runners: _,
+            log: _,
+        } = self;
+    }
 }
 
 impl Model for PlainRun {
@@ -99,14 +140,15 @@ impl PlainRun {
         ensures scenario { self.new.scenario ≡ self.old.scenario }
     {
         self.failed = true;
-        let floor = self.floor;
-        let end = (floor + EPOCH).min(self.limit);
-        run_to(&mut self.runners, &mut self.log, scenario, floor, end)?;
-        let last = ends_at(self.alloc, &self.runners, end == self.limit)?;
-        let mut rows = gather(self.alloc, &mut self.runners)?;
-        sort(&mut rows)?;
-        rows.extend_from_slice(&last)?;
-        self.log.cut(scenario.lawful_topo(), end);
+        let end = (self.floor + EPOCH).min(self.limit);
+        let rows = rows_to(
+            self.alloc,
+            &mut self.runners,
+            &mut self.log,
+            scenario,
+            self.floor,
+            end,
+        )?;
         self.floor = end;
         self.failed = false;
         Ok(rows)

@@ -4,7 +4,8 @@ use Rattle.std.proofs.Common.{◌≡◌, ℕ, ◌+◌, ◌<◌, ◌≤◌, inl, 
 use Rattle.std.specs.List.{All, flat_map}
 use Rattle.std.specs.List.Sorted.{IsNonDecreasingBy, IsStableByKey}
 use Rattle.std.specs.Ordering.{nat_cmp}
-use Rattle.std.proofs.lemmas.List.{length-map, get_or-map, get_or_at, set_at, drop_more, take_more, map_push}
+use Rattle.std.proofs.lemmas.List.{length-map, get_or-map, get_or_at, set_at, drop_more, take_more, take_all, drop_all, map_push}
+use Rattle.std.proofs.lemmas.List.Elements.{All-push}
 use Rattle.std.proofs.lemmas.List.Concat.{flat_map-append}
 use Rattle.clock_words.specs.Seats.{first_node}
 use Rattle.trace_rows.specs.declared.row.Row.{Row}
@@ -111,3 +112,13 @@ pub ends_on : (ms : List Member) (i : ℕ) (m : Member) (r : Row) (rows new : Li
 ends_on ms i m r rows new h is e last f =
     let here : r ≡ end_row_at (get_or ms i m) = last ∙ ap end_row_at is in
     f ∙ (λ j. e j ++ here j ∷ []) ∙ sym (map_push end_row_at (take i ms) (get_or ms i m)) ∙ ap (map end_row_at) (sym (take_more ms i m h))
+
+-- the loop has come to the end
+pub all_taken : (old items : List Member) (i : ℕ) → length old ≤ i → items ≡ map taken_at (take i old) ++ drop i old → items ≡ map taken_at old
+all_taken old items i h e = e ∙ (λ j. map taken_at (take_all i old h j) ++ drop_all i old h j) ∙ append-nil (map taken_at old)
+
+-- one more node goes on
+pub one_more_goes : (ms : List Member) (i : ℕ) (m : Member) → i < length ms → m ≡ get_or ms i m → m.halted ≡ false → All (λ x. x.halted ≡ false) (take i ms) → All (λ x. x.halted ≡ false) (take (i + 1) ms)
+one_more_goes ms i m lt is goes all =
+    subst (All (λ (x : Member). x.halted ≡ false)) (sym (take_more ms i m lt))
+    (All-push (λ (x : Member). x.halted ≡ false) (take i ms) (get_or ms i m) all (ap (λ (x : Member). x.halted) (sym is) ∙ goes))

@@ -203,3 +203,8 @@ module _ (sc : ScenarioOf) (t : TableId) (airs : List NodeFacts) (ms : List Memb
 
   pub few : All (λ a. a.number < sc.topo.nodes) airs
   few k d lt = let n = nodes.0 in let e = ap (λ (a : NodeFacts). a.number) (nodes.1 k d lt) in omega arith
+
+-- at the floor, where the record is cut
+pub all_go_on : (sc : ScenarioOf) (floor end : ℕ) (x : Parts) → IsTied sc floor floor x → IsEpoch (facts_of (fleet_of sc)) sc floor end → All (IsUnderWay x.air.table (facts_of (fleet_of sc)) sc x.air.floor end) x.members.items
+all_go_on sc floor end x y e =
+    subst (λ (n : ℕ). All (IsUnderWay x.air.table (facts_of (fleet_of sc)) sc n end) x.members.items) (sym y.parts.floor) (all_begin x.air.table sc floor end x.members.items e y.rests)

@@ -1,5 +1,6 @@
 pub mod Answers
 pub mod Member
 pub mod Handed
+pub mod Nodes
 pub mod Ending
 pub mod Run

@@ -1,5 +1,6 @@
 // The lists of an epoch.
-ghost use Rattle.std.specs.Prelude.{◌≡◌, ◌≤◌, [], IfOk, vec_len, vec_capacity};
+ghost use Rattle.std.specs.Prelude.{◌≡◌, IfOk};
+ghost use Rattle.fleet_threads.specs.Nodes.{HaveRoom};
 
 use crate::member::Member;
 use std::alloc::{AllocError, Global};
@@ -14,10 +15,17 @@ pub struct Lists {
     pub refused: Vec<AtomicBool>,
 }
 
+/// The nodes of one epoch: those that are still to be begun, those for which no thread was found, and those that are back.
+#[derive(Drop)]
+pub struct Nodes {
+    pub members: Vec<Member>,
+    pub waiting: Vec<Member>,
+    pub done: Vec<Member>,
+}
+
 /// The empty lists for so many nodes.
 pub fn lists_for(alloc: Global, nodes: usize) -> Result<Lists, AllocError>
-    ensures waiting { IfOk result (λ l. (l.waiting.items ≡ []) × (vec_len l.waiting ≡ 0) × (nodes ≤ vec_capacity l.waiting)) }
-    ensures done { IfOk result (λ l. (l.done.items ≡ []) × (vec_len l.done ≡ 0) × (nodes ≤ vec_capacity l.done)) }
+    ensures { IfOk result (HaveRoom nodes) }
 {
     let refused = flags_for(alloc, nodes)?;
     let waiting = Vec::with_capacity(alloc, nodes)?;

@@ -6,7 +6,6 @@ ghost use Rattle.fleet_threads.specs.Answers.{IsAnswered};
 use crate::gate::Gate;
 use neighbour_sync::{NodeAir, Passed, Session, Shared, Tried};
 use node_runner::{Event, Runner, Scenario};
-use std::snapshot::Snapshot;
 use std::sync::Wait;
 
 // The cycles of one turn of a node, at most.
@@ -86,14 +85,9 @@ impl Member {
     }
 
     // Tells all nodes to halt, and halts.
-    fn halt<N: Session>(
-        &mut self,
-        shared: &Shared<Scenario, N>,
-        scenario: &Snapshot<Scenario>,
-        end: u64,
-    )
-        requires { IsUnderWay N.table N.world scenario.now.value N.floor end self.old }
-        ensures member { IsUnderWay N.table N.world scenario.now.value N.floor end self.new }
+    fn halt<N: Session>(&mut self, shared: &Shared<Scenario, N>, scenario: &Scenario, end: u64)
+        requires { IsUnderWay N.table N.world scenario.now N.floor end self.old }
+        ensures member { IsUnderWay N.table N.world scenario.now N.floor end self.new }
         ensures runner { self.new.runner ≡ self.old.runner }
     {
         let _ = scenario;
@@ -104,14 +98,9 @@ impl Member {
 
     // Raises the node's clock word to the runner's cycle, and to the end of the epoch where the node goes on no more before
     // that. It may stand higher already, where the node has looked ahead.
-    fn raise<N: Session>(
-        &mut self,
-        shared: &Shared<Scenario, N>,
-        scenario: &Snapshot<Scenario>,
-        end: u64,
-    )
-        requires { IsUnderWay N.table N.world scenario.now.value N.floor end self.old }
-        ensures member { IsUnderWay N.table N.world scenario.now.value N.floor end self.new }
+    fn raise<N: Session>(&mut self, shared: &Shared<Scenario, N>, scenario: &Scenario, end: u64)
+        requires { IsUnderWay N.table N.world scenario.now N.floor end self.old }
+        ensures member { IsUnderWay N.table N.world scenario.now N.floor end self.new }
         ensures runner { self.new.runner ≡ self.old.runner }
         ensures halted { self.new.halted ≡ self.old.halted }
         ensures over { is_live end self.old.runner ≡ false → self.new.air.clock ≡ end }
@@ -131,13 +120,13 @@ impl Member {
     fn look_ahead<N: Session>(
         &mut self,
         shared: &Shared<Scenario, N>,
-        scenario: &Snapshot<Scenario>,
+        scenario: &Scenario,
         end: u64,
         sent: u64,
     )
-        requires member { IsUnderWay N.table N.world scenario.now.value N.floor end self.old }
+        requires member { IsUnderWay N.table N.world scenario.now N.floor end self.old }
         requires none { sends_below N.world.sends self.old.air.number (sent + self.old.gap) ≤ sends_passed self.old.runner }
-        ensures member { IsUnderWay N.table N.world scenario.now.value N.floor end self.new }
+        ensures member { IsUnderWay N.table N.world scenario.now N.floor end self.new }
         ensures number { self.new.runner.number ≡ self.old.runner.number }
     {
         let _ = scenario;
@@ -152,13 +141,13 @@ impl Member {
         &mut self,
         rt: &R,
         shared: &Shared<Scenario, N>,
-        scenario: &Snapshot<Scenario>,
+        scenario: &Scenario,
         end: u64,
         sampling: Sampling,
     )
-        requires member { IsUnderWay N.table N.world scenario.now.value N.floor end self.old }
+        requires member { IsUnderWay N.table N.world scenario.now N.floor end self.old }
         requires asking { self.old.runner.asking ≡ true }
-        ensures member { IsUnderWay N.table N.world scenario.now.value N.floor end self.new }
+        ensures member { IsUnderWay N.table N.world scenario.now N.floor end self.new }
         ensures number { self.new.runner.number ≡ self.old.runner.number }
     {
         let cycle = self.runner.cycle();
@@ -175,13 +164,13 @@ impl Member {
         rt: &R,
         shared: &Shared<Scenario, N>,
         gate: &G,
-        scenario: &Snapshot<Scenario>,
+        scenario: &Scenario,
         end: u64,
     )
-        requires member { IsUnderWay N.table N.world scenario.now.value N.floor end self.old }
+        requires member { IsUnderWay N.table N.world scenario.now N.floor end self.old }
         requires calm { self.old.runner.asking ≡ false }
         requires live { is_live end self.old.runner ≡ true }
-        ensures member { IsUnderWay N.table N.world scenario.now.value N.floor end self.new }
+        ensures member { IsUnderWay N.table N.world scenario.now N.floor end self.new }
         ensures number { self.new.runner.number ≡ self.old.runner.number }
     {
         gate.reached(rt, self.runner.number(), self.turn);
@@ -210,12 +199,12 @@ impl Member {
         rt: &R,
         shared: &Shared<Scenario, N>,
         gate: &G,
-        scenario: &Snapshot<Scenario>,
+        scenario: &Scenario,
         end: u64,
         sampling: Sampling,
     ) -> bool
-        requires { IsUnderWay N.table N.world scenario.now.value N.floor end self.old }
-        ensures member { IsUnderWay N.table N.world scenario.now.value N.floor end self.new }
+        requires { IsUnderWay N.table N.world scenario.now N.floor end self.old }
+        ensures member { IsUnderWay N.table N.world scenario.now N.floor end self.new }
         ensures number { self.new.runner.number ≡ self.old.runner.number }
         ensures over { result ≡ true → IsOver end self.new }
     {

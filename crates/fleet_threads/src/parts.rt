@@ -1,5 +1,5 @@
 // A run between two epochs.
-use crate::epoch_lists::Lists;
+use crate::epoch_lists::{Lists, Nodes};
 use crate::gate::Gate;
 use crate::member::Member;
 use crate::threads::run_all;
@@ -29,10 +29,11 @@ impl Drop for Parts {
 }
 
 impl Parts {
-    ghost use Rattle.std.specs.Prelude.{◌≡◌, ◌≤◌, [], vec_len, vec_capacity};
+    ghost use Rattle.std.specs.Prelude.{◌≡◌, vec_len};
     ghost use Rattle.std.specs.List.{All};
     ghost use Rattle.neighbour_sync.specs.Parts.{AreParts};
     ghost use Rattle.fleet_threads.specs.Member.{IsUnderWay, IsBack, numbers};
+    ghost use Rattle.fleet_threads.specs.Nodes.{HaveRoom};
 
     /// One epoch in a session of its own, which is made, used and taken apart.
     pub fn in_session<N: Session + Send + Sync, R: Threads + Wait + Sync, G: Gate + Sync>(
@@ -45,8 +46,7 @@ impl Parts {
     ) -> Parts
         requires parts { AreParts N.table N.world N.floor self.clocks self.air }
         requires members { All (IsUnderWay N.table N.world scenario.now N.floor end) self.members.items }
-        requires waiting { (lists.waiting.items ≡ []) × (vec_len lists.waiting ≡ 0) × (vec_len self.members ≤ vec_capacity lists.waiting) }
-        requires done { (lists.done.items ≡ []) × (vec_len lists.done ≡ 0) × (vec_len self.members ≤ vec_capacity lists.done) }
+        requires room { HaveRoom (vec_len self.members) lists }
         ensures parts { AreParts N.table N.world N.floor result.clocks result.air }
         ensures members { All (IsBack N.table N.world scenario.now N.floor end) result.members.items }
         ensures numbers { numbers result.members.items ≡ numbers self.members.items }
@@ -62,9 +62,12 @@ impl Parts {
             refused,
         } = lists;
         let shared: Shared<Scenario, N> = Shared::new(clocks, air);
-        let members = run_all(
-            rt, &shared, gate, scenario, &refused, end, members, waiting, done,
-        );
+        let nodes = Nodes {
+            members,
+            waiting,
+            done,
+        };
+        let members = run_all(rt, &shared, gate, scenario, &refused, end, nodes);
         let (clocks, air) = shared.into_parts();
         Parts {
             clocks,

@@ -1,10 +1,12 @@
 // A thread for each node of an epoch.
-ghost use Rattle.std.specs.Prelude.{◌≡◌, ◌+◌, ◌≤◌, ◌<◌, ◌++◌, ◌∷◌, [], true, IfSome, IfNone, vec_len, vec_capacity, length, take};
+ghost use Rattle.std.specs.Prelude.{◌≡◌, ◌<◌, [], true, IfSome, IfNone, vec_len, vec_capacity};
 ghost use Rattle.std.specs.List.{All};
 ghost use Rattle.std.specs.Thread.{IsSync};
 ghost use Rattle.fleet_threads.specs.Member.{IsUnderWay, IsBack, IsOver, numbers};
 ghost use Rattle.fleet_threads.specs.Handed.{IsHanded};
+ghost use Rattle.fleet_threads.specs.Nodes.{AreBegun, AreBack, IsNone, IsNext, IsWaiting, IsPut, IsPutLast};
 
+use crate::epoch_lists::Nodes;
 use crate::gate::Gate;
 use crate::handed::{Handed, Sent};
 use crate::member::{Member, Sampling};
@@ -12,7 +14,6 @@ use crossbeam_utils::Backoff;
 use neighbour_sync::{Session, Shared};
 use node_runner::Scenario;
 use std::marker::PhantomData;
-use std::snapshot::Snapshot;
 use std::sync::Wait;
 use std::sync::atomic::{AtomicBool, Ordering};
 use std::thread;
@@ -36,12 +37,12 @@ fn work<N: Session, R: Wait, G: Gate>(
     rt: &R,
     shared: &Shared<Scenario, N>,
     gate: &G,
-    scenario: &Snapshot<Scenario>,
+    scenario: &Scenario,
     end: u64,
     mut member: Member,
 ) -> Member
-    requires { IsUnderWay N.table N.world scenario.now.value N.floor end member }
-    ensures back { IsBack N.table N.world scenario.now.value N.floor end result }
+    requires { IsUnderWay N.table N.world scenario.now N.floor end member }
+    ensures back { IsBack N.table N.world scenario.now N.floor end result }
     ensures number { result.runner.number ≡ member.runner.number }
 {
     for _ in rt.forever() {
@@ -57,13 +58,13 @@ fn work_unless_refused<N: Session, R: Wait, G: Gate>(
     rt: &R,
     shared: &Shared<Scenario, N>,
     gate: &G,
-    scenario: Snapshot<Scenario>,
+    scenario: &Scenario,
     refused: &[AtomicBool],
     end: u64,
     sent: Sent,
 ) -> Handed
-    requires { IsUnderWay N.table N.world scenario.value N.floor end sent }
-    ensures { IsHanded N.table N.world scenario.value N.floor end sent.runner.number result }
+    requires { IsUnderWay N.table N.world scenario.now N.floor end sent }
+    ensures { IsHanded N.table N.world scenario.now N.floor end sent.runner.number result }
 {
     let member = sent.member();
     if is_refused(refused, member.number()) {
@@ -73,7 +74,7 @@ fn work_unless_refused<N: Session, R: Wait, G: Gate>(
         };
     }
     Handed {
-        member: work(rt, shared, gate, &scenario, end, member),
+        member: work(rt, shared, gate, scenario, end, member),
         is_over: true,
     }
 }
@@ -93,94 +94,75 @@ fn refuse(refused: &[AtomicBool], node: u8) {
     }
 }
 
-// A node that was handed back, at the end of the epoch.
-fn finished<N: Session, R: Wait, G: Gate>(
+// The last of the nodes that are still to be begun.
+fn next<N: Session>(nodes: &mut Nodes, scenario: &Scenario, end: u64) -> Option<Member>
+    requires { All (IsUnderWay N.table N.world scenario.now N.floor end) nodes.old.members.items }
+    ensures some { IfSome result (λ m. IsNext N.table N.world scenario.now N.floor end nodes.old m nodes.new) }
+    ensures none { IfNone result (IsNone nodes.old nodes.new) }
+{
+    let _ = scenario;
+    let _ = end;
+    nodes.members.pop()
+}
+
+// Puts a node that was handed back behind those for which no thread was found. It may or may not have been run.
+fn wait<N: Session>(nodes: &mut Nodes, scenario: &Scenario, end: u64, number: u8, handed: Handed)
+    requires handed { IsHanded N.table N.world scenario.now N.floor end number handed }
+    requires room { vec_len nodes.old.waiting < vec_capacity nodes.old.waiting }
+    ensures { IsWaiting N.table N.world scenario.now N.floor end number nodes.old nodes.new }
+{
+    let _ = scenario;
+    let _ = end;
+    let _ = number;
+    nodes.waiting.push_reserved(handed.member);
+}
+
+// Puts a node that is at the end of the epoch behind those that are back.
+fn put<N: Session>(nodes: &mut Nodes, scenario: &Scenario, end: u64, member: Member)
+    requires member { IsBack N.table N.world scenario.now N.floor end member }
+    requires room { vec_len nodes.old.done < vec_capacity nodes.old.done }
+    ensures { IsPut N.table N.world scenario.now N.floor end member.runner.number nodes.old nodes.new }
+{
+    let _ = scenario;
+    let _ = end;
+    nodes.done.push_reserved(member);
+}
+
+// Puts the node for which no thread was found last behind those that are back.
+fn put_last<N: Session>(nodes: &mut Nodes, scenario: &Scenario, end: u64)
+    requires rest { All (IsBack N.table N.world scenario.now N.floor end) nodes.old.waiting.items }
+    requires some { numbers nodes.old.waiting.items ≡ [] → ⊥ }
+    requires room { vec_len nodes.old.done < vec_capacity nodes.old.done }
+    ensures { IsPutLast N.table N.world scenario.now N.floor end nodes.old nodes.new }
+{
+    let Some(member) = nodes.waiting.pop() else {
+        unreachable!();
+    };
+    put::<N>(nodes, scenario, end, member);
+}
+
+// Puts a node that was handed back behind those that are back, when it has come to the end of the epoch.
+fn put_finished<N: Session, R: Wait, G: Gate>(
     rt: &R,
     shared: &Shared<Scenario, N>,
     gate: &G,
-    scenario: &Snapshot<Scenario>,
+    scenario: &Scenario,
     end: u64,
     number: u8,
     handed: Handed,
-) -> Member
-    requires { IsHanded N.table N.world scenario.now.value N.floor end number handed }
-    ensures back { IsBack N.table N.world scenario.now.value N.floor end result }
-    ensures number { result.runner.number ≡ number }
+    nodes: &mut Nodes,
+)
+    requires handed { IsHanded N.table N.world scenario.now N.floor end number handed }
+    requires room { vec_len nodes.old.done < vec_capacity nodes.old.done }
+    ensures { IsPut N.table N.world scenario.now N.floor end number nodes.old nodes.new }
 {
     let _ = number;
     if handed.is_over {
-        return handed.member;
+        put::<N>(nodes, scenario, end, handed.member);
+    } else {
+        let member = work(rt, shared, gate, scenario, end, handed.member);
+        put::<N>(nodes, scenario, end, member);
     }
-    work(rt, shared, gate, scenario, end, handed.member)
-}
-
-// A node that was handed back, which may or may not have been run.
-fn under_way<N: Session>(scenario: &Scenario, end: u64, number: u8, handed: Handed) -> Member
-    requires { IsHanded N.table N.world scenario.now N.floor end number handed }
-    ensures member { IsUnderWay N.table N.world scenario.now N.floor end result }
-    ensures number { result.runner.number ≡ number }
-{
-    let _ = scenario;
-    let _ = end;
-    let _ = number;
-    handed.member
-}
-
-// The last of the nodes that are still to be begun.
-fn next<N: Session>(members: &mut Vec<Member>, scenario: &Scenario, end: u64) -> Option<Member>
-    requires { All (IsUnderWay N.table N.world scenario.now N.floor end) members.old.items }
-    ensures some { IfSome result (IsUnderWay N.table N.world scenario.now N.floor end) }
-    ensures rest { All (IsUnderWay N.table N.world scenario.now N.floor end) members.new.items }
-    ensures numbers { IfSome result (λ m. numbers members.old.items ≡ numbers members.new.items ++ m.runner.number ∷ []) }
-    ensures len { IfSome result (λ _. vec_len members.old ≡ vec_len members.new + 1) }
-    ensures none { IfNone result (numbers members.old.items ≡ []) }
-{
-    let _ = scenario;
-    let _ = end;
-    members.pop()
-}
-
-// The node for which no thread was found last.
-fn last<N: Session>(waiting: &mut Vec<Member>, scenario: &Scenario, end: u64) -> Option<Member>
-    requires { All (IsBack N.table N.world scenario.now N.floor end) waiting.old.items }
-    ensures some { IfSome result (IsBack N.table N.world scenario.now N.floor end) }
-    ensures rest { All (IsBack N.table N.world scenario.now N.floor end) waiting.new.items }
-    ensures numbers { IfSome result (λ m. numbers waiting.old.items ≡ numbers waiting.new.items ++ m.runner.number ∷ []) }
-    ensures none { IfNone result (numbers waiting.old.items ≡ []) }
-{
-    let _ = scenario;
-    let _ = end;
-    waiting.pop()
-}
-
-// Puts a node for which no thread was found behind the others.
-fn wait<N: Session>(waiting: &mut Vec<Member>, scenario: &Scenario, end: u64, member: Member)
-    requires waiting { All (IsUnderWay N.table N.world scenario.now N.floor end) waiting.old.items }
-    requires member { IsUnderWay N.table N.world scenario.now N.floor end member }
-    requires room { vec_len waiting.old < vec_capacity waiting.old }
-    ensures all { All (IsUnderWay N.table N.world scenario.now N.floor end) waiting.new.items }
-    ensures numbers { numbers waiting.new.items ≡ numbers waiting.old.items ++ member.runner.number ∷ [] }
-    ensures len { vec_len waiting.new ≡ vec_len waiting.old + 1 }
-    ensures kept { vec_capacity waiting.new ≡ vec_capacity waiting.old }
-{
-    let _ = scenario;
-    let _ = end;
-    waiting.push_reserved(member);
-}
-
-// Puts a node that is back behind the others.
-fn put<N: Session>(done: &mut Vec<Member>, scenario: &Scenario, end: u64, member: Member)
-    requires done { All (IsBack N.table N.world scenario.now N.floor end) done.old.items }
-    requires member { IsBack N.table N.world scenario.now N.floor end member }
-    requires room { vec_len done.old < vec_capacity done.old }
-    ensures all { All (IsBack N.table N.world scenario.now N.floor end) done.new.items }
-    ensures numbers { numbers done.new.items ≡ numbers done.old.items ++ member.runner.number ∷ [] }
-    ensures len { vec_len done.new ≡ vec_len done.old + 1 }
-    ensures kept { vec_capacity done.new ≡ vec_capacity done.old }
-{
-    let _ = scenario;
-    let _ = end;
-    done.push_reserved(member);
 }
 
 // One step of each node for which no thread was found. Whether all of them are over.
@@ -188,12 +170,12 @@ fn round<N: Session, R: Wait, G: Gate>(
     rt: &R,
     shared: &Shared<Scenario, N>,
     gate: &G,
-    scenario: &Snapshot<Scenario>,
+    scenario: &Scenario,
     end: u64,
     waiting: &mut Vec<Member>,
 ) -> bool
-    requires { All (IsUnderWay N.table N.world scenario.now.value N.floor end) waiting.old.items }
-    ensures all { All (IsUnderWay N.table N.world scenario.now.value N.floor end) waiting.new.items }
+    requires { All (IsUnderWay N.table N.world scenario.now N.floor end) waiting.old.items }
+    ensures all { All (IsUnderWay N.table N.world scenario.now N.floor end) waiting.new.items }
     ensures numbers { numbers waiting.new.items ≡ numbers waiting.old.items }
     ensures over { result ≡ true → All (IsOver end) waiting.new.items }
 {
@@ -212,12 +194,12 @@ fn rotate<N: Session, R: Wait, G: Gate>(
     rt: &R,
     shared: &Shared<Scenario, N>,
     gate: &G,
-    scenario: &Snapshot<Scenario>,
+    scenario: &Scenario,
     end: u64,
     waiting: &mut Vec<Member>,
 )
-    requires { All (IsUnderWay N.table N.world scenario.now.value N.floor end) waiting.old.items }
-    ensures all { All (IsBack N.table N.world scenario.now.value N.floor end) waiting.new.items }
+    requires { All (IsUnderWay N.table N.world scenario.now N.floor end) waiting.old.items }
+    ensures all { All (IsBack N.table N.world scenario.now N.floor end) waiting.new.items }
     ensures numbers { numbers waiting.new.items ≡ numbers waiting.old.items }
 {
     let backoff = Backoff::new();
@@ -241,30 +223,18 @@ fn run_from<'s, E, N: Session + Send + Sync, R: Threads + Wait + Sync, G: Gate +
     scenario: &'s Scenario,
     refused: &'s [AtomicBool],
     end: u64,
-    mut members: Vec<Member>,
-    waiting: &mut Vec<Member>,
-    done: &mut Vec<Member>,
+    nodes: &mut Nodes,
 )
     requires shared { IsSync R.row × IsSync G.row }
-    requires members { All (IsUnderWay N.table N.world scenario.now N.floor end) members.items }
-    requires waiting { All (IsUnderWay N.table N.world scenario.now N.floor end) waiting.old.items }
-    requires places { vec_len waiting.old + vec_len members ≤ vec_capacity waiting.old }
-    requires done { done.old.items ≡ [] }
-    requires room { (vec_len done.old ≡ 0) × (vec_len members ≤ vec_capacity done.old) }
-    ensures all { All (IsBack N.table N.world scenario.now N.floor end) done.new.items }
-    ensures numbers { numbers done.new.items ≡ numbers members.items }
-    ensures len { vec_len done.new ≡ vec_len members }
-    ensures kept { vec_capacity done.new ≡ vec_capacity done.old }
-    ensures rest { All (IsBack N.table N.world scenario.now N.floor end) waiting.new.items }
-    ensures others { numbers waiting.new.items ≡ numbers waiting.old.items }
+    requires begun { AreBegun N.table N.world scenario.now N.floor end nodes.old }
+    ensures { AreBack N.table N.world scenario.now N.floor end nodes.old nodes.new }
 {
-    let Some(member) = next::<N>(&mut members, scenario, end) else {
-        rotate(rt, shared, gate, &Snapshot::of(scenario), end, waiting);
+    let Some(member) = next::<N>(nodes, scenario, end) else {
+        rotate(rt, shared, gate, scenario, end, &mut nodes.waiting);
         return;
     };
     let number = member.number();
     let sent = Sent::of(member);
-    let seen = Snapshot::of(scenario);
     let promise: HandsBack<'s, N> = HandsBack {
         scenario,
         number,
@@ -272,40 +242,19 @@ fn run_from<'s, E, N: Session + Send + Sync, R: Threads + Wait + Sync, G: Gate +
         of: PhantomData,
     };
     match scope.spawn_with(promise, move || {
-        work_unless_refused(rt, shared, gate, seen, refused, end, sent)
+        work_unless_refused(rt, shared, gate, scenario, refused, end, sent)
     }) {
         Ok(child) => {
-            run_from(
-                scope, rt, shared, gate, scenario, refused, end, members, waiting, done,
-            );
+            run_from(scope, rt, shared, gate, scenario, refused, end, nodes);
             let handed = child.join(rt);
-            let back = finished(
-                rt,
-                shared,
-                gate,
-                &Snapshot::of(scenario),
-                end,
-                number,
-                handed,
-            );
-            put::<N>(done, scenario, end, back);
+            put_finished(rt, shared, gate, scenario, end, number, handed, nodes);
         }
         Err(unstarted) => {
             refuse(refused, number);
             let handed = (unstarted.value)();
-            wait::<N>(
-                waiting,
-                scenario,
-                end,
-                under_way::<N>(scenario, end, number, handed),
-            );
-            run_from(
-                scope, rt, shared, gate, scenario, refused, end, members, waiting, done,
-            );
-            let Some(back) = last::<N>(waiting, scenario, end) else {
-                unreachable!();
-            };
-            put::<N>(done, scenario, end, back);
+            wait::<N>(nodes, scenario, end, number, handed);
+            run_from(scope, rt, shared, gate, scenario, refused, end, nodes);
+            put_last::<N>(nodes, scenario, end);
         }
     }
 }
@@ -318,41 +267,24 @@ pub fn run_all<N: Session + Send + Sync, R: Threads + Wait + Sync, G: Gate + Syn
     scenario: &Scenario,
     refused: &[AtomicBool],
     end: u64,
-    members: Vec<Member>,
-    waiting: Vec<Member>,
-    done: Vec<Member>,
+    nodes: Nodes,
 ) -> Vec<Member>
-    requires members { All (IsUnderWay N.table N.world scenario.now N.floor end) members.items }
-    requires waiting { (waiting.items ≡ []) × (vec_len waiting ≡ 0) × (vec_len members ≤ vec_capacity waiting) }
-    requires done { (done.items ≡ []) × (vec_len done ≡ 0) × (vec_len members ≤ vec_capacity done) }
+    requires { AreBegun N.table N.world scenario.now N.floor end nodes }
     ensures all { All (IsBack N.table N.world scenario.now N.floor end) result.items }
-    ensures numbers { numbers result.items ≡ numbers members.items }
+    ensures numbers { numbers result.items ≡ numbers nodes.members.items }
 {
     thread::scope(
         thread::scope_env(),
         rt,
         move |scope| -> Vec<Member>
             requires shared { IsSync R.row × IsSync G.row }
-            requires members { All (IsUnderWay N.table N.world scenario.now N.floor end) members.items }
-            requires waiting { (waiting.items ≡ []) × (vec_len waiting ≡ 0) × (vec_len members ≤ vec_capacity waiting) }
-            requires done { (done.items ≡ []) × (vec_len done ≡ 0) × (vec_len members ≤ vec_capacity done) }
+            requires begun { AreBegun N.table N.world scenario.now N.floor end nodes }
             ensures all { All (IsBack N.table N.world scenario.entry.now N.floor end) result.items }
-            ensures numbers { numbers result.items ≡ numbers members.items }
+            ensures numbers { numbers result.items ≡ numbers nodes.members.items }
         {
-            let (mut waiting, mut done) = (waiting, done);
-            run_from(
-                scope,
-                rt,
-                shared,
-                gate,
-                scenario,
-                refused,
-                end,
-                members,
-                &mut waiting,
-                &mut done,
-            );
-            done
+            let mut nodes = nodes;
+            run_from(scope, rt, shared, gate, scenario, refused, end, &mut nodes);
+            nodes.done
         },
     )
 }

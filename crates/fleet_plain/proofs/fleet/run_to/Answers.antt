@@ -1,9 +1,10 @@
-use Rattle.std.proofs.Common.{ℕ, Some, List, sym, subst, ◌∙◌, arith}
+use Rattle.std.proofs.Common.{◌≡◌, ℕ, true, Some, None, refl, List, sym, subst, ap, ◌∙◌, arith}
 use Rattle.std.specs.declared.option.Option.{Option}
-use Rattle.node_runner.specs.Place.{Place}
-use Rattle.node_runner.specs.Flight.{Advanced}
+use Rattle.node_runner.specs.Scenario.{ScenarioOf, IsScenario}
+use Rattle.node_runner.specs.Place.{Place, is_live}
+use Rattle.node_runner.specs.Flight.{IsAt, Advanced}
 use Rattle.fleet_plain.specs.Flight.{HearsRight, CanPost, IsBehind}
-use Rattle.fleet_plain.proofs.InFlight.{hears_right, can_post, flight_on}
+use Rattle.fleet_plain.proofs.InFlight.{at_own, hears_right, can_post, flight_on}
 use Rattle.fleet_plain.proofs.fleet.run_to.Goals as goal
 
 pub advance-requires-clause-right : goal.advance-requires-clause-right
@@ -43,3 +44,36 @@ loop-k-preserved c =
       flight_on sc c.args.floor c.args.end ps c.loop-k.log.sends c.lawful_topo-topo.ensures.sound c.requires.end fl k p c.advance.new.runner c.advance.new.log.sends (let h = b.0 in omega arith) (b.1 p) adv,
       c.in_ok-advance.ensures.room ∙ c.loop-k.invariant.1,
     )
+
+pub loop-k-init : goal.loop-k-init
+loop-k-init c = (c.requires.flight, refl)
+
+pub advance-requires-clause-live : goal.advance-requires-clause-live
+advance-requires-clause-live c =
+    let b = subst (λ (l : List Place). IsBehind c.args.end l (Some c.in-Some.k)) c.deref.ensures.value (subst (λ (o : Option ℕ). IsBehind c.args.end c.deref.result.now o) c.in-Some.is c.behind.ensures) in
+    subst (λ (x : Place). is_live c.args.end x ≡ true) (sym c.index_mut.ensures.value) (b.1 c.index_mut.result.now)
+
+pub advance-requires-clause-scenario : goal.advance-requires-clause-scenario
+advance-requires-clause-scenario c =
+    let fl = c.loop-k.invariant.0 in
+    let n = fl.count in
+    let b = subst (λ (l : List Place). IsBehind c.args.end l (Some c.in-Some.k)) c.deref.ensures.value (subst (λ (o : Option ℕ). IsBehind c.args.end c.deref.result.now o) c.in-Some.is c.behind.ensures) in
+    let at = fl.at c.in-Some.k c.index_mut.result.now (let h = b.0 in omega arith) in
+    subst IsScenario (sym at.scenario ∙ ap (λ (x : Place). x.scenario) (sym c.index_mut.ensures.value)) c.lawful_topo-topo.ensures.sound
+
+pub advance-requires-clause-at : goal.advance-requires-clause-at
+advance-requires-clause-at c =
+    let fl = c.loop-k.invariant.0 in
+    let n = fl.count in
+    let b = subst (λ (l : List Place). IsBehind c.args.end l (Some c.in-Some.k)) c.deref.ensures.value (subst (λ (o : Option ℕ). IsBehind c.args.end c.deref.result.now o) c.in-Some.is c.behind.ensures) in
+    let at = fl.at c.in-Some.k c.index_mut.result.now (let h = b.0 in omega arith) in
+    subst (λ (x : Place). IsAt x.scenario c.args.end x.number x) (sym c.index_mut.ensures.value) (at_own c.args.scenario.now c.args.end c.in-Some.k _ at)
+
+pub returns-clause-flight : goal.returns-clause-flight
+returns-clause-flight c = c.loop-k.invariant.0
+
+pub returns-clause-still : goal.returns-clause-still
+returns-clause-still c = subst (λ (l : List Place). IsBehind c.args.end l None) c.deref.ensures.value (subst (λ (o : Option ℕ). IsBehind c.args.end c.deref.result.now o) c.in_default.is c.behind.ensures)
+
+pub returns-clause-room : goal.returns-clause-room
+returns-clause-room c = c.loop-k.invariant.1

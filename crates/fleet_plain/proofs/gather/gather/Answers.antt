@@ -1,7 +1,9 @@
-use Rattle.std.proofs.Common.{◌≡◌, ℕ, ◌<◌, ◌++◌, false, List, length, get_or, refl, sym, subst, ap, ◌∙◌, arith}
+use Rattle.std.proofs.Common.{◌≡◌, ℕ, ◌<◌, ◌≤◌, ◌++◌, false, List, length, get_or, refl, sym, subst, ap, ◌∙◌, arith}
+use Rattle.std.specs.List.{flat_map}
+use Rattle.std.proofs.lemmas.List.{take_all, with_items_is}
 use Rattle.node_runner.specs.Place.{Place, rows_of}
 use Rattle.node_runner.specs.Gather.{taken}
-use Rattle.fleet_plain.proofs.Gathered.{gathers_on}
+use Rattle.fleet_plain.proofs.Gathered.{gathers_on, all_taken}
 use Rattle.fleet_plain.proofs.gather.gather.Goals as goal
 
 abbrev IsCalm : Place → Type 0
@@ -26,3 +28,16 @@ loop-runner-preserved c =
       rows = c.in_ok-append.ensures.items ∙ (λ j. c.loop-runner.invariant.rows j ++ (c.take_rows.ensures.rows ∙ ap rows_of (sym c.runner-item.is)) j) ∙ sym g.rows;
       left = g.left;
     }
+
+pub returns-clause-rows : goal.returns-clause-rows
+returns-clause-rows c =
+    let old : List Place = c.args.runners.now.items in
+    let end : length old ≤ c.loop-runner.runner-index = let f = c.loop-runner-test.false in let v = ap length c.deref_mut-runner-items.ensures.value in omega arith in
+    c.loop-runner.invariant.rows ∙ ap (flat_map rows_of) (take_all c.loop-runner.runner-index old end)
+
+pub returns-clause-left : goal.returns-clause-left
+returns-clause-left c =
+    let old : List Place = c.args.runners.now.items in
+    let end : length old ≤ c.loop-runner.runner-index = let f = c.loop-runner-test.false in let v = ap length c.deref_mut-runner-items.ensures.value in omega arith in
+    with_items_is c.args.runners.now c.loop-runner.runner-items (c.loop-runner.auto.runner-items ∙ c.deref_mut-runner-items.ensures.len)
+    ∙ all_taken old c.loop-runner.runner-items c.loop-runner.runner-index end c.loop-runner.invariant.left

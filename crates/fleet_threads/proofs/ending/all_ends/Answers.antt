@@ -1,6 +1,7 @@
-use Rattle.std.proofs.Common.{◌≡◌, [], ◌∷◌, ◌++◌, sym, subst, rules}
+use Rattle.std.proofs.Common.{◌≡◌, [], ◌∷◌, ◌++◌, map, sym, subst, ap, ◌∙◌, rules}
+use Rattle.std.proofs.lemmas.List.{take_all}
 use Rattle.fleet_threads.specs.declared.member.Member.{Member}
-use Rattle.fleet_threads.specs.Ending.{HasEndedAt}
+use Rattle.fleet_threads.specs.Ending.{HasEndedAt, end_row_at}
 use Rattle.fleet_threads.proofs.Ends.{ends_on}
 use Rattle.fleet_threads.proofs.ending.all_ends.Goals as goal
 
@@ -12,3 +13,9 @@ loop-member-preserved c =
     let m : Member = c.member-item.result in
     let pushed : c.push.new.self.items ≡ c.loop-member.rows.items ++ c.end_row.result ∷ [] = search rules in
     ends_on c.args.members.now c.loop-member.member-index m c.end_row.result c.loop-member.rows.items c.push.new.self.items c.loop-member-test.true c.member-item.is c.loop-member.invariant c.end_row.ensures pushed
+
+pub loop-member-init : goal.loop-member-init
+loop-member-init c = c.new-rows.ensures.items
+
+pub returns : goal.returns
+returns c = c.loop-member.invariant ∙ ap (map end_row_at) (take_all c.loop-member.member-index c.args.members.now c.loop-member-test.false)

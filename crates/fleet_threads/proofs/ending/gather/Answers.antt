@@ -1,7 +1,9 @@
-use Rattle.std.proofs.Common.{◌≡◌, ℕ, ◌<◌, ◌++◌, List, length, get_or, refl, sym, subst, ap, ◌∙◌, arith}
+use Rattle.std.proofs.Common.{◌≡◌, ℕ, ◌<◌, ◌≤◌, ◌++◌, List, length, get_or, refl, sym, subst, ap, ◌∙◌, arith}
+use Rattle.std.specs.List.{flat_map}
+use Rattle.std.proofs.lemmas.List.{take_all, with_items_is}
 use Rattle.fleet_threads.specs.declared.member.Member.{Member}
 use Rattle.fleet_threads.specs.Ending.{rows_at, taken_at, IsCalm}
-use Rattle.fleet_threads.proofs.Ends.{gathers_on, with_runner}
+use Rattle.fleet_threads.proofs.Ends.{gathers_on, with_runner, all_taken}
 use Rattle.fleet_threads.proofs.ending.gather.Goals as goal
 
 pub take_rows-requires : goal.take_rows-requires
@@ -25,3 +27,16 @@ loop-member-preserved c =
       rows = c.in_ok-append.ensures.items ∙ (λ j. c.loop-member.invariant.rows j ++ (c.take_rows.ensures.rows ∙ ap rows_at (sym c.member-item.is)) j) ∙ sym on.rows;
       left = on.left;
     }
+
+pub returns-clause-rows : goal.returns-clause-rows
+returns-clause-rows c =
+    let old : List Member = c.args.members.now.items in
+    let end : length old ≤ c.loop-member.member-index = let f = c.loop-member-test.false in let v = ap length c.deref_mut-member-items.ensures.value in omega arith in
+    c.loop-member.invariant.rows ∙ ap (flat_map rows_at) (take_all c.loop-member.member-index old end)
+
+pub returns-clause-left : goal.returns-clause-left
+returns-clause-left c =
+    let old : List Member = c.args.members.now.items in
+    let end : length old ≤ c.loop-member.member-index = let f = c.loop-member-test.false in let v = ap length c.deref_mut-member-items.ensures.value in omega arith in
+    with_items_is c.args.members.now c.loop-member.member-items (c.loop-member.auto.member-items ∙ c.deref_mut-member-items.ensures.len)
+    ∙ all_taken old c.loop-member.member-items c.loop-member.member-index end c.loop-member.invariant.left

@@ -12,3 +12,9 @@ loop-rows-init g c =
       sound = ap (λ (r : RunAt). r.failed) e;
       rows = c.new-rows.ensures.items ∙ sym (first_rows c.args.scenario.now c.in_ok-run.ensures.sound) ∙ ap (λ (r : RunAt). rows_upto (fleet_of c.args.scenario.now) r.floor) (sym e);
     }
+
+pub epoch-requires-clause-same : goal.epoch-requires-clause-same
+epoch-requires-clause-same g c κs within = sym c.loop-rows.invariant.same
+
+pub epoch-requires-clause-sound : goal.epoch-requires-clause-sound
+epoch-requires-clause-sound g c κs within = c.loop-rows.invariant.sound

@@ -1,8 +1,13 @@
-use Rattle.std.proofs.Common.{◌≡◌, false, List, ◌++◌, refl, subst}
+use Rattle.std.proofs.Common.{◌≡◌, ◌≤◌, ℕ, false, List, ◌++◌, refl, sym, subst, ◌∙◌, arith}
 use Rattle.std.specs.List.{All}
+use Rattle.world_core.specs.declared.world.WorldFacts.{WorldFacts}
+use Rattle.global_order.specs.Order.{facts_of}
+use Rattle.node_runner.specs.Scenario.{fleet_of}
+use Rattle.neighbour_sync.specs.Parts.{AreParts}
+use Rattle.fleet_threads.specs.Nodes.{HaveRoom}
 use Rattle.fleet_threads.specs.declared.member.Member.{Member}
 use Rattle.fleet_threads.specs.declared.parts.Parts.{Parts}
-use Rattle.fleet_threads.proofs.Epochs.{tied, at_end, tied_taken}
+use Rattle.fleet_threads.proofs.Epochs.{tied, at_end, tied_taken, all_go_on}
 use Rattle.fleet_threads.proofs.run.through.Goals as goal
 
 pub epoch_rows-requires-clause-sound : goal.epoch_rows-requires-clause-sound
@@ -37,3 +42,22 @@ returns-clause-tied g c =
     tied_taken c.args.scenario.now c.args.floor c.args.end now next
     (tied c.args.scenario.now c.args.floor c.args.end c.args.parts now back.air (cut.0 ++ cut.1) c.requires.tied c.in_session-parts.ensures.parts
     c.cut_when_passed.ensures.same.0 c.cut_when_passed.ensures.same.1 c.cut_when_passed.ensures.posted cut.3 c.in_session-parts.ensures.numbers c.in_session-parts.ensures.members goes) refl refl c.in_ok-rows.ensures.left
+
+pub in_session-parts-requires-clause-parts : goal.in_session-parts-requires-clause-parts
+in_session-parts-requires-clause-parts g c κs within =
+    subst (λ (n : ℕ). AreParts c.args.parts.air.table (facts_of (fleet_of c.args.scenario.now)) n c.args.parts.clocks c.args.parts.air) (sym c.requires.tied.parts.floor) c.requires.tied.parts
+
+pub in_session-parts-requires-clause-members : goal.in_session-parts-requires-clause-members
+in_session-parts-requires-clause-members g c κs within = all_go_on c.args.scenario.now c.args.floor c.args.end c.args.parts c.requires.tied c.requires.epoch
+
+pub in_session-parts-requires-clause-room : goal.in_session-parts-requires-clause-room
+in_session-parts-requires-clause-room g c κs within = subst (λ (n : ℕ). HaveRoom n c.in_ok-lists.lists) c.len.ensures c.in_ok-lists.ensures
+
+pub cut_when_passed-requires-clause-table : goal.cut_when_passed-requires-clause-table
+cut_when_passed-requires-clause-table g c = c.in_session-parts.ensures.parts.table ∙ sym c.in_session-parts.ensures.parts.words
+
+pub cut_when_passed-requires-clause-rises : goal.cut_when_passed-requires-clause-rises
+cut_when_passed-requires-clause-rises g c = let a = c.in_session-parts.ensures.parts.floor in let b = c.requires.tied.parts.floor in let m = c.requires.more in omega arith
+
+pub cut_when_passed-requires-clause-within : goal.cut_when_passed-requires-clause-within
+cut_when_passed-requires-clause-within g c = subst (λ (w : WorldFacts). c.args.end ≤ w.topo.limit) (sym c.in_session-parts.ensures.parts.world) c.requires.epoch.within

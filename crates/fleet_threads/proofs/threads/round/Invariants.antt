@@ -6,7 +6,7 @@ use Rattle.fleet_threads.proofs.threads.round.Given as goal
 
 abbrev pub invariant-loop-k : goal.invariant-loop-k
 invariant-loop-k g l = record {
-  all : All (IsUnderWay g.N.Session.table g.N.Session.world l.scenario.value g.N.Session.floor l.end) l.waiting.items;
+  all : All (IsUnderWay g.N.Session.table g.N.Session.world l.scenario g.N.Session.floor l.end) l.waiting.items;
   numbers : numbers l.waiting.items ≡ numbers l.fn.waiting.items;
   len : vec_len l.waiting ≡ vec_len l.fn.waiting;
   over : l.over ≡ true → (i : ℕ) (d : Member) → i < l.k → IsOver l.end (get_or l.waiting.items i d);
