@@ -1,13 +1,13 @@
 use Rattle.std.proofs.Common.{◌≡◌, sym, ◌∙◌, ap, arith}
 use Rattle.clock_words.proofs.Views.{Seat}
 use Rattle.clock_words.proofs.AirSteps.{splits}
-use Rattle.clock_words.proofs.open.node_seats.Goals as goal
+use Rattle.clock_words.proofs.open.seat_nodes.Goals as goal
 
 pub split_seat-seat-requires : goal.split_seat-seat-requires
 split_seat-seat-requires g c =
     let w = g.W.World.facts c.args.table.now.shared.key.value in
     let view = c.loop-number.invariant.view in
-    let n : w.topo.nodes ≡ c.args.nodes = ap (λ k. (g.W.World.facts k).topo.nodes) c.requires.key ∙ sym c.requires.laid.nodes_is in
+    let n : c.args.nodes ≡ w.topo.nodes = c.requires.laid.nodes_is in
     let made : c.loop-number.first.me.0.made ≡ c.loop-number.number = ap (λ (m : Seat). m.0.made) view in (
       c.loop-number.invariant.table ∙ c.requires.table,
       omega (arith, c.requires.laid.words_is),
