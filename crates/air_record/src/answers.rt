@@ -1,7 +1,7 @@
 // What the calls of the record answer, besides what is heard.
 
 /// The answer to a node that posts a send.
-#[derive(Clone, Copy, Debug, PartialEq, Eq)]
+#[derive(Clone, Copy)]
 pub enum Posted {
     /// The send is recorded now.
     Added,
@@ -15,7 +15,7 @@ pub enum Posted {
 }
 
 /// A node that is not far enough, and its clock as it was loaded.
-#[derive(Clone, Copy, Debug, PartialEq, Eq)]
+#[derive(Clone, Copy)]
 pub struct Behind {
     /// The number of the node.
     pub node: u8,

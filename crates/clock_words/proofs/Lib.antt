@@ -4,3 +4,4 @@ pub mod NodeSteps
 pub mod AirSteps
 pub mod Opening
 pub mod Calls
+pub mod Seating

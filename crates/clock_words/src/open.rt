@@ -1,5 +1,5 @@
 // The words of a world, with all seats.
-ghost use Rattle.std.specs.Prelude.{◌≡◌, [], IfOk};
+ghost use Rattle.std.specs.Prelude.{◌≡◌, ◌≤◌, [], IfOk, vec_capacity};
 ghost use Rattle.world_core.specs.Lawful.{IsLawful};
 ghost use Rattle.clock_words.specs.Inside.{IsLaid};
 ghost use Rattle.clock_words.specs.Rule.{air_view};
@@ -21,39 +21,32 @@ fn lay<W: World>(
     nodes: u8,
 ) -> Result<(Words<W>, Seat<(), View>), AllocError>
     requires { nodes ≡ (W.facts world.now).topo.nodes }
-    ensures laid { IfOk result (λ r. IsLaid r.0.shared.table_id.words nodes (W.facts world.now)) }
-    ensures key { IfOk result (λ r. r.0.shared.key.value ≡ world.now) }
-    ensures table { IfOk result (λ r. r.1.table_id ≡ r.0.shared.table_id) }
-    ensures view { IfOk result (λ r. r.1.me ≡ (air_view (W.facts world.now) 0, [])) }
+    ensures { IfOk result (λ r. IsLaid r.0.shared.table_id.words nodes (W.facts world.now) × (r.0.shared.key.value ≡ world.now) × (r.1.table_id ≡ r.0.shared.table_id) × (r.1.me ≡ (air_view (W.facts world.now) 0, []))) }
 {
     let words = vec![in alloc; 0u64; count_words(nodes)]?;
     let about = Snapshot::of(world);
-    Ok(Table::of_words(alloc, words.as_slice(), &about)?)
+    Table::of_words(alloc, words.as_slice(), &about)
 }
 
-// A seat for each node, in order, made by the table's first seat. The world is there for the clauses.
-fn node_seats<W: World>(
-    alloc: Global,
+// Makes a seat for each node, in order, by the table's first seat. There is room for them.
+fn seat_nodes<W: World>(
     table: &Words<W>,
     first: &mut Seat<(), View>,
+    seats: &mut Vec<NodeSeat>,
     nodes: u8,
-    world: &W,
-) -> Result<Vec<NodeSeat>, AllocError>
-    requires laid { IsLaid table.now.shared.table_id.words nodes (W.facts world.now) }
-    requires key { table.now.shared.key.value ≡ world.now }
+)
+    requires laid { IsLaid table.now.shared.table_id.words nodes (W.facts table.now.shared.key.value) }
     requires table { first.old.table_id ≡ table.now.shared.table_id }
-    requires view { first.old.me ≡ (air_view (W.facts world.now) 0, []) }
-    ensures first { IfOk result (λ _. first.new.table_id ≡ first.old.table_id) }
-    ensures view { IfOk result (λ _. first.new.me ≡ (air_view (W.facts world.now) nodes, [])) }
-    ensures seats { IfOk result (λ v. AreFirstNodes table.now.shared.table_id (W.facts world.now) v.items) }
+    requires view { first.old.me ≡ (air_view (W.facts table.now.shared.key.value) 0, []) }
+    requires room { (seats.old.items ≡ []) × (nodes ≤ vec_capacity seats.old) }
+    ensures table { first.new.table_id ≡ first.old.table_id }
+    ensures view { first.new.me ≡ (air_view (W.facts table.now.shared.key.value) nodes, []) }
+    ensures seats { AreFirstNodes table.now.shared.table_id (W.facts table.now.shared.key.value) seats.new.items }
 {
-    let _ = world;
-    let mut seats = Vec::with_capacity(alloc, usize::from(nodes))?;
     for number in 0..nodes {
         let seat = table.shared.split_seat::<NextNode>(first);
         seats.push_reserved(NodeSeat::of(seat, number));
     }
-    Ok(seats)
 }
 
 impl<W: World> Clocks<W> {
@@ -65,9 +58,10 @@ impl<W: World> Clocks<W> {
         ensures air { IfOk result (λ r. r.2 ≡ first_air r.0.table (W.facts world.now)) }
     {
         let nodes = world.topo().nodes();
-        let (table, mut first) = lay(alloc, world, nodes)?;
-        let seats = node_seats(alloc, &table, &mut first, nodes, world)?;
         let sent = vec![in alloc; 0u64; usize::from(nodes)]?;
+        let mut seats = Vec::with_capacity(alloc, usize::from(nodes))?;
+        let (table, mut first) = lay(alloc, world, nodes)?;
+        seat_nodes(&table, &mut first, &mut seats, nodes);
         let air = AirSeat::of(first, sent);
         Ok((Clocks::of(table, nodes), seats, air))
     }

@@ -1,7 +1,7 @@
 -- What one try adds to the looks before it.
-use Rattle.std.proofs.Common.{◌≡◌, ℕ, suc, List, [], ◌∷◌, ◌++◌, replicate, sym, ◌∙◌, ap, subst, append_assoc}
+use Rattle.std.proofs.Common.{◌≡◌, ℕ, suc, true, List, [], ◌∷◌, ◌++◌, replicate, sym, ◌∙◌, ap, subst, append_assoc}
 use Rattle.world_core.specs.declared.world.WorldFacts.{WorldFacts}
-use Rattle.clock_words.specs.Seats.{NodeFacts}
+use Rattle.clock_words.specs.Seats.{NodeFacts, node_asked}
 use Rattle.air_record.specs.Looks.{IsBehind}
 use Rattle.neighbour_sync.specs.Looks.{peeked, looked, AreSeenPast}
 use Rattle.neighbour_sync.specs.Waits.{IsEnd}
@@ -38,3 +38,8 @@ pub waits_end : (w : WorldFacts) (s : ℕ) (a b c : NodeFacts) (tries : ℕ) (m 
     → (loads : List (ℕ × ℕ)) × AreSeenPast w b.number s loads × (c ≡ looked b loads (0 ∷ [])) → IsEnd w a s c
 waits_end w s a b c tries m e (n, seen, f) =
     (tries, m ++ n, all_after w a.number s m n (subst (λ (x : NodeFacts). AreSeenPast w x.number s n) e seen), one_more a b c tries m n e f)
+
+pub waits_halted : (a b c : NodeFacts) (tries : ℕ) (m : List (ℕ × ℕ)) → b ≡ looked a m (replicate tries 0) → c ≡ node_asked b true
+    → (tries : ℕ) × (loads : List (ℕ × ℕ)) × (c ≡ looked a loads (replicate tries 0 ++ 1 ∷ []))
+waits_halted a b c tries m e f =
+    (tries, m, f ∙ ap (λ (n : NodeFacts). node_asked n true) e ∙ ap (λ (l : List ℕ). record a { loads = a.loads ++ m; halts = l }) (append_assoc a.halts (replicate tries 0) (1 ∷ [])))

@@ -8,8 +8,12 @@ use world_core::{Heard, Sampled};
 /// An answer.
 #[derive(Clone, Copy, Debug, PartialEq, Eq)]
 pub enum Answer {
-    /// Of the record, to a node that posts a send.
-    Posted(Posted),
+    /// A send is recorded now.
+    Added,
+    /// It was recorded before.
+    There,
+    /// Only so many sends of its node are posted, and it is a later one.
+    Early(u64),
     /// A node posted a send in a session, and has seen that so many of its sends are posted.
     Told(u64),
     /// A sample hears this.
@@ -25,11 +29,35 @@ pub enum Answer {
     Halted,
     /// There was no memory for a sample.
     NoMemory,
-    /// Of the record, to whoever cuts it: it is cut, or this node is behind.
-    Cut(Result<(), Behind>),
+    /// The record is cut.
+    Cut,
+    /// It is not cut, since this node is behind.
+    Behind {
+        /// The node.
+        node: u8,
+        /// Its clock.
+        clock: u64,
+    },
 }
 
 impl Answer {
+    /// To a node that posts a send.
+    pub fn of_posted(posted: Posted) -> Self {
+        match posted {
+            Posted::Added => Answer::Added,
+            Posted::There => Answer::There,
+            Posted::Early { count } => Answer::Early(count),
+        }
+    }
+
+    /// To whoever cuts the record.
+    pub fn of_cut(cut: Result<(), Behind>) -> Self {
+        match cut {
+            Ok(()) => Answer::Cut,
+            Err(Behind { node, clock }) => Answer::Behind { node, clock },
+        }
+    }
+
     /// To a sample of the record.
     pub fn of_sampled(sampled: Sampled) -> Self {
         match sampled {
@@ -67,15 +95,15 @@ fn heard_as(status: u8, byte: u8, age: u8) -> Answer {
 // The answer to a post or a cut; `None` where the section is none.
 fn of_step(section: &Section<'_>) -> Result<Option<Answer>, Fault> {
     let answer = match (section.word, section.numbers.as_slice()) {
-        ("added", []) => Answer::Posted(Posted::Added),
-        ("there", []) => Answer::Posted(Posted::There),
-        ("early", [count]) => Answer::Posted(Posted::Early { count: *count }),
+        ("added", []) => Answer::Added,
+        ("there", []) => Answer::There,
+        ("early", [count]) => Answer::Early(*count),
         ("told", [count]) => Answer::Told(*count),
-        ("done", []) => Answer::Cut(Ok(())),
-        ("behind", [node, clock]) => Answer::Cut(Err(Behind {
+        ("done", []) => Answer::Cut,
+        ("behind", [node, clock]) => Answer::Behind {
             node: byte_of(*node)?,
             clock: *clock,
-        })),
+        },
         _ => return Ok(None),
     };
     Ok(Some(answer))

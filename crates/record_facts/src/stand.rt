@@ -78,7 +78,7 @@ impl Stand {
         if send.cycle.saturating_sub(self.air.floor()) >= EPOCH {
             return Err(Fault::Forbidden);
         }
-        Ok(Answer::Posted(self.air.post(&self.clocks, send, number)))
+        Ok(Answer::of_posted(self.air.post(&self.clocks, send, number)))
     }
 
     /// A node samples the air.
@@ -94,7 +94,7 @@ impl Stand {
         if floor < self.air.floor() || floor > self.world.topo().limit() {
             return Err(Fault::Forbidden);
         }
-        Ok(Answer::Cut(self.air.cut(&self.clocks, floor)))
+        Ok(Answer::of_cut(self.air.cut(&self.clocks, floor)))
     }
 
     /// The record is to hold these sends, in this order.

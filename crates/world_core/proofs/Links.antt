@@ -1,5 +1,6 @@
 -- Links that a topology takes, and those that it refuses.
 use Rattle.std.proofs.Common.{◌≡◌, ◌≢◌, ◌⊎◌, inl, inr, ℕ, ◌+◌, ◌*◌, cond, ◌<◌, ◌≤◌, Bool, true, false, ◌&&◌, ◌==◌, List, length, take, get_or, sym, ◌∙◌, ap, subst, arith}
+use Rattle.std.specs.Prelude.{◌↔◌, IsTrue}
 use Rattle.std.specs.List.{Contains, list_any}
 use Rattle.std.proofs.lemmas.List.{get_or_default, take_more, length-take-le}
 use Rattle.std.proofs.lemmas.List.Folds.{Any-from_list_any, list_any-from_Any, list_any_none}
@@ -74,6 +75,11 @@ module _ (links : List Link) (p : ℕ) (rows : List ℕ) (lt : p < length links)
         full = let f = table.full in let s = length-take-le (p + 1) links (omega arith) in omega arith;
       }
 
+  pub itself_at : (d : Link) → (get_or links p d).from ≡ (get_or links p d).to → IsLinkFault links (SelfLink p)
+  itself_at d e =
+      let here : (d2 : Link) → (get_or links p d2).from ≡ (get_or links p d2).to = λ d2. subst (λ (x : Link). x.from ≡ x.to) (get_or_default links p d d2 lt) e in
+      (record { place = lt; before = old; fault = λ d2 f. f.0 (here d2) }, here)
+
   -- the place fits an entry
   pub place_fits : (d : Link) → (get_or links p d).from < 64 → (get_or links p d).to < 64 → length rows ≡ 4096 → entry_at rows (get_or links p d).from (get_or links p d).to ≡ 0 → p < 4096
   place_fits d a b n e =
@@ -82,6 +88,9 @@ module _ (links : List Link) (p : ℕ) (rows : List ℕ) (lt : p < length links)
       let f = table.full in let s = length-take-le p links (omega arith) in omega arith
 
 -- ---- what a refusal says
+pub no_ranges : (t : Topology) → ¬ HasRanges t → IsTrue false ↔ HasRanges t
+no_ranges t none = ((λ e. absurd (false≢true e)), (λ r. absurd (none r)))
+
 pub fault_of : (t : Topology) (f : TopoFault) → HasRanges t → IsLinkFault t.links f → IsTopoFault t f
 fault_of t Range r h = absurd h
 fault_of t (SelfLink p) r h = (r, h)

@@ -140,7 +140,8 @@ fn are_in_range(
     if !are_ends(nodes, links) {
         return false;
     }
-    if !are_enough(links.len(), own) {
+    let count = links.len();
+    if !are_enough(count, own) {
         return false;
     }
     if !are_latencies(own) {
@@ -149,10 +150,10 @@ fn are_in_range(
     if spans.len() > 4_096 {
         return false;
     }
-    if !are_spans(links.len() as u64, spans) {
+    if !are_spans(count as u64, spans) {
         return false;
     }
-    are_apart(links.len() as u64, spans)
+    are_apart(count as u64, spans)
 }
 
 // The table of the links, or the first link that goes to its own node or equals an earlier one.

@@ -1,10 +1,22 @@
 use Rattle.std.proofs.Common.{sym, ◌∙◌, arith}
 use Rattle.world_core.specs.declared.air.Link.{Link}
-use Rattle.world_core.proofs.Links.{twice_at, new_at, table_at, place_fits}
+use Rattle.world_core.proofs.Links.{itself_at, twice_at, new_at, table_at, place_fits}
 use Rattle.world_core.proofs.topo.table_of.Goals as goal
 
 abbrev no_link : Link
 no_link = record { from = 0; to = 0 }
+
+pub returns-then-link : goal.returns-then-link
+returns-then-link c = itself_at c.args.links.now c.loop-place.place c.loop-place.table.rows c.loop-place-test.true c.loop-place.invariant.kept c.loop-place.invariant.table no_link c.if-link.true
+
+pub entry-requires : goal.entry-requires
+entry-requires c = c.requires c.loop-place.place no_link c.loop-place-test.true
+
+pub add-requires-clause-ends : goal.add-requires-clause-ends
+add-requires-clause-ends c = c.requires c.loop-place.place no_link c.loop-place-test.true
+
+pub add-requires-clause-free : goal.add-requires-clause-free
+add-requires-clause-free c = sym c.entry.ensures.value ∙ c.if-entry-ne0.false
 
 pub returns-then-entry-ne0 : goal.returns-then-entry-ne0
 returns-then-entry-ne0 c =

@@ -1,11 +1,21 @@
-use Rattle.std.proofs.Common.{◌∷◌, [], ◌++◌, ◌∙◌, ap, subst}
+use Rattle.std.proofs.Common.{◌∷◌, [], ◌++◌, ◌∙◌, ap, sym, subst}
+use Rattle.std.specs.List.{Contains}
 use Rattle.world_core.specs.Settled.{truth}
 use Rattle.clock_words.specs.Seats.{NodeFacts}
 use Rattle.neighbour_sync.specs.declared.answers.Tried.{Tried}
-use Rattle.neighbour_sync.specs.declared.answers.Tried.TheVariants.{Heard, NotYet, NoMemory}
+use Rattle.neighbour_sync.specs.declared.answers.Tried.TheVariants.{Heard, NotYet, Halted, NoMemory}
 use Rattle.neighbour_sync.specs.Tries.{IsTried}
-use Rattle.neighbour_sync.proofs.Trying.{waits_on, waits_end}
+use Rattle.neighbour_sync.proofs.Trying.{waits_on, waits_end, waits_halted}
 use Rattle.neighbour_sync.proofs.node.NodeAir.sample_when_passed.Goals as goal
+
+pub try_sample-requires : goal.try_sample-requires
+try_sample-requires g c =
+    let same = c.loop.invariant.tries.2 in
+    record {
+      session = (ap (λ (n : NodeFacts). n.table) same ∙ c.requires.session.0, ap (λ (n : NodeFacts). n.world) same ∙ c.requires.session.1);
+      asked = subst (λ (n : NodeFacts). Contains g.N.Session.world.asks record { node = n.number; cycle = c.args.cycle }) (sym same) c.requires.asked;
+      floor = c.requires.floor;
+    }
 
 pub loop-preserved : goal.loop-preserved
 loop-preserved g c =
@@ -32,3 +42,10 @@ returns-in-NoMemory g c =
     let before = c.loop.invariant.tries in
     let tried : IsTried w c.loop.self c.args.cycle NoMemory c.try_sample.new.self = subst (λ (r : Tried). IsTried w c.loop.self c.args.cycle r c.try_sample.new.self) c.in-NoMemory.is c.try_sample.ensures in
     waits_end w c.args.cycle c.args.self.now c.loop.self c.try_sample.new.self before.0 before.1 before.2 tried
+
+pub returns-in-Halted : goal.returns-in-Halted
+returns-in-Halted g c =
+    let before = c.loop.invariant.tries in
+    let tried : IsTried g.N.Session.world c.loop.self c.args.cycle Halted c.try_sample.new.self =
+    subst (λ (r : Tried). IsTried g.N.Session.world c.loop.self c.args.cycle r c.try_sample.new.self) c.in-Halted.is c.try_sample.ensures in
+    waits_halted c.args.self.now c.loop.self c.try_sample.new.self before.0 before.1 before.2 tried

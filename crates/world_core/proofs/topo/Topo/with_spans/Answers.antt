@@ -1,19 +1,48 @@
-use Rattle.std.proofs.Common.{refl, subst, List}
+use Rattle.std.proofs.Common.{◌≡◌, refl, sym, subst, List}
 use Rattle.std.proofs.lemmas.Bool.{false≢true}
 use Rattle.world_core.specs.declared.air.Link.{Link}
-use Rattle.world_core.specs.Topology.{topology, HasRanges, IsLinkFault}
+use Rattle.world_core.specs.FirstFault.{AllKeep}
+use Rattle.world_core.specs.Topology.{Topology, topology, HasRanges, IsTopology, IsNewLink, IsLinkFault}
+use Rattle.world_core.specs.LinkTable.{IsTableOf}
 use Rattle.world_core.proofs.Links.{fault_of, no_topology}
 use Rattle.world_core.proofs.topo.Topo.with_spans.Goals as goal
 
-pub returns-in-Err-clause-ok : goal.returns-in-Err-clause-ok
-returns-in-Err-clause-ok c =
+pub returns-then-not-are_in_range : goal.returns-then-not-are_in_range
+returns-then-not-are_in_range c =
     let t = topology c.args.nodes c.args.limit c.args.latency c.args.byte_time c.args.links.items c.args.own.items c.args.spans.items in
-    let fault = subst (λ (l : List Link). IsLinkFault l c.in-Err.fault) c.deref-4.ensures.value c.in-Err.ensures in
-    ((λ e. absurd (false≢true e)), (λ law. absurd (no_topology t c.in-Err.fault fault law)))
+    let none : ¬ HasRanges t = subst (λ (u : Topology). ¬ HasRanges u) (λ i. topology c.args.nodes c.args.limit c.args.latency c.args.byte_time (c.deref.ensures.value i) (c.deref-2.ensures.value i) (c.deref-3.ensures.value i))
+    (λ r. false≢true (c.if-not-are_in_range.ensures.1 r)) in
+    record {
+      ok = ((λ e. absurd (false≢true e)), (λ law. absurd (none law.ranges)));
+      value = tt;
+      fault = none;
+    }
 
-pub returns-in-Err-clause-fault : goal.returns-in-Err-clause-fault
-returns-in-Err-clause-fault c =
+pub invariant_of-result : goal.invariant_of-result
+invariant_of-result c =
+    let t = topology c.args.nodes c.args.limit c.args.latency c.args.byte_time c.args.links.items c.args.own.items c.args.spans.items in
+    let ranges : HasRanges t = subst HasRanges (λ i. topology c.args.nodes c.args.limit c.args.latency c.args.byte_time (c.deref.ensures.value i) (c.deref-2.ensures.value i) (c.deref-3.ensures.value i)) (c.if-not-are_in_range.ensures.0 refl) in
+    let law : IsTopology t = record { ranges = ranges; links = subst (AllKeep IsNewLink) c.deref-4.ensures.value c.in-Ok.ensures.0 } in
+    (law, subst (λ (l : List Link). IsTableOf l c.in-Ok.table.rows) c.deref-4.ensures.value c.in-Ok.ensures.1, c.of.ensures)
+
+pub returns-in-Ok : goal.returns-in-Ok
+returns-in-Ok c =
+    let t = topology c.args.nodes c.args.limit c.args.latency c.args.byte_time c.args.links.items c.args.own.items c.args.spans.items in
+    let ranges : HasRanges t = subst HasRanges (λ i. topology c.args.nodes c.args.limit c.args.latency c.args.byte_time (c.deref.ensures.value i) (c.deref-2.ensures.value i) (c.deref-3.ensures.value i)) (c.if-not-are_in_range.ensures.0 refl) in
+    let law : IsTopology t = record { ranges = ranges; links = subst (AllKeep IsNewLink) c.deref-4.ensures.value c.in-Ok.ensures.0 } in
+    record {
+      ok = ((λ _. law), (λ _. refl));
+      value = refl;
+      fault = tt;
+    }
+
+pub returns-in-Err : goal.returns-in-Err
+returns-in-Err c =
     let t = topology c.args.nodes c.args.limit c.args.latency c.args.byte_time c.args.links.items c.args.own.items c.args.spans.items in
     let fault = subst (λ (l : List Link). IsLinkFault l c.in-Err.fault) c.deref-4.ensures.value c.in-Err.ensures in
     let ranges : HasRanges t = subst HasRanges (λ i. topology c.args.nodes c.args.limit c.args.latency c.args.byte_time (c.deref.ensures.value i) (c.deref-2.ensures.value i) (c.deref-3.ensures.value i)) (c.if-not-are_in_range.ensures.0 refl) in
-    fault_of t c.in-Err.fault ranges fault
+    record {
+      ok = ((λ e. absurd (false≢true e)), (λ law. absurd (no_topology t c.in-Err.fault fault law)));
+      value = tt;
+      fault = fault_of t c.in-Err.fault ranges fault;
+    }
