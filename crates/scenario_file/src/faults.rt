@@ -6,13 +6,11 @@ ghost use Rattle.scenario_file.specs.Faults.{document_fault, early_tests, late_t
 
 use crate::ScenarioFault;
 use crate::amounts::in_range;
-use crate::document::elements;
+use crate::document::{elements, node_count};
 use crate::inputs::{any_twice, nodes_of};
 use crate::keys::{Version, version_of};
-use crate::kinds::right_kinds;
 use crate::links::{any_self_link, any_twice_linked};
-use crate::ranges::node_count;
-use crate::unknown::{missing, unknown_key};
+use crate::rules::{missing, right_kinds, unknown_key};
 use std::alloc::{AllocError, Global};
 use toml::Table;
 

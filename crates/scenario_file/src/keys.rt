@@ -1,9 +1,9 @@
 // Which keys a table may have.
 ghost use Rattle.std.specs.Prelude.{◌≡◌};
 ghost use Rattle.toml.specs.View.{table_view};
-ghost use Rattle.scenario_file.specs.Rules.{version_from, version_of, most_cycles, is_known, is_top_key, is_link_key, is_input_key};
+ghost use Rattle.scenario_file.specs.Rules.{version_of, most_cycles, is_known, is_top_key, is_link_key, is_input_key};
 
-use crate::document::{member, natural};
+use crate::document::number_at;
 use toml::Table;
 
 /// The kind of a table.
@@ -23,26 +23,15 @@ pub enum Version {
     Third,
 }
 
-fn version_from(number: i64) -> Version
-    ensures { result ≡ version_from number }
-{
-    match natural(number) {
-        Some(3) => Version::Third,
-        Some(2) => Version::Second,
-        _ => Version::First,
-    }
-}
-
 /// The version whose rules a document has. That its number is one of them is a rule by itself.
+#[tactic(auto, using(crate::proofs::Held::version_is))]
 pub fn version_of(table: &Table) -> Version
     ensures { result ≡ version_of (table_view table.now) }
 {
-    match member(table, "version") {
-        None => Version::First,
-        Some(value) => match value.as_integer() {
-            None => Version::First,
-            Some(number) => version_from(number),
-        },
+    match number_at(table, "version", 1) {
+        3 => Version::Third,
+        2 => Version::Second,
+        _ => Version::First,
     }
 }
 

@@ -7,9 +7,8 @@ ghost use Rattle.scenario_file.specs.Faults.{all_in_range, links, link_of, goes_
 ghost use Rattle.scenario_file.specs.Scenario.{latency_of, span_of, spans_from};
 ghost use Rattle.scenario_file.specs.declared.keys.Keys.TheVariants.{OfLink};
 
-use crate::document::{elements, elements_in, number_in, numbers_in, pair_or_zeros};
+use crate::document::{elements, elements_in, node_count, number_in, numbers_in, pair_of};
 use crate::keys::Version;
-use crate::ranges::node_count;
 use std::alloc::{AllocError, Global};
 use toml::{Table, Value};
 use world_core::{Link, Span, Topo};
@@ -85,7 +84,7 @@ pub fn latencies_of(alloc: Global, latency: u64, values: &[Value]) -> Result<Vec
 fn span_of(place: u32, value: &Value) -> Span
     ensures { result ≡ span_of place (view value.now) }
 {
-    let (from, until) = pair_or_zeros(value);
+    let (from, until) = pair_of(value).unwrap_or((0, 0));
     Span {
         link: place,
         from,

@@ -6,12 +6,11 @@ ghost use Rattle.scenario_file.specs.Scenario.{image_of, topology_of, parts_of, 
 ghost use Rattle.scenario_file.specs.Shown.{parts};
 
 use crate::ScenarioFault;
-use crate::document::{elements, number_at, pair_at, text_in};
+use crate::document::{elements, node_count, number_at, pair_at, text_in};
 use crate::faults::document_fault;
 use crate::inputs::scripts_of;
 use crate::keys::version_of;
 use crate::links::{latencies_of, links_of, spans_of};
-use crate::ranges::node_count;
 use sim_io::Name;
 use std::alloc::{AllocError, Global};
 use toml::{Table, Value};
