@@ -45,10 +45,7 @@ pub fn node_count(table: &Table) -> u64
 pub fn natural(value: i64) -> Option<u64>
     ensures { result ≡ natural value }
 {
-    match u64::try_from(value) {
-        Ok(n) => Some(n),
-        Err(_) => None,
-    }
+    u64::try_from(value).ok()
 }
 
 /// The whole number at a key, or the default.
@@ -60,19 +57,6 @@ pub fn number_at(table: &Table, key: &str, default: u64) -> u64
         Some(value) => match value.as_integer() {
             None => default,
             Some(n) => natural(n).unwrap_or(0),
-        },
-    }
-}
-
-/// The text at a key, or no text.
-pub fn text_at<'t>(table: &'t Table, key: &str) -> &'t str
-    ensures { result.now ≡ text_at key.now (table_view table.now) }
-{
-    match member(table, key) {
-        None => "",
-        Some(value) => match value.as_str() {
-            None => "",
-            Some(text) => text,
         },
     }
 }
@@ -149,9 +133,15 @@ pub fn numbers_in(
 pub fn text_in<'t>(value: &'t Value, key: &str) -> &'t str
     ensures { result.now ≡ text_at key.now (members_of (view value.now)) }
 {
-    match value.as_table() {
-        Some(table) => text_at(table, key),
+    let Some(table) = value.as_table() else {
+        return "";
+    };
+    match member(table, key) {
         None => "",
+        Some(value) => match value.as_str() {
+            None => "",
+            Some(text) => text,
+        },
     }
 }
 

@@ -3,7 +3,7 @@ ghost use Rattle.std.specs.Prelude.{◌≡◌, map};
 ghost use Rattle.toml.specs.View.{view, table_view};
 ghost use Rattle.scenario_file.specs.Document.{at_key};
 ghost use Rattle.scenario_file.specs.Rules.{lacks_key, has_kinds, has_top_ranges, has_ranges};
-ghost use Rattle.scenario_file.specs.Faults.{has_unknown_key, are_rows, unknown_key, missing, right_kinds};
+ghost use Rattle.scenario_file.specs.Faults.{has_unknown_key, are_rows, right_kinds};
 ghost use Rattle.scenario_file.specs.Holds.{holds, holds_of, holds_of_all, holds_in};
 
 use crate::asked::{Asked, passes_at};
@@ -142,22 +142,6 @@ impl Rule {
             && self.holds_of_all(Keys::OfLink, elements(table, "link"))
             && self.holds_of_all(Keys::OfInput, elements(table, "input"))
     }
-}
-
-/// Whether some table has a key that it may not have.
-#[tactic(auto, using(crate::proofs::Held::unknown_is))]
-pub fn unknown_key(version: Version, table: &Table) -> bool
-    ensures { result ≡ unknown_key version (table_view table.now) }
-{
-    !Rule::NoOtherKey(version).holds_in(table)
-}
-
-/// Whether some table lacks a key that it must have.
-#[tactic(auto, using(crate::proofs::Held::missing_is))]
-pub fn missing(table: &Table) -> bool
-    ensures { result ≡ missing (table_view table.now) }
-{
-    !Rule::Complete.holds_in(table)
 }
 
 // Whether an array of tables of this kind stands at a key, or nothing.
