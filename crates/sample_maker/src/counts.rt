@@ -40,14 +40,26 @@ fn is_heard(status: u8, row: &Row) -> bool
 fn sends(rows: &[Row]) -> u64
     ensures { result ≡ count_by is_sent rows.now }
 {
-    rows.iter().filter(|row| is_sent(row)).count() as u64
+    let mut count = 0;
+    for row in rows {
+        if is_sent(row) {
+            count += 1;
+        }
+    }
+    count
 }
 
 // How many samples have this status.
 fn samples(rows: &[Row], status: u8) -> u64
     ensures { result ≡ count_by (is_heard status) rows.now }
 {
-    rows.iter().filter(|row| is_heard(status, row)).count() as u64
+    let mut count = 0;
+    for row in rows {
+        if is_heard(status, row) {
+            count += 1;
+        }
+    }
+    count
 }
 
 /// The counts of these rows.

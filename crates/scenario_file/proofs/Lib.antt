@@ -1,5 +1,6 @@
 pub mod Lists
 pub mod Numbers
+pub mod Held
 pub mod Scripts
 pub mod Spans
 pub mod LinkLists

@@ -1,14 +1,14 @@
 -- Lists of a document beside the lists of the code.
-use Rattle.std.proofs.Common.{◌≡◌, sum, ℕ, zero, suc, ◌+◌, ◌<◌, ◌++◌, true, take, drop, get_or, arith, length, ◌||◌, Bool, List, [], ◌∷◌, map, Option, Some, String, Global, string_bytes, refl, sym, ap, ◌∙◌}
+use Rattle.std.proofs.Common.{◌≡◌, sum, ℕ, zero, suc, ◌+◌, ◌<◌, ◌++◌, true, take, drop, get_or, arith, length, ◌||◌, Bool, List, [], ◌∷◌, map, Option, Some, pos, negsuc, String, Global, string_bytes, refl, sym, ap, ◌∙◌}
 use Rattle.std.specs.List.{list_any, list_all}
 use Rattle.std.specs.Map.{keys_of}
 use Rattle.std.proofs.lemmas.List.{map-append, take_more, take-append-drop}
 use Rattle.std.proofs.lemmas.List.Sums.{sum_by-append}
 use Rattle.std.proofs.lemmas.Bool.{and_parts}
-use Rattle.toml.specs.Data.{Data, array, as_array}
+use Rattle.toml.specs.Data.{Data, integer, array, as_array}
 use Rattle.toml.specs.View.{view, items_of, items_view, members_view}
 use Rattle.toml.specs.declared.value.Value.{Value}
-use Rattle.scenario_file.specs.Document.{values_in, keys_in, array_elements, on_array, pair_in, pair_of}
+use Rattle.scenario_file.specs.Document.{values_in, keys_in, array_elements, on_array, natural_in, pair_made, pair_in, pair_of}
 
 pub values_in-items : (ds : List Data) → values_in (items_of ds) ≡ ds
 unfolding values_in
@@ -36,6 +36,12 @@ array_test test vs _ is = cc
 pub array_pair : (vs : List Value) (d : Data) → Some (items_view vs) ≡ as_array d → pair_in (map view vs) ≡ pair_of d
 array_pair vs (array ds) is = let e : items_view vs ≡ ds = cc in ap pair_in (sym (values_in-items (map view vs)) ∙ ap values_in e)
 array_pair vs _ is = cc
+
+pub pair_is : (d e : Data) → pair_made (natural_in d) (natural_in e) ≡ pair_in (d ∷ e ∷ [])
+pair_is (integer a) (integer b) = refl
+pair_is (integer (pos n)) e = refl
+pair_is (integer (negsuc n)) e = refl
+pair_is d e = refl
 
 pub length_map : {X Y : Type 0} (f : X → Y) (xs : List X) → length (map f xs) ≡ length xs
 length_map f [] = refl

@@ -1,5 +1,5 @@
 -- The topology of a document without a fault is one.
-use Rattle.std.proofs.Common.{◌≡◌, ◌≢◌, ℕ, zero, suc, ◌+◌, ◌<◌, ◌≤◌, ◌==◌, ◌&&◌, nat_lt, nat_le, Bool, true, false, pos, negsuc, List, [], ◌∷◌, ◌++◌, length, map, sum, Option, Some, None, is_some, codes, refl, sym, ◌∙◌, arith, lit≤}
+use Rattle.std.proofs.Common.{◌≡◌, ◌≢◌, ap, ℕ, zero, suc, ◌+◌, ◌<◌, ◌≤◌, ◌==◌, ◌&&◌, nat_lt, nat_le, Bool, true, false, pos, negsuc, List, [], ◌∷◌, ◌++◌, length, map, sum, Option, Some, None, is_some, codes, refl, sym, ◌∙◌, arith, lit≤}
 use Rattle.std.specs.List.{All, AllPairs, list_all, list_any}
 use Rattle.std.specs.Option.{option_map_or}
 use Rattle.std.proofs.lemmas.Bool.{and_parts}
@@ -233,3 +233,14 @@ links_are ms e none = record {
   };
   links = keeps_from (map link_of (links ms)) (no_self_links (links ms) e.no_self) none;
 }
+
+-- a topology made of equal parts
+pub topology_made : (ms : Members) (count cycles latency byte_time : ℕ) (ds : List Data) (ls : List Link) (own : List ℕ) (spans : List Span) → count ≡ length (nodes ms) → cycles ≡ number_at (codes "cycles") 0 ms
+    → latency ≡ number_at (codes "latency") 3072 ms → byte_time ≡ number_at (codes "byte_time") 3072 ms → ds ≡ links ms → ls ≡ map link_of ds → own ≡ map (latency_of latency) ds → spans ≡ spans_from 0 ds
+    → topology count cycles latency byte_time ls own spans ≡ topology_of ms
+unfolding topology_of
+topology_made ms count cycles latency byte_time ds ls own spans n c l b rows are own_are spans_are =
+    let all_links = are ∙ ap (map link_of) rows in
+    let all_own : own ≡ map (latency_of (number_at (codes "latency") 3072 ms)) (links ms) = own_are ∙ (λ i. map (latency_of (l i)) (rows i)) in
+    let all_spans = spans_are ∙ ap (spans_from 0) rows in
+    λ i. topology (n i) (c i) (l i) (b i) (all_links i) (all_own i) (all_spans i)

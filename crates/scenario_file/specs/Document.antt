@@ -82,6 +82,11 @@ text_of _ = []
 abbrev pub text_at : List ℕ → Members → List ℕ
 text_at key ms = text_of (get_member key ms)
 
+-- the whole number that a value is, where it is not negative
+abbrev pub natural_in : Data → Option ℕ
+natural_in (integer z) = natural z
+natural_in _ = None
+
 -- the numbers of an array of two whole numbers of which none is negative
 abbrev pub pair_made : Option ℕ → Option ℕ → Option (ℕ × ℕ)
 pair_made (Some a) (Some b) = Some (a, b)
@@ -100,8 +105,7 @@ pair_of _ = None
 
 -- the same, and 0 and 0 for any other value
 abbrev pub pair_or : Option (ℕ × ℕ) → ℕ × ℕ
-pair_or (Some p) = p
-pair_or None = (0, 0)
+pair_or p = unwrap_or p (0, 0)
 
 abbrev pub pair_at_value : Option Data → ℕ × ℕ
 pair_at_value (Some d) = pair_or (pair_of d)

@@ -6,6 +6,8 @@ use Rattle.std.specs.Option.{option_map_or}
 use Rattle.std.specs.Char.{is_ascii_hexdigit}
 use Rattle.toml.specs.Data.{Data, string, integer, Members, get_member}
 use Rattle.scenario_file.specs.Document.{natural, same_text, elements, has_key, at_key, on_array, is_whole, is_text, number_at, text_at, pair_of}
+use Rattle.scenario_file.specs.declared.asked.Asked.{Asked}
+use Rattle.scenario_file.specs.declared.asked.Asked.TheVariants.{Whole, Text, Two, Twos, Between, Node, Name, Hex, Window, Spans}
 use Rattle.scenario_file.specs.declared.keys.Keys.{Keys}
 use Rattle.scenario_file.specs.declared.keys.Keys.TheVariants.{Top, OfNode, OfLink, OfInput}
 use Rattle.scenario_file.specs.declared.keys.Version.{Version}
@@ -130,6 +132,19 @@ are_spans ds = nat_lt 0 (length ds) && are_spans_behind 0 ds
 -- the number of a node, where there are so many
 abbrev pub is_node : ℕ → Data → Bool
 is_node count d = nat_lt 0 count && fits 0 (count - 1) d
+
+-- ---- what is asked of the value at a key
+abbrev pub passes : Asked → Data → Bool
+passes Whole = is_whole
+passes Text = is_text
+passes Two = is_two
+passes Twos = on_array all_two
+passes (Between least most) = fits least most
+passes (Node count) = is_node count
+passes Name = is_name
+passes Hex = is_hex
+passes (Window cycles) = is_window cycles
+passes Spans = on_array are_spans
 
 abbrev pub has_top_ranges : Version → Members → Bool
 has_top_ranges version ms = at_key (fits 1 3) (codes "version") ms && at_key (fits 1 (most_cycles version)) (codes "cycles") ms && at_key (fits 1 65535) (codes "latency") ms

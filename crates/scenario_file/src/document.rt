@@ -1,8 +1,9 @@
 // What stands at a key of a document.
-ghost use Rattle.std.specs.Prelude.{◌≡◌, IfOk, option_map, map};
+ghost use Rattle.std.specs.Prelude.{◌≡◌, IfOk, option_map, length, map};
 ghost use Rattle.toml.specs.Data.{get_member};
 ghost use Rattle.toml.specs.View.{view, table_view};
-ghost use Rattle.scenario_file.specs.Document.{elements, has_key, members_of, natural, number, number_at, number_in, text_at, pair_from, pair_in, pair_of, pair_or, pair_at};
+ghost use Rattle.scenario_file.specs.Document.{elements, has_key, members_of, natural, natural_in, number_at, number_in, text_at, pair_in, pair_of, pair_at};
+ghost use Rattle.scenario_file.specs.Faults.{nodes};
 
 use std::alloc::{AllocError, Global};
 use toml::{Table, Value};
@@ -32,23 +33,19 @@ pub fn elements<'t>(table: &'t Table, key: &str) -> &'t [Value]
     }
 }
 
+/// How many nodes a document has.
+#[tactic(auto, using(crate::proofs::Lists::length_map))]
+pub fn node_count(table: &Table) -> u64
+    ensures { result ≡ length (nodes (table_view table.now)) }
+{
+    elements(table, "node").len() as u64
+}
+
 /// A whole number that is not negative.
 pub fn natural(value: i64) -> Option<u64>
     ensures { result ≡ natural value }
 {
-    match u64::try_from(value) {
-        Ok(n) => Some(n),
-        Err(_) => None,
-    }
-}
-
-fn number(value: i64) -> u64
-    ensures { result ≡ number value }
-{
-    match natural(value) {
-        Some(n) => n,
-        None => 0,
-    }
+    u64::try_from(value).ok()
 }
 
 /// The whole number at a key, or the default.
@@ -59,38 +56,27 @@ pub fn number_at(table: &Table, key: &str, default: u64) -> u64
         None => default,
         Some(value) => match value.as_integer() {
             None => default,
-            Some(n) => number(n),
+            Some(n) => natural(n).unwrap_or(0),
         },
     }
 }
 
-/// The text at a key, or no text.
-pub fn text_at<'t>(table: &'t Table, key: &str) -> &'t str
-    ensures { result.now ≡ text_at key.now (table_view table.now) }
+fn natural_in(value: &Value) -> Option<u64>
+    ensures { result ≡ natural_in (view value.now) }
 {
-    match member(table, key) {
-        None => "",
-        Some(value) => match value.as_str() {
-            None => "",
-            Some(text) => text,
-        },
+    match value.as_integer() {
+        Some(n) => natural(n),
+        None => None,
     }
 }
 
-fn pair_from(first: i64, second: i64) -> Option<(u64, u64)>
-    ensures { result ≡ pair_from first second }
-{
-    let a = natural(first)?;
-    let b = natural(second)?;
-    Some((a, b))
-}
-
+#[tactic(auto, using(crate::proofs::Lists::pair_is))]
 fn pair_in(values: &[Value]) -> Option<(u64, u64)>
     ensures { result ≡ pair_in (map view values.now) }
 {
     match values {
-        [first, second] => match (first.as_integer(), second.as_integer()) {
-            (Some(a), Some(b)) => pair_from(a, b),
+        [first, second] => match (natural_in(first), natural_in(second)) {
+            (Some(a), Some(b)) => Some((a, b)),
             _ => None,
         },
         _ => None,
@@ -107,22 +93,12 @@ pub fn pair_of(value: &Value) -> Option<(u64, u64)>
     }
 }
 
-/// The same, and 0 and 0 for any other value.
-pub fn pair_or_zeros(value: &Value) -> (u64, u64)
-    ensures { result ≡ pair_or (pair_of (view value.now)) }
-{
-    match pair_of(value) {
-        Some(pair) => pair,
-        None => (0, 0),
-    }
-}
-
 /// The pair at a key, and 0 and 0 where none stands there.
 pub fn pair_at(table: &Table, key: &str) -> (u64, u64)
     ensures { result ≡ pair_at key.now (table_view table.now) }
 {
     match member(table, key) {
-        Some(value) => pair_or_zeros(value),
+        Some(value) => pair_of(value).unwrap_or((0, 0)),
         None => (0, 0),
     }
 }
@@ -157,9 +133,15 @@ pub fn numbers_in(
 pub fn text_in<'t>(value: &'t Value, key: &str) -> &'t str
     ensures { result.now ≡ text_at key.now (members_of (view value.now)) }
 {
-    match value.as_table() {
-        Some(table) => text_at(table, key),
+    let Some(table) = value.as_table() else {
+        return "";
+    };
+    match member(table, key) {
         None => "",
+        Some(value) => match value.as_str() {
+            None => "",
+            Some(text) => text,
+        },
     }
 }
 

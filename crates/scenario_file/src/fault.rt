@@ -1,9 +1,6 @@
 // Why a scenario is refused.
 ghost use Rattle.std.specs.Prelude.{◌≡◌, ◌≤◌, length};
 ghost use Rattle.scenario_file.specs.Faults.{fault_name};
-ghost use Rattle.scenario_file.specs.declared.fault.ScenarioFault.TheVariants.{NoMemory};
-
-use std::alloc::AllocError;
 
 /// Why a scenario's text was refused: of the first ten the lowest that applies, in this order.
 #[derive(Clone, Copy)]
@@ -30,14 +27,6 @@ pub enum ScenarioFault {
     TwiceScripted,
     /// An allocation was refused.
     NoMemory,
-}
-
-impl From<AllocError> for ScenarioFault {
-    ghost from_gives = { λ _ fault. fault ≡ NoMemory };
-
-    fn from(_error: AllocError) -> Self {
-        ScenarioFault::NoMemory
-    }
 }
 
 impl ScenarioFault {

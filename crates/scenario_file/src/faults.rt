@@ -6,26 +6,24 @@ ghost use Rattle.scenario_file.specs.Faults.{document_fault, early_tests, late_t
 
 use crate::ScenarioFault;
 use crate::amounts::in_range;
-use crate::document::elements;
-use crate::inputs::{any_twice, nodes_of};
+use crate::document::{elements, node_count, numbers_in};
+use crate::inputs::any_twice;
 use crate::keys::{Version, version_of};
-use crate::kinds::right_kinds;
 use crate::links::{any_self_link, any_twice_linked};
-use crate::ranges::node_count;
-use crate::unknown::{missing, unknown_key};
+use crate::rules::{Rule, right_kinds};
 use std::alloc::{AllocError, Global};
 use toml::Table;
 
 // The lowest of the faults 2 to 8.
-#[tactic(auto, unfolding(crate::specs::Faults::early_tests))]
+#[tactic(auto, unfolding(crate::specs::Faults::early_tests), using(crate::proofs::Held::unknown_is, crate::proofs::Held::missing_is))]
 fn early_fault(version: Version, table: &Table) -> Option<ScenarioFault>
     requires { version ≡ version_of (table_view table.now) }
     ensures { result ≡ first_of (early_tests (table_view table.now)) }
 {
     let count = node_count(table);
-    if unknown_key(version, table) {
+    if !Rule::NoOtherKey(version).holds_in(table) {
         Some(ScenarioFault::UnknownKey)
-    } else if missing(table) {
+    } else if !Rule::Complete.holds_in(table) {
         Some(ScenarioFault::Missing)
     } else if !right_kinds(table) {
         Some(ScenarioFault::WrongKind)
@@ -56,7 +54,7 @@ fn late_fault(
     if any_twice_linked(alloc, version, table)? {
         return Ok(Some(ScenarioFault::TwiceLinked));
     }
-    let nodes = nodes_of(alloc, elements(table, "input"))?;
+    let nodes = numbers_in(alloc, elements(table, "input"), "node", 0)?;
     if any_twice(node_count(table), nodes.as_slice()) {
         return Ok(Some(ScenarioFault::TwiceScripted));
     }

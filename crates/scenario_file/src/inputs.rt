@@ -4,22 +4,15 @@ ghost use Rattle.std.specs.List.{count_by};
 ghost use Rattle.toml.specs.View.{view, table_view};
 ghost use Rattle.scenario_file.specs.Document.{on_table, members_of, text_at};
 ghost use Rattle.scenario_file.specs.Rules.{has_ranges};
-ghost use Rattle.scenario_file.specs.Faults.{all_in_range, amount_of, is_few, node_of, any_twice};
+ghost use Rattle.scenario_file.specs.Faults.{all_in_range, amount_of, is_few, any_twice};
 ghost use Rattle.scenario_file.specs.Scenario.{bytes_in, script_of, script_for, scripts_below};
 ghost use Rattle.scenario_file.specs.declared.keys.Keys.TheVariants.{OfInput};
 
-use crate::document::{number_in, numbers_in, text_in};
+use crate::document::{number_in, text_in};
 use crate::keys::Version;
 use std::alloc::{AllocError, Global};
 use toml::Value;
 use usart_port::Script;
-
-/// The nodes of the inputs, in their order.
-pub fn nodes_of(alloc: Global, values: &[Value]) -> Result<Vec<u64>, AllocError>
-    ensures { IfOk result (λ nodes. nodes.items ≡ map node_of (map view values.now)) }
-{
-    numbers_in(alloc, values, "node", 0)
-}
 
 fn count_of(node: u64, nodes: &[u64]) -> usize
     ensures { result ≡ count_by (λ m. m == node) nodes.now }

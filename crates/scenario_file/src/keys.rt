@@ -1,9 +1,9 @@
 // Which keys a table may have.
 ghost use Rattle.std.specs.Prelude.{◌≡◌};
 ghost use Rattle.toml.specs.View.{table_view};
-ghost use Rattle.scenario_file.specs.Rules.{version_from, version_of, most_cycles, is_known, is_top_key, is_link_key, is_input_key};
+ghost use Rattle.scenario_file.specs.Rules.{version_of, most_cycles, is_known};
 
-use crate::document::{member, natural};
+use crate::document::number_at;
 use toml::Table;
 
 /// The kind of a table.
@@ -23,26 +23,15 @@ pub enum Version {
     Third,
 }
 
-fn version_from(number: i64) -> Version
-    ensures { result ≡ version_from number }
-{
-    match natural(number) {
-        Some(3) => Version::Third,
-        Some(2) => Version::Second,
-        _ => Version::First,
-    }
-}
-
 /// The version whose rules a document has. That its number is one of them is a rule by itself.
+#[tactic(auto, using(crate::proofs::Held::version_is))]
 pub fn version_of(table: &Table) -> Version
     ensures { result ≡ version_of (table_view table.now) }
 {
-    match member(table, "version") {
-        None => Version::First,
-        Some(value) => match value.as_integer() {
-            None => Version::First,
-            Some(number) => version_from(number),
-        },
+    match number_at(table, "version", 1) {
+        3 => Version::Third,
+        2 => Version::Second,
+        _ => Version::First,
     }
 }
 
@@ -57,48 +46,28 @@ pub fn most_cycles(version: Version) -> u64
 }
 
 /// Whether a table of this kind may have this key.
+#[tactic(auto, unfolding(crate::specs::Rules::is_top_key, crate::specs::Rules::is_link_key, crate::specs::Rules::is_input_key))]
 pub fn is_known(version: Version, keys: Keys, key: &str) -> bool
     ensures { result ≡ is_known version keys key.now }
 {
     match keys {
-        Keys::Top => is_top_key(key),
+        Keys::Top => [
+            "version",
+            "cycles",
+            "window",
+            "latency",
+            "byte_time",
+            "node",
+            "link",
+            "input",
+        ]
+        .contains(&key),
         Keys::OfNode => key == "image",
-        Keys::OfLink => is_link_key(version, key),
-        Keys::OfInput => is_input_key(key),
+        Keys::OfLink => match version {
+            Version::First => ["from", "to"].contains(&key),
+            Version::Second => ["from", "to", "latency"].contains(&key),
+            Version::Third => ["from", "to", "latency", "open"].contains(&key),
+        },
+        Keys::OfInput => ["node", "at", "hex", "every"].contains(&key),
     }
-}
-
-#[tactic(auto, unfolding(crate::specs::Rules::is_top_key))]
-fn is_top_key(key: &str) -> bool
-    ensures { result ≡ is_top_key key.now }
-{
-    [
-        "version",
-        "cycles",
-        "window",
-        "latency",
-        "byte_time",
-        "node",
-        "link",
-        "input",
-    ]
-    .contains(&key)
-}
-
-#[tactic(auto, unfolding(crate::specs::Rules::is_link_key))]
-fn is_link_key(version: Version, key: &str) -> bool
-    ensures { result ≡ is_link_key version key.now }
-{
-    match version {
-        Version::First => ["from", "to"].contains(&key),
-        Version::Second => ["from", "to", "latency"].contains(&key),
-        Version::Third => ["from", "to", "latency", "open"].contains(&key),
-    }
-}
-
-#[tactic(auto, unfolding(crate::specs::Rules::is_input_key))]
-fn is_input_key(key: &str) -> bool
-    ensures { result ≡ is_input_key key.now }
-{
-    ["node", "at", "hex", "every"].contains(&key)
 }

@@ -3,6 +3,7 @@
 #![tactic(auto)]
 
 mod amounts;
+mod asked;
 mod document;
 mod fault;
 mod faults;
@@ -11,8 +12,8 @@ mod keys;
 mod kinds;
 mod links;
 mod ranges;
+mod rules;
 mod text;
-mod unknown;
 
 pub use fault::ScenarioFault;
 pub use text::{ScenarioText, read};

@@ -4,12 +4,11 @@ ghost use Rattle.toml.specs.View.{view, table_view};
 ghost use Rattle.scenario_file.specs.Document.{on_table};
 ghost use Rattle.scenario_file.specs.Rules.{has_ranges, version_of};
 ghost use Rattle.scenario_file.specs.Faults.{all_in_range, links, link_of, goes_to_itself, any_self_link, two_equal, first_of, early_tests};
-ghost use Rattle.scenario_file.specs.Scenario.{latency_of, span_of, spans_from};
+ghost use Rattle.scenario_file.specs.Scenario.{span_of, spans_from};
 ghost use Rattle.scenario_file.specs.declared.keys.Keys.TheVariants.{OfLink};
 
-use crate::document::{elements, elements_in, number_in, numbers_in, pair_or_zeros};
+use crate::document::{elements, elements_in, node_count, number_in, pair_of};
 use crate::keys::Version;
-use crate::ranges::node_count;
 use std::alloc::{AllocError, Global};
 use toml::{Table, Value};
 use world_core::{Link, Span, Topo};
@@ -75,17 +74,10 @@ pub fn any_twice_linked(alloc: Global, version: Version, table: &Table) -> Resul
     }
 }
 
-/// The latency of each link, its own or this one.
-pub fn latencies_of(alloc: Global, latency: u64, values: &[Value]) -> Result<Vec<u64>, AllocError>
-    ensures { IfOk result (λ own. own.items ≡ map (latency_of latency) (map view values.now)) }
-{
-    numbers_in(alloc, values, "latency", latency)
-}
-
 fn span_of(place: u32, value: &Value) -> Span
     ensures { result ≡ span_of place (view value.now) }
 {
-    let (from, until) = pair_or_zeros(value);
+    let (from, until) = pair_of(value).unwrap_or((0, 0));
     Span {
         link: place,
         from,

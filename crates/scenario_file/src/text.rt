@@ -6,12 +6,11 @@ ghost use Rattle.scenario_file.specs.Scenario.{image_of, topology_of, parts_of, 
 ghost use Rattle.scenario_file.specs.Shown.{parts};
 
 use crate::ScenarioFault;
-use crate::document::{elements, number_at, pair_at, text_in};
+use crate::document::{elements, node_count, number_at, numbers_in, pair_at, text_in};
 use crate::faults::document_fault;
 use crate::inputs::scripts_of;
 use crate::keys::version_of;
-use crate::links::{latencies_of, links_of, spans_of};
-use crate::ranges::node_count;
+use crate::links::{links_of, spans_of};
 use sim_io::Name;
 use std::alloc::{AllocError, Global};
 use toml::{Table, Value};
@@ -47,16 +46,15 @@ fn images_of(alloc: Global, values: &[Value]) -> Result<Vec<Name>, AllocError>
 
 // The topology of a document without a fault.
 #[tactic(auto, unfolding(crate::specs::Scenario::topology_of))]
-fn topology_of(alloc: Global, table: &Table) -> Result<Topo, ScenarioFault>
+fn topology_of(alloc: Global, table: &Table) -> Result<Topo, AllocError>
     requires { document_fault (table_view table.now) ≡ None }
-    ensures ok { IfOk result (λ topo. topo ≡ topology_of (table_view table.now)) }
-    ensures err { IfErr result (λ e. e ≡ ScenarioFault.NoMemory) }
+    ensures { IfOk result (λ topo. topo ≡ topology_of (table_view table.now)) }
 {
     let count = node_count(table);
     let latency = number_at(table, "latency", 3_072);
     let values = elements(table, "link");
     let links = links_of(alloc, version_of(table), count, values)?;
-    let own = latencies_of(alloc, latency, values)?;
+    let own = numbers_in(alloc, values, "latency", latency)?;
     let spans = spans_of(alloc, values)?;
     let cycles = number_at(table, "cycles", 0);
     let byte_time = number_at(table, "byte_time", 3_072);
@@ -68,11 +66,10 @@ fn topology_of(alloc: Global, table: &Table) -> Result<Topo, ScenarioFault>
 
 // The scenario of a document without a fault.
 #[tactic(auto, unfolding(crate::specs::Scenario::parts_of))]
-fn scenario(alloc: Global, table: &Table) -> Result<ScenarioText, ScenarioFault>
+fn scenario(alloc: Global, table: &Table) -> Result<ScenarioText, AllocError>
     requires { document_fault (table_view table.now) ≡ None }
     ensures ok { IfOk result (λ s. parts s ≡ parts_of (table_view table.now)) }
     ensures lawful { IfOk result (λ s. IsScenario (parts s)) }
-    ensures err { IfErr result (λ e. e ≡ ScenarioFault.NoMemory) }
 {
     let topo = topology_of(alloc, table)?;
     let images = images_of(alloc, elements(table, "node"))?;
@@ -118,6 +115,9 @@ pub fn read(alloc: Global, bytes: &[u8]) -> Result<ScenarioText, ScenarioFault>
     match document_fault(alloc, &table) {
         Err(_) => Err(ScenarioFault::NoMemory),
         Ok(Some(fault)) => Err(fault),
-        Ok(None) => scenario(alloc, &table),
+        Ok(None) => match scenario(alloc, &table) {
+            Ok(scenario) => Ok(scenario),
+            Err(_) => Err(ScenarioFault::NoMemory),
+        },
     }
 }

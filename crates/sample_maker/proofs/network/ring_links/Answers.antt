@@ -10,3 +10,6 @@ loop-k-preserved c =
     let k = c.loop-k.k in
     let pushed : c.push.new.self.items ≡ c.loop-k.links.items ++ link k ∷ [] = search rules in
     pushed ∙ (ap (λ (l : List Link). l ++ link k ∷ []) c.loop-k.invariant ∙ sym (map-range_with_len_more link 0 k k (omega arith)))
+
+pub loop-k-init : goal.loop-k-init
+loop-k-init c = c.new-links.ensures.items

@@ -1,4 +1,4 @@
-use Rattle.std.proofs.Common.{◌≡◌, ◌++◌, ◌∷◌, [], arith, ap, sym, ◌∙◌, rules}
+use Rattle.std.proofs.Common.{map, take_all, ◌≡◌, ◌++◌, ◌∷◌, [], arith, ap, sym, ◌∙◌, rules}
 use Rattle.toml.specs.View.{view}
 use Rattle.scenario_file.specs.Document.{on_table}
 use Rattle.scenario_file.specs.Rules.{has_ranges}
@@ -16,3 +16,9 @@ loop-value-preserved c =
     let pushed : c.push.new.self.items ≡ c.loop-value.links.items ++ c.link_of.result ∷ [] = search (rules, c.in_ok-push.ensures) in
     let item = c.link_of.ensures ∙ ap (λ v. link_of (view v)) c.value-item.is in
     pushed ∙ (λ i. c.loop-value.invariant i ++ item i ∷ []) ∙ sym (map_more link_of view c.args.values.now c.loop-value.value-index c.value-item.result c.loop-value-test.true)
+
+pub loop-value-init : goal.loop-value-init
+loop-value-init c = c.new-links.ensures.items
+
+pub returns : goal.returns
+returns c = c.loop-value.invariant ∙ ap (λ t. map link_of (map view t)) (take_all c.loop-value.value-index c.args.values.now c.loop-value-test.false)

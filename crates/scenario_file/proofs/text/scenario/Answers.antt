@@ -19,5 +19,5 @@ returns-clause-lawful c =
     let images_are : c.in_ok-images.images.items ≡ map image_of (nodes ms) = c.in_ok-images.ensures ∙ ap (map image_of) c.elements.ensures in
     let scripts_are = c.in_ok-scripts.ensures ∙ (λ i. scripts_below (c.node_count.ensures i) (c.elements-inputs.ensures i)) in
     let made : ScenarioParts = record { topology = c.in_ok-topo.topo; images = c.in_ok-images.images.items; scripts = c.in_ok-scripts.scripts.items; window = c.pair_at.result } in
-    let shape : made ≡ parts_of ms = λ i. record { topology = c.in_ok-topo.ensures.ok i; images = images_are i; scripts = scripts_are i; window = c.pair_at.ensures i } in
+    let shape : made ≡ parts_of ms = λ i. record { topology = c.in_ok-topo.ensures i; images = images_are i; scripts = scripts_are i; window = c.pair_at.ensures i } in
     subst IsScenario (sym shape) (scenario_law ms (clean ms c.requires))

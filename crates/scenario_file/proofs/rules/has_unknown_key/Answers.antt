@@ -6,7 +6,7 @@ use Rattle.std.proofs.lemmas.Iterator.Search.{any_from_yields_List}
 use Rattle.scenario_file.specs.Rules.{is_known}
 use Rattle.scenario_file.specs.Faults.{has_unknown_key}
 use Rattle.scenario_file.proofs.Lists.{keys_in-members, list_any-map}
-use Rattle.scenario_file.proofs.unknown.has_unknown_key.Goals as goal
+use Rattle.scenario_file.proofs.rules.has_unknown_key.Goals as goal
 
 pub returns : goal.returns
 unfolding has_unknown_key
