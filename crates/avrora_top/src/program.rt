@@ -2,7 +2,7 @@
 use crate::top::avrora;
 use fleet_threads::OpenGate;
 use plain_commands::{borrowed, owned_words};
-use sim_io::{DirStore, Sink, StdSink};
+use sim_io::{DirStore, StdSink};
 use std::env::Env;
 use std::fs::Files;
 use std::io::{self, Print, Write};
@@ -13,29 +13,6 @@ use std::thread::Threads;
 // The exit status where the words of the command line cannot be had: for want of memory, or where one is no UTF-8.
 const NO_WORDS: u8 = 9;
 
-// Does what these words ask for, over the files of the folder and the standard output, and answers the number of the exit status.
-fn follow<R: AllocGlobal + Files + Print + Threads + Wait + Sync, E: Sink>(
-    rt: &R,
-    owned: &[String],
-    err: &mut E,
-) -> u8 {
-    let Ok(words) = borrowed(rt.alloc(), owned) else {
-        return NO_WORDS;
-    };
-    let mut store = DirStore::new(rt);
-    let mut out = StdSink::new(io::writer(rt));
-    avrora(
-        rt,
-        rt.alloc(),
-        &words,
-        &mut store,
-        &mut out,
-        err,
-        &OpenGate,
-    )
-    .number()
-}
-
 /// Does what the words after the program's name ask for, over the files of the folder that it runs in, the standard output and
 /// `err`, which is the standard error; and answers the exit status, which is the number of the top call's, or 9 where the
 /// words cannot be had. No node is held at a turn.
@@ -45,7 +22,23 @@ pub fn run_program<R: Env + AllocGlobal + Files + Print + Threads + Wait + Sync,
 ) -> ExitCode {
     let mut err = StdSink::new(err);
     let number = match owned_words(rt) {
-        Some(owned) => follow(rt, &owned, &mut err),
+        Some(owned) => match borrowed(rt.alloc(), owned.as_slice()) {
+            Ok(words) => {
+                let mut store = DirStore::new(rt);
+                let mut out = StdSink::new(io::writer(rt));
+                avrora(
+                    rt,
+                    rt.alloc(),
+                    words.as_slice(),
+                    &mut store,
+                    &mut out,
+                    &mut err,
+                    &OpenGate,
+                )
+                .number()
+            }
+            Err(_) => NO_WORDS,
+        },
         None => NO_WORDS,
     };
     ExitCode::from(number)
