@@ -20,23 +20,26 @@ pub fn run_program<R: Env + AllocGlobal + Files + Print + Threads + Wait + Sync,
     rt: &R,
     err: W,
 ) -> ExitCode {
-    let Some(owned) = owned_words(rt) else {
-        return ExitCode::from(NO_WORDS);
-    };
-    let Ok(words) = borrowed(rt.alloc(), &owned) else {
-        return ExitCode::from(NO_WORDS);
-    };
-    let mut store = DirStore::new(rt);
-    let mut out = StdSink::new(io::writer(rt));
     let mut err = StdSink::new(err);
-    let status = avrora(
-        rt,
-        rt.alloc(),
-        &words,
-        &mut store,
-        &mut out,
-        &mut err,
-        &OpenGate,
-    );
-    ExitCode::from(status.number())
+    let number = match owned_words(rt) {
+        Some(owned) => match borrowed(rt.alloc(), owned.as_slice()) {
+            Ok(words) => {
+                let mut store = DirStore::new(rt);
+                let mut out = StdSink::new(io::writer(rt));
+                avrora(
+                    rt,
+                    rt.alloc(),
+                    words.as_slice(),
+                    &mut store,
+                    &mut out,
+                    &mut err,
+                    &OpenGate,
+                )
+                .number()
+            }
+            Err(_) => NO_WORDS,
+        },
+        None => NO_WORDS,
+    };
+    ExitCode::from(number)
 }

@@ -1,10 +1,9 @@
 // The commands that run each node on a thread of its own.
 ghost use Rattle.std.specs.Prelude.{◌≡◌, false};
 ghost use Rattle.node_runner.specs.Scenario.{IsScenario};
-ghost use Rattle.command_words.specs.Words.{Make, Run};
+ghost use Rattle.command_words.specs.Words.{Run};
 ghost use Rattle.plain_commands.specs.Plan.{SampleJob, TraceJob, plan_of};
-ghost use Rattle.plain_commands.specs.Reading.{Files};
-ghost use Rattle.plain_commands.specs.Ends.{Reads, reads, stream};
+ghost use Rattle.plain_commands.specs.Ends.{reads, stream};
 ghost use Rattle.plain_commands.specs.Parts.{JobEnds, Called};
 
 use fleet_threads::{Gate, ThreadRun, run_threads};
@@ -80,8 +79,9 @@ pub fn run<'w, R: Threads + Wait + Sync, S: Store, O: Sink, E: Sink, G: Gate + S
     }
 }
 
-// Runs the sample of a number, each of its nodes on a thread of its own, and writes how often they sent and what they heard.
-fn write_sample<'n, R: Threads + Wait + Sync, O: Sink, G: Gate + Sync>(
+/// `make NUMBER`: runs the sample of a number, each of its nodes on a thread of its own, and writes how often they sent and what
+/// they heard. It reads no file.
+pub fn write_sample<'n, R: Threads + Wait + Sync, O: Sink, G: Gate + Sync>(
     rt: &R,
     alloc: Global,
     number: u16,
@@ -97,21 +97,4 @@ fn write_sample<'n, R: Threads + Wait + Sync, O: Sink, G: Gate + Sync>(
         return Err(Trouble::NoMemory);
     };
     write_counts(number, rows.as_slice(), out)
-}
-
-/// `make NUMBER`: what came out of the sample of a number, each of its nodes on a thread of its own. It reads no file.
-pub fn make<R: Threads + Wait + Sync, O: Sink, E: Sink, G: Gate + Sync>(
-    rt: &R,
-    alloc: Global,
-    number: u16,
-    out: &mut O,
-    err: &mut E,
-    gate: &G,
-) -> Status
-    ensures { (files : Files) (store : Reads) → Called files (plan_of (Make number)) store store
-        (stream (O.taken out.old) (O.faults out.old)) (stream (O.taken out.new) (O.faults out.new))
-        (stream (E.taken err.old) (E.faults err.old)) (stream (E.taken err.new) (E.faults err.new)) result }
-{
-    let outcome = write_sample(rt, alloc, number, out, gate);
-    report(err, outcome)
 }

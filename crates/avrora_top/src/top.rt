@@ -3,10 +3,10 @@ ghost use Rattle.std.specs.Prelude.{◌≡◌, map};
 ghost use Rattle.plain_commands.specs.Ends.{reads, stream};
 ghost use Rattle.plain_commands.specs.TopClause.{TopClause};
 
-use crate::threads::{make, run};
+use crate::threads::{run, write_sample};
 use command_words::Order;
 use fleet_threads::Gate;
-use plain_commands::{Status, obey, read_order};
+use plain_commands::{Status, obey, read_order, report};
 use sim_io::{Sink, Store};
 use std::alloc::Global;
 use std::sync::Wait;
@@ -31,7 +31,10 @@ pub fn avrora<'w, R: Threads + Wait + Sync, S: Store, O: Sink, E: Sink, G: Gate 
 {
     match read_order(alloc, words, err) {
         Ok(Order::Run { file }) => run(rt, alloc, file, store, out, err, gate),
-        Ok(Order::Make { number }) => make(rt, alloc, number, out, err, gate),
+        Ok(Order::Make { number }) => {
+            let outcome = write_sample(rt, alloc, number, out, gate);
+            report(err, outcome)
+        }
         Ok(order) => obey(alloc, order, store, out, err),
         Err(status) => status,
     }

@@ -1,70 +1,38 @@
 // Which words are accepted.
-ghost use Rattle.std.specs.Prelude.{◌≡◌, is_some, map};
-ghost use Rattle.command_words.specs.Words.{as_make, as_node, as_plain_run, asked_by, file_behind};
+ghost use Rattle.std.specs.Prelude.{[], ◌≡◌, ◌∷◌, is_some, map};
+ghost use Rattle.command_words.specs.Words.{asked_by};
 
 use crate::operands::{cycles, is_file, sample};
 
-#[tactic(auto, unfolding(crate::specs::Words::as_node))]
-fn is_node(words: &[&str]) -> bool
-    ensures { result ≡ is_some (as_node (map (λ w. w.now) words.now)) }
+// Whether the word behind the name of a command that takes one is accepted.
+fn is_pair(command: &str, word: &str) -> bool
+    ensures { result ≡ is_some (asked_by (command.now ∷ word.now ∷ [])) }
 {
-    match words {
-        [command, file, count] => {
-            if *command != "node" || !is_file(file) {
-                return false;
-            }
-            cycles(count).is_some()
-        }
+    match command {
+        "run" | "check" | "disasm" | "asm" => is_file(word),
+        "make" => sample(word).is_some(),
         _ => false,
     }
 }
 
-// Whether there is one word behind the name of the command, and it names a file.
-#[tactic(auto, unfolding(crate::specs::Words::file_behind))]
-fn has_file(name: &str, words: &[&str]) -> bool
-    ensures { result ≡ is_some (file_behind name.now (map (λ w. w.now) words.now)) }
+// Whether the words behind the name of a command that takes two are accepted.
+fn is_triple(command: &str, first: &str, second: &str) -> bool
+    ensures { result ≡ is_some (asked_by (command.now ∷ first.now ∷ second.now ∷ [])) }
 {
-    match words {
-        [command, file] => *command == name && is_file(file),
-        _ => false,
-    }
-}
-
-#[tactic(auto, unfolding(crate::specs::Words::as_plain_run))]
-fn is_plain_run(words: &[&str]) -> bool
-    ensures { result ≡ is_some (as_plain_run (map (λ w. w.now) words.now)) }
-{
-    match words {
-        [command, option, file] => *command == "run" && *option == "--plain" && is_file(file),
-        _ => false,
-    }
-}
-
-#[tactic(auto, unfolding(crate::specs::Words::as_make))]
-fn is_make(words: &[&str]) -> bool
-    ensures { result ≡ is_some (as_make (map (λ w. w.now) words.now)) }
-{
-    match words {
-        [command, number] => {
-            if *command != "make" {
-                return false;
-            }
-            sample(number).is_some()
-        }
+    match command {
+        "node" => is_file(first) && cycles(second).is_some(),
+        "run" => first == "--plain" && is_file(second),
         _ => false,
     }
 }
 
 /// Whether the words after the program's name are accepted.
-#[tactic(auto, unfolding(crate::specs::Words::asked_by))]
 pub fn is_accepted(words: &[&str]) -> bool
     ensures { result ≡ is_some (asked_by (map (λ w. w.now) words.now)) }
 {
-    if is_node(words) || has_file("run", words) || is_plain_run(words) {
-        return true;
+    match words {
+        [command, word] => is_pair(command, word),
+        [command, first, second] => is_triple(command, first, second),
+        _ => false,
     }
-    if has_file("check", words) || has_file("disasm", words) {
-        return true;
-    }
-    has_file("asm", words) || is_make(words)
 }

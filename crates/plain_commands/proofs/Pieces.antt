@@ -1,10 +1,11 @@
 -- A text in three pieces on its way to a stream: where a write fails, a front of the whole was taken.
-use Rattle.std.proofs.Common.{◌≡◌, ℕ, List, [], ◌++◌, Option, None, Some, refl, sym, ap, ◌∙◌, subst, append_assoc}
+use Rattle.std.proofs.Common.{◌≡◌, ℕ, List, [], ◌++◌, Option, None, Some, Result, Ok, Err, OnOk, OnErr, refl, sym, ap, ◌∙◌, subst, append_assoc}
 use Rattle.std.proofs.lemmas.List.{append-nil}
 use Rattle.sim_io.specs.Outside.{Rose, extended, TookFront}
 use Rattle.sim_io.proofs.Pages.{stands_front}
 use Rattle.sim_io.proofs.Taken.{extended-extended}
 use Rattle.plain_commands.specs.Ends.{FailedIn, stream}
+use Rattle.plain_commands.specs.Parts.{LineSaid}
 
 extended-nil : (o : Option (List ℕ)) → o ≡ extended o []
 extended-nil None = refl
@@ -29,9 +30,22 @@ fails_second o p q n k m whole b c a e f i t r = record {
   rose = rose_from n k m i r;
 }
 
-pub fails_third : (o p s q : Option (List ℕ)) (n k j m : ℕ) (whole b c a : List ℕ) → whole ≡ b ++ c ++ a → p ≡ extended o b → k ≡ n → s ≡ extended p c → j ≡ k → TookFront s a q → Rose j m
+fails_third : (o p s q : Option (List ℕ)) (n k j m : ℕ) (whole b c a : List ℕ) → whole ≡ b ++ c ++ a → p ≡ extended o b → k ≡ n → s ≡ extended p c → j ≡ k → TookFront s a q → Rose j m
     → FailedIn (stream o n) whole (stream q m)
 fails_third o p s q n k j m whole b c a e f i g l t r = record {
   front = front_behind o s q whole (b ++ c) a [] (g ∙ (ap (λ x. extended x c) f ∙ extended-extended o b c)) (e ∙ ap (λ x. b ++ c ++ x) (sym (append-nil a))) t;
   rose = rose_from n j m (l ∙ i) r;
 }
+
+all_three : (o p s q : Option (List ℕ)) (whole b c a : List ℕ) → whole ≡ b ++ c ++ a → p ≡ extended o b → s ≡ extended p c → q ≡ extended s a → q ≡ extended o whole
+all_three o p s q whole b c a e f g h =
+    h ∙ ap (λ x. extended x a) (g ∙ ap (λ x. extended x c) f ∙ extended-extended o b c) ∙ extended-extended o (b ++ c) a ∙ ap (extended o) (sym e)
+
+-- the last piece was taken, and so the whole; or it failed
+pub said_third : {A E : Type 0} (o p s q : Option (List ℕ)) (n k j m : ℕ) (whole b c a : List ℕ) → whole ≡ b ++ c ++ a → p ≡ extended o b → k ≡ n → s ≡ extended p c → j ≡ k
+    → (r : Result A E) → OnOk r (q ≡ extended s a) → OnOk r (m ≡ j) → OnErr r (TookFront s a q) → OnErr r (Rose j m) → LineSaid whole (stream o n) (stream q m) r
+said_third o p s q n k j m whole b c a e f i g l (Ok x) taken ok front rose =
+    let all = all_three o p s q whole b c a e f g taken in
+    let none = ok ∙ l ∙ i in
+    λ t. stream (all t) (none t)
+said_third o p s q n k j m whole b c a e f i g l (Err x) taken ok front rose = fails_third o p s q n k j m whole b c a e f i g l front rose

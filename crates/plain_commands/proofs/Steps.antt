@@ -28,45 +28,49 @@ both files _ _ _ (TooLong name most too_long next told) (Here p) = TooLong name 
 -- what a file that was read opens
 abbrev pub Opens : Files → List ℕ → ℕ → Refusal → List ℕ → Type 0
 Opens files name most too_long bytes =
-    (next : List ℕ → Plan) (rest : Plan) → Reached files (next bytes) rest → Reached files (Read name most too_long next) rest
+    (next : List ℕ → Plan) → Reached files (Read name most too_long next) (next bytes)
+
+opened : (files : Files) (name : List ℕ) (most : ℕ) (too_long : Refusal) (bytes : List ℕ) (rest : Plan) → Opens files name most too_long bytes
+    → (next : List ℕ → Plan) → Reached files (next bytes) rest → Reached files (Read name most too_long next) rest
+opened files name most too_long bytes rest opens next more = both files (Read name most too_long next) (next bytes) rest (opens next) more
 
 pub image_accepted : (files : Files) (name bytes : List ℕ) (flash : Image) → Opens files name 1048576 (BadImage name cause.TooLong) bytes
     → hex_fault bytes ≡ None → flash ≡ image bytes
     → (next : Image → Plan) → Reached files (image_plan name next) (next flash)
 image_accepted files name bytes flash opens e f next =
-    opens (λ b. on_image name (hex_fault b) (image b) next) (next flash) (rw (e, f) (Here (next (image bytes))))
+    opened files name 1048576 (BadImage name cause.TooLong) bytes (next flash) opens (λ b. on_image name (hex_fault b) (image b) next) (rw (e, f) (Here (next (image bytes))))
 
 pub image_refused : (files : Files) (name bytes : List ℕ) (fault : HexFault) → Opens files name 1048576 (BadImage name cause.TooLong) bytes
     → hex_fault bytes ≡ Some fault
     → (next : Image → Plan) → Reached files (image_plan name next) (Refuse (BadImage name (cause.Faulty fault)))
 image_refused files name bytes fault opens e next =
-    opens (λ b. on_image name (hex_fault b) (image b) next) (Refuse (BadImage name (cause.Faulty fault)))
+    opened files name 1048576 (BadImage name cause.TooLong) bytes (Refuse (BadImage name (cause.Faulty fault))) opens (λ b. on_image name (hex_fault b) (image b) next)
     (rw e (Here (Refuse (BadImage name (cause.Faulty fault)))))
 
 pub scenario_accepted : (files : Files) (name bytes : List ℕ) (parts : ScenarioParts) → Opens files name 524288 (BadScenario name scenario_cause.TooLong) bytes
     → scenario_in bytes ≡ Ok parts
     → (next : ScenarioParts → Plan) → Reached files (scenario_plan name next) (next parts)
 scenario_accepted files name bytes parts opens e next =
-    opens (λ b. on_scenario name (scenario_in b) next) (next parts) (rw e (Here (next parts)))
+    opened files name 524288 (BadScenario name scenario_cause.TooLong) bytes (next parts) opens (λ b. on_scenario name (scenario_in b) next) (rw e (Here (next parts)))
 
 pub scenario_refused : (files : Files) (name bytes : List ℕ) (fault : ScenarioFault) → Opens files name 524288 (BadScenario name scenario_cause.TooLong) bytes
     → scenario_in bytes ≡ Err fault
     → (next : ScenarioParts → Plan) → Reached files (scenario_plan name next) (Refuse (BadScenario name (scenario_cause.Faulty fault)))
 scenario_refused files name bytes fault opens e next =
-    opens (λ b. on_scenario name (scenario_in b) next) (Refuse (BadScenario name (scenario_cause.Faulty fault)))
+    opened files name 524288 (BadScenario name scenario_cause.TooLong) bytes (Refuse (BadScenario name (scenario_cause.Faulty fault))) opens (λ b. on_scenario name (scenario_in b) next)
     (rw e (Here (Refuse (BadScenario name (scenario_cause.Faulty fault)))))
 
 pub source_accepted : (files : Files) (name bytes words : List ℕ) → Opens files name 1048576 (BadSource name source_cause.TooLong) bytes
     → assembled bytes ≡ Ok words
     → (next : List ℕ → Plan) → Reached files (source_plan name next) (next words)
 source_accepted files name bytes words opens e next =
-    opens (λ b. on_source name (assembled b) next) (next words) (rw e (Here (next words)))
+    opened files name 1048576 (BadSource name source_cause.TooLong) bytes (next words) opens (λ b. on_source name (assembled b) next) (rw e (Here (next words)))
 
 pub source_refused : (files : Files) (name bytes : List ℕ) (fault : AsmFault) → Opens files name 1048576 (BadSource name source_cause.TooLong) bytes
     → assembled bytes ≡ Err fault
     → (next : List ℕ → Plan) → Reached files (source_plan name next) (Refuse (BadSource name (source_cause.Faulty fault)))
 source_refused files name bytes fault opens e next =
-    opens (λ b. on_source name (assembled b) next) (Refuse (BadSource name (source_cause.Faulty fault)))
+    opened files name 1048576 (BadSource name source_cause.TooLong) bytes (Refuse (BadSource name (source_cause.Faulty fault))) opens (λ b. on_source name (assembled b) next)
     (rw e (Here (Refuse (BadSource name (source_cause.Faulty fault)))))
 
 -- a stop further on is a stop of the whole plan

@@ -39,6 +39,11 @@ StopsAt files plan store store' trouble.NoMemory = store' ≡ store
 StopsAt files plan store store' (trouble.ReadFailed name) = FailedRead store name.now store' × IsNext files plan name.now
 StopsAt files plan store store' (trouble.Refused c) = (store' ≡ store) × Reached files plan (Refuse (refusal_of c))
 
+-- a plan was read on, whatever comes behind: no read failed, and this value was read; or reading stopped
+abbrev pub ReadOn : {X V : Type 0} → Files → ((V → Plan) → Plan) → (X → V) → Reads → Reads → Result X Trouble → Type 0
+ReadOn {V = V} files plan value store store' (Ok x) = (store' ≡ store) × ((next : V → Plan) → Reached files (plan next) (next (value x)))
+ReadOn {V = V} files plan value store store' (Err t) = (next : V → Plan) → StopsAt files (plan next) store store' t
+
 -- the work of a job ended so: its whole output was written, or a write failed, or there was want of memory behind a front of it
 abbrev pub JobEnds : {A : Type 0} → Job → Stream → Stream → Result A Trouble → Type 0
 JobEnds job out out' (Ok x) = out' ≡ took out (output job)
@@ -46,6 +51,11 @@ JobEnds job out out' (Err trouble.OutFailed) = FailedIn out (output job) out'
 JobEnds job out out' (Err trouble.NoMemory) = TookFront out.taken (output job) out'.taken × (out'.faults ≡ out.faults)
 JobEnds job out out' (Err (trouble.ReadFailed name)) = ⊥
 JobEnds job out out' (Err (trouble.Refused c)) = ⊥
+
+-- a line was said: a stream took it, or failed in the midst of it
+abbrev pub LineSaid : {A E : Type 0} → List ℕ → Stream → Stream → Result A E → Type 0
+LineSaid line err err' (Ok x) = err' ≡ took err line
+LineSaid line err err' (Err e) = FailedIn err line err'
 
 -- an end was told: `err` took its line, or failed in the midst of it
 pub data Told (end : End) (err err' : Stream) (answer : Status) : Type 0 where

@@ -1,7 +1,7 @@
 // The commands, behind the words that ask for them.
 ghost use Rattle.std.specs.Prelude.{◌≡◌, ◌≤◌, length, IfErr, IfOk};
 ghost use Rattle.command_words.specs.Words.{Node, RunPlain, Check, Disasm, Asm};
-ghost use Rattle.plain_commands.specs.Plan.{AsmJob, DisasmJob, plan_of};
+ghost use Rattle.plain_commands.specs.Plan.{AsmJob, plan_of};
 ghost use Rattle.plain_commands.specs.Ends.{Ends, reads, stream};
 ghost use Rattle.plain_commands.specs.Parts.{JobEnds, end_of, Called, HasRead, EndedReading};
 
@@ -16,17 +16,6 @@ use ihex_writer::hex_text;
 use node_runner::Scenario;
 use sim_io::{Sink, Store, write_all};
 use std::alloc::Global;
-
-// Writes the listing of an image.
-#[tactic(auto, unfolding(crate::specs::Plan::output))]
-fn write_instructions<'n, O: Sink>(flash: &Flash, out: &mut O) -> Result<(), Trouble<'n>>
-    ensures { JobEnds (DisasmJob flash.now) (stream (O.taken out.old) (O.faults out.old)) (stream (O.taken out.new) (O.faults out.new)) result }
-{
-    match write_listing(flash, out) {
-        Ok(()) => Ok(()),
-        Err(_) => Err(Trouble::OutFailed),
-    }
-}
 
 // Writes a program as an image.
 #[tactic(auto, unfolding(crate::specs::Plan::output))]
@@ -58,13 +47,12 @@ pub fn node<'w, S: Store, O: Sink>(
         (reads (S.faults store.old) (S.failed store.old)) (reads (S.faults store.new) (S.failed store.new))
         (stream (O.taken out.old) (O.faults out.old)) (stream (O.taken out.new) (O.faults out.new)) (end_of result) }
 {
-    let flash = match read_image(alloc, file, store) {
-        Ok(flash) => flash,
-        Err(trouble) => return Err(trouble),
-    };
-    match lone_node(alloc, flash, cycles) {
-        Ok(network) => write_trace(alloc, &network, out),
-        Err(_) => Err(Trouble::NoMemory),
+    match read_image(alloc, file, store) {
+        Ok(flash) => match lone_node(alloc, flash, cycles) {
+            Ok(network) => write_trace(alloc, &network, out),
+            Err(_) => Err(Trouble::NoMemory),
+        },
+        Err(trouble) => Err(trouble),
     }
 }
 
@@ -81,7 +69,7 @@ pub fn disasm<'w, S: Store, O: Sink>(
         (stream (O.taken out.old) (O.faults out.old)) (stream (O.taken out.new) (O.faults out.new)) (end_of result) }
 {
     match read_image(alloc, file, store) {
-        Ok(flash) => write_instructions(&flash, out),
+        Ok(flash) => write_listing(&flash, out),
         Err(trouble) => Err(trouble),
     }
 }

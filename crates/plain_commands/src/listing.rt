@@ -1,16 +1,19 @@
 // The listing of an image.
-ghost use Rattle.std.specs.Prelude.{◌≡◌, ◌≤◌, ◌<◌, ◌+◌, ◌++◌, false, if◌then◌else◌, OnOk, OnErr};
+ghost use Rattle.std.specs.Prelude.{◌≡◌, ◌≤◌, ◌<◌, ◌+◌, ◌++◌, false, if◌then◌else◌};
 ghost use Rattle.arrayvec.specs.ArrayString.{array_string_len};
-ghost use Rattle.sim_io.specs.Outside.{Rose, extended, TookFront};
 ghost use Rattle.avr_decoder.specs.Words.{is_two_words};
 ghost use Rattle.ihex_loader.specs.Flash.{word_at};
-ghost use Rattle.plain_commands.specs.Listing.{instruction_line, listing};
+ghost use Rattle.plain_commands.specs.Listing.{instruction_line};
+ghost use Rattle.plain_commands.specs.Plan.{DisasmJob};
+ghost use Rattle.plain_commands.specs.Ends.{stream};
+ghost use Rattle.plain_commands.specs.Parts.{JobEnds};
 
+use crate::trouble::Trouble;
 use arrayvec::ArrayString;
 use avr_decoder::{decode, width};
 use avr_disassembler::put_line;
 use ihex_loader::Flash;
-use sim_io::{Sink, SinkFault, make_room, write_all};
+use sim_io::{Sink, make_room, write_all};
 
 // The bytes of a page, and the room that a line needs: the disassembler's, of at most 28 bytes, and LF.
 const PAGE_BYTES: usize = 16_384;
@@ -31,21 +34,19 @@ fn put_instruction(flash: &Flash, pc: u16, page: &mut ArrayString<PAGE_BYTES>) -
 }
 
 /// Writes one line for each instruction from word 0 on, while the image gave a byte of its first word or a later one.
-/// At `Err` a front of the lines is written.
-pub fn write_listing<O: Sink>(flash: &Flash, out: &mut O) -> Result<(), SinkFault>
-    ensures taken { OnOk result (O.taken out.new ≡ extended (O.taken out.old) (listing flash.now)) }
-    ensures ok { OnOk result (O.faults out.new ≡ O.faults out.old) }
-    ensures front { OnErr result (TookFront (O.taken out.old) (listing flash.now) (O.taken out.new)) }
-    ensures rose { OnErr result (Rose (O.faults out.old) (O.faults out.new)) }
+pub fn write_listing<'n, O: Sink>(flash: &Flash, out: &mut O) -> Result<(), Trouble<'n>>
+    ensures { JobEnds (DisasmJob flash.now) (stream (O.taken out.old) (O.faults out.old)) (stream (O.taken out.new) (O.faults out.new)) result }
 {
     let mut page = ArrayString::new();
     let mut pc = 0;
     while 2 * pc < flash.used() {
-        make_room(&mut page, LINE_BYTES, out)?;
+        let Ok(()) = make_room(&mut page, LINE_BYTES, out) else {
+            return Err(Trouble::OutFailed);
+        };
         pc += u32::from(put_instruction(flash, pc as u16, &mut page));
     }
     match write_all(out, page.as_str().as_bytes()) {
         Ok(()) => Ok(()),
-        Err(fault) => Err(fault),
+        Err(_) => Err(Trouble::OutFailed),
     }
 }

@@ -4,18 +4,23 @@ use Rattle.plain_commands.specs.Reading.{Here, Fitting, TooLong}
 use Rattle.plain_commands.specs.Parts.{refusal_of}
 use Rattle.plain_commands.proofs.files.read_file.Goals as goal
 
-pub returns-in-Ok-clause-ok : goal.returns-in-Ok-clause-ok
-returns-in-Ok-clause-ok g c = λ next rest more.
-    Fitting c.args.name.now c.args.most (refusal_of c.args.too_long) next c.in-Ok.bytes.items rest c.in-Ok.ensures.bytes c.in-Ok.ensures.fits more
+pub returns-in-Ok-clause-read : goal.returns-in-Ok-clause-read
+returns-in-Ok-clause-read g c = (
+  search (rules, c.read.ensures.as_before),
+  λ next. Fitting c.args.name.now c.args.most (refusal_of c.args.too_long) next c.in-Ok.bytes.items _ c.in-Ok.ensures.bytes c.in-Ok.ensures.fits (Here _),
+)
 
-pub returns-in-Err-Failed-clause-err : goal.returns-in-Err-Failed-clause-err
-returns-in-Err-Failed-clause-err g c = λ next. (
+pub returns-in-Err-Failed-clause-read : goal.returns-in-Err-Failed-clause-read
+returns-in-Err-Failed-clause-read g c = λ next. (
   record { rose = search (rules, c.read.ensures.rose); failed = search (rules, c.read.ensures.failed) },
   record { rest = Read c.args.name.now c.args.most (refusal_of c.args.too_long) next; reached = Here _; reading = refl },
 )
 
-pub returns-in-Err-TooLong-clause-err : goal.returns-in-Err-TooLong-clause-err
-returns-in-Err-TooLong-clause-err g c = λ next. (
+pub returns-in-Err-TooLong-clause-read : goal.returns-in-Err-TooLong-clause-read
+returns-in-Err-TooLong-clause-read g c = λ next. (
   search (rules, c.read.ensures.as_before),
   TooLong c.args.name.now c.args.most (refusal_of c.args.too_long) next (search (rules, c.read.ensures.too_long)),
 )
+
+pub returns-in-Err-NoMemory-clause-read : goal.returns-in-Err-NoMemory-clause-read
+returns-in-Err-NoMemory-clause-read g c = λ next. search (rules, c.read.ensures.as_before)

@@ -5,16 +5,16 @@ use Rattle.plain_commands.specs.Plan.{on_image}
 use Rattle.plain_commands.proofs.Steps.{image_accepted, image_refused}
 use Rattle.plain_commands.proofs.files.read_image.Goals as goal
 
-pub returns-in-Err-clause-err : goal.returns-in-Err-clause-err
-returns-in-Err-clause-err g c = λ next. c.in-Err.ensures.err (λ b. on_image c.args.name.now (hex_fault b) (image b) next)
+pub returns-in-Err-clause-read : goal.returns-in-Err-clause-read
+returns-in-Err-clause-read g c = λ next. c.in-Err.ensures.read (λ b. on_image c.args.name.now (hex_fault b) (image b) next)
 
-pub returns-in-Ok-load-clause-ok : goal.returns-in-Ok-load-clause-ok
-returns-in-Ok-load-clause-ok g c =
-    image_accepted _ c.args.name.now c.in-Ok.bytes.items _ c.in-Ok.ensures.ok (search (rules, c.in-Ok-load.ensures.sound)) (search (rules, c.in-Ok-load.ensures.image))
+pub returns-in-Ok-read-clause-read : goal.returns-in-Ok-read-clause-read
+returns-in-Ok-read-clause-read g c =
+    (c.in-Ok.ensures.read.0, image_accepted _ c.args.name.now c.in-Ok.bytes.items _ c.in-Ok.ensures.read.1 (search (rules, c.in-Ok-read.ensures.sound)) (search (rules, c.in-Ok-read.ensures.image)))
 
-pub returns-clause-err : goal.returns-clause-err
-returns-clause-err g c =
-    let other : c.in-Err-load.fault ≢ NoMemory = search rules in
-    let faulty : hex_fault c.in-Ok.bytes.items ≡ Some c.in-Err-load.fault =
-    rw (← c.as_slice.ensures.value) (elim c.in-Err-load.ensures.err [ inl none ↦ absurd (other none) | inr e ↦ e ]) in
-    λ next. (c.in-Ok.ensures.same, image_refused _ c.args.name.now c.in-Ok.bytes.items _ c.in-Ok.ensures.ok faulty next)
+pub returns-in-Err-read-clause-read : goal.returns-in-Err-read-clause-read
+returns-in-Err-read-clause-read g c =
+    let other : c.in-Err-read.fault ≢ NoMemory = search rules in
+    let faulty : hex_fault c.in-Ok.bytes.items ≡ Some c.in-Err-read.fault =
+    rw (← c.as_slice.ensures.value) (elim c.in-Err-read.ensures.err [ inl none ↦ absurd (other none) | inr e ↦ e ]) in
+    λ next. (c.in-Ok.ensures.read.0, image_refused _ c.args.name.now c.in-Ok.bytes.items _ c.in-Ok.ensures.read.1 faulty next)

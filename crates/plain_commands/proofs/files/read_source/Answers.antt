@@ -5,16 +5,16 @@ use Rattle.plain_commands.specs.Plan.{on_source}
 use Rattle.plain_commands.proofs.Steps.{source_accepted, source_refused}
 use Rattle.plain_commands.proofs.files.read_source.Goals as goal
 
-pub returns-in-Err-clause-err : goal.returns-in-Err-clause-err
-returns-in-Err-clause-err g c = λ next. c.in-Err.ensures.err (λ b. on_source c.args.name.now (assembled b) next)
+pub returns-in-Err-clause-read : goal.returns-in-Err-clause-read
+returns-in-Err-clause-read g c = λ next. c.in-Err.ensures.read (λ b. on_source c.args.name.now (assembled b) next)
 
-pub returns-in-Ok-assemble-clause-ok : goal.returns-in-Ok-assemble-clause-ok
-returns-in-Ok-assemble-clause-ok g c =
-    source_accepted _ c.args.name.now c.in-Ok.bytes.items _ c.in-Ok.ensures.ok (rw (← c.as_slice.ensures.value) c.in-Ok-assemble.ensures.ok)
+pub returns-in-Ok-read-clause-read : goal.returns-in-Ok-read-clause-read
+returns-in-Ok-read-clause-read g c =
+    (c.in-Ok.ensures.read.0, source_accepted _ c.args.name.now c.in-Ok.bytes.items _ c.in-Ok.ensures.read.1 (rw (← c.as_slice.ensures.value) c.in-Ok-read.ensures.ok))
 
-pub returns-clause-err : goal.returns-clause-err
-returns-clause-err g c =
-    let other : c.in-Err-assemble.fault ≢ NoMemory = search rules in
-    let faulty : assembled c.in-Ok.bytes.items ≡ Err c.in-Err-assemble.fault =
-    rw (← c.as_slice.ensures.value) (elim c.in-Err-assemble.ensures.err [ inl none ↦ absurd (other none) | inr e ↦ e ]) in
-    λ next. (c.in-Ok.ensures.same, source_refused _ c.args.name.now c.in-Ok.bytes.items _ c.in-Ok.ensures.ok faulty next)
+pub returns-in-Err-read-clause-read : goal.returns-in-Err-read-clause-read
+returns-in-Err-read-clause-read g c =
+    let other : c.in-Err-read.fault ≢ NoMemory = search rules in
+    let faulty : assembled c.in-Ok.bytes.items ≡ Err c.in-Err-read.fault =
+    rw (← c.as_slice.ensures.value) (elim c.in-Err-read.ensures.err [ inl none ↦ absurd (other none) | inr e ↦ e ]) in
+    λ next. (c.in-Ok.ensures.read.0, source_refused _ c.args.name.now c.in-Ok.bytes.items _ c.in-Ok.ensures.read.1 faulty next)

@@ -1,9 +1,11 @@
-use Rattle.std.proofs.Common.{◌≡◌, ◌<◌, ◌≤◌, ◌∙◌, if◌then◌else◌, arith, refl}
-use Rattle.std.proofs.lemmas.Result.{err_from_is_err_and}
+use Rattle.std.proofs.Common.{◌≡◌, ◌<◌, ◌≤◌, ◌∙◌, if◌then◌else◌, arith, refl, subst, ℕ}
 use Rattle.sim_io.proofs.Pages.{stands_first, stands_moved, stands_more, stands_front, stands_all}
+use Rattle.sim_io.specs.Outside.{Rose}
 use Rattle.avr_decoder.specs.Words.{is_two_words}
 use Rattle.ihex_loader.specs.Flash.{word_at}
+use Rattle.plain_commands.specs.Ends.{stream}
 use Rattle.plain_commands.specs.Listing.{words_used}
+use Rattle.plain_commands.specs.Plan.{output}
 use Rattle.plain_commands.proofs.Lines.{lines_left_all, lines_left_none, lines_left_step, first_step, two_at_most, word_0_first}
 use Rattle.plain_commands.proofs.listing.write_listing.Goals as goal
 
@@ -15,10 +17,12 @@ loop-pc-init g c = record {
   small = omega arith;
 }
 
-pub returns-in_err-make_room-clause-front : goal.returns-in_err-make_room-clause-front
-returns-in_err-make_room-clause-front g c =
-    let p = err_from_is_err_and c.from_residual.result c.from_residual.ensures.1 in
-    rw (p.1) (stands_front _ _ _ _ _ _ c.loop-pc.invariant.stands c.in_err-make_room.ensures.front)
+pub returns-in_default : goal.returns-in_default
+unfolding output
+returns-in_default g c = record {
+  front = stands_front _ _ _ _ _ _ c.loop-pc.invariant.stands c.in_default.ensures.front;
+  rose = subst (λ (n : ℕ). Rose n (g.O.Sink.faults c.make_room.new.sink)) c.loop-pc.invariant.count c.in_default.ensures.rose;
+}
 
 pub loop-pc-preserved : goal.loop-pc-preserved
 loop-pc-preserved g c =
@@ -29,19 +33,24 @@ loop-pc-preserved g c =
     let within : pc < words_used c.args.flash.now = omega arith in
     record {
       stands = stands_more _ _ _ _ _ _ _ _
-          (stands_moved _ _ _ _ _ _ _ c.loop-pc.invariant.stands c.in_ok-make_room.ensures.moved)
+          (stands_moved _ _ _ _ _ _ _ c.loop-pc.invariant.stands c.in-Ok.ensures.moved)
           (lines_left_step flash _ pc c.from-pc.result within c.loop-pc.invariant.first words) c.put_instruction.ensures.line;
-      count = c.in_ok-make_room.ensures.ok ∙ c.loop-pc.invariant.count;
+      count = c.in-Ok.ensures.ok ∙ c.loop-pc.invariant.count;
       first = first_step flash pc c.from-pc.result c.loop-pc.invariant.first words;
       small = omega arith;
     }
 
-pub returns-in-Ok-clause-taken : goal.returns-in-Ok-clause-taken
-returns-in-Ok-clause-taken g c =
+pub returns-in-Ok-write_all : goal.returns-in-Ok-write_all
+unfolding output
+returns-in-Ok-write_all g c =
     let past : words_used c.args.flash.now ≤ c.loop-pc.pc = omega arith in
-    stands_all _ _ _ _ _ _ c.loop-pc.invariant.stands (lines_left_none _ _ c.loop-pc.pc past)
-    (rw (c.as_bytes.ensures.value, c.as_str.ensures.value) at c.in-Ok.ensures.taken)
+    let taken = stands_all _ _ _ _ _ _ c.loop-pc.invariant.stands (lines_left_none _ _ c.loop-pc.pc past)
+    (rw (c.as_bytes.ensures.value, c.as_str.ensures.value) at c.in-Ok-write_all.ensures.taken) in
+    λ i. stream (taken i) ((c.in-Ok-write_all.ensures.ok ∙ c.loop-pc.invariant.count) i)
 
-pub returns-in-Err-clause-front : goal.returns-in-Err-clause-front
-returns-in-Err-clause-front g c =
-    stands_front _ _ _ _ _ _ c.loop-pc.invariant.stands (rw (c.as_bytes.ensures.value, c.as_str.ensures.value) at c.in-Err.ensures.front)
+pub returns-in-Err : goal.returns-in-Err
+unfolding output
+returns-in-Err g c = record {
+  front = stands_front _ _ _ _ _ _ c.loop-pc.invariant.stands (rw (c.as_bytes.ensures.value, c.as_str.ensures.value) at c.in-Err.ensures.front);
+  rose = subst (λ (n : ℕ). Rose n (g.O.Sink.faults c.write_all.new.sink)) c.loop-pc.invariant.count c.in-Err.ensures.rose;
+}
