@@ -129,6 +129,13 @@ pub by_top : (n k m v w next : ℕ) → number_of (bits k v ++ bits m w) ≡ n �
 by_top n k m v w next is whole top =
     by_bits n w next (bits k v ++ bits m w) (ap (λ i. bits i w) (sym whole) ∙ (bits-split k m w ∙ ap (λ u. bits k u ++ bits m w) top)) is
 
+-- where the k upper bits of a word and bit 3 lead to one row, whatever the m bits between them and the low three are
+pub by_bit : (n k m v x w next : ℕ) → number_of (bits k v ++ (bits m (w / 16) ++ (x ∷ bits 3 w))) ≡ n → k + (m + 4) ≡ 16 → w / 2 ^ (m + 4) ≡ v → w / 8 % 2 ≡ x → op_at w next ≡ numbered n w next
+by_bit n k m v x w next is whole top bit =
+    let below : bits (m + 4) w ≡ bits m (w / 16) ++ (x ∷ bits 3 w) = bits-split m 4 w ∙ ap (λ u. bits m (w / 16) ++ (u ∷ bits 3 w)) bit in
+    by_bits n w next (bits k v ++ (bits m (w / 16) ++ (x ∷ bits 3 w)))
+      (ap (λ i. bits i w) (sym whole) ∙ (bits-split k (m + 4) w ∙ (ap (λ u. bits k u ++ bits (m + 4) w) top ∙ ap (λ t. bits k v ++ t) below))) is
+
 -- the test that a word has the row of a load or store that moves a pointer, or is undefined since its register is in the pair of this number
 abbrev pub has_moving_row : ℕ → ℕ → ℕ → ℕ → Bool
 has_moving_row n pair low w = elim (w % 16 == low) [ true ↦ number_at w == elim (w / 32 % 16 == pair) [ true ↦ 90 | false ↦ n ] | false ↦ true ]
