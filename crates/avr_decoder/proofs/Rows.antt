@@ -148,3 +148,8 @@ pub moving : (n at pair low w next : ℕ) → all_from (has_moving_row n pair lo
 moving n at pair low w next computed above below is =
     let here = when (w % 16 == low) (number_at w == elim (w / 32 % 16 == pair) [ true ↦ 90 | false ↦ n ]) (all_from-at (has_moving_row n pair low) at 512 w computed above below) (eq-eqb (w % 16) low is) in
     op_at-numbered w next ∙ (ap (λ k. numbered k w next) (eqb-true (number_at w) (elim (w / 32 % 16 == pair) [ true ↦ 90 | false ↦ n ]) here) ∙ chosen (w / 32 % 16 == pair) n w next)
+
+-- what a row that moves its pointer makes of a register, which is read from the word
+pub of_register : (w pair : ℕ) (made : ℕ → Op) {it : Op} {register read : ℕ} → it ≡ (if w / 32 % 16 == pair then op.Undefined w else made register) → register ≡ read
+    → it ≡ (if w / 32 % 16 == pair then op.Undefined w else made read)
+of_register w pair made e f = e ∙ ap (λ r. if w / 32 % 16 == pair then op.Undefined w else made r) f
