@@ -134,7 +134,7 @@ pub by_bit : (n k m v x w next : ℕ) → number_of (bits k v ++ (bits m (w / 16
 by_bit n k m v x w next is whole top bit =
     let below : bits (m + 4) w ≡ bits m (w / 16) ++ (x ∷ bits 3 w) = bits-split m 4 w ∙ ap (λ u. bits m (w / 16) ++ (u ∷ bits 3 w)) bit in
     by_bits n w next (bits k v ++ (bits m (w / 16) ++ (x ∷ bits 3 w)))
-      (ap (λ i. bits i w) (sym whole) ∙ (bits-split k (m + 4) w ∙ (ap (λ u. bits k u ++ bits (m + 4) w) top ∙ ap (λ t. bits k v ++ t) below))) is
+    (ap (λ i. bits i w) (sym whole) ∙ (bits-split k (m + 4) w ∙ (ap (λ u. bits k u ++ bits (m + 4) w) top ∙ ap (λ t. bits k v ++ t) below))) is
 
 -- the test that a word has the row of a load or store that moves a pointer, or is undefined since its register is in the pair of this number
 abbrev pub has_moving_row : ℕ → ℕ → ℕ → ℕ → Bool
