@@ -79,10 +79,10 @@ pub fn register(text: &[u8]) -> Option<u16>
     ensures value { result ≡ register text.now }
     ensures small { IfSome result (λ n. n ≤ 31) }
 {
-    match text {
-        [b'r', a] if is_digit(10, *a) => Some(digit(*a) as u16),
-        [b'r', a, b] if is_digit(10, *a) && is_digit(10, *b) => {
-            let n = 10 * digit(*a) + digit(*b);
+    match *text {
+        [b'r', a] if is_digit(10, a) => Some(digit(a) as u16),
+        [b'r', a, b] if is_digit(10, a) && is_digit(10, b) => {
+            let n = 10 * digit(a) + digit(b);
             if n < 10 || n > 31 {
                 return None;
             }
