@@ -1,4 +1,4 @@
-use Rattle.std.proofs.Common.{◌≡◌, ◌++◌, length, ap, ◌∙◌, arith}
+use Rattle.std.proofs.Common.{◌≡◌, ◌++◌, length, ap, ◌∙◌, arith, rules}
 use Rattle.avr_disassembler.specs.Text.{shown, operands_text, text_of}
 use Rattle.avr_disassembler.proofs.Behind.{behind}
 use Rattle.avr_disassembler.proofs.Short.{short}
@@ -17,3 +17,18 @@ returns-clause-len g c =
     let first = c.push_str.ensures.len in
     let then = c.put_operands.ensures.len in
     omega (arith, few, mnemonic, first, then)
+
+pub put_operands-requires : goal.put_operands-requires
+put_operands-requires g c =
+    let few = short c.args.op in
+    let mnemonic : length c.mnemonic_of.result.now ≡ length (shown c.args.op).mnemonic = ap length c.mnemonic_of.ensures in
+    let first = c.push_str.ensures.len in
+    let room = c.requires in
+    (search (rules), omega (arith, few, mnemonic, first, room))
+
+pub push_str-requires : goal.push_str-requires
+push_str-requires g c =
+    let few = short c.args.op in
+    let mnemonic : length c.mnemonic_of.result.now ≡ length (shown c.args.op).mnemonic = ap length c.mnemonic_of.ensures in
+    let room = c.requires in
+    (search (rules), omega (arith, few, mnemonic, room))
