@@ -138,11 +138,20 @@ pub fn address(text: &[u8]) -> Option<u16>
     ensures value { result ≡ address_of text.now }
     ensures long { IfSome result (λ a. 5 ≤ length text.now) }
 {
-    match *text {
-        [a, b, c, d, b' ', ..]
-            if is_upper_digit(a) && is_upper_digit(b) && is_upper_digit(c) && is_upper_digit(d) => {
+    match text {
+        [a, b, c, d, e, ..] => {
+            let all_digits = is_upper_digit(*a)
+                && is_upper_digit(*b)
+                && is_upper_digit(*c)
+                && is_upper_digit(*d);
+            if !all_digits || *e != b' ' {
+                return None;
+            }
             Some(
-                4096 * upper_digit(a) + 256 * upper_digit(b) + 16 * upper_digit(c) + upper_digit(d),
+                4096 * upper_digit(*a)
+                    + 256 * upper_digit(*b)
+                    + 16 * upper_digit(*c)
+                    + upper_digit(*d),
             )
         }
         _ => None,
