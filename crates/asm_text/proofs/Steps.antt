@@ -1,5 +1,6 @@
 -- One line of the pass that assembles.
 use Rattle.std.proofs.Common.{◌≡◌, ℕ, ◌+◌, ◌==◌, List, [], ◌∷◌, Option, Ok, Err, length, drop, map, refl, sym, ap, ◌∙◌}
+use Rattle.std.specs.Prelude.{IfOk, IfErr, Result}
 use Rattle.std.specs.List.{slice_split}
 use Rattle.std.proofs.Math.Path.{fun_ext}
 use Rattle.std.proofs.Math.Seq.{drop-length}
@@ -38,3 +39,12 @@ whole now text pieces look split same =
     let lines : lines_of text ≡ map (λ p. line_of (now p)) pieces = ap (map line_of) (sym split) ∙ map_now now pieces in
     ap (λ ls. assembled_from (label_in 0 0 ls) 0 started ls) lines
     ∙ ap (λ (l : List ℕ → Option label.Label). assembled_from l 0 started (map (λ p. line_of (now p)) pieces)) (fun_ext (λ n. sym (same n)))
+
+-- what holds of an answer's value, or of its fault, in other words
+pub if_ok : {T E : Type 0} {P Q : T → Type 0} (r : Result T E) → ((x : T) → P x → Q x) → IfOk r P → IfOk r Q
+if_ok (Ok x) f h = f x h
+if_ok (Err e) f h = tt
+
+pub if_err : {T E : Type 0} {P Q : E → Type 0} (r : Result T E) → ((e : E) → P e → Q e) → IfErr r P → IfErr r Q
+if_err (Ok x) f h = tt
+if_err (Err e) f h = f e h

@@ -24,8 +24,5 @@ pub fn assemble(alloc: Global, text: &[u8]) -> Result<Vec<u16>, AsmFault>
             Err(fault) => return Err(fault),
         }
     }
-    match program.finish() {
-        Ok(words) => Ok(words),
-        Err(fault) => Err(fault),
-    }
+    program.finish()
 }

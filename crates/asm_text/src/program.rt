@@ -32,13 +32,13 @@ fn push_piece(words: &mut Vec<u16>, piece: Option<Piece>) -> Result<(), AllocErr
     ensures words { OnOk result (words.new.items ≡ words.old.items ++ words_of piece) }
     ensures room { length words.new.items ≤ length words.old.items + length (words_of piece) }
 {
-    if let Some(piece) = piece {
-        words.extend_from_slice(&[piece.first])?;
-        if let Some(second) = piece.second {
-            words.extend_from_slice(&[second])?;
-        }
+    match piece {
+        None => Ok(()),
+        Some(piece) => match piece.second {
+            None => words.extend_from_slice(&[piece.first]),
+            Some(second) => words.extend_from_slice(&[piece.first, second]),
+        },
     }
-    Ok(())
 }
 
 fn first_known(far: Option<usize>, line: usize) -> Option<usize>
@@ -73,13 +73,14 @@ impl Program {
         ensures ok { OnOk result (taken (label_at labels.now) index self.old (said line.entry) ≡ Ok self.new) }
         ensures err { IfErr result (λ e. (e ≡ AsmFault.NoMemory) ⊎ (taken (label_at labels.now) index self.old (said line.entry) ≡ Err e)) }
     {
+        let next = behind(self.at, &line);
         match piece_of(labels, index, self.at, line) {
             Ok(piece) => {
-                self.at = behind(self.at, &line);
+                self.at = next;
                 push_piece(&mut self.words, piece)?;
             }
             Err(LineFault::OutOfReach) => {
-                self.at = behind(self.at, &line);
+                self.at = next;
                 self.far = first_known(self.far, index + 1);
             }
             Err(fault) => return Err(fault.at(index + 1)),

@@ -15,11 +15,7 @@ use std::collections::BTreeMap;
 pub fn pieces_of(alloc: Global, text: &[u8]) -> Result<Vec<&[u8]>, AllocError>
     ensures { IfOk result (λ pieces. map (λ p. p.now) pieces.items ≡ slice_split (λ b. b == 10) text.entry.now) }
 {
-    let mut pieces = Vec::new(alloc);
-    for piece in text.split(|b| *b == b'\n') {
-        pieces.push(piece)?;
-    }
-    Ok(pieces)
+    text.split(|b| *b == b'\n').collect(alloc)
 }
 
 // Adds the label of a line that has one, where no earlier line has it.

@@ -1,6 +1,6 @@
 // The bits that an operand puts into a word.
-ghost use Rattle.std.specs.Prelude.{◌≡◌, ◌≤◌, IfSome};
-ghost use Rattle.asm_words.specs.Fields.{register_bits, number_bits, pointer, flash_pointer, displaced_of, displaced, base_of};
+ghost use Rattle.std.specs.Prelude.{◌≡◌, ◌≤◌, Some};
+ghost use Rattle.asm_words.specs.Fields.{register_bits, number_bits, pointer, flash_pointer, displaced_of, displaced, both_bits};
 
 use crate::form::{NumberField, RegisterField};
 use crate::number::number;
@@ -30,48 +30,14 @@ pub fn register_bits(field: RegisterField, n: u16) -> Option<u16>
         RegisterField::Middle => Some(16 * n),
         RegisterField::Split => Some(n / 16 * 512 + n % 16),
         RegisterField::Both => Some(16 * n + (n / 16 * 512 + n % 16)),
-        RegisterField::UpperMiddle => {
-            if n < 16 {
-                return None;
-            }
-            Some(16 * (n - 16))
-        }
-        RegisterField::UpperLow => {
-            if n < 16 {
-                return None;
-            }
-            Some(n - 16)
-        }
-        RegisterField::ShortMiddle => {
-            if n < 16 || n > 23 {
-                return None;
-            }
-            Some(16 * (n - 16))
-        }
-        RegisterField::ShortLow => {
-            if n < 16 || n > 23 {
-                return None;
-            }
-            Some(n - 16)
-        }
-        RegisterField::PairMiddle => {
-            if n % 2 == 1 {
-                return None;
-            }
-            Some(8 * n)
-        }
-        RegisterField::PairLow => {
-            if n % 2 == 1 {
-                return None;
-            }
-            Some(n / 2)
-        }
-        RegisterField::WordPair => {
-            if n < 24 || n % 2 == 1 {
-                return None;
-            }
-            Some(8 * (n - 24))
-        }
+        RegisterField::UpperMiddle if n >= 16 => Some(16 * (n - 16)),
+        RegisterField::UpperLow if n >= 16 => Some(n - 16),
+        RegisterField::ShortMiddle if n >= 16 && n <= 23 => Some(16 * (n - 16)),
+        RegisterField::ShortLow if n >= 16 && n <= 23 => Some(n - 16),
+        RegisterField::PairMiddle if n % 2 == 0 => Some(8 * n),
+        RegisterField::PairLow if n % 2 == 0 => Some(n / 2),
+        RegisterField::WordPair if n >= 24 && n % 2 == 0 => Some(8 * (n - 24)),
+        _ => None,
     }
 }
 
@@ -81,48 +47,14 @@ pub fn number_bits(field: NumberField, n: u32) -> Option<u16>
     ensures { result ≡ number_bits field n }
 {
     match field {
-        NumberField::Constant => {
-            if n > 255 {
-                return None;
-            }
-            Some((n / 16 * 256 + n % 16) as u16)
-        }
-        NumberField::ShortConstant => {
-            if n > 63 {
-                return None;
-            }
-            Some((n / 16 * 64 + n % 16) as u16)
-        }
-        NumberField::Address => {
-            if n > 63 {
-                return None;
-            }
-            Some((n / 16 * 512 + n % 16) as u16)
-        }
-        NumberField::LowAddress => {
-            if n > 31 {
-                return None;
-            }
-            Some((8 * n) as u16)
-        }
-        NumberField::LowThree => {
-            if n > 7 {
-                return None;
-            }
-            Some(n as u16)
-        }
-        NumberField::Flag => {
-            if n > 7 {
-                return None;
-            }
-            Some((16 * n) as u16)
-        }
-        NumberField::Word => {
-            if n > 65_535 {
-                return None;
-            }
-            Some(n as u16)
-        }
+        NumberField::Constant if n <= 255 => Some((n / 16 * 256 + n % 16) as u16),
+        NumberField::ShortConstant if n <= 63 => Some((n / 16 * 64 + n % 16) as u16),
+        NumberField::Address if n <= 63 => Some((n / 16 * 512 + n % 16) as u16),
+        NumberField::LowAddress if n <= 31 => Some((8 * n) as u16),
+        NumberField::LowThree if n <= 7 => Some(n as u16),
+        NumberField::Flag if n <= 7 => Some((16 * n) as u16),
+        NumberField::Word if n <= 65_535 => Some(n as u16),
+        _ => None,
     }
 }
 
@@ -140,21 +72,9 @@ pub fn flash_pointer(text: &[u8]) -> Option<u16>
     find(&FLASH_POINTERS, text)
 }
 
-// The bits of Y or Z, by its letter.
-fn base_of(letter: u8) -> Option<u16>
-    ensures { result ≡ base_of letter }
-{
-    match letter {
-        b'Y' => Some(8),
-        b'Z' => Some(0),
-        _ => None,
-    }
-}
-
-// The bits of a displacement where it is at most 63.
-fn displaced(q: Option<u32>) -> Option<u16>
-    ensures value { result ≡ displaced q }
-    ensures small { IfSome result (λ bits. bits ≤ 11271) }
+// The bits of a pointer, and of a displacement where it is at most 63.
+fn displaced(base: u16, q: Option<u32>) -> Option<u16>
+    ensures { result ≡ both_bits (Some base) (displaced q) }
 {
     match q {
         None => None,
@@ -162,7 +82,8 @@ fn displaced(q: Option<u32>) -> Option<u16>
             if q > 63 {
                 return None;
             }
-            Some((q / 32 * 8192 + q / 8 % 4 * 1024 + q % 8) as u16)
+            let bits = (q / 32 * 8192 + q / 8 % 4 * 1024 + q % 8) as u16;
+            Some(bits.wrapping_add(base))
         }
     }
 }
@@ -173,18 +94,8 @@ pub fn displaced_by(text: &[u8]) -> Option<u16>
     ensures { result ≡ displaced_of text.now }
 {
     match text {
-        [letter, plus, digits @ ..] => {
-            if *plus != b'+' {
-                return None;
-            }
-            match base_of(*letter) {
-                None => None,
-                Some(base) => match displaced(number(digits)) {
-                    None => None,
-                    Some(bits) => Some(bits.wrapping_add(base)),
-                },
-            }
-        }
+        [b'Y', b'+', digits @ ..] => displaced(8, number(digits)),
+        [b'Z', b'+', digits @ ..] => displaced(0, number(digits)),
         _ => None,
     }
 }

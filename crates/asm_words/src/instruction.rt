@@ -3,7 +3,7 @@ ghost use Rattle.std.specs.Prelude.{◌≡◌, ◌≤◌, ◌||◌, true, is_som
 ghost use Rattle.asm_lines.specs.Line.{told};
 ghost use Rattle.asm_words.specs.Labels.{label_at};
 ghost use Rattle.asm_words.specs.Opcodes.{has_word, width};
-ghost use Rattle.asm_words.specs.Encoded.{bare_piece, checked, encoded, is_undefined, no_form, one_piece, second_of, two_piece};
+ghost use Rattle.asm_words.specs.Encoded.{checked, encoded, no_form, one_piece, second_of, two_piece};
 
 use crate::form::{OneForm, TwoForm};
 use crate::labels::Label;
@@ -46,19 +46,6 @@ fn no_form(mnemonic: &[u8]) -> WordFault
     }
 }
 
-fn bare_piece(mnemonic: &[u8]) -> Result<Piece, WordFault>
-    ensures value { result ≡ bare_piece mnemonic.now }
-    ensures first { IfOk result (λ p. p.second ≡ None) }
-{
-    match bare(mnemonic) {
-        None => Err(no_form(mnemonic)),
-        Some(first) => Ok(Piece {
-            first,
-            second: None,
-        }),
-    }
-}
-
 fn one_piece<'t>(
     form: OneForm,
     text: &'t [u8],
@@ -78,25 +65,15 @@ fn one_piece<'t>(
     }
 }
 
-// Whether the manual leaves undefined what a word does.
-fn is_undefined(word: u16) -> bool
-    ensures { result ≡ is_undefined word }
-{
-    match decode(word, 0) {
-        Op::Undefined { .. } => true,
-        _ => false,
-    }
-}
-
-// The piece of an instruction, where it is defined.
+// The piece of an instruction, unless the manual leaves undefined what its word does.
 fn checked(piece: Piece) -> Result<Piece, WordFault>
     ensures value { result ≡ checked piece }
     ensures same { IfOk result (λ p. p ≡ piece) }
 {
-    if is_undefined(piece.first) {
-        return Err(WordFault::BadOperand);
+    match decode(piece.first, 0) {
+        Op::Undefined { .. } => Err(WordFault::BadOperand),
+        _ => Ok(piece),
     }
-    Ok(piece)
 }
 
 fn second_of(p: Part, q: Part) -> Option<u16>
@@ -146,15 +123,25 @@ pub fn encode<'t>(
     ensures second { IfOk result (λ p. is_some p.second ≡ true → width mnemonic.entry.now ≡ 2) }
 {
     match operands {
-        Operands::Zero => bare_piece(mnemonic),
-        Operands::One(a) => match one(mnemonic) {
-            None => Err(no_form(mnemonic)),
-            Some(form) => one_piece(form, a, at, labels),
-        },
-        Operands::Two(a, b) => match two(mnemonic) {
-            None => Err(no_form(mnemonic)),
-            Some(form) => two_piece(form, a, b, at, labels),
-        },
-        Operands::Many => Err(no_form(mnemonic)),
+        Operands::Zero => {
+            if let Some(first) = bare(mnemonic) {
+                return Ok(Piece {
+                    first,
+                    second: None,
+                });
+            }
+        }
+        Operands::One(a) => {
+            if let Some(form) = one(mnemonic) {
+                return one_piece(form, a, at, labels);
+            }
+        }
+        Operands::Two(a, b) => {
+            if let Some(form) = two(mnemonic) {
+                return two_piece(form, a, b, at, labels);
+            }
+        }
+        Operands::Many => {}
     }
+    Err(no_form(mnemonic))
 }

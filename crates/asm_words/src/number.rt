@@ -68,13 +68,7 @@ pub fn number(text: &[u8]) -> Option<u32>
     ensures small { IfSome result (λ n. n ≤ 65536) }
 {
     match text {
-        [a, b, rest @ ..] => {
-            if *a == b'0' && *b == b'x' {
-                hexadecimal(rest)
-            } else {
-                decimal(text)
-            }
-        }
+        [b'0', b'x', rest @ ..] => hexadecimal(rest),
         _ => decimal(text),
     }
 }
@@ -85,18 +79,10 @@ pub fn register(text: &[u8]) -> Option<u16>
     ensures value { result ≡ register text.now }
     ensures small { IfSome result (λ n. n ≤ 31) }
 {
-    match text {
-        [r, a] => {
-            if *r != b'r' || !is_digit(10, *a) {
-                return None;
-            }
-            Some(digit(*a) as u16)
-        }
-        [r, a, b] => {
-            if *r != b'r' || !is_digit(10, *a) || !is_digit(10, *b) {
-                return None;
-            }
-            let n = 10 * digit(*a) + digit(*b);
+    match *text {
+        [b'r', a] if is_digit(10, a) => Some(digit(a) as u16),
+        [b'r', a, b] if is_digit(10, a) && is_digit(10, b) => {
+            let n = 10 * digit(a) + digit(b);
             if n < 10 || n > 31 {
                 return None;
             }

@@ -1,6 +1,6 @@
 // The mnemonics, with the operands that they take and the words without these.
 ghost use Rattle.std.specs.Prelude.{◌≡◌, ◌≤◌};
-ghost use Rattle.asm_words.specs.Opcodes.{bare, one, two, has_word, is_known, one_has_word, two_has_word, width};
+ghost use Rattle.asm_words.specs.Opcodes.{bare, one, two, has_word, is_known, width};
 
 use crate::form::Field::{
     Branch, Data, Displaced, FlashPointer, Jump, Number, Place, Pointer, Register,
@@ -170,24 +170,6 @@ fn has_word(field: Field) -> bool
     }
 }
 
-fn one_has_word(form: Option<OneForm>) -> bool
-    ensures { result ≡ one_has_word form }
-{
-    match form {
-        None => false,
-        Some(form) => has_word(form.field),
-    }
-}
-
-fn two_has_word(form: Option<TwoForm>) -> bool
-    ensures { result ≡ two_has_word form }
-{
-    match form {
-        None => false,
-        Some(form) => has_word(form.first) || has_word(form.second),
-    }
-}
-
 /// The words that an instruction of this mnemonic takes: 2 for JMP, CALL, LDS and STS, whose operand stands in a second
 /// word, else 1.
 pub fn width(mnemonic: &[u8]) -> u32
@@ -195,9 +177,11 @@ pub fn width(mnemonic: &[u8]) -> u32
     ensures some { 1 ≤ result }
     ensures small { result ≤ 2 }
 {
-    if one_has_word(one(mnemonic)) || two_has_word(two(mnemonic)) {
-        2
-    } else {
-        1
+    match one(mnemonic) {
+        Some(form) if has_word(form.field) => 2,
+        _ => match two(mnemonic) {
+            Some(form) if has_word(form.first) || has_word(form.second) => 2,
+            _ => 1,
+        },
     }
 }

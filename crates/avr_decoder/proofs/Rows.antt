@@ -129,15 +129,70 @@ pub by_top : (n k m v w next : ℕ) → number_of (bits k v ++ bits m w) ≡ n �
 by_top n k m v w next is whole top =
     by_bits n w next (bits k v ++ bits m w) (ap (λ i. bits i w) (sym whole) ∙ (bits-split k m w ∙ ap (λ u. bits k u ++ bits m w) top)) is
 
--- the test that a word has the row of a load or store that moves a pointer, or is undefined since its register is in the pair of this number
-abbrev pub has_moving_row : ℕ → ℕ → ℕ → ℕ → Bool
-has_moving_row n pair low w = elim (w % 16 == low) [ true ↦ number_at w == elim (w / 32 % 16 == pair) [ true ↦ 90 | false ↦ n ] | false ↦ true ]
+-- where the k upper bits of a word and bit 3 lead to one row, whatever the m bits between them and the low three are
+pub by_bit : (n k m v x w next : ℕ) → number_of (bits k v ++ (bits m (w / 16) ++ (x ∷ bits 3 w))) ≡ n → k + (m + 4) ≡ 16 → w / 2 ^ (m + 4) ≡ v → w / 8 % 2 ≡ x → op_at w next ≡ numbered n w next
+by_bit n k m v x w next is whole top bit =
+    let below : bits (m + 4) w ≡ bits m (w / 16) ++ (x ∷ bits 3 w) = bits-split m 4 w ∙ ap (λ u. bits m (w / 16) ++ (u ∷ bits 3 w)) bit in
+    by_bits n w next (bits k v ++ (bits m (w / 16) ++ (x ∷ bits 3 w)))
+    (ap (λ i. bits i w) (sym whole) ∙ (bits-split k (m + 4) w ∙ (ap (λ u. bits k u ++ bits (m + 4) w) top ∙ ap (λ t. bits k v ++ t) below))) is
+
+-- the bits of a number are those of what is left of it by a power of two
+bits-5 : (v : ℕ) → bits 5 v ≡ bits 5 (v % 32)
+bits-5 v =
+    let b4 : v / 16 % 2 ≡ v % 32 / 16 % 2 = omega arith in
+    let b3 : v / 8 % 2 ≡ v % 32 / 8 % 2 = omega arith in
+    let b2 : v / 4 % 2 ≡ v % 32 / 4 % 2 = omega arith in
+    let b1 : v / 2 % 2 ≡ v % 32 / 2 % 2 = omega arith in
+    let b0 : v / 1 % 2 ≡ v % 32 / 1 % 2 = omega arith in
+    (λ i. b4 i ∷ b3 i ∷ b2 i ∷ b1 i ∷ b0 i ∷ [])
+
+bits-4 : (v : ℕ) → bits 4 v ≡ bits 4 (v % 16)
+bits-4 v =
+    let b3 : v / 8 % 2 ≡ v % 16 / 8 % 2 = omega arith in
+    let b2 : v / 4 % 2 ≡ v % 16 / 4 % 2 = omega arith in
+    let b1 : v / 2 % 2 ≡ v % 16 / 2 % 2 = omega arith in
+    let b0 : v / 1 % 2 ≡ v % 16 / 1 % 2 = omega arith in
+    (λ i. b3 i ∷ b2 i ∷ b1 i ∷ b0 i ∷ [])
+
+-- the bits of a word by its upper seven, those of a register and the low four
+bits-ends : (top low w : ℕ) → w / 512 ≡ top → w % 16 ≡ low → bits 16 w ≡ bits 7 top ++ (bits 5 (w / 16) ++ bits 4 low)
+bits-ends top low w e f =
+    bits-split 7 9 w ∙ (ap (λ u. bits 7 u ++ bits 9 w) e ∙ ap (λ t. bits 7 top ++ t) (bits-split 5 4 w ∙ ap (λ t. bits 5 (w / 16) ++ t) (bits-4 w ∙ ap (λ u. bits 4 u) f)))
+
+-- where the upper seven bits and the low four lead to one row, whatever the register between them is
+pub by_ends : (n top low w next : ℕ) → number_of (bits 7 top ++ (bits 5 (w / 16) ++ bits 4 low)) ≡ n → w / 512 ≡ top → w % 16 ≡ low → op_at w next ≡ numbered n w next
+by_ends n top low w next is e f = by_bits n w next (bits 7 top ++ (bits 5 (w / 16) ++ bits 4 low)) (bits-ends top low w e f) is
+
+abbrev pub number_with : ℕ → ℕ → ℕ → ℕ
+number_with top low v = number_of (bits 7 top ++ (bits 5 v ++ bits 4 low))
+
+with_register : (n top low w next : ℕ) → number_with top low (w / 16 % 32) ≡ n → w / 512 ≡ top → w % 16 ≡ low → op_at w next ≡ numbered n w next
+with_register n top low w next is e f =
+    by_bits n w next (bits 7 top ++ (bits 5 (w / 16 % 32) ++ bits 4 low)) (bits-ends top low w e f ∙ ap (λ t. bits 7 top ++ (t ++ bits 4 low)) (bits-5 (w / 16))) is
+
+-- the same by a test of each register
+pub by_registers : (n top low w next : ℕ) → all_from (λ v. number_with top low v == n) 0 32 ≡ true → w / 512 ≡ top → w % 16 ≡ low → op_at w next ≡ numbered n w next
+by_registers n top low w next computed e f =
+    with_register n top low w next (eqb-true (number_with top low (w / 16 % 32)) n (all_from-at (λ v. number_with top low v == n) 0 32 (w / 16 % 32) computed (omega arith) (omega arith))) e f
+
+-- the number of the row of a load or store that moves a pointer, or of none, since its register is in the pair of this number
+abbrev pub moving_number : ℕ → ℕ → ℕ → ℕ
+moving_number n pair v = elim (v / 2 == pair) [ true ↦ 90 | false ↦ n ]
 
 chosen : (b : Bool) (n w next : ℕ) → numbered (elim b [ true ↦ 90 | false ↦ n ]) w next ≡ (if b then numbered 90 w next else numbered n w next)
 chosen true n w next = refl
 chosen false n w next = refl
 
-pub moving : (n at pair low w next : ℕ) → all_from (has_moving_row n pair low) at 512 ≡ true → at ≤ w → w < at + 512 → w % 16 ≡ low → op_at w next ≡ (if w / 32 % 16 == pair then numbered 90 w next else numbered n w next)
-moving n at pair low w next computed above below is =
-    let here = when (w % 16 == low) (number_at w == elim (w / 32 % 16 == pair) [ true ↦ 90 | false ↦ n ]) (all_from-at (has_moving_row n pair low) at 512 w computed above below) (eq-eqb (w % 16) low is) in
-    op_at-numbered w next ∙ (ap (λ k. numbered k w next) (eqb-true (number_at w) (elim (w / 32 % 16 == pair) [ true ↦ 90 | false ↦ n ]) here) ∙ chosen (w / 32 % 16 == pair) n w next)
+half : (w : ℕ) → w / 16 % 32 / 2 ≡ w / 32 % 16
+half w = omega arith
+
+pub moving : (n top pair low w next : ℕ) → all_from (λ v. number_with top low v == moving_number n pair v) 0 32 ≡ true → w / 512 ≡ top → w % 16 ≡ low → op_at w next ≡ (if w / 32 % 16 == pair then numbered 90 w next else numbered n w next)
+moving n top pair low w next computed e f =
+    let here = eqb-true (number_with top low (w / 16 % 32)) (moving_number n pair (w / 16 % 32)) (all_from-at (λ v. number_with top low v == moving_number n pair v) 0 32 (w / 16 % 32) computed (omega arith) (omega arith)) in
+    with_register (moving_number n pair (w / 16 % 32)) top low w next here e f
+    ∙ (ap (λ v. numbered (elim (v == pair) [ true ↦ 90 | false ↦ n ]) w next) (half w) ∙ chosen (w / 32 % 16 == pair) n w next)
+
+-- what a row that moves its pointer makes of a register, which is read from the word
+pub of_register : (w pair : ℕ) (made : ℕ → Op) {it : Op} {register read : ℕ} → it ≡ (if w / 32 % 16 == pair then op.Undefined w else made register) → register ≡ read
+    → it ≡ (if w / 32 % 16 == pair then op.Undefined w else made read)
+of_register w pair made e f = e ∙ ap (λ r. if w / 32 % 16 == pair then op.Undefined w else made r) f

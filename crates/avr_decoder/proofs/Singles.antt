@@ -3,39 +3,39 @@ use Rattle.std.proofs.Common.{[], ◌∷◌, ◌≡◌, ℕ, ◌+◌, ◌*◌, �
 use Rattle.avr_decoder.specs.declared.op.Op.TheVariants as op
 use Rattle.avr_decoder.specs.Opcodes.{op_at}
 use Rattle.avr_decoder.proofs.Spelled.{middle, flag}
-use Rattle.avr_decoder.proofs.Rows.{numbered, number_of, by_top, with_field, none_of, none_is}
+use Rattle.avr_decoder.proofs.Rows.{numbered, number_of, by_top, by_ends, with_field, none_of, none_is}
 
 pub com_at : (w next : ℕ) → w / 512 ≡ 74 → w % 16 ≡ 0 → op_at w next ≡ op.Com (middle w)
 unfolding numbered number_of
-com_at w next e f = with_field (λ w. w % 16) 49 37888 512 0 w next refl (omega arith) (omega arith) f
+com_at w next e f = by_ends 49 74 0 w next refl e f
 
 pub neg_at : (w next : ℕ) → w / 512 ≡ 74 → w % 16 ≡ 1 → op_at w next ≡ op.Neg (middle w)
 unfolding numbered number_of
-neg_at w next e f = with_field (λ w. w % 16) 50 37888 512 1 w next refl (omega arith) (omega arith) f
+neg_at w next e f = by_ends 50 74 1 w next refl e f
 
 pub swap_at : (w next : ℕ) → w / 512 ≡ 74 → w % 16 ≡ 2 → op_at w next ≡ op.Swap (middle w)
 unfolding numbered number_of
-swap_at w next e f = with_field (λ w. w % 16) 51 37888 512 2 w next refl (omega arith) (omega arith) f
+swap_at w next e f = by_ends 51 74 2 w next refl e f
 
 pub inc_at : (w next : ℕ) → w / 512 ≡ 74 → w % 16 ≡ 3 → op_at w next ≡ op.Inc (middle w)
 unfolding numbered number_of
-inc_at w next e f = with_field (λ w. w % 16) 52 37888 512 3 w next refl (omega arith) (omega arith) f
+inc_at w next e f = by_ends 52 74 3 w next refl e f
 
 pub asr_at : (w next : ℕ) → w / 512 ≡ 74 → w % 16 ≡ 5 → op_at w next ≡ op.Asr (middle w)
 unfolding numbered number_of
-asr_at w next e f = with_field (λ w. w % 16) 53 37888 512 5 w next refl (omega arith) (omega arith) f
+asr_at w next e f = by_ends 53 74 5 w next refl e f
 
 pub lsr_at : (w next : ℕ) → w / 512 ≡ 74 → w % 16 ≡ 6 → op_at w next ≡ op.Lsr (middle w)
 unfolding numbered number_of
-lsr_at w next e f = with_field (λ w. w % 16) 54 37888 512 6 w next refl (omega arith) (omega arith) f
+lsr_at w next e f = by_ends 54 74 6 w next refl e f
 
 pub ror_at : (w next : ℕ) → w / 512 ≡ 74 → w % 16 ≡ 7 → op_at w next ≡ op.Ror (middle w)
 unfolding numbered number_of
-ror_at w next e f = with_field (λ w. w % 16) 55 37888 512 7 w next refl (omega arith) (omega arith) f
+ror_at w next e f = by_ends 55 74 7 w next refl e f
 
 pub dec_at : (w next : ℕ) → w / 512 ≡ 74 → w % 16 ≡ 10 → op_at w next ≡ op.Dec (middle w)
 unfolding numbered number_of
-dec_at w next e f = with_field (λ w. w % 16) 56 37888 512 10 w next refl (omega arith) (omega arith) f
+dec_at w next e f = by_ends 56 74 10 w next refl e f
 
 pub bset_at : (w next : ℕ) → w / 128 ≡ 296 → w % 16 ≡ 8 → op_at w next ≡ op.Bset (flag w)
 unfolding numbered number_of

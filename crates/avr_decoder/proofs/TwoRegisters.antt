@@ -3,7 +3,7 @@ use Rattle.std.proofs.Common.{◌≡◌, ℕ, ◌/◌, ◌%◌, ◌≢◌, refl,
 use Rattle.avr_decoder.specs.declared.op.Op.TheVariants as op
 use Rattle.avr_decoder.specs.Opcodes.{op_at}
 use Rattle.avr_decoder.proofs.Spelled.{middle, split, upper_d, upper_r, pair_d, pair_r, short_d, short_r}
-use Rattle.avr_decoder.proofs.Rows.{numbered, number_of, by_top, with_field}
+use Rattle.avr_decoder.proofs.Rows.{numbered, number_of, by_top, by_bit, with_field}
 
 pub nop_at : (w next : ℕ) → w ≡ 0 → op_at w next ≡ op.Nop
 unfolding numbered number_of
@@ -19,19 +19,19 @@ muls_at w next e = by_top 2 8 8 2 w next refl refl e
 
 pub mulsu_at : (w next : ℕ) → w / 128 ≡ 6 → w / 8 % 2 ≡ 0 → op_at w next ≡ op.Mulsu (short_d w) (short_r w)
 unfolding numbered number_of
-mulsu_at w next e f = with_field (λ w. w / 8 % 2) 3 768 128 0 w next refl (omega arith) (omega arith) f
+mulsu_at w next e f = by_bit 3 9 3 6 0 w next refl refl e f
 
 pub fmul_at : (w next : ℕ) → w / 128 ≡ 6 → w / 8 % 2 ≡ 1 → op_at w next ≡ op.Fmul (short_d w) (short_r w)
 unfolding numbered number_of
-fmul_at w next e f = with_field (λ w. w / 8 % 2) 4 768 128 1 w next refl (omega arith) (omega arith) f
+fmul_at w next e f = by_bit 4 9 3 6 1 w next refl refl e f
 
 pub fmuls_at : (w next : ℕ) → w / 128 ≡ 7 → w / 8 % 2 ≡ 0 → op_at w next ≡ op.Fmuls (short_d w) (short_r w)
 unfolding numbered number_of
-fmuls_at w next e f = with_field (λ w. w / 8 % 2) 5 896 128 0 w next refl (omega arith) (omega arith) f
+fmuls_at w next e f = by_bit 5 9 3 7 0 w next refl refl e f
 
 pub fmulsu_at : (w next : ℕ) → w / 128 ≡ 7 → w / 8 % 2 ≡ 1 → op_at w next ≡ op.Fmulsu (short_d w) (short_r w)
 unfolding numbered number_of
-fmulsu_at w next e f = with_field (λ w. w / 8 % 2) 6 896 128 1 w next refl (omega arith) (omega arith) f
+fmulsu_at w next e f = by_bit 6 9 3 7 1 w next refl refl e f
 
 pub cpc_at : (w next : ℕ) → w / 1024 ≡ 1 → op_at w next ≡ op.Cpc (middle w) (split w)
 unfolding numbered number_of

@@ -97,7 +97,6 @@ fn page_0(word: u16, next: u16) -> Op
 
 /// Words 0x0300 to 0x03FF: the products of r16 to r23.
 #[inline]
-#[tactic(auto, using(crate::proofs::TwoRegisters::two_registers_rows))]
 fn short_product(word: u16, next: u16) -> Op
     requires { word / 256 ≡ 3 }
     ensures { result ≡ op_at word next }

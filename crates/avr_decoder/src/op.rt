@@ -196,7 +196,7 @@ pub enum Op {
 }
 
 /// Which part of the processor executes an instruction.
-#[derive(Clone, Copy, PartialEq, Eq)]
+#[derive(Clone, Copy)]
 pub enum Class {
     /// It works on registers and flags alone.
     Arith,

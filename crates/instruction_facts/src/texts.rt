@@ -2,7 +2,7 @@
 use crate::numbers::{hex, hex_byte};
 use arrayvec::ArrayString;
 use avr_base::StopCause;
-use avr_decoder::{Class, class, decode, one_row_at_most, width};
+use avr_decoder::{Class, decode, one_row_at_most, width};
 use avr_disassembler::{line, text};
 use text_pieces::{put_decimal, put_distance, put_hex2, put_hex4};
 
@@ -79,25 +79,28 @@ pub fn words_at(word: u16) -> u16 {
     u16::from(width(word))
 }
 
-fn class_named(name: &str) -> Option<Class> {
-    match name {
-        "arith" => Some(Class::Arith),
-        "memory" => Some(Class::Memory),
-        "flow" => Some(Class::Flow),
-        "reserved" => Some(Class::Halting(StopCause::ReservedOpcode)),
-        "undefined" => Some(Class::Halting(StopCause::UndefinedOperands)),
-        "spm" => Some(Class::Halting(StopCause::Spm)),
-        "break" => Some(Class::Halting(StopCause::BreakOp)),
-        _ => None,
+fn class_name(class: Class) -> &'static str {
+    match class {
+        Class::Arith => "arith",
+        Class::Memory => "memory",
+        Class::Flow => "flow",
+        Class::Halting(StopCause::ReservedOpcode) => "reserved",
+        Class::Halting(StopCause::UndefinedOperands) => "undefined",
+        Class::Halting(StopCause::Spm) => "spm",
+        Class::Halting(StopCause::BreakOp) => "break",
+        Class::Halting(_) => "halting",
     }
 }
 
-/// How many of the 65,536 words are of a class.
+/// How many of the 65,536 words are of a class; `None` where none is, as of a name that no class has.
 pub fn words_of(name: &str) -> Option<u64> {
-    let wanted = class_named(name)?;
     let mut count: u64 = 0;
     for word in 0..=u16::MAX {
-        count = count.saturating_add(u64::from(class(decode(word, 0)) == wanted));
+        let class = decode(word, 0).class();
+        count = count.saturating_add(u64::from(class_name(class) == name));
+    }
+    if count == 0 {
+        return None;
     }
     Some(count)
 }

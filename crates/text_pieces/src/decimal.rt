@@ -1,5 +1,5 @@
 // Numbers in decimal digits.
-ghost use Rattle.std.specs.Prelude.{◌≡◌, ◌+◌, ◌<◌, ◌≤◌, ◌++◌, decimal};
+ghost use Rattle.std.specs.Prelude.{◌≡◌, ◌+◌, ◌≤◌, ◌++◌};
 ghost use Rattle.arrayvec.specs.ArrayString.{array_string_len};
 ghost use Rattle.text_pieces.specs.Digits.{offset_text};
 
@@ -18,26 +18,16 @@ pub fn put_decimal<I: Integer, const N: usize>(n: I, out: &mut ArrayString<N>)
     out.push_str(digits.format(n));
 }
 
-// A count of bytes below 100,000. As the `u32` that it is it would ask for ten digits.
-#[tactic(auto, using(crate::proofs::Short::five_digits))]
-fn put_byte_count<const N: usize>(n: u32, out: &mut ArrayString<N>)
-    requires room { array_string_len out.old + 5 ≤ N }
-    requires small { n < 100000 }
-    ensures bytes { out.new.bytes ≡ out.old.bytes ++ decimal n }
-    ensures len { array_string_len out.new ≤ array_string_len out.old + 5 }
-{
-    let mut digits = Buffer::new();
-    out.push_str(digits.format(n));
-}
-
 /// Appends a distance of `k` words from the next instruction as an assembler prints it, in bytes: `.+6` at 3, `.-2`
 /// at -1, `.+0` at 0.
-#[tactic(auto, unfolding(crate::specs::Digits::offset_text))]
+#[tactic(auto, unfolding(crate::specs::Digits::offset_text), using(crate::proofs::Short::five_digits))]
 pub fn put_distance<const N: usize>(k: i16, out: &mut ArrayString<N>)
     requires { array_string_len out.old + 7 ≤ N }
     ensures bytes { out.new.bytes ≡ out.old.bytes ++ offset_text k }
     ensures len { array_string_len out.new ≤ array_string_len out.old + 7 }
 {
     out.push_str(if k < 0 { ".-" } else { ".+" });
-    put_byte_count(u32::from(k.unsigned_abs()) * 2, out);
+    // at most five digits, where a `u32` could have ten
+    let mut digits = Buffer::new();
+    out.push_str(digits.format(u32::from(k.unsigned_abs()) * 2));
 }

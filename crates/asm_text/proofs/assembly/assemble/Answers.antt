@@ -4,7 +4,7 @@ use Rattle.asm_lines.specs.Line.{line_of, said}
 use Rattle.asm_words.specs.Labels.{label_at}
 use Rattle.asm_text.specs.Source.{assembled, assembled_from, label_in, started}
 use Rattle.asm_text.proofs.Labels.{from_place}
-use Rattle.asm_text.proofs.Steps.{step_on, step_out, step_end, whole}
+use Rattle.asm_text.proofs.Steps.{if_err, if_ok, step_on, step_out, step_end, whole}
 use Rattle.asm_text.proofs.assembly.assemble.Goals as goal
 
 pub loop-i-preserved : goal.loop-i-preserved
@@ -37,8 +37,8 @@ returns-in-Err-clause-err c =
     (λ w. inr (start ∙ (c.loop-i.invariant ∙ (ap (λ ls. assembled_from look i c.loop-i.program ls) here ∙ step_out look i c.loop-i.program _ line (drop (i + 1) all) w))))
     c.in-Err.ensures.err
 
-pub returns-in-Ok-finish-clause-ok : goal.returns-in-Ok-finish-clause-ok
-returns-in-Ok-finish-clause-ok c =
+pub returns-clause-ok : goal.returns-clause-ok
+returns-clause-ok c =
     let i = c.loop-i.i in
     let items = c.deref-piece-items.result.now in
     let all = map (λ p. line_of p.now) items in
@@ -48,7 +48,7 @@ returns-in-Ok-finish-clause-ok c =
     let start : assembled c.args.text.now ≡ assembled_from look 0 started all =
     whole (λ p. p.now) c.args.text.now items look (ap (map (λ p. p.now)) c.deref-piece-items.ensures.value ∙ c.in_ok-pieces.ensures)
     (λ name. c.in_ok-labels.ensures name ∙ ap (λ ps. label_in 0 0 (map (λ p. line_of p.now) ps) name) (c.deref.ensures.value ∙ sym c.deref-piece-items.ensures.value)) in
-    start ∙ (c.loop-i.invariant ∙ (step_end look i i c.loop-i.program all end ∙ c.in-Ok-finish.ensures.ok))
+    if_ok c.finish.result (λ words e. start ∙ (c.loop-i.invariant ∙ (step_end look i i c.loop-i.program all end ∙ e))) c.finish.ensures.ok
 
 pub returns-clause-err : goal.returns-clause-err
 returns-clause-err c =
@@ -61,4 +61,4 @@ returns-clause-err c =
     let start : assembled c.args.text.now ≡ assembled_from look 0 started all =
     whole (λ p. p.now) c.args.text.now items look (ap (map (λ p. p.now)) c.deref-piece-items.ensures.value ∙ c.in_ok-pieces.ensures)
     (λ name. c.in_ok-labels.ensures name ∙ ap (λ ps. label_in 0 0 (map (λ p. line_of p.now) ps) name) (c.deref.ensures.value ∙ sym c.deref-piece-items.ensures.value)) in
-    ⊎_elim (λ m. inl m) (λ w. inr (start ∙ (c.loop-i.invariant ∙ (step_end look i i c.loop-i.program all end ∙ w)))) c.in-Err-finish.ensures.err
+    if_err c.finish.result (λ fault. ⊎_elim (λ m. inl m) (λ w. inr (start ∙ (c.loop-i.invariant ∙ (step_end look i i c.loop-i.program all end ∙ w))))) c.finish.ensures.err
