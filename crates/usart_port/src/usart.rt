@@ -42,7 +42,7 @@ pub struct UsartLines {
 
 impl Usart {
     ghost use Rattle.device_clocks.specs.Transmission.{end_of};
-    ghost use Rattle.usart_port.specs.Usart.{arrived, buffered, cut, data_bits, ends_at, frame_cycles, frame_ended, lines_of, next_frame, reset_usart, started, usart_cycle};
+    ghost use Rattle.usart_port.specs.Usart.{arrived, bit_cycles, buffered, cut, data_bits, ends_at, frame_cycles, frame_ended, lines_of, next_frame, reset_usart, started, usart_cycle};
 
     /// The port after reset: eight data bits and one stop bit, nothing enabled, and all buffers empty.
     pub fn new() -> Usart
@@ -69,16 +69,23 @@ impl Usart {
         5 + self.control_c / 2 % 4
     }
 
-    // How many cycles a frame lasts.
+    // How many cycles a bit lasts.
+    fn bit_cycles(&self) -> u64
+        ensures value { result ≡ bit_cycles self.now }
+        ensures most { result ≤ 2 ^ 20 }
+    {
+        let steps = if self.double { 8 } else { 16 };
+        steps * (u64::from(self.baud) + 1)
+    }
+
+    // How many cycles a frame lasts: a start bit, the data bits and the stop bits.
     #[tactic(auto, unfolding(crate::specs::Usart::frame_cycles))]
     fn frame_cycles(&self) -> u64
         ensures value { result ≡ frame_cycles self.now }
         ensures most { result ≤ 2 ^ 24 }
     {
         let stop_bits = if any_bit(self.control_c, 0x08) { 2 } else { 1 };
-        let bits = 1 + u64::from(self.data_bits()) + stop_bits;
-        let steps = if self.double { 8 } else { 16 };
-        bits * (steps * (u64::from(self.baud) + 1))
+        (1 + u64::from(self.data_bits()) + stop_bits) * self.bit_cycles()
     }
 
     // A byte cut to the data bits.
