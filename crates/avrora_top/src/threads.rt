@@ -1,6 +1,5 @@
 // The commands that run each node on a thread of its own.
-ghost use Rattle.std.specs.Prelude.{◌≡◌, false};
-ghost use Rattle.node_runner.specs.Scenario.{IsScenario};
+ghost use Rattle.std.specs.Prelude.{◌≡◌};
 ghost use Rattle.command_words.specs.Words.{Run};
 ghost use Rattle.plain_commands.specs.Plan.{SampleJob, TraceJob, plan_of};
 ghost use Rattle.plain_commands.specs.Ends.{reads, stream};
@@ -14,18 +13,19 @@ use std::alloc::Global;
 use std::sync::Wait;
 use std::thread::Threads;
 
-// Writes the rows of each epoch of a run from its first on, before the next one is run.
-fn write_epochs<'n, R: Threads + Wait + Sync, O: Sink, G: Gate + Sync>(
+// Runs a network, each node on a thread of its own, and writes its trace: the rows of each epoch before the next one is run.
+fn write_trace<'n, R: Threads + Wait + Sync, O: Sink, G: Gate + Sync>(
     rt: &R,
+    alloc: Global,
     network: &Scenario,
-    run: &mut ThreadRun,
     out: &mut O,
     gate: &G,
 ) -> Result<(), Trouble<'n>>
-    requires sound { IsScenario network.now }
-    requires first { run.old ≡ record { scenario = network.now; floor = 0; failed = false } }
     ensures { JobEnds (TraceJob network.now) (stream (O.taken out.old) (O.faults out.old)) (stream (O.taken out.new) (O.faults out.new)) result }
 {
+    let Ok(mut run) = ThreadRun::new(alloc, network) else {
+        return Err(Trouble::NoMemory);
+    };
     while !run.done() {
         let Ok(rows) = run.epoch(rt, network, gate) else {
             return Err(Trouble::NoMemory);
@@ -36,22 +36,6 @@ fn write_epochs<'n, R: Threads + Wait + Sync, O: Sink, G: Gate + Sync>(
         }
     }
     Ok(())
-}
-
-// Runs a network, each node on a thread of its own, and writes its trace.
-fn write_trace<'n, R: Threads + Wait + Sync, O: Sink, G: Gate + Sync>(
-    rt: &R,
-    alloc: Global,
-    network: &Scenario,
-    out: &mut O,
-    gate: &G,
-) -> Result<(), Trouble<'n>>
-    ensures { JobEnds (TraceJob network.now) (stream (O.taken out.old) (O.faults out.old)) (stream (O.taken out.new) (O.faults out.new)) result }
-{
-    match ThreadRun::new(alloc, network) {
-        Ok(mut run) => write_epochs(rt, network, &mut run, out, gate),
-        Err(_) => Err(Trouble::NoMemory),
-    }
 }
 
 /// `run FILE`: the trace of the network of the scenario in `file`, each node on a thread of its own.

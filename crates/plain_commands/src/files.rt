@@ -1,5 +1,5 @@
 // Reads the files of a command.
-ghost use Rattle.std.specs.Prelude.{◌≡◌, ◌≤◌, List, ℕ, length, IfOk};
+ghost use Rattle.std.specs.Prelude.{◌≡◌, ◌≤◌, length, IfOk};
 ghost use Rattle.scenario_file.specs.Scenario.{IsScenario};
 ghost use Rattle.scenario_file.specs.Shown.{parts};
 ghost use Rattle.plain_commands.specs.Plan.{Read, image_plan, images_plan, scenario_plan, source_plan};

@@ -1,5 +1,4 @@
-use Rattle.std.proofs.Common.{◌≡◌, ◌∷◌, [], List, ℕ, codes, inl, inr, is_some, sym, ◌∙◌, ap}
-use Rattle.command_words.specs.Words.{asked_by}
+use Rattle.std.proofs.Common.{inl, inr, is_some, sym, ◌∙◌, ap}
 use Rattle.command_words.proofs.Accepts.{run_pair, check_pair, disasm_pair, asm_pair, make_pair, no_pair, other}
 use Rattle.command_words.proofs.accepted.is_pair.Goals as goal
 

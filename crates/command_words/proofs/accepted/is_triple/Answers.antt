@@ -1,4 +1,4 @@
-use Rattle.std.proofs.Common.{◌≡◌, ◌&&◌, Bool, is_some, refl, sym, ◌∙◌, ap}
+use Rattle.std.proofs.Common.{is_some, refl, sym, ◌∙◌, ap}
 use Rattle.command_words.proofs.Accepts.{node_triple, run_triple, no_triple, other}
 use Rattle.command_words.proofs.accepted.is_triple.Goals as goal
 

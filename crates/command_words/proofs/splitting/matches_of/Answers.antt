@@ -1,7 +1,6 @@
-use Rattle.std.proofs.Common.{◌≡◌, ap, ◌∙◌, map, refl, true, rules}
+use Rattle.std.proofs.Common.{◌≡◌, ap, ◌∙◌, map, refl, true}
 use Rattle.std.proofs.lemmas.Result.{IfErr-weaker, IfOk-weaker}
 use Rattle.clap.specs.Words.{takes, app_of, is_simple, subcommand_of}
-use Rattle.command_words.specs.Apps.{the_app}
 use Rattle.command_words.proofs.Splits.{accepted_taken}
 use Rattle.command_words.proofs.splitting.matches_of.Goals as goal
 

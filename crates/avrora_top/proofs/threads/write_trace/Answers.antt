@@ -7,21 +7,21 @@ use Rattle.node_runner.specs.Run.{RunAt}
 use Rattle.plain_commands.specs.Ends.{stream}
 use Rattle.plain_commands.specs.Plan.{output}
 use Rattle.plain_commands.proofs.Traces.{front_taken, front_failed, meets, rows_whole, taken_first, taken_next}
-use Rattle.avrora_top.proofs.threads.write_epochs.Goals as goal
+use Rattle.avrora_top.proofs.threads.write_trace.Goals as goal
 
 pub loop-run-init : goal.loop-run-init
 loop-run-init g c =
-    let e = c.requires.first in
+    let e = c.in-Ok.ensures.run in
     record {
       same = ap (λ (r : RunAt). r.scenario) e;
       sound = ap (λ (r : RunAt). r.failed) e;
-      taken = taken_first _ c.args.network.now c.args.run.now.floor c.requires.sound (ap (λ (r : RunAt). r.floor) e);
+      taken = taken_first _ c.args.network.now _ c.in-Ok.ensures.sound (ap (λ (r : RunAt). r.floor) e);
       count = refl;
     }
 
-pub returns-in_default : goal.returns-in_default
+pub returns-in_default-epoch : goal.returns-in_default-epoch
 unfolding output
-returns-in_default g c =
+returns-in_default-epoch g c =
     let within : c.loop-run.run.floor ≤ c.args.network.now.topo.limit =
     subst (λ (s : ScenarioOf). c.loop-run.run.floor ≤ s.topo.limit) c.loop-run.invariant.same c.loop-run-test.ensures.within in
     (front_taken _ _ c.args.network.now c.loop-run.run.floor within c.loop-run.invariant.taken, c.loop-run.invariant.count)
@@ -29,25 +29,25 @@ returns-in_default g c =
 pub returns-in-Err : goal.returns-in-Err
 unfolding output
 returns-in-Err g c =
-    let end : c.epoch.new.self.floor ≡ min (c.loop-run.run.floor + 262144) c.loop-run.run.scenario.topo.limit = ap (λ (r : RunAt). r.floor) c.in-Ok.ensures.after in
+    let end : c.epoch.new.self.floor ≡ min (c.loop-run.run.floor + 262144) c.loop-run.run.scenario.topo.limit = ap (λ (r : RunAt). r.floor) c.in-Ok-epoch.ensures.after in
     let most : c.epoch.new.self.floor ≤ c.loop-run.run.scenario.topo.limit = omega arith in
     let within : c.epoch.new.self.floor ≤ c.args.network.now.topo.limit = subst (λ (s : ScenarioOf). c.epoch.new.self.floor ≤ s.topo.limit) c.loop-run.invariant.same most in
-    let front : TookFront (g.O.Sink.taken c.loop-run.out) (rows_text c.in-Ok.rows.items) (g.O.Sink.taken c.write.new.sink) =
+    let front : TookFront (g.O.Sink.taken c.loop-run.out) (rows_text c.in-Ok-epoch.rows.items) (g.O.Sink.taken c.write.new.sink) =
     subst (λ (l : List Row). TookFront (g.O.Sink.taken c.loop-run.out) (rows_text l) (g.O.Sink.taken c.write.new.sink)) c.as_slice.ensures.value c.in-Err.ensures.front in
     record {
-      front = front_failed _ _ _ c.args.network.now _ c.epoch.new.self.floor c.in-Ok.rows.items within c.loop-run.invariant.taken c.in-Ok.ensures.rows front;
+      front = front_failed _ _ _ c.args.network.now _ c.epoch.new.self.floor c.in-Ok-epoch.rows.items within c.loop-run.invariant.taken c.in-Ok-epoch.ensures.rows front;
       rose = subst (λ (n : ℕ). Rose n (g.O.Sink.faults c.write.new.sink)) c.loop-run.invariant.count c.in-Err.ensures.rose;
     }
 
 pub loop-run-preserved : goal.loop-run-preserved
 loop-run-preserved g c =
-    let after = c.in-Ok.ensures.after in
-    let took : g.O.Sink.taken c.write.new.sink ≡ extended (g.O.Sink.taken c.loop-run.out) (rows_text c.in-Ok.rows.items) =
+    let after = c.in-Ok-epoch.ensures.after in
+    let took : g.O.Sink.taken c.write.new.sink ≡ extended (g.O.Sink.taken c.loop-run.out) (rows_text c.in-Ok-epoch.rows.items) =
     c.in-Ok-write.ensures.taken ∙ ap (λ (l : List Row). extended (g.O.Sink.taken c.loop-run.out) (rows_text l)) c.as_slice.ensures.value in
     record {
       same = ap (λ (r : RunAt). r.scenario) after ∙ c.loop-run.invariant.same;
       sound = ap (λ (r : RunAt). r.failed) after ∙ c.loop-run.invariant.sound;
-      taken = taken_next _ _ _ _ c.in-Ok.rows.items _ c.loop-run.invariant.taken c.in-Ok.ensures.rows took;
+      taken = taken_next _ _ _ _ c.in-Ok-epoch.rows.items _ c.loop-run.invariant.taken c.in-Ok-epoch.ensures.rows took;
       count = c.in-Ok-write.ensures.ok ∙ c.loop-run.invariant.count;
     }
 

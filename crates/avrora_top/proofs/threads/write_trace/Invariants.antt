@@ -3,7 +3,7 @@ use Rattle.sim_io.specs.Outside.{extended}
 use Rattle.trace_writer.specs.Line.{rows_text}
 use Rattle.node_runner.specs.Scenario.{fleet_of}
 use Rattle.node_runner.specs.Run.{rows_upto}
-use Rattle.avrora_top.proofs.threads.write_epochs.Given as goal
+use Rattle.avrora_top.proofs.threads.write_trace.Given as goal
 
 abbrev pub invariant-loop-run : goal.invariant-loop-run
 invariant-loop-run g l = record {
