@@ -1,7 +1,7 @@
 -- What the processor's part of a cycle leaves, by what an instruction does to the core and the data space, and what an entry does.
 use Rattle.std.proofs.Common.{◌≡◌, ℕ, ◌&&◌, ◌||◌, ◌++◌, nat_le, nat_lt, Bool, true, false, cond, List, refl, sym, ap, ◌∙◌}
 use Rattle.std.proofs.lemmas.Bool.{false≢true}
-use Rattle.std.specs.Prelude.{Result, Ok, Err, Some}
+use Rattle.std.specs.Prelude.{Result}
 use Rattle.avr_base.specs.declared.stop.StopCause.{StopCause}
 use Rattle.avr_decoder.specs.Class.{class_of}
 use Rattle.avr_decoder.specs.declared.op.Class.{Class}
@@ -18,7 +18,7 @@ use Rattle.trace_rows.specs.declared.row.Row.{Row}
 use Rattle.node_core.specs.declared.bus.NodeBus.{NodeBus}
 use Rattle.node_core.specs.declared.machine.Machine.{Machine}
 use Rattle.node_core.specs.Bus.{bus_at, with_board}
-use Rattle.node_core.specs.Cycle.{after_entry, after_instruction, entered, entered_rows, entry_rows, instructed, instructed_rows, instruction_rows, is_idle, is_other, is_refused, is_sei, op_now, owes}
+use Rattle.node_core.specs.Cycle.{after_entry, after_instruction, entered, entered_rows, entry_rows, instructed, instructed_rows, instruction_rows, is_other, is_refused, is_sei, op_now, owes}
 use Rattle.node_core.specs.Execute.{executed, executed_by}
 use Rattle.node_core.specs.Interrupts.{entry}
 use Rattle.node_core.specs.Shown.{shown}

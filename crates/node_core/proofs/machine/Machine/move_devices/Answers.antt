@@ -1,4 +1,4 @@
-use Rattle.std.proofs.Common.{◌≡◌, ◌++◌, ℕ, Bool, Option, List, false, is_some, append_assoc, sym, ap, ◌∙◌}
+use Rattle.std.proofs.Common.{◌≡◌, ◌++◌, ℕ, Option, List, false, is_some, append_assoc, sym, ap, ◌∙◌}
 use Rattle.board_io.specs.declared.board.Board.{Board}
 use Rattle.board_io.specs.Board.{unclocked}
 use Rattle.board_io.specs.Cycle.{board_begun}

@@ -1,4 +1,4 @@
-use Rattle.std.proofs.Common.{◌≡◌, ℕ, ◌+◌, List, Bool, true, false, is_some, refl, add-zero, sym, ap, ◌∙◌, subst, arith}
+use Rattle.std.proofs.Common.{◌≡◌, ℕ, ◌+◌, Bool, true, false, is_some, refl, add-zero, sym, ap, ◌∙◌, subst, arith}
 use Rattle.trace_rows.specs.declared.row.Row.{Row}
 use Rattle.world_core.specs.NodeRun.{Timed, Comes}
 use Rattle.world_core.proofs.QuietCycles.{comes_none, running_next}
