@@ -1,4 +1,4 @@
-use Rattle.std.proofs.Common.{◌≡◌, ◌+◌, [], length, sym, ◌∙◌, ap, arith}
+use Rattle.std.proofs.Common.{◌≡◌, ◌+◌, [], length, ◌∙◌, ap, arith}
 use Rattle.clock_words.specs.Rule.{node_view}
 use Rattle.clock_words.proofs.Views.{Seat}
 use Rattle.clock_words.proofs.AirSteps.{splits}

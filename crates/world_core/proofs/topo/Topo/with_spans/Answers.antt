@@ -1,4 +1,4 @@
-use Rattle.std.proofs.Common.{◌≡◌, refl, sym, subst, List}
+use Rattle.std.proofs.Common.{refl, subst, List}
 use Rattle.std.proofs.lemmas.Bool.{false≢true}
 use Rattle.world_core.specs.declared.air.Link.{Link}
 use Rattle.world_core.specs.FirstFault.{AllKeep}
