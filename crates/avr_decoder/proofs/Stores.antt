@@ -4,7 +4,7 @@ use Rattle.std.specs.Prelude.{if◌then◌else◌}
 use Rattle.avr_decoder.specs.declared.op.Op.TheVariants as op
 use Rattle.avr_decoder.specs.Opcodes.{op_at}
 use Rattle.avr_decoder.proofs.Spelled.{middle}
-use Rattle.avr_decoder.proofs.Rows.{numbered, number_of, number_with, by_registers, with_field, moving, moving_number, none_of, none_is}
+use Rattle.avr_decoder.proofs.Rows.{numbered, number_of, by_registers, with_field, moving, none_of, none_is}
 
 pub sts_at : (w next : ℕ) → w / 512 ≡ 73 → w % 16 ≡ 0 → op_at w next ≡ op.Sts next (middle w)
 unfolding numbered number_of
