@@ -1,5 +1,5 @@
 -- The lines that are still to come.
-use Rattle.std.proofs.Common.{◌≡◌, ℕ, ◌+◌, ◌<◌, ◌≤◌, List, [], ◌∷◌, ◌++◌, length, get_or, drop, ap, add-one}
+use Rattle.std.proofs.Common.{◌≡◌, ℕ, ◌+◌, ◌<◌, ◌≤◌, List, [], ◌∷◌, ◌++◌, length, get_or, drop, ap, ◌∙◌, append_assoc, add-one}
 use Rattle.std.proofs.Math.Seq.{drop-cons}
 use Rattle.std.proofs.Math.ListN.{drop_of_length-le}
 use Rattle.trace_rows.specs.declared.row.Row.{Row}
@@ -16,3 +16,7 @@ rows_text-drop rows i d h =
 pub rows_text-drop_all : (rows : List Row) (i : ℕ) → length rows ≤ i → rows_text (drop i rows) ≡ []
 unfolding rows_text
 rows_text-drop_all rows i h = ap rows_text (drop_of_length-le rows h)
+
+-- one piece appended behind another
+pub joined : (p a b : List ℕ) {q r : List ℕ} → q ≡ p ++ a → r ≡ q ++ b → r ≡ p ++ (a ++ b)
+joined p a b first second = second ∙ ap (λ t. t ++ b) first ∙ append_assoc p a b
