@@ -6,7 +6,7 @@ use Rattle.toml.specs.Data.{Data, integer, as_table, Members, get_member}
 use Rattle.scenario_file.specs.Document.{on_table, number_of, number_at}
 use Rattle.scenario_file.specs.Rules.{lacks_key, version_numbered, version_in, version_of}
 use Rattle.scenario_file.specs.Faults.{nodes, links, inputs, has_unknown_key, any_unknown_key, unknown_key, any_lacks_key, missing, all_of_kind, all_in_range, is_few, in_range}
-use Rattle.scenario_file.specs.Holds.{holds, holds_of, holds_of_all, holds_in}
+use Rattle.scenario_file.specs.Holds.{holds_of_all, holds_in}
 use Rattle.scenario_file.specs.declared.keys.Keys.{Keys}
 use Rattle.scenario_file.specs.declared.keys.Keys.TheVariants.{Top, OfNode, OfLink, OfInput}
 use Rattle.scenario_file.specs.declared.keys.Version.{Version}

@@ -32,7 +32,7 @@ returns-in_err-take_line-clause-err c =
     let t = line_turn (λ text. line_of (without_cr text)) pieces _ _ (YieldsList-turn (YieldsList-from_slice_split _ (λ b. b == 10) c.args.bytes.now (cc) (cc) (cc) (λ x b q k. search (rules, tests))) c.loop-text.yielded _ c.loop-text.yielded_by _ _ c.in-Some.text c.in-Some.is c.next.ensures.steps) in
     let p = err_from_is_err_and c.from_residual-in_err-take_line.result c.from_residual-in_err-take_line.ensures.1 in
     rw (p.1, p.2) (⊎_elim (λ m. inl m) (λ w. inr (c.loop-text.invariant.fault
-    ∙ (first_fault-found (lines_of c.args.bytes.now) _ _ w.0 t.0 t.1 (w.2 _ c.loop-text.invariant.stands) ∙ ap Some (ap (λ n. at_line w.0 (n + 1)) (sym c.loop-text.invariant.count) ∙ sym w.1)))) c.in_err-take_line.ensures.bad)
+    ∙ (first_fault-found (lines_of c.args.bytes.now) _ _ w.0 t.0 t.1 (w.2 _ c.loop-text.invariant.stands) ∙ ap Some (ap (λ n. at_line w.0 (n + 1)) (sym {b = length c.loop-text.yielded} c.loop-text.invariant.count) ∙ sym w.1)))) c.in_err-take_line.ensures.bad)
 
 pub returns-then-not-loader-clause-err : goal.returns-then-not-loader-clause-err
 unfolding hex_fault

@@ -1,4 +1,4 @@
-use Rattle.std.proofs.Common.{◌≡◌, length, map, codes, IsOk, sym, ap, subst, ◌∙◌, arith}
+use Rattle.std.proofs.Common.{length, map, IsOk, sym, ap, subst, ◌∙◌, arith}
 use Rattle.std.proofs.lemmas.Bool.{false≢true}
 use Rattle.toml.specs.View.{view, table_view}
 use Rattle.world_core.specs.Topology.{IsTopology}
