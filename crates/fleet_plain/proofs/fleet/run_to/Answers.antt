@@ -1,10 +1,13 @@
-use Rattle.std.proofs.Common.{◌≡◌, ℕ, true, Some, None, refl, List, sym, subst, ap, ◌∙◌, arith}
+use Rattle.std.proofs.Common.{◌≡◌, ℕ, ◌≤◌, true, Some, None, refl, List, sym, subst, ap, ◌∙◌, arith}
+use Rattle.std.specs.List.{All}
 use Rattle.std.specs.declared.option.Option.{Option}
+use Rattle.world_core.specs.declared.air.Send.{Send}
+use Rattle.world_core.specs.Topology.{Topology, IsInside}
 use Rattle.node_runner.specs.Scenario.{ScenarioOf, IsScenario}
 use Rattle.node_runner.specs.Place.{Place, is_live}
 use Rattle.node_runner.specs.Flight.{IsAt, Advanced}
 use Rattle.fleet_plain.specs.Flight.{HearsRight, CanPost, IsBehind}
-use Rattle.fleet_plain.proofs.InFlight.{at_own, hears_right, can_post, flight_on}
+use Rattle.fleet_plain.proofs.InFlight.{at_own, hears_right, can_post, flight_on, rank_falls}
 use Rattle.fleet_plain.proofs.fleet.run_to.Goals as goal
 
 pub advance-requires-clause-right : goal.advance-requires-clause-right
@@ -77,3 +80,49 @@ returns-clause-still c = subst (λ (l : List Place). IsBehind c.args.end l None)
 
 pub returns-clause-room : goal.returns-clause-room
 returns-clause-room c = c.loop-k.invariant.1
+
+pub index_mut-requires : goal.index_mut-requires
+index_mut-requires c =
+    let b = subst (λ (o : Option ℕ). IsBehind c.args.end c.deref.result.now o) c.in-Some.is c.behind.ensures in
+    let long = c.deref.ensures.len in
+    let h = b.0 in
+    omega arith
+
+pub advance-requires-clause-topo : goal.advance-requires-clause-topo
+advance-requires-clause-topo c =
+    let fl = c.loop-k.invariant.0 in
+    let n = fl.count in
+    let b = subst (λ (l : List Place). IsBehind c.args.end l (Some c.in-Some.k)) c.deref.ensures.value (subst (λ (o : Option ℕ). IsBehind c.args.end c.deref.result.now o) c.in-Some.is c.behind.ensures) in
+    let at = fl.at c.in-Some.k c.index_mut.result.now (let h = b.0 in omega arith) in
+    c.lawful_topo-topo.ensures.value ∙ ap (λ (x : ScenarioOf). x.topo) (sym at.scenario) ∙ ap (λ (x : Place). x.scenario.topo) (sym c.index_mut.ensures.value)
+
+pub advance-requires-clause-number : goal.advance-requires-clause-number
+advance-requires-clause-number c =
+    let fl = c.loop-k.invariant.0 in
+    let n = fl.count in
+    let b = subst (λ (l : List Place). IsBehind c.args.end l (Some c.in-Some.k)) c.deref.ensures.value (subst (λ (o : Option ℕ). IsBehind c.args.end c.deref.result.now o) c.in-Some.is c.behind.ensures) in
+    let at = fl.at c.in-Some.k c.index_mut.result.now (let h = b.0 in omega arith) in
+    let t = ap (λ (z : Topology). z.nodes) c.lawful_topo-topo.ensures.value in
+    let here = at.number in
+    let same = ap (λ (x : Place). x.number) c.index_mut.ensures.value in
+    let h = b.0 in
+    omega arith
+
+pub advance-requires-clause-end : goal.advance-requires-clause-end
+advance-requires-clause-end c = subst (λ (t : Topology). c.args.end ≤ t.limit) (sym c.lawful_topo-topo.ensures.value) c.requires.end
+
+pub advance-requires-clause-inside : goal.advance-requires-clause-inside
+advance-requires-clause-inside c =
+    subst (λ (t : Topology). All (λ (x : Send). IsInside t x.node x.cycle) c.loop-k.log.sends) (sym c.lawful_topo-topo.ensures.value) c.loop-k.invariant.0.recorded.inside
+
+pub loop-k-smaller : goal.loop-k-smaller
+loop-k-smaller c =
+    let sc = c.args.scenario.now in
+    let ps : List Place = c.loop-k.runners.items in
+    let k : ℕ = c.in-Some.k in
+    let p : Place = c.index_mut.result.now in
+    let fl = c.loop-k.invariant.0 in
+    let n = fl.count in
+    let b = subst (λ (l : List Place). IsBehind c.args.end l (Some k)) c.deref.ensures.value (subst (λ (o : Option ℕ). IsBehind c.args.end c.deref.result.now o) c.in-Some.is c.behind.ensures) in
+    let adv = subst (λ (x : Place). Advanced c.args.end x c.loop-k.log.sends c.advance.new.runner c.advance.new.log.sends) c.index_mut.ensures.value c.in_ok-advance.ensures.step in
+    rank_falls sc c.args.floor c.args.end ps c.loop-k.log.sends c.lawful_topo-topo.ensures.sound c.requires.end fl k p c.advance.new.runner c.advance.new.log.sends (let h = b.0 in omega arith) (b.1 p) adv

@@ -1,15 +1,16 @@
 use Rattle.std.proofs.Common.{◌≡◌, ℕ, ◌≤◌, cond, ◌==◌, List, [], ◌++◌, map, sym, subst, ap, ◌∙◌, arith}
-use Rattle.std.specs.List.{filter}
+use Rattle.std.specs.List.{All, filter}
 use Rattle.std.specs.List.Sorted.{IsStableByKey}
 use Rattle.std.specs.Ordering.{nat_cmp}
+use Rattle.std.proofs.lemmas.Bool.{eqb-true}
 use Rattle.world_core.specs.Topology.{Topology}
 use Rattle.world_core.specs.Kept.{is_kept, kept_room_of}
 use Rattle.send_log.specs.Chain.{LogFacts, log_of}
 use Rattle.trace_rows.specs.declared.row.Row.{Row}
-use Rattle.node_runner.specs.Place.{Place}
+use Rattle.node_runner.specs.Place.{Place, HasEnded}
 use Rattle.node_runner.specs.Gather.{end_row_of}
 use Rattle.fleet_plain.specs.Run.{IsResting}
-use Rattle.fleet_plain.proofs.Epoch.{next_rests, next_rows, flies_on}
+use Rattle.fleet_plain.proofs.Epoch.{next_rests, next_rows, flies_on, ended, calm}
 use Rattle.fleet_plain.proofs.plain.rows_to.Goals as goal
 
 pub run_to-requires-clause-flight : goal.run_to-requires-clause-flight
@@ -41,3 +42,14 @@ returns-clause-rows c =
     c.in_ok-run_to.ensures.flight c.in_ok-run_to.ensures.still c.in_ok-sort.ensures.sorted
     (subst (λ (l : List Row). IsStableByKey (λ r. r.cycle) nat_cmp l c.sort.new.rows.items) c.in_ok-rows.ensures.rows c.in_ok-sort.ensures.stable)
     last (c.in_ok-extend_from_slice.ensures.items ∙ ap (λ (l : List Row). c.sort.new.rows.items ++ l) c.deref-2.ensures.value)
+
+pub run_to-requires-clause-room : goal.run_to-requires-clause-room
+run_to-requires-clause-room c = c.requires.rests.room
+
+pub ends_at-requires : goal.ends_at-requires
+ends_at-requires c =
+    let limit : c.limit.result ≡ c.args.scenario.now.topo.limit = c.limit.ensures.value ∙ ap (λ (t : Topology). t.limit) c.lawful_topo-topo.ensures.value in
+    λ is. subst (All HasEnded) (sym c.deref.ensures.value) (ended c.args.scenario.now c.args.floor c.args.end c.run_to.new.runners.items c.run_to.new.log.sends c.in_ok-run_to.ensures.flight c.in_ok-run_to.ensures.still (eqb-true c.args.end c.limit.result is ∙ limit))
+
+pub gather-requires : goal.gather-requires
+gather-requires c = calm c.args.end c.run_to.new.runners.items c.in_ok-run_to.ensures.still
