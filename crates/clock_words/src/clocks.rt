@@ -1,10 +1,15 @@
 // The words, and the steps on them.
+ghost use Rattle.std.specs.Prelude.{◌≡◌};
+ghost use mathlib.Core.Option.{none};
+ghost use Rattle.atomic_table.specs.Table.{step};
+ghost use Rattle.clock_words.specs.Asks.{MayLoad, MayStore};
+
 use crate::layout::{clock_word, halt_word, sent_word};
 use crate::rule::{
     ClockRule, LoadClock, LoadHalt, PeekClock, Raise, SeeSent, StoreHalt, StoreSent, View,
 };
 use crate::seats::{AirSeat, NodeSeat};
-use atomic_table::Table;
+use atomic_table::{Play, Seat, Table};
 use std::alloc::Global;
 use std::marker::Model;
 use std::snapshot::Snapshot;
@@ -42,6 +47,27 @@ impl<W: World> Model for Clocks<W> {
     ghost invariant = { λ c. IsLaid c.table.shared.table_id.words c.nodes (W.facts c.table.shared.key.value) };
 }
 
+// Loads a word by a step of this kind.
+fn get<W: World, M: Play<(), View>>(words: &Words<W>, seat: &mut Seat<(), View>, word: usize) -> u64
+    requires { MayLoad (W.facts words.now.shared.key.value) words.now.shared.table_id seat.old.table_id seat.old.id seat.old.me word M.then }
+    ensures { (seat.new.table_id ≡ seat.old.table_id) × (seat.new.id ≡ seat.old.id) × M.then (step words.now.shared.table_id.slots word 0 0 none) seat.old.me result seat.new.me }
+{
+    words.shared.load::<M>(seat, word)
+}
+
+// Stores a number in a word by a step of this kind.
+fn put<W: World, M: Play<(), View>>(
+    words: &Words<W>,
+    seat: &mut Seat<(), View>,
+    word: usize,
+    new: u64,
+)
+    requires { MayStore (W.facts words.now.shared.key.value) words.now.shared.table_id seat.old.table_id seat.old.id seat.old.me word new M.then }
+    ensures { (seat.new.table_id ≡ seat.old.table_id) × (seat.new.id ≡ seat.old.id) × M.then (step words.now.shared.table_id.slots word new 0 none) seat.old.me new seat.new.me }
+{
+    words.shared.store::<M>(seat, word, new);
+}
+
 impl<W: World> Clocks<W> {
     ghost use Rattle.std.specs.Prelude.{◌≡◌, ◌≤◌, ◌<◌, length};
     ghost use Rattle.world_core.specs.Sends.{sends_of, sends_below};
@@ -68,9 +94,7 @@ impl<W: World> Clocks<W> {
         ensures { seat.new ≡ node_raised seat.old clock }
     {
         let word = clock_word(seat.number());
-        self.table
-            .shared
-            .store::<Raise>(&mut seat.seat, word, clock);
+        put::<_, Raise>(&self.table, &mut seat.seat, word, clock);
         seat.clock = clock;
     }
 
@@ -81,9 +105,7 @@ impl<W: World> Clocks<W> {
         ensures counted { sends_below seat.old.world.sends node result ≤ sent_of seat.old.sent node }
         ensures seat { seat.new ≡ air_loaded seat.old node result }
     {
-        self.table
-            .shared
-            .load::<LoadClock>(&mut seat.seat, clock_word(node))
+        get::<_, LoadClock>(&self.table, &mut seat.seat, clock_word(node))
     }
 
     /// A first look at the clock of a node, to see whether it is worth while to ask the record. Nothing follows from it:
@@ -93,9 +115,7 @@ impl<W: World> Clocks<W> {
         requires node { node < seat.old.world.topo.nodes }
         ensures { seat.new ≡ node_peeked seat.old node result }
     {
-        self.table
-            .shared
-            .load::<PeekClock>(&mut seat.seat, clock_word(node))
+        get::<_, PeekClock>(&self.table, &mut seat.seat, clock_word(node))
     }
 
     /// Counts one more posted send of a node, which is to have a further one. The send itself is to stand in the record
@@ -108,9 +128,7 @@ impl<W: World> Clocks<W> {
     {
         let word = sent_word(self.nodes, node);
         let count = seat.sent(node) + 1;
-        self.table
-            .shared
-            .store::<StoreSent>(&mut seat.seat, word, count);
+        put::<_, StoreSent>(&self.table, &mut seat.seat, word, count);
         seat.sent[usize::from(node)] = count;
     }
 
@@ -142,7 +160,7 @@ impl<W: World> Clocks<W> {
         ensures seat { seat.new ≡ node_told seat.old result }
     {
         let word = sent_word(self.nodes, seat.number());
-        let count = self.table.shared.load::<SeeSent>(&mut seat.seat, word);
+        let count = get::<_, SeeSent>(&self.table, &mut seat.seat, word);
         seat.told = count;
         count
     }
@@ -152,9 +170,7 @@ impl<W: World> Clocks<W> {
         requires { seat.old.table ≡ self.now.table }
         ensures { seat.new ≡ node_stopped seat.old }
     {
-        self.table
-            .shared
-            .store::<StoreHalt>(&mut seat.seat, halt_word(self.nodes), 1);
+        put::<_, StoreHalt>(&self.table, &mut seat.seat, halt_word(self.nodes), 1);
     }
 
     /// Whether a node had told all nodes to halt when this call looked.
@@ -162,10 +178,7 @@ impl<W: World> Clocks<W> {
         requires { seat.old.table ≡ self.now.table }
         ensures { seat.new ≡ node_asked seat.old result }
     {
-        let found = self
-            .table
-            .shared
-            .load::<LoadHalt>(&mut seat.seat, halt_word(self.nodes));
+        let found = get::<_, LoadHalt>(&self.table, &mut seat.seat, halt_word(self.nodes));
         found == 1
     }
 }

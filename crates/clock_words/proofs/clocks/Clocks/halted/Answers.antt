@@ -3,8 +3,8 @@ use Rattle.clock_words.specs.Seats.{ClocksFacts, NodeFacts}
 use Rattle.clock_words.proofs.Calls.{may_ask}
 use Rattle.clock_words.proofs.clocks.Clocks.halted.Goals as goal
 
-pub load-found-requires : goal.load-found-requires
-load-found-requires g c =
+pub get-found-requires : goal.get-found-requires
+get-found-requires g c =
     let w = g.W.World.facts c.self.inside.table.shared.key.value in
     let z = c.self.inside.table.shared.table_id in
     let mine = c.seat.inside.seat.table_id in

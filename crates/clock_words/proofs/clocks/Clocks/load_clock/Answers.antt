@@ -4,8 +4,8 @@ use Rattle.clock_words.specs.Seats.{ClocksFacts, AirFacts}
 use Rattle.clock_words.proofs.Calls.{may_load_clock}
 use Rattle.clock_words.proofs.clocks.Clocks.load_clock.Goals as goal
 
-pub load-requires : goal.load-requires
-load-requires g c =
+pub get-requires : goal.get-requires
+get-requires g c =
     let w = g.W.World.facts c.self.inside.table.shared.key.value in
     let z = c.self.inside.table.shared.table_id in
     let mine = c.seat.inside.seat.table_id in

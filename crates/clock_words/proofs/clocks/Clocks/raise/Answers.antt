@@ -3,8 +3,8 @@ use Rattle.clock_words.specs.Seats.{ClocksFacts, NodeFacts}
 use Rattle.clock_words.proofs.Calls.{may_raise}
 use Rattle.clock_words.proofs.clocks.Clocks.raise.Goals as goal
 
-pub store-requires : goal.store-requires
-store-requires g c =
+pub put-requires : goal.put-requires
+put-requires g c =
     let w = g.W.World.facts c.self.inside.table.shared.key.value in
     let z = c.self.inside.table.shared.table_id in
     let mine = c.seat.inside.seat.table_id in

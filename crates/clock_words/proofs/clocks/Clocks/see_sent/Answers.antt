@@ -3,8 +3,8 @@ use Rattle.clock_words.specs.Seats.{ClocksFacts, NodeFacts}
 use Rattle.clock_words.proofs.Calls.{may_see}
 use Rattle.clock_words.proofs.clocks.Clocks.see_sent.Goals as goal
 
-pub load-count-requires : goal.load-count-requires
-load-count-requires g c =
+pub get-count-requires : goal.get-count-requires
+get-count-requires g c =
     let w = g.W.World.facts c.self.inside.table.shared.key.value in
     let z = c.self.inside.table.shared.table_id in
     let mine = c.seat.inside.seat.table_id in

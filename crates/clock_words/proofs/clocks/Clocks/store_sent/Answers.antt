@@ -8,8 +8,8 @@ use Rattle.clock_words.specs.Seats.{ClocksFacts, AirFacts}
 use Rattle.clock_words.proofs.Calls.{may_store_sent}
 use Rattle.clock_words.proofs.clocks.Clocks.store_sent.Goals as goal
 
-pub store-requires : goal.store-requires
-store-requires g c =
+pub put-requires : goal.put-requires
+put-requires g c =
     let w = g.W.World.facts c.self.inside.table.shared.key.value in
     let z = c.self.inside.table.shared.table_id in
     let mine = c.seat.inside.seat.table_id in
