@@ -1,5 +1,4 @@
 pub mod Added
 pub mod Aliases
 pub mod Digits
-pub mod Registers
 pub mod Tables
