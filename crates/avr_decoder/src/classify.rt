@@ -107,3 +107,11 @@ impl Op {
         }
     }
 }
+
+/// The class of an instruction.
+#[inline]
+pub fn class(op: Op) -> Class
+    ensures { result ≡ class_of op }
+{
+    op.class()
+}

@@ -7,5 +7,6 @@ mod decoding;
 mod fields;
 mod op;
 
+pub use classify::class;
 pub use decoding::{decode, one_row_at_most, width};
 pub use op::{Class, Op};
