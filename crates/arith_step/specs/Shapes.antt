@@ -5,9 +5,9 @@ use Rattle.avr_base.specs.Flags.{C, T, has_flag, with_flag}
 use Rattle.avr_base.specs.declared.sreg.Sreg.{Sreg}
 use Rattle.data_space.specs.declared.cpu.Cpu.{Cpu}
 use Rattle.data_space.specs.Core.{pair_at, with_pair, with_reg}
-use Rattle.alu_flags.specs.declared.products.MulKind.{MulKind}
-use Rattle.alu_flags.specs.Bytes.{added, subtracted, logical}
-use Rattle.alu_flags.specs.Words.{multiplied}
+use Rattle.arith_step.specs.declared.products.MulKind.{MulKind}
+use Rattle.arith_step.specs.Bytes.{added, subtracted, logical}
+use Rattle.arith_step.specs.Words.{multiplied}
 
 abbrev pub carry : Cpu → Bool
 carry cpu = has_flag cpu.sreg.bits C

@@ -3,9 +3,9 @@
 use Rattle.std.specs.Prelude.{ℕ, ◌%◌, true, false, bit_and, bit_or, bit_xor, slice_index, nat_le}
 use Rattle.avr_decoder.specs.declared.op.Op.{Op}
 use Rattle.avr_decoder.specs.declared.op.Op.TheVariants as op
-use Rattle.alu_flags.specs.declared.products.MulKind.TheVariants as kind
-use Rattle.alu_flags.specs.Bytes.{complemented, negated, incremented, decremented, shifted}
-use Rattle.alu_flags.specs.Words.{added_word, subtracted_word}
+use Rattle.arith_step.specs.declared.products.MulKind.TheVariants as kind
+use Rattle.arith_step.specs.Bytes.{complemented, negated, incremented, decremented, shifted}
+use Rattle.arith_step.specs.Words.{added_word, subtracted_word}
 use Rattle.data_space.specs.declared.bus.Done.{Done}
 use Rattle.data_space.specs.declared.cpu.Cpu.{Cpu}
 use Rattle.data_space.specs.Core.{advanced, pair_at, with_pair, with_reg}

@@ -8,7 +8,7 @@ use crate::shapes::{
     add, compare, compare_with_carry, copy, copy_pair, load_bit, multiply, put_bits, put_byte,
     put_word, set_flag, store_bit, subtract, subtract_with_carry, swap,
 };
-use alu_flags::{MulKind, adiw, asr, com, dec, inc, lsr, neg, ror, sbiw};
+use crate::{MulKind, adiw, asr, com, dec, inc, lsr, neg, ror, sbiw};
 use avr_base::Sreg;
 use avr_decoder::Op;
 use data_space::{Cpu, Done};

@@ -5,7 +5,7 @@ ghost use Rattle.std.specs.Prelude.{◌≡◌, ◌<◌};
 ghost use Rattle.data_space.specs.Core.{pair_at, with_pair, with_reg};
 ghost use Rattle.arith_step.specs.Shapes.{adds, becomes_bits, compares, compares_with_carry, loads_bit, multiplies, sets_flag, stores_bit, subtracts, subtracts_with_carry, swaps, to_pair, to_reg};
 
-use alu_flags::MulKind;
+use crate::MulKind;
 use avr_base::{Reg, Sreg};
 use data_space::Cpu;
 
@@ -43,7 +43,7 @@ pub fn add(d: Reg, b: u8, carry: bool, cpu: &mut Cpu) -> u8
     ensures core { cpu.new ≡ adds d b carry cpu.old }
     ensures cycles { result ≡ 1 }
 {
-    let computed = alu_flags::add(cpu.reg(d), b, carry, cpu.sreg);
+    let computed = crate::add(cpu.reg(d), b, carry, cpu.sreg);
     put_byte(d, computed, cpu)
 }
 
@@ -53,7 +53,7 @@ pub fn subtract(d: Reg, b: u8, cpu: &mut Cpu) -> u8
     ensures core { cpu.new ≡ subtracts d b cpu.old }
     ensures cycles { result ≡ 1 }
 {
-    let computed = alu_flags::sub(cpu.reg(d), b, false, false, cpu.sreg);
+    let computed = crate::sub(cpu.reg(d), b, false, false, cpu.sreg);
     put_byte(d, computed, cpu)
 }
 
@@ -63,7 +63,7 @@ pub fn subtract_with_carry(d: Reg, b: u8, cpu: &mut Cpu) -> u8
     ensures core { cpu.new ≡ subtracts_with_carry d b cpu.old }
     ensures cycles { result ≡ 1 }
 {
-    let computed = alu_flags::sub(cpu.reg(d), b, cpu.sreg.has(Sreg::C), true, cpu.sreg);
+    let computed = crate::sub(cpu.reg(d), b, cpu.sreg.has(Sreg::C), true, cpu.sreg);
     put_byte(d, computed, cpu)
 }
 
@@ -73,7 +73,7 @@ pub fn compare(d: Reg, b: u8, cpu: &mut Cpu) -> u8
     ensures core { cpu.new ≡ compares d b cpu.old }
     ensures cycles { result ≡ 1 }
 {
-    cpu.sreg = alu_flags::sub(cpu.reg(d), b, false, false, cpu.sreg).1;
+    cpu.sreg = crate::sub(cpu.reg(d), b, false, false, cpu.sreg).1;
     1
 }
 
@@ -83,7 +83,7 @@ pub fn compare_with_carry(d: Reg, b: u8, cpu: &mut Cpu) -> u8
     ensures core { cpu.new ≡ compares_with_carry d b cpu.old }
     ensures cycles { result ≡ 1 }
 {
-    cpu.sreg = alu_flags::sub(cpu.reg(d), b, cpu.sreg.has(Sreg::C), true, cpu.sreg).1;
+    cpu.sreg = crate::sub(cpu.reg(d), b, cpu.sreg.has(Sreg::C), true, cpu.sreg).1;
     1
 }
 
@@ -93,7 +93,7 @@ pub fn put_bits(d: Reg, bits: u8, cpu: &mut Cpu) -> u8
     ensures core { cpu.new ≡ becomes_bits d bits cpu.old }
     ensures cycles { result ≡ 1 }
 {
-    put_byte(d, (bits, alu_flags::logic(bits, cpu.sreg)), cpu)
+    put_byte(d, (bits, crate::logic(bits, cpu.sreg)), cpu)
 }
 
 #[inline]
@@ -102,7 +102,7 @@ pub fn multiply(kind: MulKind, d: Reg, r: Reg, cpu: &mut Cpu) -> u8
     ensures core { cpu.new ≡ multiplies kind d r cpu.old }
     ensures cycles { result ≡ 2 }
 {
-    let computed = alu_flags::mul(kind, cpu.reg(d), cpu.reg(r), cpu.sreg);
+    let computed = crate::mul(kind, cpu.reg(d), cpu.reg(r), cpu.sreg);
     put_word(r0(), computed, cpu)
 }
 

@@ -15,8 +15,8 @@ use Rattle.avr_decoder.proofs.Stores.{sts_at}
 use Rattle.avr_decoder.proofs.Singles.{jmp_at, call_at}
 use Rattle.avr_decoder.proofs.Widths.{by_fields, is_two_words-by_fields}
 use Rattle.avr_disassembler.specs.Text.{shown, operand_text}
-use Rattle.text_pieces.specs.Digits.{hex2, hex4}
-use Rattle.asm_lines.specs.Text.{is_label}
+use Rattle.sim_io.specs.Digits.{hex2, hex4}
+use Rattle.asm_words.specs.Text.{is_label}
 use Rattle.asm_words.specs.Encoded.{encoded, part, part_of, piece, register_part, data_part, with_part, with_parts, checked, is_undefined, is_undefined_op}
 use Rattle.asm_words.specs.Fields.{register_bits}
 use Rattle.asm_words.specs.Number.{digit, digits_from, digits_of, is_digit, number, register}

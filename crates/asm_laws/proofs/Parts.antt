@@ -9,8 +9,8 @@ use Rattle.avr_decoder.specs.Opcodes.{signed}
 use Rattle.avr_disassembler.specs.Text.{operand_text}
 use Rattle.avr_disassembler.specs.declared.parts.Operand.{Operand}
 use Rattle.avr_disassembler.specs.declared.parts.Operand.TheVariants as operand
-use Rattle.text_pieces.specs.Digits.{hex2, offset_text}
-use Rattle.asm_lines.specs.Text.{is_label}
+use Rattle.sim_io.specs.Digits.{hex2, offset_text}
+use Rattle.asm_words.specs.Text.{is_label}
 use Rattle.asm_words.specs.Encoded.{part, part_of, with_part, with_parts, is_undefined}
 use Rattle.asm_words.specs.Fields.{register_bits, number_bits, displaced_of}
 use Rattle.asm_words.specs.Number.{digits_of, number, register}

@@ -8,8 +8,8 @@ use Rattle.avr_decoder.specs.Opcodes.{op_at, rows_at, bits_at}
 use Rattle.avr_decoder.specs.Words.{is_two_words}
 use Rattle.avr_decoder.proofs.Long.{by_patterns, is_two_words-by_patterns}
 use Rattle.avr_disassembler.specs.Text.{shown, operand_text, pointer_text}
-use Rattle.text_pieces.specs.Digits.{hex2, hex4, offset_text}
-use Rattle.asm_lines.specs.Text.{is_label}
+use Rattle.sim_io.specs.Digits.{hex2, hex4, offset_text}
+use Rattle.asm_words.specs.Text.{is_label}
 use Rattle.asm_words.specs.Encoded.{encoded, part_of, piece}
 use Rattle.asm_words.specs.Fields.{register_bits, number_bits, pointer, flash_pointer, displaced_of}
 use Rattle.asm_words.specs.Number.{digits_of, number, register}

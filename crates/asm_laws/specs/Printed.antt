@@ -6,7 +6,7 @@ use Rattle.avr_decoder.specs.Opcodes.{op_at}
 use Rattle.avr_disassembler.specs.Text.{shown, operand_text}
 use Rattle.avr_disassembler.specs.declared.parts.Operands.{Operands}
 use Rattle.avr_disassembler.specs.declared.parts.Operands.TheVariants as printed
-use Rattle.asm_lines.specs.Line.{Texts, Zero, One, Two}
+use Rattle.asm_words.specs.Line.{Texts, Zero, One, Two}
 use Rattle.asm_words.specs.Encoded.{encoded, piece}
 use Rattle.asm_words.specs.declared.labels.Label.{Label}
 use Rattle.asm_words.specs.declared.instruction.Piece.{Piece}

@@ -2,7 +2,7 @@
 use Rattle.std.proofs.Common.{◌≡◌, ℕ, ◌+◌, ◌<◌, if◌then◌else◌, Bool, true, false, List, ◌∷◌, Option, Some, None, length, drop, get_or, suc, refl, sym, ap, ◌∙◌, add-one}
 use Rattle.std.specs.Str.{bytes_eq}
 use Rattle.std.proofs.Math.Seq.{drop-cons}
-use Rattle.asm_lines.specs.Line.{Said, Label}
+use Rattle.asm_words.specs.Line.{Said, Label}
 use Rattle.asm_words.specs.Labels.{kept}
 use Rattle.asm_words.specs.declared.labels.Label as label
 use Rattle.asm_text.specs.Source.{behind, label_in, labelled, or_else}

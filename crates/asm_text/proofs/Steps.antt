@@ -4,7 +4,7 @@ use Rattle.std.specs.Prelude.{IfOk, IfErr, Result}
 use Rattle.std.specs.List.{slice_split}
 use Rattle.std.proofs.Math.Path.{fun_ext}
 use Rattle.std.proofs.Math.Seq.{drop-length}
-use Rattle.asm_lines.specs.Line.{Said, line_of}
+use Rattle.asm_words.specs.Line.{Said, line_of}
 use Rattle.asm_words.specs.declared.labels.Label as label
 use Rattle.asm_text.specs.Source.{Progress, assembled, assembled_from, ended, label_in, lines_of, started, taken}
 use Rattle.asm_text.specs.declared.fault.AsmFault.{AsmFault}

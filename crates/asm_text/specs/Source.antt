@@ -2,7 +2,7 @@
 use Rattle.std.specs.Prelude.{ℕ, ◌+◌, ◌==◌, nat_lt, min, not, Bool, true, false, if◌then◌else◌, List, [], ◌∷◌, ◌++◌, map, Option, Some, None, Result, Ok, Err}
 use Rattle.std.specs.List.{slice_split}
 use Rattle.std.specs.Str.{bytes_eq}
-use Rattle.asm_lines.specs.Line.{Said, Empty, Label, Code, NotALine, line_of}
+use Rattle.asm_words.specs.Line.{Said, Empty, Label, Code, NotALine, line_of}
 use Rattle.asm_words.specs.Opcodes.{width}
 use Rattle.asm_words.specs.Encoded.{encoded}
 use Rattle.asm_words.specs.declared.labels.Label as label

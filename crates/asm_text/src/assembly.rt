@@ -5,7 +5,7 @@ ghost use Rattle.asm_text.specs.Source.{assembled};
 use crate::fault::AsmFault;
 use crate::program::Program;
 use crate::source::{labels_of, pieces_of};
-use asm_lines::read_line;
+use asm_words::read_line;
 use std::alloc::Global;
 
 /// The program of a source in assembly, from word address 0 on, or the fault that decides.

@@ -1,14 +1,13 @@
 // One line at its address.
 ghost use Rattle.std.specs.Prelude.{◌≡◌, ◌≤◌, ◌+◌, true, is_some, length, min, IfOk, None};
-ghost use Rattle.asm_lines.specs.Line.{said, told};
+ghost use Rattle.asm_words.specs.Line.{said, told};
 ghost use Rattle.asm_words.specs.Labels.{label_at};
 ghost use Rattle.asm_words.specs.Encoded.{encoded};
 ghost use Rattle.asm_words.specs.Opcodes.{width};
 ghost use Rattle.asm_text.specs.Source.{behind, first_of, is_at, piece_of, placed, size, words_of};
 
 use crate::fault::LineFault;
-use asm_lines::{Instruction, Line};
-use asm_words::{Label, Piece, WordFault, encode, find_label, width};
+use asm_words::{Instruction, Label, Line, Piece, WordFault, encode, find_label, width};
 use std::collections::BTreeMap;
 
 /// The first word address past the flash.

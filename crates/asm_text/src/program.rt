@@ -1,13 +1,12 @@
 // The program as far as the lines were read.
 ghost use Rattle.std.specs.Prelude.{◌≡◌, ◌≤◌, ◌<◌, ◌+◌, ◌++◌, ◌⊎◌, length, IfErr, OnOk, IfOk};
-ghost use Rattle.asm_lines.specs.Line.{said};
+ghost use Rattle.asm_words.specs.Line.{said};
 ghost use Rattle.asm_words.specs.Labels.{label_at};
 ghost use Rattle.asm_text.specs.Source.{ended, first_known, started, taken, words_of, Progress};
 
 use crate::fault::{AsmFault, LineFault};
 use crate::line::{behind, piece_of};
-use asm_lines::Line;
-use asm_words::{Label, Piece};
+use asm_words::{Label, Line, Piece};
 use std::alloc::{AllocError, Global};
 use std::collections::BTreeMap;
 use std::marker::Model;

@@ -1,13 +1,12 @@
 // The lines of a source, and its labels.
 ghost use Rattle.std.specs.Prelude.{◌≡◌, ◌==◌, ◌+◌, ◌∷◌, ℕ, List, IfOk, OnOk, map};
 ghost use Rattle.std.specs.List.{slice_split};
-ghost use Rattle.asm_lines.specs.Line.{Said, line_of, said};
+ghost use Rattle.asm_words.specs.Line.{Said, line_of, said};
 ghost use Rattle.asm_words.specs.Labels.{label_at};
 ghost use Rattle.asm_text.specs.Source.{behind, label_in, or_else};
 
 use crate::line::behind;
-use asm_lines::{Line, read_line};
-use asm_words::{Label, add_label};
+use asm_words::{Label, Line, add_label, read_line};
 use std::alloc::{AllocError, Global};
 use std::collections::BTreeMap;
 

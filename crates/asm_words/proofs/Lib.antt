@@ -1,4 +1,5 @@
 pub mod Added
 pub mod Aliases
+pub mod Bodies
 pub mod Digits
 pub mod Tables

@@ -1,6 +1,6 @@
 -- What an alias means: the same words as its long form, whatever its operand is, and the same fault.
 use Rattle.std.specs.Prelude.{◌≡◌, ℕ, List, Option, codes}
-use Rattle.asm_lines.specs.Line.{Zero, One, Two}
+use Rattle.asm_words.specs.Line.{Zero, One, Two}
 use Rattle.asm_words.specs.Encoded.{encoded}
 use Rattle.asm_words.specs.declared.labels.Label.{Label}
 

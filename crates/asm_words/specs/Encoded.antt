@@ -3,8 +3,8 @@ use Rattle.std.specs.Prelude.{ℕ, ◌+◌, ◌*◌, ◌%◌, nat_lt, Bool, true
 use Rattle.avr_decoder.specs.declared.op.Op.{Op}
 use Rattle.avr_decoder.specs.declared.op.Op.TheVariants.{Undefined}
 use Rattle.avr_decoder.specs.Opcodes.{op_at}
-use Rattle.asm_lines.specs.Text.{is_label}
-use Rattle.asm_lines.specs.Line.{Texts, Zero, One, Two, Many}
+use Rattle.asm_words.specs.Text.{is_label}
+use Rattle.asm_words.specs.Line.{Texts, Zero, One, Two, Many}
 use Rattle.asm_words.specs.Number.{number, register}
 use Rattle.asm_words.specs.Fields.{register_bits, number_bits, pointer, flash_pointer, displaced_of}
 use Rattle.asm_words.specs.Opcodes.{bare, one, two, is_known}

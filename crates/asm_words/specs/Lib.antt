@@ -1,8 +1,10 @@
-pub mod Number
+pub mod Aliases
+pub mod Encoded
 pub mod Fields
+pub mod Labels
+pub mod Line
+pub mod Number
 pub mod Opcodes
 pub mod Table
-pub mod Labels
 pub mod Target
-pub mod Encoded
-pub mod Aliases
+pub mod Text

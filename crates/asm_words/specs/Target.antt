@@ -1,6 +1,6 @@
 -- Where a jump, a call or a branch of an assembler's source goes.
 use Rattle.std.specs.Prelude.{ℕ, ◌+◌, ◌-◌, ◌*◌, ◌/◌, ◌%◌, ◌==◌, ◌&&◌, nat_lt, nat_le, not, Bool, true, false, if◌then◌else◌, List, [], ◌∷◌, Option, Some, None, Result, Ok, Err}
-use Rattle.asm_lines.specs.Text.{is_label}
+use Rattle.asm_words.specs.Text.{is_label}
 use Rattle.asm_words.specs.Number.{number}
 use Rattle.asm_words.specs.declared.labels.Label.{Label}
 use Rattle.asm_words.specs.declared.target.Hop.{Hop}

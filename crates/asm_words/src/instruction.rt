@@ -1,15 +1,15 @@
 // The words of an instruction.
 ghost use Rattle.std.specs.Prelude.{◌≡◌, ◌≤◌, ◌||◌, true, is_some, IfOk, None};
-ghost use Rattle.asm_lines.specs.Line.{told};
+ghost use Rattle.asm_words.specs.Line.{told};
 ghost use Rattle.asm_words.specs.Labels.{label_at};
 ghost use Rattle.asm_words.specs.Opcodes.{has_word, width};
 ghost use Rattle.asm_words.specs.Encoded.{checked, encoded, no_form, one_piece, second_of, two_piece};
 
+use crate::Operands;
 use crate::form::{OneForm, TwoForm};
 use crate::labels::Label;
 use crate::opcodes::{bare, is_known, one, two};
 use crate::operand::{Part, read_operand};
-use asm_lines::Operands;
 use avr_decoder::{Op, decode};
 use std::collections::BTreeMap;
 

@@ -10,10 +10,10 @@ ghost use Rattle.asm_words.specs.Encoded.{bits_part, data_part, number_part, reg
 use crate::field::{displaced_by, flash_pointer, number_bits, pointer, register_bits};
 use crate::form::{Field, NumberField, RegisterField};
 use crate::instruction::WordFault;
+use crate::is_label;
 use crate::labels::{Label, find_label};
 use crate::number::{number, register};
 use crate::target::{reach, read_hop};
-use asm_lines::is_label;
 use std::collections::BTreeMap;
 
 /// What an operand gives.

@@ -4,9 +4,9 @@ ghost use Rattle.asm_words.specs.Labels.{label_at};
 ghost use Rattle.asm_words.specs.Target.{distance, hop_of, hop_to, hop_to_label, label_hop, reach};
 
 use crate::instruction::WordFault;
+use crate::is_label;
 use crate::labels::{Label, find_label};
 use crate::number::number;
-use asm_lines::is_label;
 use std::collections::BTreeMap;
 
 /// How far a relative jump goes from the next instruction, in words.

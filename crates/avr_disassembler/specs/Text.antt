@@ -2,7 +2,7 @@
 -- in this product's forms. A register is r and its number, a constant or an I/O address 0x and two digits, a 16-bit
 -- address 0x and four, a bit, a flag and a displacement a decimal, and an offset a distance in bytes.
 use Rattle.std.specs.Prelude.{ℕ, List, [], ◌++◌, codes, decimal}
-use Rattle.text_pieces.specs.Digits.{hex2, hex4, offset_text}
+use Rattle.sim_io.specs.Digits.{hex2, hex4, offset_text}
 use Rattle.avr_decoder.specs.declared.op.Op.{Op}
 use Rattle.avr_decoder.specs.declared.op.Op.TheVariants as op
 use Rattle.avr_disassembler.specs.declared.parts.Pointer.{Pointer}

@@ -6,7 +6,7 @@ ghost use Rattle.avr_disassembler.specs.Text.{text_of, line_of, operand_text, op
 use crate::parts::{Operand, Operands, Pointer, mnemonic_of, operands_of};
 use arrayvec::ArrayString;
 use avr_decoder::Op;
-use text_pieces::{put_decimal, put_distance, put_hex2, put_hex4};
+use sim_io::{put_decimal, put_distance, put_hex2, put_hex4};
 
 /// A pointer as it is printed.
 #[tactic(auto, unfolding(crate::specs::Text::pointer_text))]

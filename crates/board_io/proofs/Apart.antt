@@ -18,9 +18,9 @@ use Rattle.device_clocks.specs.Bits.{any_bit}
 use Rattle.device_clocks.specs.Clock.{cycles}
 use Rattle.avr_base.specs.declared.interrupts.Lines.{Lines}
 use Rattle.spi_port.specs.declared.registers.SpiReg.TheVariants as spi
-use Rattle.timer16.specs.declared.registers.Reg16.TheVariants as reg16
-use Rattle.timer16.specs.declared.timer16.Timer16.{Timer16}
-use Rattle.timer16.specs.Timer as timer16
+use Rattle.device_clocks.specs.declared.registers16.Reg16.TheVariants as reg16
+use Rattle.device_clocks.specs.declared.timer16.Timer16.{Timer16}
+use Rattle.device_clocks.specs.Timer16 as timer16
 use Rattle.usart_port.specs.declared.registers.UsartReg.TheVariants as usart
 
 abbrev with_temp : ℕ → Timer16 → Timer16

@@ -3,8 +3,8 @@ use Rattle.std.proofs.Common.{◌≡◌, ℕ, suc, ◌+◌, Bool, true, false, n
 use Rattle.std.proofs.lemmas.Bool.{and_parts}
 use Rattle.board_io.specs.declared.board.Board.{Board}
 use Rattle.board_io.specs.Cycle.{board_asks, board_begun, board_quiet, board_sends, board_serial, moved, moved_by, timers_cycle, timers_leap, usart_cycle, with_moved}
-use Rattle.byte_radio.specs.declared.radio.Moved.{Moved}
-use Rattle.byte_radio.specs.declared.radio.Radio.{Radio}
+use Rattle.spi_port.specs.declared.radio.Moved.{Moved}
+use Rattle.spi_port.specs.declared.radio.Radio.{Radio}
 use Rattle.device_clocks.specs.Clock.{cycles}
 use Rattle.device_clocks.specs.declared.transmission.Transmission.{Transmission}
 use Rattle.device_clocks.specs.Transmission.{ended_byte, is_end}

@@ -10,12 +10,12 @@ use Rattle.device_clocks.specs.declared.flags.TimerFlags.{TimerFlags}
 use Rattle.device_clocks.specs.First.{First}
 use Rattle.device_clocks.specs.declared.transmission.Transmission.{Transmission}
 use Rattle.device_clocks.specs.Transmission.{end_of, is_end}
-use Rattle.timer16.proofs.Clocks as clocks16
-use Rattle.timer16.specs.declared.timer16.Timer16.{Timer16}
-use Rattle.timer16.specs.Timer as timer16
-use Rattle.timer8.proofs.Clocks as clocks8
-use Rattle.timer8.specs.declared.timer8.Timer8.{Timer8}
-use Rattle.timer8.specs.Timer as timer8
+use Rattle.device_clocks.proofs.Clocks16 as clocks16
+use Rattle.device_clocks.specs.declared.timer16.Timer16.{Timer16}
+use Rattle.device_clocks.specs.Timer16 as timer16
+use Rattle.device_clocks.proofs.Clocks8 as clocks8
+use Rattle.device_clocks.specs.declared.timer8.Timer8.{Timer8}
+use Rattle.device_clocks.specs.Timer8 as timer8
 
 -- ---- ends
 end_at : (o : Option Transmission) (t : ℕ) → is_at (end_of o) t ≡ is_end o t

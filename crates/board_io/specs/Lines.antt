@@ -7,8 +7,8 @@ use Rattle.device_clocks.specs.Bits.{any_bit}
 use Rattle.device_clocks.specs.declared.flags.TimerFlags.{TimerFlags}
 use Rattle.avr_base.specs.declared.interrupts.Lines.{Lines}
 use Rattle.spi_port.specs.Spi.{asks_interrupt}
-use Rattle.timer16.specs.Timer as timer16
-use Rattle.timer8.specs.Timer as timer8
+use Rattle.device_clocks.specs.Timer16 as timer16
+use Rattle.device_clocks.specs.Timer8 as timer8
 use Rattle.usart_port.specs.Usart as usart
 
 -- line n of a source: its flag, and the bit that enables it

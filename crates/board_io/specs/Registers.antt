@@ -12,12 +12,12 @@ use Rattle.device_clocks.specs.Bits.{any_bit, bit}
 use Rattle.device_clocks.specs.declared.flags.TimerFlags.{TimerFlags as Flags}
 use Rattle.spi_port.specs.declared.spi.Spi.{Spi as SpiPort}
 use Rattle.spi_port.specs.Registers as spi
-use Rattle.timer16.specs.declared.timer16.Timer16.{Timer16}
-use Rattle.timer16.specs.Registers as reg16
-use Rattle.timer16.specs.Timer as timer16
-use Rattle.timer8.specs.declared.timer8.Timer8.{Timer8}
-use Rattle.timer8.specs.Registers as reg8
-use Rattle.timer8.specs.Timer as timer8
+use Rattle.device_clocks.specs.declared.timer16.Timer16.{Timer16}
+use Rattle.device_clocks.specs.Registers16 as reg16
+use Rattle.device_clocks.specs.Timer16 as timer16
+use Rattle.device_clocks.specs.declared.timer8.Timer8.{Timer8}
+use Rattle.device_clocks.specs.Registers8 as reg8
+use Rattle.device_clocks.specs.Timer8 as timer8
 use Rattle.usart_port.specs.declared.usart.Usart.{Usart}
 use Rattle.usart_port.specs.Registers as usart
 

@@ -4,11 +4,8 @@ ghost use Rattle.std.specs.List.{range_with_len};
 ghost use Rattle.board_io.specs.Table.{start_of};
 
 use crate::Clock;
-use byte_radio::Radio;
-use device_clocks::{Prescaler, any_bit};
-use spi_port::Spi;
-use timer8::Timer8;
-use timer16::Timer16;
+use device_clocks::{Prescaler, Timer8, Timer16, any_bit};
+use spi_port::{Radio, Spi};
 use usart_port::Usart;
 
 const DDRB: usize = 0x37;

@@ -3,9 +3,8 @@ ghost use Rattle.std.specs.Prelude.{◌≡◌, slice_index_or};
 ghost use Rattle.board_io.specs.Table.{rule_of};
 
 use avr_base::StopCause;
+use device_clocks::{Chan, Reg8, Reg16};
 use spi_port::SpiReg;
-use timer8::Reg8;
-use timer16::{Chan, Reg16};
 use usart_port::UsartReg;
 
 /// How a read and a write of an I/O register go (ATmega128 datasheet, the register descriptions).

@@ -2,8 +2,7 @@
 use crate::calling::Outcome;
 use arrayvec::ArrayString;
 use avrora_top::Status;
-use sim_io::{Sink, SinkFault, write_all};
-use text_pieces::put_decimal;
+use sim_io::{Sink, SinkFault, put_decimal, write_all};
 
 // Of a text of more lines than this only the first two and the last two are written.
 const MOST_LINES: usize = 20;

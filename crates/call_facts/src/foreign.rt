@@ -1,7 +1,7 @@
 // Images that nobody wrote as a program.
 use arrayvec::ArrayString;
+use sim_io::put_hex2;
 use std::alloc::{AllocError, Global};
-use text_pieces::put_hex2;
 
 // A word after a word: a linear congruential generator of 16 bits.
 fn word_after(word: u16) -> u16 {

@@ -1,8 +1,7 @@
 // What is written of a run.
 use crate::calling::Outcome;
 use arrayvec::ArrayString;
-use sim_io::{Sink, SinkFault, write_all};
-use text_pieces::put_decimal;
+use sim_io::{Sink, SinkFault, put_decimal, write_all};
 
 // `NAME N`
 fn write_number<O: Sink>(name: &str, number: u64, out: &mut O) -> Result<(), SinkFault> {

@@ -1,8 +1,7 @@
 // The rows of a series.
 use arrayvec::ArrayString;
-use sim_io::{Sink, SinkFault, write_all};
+use sim_io::{Sink, SinkFault, put_decimal, write_all};
 use std::alloc::Global;
-use text_pieces::put_decimal;
 
 /// The calls of a series so far: equal outcomes of calls one after another are one row.
 #[derive(Drop)]

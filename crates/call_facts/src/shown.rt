@@ -1,8 +1,8 @@
 // What is told of a call.
 use crate::calling::Outcome;
 use arrayvec::ArrayString;
+use sim_io::put_decimal;
 use std::alloc::{AllocError, Global};
-use text_pieces::put_decimal;
 
 /// What a call is to write where nothing fails, to the stream that may fail.
 #[derive(Clone, Copy)]

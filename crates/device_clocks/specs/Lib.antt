@@ -3,6 +3,11 @@ pub mod Clock
 pub mod Counter
 pub mod First
 pub mod Flags
+pub mod Mode
 pub mod Prescaler
+pub mod Registers16
+pub mod Registers8
 pub mod Timer
+pub mod Timer16
+pub mod Timer8
 pub mod Transmission

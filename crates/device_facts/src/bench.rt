@@ -6,12 +6,9 @@ use crate::radio::do_radio;
 use crate::serial::{do_script, do_usart};
 use crate::timers::{do_timer8, do_timer16};
 use crate::transfers::do_spi;
-use byte_radio::Radio;
-use device_clocks::Prescaler;
-use spi_port::Spi;
+use device_clocks::{Prescaler, Timer8, Timer16};
+use spi_port::{Radio, Spi};
 use std::alloc::{AllocError, Global};
-use timer8::Timer8;
-use timer16::Timer16;
 use usart_port::Usart;
 
 /// What a line comes to.

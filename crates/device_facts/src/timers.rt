@@ -1,9 +1,7 @@
 // What is done to a timer.
 use crate::answers::Answer;
 use crate::numbers::{byte, cycle};
-use device_clocks::{Prescaler, TimerFlags};
-use timer8::{Reg8, Timer8};
-use timer16::{Chan, Reg16, Timer16};
+use device_clocks::{Chan, Prescaler, Reg8, Reg16, Timer8, Timer16, TimerFlags};
 
 fn flag(name: &str) -> Option<TimerFlags> {
     let none = TimerFlags::NONE;

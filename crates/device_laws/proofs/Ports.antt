@@ -6,12 +6,12 @@ use Rattle.std.specs.Int.Bits.{and_self}
 use Rattle.std.proofs.lemmas.Nat.{and_assoc}
 use Rattle.avr_base.specs.declared.stop.StopCause.TheVariants as stop
 use Rattle.avr_base.proofs.Computed.{all_from, all_from-at}
-use Rattle.byte_radio.specs.declared.radio.Moved.{Moved}
-use Rattle.byte_radio.specs.declared.radio.Moved.TheVariants.{Answer, Send, Ask}
-use Rattle.byte_radio.specs.declared.radio.Radio.{Radio}
-use Rattle.byte_radio.specs.declared.radio.RadioState.{RadioState}
-use Rattle.byte_radio.specs.declared.radio.RadioState.TheVariants.{Idle, ToSend, ToSample, Status, Byte, Age}
-use Rattle.byte_radio.specs.Radio.{in_state, radio_transfer, selected_transfer}
+use Rattle.spi_port.specs.declared.radio.Moved.{Moved}
+use Rattle.spi_port.specs.declared.radio.Moved.TheVariants.{Answer, Send, Ask}
+use Rattle.spi_port.specs.declared.radio.Radio.{Radio}
+use Rattle.spi_port.specs.declared.radio.RadioState.{RadioState}
+use Rattle.spi_port.specs.declared.radio.RadioState.TheVariants.{Idle, ToSend, ToSample, Status, Byte, Age}
+use Rattle.spi_port.specs.Radio.{in_state, radio_transfer, selected_transfer}
 use Rattle.device_clocks.specs.Bits.{any_bit}
 use Rattle.device_clocks.specs.declared.transmission.Transmission.{Transmission}
 use Rattle.spi_port.specs.declared.registers.SpiReg.{SpiReg}

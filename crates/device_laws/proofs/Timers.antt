@@ -9,19 +9,19 @@ use Rattle.device_clocks.specs.Clock.{cycles}
 use Rattle.device_clocks.specs.declared.prescaler.Prescaler.{Prescaler}
 use Rattle.device_clocks.specs.declared.prescaler.Prescaler.TheVariants.{Shared}
 use Rattle.device_clocks.specs.Prescaler.{is_pin}
-use Rattle.timer8.specs.declared.registers.Reg8.{Reg8}
-use Rattle.timer8.specs.declared.registers.Reg8.TheVariants as reg8
-use Rattle.timer8.specs.declared.timer8.Timer8.{Timer8}
-use Rattle.timer8.specs.Registers.{put_of as put_8}
-use Rattle.timer8.specs.Timer as timer8
-use Rattle.timer16.specs.declared.mode.Mode16.{Mode16}
-use Rattle.timer16.specs.declared.registers.Reg16.{Reg16}
-use Rattle.timer16.specs.declared.registers.Reg16.TheVariants as reg16
-use Rattle.timer16.specs.declared.registers.Chan.{Chan}
-use Rattle.timer16.specs.declared.registers.Chan.TheVariants as chan
-use Rattle.timer16.specs.declared.timer16.Timer16.{Timer16}
-use Rattle.timer16.specs.Registers.{get_of as get_16, put_of as put_16, with_compare, with_control_a, with_control_b}
-use Rattle.timer16.specs.Timer as timer16
+use Rattle.device_clocks.specs.declared.registers8.Reg8.{Reg8}
+use Rattle.device_clocks.specs.declared.registers8.Reg8.TheVariants as reg8
+use Rattle.device_clocks.specs.declared.timer8.Timer8.{Timer8}
+use Rattle.device_clocks.specs.Registers8.{put_of as put_8}
+use Rattle.device_clocks.specs.Timer8 as timer8
+use Rattle.device_clocks.specs.declared.mode.Mode16.{Mode16}
+use Rattle.device_clocks.specs.declared.registers16.Reg16.{Reg16}
+use Rattle.device_clocks.specs.declared.registers16.Reg16.TheVariants as reg16
+use Rattle.device_clocks.specs.declared.registers16.Chan.{Chan}
+use Rattle.device_clocks.specs.declared.registers16.Chan.TheVariants as chan
+use Rattle.device_clocks.specs.declared.timer16.Timer16.{Timer16}
+use Rattle.device_clocks.specs.Registers16.{get_of as get_16, put_of as put_16, with_compare, with_control_a, with_control_b}
+use Rattle.device_clocks.specs.Timer16 as timer16
 use Rattle.device_laws.specs.States.{IsTimer16, IsTimer8}
 
 -- two results of a write that did not stop

@@ -1,7 +1,8 @@
+pub mod Accepted
 pub mod Fault
 pub mod Flash
-pub mod Line
+pub mod Hex
 pub mod Image
+pub mod Line
 pub mod Pass
-pub mod Accepted
 pub mod Written

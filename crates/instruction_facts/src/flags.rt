@@ -1,5 +1,5 @@
 // Cases of one rule for a result and the flags.
-use alu_flags::{MulKind, add, adiw, asr, com, dec, inc, logic, lsr, mul, neg, ror, sbiw, sub};
+use arith_step::{MulKind, add, adiw, asr, com, dec, inc, logic, lsr, mul, neg, ror, sbiw, sub};
 use avr_base::Sreg;
 
 /// A rule on one byte, by its name. Of `logic`, which has no result, the result is 0.

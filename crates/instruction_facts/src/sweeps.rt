@@ -1,7 +1,7 @@
 // A rule at all its operands, as one number: results and flags in order are mixed into a polynomial in 65,537 modulo
 // the prime 2^31 - 1.
 use crate::flags::{on_byte, product};
-use alu_flags::{add, adiw, mul, sbiw, sub};
+use arith_step::{add, adiw, mul, sbiw, sub};
 use avr_base::Sreg;
 
 fn mixed(sum: u64, value: u16, s: Sreg) -> u64 {

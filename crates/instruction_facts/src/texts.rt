@@ -4,7 +4,7 @@ use arrayvec::ArrayString;
 use avr_base::StopCause;
 use avr_decoder::{Class, decode, one_row_at_most, width};
 use avr_disassembler::{line, text};
-use text_pieces::{put_decimal, put_distance, put_hex2, put_hex4};
+use sim_io::{put_decimal, put_distance, put_hex2, put_hex4};
 
 // The causes by their numbers, from 1 on.
 static CAUSES: [StopCause; 26] = [

@@ -2,8 +2,8 @@
 use Rattle.std.proofs.Common.{◌≡◌, ℕ, ◌<◌, ◌==◌, ◌&&◌, nat_lt, int_lt, ◌+◌, true, false, ap, ◌∙◌}
 use Rattle.avr_base.specs.Flags.{has_flag}
 use Rattle.avr_base.specs.declared.sreg.Sreg.{Sreg}
-use Rattle.alu_flags.specs.Bytes.{subtracted}
-use Rattle.alu_flags.specs.Whole.{one_if, signed}
+use Rattle.arith_step.specs.Bytes.{subtracted}
+use Rattle.arith_step.specs.Whole.{one_if, signed}
 use Rattle.instruction_laws.specs.Branches.{word}
 use Rattle.instruction_laws.proofs.Flags.{carry_of, sign_of, zero_of}
 use Rattle.instruction_laws.proofs.Signs.{byte_equal, byte_less, byte_lower, is_zero, sign, word_equal, word_less, word_lower}

@@ -1,7 +1,7 @@
 -- Single flags of a flags byte that others were put into.
 use Rattle.std.proofs.Common.{◌≡◌, ℕ, ◌==◌, Bool, true, false, ap, ◌∙◌, arith}
 use Rattle.avr_base.specs.Flags.{has_flag, with_flag}
-use Rattle.alu_flags.specs.Whole.{with_carries, with_sign, xor}
+use Rattle.arith_step.specs.Whole.{with_carries, with_sign, xor}
 
 set_0 : (s : ℕ) (on : Bool) → has_flag (with_flag s 0 on) 0 ≡ on
 unfolding with_flag

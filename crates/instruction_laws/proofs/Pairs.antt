@@ -2,8 +2,8 @@
 use Rattle.std.proofs.Common.{◌≡◌, ◌≢◌, ℕ, ◌+◌, ◌-◌, ◌%◌, ◌<◌, nat_le, nat_lt, Bool, true, false, refl, ap, ◌∙◌}
 use Rattle.avr_base.specs.Flags.{has_flag}
 use Rattle.avr_base.specs.declared.sreg.Sreg.{Sreg}
-use Rattle.alu_flags.specs.Bytes.{added, subtracted}
-use Rattle.alu_flags.specs.Whole.{one_if}
+use Rattle.arith_step.specs.Bytes.{added, subtracted}
+use Rattle.arith_step.specs.Whole.{one_if}
 use Rattle.data_space.specs.declared.cpu.Cpu.{Cpu}
 use Rattle.instruction_laws.specs.Branches.{AreApart, IsCompared, IsCore, reg, word, word_in}
 use Rattle.instruction_laws.proofs.Compared.{alone, going_on, lower, words_equal, words_less, words_lower}

@@ -4,7 +4,7 @@
 use Rattle.std.proofs.Common.{◌≡◌, ℕ, ◌+◌, ◌-◌, ◌%◌, ◌<◌, ◌==◌, ◌&&◌, nat_le, nat_lt, Bool, false, arith, pos, ◌-ℤ◌, int_lt}
 use Rattle.std.proofs.lemmas.Bool.Decides.{nat_tests}
 use Rattle.std.proofs.lemmas.Int.{ints}
-use Rattle.alu_flags.specs.Whole.{one_if, overflows, signed, xor}
+use Rattle.arith_step.specs.Whole.{one_if, overflows, signed, xor}
 use Rattle.instruction_laws.specs.Branches.{word}
 
 -- bit 7 and the overflow of a - b - borrow

@@ -1,7 +1,7 @@
 -- Sums and differences of words, byte by byte.
 use Rattle.std.proofs.Common.{◌≡◌, ℕ, ◌+◌, ◌-◌, ◌%◌, ◌<◌, nat_le, nat_lt, false, arith}
 use Rattle.std.proofs.lemmas.Bool.Decides.{nat_tests}
-use Rattle.alu_flags.specs.Whole.{one_if}
+use Rattle.arith_step.specs.Whole.{one_if}
 use Rattle.instruction_laws.specs.Branches.{word}
 
 module _ (al ah bl bh : ℕ) (f : al < 256) (g : bl < 256) (h : ah < 256) (k : bh < 256) where

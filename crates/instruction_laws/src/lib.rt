@@ -12,7 +12,7 @@ ghost use Rattle.arith_step.specs.Table.{arith_cpu};
 ghost use Rattle.data_space.specs.declared.cpu.Cpu.{Cpu};
 ghost use Rattle.instruction_laws.specs.Branches.{AreApart, AreBytes, IsCompared, IsCore, both, branches, reg, word, word_in};
 ghost use Rattle.data_space.specs.Core.{advanced, with_reg};
-ghost use Rattle.alu_flags.specs.Whole.{signed};
+ghost use Rattle.arith_step.specs.Whole.{signed};
 ghost use Rattle.flow_step.specs.Table.{flow_effect};
 ghost use Rattle.memory_step.specs.Table.{memory_effect};
 ghost use Rattle.instruction_laws.specs.Stack.{Accesses, ComesBack, IsStack, TakesReturn, ended, then_memory};

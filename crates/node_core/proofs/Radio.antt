@@ -5,7 +5,7 @@ use Rattle.avr_base.specs.declared.stop.StopCause.{StopCause}
 use Rattle.avr_decoder.specs.declared.op.Op.{Op}
 use Rattle.board_io.specs.declared.board.Board.{Board}
 use Rattle.board_io.proofs.Radio as board
-use Rattle.byte_radio.specs.declared.radio.Radio.{Radio}
+use Rattle.spi_port.specs.declared.radio.Radio.{Radio}
 use Rattle.data_space.specs.declared.bus.Done.{Done}
 use Rattle.data_space.specs.declared.cpu.Cpu.{Cpu}
 use Rattle.data_space.specs.Space.{Access}

@@ -6,7 +6,7 @@ use Rattle.asm_text.specs.declared.fault.AsmFault.{AsmFault}
 use Rattle.ihex_loader.specs.Flash.{Image}
 use Rattle.ihex_loader.specs.Image.{hex_fault, image}
 use Rattle.ihex_loader.specs.declared.fault.HexFault.{HexFault}
-use Rattle.ihex_writer.specs.Hex.{hex_of}
+use Rattle.ihex_loader.specs.Hex.{hex_of}
 use Rattle.scenario_file.specs.Scenario.{ScenarioParts, scenario_in}
 use Rattle.scenario_file.specs.declared.fault.ScenarioFault.{ScenarioFault}
 use Rattle.node_runner.specs.Scenario.{ScenarioOf}

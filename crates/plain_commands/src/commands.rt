@@ -11,7 +11,7 @@ use crate::listing::write_listing;
 use crate::network::{lone_node, write_size, write_trace};
 use crate::reports::report;
 use crate::trouble::Trouble;
-use ihex_writer::hex_text;
+use ihex_loader::hex_text;
 use node_runner::Scenario;
 use sim_io::{Sink, Store, write_all};
 use std::alloc::Global;

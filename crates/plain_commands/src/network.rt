@@ -14,9 +14,8 @@ use fleet_plain::PlainRun;
 use ihex_loader::Flash;
 use node_runner::Scenario;
 use scenario_file::ScenarioText;
-use sim_io::{Sink, write_all};
+use sim_io::{Sink, put_decimal, write_all};
 use std::alloc::Global;
-use text_pieces::put_decimal;
 use usart_port::Script;
 use world_core::Topo;
 

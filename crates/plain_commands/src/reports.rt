@@ -7,8 +7,7 @@ ghost use Rattle.plain_commands.specs.Parts.{end_at, end_of, LineSaid, Reported,
 use crate::Status;
 use crate::trouble::{Complaint, ImageCause, ScenarioCause, SourceCause, Trouble};
 use arrayvec::ArrayString;
-use sim_io::{Sink, SinkFault, write_all};
-use text_pieces::put_decimal;
+use sim_io::{Sink, SinkFault, put_decimal, write_all};
 
 // Writes a line: what stands before the name of a file, the name, and what stands behind it.
 fn say<E: Sink>(err: &mut E, before: &str, name: &str, after: &str) -> Result<(), SinkFault>

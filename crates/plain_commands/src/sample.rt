@@ -12,9 +12,8 @@ use crate::trouble::Trouble;
 use arrayvec::ArrayString;
 use fleet_plain::run_plain;
 use sample_maker::{Counts, count, make};
-use sim_io::{Sink, write_all};
+use sim_io::{Sink, put_decimal, write_all};
 use std::alloc::Global;
-use text_pieces::put_decimal;
 use trace_rows::Row;
 
 /// How many nodes the sample has.

@@ -1,8 +1,7 @@
 // What is written of a run.
 use crate::running::Run;
 use arrayvec::ArrayString;
-use sim_io::{Sink, SinkFault, write_all};
-use text_pieces::{put_decimal, put_hex2};
+use sim_io::{Sink, SinkFault, put_decimal, put_hex2, write_all};
 use trace_rows::{Kind, Row};
 
 fn is_instruction(row: &Row) -> bool {

@@ -1,3 +1,4 @@
+pub mod Digits
 pub mod Failed
 pub mod Outside
 pub mod Stream

@@ -1,2 +1,3 @@
+pub mod Radio
 pub mod Registers
 pub mod Spi

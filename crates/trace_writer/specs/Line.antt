@@ -5,7 +5,7 @@ use Rattle.std.specs.List.{flat_map}
 use Rattle.avr_base.specs.Causes.{cause_text}
 use Rattle.avr_decoder.specs.Opcodes.{op_at}
 use Rattle.avr_disassembler.specs.Text.{line_of}
-use Rattle.text_pieces.specs.Digits.{hex2, hex4}
+use Rattle.sim_io.specs.Digits.{hex2, hex4}
 use Rattle.trace_rows.specs.declared.row.Row.{Row}
 use Rattle.trace_rows.specs.declared.row.Kind.{Kind}
 use Rattle.trace_rows.specs.declared.row.Kind.TheVariants.{Instr, Enter, Serial, Sent, Heard, Stop, End}

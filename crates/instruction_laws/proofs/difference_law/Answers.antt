@@ -1,7 +1,7 @@
 use Rattle.std.proofs.Common.{false, refl}
 use Rattle.arith_step.specs.Shapes.{subtracts, subtracts_with_carry}
 use Rattle.arith_step.specs.Table.{effect}
-use Rattle.alu_flags.specs.Bytes.{subtracted}
+use Rattle.arith_step.specs.Bytes.{subtracted}
 use Rattle.instruction_laws.specs.Branches.{reg}
 use Rattle.instruction_laws.proofs.Pairs.{compared, differs}
 use Rattle.instruction_laws.proofs.Registers.{put, still}

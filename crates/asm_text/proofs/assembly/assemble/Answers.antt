@@ -1,6 +1,6 @@
 use Rattle.std.proofs.Common.{◌≡◌, ◌+◌, ◌∷◌, ◌<◌, length, drop, map, sym, ap, ◌∙◌, arith, inl, inr, ⊎_elim}
 use Rattle.std.proofs.lemmas.List.{get_or-map, length-map}
-use Rattle.asm_lines.specs.Line.{line_of, said}
+use Rattle.asm_words.specs.Line.{line_of, said}
 use Rattle.asm_words.specs.Labels.{label_at}
 use Rattle.asm_text.specs.Source.{assembled, assembled_from, label_in, started}
 use Rattle.asm_text.proofs.Labels.{from_place}

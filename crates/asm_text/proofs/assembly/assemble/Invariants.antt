@@ -1,5 +1,5 @@
 use Rattle.std.proofs.Common.{◌≡◌, drop, map}
-use Rattle.asm_lines.specs.Line.{line_of}
+use Rattle.asm_words.specs.Line.{line_of}
 use Rattle.asm_words.specs.Labels.{label_at}
 use Rattle.asm_text.specs.Source.{assembled_from, started}
 use Rattle.asm_text.proofs.assembly.assemble.Given as goal

@@ -1,6 +1,6 @@
 use Rattle.std.proofs.Common.{◌≡◌, ◌+◌, ◌∷◌, ◌<◌, length, drop, map, sym, ap, ◌∙◌, arith}
 use Rattle.std.proofs.lemmas.List.{get_or-map, length-map}
-use Rattle.asm_lines.specs.Line.{line_of, said}
+use Rattle.asm_words.specs.Line.{line_of, said}
 use Rattle.asm_words.specs.Labels.{label_at}
 use Rattle.asm_text.specs.Source.{label_in, or_else}
 use Rattle.asm_text.proofs.Labels.{from_place}

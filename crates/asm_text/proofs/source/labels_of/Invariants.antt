@@ -1,5 +1,5 @@
 use Rattle.std.proofs.Common.{◌≡◌, ◌≤◌, ℕ, List, drop, map}
-use Rattle.asm_lines.specs.Line.{line_of}
+use Rattle.asm_words.specs.Line.{line_of}
 use Rattle.asm_words.specs.Labels.{label_at}
 use Rattle.asm_text.specs.Source.{label_in, or_else}
 use Rattle.asm_text.proofs.source.labels_of.Given as goal

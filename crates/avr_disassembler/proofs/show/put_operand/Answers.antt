@@ -1,7 +1,7 @@
 use Rattle.std.proofs.Common.{◌++◌, ap, sym, ◌∙◌, arith}
 use Rattle.std.specs.Prelude.{codes, decimal}
 use Rattle.avr_disassembler.specs.Text.{operand_text}
-use Rattle.text_pieces.proofs.Behind.{behind}
+use Rattle.sim_io.proofs.Behind.{behind}
 use Rattle.avr_disassembler.proofs.show.put_operand.Goals as goal
 
 pub returns-in-Register-clause-bytes : goal.returns-in-Register-clause-bytes

@@ -1,7 +1,7 @@
 use Rattle.std.proofs.Common.{◌++◌, ap, sym, ◌∙◌, arith}
 use Rattle.std.specs.Prelude.{codes}
 use Rattle.avr_disassembler.specs.Text.{operand_text, operands_text}
-use Rattle.text_pieces.proofs.Behind.{behind}
+use Rattle.sim_io.proofs.Behind.{behind}
 use Rattle.avr_disassembler.proofs.show.put_operands.Goals as goal
 
 pub returns-in-One-clause-bytes : goal.returns-in-One-clause-bytes

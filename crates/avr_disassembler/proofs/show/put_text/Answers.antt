@@ -1,6 +1,6 @@
 use Rattle.std.proofs.Common.{◌≡◌, ◌++◌, length, ap, ◌∙◌, arith, rules}
 use Rattle.avr_disassembler.specs.Text.{shown, operands_text, text_of}
-use Rattle.text_pieces.proofs.Behind.{behind}
+use Rattle.sim_io.proofs.Behind.{behind}
 use Rattle.avr_disassembler.proofs.Short.{short}
 use Rattle.avr_disassembler.proofs.show.put_text.Goals as goal
 

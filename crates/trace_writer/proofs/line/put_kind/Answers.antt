@@ -1,9 +1,9 @@
 use Rattle.std.proofs.Common.{◌++◌, ap, sym, ◌∙◌, arith}
 use Rattle.std.specs.Prelude.{codes, decimal}
 use Rattle.avr_base.specs.Causes.{cause_text}
-use Rattle.text_pieces.specs.Digits.{hex2, hex4}
+use Rattle.sim_io.specs.Digits.{hex2, hex4}
 use Rattle.trace_writer.specs.Line.{kind_text, state_text}
-use Rattle.text_pieces.proofs.Behind.{behind}
+use Rattle.sim_io.proofs.Behind.{behind}
 use Rattle.trace_writer.proofs.line.put_kind.Goals as goal
 
 pub returns-in-Enter-clause-bytes : goal.returns-in-Enter-clause-bytes

@@ -1,7 +1,0 @@
-use Rattle.std.proofs.Common.{get_or, ap, ◌∙◌, arith}
-use Rattle.alu_flags.specs.declared.flags.TheConstants.{SIGNS}
-use Rattle.alu_flags.proofs.Signs.{sign_is}
-use Rattle.alu_flags.proofs.flags.signs_at.Goals as goal
-
-pub returns-clause-value : goal.returns-clause-value
-returns-clause-value c = ap (λ i. get_or SIGNS i 0) c.from.ensures ∙ sign_is c.args.r (omega arith)

@@ -1,4 +1,0 @@
-pub mod Whole
-pub mod Bytes
-pub mod Words
-pub mod Signs

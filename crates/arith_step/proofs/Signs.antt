@@ -1,0 +1,76 @@
+-- The flags of a result from a table, and put into a flags byte at once: tests over all bytes and flags.
+use Rattle.std.proofs.Common.{◌≡◌, ℕ, ◌+◌, ◌%◌, ◌<◌, ◌==◌, nat_le, Bool, true, false, ◌&&◌, if◌then◌else◌, refl, ap, ◌∙◌, bit_and, bit_or, bit_xor, arith, get_or, zero-add, ◌-◌, pos, ◌+ℤ◌, ◌-ℤ◌}
+use Rattle.std.proofs.lemmas.Bool.Decides.{nat_tests}
+use Rattle.std.proofs.lemmas.Int.{ints}
+use Rattle.std.specs.Prelude.{map}
+use Rattle.std.specs.List.{range_with_len}
+use Rattle.std.proofs.lemmas.Bool.{eqb-true}
+use Rattle.std.proofs.lemmas.List.FromFn.{get_or-map-range_with_len}
+use Rattle.avr_base.specs.Flags.{with_flag}
+use Rattle.avr_base.proofs.Computed.{all_from, all_from-at}
+use Rattle.arith_step.specs.Signs.{difference_overflows, sum_overflows}
+use Rattle.arith_step.specs.Whole.{one_if, overflows, signed, signs_of, with_sign}
+use Rattle.arith_step.specs.declared.flags.TheConstants.{SIGNS}
+
+-- ---- the table
+abbrev plain : ℕ → ℕ
+plain r = signs_of (nat_le 128 r) (r == 0) false
+
+signs_are : SIGNS ≡ map plain (range_with_len 0 256)
+signs_are = refl
+
+pub sign_is : (r : ℕ) → r < 256 → get_or SIGNS r 0 ≡ signs_of (nat_le 128 r) (r == 0) false
+sign_is r h = ap (λ rs. get_or rs r 0) signs_are ∙ get_or-map-range_with_len plain 0 256 r r 0 h (zero-add r)
+
+pub turned : (n z : Bool) → bit_xor (signs_of n z false) 24 ≡ signs_of n z true
+turned true true = refl
+turned true false = refl
+turned false true = refl
+turned false false = refl
+
+pub cleared : (n z v : Bool) → bit_and (signs_of n z v) 253 ≡ signs_of n false v
+cleared true true true = refl
+cleared true true false = refl
+cleared true false true = refl
+cleared true false false = refl
+cleared false true true = refl
+cleared false true false = refl
+cleared false false true = refl
+cleared false false false = refl
+
+pub kept_zero : (keep had zero : Bool) → ((if keep then had else true) && zero) ≡ (if keep then had && zero else zero)
+kept_zero true had zero = refl
+kept_zero false had zero = refl
+
+-- ---- overflow by signs
+pub sum_by_signs : (a b : ℕ) (carry : Bool) → a < 256 → b < 256 → sum_overflows a b ((a + b + one_if carry) % 256) ≡ overflows 128 (signed 128 a +ℤ signed 128 b +ℤ pos (one_if carry))
+sum_by_signs a b true f g = grind (arith, ints, nat_tests)
+sum_by_signs a b false f g = grind (arith, ints, nat_tests)
+
+pub difference_by_signs : (a b : ℕ) (borrow : Bool) → a < 256 → b < 256 → difference_overflows a b ((a + 256 - (b + one_if borrow)) % 256) ≡ overflows 128 (signed 128 a -ℤ signed 128 b -ℤ pos (one_if borrow))
+difference_by_signs a b true f g = grind (arith, ints, nat_tests)
+difference_by_signs a b false f g = grind (arith, ints, nat_tests)
+
+pub increment_by_signs : (a : ℕ) → a < 256 → ((a + 1) % 256 == 128) ≡ overflows 128 (signed 128 a +ℤ pos 1)
+increment_by_signs a f = grind (arith, ints, nat_tests)
+
+pub decrement_by_signs : (a : ℕ) → a < 256 → ((a + 255) % 256 == 127) ≡ overflows 128 (signed 128 a -ℤ pos 1)
+decrement_by_signs a f = grind (arith, ints, nat_tests)
+
+-- ---- the flags of a byte but for these four, and these four
+abbrev fits : Bool → Bool → Bool → ℕ → Bool
+fits n z v s = bit_or (bit_and s 225) (signs_of n z v) == with_sign n z v s
+
+fit : (n z v : Bool) → all_from (fits n z v) 0 256 ≡ true
+unfolding with_sign with_flag
+fit true true true = refl
+fit true true false = refl
+fit true false true = refl
+fit true false false = refl
+fit false true true = refl
+fit false true false = refl
+fit false false true = refl
+fit false false false = refl
+
+pub put_at_once : (n z v : Bool) (s : ℕ) → s < 256 → bit_or (bit_and s 225) (signs_of n z v) ≡ with_sign n z v s
+put_at_once n z v s h = eqb-true _ _ (all_from-at (fits n z v) 0 256 s (fit n z v) (omega arith) (omega arith))

@@ -1,0 +1,16 @@
+use Rattle.std.proofs.Common.{◌==◌, nat_le, Bool, bit_xor, ap, sym, ◌∙◌}
+use Rattle.arith_step.specs.Whole.{signs_of}
+use Rattle.arith_step.proofs.Signs.{turned}
+use Rattle.arith_step.proofs.flags.signs_of.Goals as goal
+
+pub returns-then-v : goal.returns-then-v
+returns-then-v c =
+    let n = nat_le 128 c.args.r in
+    let z = c.args.r == 0 in
+    ap (λ x. bit_xor x 24) c.signs_at-signs.ensures.value ∙ (turned n z ∙ ap (λ (v : Bool). signs_of n z v) (sym c.if-v.true))
+
+pub returns-else-v : goal.returns-else-v
+returns-else-v c =
+    let n = nat_le 128 c.args.r in
+    let z = c.args.r == 0 in
+    c.signs_at-signs.ensures.value ∙ ap (λ (v : Bool). signs_of n z v) (sym c.if-v.false)

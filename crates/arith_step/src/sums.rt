@@ -1,0 +1,42 @@
+// Sums and bitwise results of bytes.
+ghost use Rattle.std.specs.Prelude.{◌≡◌, ◌+ℤ◌, pos};
+ghost use Rattle.arith_step.specs.Whole.{one_if, signed};
+ghost use Rattle.arith_step.specs.Bytes.{added, incremented, logical};
+
+use crate::flags::{carries, result};
+use crate::signed::sum_overflows;
+use avr_base::Sreg;
+
+/// ADD and ADC: `a + b + carry` modulo 256, and the flags C, Z, N, V, S and H of that sum in `s`; T and I stay.
+#[inline]
+#[tactic(auto, unfolding(crate::specs::Bytes::added), using(crate::proofs::Signs::sum_by_signs))]
+pub fn add(a: u8, b: u8, carry: bool, s: Sreg) -> (u8, Sreg)
+    ensures { result ≡ added a b carry s }
+{
+    let one = u16::from(carry);
+    let sum = u16::from(a) + u16::from(b) + one;
+    let low = u16::from(a % 16) + u16::from(b % 16) + one;
+    let r = (sum % 256) as u8;
+    let v = sum_overflows(a, b, r);
+    let s = carries(s, sum >= 256, low >= 16);
+    (r, result(s, r, v))
+}
+
+/// The flags of a bitwise result `r`, as of AND, OR and EOR: N, Z and S of it, V cleared; C, H, T and I stay.
+#[inline]
+#[tactic(auto, unfolding(crate::specs::Bytes::logical))]
+pub fn logic(r: u8, s: Sreg) -> Sreg
+    ensures { result ≡ logical r s }
+{
+    result(s, r, false)
+}
+
+/// INC: `a + 1` modulo 256, and N, Z, V and S of that sum; C, H, T and I stay.
+#[inline]
+#[tactic(auto, unfolding(crate::specs::Bytes::incremented), using(crate::proofs::Signs::increment_by_signs))]
+pub fn inc(a: u8, s: Sreg) -> (u8, Sreg)
+    ensures { result ≡ incremented a s }
+{
+    let r = a.wrapping_add(1);
+    (r, result(s, r, r == 128))
+}

@@ -1,4 +1,0 @@
-pub mod Digits
-pub mod Lines
-pub mod Wrote
-pub mod Whole

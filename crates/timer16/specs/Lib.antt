@@ -1,3 +1,0 @@
-pub mod Mode
-pub mod Registers
-pub mod Timer
