@@ -194,6 +194,7 @@ class Check:
 
     def __init__(self, room, crate, copies):
         self.room, self.crate = room, crate
+        self.began = time.monotonic()
         self.seconds = 0.0
         room.clear(crate)
         with open(room.log(crate), "wb") as said:
@@ -237,6 +238,7 @@ class Order:
     """In which order crates are proved, and by how many copies each."""
 
     def __init__(self, crates):
+        self.crates = crates
         measured = measured_seconds()
         self.works = {it.name: measured.get(it.name) or it.likely_seconds() for it in crates.values()}
         self.above = {name: set() for name in crates}
@@ -247,11 +249,24 @@ class Order:
             self.above[crate.name] = set(users).union(*(self.above[it] for it in users))
             self.ways[crate.name] = self.works[crate.name] + max((self.ways[it] for it in users), default=0)
 
-    def copies(self, crate, undone, lanes):
+    def copies(self, crate, undone, running, lanes):
         """How many copies share the check of a crate: the processors that no other crate can use while it lasts."""
+        if crate.is_program:
+            return 1  # it has one function, and most of its time goes into what is done in one piece
         work = self.works[crate.name]
+        left = {name: self.works[name] for name in undone}
+        for check in running:
+            left[check.crate.name] = max(0.0, self.works[check.crate.name] - (time.monotonic() - check.began))
+        starts = {}
+
+        def starts_in(name):
+            """In how many seconds a crate can begin at the earliest."""
+            if name not in starts:
+                starts[name] = max((starts_in(it) + left[it] for it in self.crates[name].uses if it in undone), default=0.0)
+            return starts[name]
+
         beside = [it for it in undone if it != crate.name and it not in self.above[crate.name]]
-        taken = sum(min(1, self.works[it] / work) for it in beside)
+        taken = sum(max(0.0, min(left[it], work - starts_in(it))) / work for it in beside)
         return max(1, min(MOST_COPIES, lanes, round(lanes - taken)))
 
 
@@ -280,7 +295,7 @@ def prove(room, names):
             ready = [it for it in waiting if not undone.intersection(crates[it].uses)]
             for name in ready[: lanes - len(running)]:
                 waiting.remove(name)
-                running.append(Check(room, crates[name], order.copies(crates[name], undone, lanes)))
+                running.append(Check(room, crates[name], order.copies(crates[name], undone, running, lanes)))
             tell(len(names) - len(undone), len(names), False)
             time.sleep(0.1)
             for check in [it for it in running if it.ended()]:

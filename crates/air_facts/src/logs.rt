@@ -6,9 +6,8 @@ use crate::answer::Answer;
 use crate::fault::Fault;
 use crate::plain::are_inside;
 use air_cases::own_sends;
-use send_log::SendLog;
 use std::alloc::Global;
-use world_core::{Send, Topo};
+use world_core::{Send, SendLog, Topo};
 
 // Whether all these sends lie below a cycle.
 fn are_below(sends: &[Send], cycle: u64) -> bool

@@ -2,10 +2,9 @@
 use crate::fault::Fault;
 use crate::logs::push;
 use air_cases::{Section, byte_of, copy_of, samples_of, send_of, sends_of};
-use send_log::SendLog;
 use std::alloc::Global;
 use sync_core::Step;
-use world_core::{Ask, Heard, Send};
+use world_core::{Ask, Heard, Send, SendLog};
 
 /// What is set, for the questions to come.
 #[derive(Drop)]

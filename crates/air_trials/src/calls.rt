@@ -1,8 +1,8 @@
 // Many steps on the words, one after another.
 ghost use Rattle.std.specs.Prelude.{◌≡◌, ◌≤◌, ◌<◌, []};
 
-use clock_words::{AirSeat, Clocks, NodeSeat};
 use list_world::ListWorld;
+use neighbour_sync::{AirSeat, Clocks, NodeSeat};
 
 #[tactic(auto, using(crate::proofs::Silent::none_below))]
 /// Raises the clock of a silent node through each cycle up to the last, and answers where it then stands.

@@ -3,17 +3,15 @@
 ghost use Rattle.std.specs.Prelude.{◌≡◌, ◌+◌, ◌≤◌, ◌<◌, [], IfSome};
 ghost use Rattle.std.specs.List.{All};
 ghost use Rattle.world_core.specs.Sends.{sends_of};
-ghost use Rattle.clock_words.specs.Seats.{AreFirstNodes, first_node};
-ghost use Rattle.air_record.specs.Record.{epoch};
+ghost use Rattle.neighbour_sync.specs.Seats.{AreFirstNodes, first_node};
+ghost use Rattle.neighbour_sync.specs.Record.{epoch};
 ghost use Rattle.neighbour_sync.specs.Parts.{AreParts};
 
 use crate::nodes::{are_early, sample_all, send_all};
 use crate::world::line_world;
 use air_cases::own_sends;
-use air_record::Air;
-use clock_words::Clocks;
 use list_world::ListWorld;
-use neighbour_sync::{NodeAir, Session, Shared, open_air};
+use neighbour_sync::{Air, Clocks, NodeAir, Session, Shared, open_air};
 use std::alloc::Global;
 use std::marker::Brand;
 use std::sync::Wait;

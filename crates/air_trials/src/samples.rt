@@ -4,9 +4,8 @@ ghost use Rattle.std.specs.Prelude.{◌≡◌, ◌≤◌, ◌<◌, ◌+◌, ◌*
 ghost use Rattle.std.specs.List.{All};
 ghost use Rattle.world_core.specs.Topology.{IsInside};
 
-use send_log::SendLog;
 use std::alloc::Global;
-use world_core::{Link, NoMemory, Send, Topo};
+use world_core::{Link, NoMemory, Send, SendLog, Topo};
 
 const NODES: u8 = 64;
 

@@ -1,9 +1,9 @@
 // The clock words of two nodes that send nothing.
 ghost use Rattle.std.specs.Prelude.{◌≡◌, [], IfSome};
-ghost use Rattle.clock_words.specs.Seats.{AreFirstNodes, first_node};
+ghost use Rattle.neighbour_sync.specs.Seats.{AreFirstNodes, first_node};
 
-use clock_words::{AirSeat, Clocks, NodeSeat};
 use list_world::ListWorld;
+use neighbour_sync::{AirSeat, Clocks, NodeSeat};
 use std::alloc::Global;
 use world_core::Topo;
 

@@ -36,8 +36,7 @@ fn note_label<'t>(
                 line: index,
                 address: at,
             };
-            add_label(labels, name, label)?;
-            Ok(())
+            add_label(labels, name, label)
         }
     }
 }

@@ -1,7 +1,7 @@
 // From the words of the command line to the exit status.
 use crate::top::avrora;
 use fleet_threads::OpenGate;
-use plain_commands::{borrowed, owned_words};
+use plain_commands::words_given;
 use sim_io::{DirStore, StdSink};
 use std::env::Env;
 use std::fs::Files;
@@ -21,24 +21,21 @@ pub fn run_program<R: Env + AllocGlobal + Files + Print + Threads + Wait + Sync,
     err: W,
 ) -> ExitCode {
     let mut err = StdSink::new(err);
-    let number = match owned_words(rt) {
-        Some(owned) => match borrowed(rt.alloc(), owned.as_slice()) {
-            Ok(words) => {
-                let mut store = DirStore::new(rt);
-                let mut out = StdSink::new(io::writer(rt));
-                avrora(
-                    rt,
-                    rt.alloc(),
-                    words.as_slice(),
-                    &mut store,
-                    &mut out,
-                    &mut err,
-                    &OpenGate,
-                )
-                .number()
-            }
-            Err(_) => NO_WORDS,
-        },
+    let number = match words_given(rt) {
+        Some(words) => {
+            let mut store = DirStore::new(rt);
+            let mut out = StdSink::new(io::writer(rt));
+            avrora(
+                rt,
+                rt.alloc(),
+                words,
+                &mut store,
+                &mut out,
+                &mut err,
+                &OpenGate,
+            )
+            .number()
+        }
         None => NO_WORDS,
     };
     ExitCode::from(number)

@@ -1,14 +1,12 @@
-// The commands that run each node on a thread of its own.
-ghost use Rattle.std.specs.Prelude.{◌≡◌};
-ghost use Rattle.command_words.specs.Words.{Run};
-ghost use Rattle.plain_commands.specs.Plan.{SampleJob, TraceJob, plan_of};
-ghost use Rattle.plain_commands.specs.Ends.{reads, stream};
-ghost use Rattle.plain_commands.specs.Parts.{JobEnds, Called};
+// The tasks in which each node has a thread of its own.
+ghost use Rattle.plain_commands.specs.Plan.{SampleJob, TraceJob};
+ghost use Rattle.plain_commands.specs.Ends.{stream};
+ghost use Rattle.plain_commands.specs.Parts.{IsShort, JobEnds, job_at};
 
 use fleet_threads::{Gate, ThreadRun, run_threads};
 use node_runner::Scenario;
-use plain_commands::{NODES, Status, Trouble, read_network, report, write_counts};
-use sim_io::{Sink, Store};
+use plain_commands::{NODES, Task, Trouble, do_task, write_counts};
+use sim_io::Sink;
 use std::alloc::Global;
 use std::sync::Wait;
 use std::thread::Threads;
@@ -38,34 +36,8 @@ fn write_trace<'n, R: Threads + Wait + Sync, O: Sink, G: Gate + Sync>(
     Ok(())
 }
 
-/// `run FILE`: the trace of the network of the scenario in `file`, each node on a thread of its own.
-pub fn run<'w, R: Threads + Wait + Sync, S: Store, O: Sink, E: Sink, G: Gate + Sync>(
-    rt: &R,
-    alloc: Global,
-    file: &'w str,
-    store: &mut S,
-    out: &mut O,
-    err: &mut E,
-    gate: &G,
-) -> Status
-    ensures held { S.held store.new ≡ S.held store.old }
-    ensures called { Called (S.held store.old) (plan_of (Run file.entry.now))
-        (reads (S.faults store.old) (S.failed store.old)) (reads (S.faults store.new) (S.failed store.new))
-        (stream (O.taken out.old) (O.faults out.old)) (stream (O.taken out.new) (O.faults out.new))
-        (stream (E.taken err.old) (E.faults err.old)) (stream (E.taken err.new) (E.faults err.new)) result }
-{
-    match read_network(alloc, file, store, err) {
-        Ok(network) => {
-            let outcome = write_trace(rt, alloc, &network, out, gate);
-            report(err, outcome)
-        }
-        Err(status) => status,
-    }
-}
-
-/// `make NUMBER`: runs the sample of a number, each of its nodes on a thread of its own, and writes how often they sent and what
-/// they heard. It reads no file.
-pub fn write_sample<'n, R: Threads + Wait + Sync, O: Sink, G: Gate + Sync>(
+// Runs the sample of a number, each of its nodes on a thread of its own, and writes how often they sent and what they heard.
+fn write_sample<'n, R: Threads + Wait + Sync, O: Sink, G: Gate + Sync>(
     rt: &R,
     alloc: Global,
     number: u16,
@@ -81,4 +53,22 @@ pub fn write_sample<'n, R: Threads + Wait + Sync, O: Sink, G: Gate + Sync>(
         return Err(Trouble::NoMemory);
     };
     write_counts(number, rows.as_slice(), out)
+}
+
+/// Does a task: the runs of `run FILE` and `make NUMBER` give each node a thread of its own, and all else is done on this one.
+pub fn do_on_threads<'n, R: Threads + Wait + Sync, O: Sink, G: Gate + Sync>(
+    rt: &R,
+    alloc: Global,
+    task: Task,
+    out: &mut O,
+    gate: &G,
+) -> Result<(), Trouble<'n>>
+    requires { IsShort task }
+    ensures { JobEnds (job_at task) (stream (O.taken out.old) (O.faults out.old)) (stream (O.taken out.new) (O.faults out.new)) result }
+{
+    match task {
+        Task::Trace(network) => write_trace(rt, alloc, &network, out, gate),
+        Task::Sample(number) => write_sample(rt, alloc, number, out, gate),
+        task => do_task(alloc, task, out),
+    }
 }

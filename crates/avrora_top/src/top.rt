@@ -3,10 +3,9 @@ ghost use Rattle.std.specs.Prelude.{◌≡◌, map};
 ghost use Rattle.plain_commands.specs.Ends.{reads, stream};
 ghost use Rattle.plain_commands.specs.TopClause.{TopClause};
 
-use crate::threads::{run, write_sample};
-use command_words::Order;
+use crate::threads::do_on_threads;
 use fleet_threads::Gate;
-use plain_commands::{Status, obey, read_order, report};
+use plain_commands::{Status, prepare, report};
 use sim_io::{Sink, Store};
 use std::alloc::Global;
 use std::sync::Wait;
@@ -29,13 +28,11 @@ pub fn avrora<'w, R: Threads + Wait + Sync, S: Store, O: Sink, E: Sink, G: Gate 
         (stream (O.taken out.old) (O.faults out.old)) (stream (O.taken out.new) (O.faults out.new))
         (stream (E.taken err.old) (E.faults err.old)) (stream (E.taken err.new) (E.faults err.new)) result }
 {
-    match read_order(alloc, words, err) {
-        Ok(Order::Run { file }) => run(rt, alloc, file, store, out, err, gate),
-        Ok(Order::Make { number }) => {
-            let outcome = write_sample(rt, alloc, number, out, gate);
+    match prepare(alloc, words, store, err) {
+        Ok(task) => {
+            let outcome = do_on_threads(rt, alloc, task, out, gate);
             report(err, outcome)
         }
-        Ok(order) => obey(alloc, order, store, out, err),
         Err(status) => status,
     }
 }

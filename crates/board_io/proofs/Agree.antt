@@ -1,16 +1,17 @@
 -- The array of rules in the code is the table, no address past it has a row, and the start values.
-use Rattle.std.proofs.Common.{◌≡◌, ℕ, ◌==◌, ◌<◌, ◌≤◌, nat_lt, Bool, true, false, List, [], ◌∷◌, Err, refl, ap, ◌∙◌, arith, zero-add, get_or}
-use Rattle.std.specs.Prelude.{map, replicate, slice_set}
+use Rattle.std.proofs.Common.{◌≡◌, ℕ, ◌==◌, ◌<◌, ◌≤◌, nat_lt, Bool, true, false, List, [], ◌∷◌, Ok, Err, refl, sym, ap, ◌∙◌, arith, zero-add, get_or}
+use Rattle.std.specs.Prelude.{IfErr, IfOk, OnErr, Result, map, replicate, slice_set}
 use Rattle.std.specs.List.{list_all, list_any, range_with_len}
 use Rattle.std.proofs.lemmas.Bool.{and_parts}
 use Rattle.std.proofs.lemmas.Bool.Decides.{nat_tests}
 use Rattle.std.proofs.lemmas.List.FromFn.{get_or-map-range_with_len}
+use Rattle.avr_base.specs.declared.stop.StopCause.{StopCause}
 use Rattle.avr_base.specs.declared.stop.StopCause.TheVariants as stop
 use Rattle.board_io.specs.declared.board.Board.{Board}
 use Rattle.board_io.specs.declared.rules.Rule.{Rule}
 use Rattle.board_io.specs.declared.rules.Rule.TheVariants.{Reserved}
 use Rattle.board_io.specs.declared.rules.TheConstants.{RULES}
-use Rattle.board_io.specs.Registers.{get_by, io_get, io_put, put_by}
+use Rattle.board_io.specs.Registers.{IsGot, get_by, io_get, io_put, put_by}
 use Rattle.board_io.specs.Table.{RegisterRow, first_rule, rule_of, start_of, table}
 
 rules_are : RULES ≡ map rule_of (range_with_len 0 256)
@@ -54,9 +55,23 @@ unfolding io_put
 put_past b at x h = ap (λ r. put_by r b at x) (rule_past at (omega arith))
 
 -- ---- an access, by the rule that the array has
-pub get_ruled : (b : Board) (at : ℕ) (r : Rule) → r ≡ rule_of at → get_by r b at ≡ io_get b at
-unfolding io_get
-get_ruled b at r e = ap (λ (k : Rule). get_by k b at) e
+module _ (b : Board) (at : ℕ) (rule : Rule) (e : rule ≡ rule_of at) where
+  ruled : get_by rule b at ≡ io_get b at
+  unfolding io_get
+  ruled = ap (λ (k : Rule). get_by k b at) e
+
+  pub get_ok : (r : Result ℕ StopCause) (c : Board) → IsGot (get_by rule b at) b r c → IfOk r (λ x. io_get b at ≡ Ok (x, c))
+  get_ok (Ok x) c h = sym ruled ∙ h
+  get_ok (Err cause) c h = tt
+
+  pub get_err : (r : Result ℕ StopCause) (c : Board) → IsGot (get_by rule b at) b r c → IfErr r (λ cause. io_get b at ≡ Err cause)
+  get_err (Ok x) c h = tt
+  get_err (Err cause) c h = sym ruled ∙ h.0
+
+-- a refused access changes nothing
+pub got_same : (g : Result (ℕ × Board) StopCause) (b c : Board) (r : Result ℕ StopCause) → IsGot g b r c → OnErr r (c ≡ b)
+got_same g b c (Ok x) h = tt
+got_same g b c (Err cause) h = h.1
 
 -- ---- after reset
 pub starts_are : slice_set (slice_set (slice_set (slice_set (slice_set (slice_set (replicate 256 0) 0x54 0x01) 0x71 0xF8) 0x72 0xFE) 0x73 0xFF) 0x9B 0x20) 0x9D 0x06

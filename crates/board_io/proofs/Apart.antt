@@ -1,6 +1,6 @@
 -- An access that looks at no timer is the same on a board whose timers lag, and leaves what is known of it.
 use Rattle.std.proofs.Common.{◌≡◌, ◌≢◌, ℕ, zero, suc, ◌+◌, ◌-◌, ◌/◌, ◌==◌, ◌&&◌, not, if◌then◌else◌, Bool, true, false, Result, Ok, Err, refl, sym, ap, ◌∙◌, subst, arith}
-use Rattle.std.specs.Prelude.{bit_and, IfOk, OnOk, IfErr, OnErr}
+use Rattle.std.specs.Prelude.{bit_and}
 use Rattle.std.proofs.lemmas.Bool.{and_parts, eq-eqb}
 use Rattle.std.proofs.lemmas.List.{get_or-set_other}
 use Rattle.avr_base.specs.declared.stop.StopCause.{StopCause}
@@ -12,16 +12,16 @@ use Rattle.board_io.specs.Board.{kept_at, with_kept}
 use Rattle.board_io.specs.Cycle.{board_quiet, timers_leap}
 use Rattle.board_io.specs.Lagging.{IsAhead, caught_up, is_no_mask, reads_apart, reads_timer, writes_apart}
 use Rattle.board_io.specs.Lines.{lines_of}
-use Rattle.board_io.specs.Registers.{get_by, put_by}
+use Rattle.board_io.specs.Registers.{IsGot, IsPut, get_by, put_by}
 use Rattle.board_io.proofs.Radio.{get_by_clock, put_by_clock}
 use Rattle.device_clocks.specs.Bits.{any_bit}
 use Rattle.device_clocks.specs.Clock.{cycles}
 use Rattle.avr_base.specs.declared.interrupts.Lines.{Lines}
-use Rattle.spi_port.specs.declared.registers.SpiReg.TheVariants as spi
+use Rattle.serial_ports.specs.declared.spi_registers.SpiReg.TheVariants as spi
 use Rattle.device_clocks.specs.declared.registers16.Reg16.TheVariants as reg16
 use Rattle.device_clocks.specs.declared.timer16.Timer16.{Timer16}
 use Rattle.device_clocks.specs.Timer16 as timer16
-use Rattle.usart_port.specs.declared.registers.UsartReg.TheVariants as usart
+use Rattle.serial_ports.specs.declared.usart_registers.UsartReg.TheVariants as usart
 
 abbrev with_temp : ℕ → Timer16 → Timer16
 with_temp x u = record u { temp = x }
@@ -123,10 +123,9 @@ timer_like (Timer3 _) b at e = itself b
 timer_like (Usart0 reg) b at e = absurd (false_true e)
 timer_like (Spi reg) b at e = absurd (false_true e)
 
-pub timer_ahead : (rule : Rule) (b c : Board) (at : ℕ) (a : Ahead) (r : Result ℕ StopCause) → reads_timer rule ≡ true
-    → IfOk r (λ x. get_by rule b at ≡ Ok (x, c)) → OnErr r (c ≡ b) → IsAhead a b → IsAhead a c
-timer_ahead rule b c at a (Ok x) e h same k = like_ahead a b c (subst (LikeGot b) h (timer_like rule b at e)) k
-timer_ahead rule b c at a (Err cause) e h same k = subst (IsAhead a) (sym same) k
+pub timer_ahead : (rule : Rule) (b c : Board) (at : ℕ) (a : Ahead) (r : Result ℕ StopCause) → reads_timer rule ≡ true → IsGot (get_by rule b at) b r c → IsAhead a b → IsAhead a c
+timer_ahead rule b c at a (Ok x) e h k = like_ahead a b c (subst (LikeGot b) h (timer_like rule b at e)) k
+timer_ahead rule b c at a (Err cause) e h k = subst (IsAhead a) (sym h.1) k
 
 module _ (rule : Rule) (b : Board) (at s : ℕ) (e : reads_apart rule ≡ true) where
   got : (g : Result (ℕ × Board) StopCause) → get_by rule b at ≡ g → GotApart b s (b.clock - s) g (get_by rule (caught_up s b) at)
@@ -138,25 +137,22 @@ module _ (rule : Rule) (b : Board) (at s : ℕ) (e : reads_apart rule ≡ true) 
       let later : timers_leap s (b.clock - s) c ≡ caught_up s c = ap (λ (t : ℕ). timers_leap s (t - s) c) (sym g.1.clock) in
       subst (λ (w : Board). get_by rule w at ≡ Ok (x, caught_up s c)) is (g.0 ∙ ap (λ (w : Board). let r : Result (ℕ × Board) StopCause = Ok (x, w) in r) later)
 
-  pub read_ok_by : (r : Result ℕ StopCause) (c v : Board) → caught_up s b ≡ v → IfOk r (λ x. get_by rule b at ≡ Ok (x, c)) → IfOk r (λ x. get_by rule v at ≡ Ok (x, caught_up s c))
-  read_ok_by (Ok x) c v is h = read_ok x c v h is
-  read_ok_by (Err cause) c v is h = tt
+  pub read_by : (r : Result ℕ StopCause) (c v : Board) → caught_up s b ≡ v → IsGot (get_by rule b at) b r c → IsGot (get_by rule v at) v r (caught_up s c)
+  read_by (Ok x) c v is h = read_ok x c v h is
+  read_by (Err cause) c v is h = (subst (λ (w : Board). get_by rule w at ≡ Err cause) is (got (Err cause) h.0), ap (caught_up s) h.1 ∙ is)
 
-  pub read_err_by : (r : Result ℕ StopCause) (v : Board) → caught_up s b ≡ v → IfErr r (λ cause. get_by rule b at ≡ Err cause) → IfErr r (λ cause. get_by rule v at ≡ Err cause)
-  read_err_by (Ok x) v is h = tt
-  read_err_by (Err cause) v is h = subst (λ (w : Board). get_by rule w at ≡ Err cause) is (got (Err cause) h)
+  pub read_ahead_by : (r : Result ℕ StopCause) (a : Ahead) (c : Board) → IsGot (get_by rule b at) b r c → IsAhead a b → IsAhead a c
+  read_ahead_by (Ok x) a c h k = like_ahead a b c (got (Ok (x, c)) h).1 k
+  read_ahead_by (Err cause) a c h k = subst (IsAhead a) (sym h.1) k
 
-  pub read_ahead_by : (r : Result ℕ StopCause) (a : Ahead) (c : Board) → IfOk r (λ x. get_by rule b at ≡ Ok (x, c)) → OnErr r (c ≡ b) → IsAhead a b → IsAhead a c
-  read_ahead_by (Ok x) a c h same k = like_ahead a b c (got (Ok (x, c)) h).1 k
-  read_ahead_by (Err cause) a c h same k = subst (IsAhead a) (sym same) k
+pub read_clock : (rule : Rule) (b c : Board) (at : ℕ) (r : Result ℕ StopCause) → IsGot (get_by rule b at) b r c → c.clock ≡ b.clock
+read_clock rule b c at (Ok x) h = get_by_clock rule b c at x h
+read_clock rule b c at (Err cause) h = ap (λ (d : Board). d.clock) h.1
 
-pub same_by : {R : Type 0} (r : Result R StopCause) (s : ℕ) (b c v : Board) → caught_up s b ≡ v → OnErr r (c ≡ b) → OnErr r (caught_up s c ≡ v)
-same_by (Ok x) s b c v is h = tt
-same_by (Err cause) s b c v is h = ap (caught_up s) h ∙ is
-
-pub read_clock : (rule : Rule) (b c : Board) (at : ℕ) (r : Result ℕ StopCause) → IfOk r (λ x. get_by rule b at ≡ Ok (x, c)) → OnErr r (c ≡ b) → c.clock ≡ b.clock
-read_clock rule b c at (Ok x) h same = get_by_clock rule b c at x h
-read_clock rule b c at (Err cause) h same = ap (λ (d : Board). d.clock) same
+-- what a read did on the board that it was caught up to, is told of the board's value before and after it
+pub read_late : (rule : Rule) (at : ℕ) (r : Result ℕ StopCause) (b v c w : Board) → b ≡ v → w ≡ c → IsGot (get_by rule b at) b r c → IsGot (get_by rule v at) v r w
+read_late rule at r b v c w now new h =
+    subst (λ (d : Board). IsGot (get_by rule v at) v r d) (sym new) (subst (λ (d : Board). IsGot (get_by rule d at) d r c) now h)
 
 -- ---- writes
 abbrev PutApart : Board → ℕ → ℕ → Result Board StopCause → Result Board StopCause → Type 0
@@ -212,18 +208,19 @@ module _ (rule : Rule) (b : Board) (at x s : ℕ) (e : writes_apart rule at ≡ 
       let later : timers_leap s (b.clock - s) c ≡ caught_up s c = ap (λ (t : ℕ). timers_leap s (t - s) c) (sym g.1.clock) in
       subst (λ (w : Board). put_by rule w at x ≡ Ok (caught_up s c)) is (g.0 ∙ ap (λ (w : Board). let r : Result Board StopCause = Ok w in r) later)
 
-  pub write_ok_by : (r : Result (Unit {0}) StopCause) (c v : Board) → caught_up s b ≡ v → OnOk r (put_by rule b at x ≡ Ok c) → OnOk r (put_by rule v at x ≡ Ok (caught_up s c))
-  write_ok_by (Ok u) c v is h = write_ok c v h is
-  write_ok_by (Err cause) c v is h = tt
+  pub write_by : (r : Result (Unit {0}) StopCause) (c v : Board) → caught_up s b ≡ v → IsPut (put_by rule b at x) b r c → IsPut (put_by rule v at x) v r (caught_up s c)
+  write_by (Ok u) c v is h = write_ok c v h is
+  write_by (Err cause) c v is h = (subst (λ (w : Board). put_by rule w at x ≡ Err cause) is (done (Err cause) h.0), ap (caught_up s) h.1 ∙ is)
 
-  pub write_err_by : (r : Result (Unit {0}) StopCause) (v : Board) → caught_up s b ≡ v → IfErr r (λ cause. put_by rule b at x ≡ Err cause) → IfErr r (λ cause. put_by rule v at x ≡ Err cause)
-  write_err_by (Ok u) v is h = tt
-  write_err_by (Err cause) v is h = subst (λ (w : Board). put_by rule w at x ≡ Err cause) is (done (Err cause) h)
+  pub write_ahead_by : (r : Result (Unit {0}) StopCause) (a : Ahead) (c : Board) → IsPut (put_by rule b at x) b r c → IsAhead a b → IsAhead a c
+  write_ahead_by (Ok u) a c h k = like_ahead a b c (done (Ok c) h).1 k
+  write_ahead_by (Err cause) a c h k = subst (IsAhead a) (sym h.1) k
 
-  pub write_ahead_by : (r : Result (Unit {0}) StopCause) (a : Ahead) (c : Board) → OnOk r (put_by rule b at x ≡ Ok c) → OnErr r (c ≡ b) → IsAhead a b → IsAhead a c
-  write_ahead_by (Ok u) a c h same k = like_ahead a b c (done (Ok c) h).1 k
-  write_ahead_by (Err cause) a c h same k = subst (IsAhead a) (sym same) k
+pub write_clock : (rule : Rule) (b c : Board) (at x : ℕ) (r : Result (Unit {0}) StopCause) → IsPut (put_by rule b at x) b r c → c.clock ≡ b.clock
+write_clock rule b c at x (Ok u) h = put_by_clock rule b c at x h
+write_clock rule b c at x (Err cause) h = ap (λ (d : Board). d.clock) h.1
 
-pub write_clock : (rule : Rule) (b c : Board) (at x : ℕ) (r : Result (Unit {0}) StopCause) → OnOk r (put_by rule b at x ≡ Ok c) → OnErr r (c ≡ b) → c.clock ≡ b.clock
-write_clock rule b c at x (Ok u) h same = put_by_clock rule b c at x h
-write_clock rule b c at x (Err cause) h same = ap (λ (d : Board). d.clock) same
+-- so a write
+pub write_late : (rule : Rule) (at x : ℕ) (r : Result (Unit {0}) StopCause) (b v c w : Board) → b ≡ v → w ≡ c → IsPut (put_by rule b at x) b r c → IsPut (put_by rule v at x) v r w
+write_late rule at x r b v c w now new h =
+    subst (λ (d : Board). IsPut (put_by rule v at x) v r d) (sym new) (subst (λ (d : Board). IsPut (put_by rule d at x) d r c) now h)

@@ -4,9 +4,9 @@ use Rattle.board_io.specs.declared.ahead.Ahead.{Ahead}
 use Rattle.board_io.specs.declared.board.Board.{Board}
 use Rattle.board_io.specs.Board.{clock_at, sleep_mode, unclocked}
 use Rattle.board_io.specs.Cycle.{board_answered, board_asks, board_begun, board_quiet, board_sends, board_serial, moved, moved_by, samples, sends, timers_cycle, timers_leap, transfer_end, usart_cycle, with_moved}
-use Rattle.spi_port.specs.declared.radio.Moved.{Moved}
-use Rattle.spi_port.specs.declared.radio.Moved.TheVariants.{Answer, Send, Ask}
-use Rattle.spi_port.specs.declared.radio.Radio.{Radio}
+use Rattle.serial_ports.specs.declared.radio.Moved.{Moved}
+use Rattle.serial_ports.specs.declared.radio.Moved.TheVariants.{Answer, Send, Ask}
+use Rattle.serial_ports.specs.declared.radio.Radio.{Radio}
 use Rattle.world_core.specs.declared.air.Heard.{Heard}
 use Rattle.board_io.specs.Lagging.{IsAhead, IsIdle, caught_up}
 use Rattle.board_io.specs.Lines.{lines_of}

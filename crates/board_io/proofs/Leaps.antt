@@ -3,14 +3,14 @@ use Rattle.std.proofs.Common.{◌≡◌, ℕ, suc, ◌+◌, Bool, true, false, n
 use Rattle.std.proofs.lemmas.Bool.{and_parts}
 use Rattle.board_io.specs.declared.board.Board.{Board}
 use Rattle.board_io.specs.Cycle.{board_asks, board_begun, board_quiet, board_sends, board_serial, moved, moved_by, timers_cycle, timers_leap, usart_cycle, with_moved}
-use Rattle.spi_port.specs.declared.radio.Moved.{Moved}
-use Rattle.spi_port.specs.declared.radio.Radio.{Radio}
+use Rattle.serial_ports.specs.declared.radio.Moved.{Moved}
+use Rattle.serial_ports.specs.declared.radio.Radio.{Radio}
 use Rattle.device_clocks.specs.Clock.{cycles}
 use Rattle.device_clocks.specs.declared.transmission.Transmission.{Transmission}
 use Rattle.device_clocks.specs.Transmission.{ended_byte, is_end}
-use Rattle.spi_port.specs.Spi as spi
-use Rattle.usart_port.specs.declared.usart.Usart.{Usart}
-use Rattle.usart_port.specs.Usart as usart
+use Rattle.serial_ports.specs.Spi as spi
+use Rattle.serial_ports.specs.declared.usart.Usart.{Usart}
+use Rattle.serial_ports.specs.Usart as usart
 
 not_true : (x : Bool) → not x ≡ true → x ≡ false
 not_true false e = refl

@@ -11,21 +11,21 @@ use Rattle.board_io.specs.Cycle.{board_answered, board_asks, board_begun, board_
 use Rattle.board_io.specs.Lines.{entered_of}
 use Rattle.board_io.specs.Registers.{get_by, io_get, io_put, put_by, with_spi, with_t0, with_t1, with_t2, with_t3, with_usart}
 use Rattle.board_io.specs.Table.{rule_of}
-use Rattle.spi_port.proofs.Laws.{transfer_free, transfer_gap, transfer_sends}
-use Rattle.spi_port.specs.declared.radio.Moved.{Moved}
-use Rattle.spi_port.specs.declared.radio.Moved.TheVariants.{Answer, Send, Ask}
-use Rattle.spi_port.specs.declared.radio.Radio.{Radio}
-use Rattle.spi_port.specs.Radio.{radio_transfer}
+use Rattle.serial_ports.proofs.Laws.{transfer_free, transfer_gap, transfer_sends}
+use Rattle.serial_ports.specs.declared.radio.Moved.{Moved}
+use Rattle.serial_ports.specs.declared.radio.Moved.TheVariants.{Answer, Send, Ask}
+use Rattle.serial_ports.specs.declared.radio.Radio.{Radio}
+use Rattle.serial_ports.specs.Radio.{radio_transfer}
 use Rattle.device_clocks.specs.Bits.{any_bit}
 use Rattle.device_clocks.specs.Transmission.{ended_byte}
-use Rattle.spi_port.specs.declared.spi.Spi.{Spi as SpiPort}
-use Rattle.spi_port.specs.Registers as spi
+use Rattle.serial_ports.specs.declared.spi.Spi.{Spi as SpiPort}
+use Rattle.serial_ports.specs.SpiRegisters as spi
 use Rattle.device_clocks.specs.declared.timer16.Timer16.{Timer16}
 use Rattle.device_clocks.specs.Registers16 as reg16
 use Rattle.device_clocks.specs.declared.timer8.Timer8.{Timer8}
 use Rattle.device_clocks.specs.Registers8 as reg8
-use Rattle.usart_port.specs.declared.usart.Usart.{Usart}
-use Rattle.usart_port.specs.Registers as usart
+use Rattle.serial_ports.specs.declared.usart.Usart.{Usart}
+use Rattle.serial_ports.specs.UsartRegisters as usart
 use Rattle.world_core.specs.declared.air.Heard.{Heard}
 
 -- ---- a cycle

@@ -2,10 +2,10 @@
 use Rattle.std.proofs.Common.{◌≡◌, ℕ, if◌then◌else◌, Bool, true, false, refl, ap}
 use Rattle.device_clocks.specs.Bits.{any_bit}
 use Rattle.device_clocks.specs.Transmission.{ended_byte}
-use Rattle.usart_port.specs.declared.inbox.Inbox.{Inbox}
-use Rattle.usart_port.specs.declared.inbox.Inbox.TheVariants.{Empty, One, Two}
-use Rattle.usart_port.specs.declared.usart.Usart.{Usart}
-use Rattle.usart_port.specs.Usart.{arrived, buffered, cut, frame_ended}
+use Rattle.serial_ports.specs.declared.inbox.Inbox.{Inbox}
+use Rattle.serial_ports.specs.declared.inbox.Inbox.TheVariants.{Empty, One, Two}
+use Rattle.serial_ports.specs.declared.usart.Usart.{Usart}
+use Rattle.serial_ports.specs.Usart.{arrived, buffered, cut, frame_ended}
 
 buffered_frame : (inbox : Inbox) (x : ℕ) (u : Usart) → (buffered inbox x u).frame ≡ u.frame
 buffered_frame Empty x u = refl

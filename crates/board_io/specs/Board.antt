@@ -6,13 +6,13 @@ use Rattle.board_io.specs.declared.board.Board.{Board}
 use Rattle.board_io.specs.declared.board.Sleep.{Sleep}
 use Rattle.board_io.specs.declared.board.Sleep.TheVariants.{Off, Idle, Other}
 use Rattle.board_io.specs.Table.{start_of}
-use Rattle.spi_port.specs.Radio.{reset_radio}
+use Rattle.serial_ports.specs.Radio.{reset_radio}
 use Rattle.device_clocks.specs.Bits.{any_bit}
 use Rattle.device_clocks.specs.declared.prescaler.Prescaler.TheVariants.{Own, Shared}
-use Rattle.spi_port.specs.Spi.{reset_spi}
+use Rattle.serial_ports.specs.Spi.{reset_spi}
 use Rattle.device_clocks.specs.Timer16 as timer16
 use Rattle.device_clocks.specs.Timer8 as timer8
-use Rattle.usart_port.specs.Usart.{reset_usart}
+use Rattle.serial_ports.specs.Usart.{reset_usart}
 
 abbrev pub reset_board : ℕ → Board
 reset_board byte_time = record {

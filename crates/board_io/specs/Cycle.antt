@@ -4,17 +4,17 @@
 use Rattle.std.specs.Prelude.{ℕ, ◌&&◌, not, Bool, true, false, Option, Some, None}
 use Rattle.board_io.specs.declared.board.Board.{Board}
 use Rattle.board_io.specs.Board.{selected}
-use Rattle.spi_port.specs.declared.radio.Moved.{Moved}
-use Rattle.spi_port.specs.declared.radio.Moved.TheVariants.{Answer, Send, Ask}
-use Rattle.spi_port.specs.declared.radio.Radio.{Radio}
-use Rattle.spi_port.specs.Radio.{radio_transfer, radio_answered}
+use Rattle.serial_ports.specs.declared.radio.Moved.{Moved}
+use Rattle.serial_ports.specs.declared.radio.Moved.TheVariants.{Answer, Send, Ask}
+use Rattle.serial_ports.specs.declared.radio.Radio.{Radio}
+use Rattle.serial_ports.specs.Radio.{radio_transfer, radio_answered}
 use Rattle.device_clocks.specs.Clock.{cycles}
 use Rattle.device_clocks.specs.Transmission.{ended_byte}
-use Rattle.spi_port.specs.Spi as spi
+use Rattle.serial_ports.specs.Spi as spi
 use Rattle.device_clocks.specs.Timer16 as timer16
 use Rattle.device_clocks.specs.Timer8 as timer8
-use Rattle.usart_port.specs.declared.usart.Usart.{Usart}
-use Rattle.usart_port.specs.Usart as usart
+use Rattle.serial_ports.specs.declared.usart.Usart.{Usart}
+use Rattle.serial_ports.specs.Usart as usart
 use Rattle.world_core.specs.declared.air.Heard.{Heard}
 
 abbrev pub timers_cycle : ℕ → Board → Board

@@ -7,10 +7,10 @@ use Rattle.board_io.specs.Cycle.{board_quiet, timers_leap}
 use Rattle.board_io.specs.Lines.{lines_of}
 use Rattle.board_io.specs.declared.rules.Rule.{Rule}
 use Rattle.board_io.specs.declared.rules.Rule.TheVariants.{Reserved, Pin, Kept, Guarded, WatchdogControl, ResetFlags, CpuControl, TimerFlags, ExtendedTimerFlags, Timer0, Timer1, Timer2, Timer3, Usart0, Spi}
-use Rattle.spi_port.specs.declared.registers.SpiReg.{SpiReg}
-use Rattle.spi_port.specs.declared.registers.SpiReg.TheVariants as spi
-use Rattle.usart_port.specs.declared.registers.UsartReg.{UsartReg}
-use Rattle.usart_port.specs.declared.registers.UsartReg.TheVariants as usart
+use Rattle.serial_ports.specs.declared.spi_registers.SpiReg.{SpiReg}
+use Rattle.serial_ports.specs.declared.spi_registers.SpiReg.TheVariants as spi
+use Rattle.serial_ports.specs.declared.usart_registers.UsartReg.{UsartReg}
+use Rattle.serial_ports.specs.declared.usart_registers.UsartReg.TheVariants as usart
 
 -- the board of its clock's cycle, where its timers have done the cycles below `settled` alone
 abbrev pub caught_up : ℕ → Board → Board

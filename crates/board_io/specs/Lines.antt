@@ -1,15 +1,15 @@
 -- The interrupt lines and what serving an interrupt clears (ATmega128 datasheet, "Interrupt Vectors in ATmega128",
 -- "TIMSK", "ETIMSK"). Line n has the vector at word address 2n.
-use Rattle.std.specs.Prelude.{ℕ, ◌+◌, ◌^◌, ◌==◌, ◌&&◌, if◌then◌else◌, Bool, true, false}
+use Rattle.std.specs.Prelude.{ℕ, ◌+◌, ◌^◌, ◌==◌, ◌&&◌, ◌||◌, if◌then◌else◌, Bool, true, false}
 use Rattle.board_io.specs.declared.board.Board.{Board}
 use Rattle.board_io.specs.Board.{kept_at}
 use Rattle.device_clocks.specs.Bits.{any_bit}
 use Rattle.device_clocks.specs.declared.flags.TimerFlags.{TimerFlags}
 use Rattle.avr_base.specs.declared.interrupts.Lines.{Lines}
-use Rattle.spi_port.specs.Spi.{asks_interrupt}
+use Rattle.serial_ports.specs.Spi.{asks_interrupt}
 use Rattle.device_clocks.specs.Timer16 as timer16
 use Rattle.device_clocks.specs.Timer8 as timer8
-use Rattle.usart_port.specs.Usart as usart
+use Rattle.serial_ports.specs.Usart as usart
 
 -- line n of a source: its flag, and the bit that enables it
 unfoldable pub line : ℕ → Bool → Bool → ℕ
@@ -52,6 +52,14 @@ lines_of b = record { bits = timer_lines b + extended_timer_lines b + port_lines
 
 abbrev pub no_flags : TimerFlags
 no_flags = record { over = false; comp_a = false; comp_b = false; comp_c = false; icr = false }
+
+-- the flag that the interrupt of a timer's vector, at this word address, clears
+abbrev pub served_flag : ℕ → TimerFlags
+served_flag word =
+    if word == 0x12 || word == 0x18 || word == 0x1E || word == 0x34 then record no_flags { comp_a = true }
+    else if word == 0x1A || word == 0x36 then record no_flags { comp_b = true }
+    else if word == 0x30 || word == 0x38 then record no_flags { comp_c = true }
+    else record no_flags { over = true }
 
 -- the interrupt of the vector at this word address is served: its flag is cleared, but for RXC and UDRE of USART0, which
 -- stand as long as there is a byte to read and room for one to write. First those of the ports and of ETIMSK

@@ -1,6 +1,6 @@
 -- What an access to an I/O register gives, by the rule of its address (ATmega128 datasheet, the register descriptions).
 -- Where a rule stops, the tests stand in the order in which they are made.
-use Rattle.std.specs.Prelude.{ℕ, ◌+◌, ◌&&◌, not, if◌then◌else◌, false, Result, Ok, Err, bit_and, bit_or}
+use Rattle.std.specs.Prelude.{◌≡◌, ℕ, ◌+◌, ◌&&◌, not, if◌then◌else◌, false, Result, Ok, Err, bit_and, bit_or}
 use Rattle.avr_base.specs.declared.stop.StopCause.{StopCause}
 use Rattle.avr_base.specs.declared.stop.StopCause.TheVariants as stop
 use Rattle.board_io.specs.declared.board.Board.{Board}
@@ -10,16 +10,16 @@ use Rattle.board_io.specs.Board.{kept_at, with_kept}
 use Rattle.board_io.specs.Table.{rule_of}
 use Rattle.device_clocks.specs.Bits.{any_bit, bit}
 use Rattle.device_clocks.specs.declared.flags.TimerFlags.{TimerFlags as Flags}
-use Rattle.spi_port.specs.declared.spi.Spi.{Spi as SpiPort}
-use Rattle.spi_port.specs.Registers as spi
+use Rattle.serial_ports.specs.declared.spi.Spi.{Spi as SpiPort}
+use Rattle.serial_ports.specs.SpiRegisters as spi
 use Rattle.device_clocks.specs.declared.timer16.Timer16.{Timer16}
 use Rattle.device_clocks.specs.Registers16 as reg16
 use Rattle.device_clocks.specs.Timer16 as timer16
 use Rattle.device_clocks.specs.declared.timer8.Timer8.{Timer8}
 use Rattle.device_clocks.specs.Registers8 as reg8
 use Rattle.device_clocks.specs.Timer8 as timer8
-use Rattle.usart_port.specs.declared.usart.Usart.{Usart}
-use Rattle.usart_port.specs.Registers as usart
+use Rattle.serial_ports.specs.declared.usart.Usart.{Usart}
+use Rattle.serial_ports.specs.UsartRegisters as usart
 
 -- TIFR: OCF2 7, TOV2 6, ICF1 5, OCF1A 4, OCF1B 3, TOV1 2, OCF0 1, TOV0 0
 abbrev pub timer_flags : Board → ℕ
@@ -65,6 +65,11 @@ get_by (Timer2 reg) b at = Ok (reg8.get_of b.t2 reg, b)
 get_by (Timer3 reg) b at = let got = reg16.get_of b.t3 reg in Ok (got.0, record b { t3 = got.1 })
 get_by (Usart0 reg) b at = let got = usart.get_of b.usart reg in Ok (got.0, record b { usart = got.1 })
 get_by (Spi reg) b at = let got = spi.get_of b.spi reg in Ok (got.0, record b { spi = got.1 })
+
+-- what a read did, where this is what it gives: a refused one changes nothing
+abbrev pub IsGot : Result (ℕ × Board) StopCause → Board → Result ℕ StopCause → Board → Type 0
+IsGot given old (Ok x) new = given ≡ Ok (x, new)
+IsGot given old (Err cause) new = (given ≡ Err cause) × (new ≡ old)
 
 -- the board with what a write made of one of its devices
 abbrev pub with_t0 : Board → Result Timer8 StopCause → Result Board StopCause
@@ -112,6 +117,11 @@ put_by (Timer2 reg) b at x = with_t2 b (reg8.put_of b.t2 reg x)
 put_by (Timer3 reg) b at x = with_t3 b (reg16.put_of b.t3 reg x)
 put_by (Usart0 reg) b at x = with_usart b (usart.put_of b.clock b.usart reg x)
 put_by (Spi reg) b at x = with_spi b (spi.put_of b.clock b.spi reg x)
+
+-- what a write did, where this is what it gives: a refused one changes nothing
+abbrev pub IsPut : Result Board StopCause → Board → Result (Unit {0}) StopCause → Board → Type 0
+IsPut given old (Ok u) new = given ≡ Ok new
+IsPut given old (Err cause) new = (given ≡ Err cause) × (new ≡ old)
 
 -- a read and a write at a data address
 unfoldable pub io_get : Board → ℕ → Result (ℕ × Board) StopCause

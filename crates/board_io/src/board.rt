@@ -5,8 +5,7 @@ ghost use Rattle.board_io.specs.Table.{start_of};
 
 use crate::Clock;
 use device_clocks::{Prescaler, Timer8, Timer16, any_bit};
-use spi_port::{Radio, Spi};
-use usart_port::Usart;
+use serial_ports::{Radio, Spi, Usart};
 
 const DDRB: usize = 0x37;
 

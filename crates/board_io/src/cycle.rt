@@ -1,12 +1,12 @@
 // One cycle of the devices.
 ghost use Rattle.std.specs.Prelude.{◌≡◌, ◌≤◌, ◌^◌, true, is_some};
-ghost use Rattle.usart_port.specs.Usart.{frame_ended};
+ghost use Rattle.serial_ports.specs.Usart.{frame_ended};
 ghost use Rattle.device_clocks.specs.Timer16 as timer16;
 ghost use Rattle.device_clocks.specs.Timer8 as timer8;
 
 use crate::Board;
 use device_clocks::{Timer8, Timer16, ended_byte};
-use spi_port::Moved;
+use serial_ports::Moved;
 use world_core::Heard;
 
 /// What the devices did in a cycle.

@@ -1,13 +1,12 @@
 // The I/O registers of a board that lags.
-ghost use Rattle.std.specs.Prelude.{◌≡◌, true, Ok, Err, OnOk, IfOk, OnErr, IfErr};
+ghost use Rattle.std.specs.Prelude.{◌≡◌, true};
 ghost use Rattle.board_io.specs.Lagging.{is_spdr, is_udr, reads_apart, reads_timer, writes_apart};
 
 use crate::LaggingBoard;
 use crate::rules::{Rule, rule_at};
 use avr_base::StopCause;
 use data_space::Bus;
-use spi_port::SpiReg;
-use usart_port::UsartReg;
+use serial_ports::{SpiReg, UsartReg};
 
 const TIMSK: u8 = 0x57;
 
@@ -107,15 +106,13 @@ fn writes_apart(rule: Rule, at: u8) -> bool
 }
 
 impl LaggingBoard {
-    ghost use Rattle.board_io.specs.Registers.{get_by, put_by};
+    ghost use Rattle.board_io.specs.Registers.{IsGot, IsPut, get_by, put_by};
 
     // A read that looks at no timer.
     #[inline]
     fn get_apart(&mut self, rule: Rule, at: u8) -> Result<u8, StopCause>
         requires { reads_apart rule ≡ true }
-        ensures ok { IfOk result (λ x. get_by rule self.old at ≡ Ok (x, self.new)) }
-        ensures err { IfErr result (λ cause. get_by rule self.old at ≡ Err cause) }
-        ensures same { OnErr result (self.new ≡ self.old) }
+        ensures { IsGot (get_by rule self.old at) self.old result self.new }
     {
         self.board.get_by(rule, at)
     }
@@ -124,9 +121,7 @@ impl LaggingBoard {
     #[inline(never)]
     fn get_timer(&mut self, rule: Rule, at: u8) -> Result<u8, StopCause>
         requires { reads_timer rule ≡ true }
-        ensures ok { IfOk result (λ x. get_by rule self.old at ≡ Ok (x, self.new)) }
-        ensures err { IfErr result (λ cause. get_by rule self.old at ≡ Err cause) }
-        ensures same { OnErr result (self.new ≡ self.old) }
+        ensures { IsGot (get_by rule self.old at) self.old result self.new }
     {
         self.board.catch_up(self.ahead.settled);
         self.ahead.settled = self.board.clock.get();
@@ -137,9 +132,7 @@ impl LaggingBoard {
     #[inline]
     fn put_apart(&mut self, rule: Rule, at: u8, x: u8) -> Result<(), StopCause>
         requires { writes_apart rule at ≡ true }
-        ensures ok { OnOk result (put_by rule self.old at x ≡ Ok self.new) }
-        ensures err { IfErr result (λ cause. put_by rule self.old at x ≡ Err cause) }
-        ensures same { OnErr result (self.new ≡ self.old) }
+        ensures { IsPut (put_by rule self.old at x) self.old result self.new }
     {
         self.board.put_by(rule, at, x)
     }
@@ -147,9 +140,7 @@ impl LaggingBoard {
     // A read of what may move.
     #[inline(never)]
     fn get_moving(&mut self, rule: Rule, at: u8) -> Result<u8, StopCause>
-        ensures ok { IfOk result (λ x. get_by rule self.old at ≡ Ok (x, self.new)) }
-        ensures err { IfErr result (λ cause. get_by rule self.old at ≡ Err cause) }
-        ensures same { OnErr result (self.new ≡ self.old) }
+        ensures { IsGot (get_by rule self.old at) self.old result self.new }
     {
         self.board.catch_up(self.ahead.settled);
         let got = self.board.get_by(rule, at);
@@ -160,9 +151,7 @@ impl LaggingBoard {
     // A write of what may move.
     #[inline(never)]
     fn put_moving(&mut self, rule: Rule, at: u8, x: u8) -> Result<(), StopCause>
-        ensures ok { OnOk result (put_by rule self.old at x ≡ Ok self.new) }
-        ensures err { IfErr result (λ cause. put_by rule self.old at x ≡ Err cause) }
-        ensures same { OnErr result (self.new ≡ self.old) }
+        ensures { IsPut (put_by rule self.old at x) self.old result self.new }
     {
         self.board.catch_up(self.ahead.settled);
         let put = self.board.put_by(rule, at, x);

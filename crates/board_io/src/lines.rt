@@ -1,6 +1,6 @@
 // The interrupt lines, and what serving an interrupt clears.
 ghost use Rattle.std.specs.Prelude.{◌≡◌, ◌≤◌, ◌^◌, true};
-ghost use Rattle.board_io.specs.Lines.{line};
+ghost use Rattle.board_io.specs.Lines.{line, served_flag};
 
 use crate::Board;
 use avr_base::{Lines, Vector};
@@ -53,8 +53,21 @@ fn line(n: u32, flag: bool, enabled: bool) -> u64
     if flag && enabled { 1u64 << n } else { 0 }
 }
 
+// The flag of a timer that serving the interrupt of one of its vectors clears.
+#[inline]
+fn served_flag(v: Vector) -> TimerFlags
+    ensures { result ≡ served_flag v.word }
+{
+    match v.word {
+        0x12 | 0x18 | 0x1E | 0x34 => COMP_A,
+        0x1A | 0x36 => COMP_B,
+        0x30 | 0x38 => COMP_C,
+        _ => OVER,
+    }
+}
+
 impl Board {
-    ghost use Rattle.board_io.specs.Lines.{entered_beside, entered_of, extended_timer_lines, lines_of, port_lines, timer_lines};
+    ghost use Rattle.board_io.specs.Lines.{entered_of, extended_timer_lines, lines_of, port_lines, timer_lines};
 
     // The lines of TIMSK. In much firmware none is enabled.
     #[tactic(auto, using(crate::proofs::Enabled::no_timer_lines))]
@@ -115,23 +128,6 @@ impl Board {
         }
     }
 
-    // What serving an interrupt clears, of the vectors of the ports and of ETIMSK.
-    #[inline(always)]
-    fn entered_beside(&mut self, v: Vector)
-        ensures { self.new ≡ entered_beside v.word self.old }
-    {
-        match v.word {
-            0x22 => self.spi.clear(),
-            0x28 => self.usart.clear_txc(),
-            0x30 => self.t1.clear(COMP_C),
-            0x34 => self.t3.clear(COMP_A),
-            0x36 => self.t3.clear(COMP_B),
-            0x38 => self.t3.clear(COMP_C),
-            0x3A => self.t3.clear(OVER),
-            _ => {}
-        }
-    }
-
     /// What serving the interrupt of the vector `v` does to its source: it clears its flag, but for RXC and UDRE of
     /// USART0, which stand as long as there is a byte to read and room for one to write.
     #[tactic(auto, unfolding(crate::specs::Lines::entered_of))]
@@ -139,14 +135,13 @@ impl Board {
         ensures { self.new ≡ entered_of v.word self.old }
     {
         match v.word {
-            0x12 => self.t2.clear(COMP_A),
-            0x14 => self.t2.clear(OVER),
-            0x18 => self.t1.clear(COMP_A),
-            0x1A => self.t1.clear(COMP_B),
-            0x1C => self.t1.clear(OVER),
-            0x1E => self.t0.clear(COMP_A),
-            0x20 => self.t0.clear(OVER),
-            _ => self.entered_beside(v),
+            0x1E | 0x20 => self.t0.clear(served_flag(v)),
+            0x18 | 0x1A | 0x1C | 0x30 => self.t1.clear(served_flag(v)),
+            0x12 | 0x14 => self.t2.clear(served_flag(v)),
+            0x34 | 0x36 | 0x38 | 0x3A => self.t3.clear(served_flag(v)),
+            0x22 => self.spi.clear(),
+            0x28 => self.usart.clear_txc(),
+            _ => {}
         }
     }
 }

@@ -1,5 +1,5 @@
 // The I/O registers as a bus.
-ghost use Rattle.std.specs.Prelude.{◌≡◌, ℕ, Ok, Err, OnOk, IfOk, OnErr, IfErr};
+ghost use Rattle.std.specs.Prelude.{◌≡◌};
 
 use crate::Board;
 use crate::rules::{Rule, rule_at};
@@ -9,7 +9,7 @@ use device_clocks::{TimerFlags, any_bit, bit};
 
 impl Board {
     ghost use Rattle.board_io.specs.Board.{kept_at, with_kept};
-    ghost use Rattle.board_io.specs.Registers.{extended_flags_cleared, flags_cleared, get_by, put_by, timer_flags, extended_timer_flags};
+    ghost use Rattle.board_io.specs.Registers.{IsGot, IsPut, extended_flags_cleared, extended_timer_flags, flags_cleared, get_by, put_by, timer_flags};
 
     // TIFR as it reads.
     fn timer_flags(&self) -> u8
@@ -93,9 +93,7 @@ impl Board {
 
     /// A read of the register at a data address below 0x0100, by its rule.
     pub(crate) fn get_by(&mut self, rule: Rule, at: u8) -> Result<u8, StopCause>
-        ensures ok { IfOk result (λ x. get_by rule self.old at ≡ Ok (x, self.new)) }
-        ensures err { IfErr result (λ cause. get_by rule self.old at ≡ Err cause) }
-        ensures same { OnErr result (self.new ≡ self.old) }
+        ensures { IsGot (get_by rule self.old at) self.old result self.new }
     {
         match rule {
             Rule::Reserved => Err(StopCause::ReservedAddress),
@@ -131,9 +129,7 @@ impl Board {
         cause: StopCause,
         mask: u8,
     ) -> Result<(), StopCause>
-        ensures ok { OnOk result (put_by (Rule.Guarded bits cause mask) self.old at x ≡ Ok self.new) }
-        ensures err { IfErr result (λ cause'. put_by (Rule.Guarded bits cause mask) self.old at x ≡ Err cause') }
-        ensures same { OnErr result (self.new ≡ self.old) }
+        ensures { IsPut (put_by (Rule.Guarded bits cause mask) self.old at x) self.old result self.new }
     {
         if any_bit(x, bits) {
             return Err(cause);
@@ -144,9 +140,7 @@ impl Board {
 
     // A write of MCUCR.
     fn put_cpu_control(&mut self, at: u8, x: u8) -> Result<(), StopCause>
-        ensures ok { OnOk result (put_by Rule.CpuControl self.old at x ≡ Ok self.new) }
-        ensures err { IfErr result (λ cause. put_by Rule.CpuControl self.old at x ≡ Err cause) }
-        ensures same { OnErr result (self.new ≡ self.old) }
+        ensures { IsPut (put_by Rule.CpuControl self.old at x) self.old result self.new }
     {
         if any_bit(x, 0x80) {
             return Err(StopCause::ExternalMemory);
@@ -160,9 +154,7 @@ impl Board {
 
     /// A write of the register at a data address below 0x0100, by its rule.
     pub(crate) fn put_by(&mut self, rule: Rule, at: u8, x: u8) -> Result<(), StopCause>
-        ensures ok { OnOk result (put_by rule self.old at x ≡ Ok self.new) }
-        ensures err { IfErr result (λ cause. put_by rule self.old at x ≡ Err cause) }
-        ensures same { OnErr result (self.new ≡ self.old) }
+        ensures { IsPut (put_by rule self.old at x) self.old result self.new }
     {
         match rule {
             Rule::Reserved => Err(StopCause::ReservedAddress),

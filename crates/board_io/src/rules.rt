@@ -4,8 +4,7 @@ ghost use Rattle.board_io.specs.Table.{rule_of};
 
 use avr_base::StopCause;
 use device_clocks::{Chan, Reg8, Reg16};
-use spi_port::SpiReg;
-use usart_port::UsartReg;
+use serial_ports::{SpiReg, UsartReg};
 
 /// How a read and a write of an I/O register go (ATmega128 datasheet, the register descriptions).
 #[derive(Clone, Copy)]

@@ -1,5 +1,6 @@
 // Why a stored run stops, the texts that it reads and the lines that it writes.
-use sim_io::{NoMemory, Sink, SinkFault, write_all};
+use avr_base::NoMemory;
+use sim_io::{Sink, SinkFault, write_all};
 use std::alloc::{AllocError, AllocFailed, Global};
 use std::fmt::Debug;
 use std::fs::{self, Files};

@@ -1,4 +1,4 @@
-// Which words are accepted.
+// Which words are accepted. Both tests are made, by `&` and not `&&`: a way round one costs more to prove than the test.
 ghost use Rattle.std.specs.Prelude.{[], ◌≡◌, ◌∷◌, is_some, map};
 ghost use Rattle.command_words.specs.Words.{asked_by};
 
@@ -20,8 +20,8 @@ fn is_triple(command: &str, first: &str, second: &str) -> bool
     ensures { result ≡ is_some (asked_by (command.now ∷ first.now ∷ second.now ∷ [])) }
 {
     match command {
-        "node" => is_file(first) && cycles(second).is_some(),
-        "run" => first == "--plain" && is_file(second),
+        "node" => is_file(first) & cycles(second).is_some(),
+        "run" => (first == "--plain") & is_file(second),
         _ => false,
     }
 }

@@ -77,7 +77,11 @@ pub fn command<'w>(alloc: Global) -> Result<Command<'w>, AllocError>
 {
     let mut subcommands = Vec::with_capacity(alloc, FORMS.len())?;
     for form in &FORMS {
-        subcommands.push_reserved(subcommand_of(alloc, form)?);
+        // by `?` a command would be moved thrice more, which costs a second of a check
+        match subcommand_of(alloc, form) {
+            Ok(subcommand) => subcommands.push_reserved(subcommand),
+            Err(error) => return Err(error),
+        }
     }
     Command::new(alloc, "avrora")
         .no_binary_name(true)

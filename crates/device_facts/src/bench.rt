@@ -7,9 +7,8 @@ use crate::serial::{do_script, do_usart};
 use crate::timers::{do_timer8, do_timer16};
 use crate::transfers::do_spi;
 use device_clocks::{Prescaler, Timer8, Timer16};
-use spi_port::{Radio, Spi};
+use serial_ports::{Radio, Spi, Usart};
 use std::alloc::{AllocError, Global};
-use usart_port::Usart;
 
 /// What a line comes to.
 #[derive(Clone, Copy)]

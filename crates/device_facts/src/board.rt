@@ -7,7 +7,7 @@ use avr_base::Vector;
 use board_io::Board;
 use data_space::{Bus, Cpu, load, store};
 use device_clocks::TimerFlags;
-use usart_port::Inbox;
+use serial_ports::Inbox;
 use world_core::Heard;
 
 // A sample hears one byte.

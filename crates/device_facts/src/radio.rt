@@ -3,7 +3,7 @@ ghost use Rattle.std.specs.Prelude.{◌≤◌, ◌^◌};
 
 use crate::answers::Answer;
 use crate::numbers::{byte, cycle, short};
-use spi_port::{Moved, Radio};
+use serial_ports::{Moved, Radio};
 use world_core::Heard;
 
 // A sample hears one byte.

@@ -1,8 +1,8 @@
 // What is done to USART0, and what a script brings.
 use crate::answers::Answer;
 use crate::numbers::{byte, cycle, long, short};
+use serial_ports::{Script, Usart, UsartReg};
 use std::alloc::Global;
-use usart_port::{Script, Usart, UsartReg};
 
 fn reg(name: &str) -> Option<UsartReg> {
     match name {

@@ -1,7 +1,7 @@
 // What is done to the SPI.
 use crate::answers::Answer;
 use crate::numbers::{byte, cycle};
-use spi_port::{Spi, SpiReg};
+use serial_ports::{Spi, SpiReg};
 
 fn reg(name: &str) -> Option<SpiReg> {
     match name {

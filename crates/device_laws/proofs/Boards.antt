@@ -16,21 +16,21 @@ use Rattle.board_io.specs.Cycle.{board_answered, board_begun, moved_by, received
 use Rattle.board_io.specs.Lines.{entered_of, no_flags}
 use Rattle.board_io.specs.Registers.{get_by, io_get, io_put, put_by, with_spi, with_t0, with_t1, with_t2, with_t3, with_usart}
 use Rattle.board_io.specs.Table.{rule_of, start_of}
-use Rattle.spi_port.specs.declared.radio.Moved.{Moved}
-use Rattle.spi_port.specs.declared.radio.Moved.TheVariants.{Answer, Send, Ask}
-use Rattle.spi_port.specs.declared.radio.Radio.{Radio}
-use Rattle.spi_port.specs.Radio.{radio_transfer}
+use Rattle.serial_ports.specs.declared.radio.Moved.{Moved}
+use Rattle.serial_ports.specs.declared.radio.Moved.TheVariants.{Answer, Send, Ask}
+use Rattle.serial_ports.specs.declared.radio.Radio.{Radio}
+use Rattle.serial_ports.specs.Radio.{radio_transfer}
 use Rattle.avr_base.proofs.Computed.{all_from, all_from-at}
 use Rattle.device_clocks.specs.Bits.{any_bit}
 use Rattle.device_clocks.specs.declared.prescaler.Prescaler.TheVariants.{Own, Shared}
 use Rattle.device_clocks.specs.Transmission.{ended_byte}
 use Rattle.device_clocks.specs.declared.flags.TimerFlags.{TimerFlags}
-use Rattle.spi_port.specs.declared.spi.Spi.{Spi}
+use Rattle.serial_ports.specs.declared.spi.Spi.{Spi}
 use Rattle.device_clocks.specs.declared.timer8.Timer8.{Timer8}
 use Rattle.device_clocks.specs.Timer8 as timer8
 use Rattle.device_clocks.specs.declared.timer16.Timer16.{Timer16}
 use Rattle.device_clocks.specs.Timer16 as timer16
-use Rattle.usart_port.specs.declared.usart.Usart.{Usart}
+use Rattle.serial_ports.specs.declared.usart.Usart.{Usart}
 use Rattle.world_core.specs.declared.air.Heard.{Heard}
 use Rattle.device_laws.specs.States.{IsBoard, IsKept, IsRadio, IsSpi, IsTimer16, IsTimer8, IsUsart, IsWithin}
 use Rattle.device_laws.proofs.Timers.{again_16, again_8, cleared_16, cleared_8, cycle_16, cycle_8, get_16_kept, kept_if, leap_16, leap_8, put_16_kept, put_8_kept}

@@ -6,26 +6,26 @@ use Rattle.std.specs.Int.Bits.{and_self}
 use Rattle.std.proofs.lemmas.Nat.{and_assoc}
 use Rattle.avr_base.specs.declared.stop.StopCause.TheVariants as stop
 use Rattle.avr_base.proofs.Computed.{all_from, all_from-at}
-use Rattle.spi_port.specs.declared.radio.Moved.{Moved}
-use Rattle.spi_port.specs.declared.radio.Moved.TheVariants.{Answer, Send, Ask}
-use Rattle.spi_port.specs.declared.radio.Radio.{Radio}
-use Rattle.spi_port.specs.declared.radio.RadioState.{RadioState}
-use Rattle.spi_port.specs.declared.radio.RadioState.TheVariants.{Idle, ToSend, ToSample, Status, Byte, Age}
-use Rattle.spi_port.specs.Radio.{in_state, radio_transfer, selected_transfer}
+use Rattle.serial_ports.specs.declared.radio.Moved.{Moved}
+use Rattle.serial_ports.specs.declared.radio.Moved.TheVariants.{Answer, Send, Ask}
+use Rattle.serial_ports.specs.declared.radio.Radio.{Radio}
+use Rattle.serial_ports.specs.declared.radio.RadioState.{RadioState}
+use Rattle.serial_ports.specs.declared.radio.RadioState.TheVariants.{Idle, ToSend, ToSample, Status, Byte, Age}
+use Rattle.serial_ports.specs.Radio.{in_state, radio_transfer, selected_transfer}
 use Rattle.device_clocks.specs.Bits.{any_bit}
 use Rattle.device_clocks.specs.declared.transmission.Transmission.{Transmission}
-use Rattle.spi_port.specs.declared.registers.SpiReg.{SpiReg}
-use Rattle.spi_port.specs.declared.registers.SpiReg.TheVariants as spireg
-use Rattle.spi_port.specs.declared.spi.Spi.{Spi}
-use Rattle.spi_port.specs.Registers as spi_registers
-use Rattle.spi_port.specs.Spi as spi
-use Rattle.usart_port.specs.declared.inbox.Inbox.{Inbox}
-use Rattle.usart_port.specs.declared.inbox.Inbox.TheVariants.{Empty, One, Two}
-use Rattle.usart_port.specs.declared.registers.UsartReg.{UsartReg}
-use Rattle.usart_port.specs.declared.registers.UsartReg.TheVariants as ureg
-use Rattle.usart_port.specs.declared.usart.Usart.{Usart}
-use Rattle.usart_port.specs.Registers as usart_registers
-use Rattle.usart_port.specs.Usart as usart
+use Rattle.serial_ports.specs.declared.spi_registers.SpiReg.{SpiReg}
+use Rattle.serial_ports.specs.declared.spi_registers.SpiReg.TheVariants as spireg
+use Rattle.serial_ports.specs.declared.spi.Spi.{Spi}
+use Rattle.serial_ports.specs.SpiRegisters as spi_registers
+use Rattle.serial_ports.specs.Spi as spi
+use Rattle.serial_ports.specs.declared.inbox.Inbox.{Inbox}
+use Rattle.serial_ports.specs.declared.inbox.Inbox.TheVariants.{Empty, One, Two}
+use Rattle.serial_ports.specs.declared.usart_registers.UsartReg.{UsartReg}
+use Rattle.serial_ports.specs.declared.usart_registers.UsartReg.TheVariants as ureg
+use Rattle.serial_ports.specs.declared.usart.Usart.{Usart}
+use Rattle.serial_ports.specs.UsartRegisters as usart_registers
+use Rattle.serial_ports.specs.Usart as usart
 use Rattle.device_laws.specs.States.{IsRadio, IsSpi, IsUsart, IsWithin, is_full}
 use Rattle.device_laws.proofs.Timers.{kept_if, same_ok}
 

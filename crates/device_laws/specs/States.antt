@@ -6,18 +6,18 @@ use Rattle.board_io.specs.declared.rules.Rule.{Rule}
 use Rattle.board_io.specs.declared.rules.Rule.TheVariants.{Kept, Guarded, ResetFlags, CpuControl}
 use Rattle.board_io.specs.Board.{kept_at}
 use Rattle.board_io.specs.Table.{rule_of}
-use Rattle.spi_port.specs.declared.radio.Radio.{Radio}
+use Rattle.serial_ports.specs.declared.radio.Radio.{Radio}
 use Rattle.device_clocks.specs.Bits.{any_bit}
 use Rattle.device_clocks.specs.declared.prescaler.Prescaler.{Prescaler}
 use Rattle.device_clocks.specs.declared.prescaler.Prescaler.TheVariants.{Own, Shared}
 use Rattle.device_clocks.specs.Prescaler.{is_pin}
-use Rattle.spi_port.specs.declared.spi.Spi.{Spi}
+use Rattle.serial_ports.specs.declared.spi.Spi.{Spi}
 use Rattle.device_clocks.specs.declared.timer8.Timer8.{Timer8}
 use Rattle.device_clocks.specs.declared.timer16.Timer16.{Timer16}
-use Rattle.usart_port.specs.declared.inbox.Inbox.{Inbox}
-use Rattle.usart_port.specs.declared.inbox.Inbox.TheVariants.{Empty, One, Two}
-use Rattle.usart_port.specs.declared.usart.Usart.{Usart}
-use Rattle.usart_port.specs.Usart.{is_filled}
+use Rattle.serial_ports.specs.declared.inbox.Inbox.{Inbox}
+use Rattle.serial_ports.specs.declared.inbox.Inbox.TheVariants.{Empty, One, Two}
+use Rattle.serial_ports.specs.declared.usart.Usart.{Usart}
+use Rattle.serial_ports.specs.Usart.{is_filled}
 
 -- the bits of a byte lie within a mask
 abbrev pub IsWithin : ℕ → ℕ → Type 0

@@ -1,7 +1,7 @@
 -- One turn of the loop that makes the last rows.
 use Rattle.std.proofs.Common.{◌≡◌, ℕ, ◌+◌, ◌<◌, List, [], ◌∷◌, ◌++◌, map, length, take, get_or, sym, ◌∙◌, ap}
 use Rattle.std.proofs.lemmas.List.{take_more, map_push}
-use Rattle.trace_rows.specs.declared.row.Row.{Row}
+use Rattle.node_core.specs.declared.row.Row.{Row}
 use Rattle.node_runner.specs.Place.{Place}
 use Rattle.node_runner.specs.Gather.{end_row_of}
 

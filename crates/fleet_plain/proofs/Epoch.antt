@@ -5,12 +5,12 @@ use Rattle.std.specs.List.{All, filter, flat_map}
 use Rattle.std.specs.List.Sorted.{IsNonDecreasingBy, IsStableByKey}
 use Rattle.std.specs.Ordering.{nat_cmp}
 use Rattle.world_core.specs.declared.air.Send.{Send}
-use Rattle.trace_rows.specs.declared.row.Row.{Row}
+use Rattle.node_core.specs.declared.row.Row.{Row}
 use Rattle.node_runner.specs.Scenario.{ScenarioOf, IsScenario, fleet_of}
 use Rattle.node_runner.specs.Place.{Place, is_live, state_at, rows_of, HasEnded}
 use Rattle.node_runner.proofs.Places.{still_calm, still_over}
 use Rattle.world_core.specs.Kept.{is_kept, kept_room_of}
-use Rattle.send_log.specs.Chain.{LogFacts}
+use Rattle.world_core.specs.Chain.{LogFacts}
 use Rattle.node_runner.specs.Flight.{epoch, IsAt, place_at}
 use Rattle.node_runner.specs.Gather.{end_row_of, taken}
 use Rattle.node_runner.specs.Run.{rows_upto}

@@ -14,9 +14,9 @@ use Rattle.world_core.specs.Kept.{is_kept, IsPostedTo}
 use Rattle.world_core.specs.Settled.{IsRecorded}
 use Rattle.world_core.proofs.Counts.{sends_below-le, none_at_zero, no_sends_past}
 use Rattle.world_core.proofs.Records.{record_opens, record_cut}
-use Rattle.trace_rows.specs.declared.row.Row.{Row}
-use Rattle.global_order.specs.Order.{facts_of, node_at}
-use Rattle.global_order.proofs.Rows.{stopped_count}
+use Rattle.node_core.specs.declared.row.Row.{Row}
+use Rattle.world_core.specs.Order.{facts_of, node_at}
+use Rattle.world_core.proofs.OrderRows.{stopped_count}
 use Rattle.node_runner.specs.Scenario.{ScenarioOf, IsScenario, fleet_of}
 use Rattle.node_runner.specs.Place.{Place, is_live, state_at, rows_of}
 use Rattle.node_runner.proofs.Sound.{sound, scenario_lawful}

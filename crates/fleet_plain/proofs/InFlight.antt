@@ -22,12 +22,12 @@ use Rattle.world_core.proofs.Final.{latency_from}
 use Rattle.world_core.proofs.Links.{not_linked}
 use Rattle.world_core.proofs.Records.{in_nodes, record_right, record_posted, record_after}
 use Rattle.world_core.proofs.Room.{kept_room}
-use Rattle.send_log.specs.Chain.{log_of}
-use Rattle.trace_rows.specs.declared.row.Row.{Row}
+use Rattle.world_core.specs.Chain.{log_of}
+use Rattle.node_core.specs.declared.row.Row.{Row}
 use Rattle.node_core.specs.State.{NodeState}
 use Rattle.node_core.specs.Cycle.{node_kind}
-use Rattle.global_order.specs.Order.{Fleet, facts_of, node_at}
-use Rattle.global_order.proofs.Rows.{stopped_count}
+use Rattle.world_core.specs.Order.{Fleet, facts_of, node_at}
+use Rattle.world_core.proofs.OrderRows.{stopped_count}
 use Rattle.node_runner.specs.Scenario.{ScenarioOf, IsScenario, fleet_of}
 use Rattle.node_runner.specs.Place.{Place, is_live, state_at, sends_passed}
 use Rattle.node_runner.proofs.Sound.{sound, scenario_lawful}

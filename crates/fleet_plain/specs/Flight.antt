@@ -7,8 +7,8 @@ use Rattle.world_core.specs.Heard.{heard}
 use Rattle.world_core.specs.Sends.{sends_of, sends_below, IsSendNumber}
 use Rattle.world_core.specs.Posted.{sent_of}
 use Rattle.world_core.specs.Settled.{truth, IsRecorded}
-use Rattle.send_log.specs.Chain.{LogFacts}
-use Rattle.global_order.specs.Order.{facts_of}
+use Rattle.world_core.specs.Chain.{LogFacts}
+use Rattle.world_core.specs.Order.{facts_of}
 use Rattle.node_runner.specs.Scenario.{ScenarioOf, fleet_of}
 use Rattle.node_runner.specs.Place.{Place, is_live, sends_passed}
 use Rattle.node_runner.specs.Flight.{place_at, IsAt, IsTaken}

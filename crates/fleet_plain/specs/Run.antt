@@ -2,7 +2,7 @@
 use Rattle.std.specs.Prelude.{◌≡◌, ℕ, ◌≤◌, false, List}
 use Rattle.std.specs.List.{All}
 use Rattle.world_core.specs.Kept.{kept_room_of}
-use Rattle.send_log.specs.Chain.{LogFacts}
+use Rattle.world_core.specs.Chain.{LogFacts}
 use Rattle.node_runner.specs.Scenario.{ScenarioOf, IsScenario}
 use Rattle.node_runner.specs.Place.{Place, is_live}
 use Rattle.node_runner.specs.Flight.{epoch}

@@ -10,8 +10,7 @@ ghost use Rattle.fleet_plain.specs.Flight.{InFlight, HearsRight, CanPost, IsBehi
 
 use avr_base::NoMemory;
 use node_runner::{Event, Runner, Scenario};
-use send_log::SendLog;
-use world_core::Topo;
+use world_core::{SendLog, Topo};
 
 // The cycles of one turn of a node, at most.
 const QUANTUM: u64 = 1_024;

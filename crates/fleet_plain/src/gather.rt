@@ -6,9 +6,9 @@ ghost use Rattle.node_runner.specs.Gather.{taken, end_row_of};
 ghost use Rattle.fleet_plain.specs.Gather.{AllStart};
 
 use avr_base::NoMemory;
+use node_core::Row;
 use node_runner::{Runner, Scenario};
 use std::alloc::{AllocError, Global};
-use trace_rows::Row;
 
 /// A runner of each node, in order of number.
 pub fn start(alloc: Global, scenario: &Scenario) -> Result<Vec<Runner>, NoMemory>

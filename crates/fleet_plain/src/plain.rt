@@ -1,7 +1,7 @@
 // A run in epochs, and the whole run.
 ghost use Rattle.std.specs.Prelude.{◌≡◌, ◌<◌, ◌≤◌, ◌+◌, ◌++◌, ◌==◌, min, true, false, IfOk, OnOk};
 ghost use Rattle.world_core.specs.Kept.{kept_room_of};
-ghost use Rattle.global_order.specs.Order.{run_rows};
+ghost use Rattle.world_core.specs.Order.{run_rows};
 ghost use Rattle.node_runner.specs.Scenario.{fleet_of, IsScenario};
 ghost use Rattle.node_runner.specs.Flight.{epoch};
 ghost use Rattle.node_runner.specs.Run.{rows_upto};
@@ -10,13 +10,12 @@ ghost use Rattle.fleet_plain.specs.Run.{IsResting};
 use crate::fleet::run_to;
 use crate::gather::{ends_at, gather, start};
 use avr_base::NoMemory;
+use node_core::Row;
 use node_runner::{Runner, Scenario, sort};
-use send_log::SendLog;
 use std::alloc::Global;
 use std::marker::Model;
 use std::snapshot::Snapshot;
-use trace_rows::Row;
-use world_core::{EPOCH, Topo};
+use world_core::{EPOCH, SendLog, Topo};
 
 // Room for the sends of an epoch, and those before it that can still be heard.
 fn room_for(topo: &Topo) -> usize

@@ -2,7 +2,7 @@
 use Rattle.std.proofs.Common.{◌≡◌, ℕ, ◌∷◌, [], ◌++◌, List, true, replicate, suc, ap}
 use Rattle.world_core.specs.declared.air.Heard.{Heard as HeardValue}
 use Rattle.world_core.specs.declared.world.WorldFacts.{WorldFacts}
-use Rattle.clock_words.specs.Seats.{NodeFacts, node_asked}
+use Rattle.neighbour_sync.specs.Seats.{NodeFacts, node_asked}
 use Rattle.neighbour_sync.specs.declared.answers.Tried.{Tried}
 use Rattle.neighbour_sync.specs.declared.answers.Tried.TheVariants.{Heard, NotYet, Halted, NoMemory}
 use Rattle.neighbour_sync.specs.declared.answers.Passed.TheVariants.{Heard as PassedHeard, Halted as PassedHalted, NoMemory as PassedNoMemory}

@@ -5,8 +5,6 @@ use Rattle.node_core.proofs.node.Node.TheSendSync.{the_send as node}
 use Rattle.node_runner.specs.contracts.runner.Runner as Runner
 use Rattle.neighbour_sync.proofs.node.NodeAir.TheSendSync.{the_send as node_air}
 use Rattle.fleet_threads.specs.contracts.member.Member as Member
-use Rattle.fleet_threads.specs.contracts.handed.Sent as Sent
-use Rattle.fleet_threads.specs.contracts.handed.Handed as Handed
 
 pub runner : IsSend Runner.the_row
 runner = search (sendable, crosses, node) depth 20
@@ -14,8 +12,5 @@ runner = search (sendable, crosses, node) depth 20
 pub member : IsSend (Member.the_field).row
 member = search (sendable, crosses, runner, node_air) depth 20
 
-pub sent : IsSend Sent.the_row
-sent = search (sendable, crosses, member) depth 20
-
-pub handed : IsSend Handed.the_row
+pub handed : IsSend Member.the_row
 handed = search (sendable, crosses, runner, node_air) depth 40 fits 5000

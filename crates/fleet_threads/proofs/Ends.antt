@@ -1,14 +1,15 @@
 -- The rows of an epoch, when all nodes have come to its end.
 use Rattle.std.specs.Prelude.{is_some}
-use Rattle.std.proofs.Common.{◌≡◌, ℕ, ◌+◌, ◌<◌, ◌≤◌, inl, inr, ⊎_elim, true, false, cond, ◌==◌, List, [], ◌∷◌, ◌++◌, map, length, take, drop, get_or, set, min, refl, sym, subst, ◌∙◌, ap, arith, append-nil, append_assoc, length-take}
+use Rattle.std.proofs.lemmas.Bool.Decides.{nat_tests}
+use Rattle.std.proofs.Common.{◌≡◌, ℕ, ◌+◌, ◌<◌, ◌≤◌, inl, inr, ⊎_elim, Bool, true, false, cond, ◌==◌, List, [], ◌∷◌, ◌++◌, map, length, take, drop, get_or, set, min, refl, sym, subst, ◌∙◌, ap, arith, append-nil, append_assoc, length-take}
 use Rattle.std.specs.List.{All, flat_map}
 use Rattle.std.specs.List.Sorted.{IsNonDecreasingBy, IsStableByKey}
 use Rattle.std.specs.Ordering.{nat_cmp}
 use Rattle.std.proofs.lemmas.List.{length-map, get_or-map, get_or_at, set_at, drop_more, take_more, take_all, drop_all, map_push}
 use Rattle.std.proofs.lemmas.List.Elements.{All-push}
 use Rattle.std.proofs.lemmas.List.Concat.{flat_map-append}
-use Rattle.clock_words.specs.Seats.{first_node}
-use Rattle.trace_rows.specs.declared.row.Row.{Row}
+use Rattle.neighbour_sync.specs.Seats.{first_node}
+use Rattle.node_core.specs.declared.row.Row.{Row}
 use Rattle.node_runner.specs.Scenario.{ScenarioOf, IsScenario, fleet_of}
 use Rattle.node_runner.specs.Place.{Place, is_live, state_at, rows_of}
 use Rattle.neighbour_sync.specs.NoSession.{no_table, no_world}
@@ -34,6 +35,11 @@ flat_places (m ∷ ms) = ap (λ (l : List Row). rows_of m.runner ++ l) (flat_pla
 end_places : (ms : List Member) → map end_row_at ms ≡ map end_row_of (map place_of ms)
 end_places [] = refl
 end_places (m ∷ ms) = ap (λ (l : List Row). end_row_of m.runner ∷ l) (end_places ms)
+
+-- the last row of a node whose rows are taken is the one that it had
+taken_ends : (ms : List Member) → map end_row_at (map taken_at ms) ≡ map end_row_at ms
+taken_ends [] = refl
+taken_ends (m ∷ ms) = ap (λ (l : List Row). end_row_at m ∷ l) (taken_ends ms)
 
 module _ (sc : ScenarioOf) (floor end : ℕ) (ms : List Member) (a : AreAtEnd sc floor end ms) where
   abbrev ps : List Place
@@ -75,11 +81,24 @@ module _ (sc : ScenarioOf) (floor end : ℕ) (ms : List Member) (a : AreAtEnd sc
             (still_over end p (a.still k d lt));
       }
 
-  pub next_rows : (ys last zs : List Row) → IsScenario sc → end ≤ sc.topo.limit → floor < end → IsNonDecreasingBy (λ r. r.cycle) ys → IsStableByKey (λ r. r.cycle) nat_cmp (flat_map rows_at ms) ys
+  next_rows : (ys last zs : List Row) → IsScenario sc → end ≤ sc.topo.limit → floor < end → IsNonDecreasingBy (λ r. r.cycle) ys → IsStableByKey (λ r. r.cycle) nat_cmp (flat_map rows_at ms) ys
       → last ≡ cond (end == sc.topo.limit) (map end_row_at ms) [] → zs ≡ ys ++ last → rows_upto (fleet_of sc) end ≡ rows_upto (fleet_of sc) floor ++ zs
   next_rows ys last zs ok lim more up stable l e =
       place_rows sc floor end (map place_of ms) ok lim count at took still (omega arith) ys last zs (omega arith) up (subst (λ (r : List Row). IsStableByKey (λ r. r.cycle) nat_cmp r ys) (flat_places ms) stable)
       (l ∙ ap (λ (r : List Row). cond (end == sc.topo.limit) r []) (end_places ms)) e
+
+  module _ (ys zs : List Row) (ok : IsScenario sc) (lim : end ≤ sc.topo.limit) (more : floor < end) (up : IsNonDecreasingBy (λ r. r.cycle) ys) (stable : IsStableByKey (λ r. r.cycle) nat_cmp (flat_map rows_at ms) ys) where
+    -- the end is the limit, and the last rows stand behind the others
+    pub last_rows : end ≡ sc.topo.limit → zs ≡ ys ++ map end_row_at (map taken_at ms) → rows_upto (fleet_of sc) end ≡ rows_upto (fleet_of sc) floor ++ zs
+    last_rows e is =
+        let over : (end == sc.topo.limit) ≡ true = grind (arith, nat_tests) in
+        next_rows ys (map end_row_at ms) zs ok lim more up stable (ap (λ (b : Bool). cond b (map end_row_at ms) []) (sym over)) (is ∙ ap (λ (l : List Row). ys ++ l) (taken_ends ms))
+
+    -- it is not
+    pub first_rows : (end ≡ sc.topo.limit → ⊥) → zs ≡ ys → rows_upto (fleet_of sc) end ≡ rows_upto (fleet_of sc) floor ++ zs
+    first_rows e is =
+        let over : (end == sc.topo.limit) ≡ false = grind (arith, nat_tests) in
+        next_rows ys [] zs ok lim more up stable (ap (λ (b : Bool). cond b (map end_row_at ms) []) (sym over)) (is ∙ sym (append-nil ys))
 
 -- the node with another place
 abbrev pub with_runner : Member → Place → Member
@@ -107,11 +126,19 @@ gathers_on old items i p q h e g r =
       same = same;
     }
 
--- one turn of the loop that makes the last rows
-pub ends_on : (ms : List Member) (i : ℕ) (m : Member) (r : Row) (rows new : List Row) → i < length ms → m ≡ get_or ms i m → rows ≡ map end_row_at (take i ms) → r ≡ end_row_at m → new ≡ rows ++ r ∷ [] → new ≡ map end_row_at (take (i + 1) ms)
-ends_on ms i m r rows new h is e last f =
+-- one turn of the loop that adds the last rows
+pub ends_on : (ms : List Member) (i : ℕ) (m : Member) (r : Row) (old rows new : List Row) → i < length ms → m ≡ get_or ms i m → rows ≡ old ++ map end_row_at (take i ms) → r ≡ end_row_at m → new ≡ rows ++ r ∷ [] → new ≡ old ++ map end_row_at (take (i + 1) ms)
+ends_on ms i m r old rows new h is e last f =
     let here : r ≡ end_row_at (get_or ms i m) = last ∙ ap end_row_at is in
-    f ∙ (λ j. e j ++ here j ∷ []) ∙ sym (map_push end_row_at (take i ms) (get_or ms i m)) ∙ ap (map end_row_at) (sym (take_more ms i m h))
+    f ∙ (λ j. e j ++ here j ∷ []) ∙ append_assoc old (map end_row_at (take i ms)) (end_row_at (get_or ms i m) ∷ [])
+    ∙ ap (λ (l : List Row). old ++ l) (sym (map_push end_row_at (take i ms) (get_or ms i m)) ∙ ap (map end_row_at) (sym (take_more ms i m h)))
+
+-- and it has ended as it had
+pub taken_ended : (ms : List Member) → All HasEndedAt ms → All HasEndedAt (map taken_at ms)
+taken_ended ms all k d lt =
+    let n = length-map ms taken_at in
+    let h = all k d (omega arith) in
+    subst HasEndedAt (sym (get_or-map taken_at ms k d d (omega arith))) (record { calm = h.calm; noted = h.noted; over = h.over })
 
 -- the loop has come to the end
 pub all_taken : (old items : List Member) (i : ℕ) → length old ≤ i → items ≡ map taken_at (take i old) ++ drop i old → items ≡ map taken_at old

@@ -9,9 +9,9 @@ use Rattle.world_core.specs.declared.world.WorldFacts.{WorldFacts}
 use Rattle.world_core.specs.Sends.{sends_below}
 use Rattle.world_core.specs.Kept.{IsPostedTo}
 use Rattle.world_core.proofs.Counts.{none_at_zero}
-use Rattle.clock_words.specs.Seats.{NodeFacts, ClocksFacts, AreFirstNodes, first_node}
-use Rattle.air_record.specs.Record.{AirRecord, first_record, with_loads, cut_at}
-use Rattle.global_order.specs.Order.{facts_of, node_at}
+use Rattle.neighbour_sync.specs.Seats.{NodeFacts, ClocksFacts, AreFirstNodes, first_node}
+use Rattle.neighbour_sync.specs.Record.{AirRecord, first_record, with_loads, cut_at}
+use Rattle.world_core.specs.Order.{facts_of, node_at}
 use Rattle.node_runner.specs.Scenario.{ScenarioOf, IsScenario, fleet_of}
 use Rattle.node_runner.specs.Place.{Place, is_live, state_at, sends_passed}
 use Rattle.neighbour_sync.specs.Parts.{AreParts}

@@ -1,19 +1,9 @@
 -- Lists of nodes: their numbers, and what holds of each.
-use Rattle.std.proofs.Common.{◌≡◌, ℕ, zero, suc, ◌+◌, ◌<◌, List, [], ◌∷◌, ◌++◌, Option, Some, None, IfSome, length, get_or, set, refl, sym, subst, ◌∙◌, ap, arith}
-use Rattle.std.specs.Prelude.{MatchOption, option_to_list}
+use Rattle.std.proofs.Common.{◌≡◌, ℕ, zero, suc, ◌+◌, ◌<◌, List, [], ◌∷◌, ◌++◌, length, get_or, set, refl, sym, subst, ◌∙◌, ap, arith}
 use Rattle.std.proofs.lemmas.List.{length_push, map_push, length-map, get_or-map, get_or-set_same, get_or-set_other}
 use native.Mathlib.Decide.{ℕ_discrete}
 use Rattle.fleet_threads.specs.declared.member.Member.{Member}
 use Rattle.fleet_threads.specs.Member.{IsOver, InOrder, numbers, number_of}
-
-pub popped : (xs ys : List Member) (r : Option Member) → xs ≡ ys ++ option_to_list r → IfSome r (λ m. numbers xs ≡ numbers ys ++ m.runner.number ∷ [])
-popped xs ys (Some m) e = ap numbers e ∙ map_push number_of ys m
-popped xs ys None e = tt
-
--- by the clause of `pop` on the lengths
-pub popped_len : (a b : ℕ) (r : Option Member) → MatchOption r ((a ≡ 0) × (b ≡ 0)) (λ _. b + 1 ≡ a) → IfSome r (λ _. a ≡ b + 1)
-popped_len a b (Some m) e = sym e
-popped_len a b None e = tt
 
 pub pushed : (xs ys : List Member) (m : Member) → ys ≡ xs ++ m ∷ [] → numbers ys ≡ numbers xs ++ m.runner.number ∷ []
 pushed xs ys m e = ap numbers e ∙ map_push number_of xs m

@@ -12,13 +12,13 @@ use Rattle.world_core.specs.Sends.{sends_below, IsSendNumber}
 use Rattle.world_core.specs.Lawful.{IsLawful}
 use Rattle.world_core.specs.Settled.{truth}
 use Rattle.world_core.proofs.Counts.{sends_below-le}
-use Rattle.clock_words.specs.Seats.{NodeFacts, node_raised}
-use Rattle.trace_rows.specs.declared.row.Row.{Row}
+use Rattle.neighbour_sync.specs.Seats.{NodeFacts, node_raised, node_stopped}
+use Rattle.node_core.specs.declared.row.Row.{Row}
 use Rattle.node_core.specs.State.{NodeState}
 use Rattle.node_core.specs.Cycle.{node_kind}
-use Rattle.global_order.specs.Order.{Fleet, facts_of, node_at}
-use Rattle.global_order.proofs.Rows.{stopped_count}
-use Rattle.global_order.proofs.Steps.{asked}
+use Rattle.world_core.specs.Order.{Fleet, facts_of, node_at}
+use Rattle.world_core.proofs.OrderRows.{stopped_count}
+use Rattle.world_core.proofs.OrderSteps.{asked}
 use Rattle.neighbour_sync.specs.declared.answers.Tried.{Tried}
 use Rattle.neighbour_sync.specs.declared.answers.Tried.TheVariants.{Heard, NotYet, Halted, NoMemory as NoAnswer}
 use Rattle.node_runner.specs.declared.runner.Event.TheVariants.{Ask, Sent, Turn, Ended, NoMemory}
@@ -141,6 +141,18 @@ module _ (t : TableId) (w : WorldFacts) (sc : ScenarioOf) (floor end : ℕ) (m :
       let told = l.told in
       let inside = u.clock in
       stays n r gap l.number l.table l.world (omega arith) (omega arith) (subst (λ (k : ℕ). sends_below w.sends m.air.number k ≤ sends_passed m.runner) (sym clock) u.passed)
+
+  -- it was told to halt
+  pub stopped : (n : Member) → n.runner ≡ m.runner → n.gap ≡ m.gap → n.air ≡ node_stopped m.air → IsUnderWay t w sc floor end n
+  stopped n r gap air =
+      looked n r gap
+      (record {
+        table = ap (λ (a : NodeFacts). a.table) air;
+        world = ap (λ (a : NodeFacts). a.world) air;
+        number = ap (λ (a : NodeFacts). a.number) air;
+        clock = ap (λ (a : NodeFacts). a.clock) air;
+        told = ap (λ (a : NodeFacts). a.told) air;
+      })
 
   -- its word was raised, not past the end
   pub raised : (n : Member) (c : ℕ) → n.runner ≡ m.runner → n.gap ≡ m.gap → n.air ≡ node_raised m.air c → c ≤ end → sends_below w.sends m.air.number c ≤ sends_passed m.runner → IsUnderWay t w sc floor end n

@@ -2,7 +2,7 @@
 use Rattle.std.specs.Prelude.{◌≡◌, ℕ}
 use Rattle.world_core.specs.declared.world.WorldFacts.{WorldFacts}
 use Rattle.world_core.specs.Settled.{truth}
-use Rattle.clock_words.specs.Seats.{NodeFacts}
+use Rattle.neighbour_sync.specs.Seats.{NodeFacts}
 use Rattle.neighbour_sync.specs.declared.answers.Tried.{Tried}
 use Rattle.neighbour_sync.specs.declared.answers.Tried.TheVariants.{Heard, NotYet, Halted, NoMemory}
 

@@ -1,6 +1,6 @@
 -- The rows of the nodes. Own to this simulator.
 use Rattle.std.specs.Prelude.{◌≡◌, false, List}
-use Rattle.trace_rows.specs.declared.row.Row.{Row}
+use Rattle.node_core.specs.declared.row.Row.{Row}
 use Rattle.node_runner.specs.Place.{rows_of, HasEnded}
 use Rattle.node_runner.specs.Gather.{taken, end_row_of}
 use Rattle.fleet_threads.specs.declared.member.Member.{Member}

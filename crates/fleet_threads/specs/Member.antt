@@ -4,7 +4,7 @@ use Rattle.std.specs.List.{All}
 use Rattle.atomic_table.specs.Seated.{TableId}
 use Rattle.world_core.specs.declared.world.WorldFacts.{WorldFacts}
 use Rattle.world_core.specs.Sends.{sends_below}
-use Rattle.global_order.specs.Order.{facts_of}
+use Rattle.world_core.specs.Order.{facts_of}
 use Rattle.node_runner.specs.Scenario.{ScenarioOf, IsScenario, fleet_of}
 use Rattle.node_runner.specs.Place.{Place, is_live, sends_passed}
 use Rattle.node_runner.specs.Flight.{epoch, IsAt, IsTaken}
@@ -40,6 +40,10 @@ pub record IsUnderWay (t : TableId) (w : WorldFacts) (sc : ScenarioOf) (floor en
   pub gap : m.gap ≡ sc.topo.byte_time
   pub clock : m.air.clock ≤ end
   pub passed : sends_below w.sends m.air.number m.air.clock ≤ sends_passed m.runner
+
+-- what one step leaves of a node: the same node, still under way
+abbrev pub GoesOn : TableId → WorldFacts → ScenarioOf → ℕ → ℕ → Member → Member → Type 0
+GoesOn t w sc floor end old new = IsUnderWay t w sc floor end new × (new.runner.number ≡ old.runner.number)
 
 -- the node has come to the end, or stopped before, and its clock word stands there; or it has halted
 abbrev pub IsOver : ℕ → Member → Type 0

@@ -3,8 +3,8 @@ use Rattle.std.specs.Prelude.{◌≡◌, ℕ, ◌≤◌, Bool, true, false, IfSo
 use Rattle.std.specs.List.{All}
 use Rattle.atomic_table.specs.Seated.{TableId}
 use Rattle.world_core.specs.Kept.{IsPostedTo}
-use Rattle.clock_words.specs.Seats.{NodeFacts}
-use Rattle.global_order.specs.Order.{facts_of}
+use Rattle.neighbour_sync.specs.Seats.{NodeFacts}
+use Rattle.world_core.specs.Order.{facts_of}
 use Rattle.node_runner.specs.Scenario.{ScenarioOf, IsScenario, fleet_of}
 use Rattle.node_runner.specs.Place.{is_live}
 use Rattle.neighbour_sync.specs.Parts.{AreParts}

@@ -8,9 +8,9 @@ ghost use Rattle.fleet_threads.specs.Ending.{rows_at, taken_at, end_row_at, HasE
 
 use crate::member::Member;
 use avr_base::NoMemory;
+use node_core::Row;
 use node_runner::{Scenario, sort};
 use std::alloc::{AllocError, Global};
-use trace_rows::Row;
 
 /// Whether a node has halted.
 pub fn any_halted(members: &[Member]) -> bool
@@ -24,28 +24,15 @@ pub fn any_halted(members: &[Member]) -> bool
     false
 }
 
-// The last rows, in order of number, where the run is over.
-fn ends(alloc: Global, members: &[Member], over: bool) -> Result<Vec<Row>, AllocError>
-    requires { over ≡ true → All HasEndedAt members.now }
-    ensures { IfOk result (λ v. v.items ≡ (if over then map end_row_at members.now else [])) }
-{
-    if over {
-        all_ends(alloc, members)
-    } else {
-        Ok(Vec::new(alloc))
-    }
-}
-
-// The last rows, in order of number.
-fn all_ends(alloc: Global, members: &[Member]) -> Result<Vec<Row>, AllocError>
+// Adds the last rows, in order of number.
+fn add_ends(members: &[Member], rows: &mut Vec<Row>) -> Result<(), AllocError>
     requires { All HasEndedAt members.now }
-    ensures { IfOk result (λ v. v.items ≡ map end_row_at members.now) }
+    ensures { OnOk result (rows.new.items ≡ rows.old.items ++ map end_row_at members.now) }
 {
-    let mut rows = Vec::new(alloc);
     for member in members {
         rows.push(member.runner.end_row())?;
     }
-    Ok(rows)
+    Ok(())
 }
 
 // The rows of one node after another; they are taken from the runners.
@@ -78,10 +65,10 @@ pub fn epoch_rows(
     ensures left { OnOk result (members.new.items ≡ map taken_at members.old.items) }
 {
     let _ = floor;
-    let over = end == scenario.lawful_topo().limit();
-    let last = ends(alloc, members, over)?;
     let mut rows = gather(alloc, members)?;
     sort(&mut rows)?;
-    rows.extend_from_slice(&last)?;
+    if end == scenario.lawful_topo().limit() {
+        add_ends(members, &mut rows)?;
+    }
     Ok(rows)
 }

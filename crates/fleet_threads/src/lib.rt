@@ -4,9 +4,7 @@
 #![tactic(auto)]
 
 mod ending;
-mod epoch_lists;
 mod gate;
-mod handed;
 mod member;
 mod parts;
 mod run;

@@ -75,7 +75,7 @@ impl Member {
     ghost use Rattle.std.specs.Prelude.{◌≡◌, ◌≤◌, ◌+◌, true, false};
     ghost use Rattle.world_core.specs.Sends.{sends_below};
     ghost use Rattle.node_runner.specs.Place.{Place, is_live, sends_passed};
-    ghost use Rattle.fleet_threads.specs.Member.{IsUnderWay, IsOver};
+    ghost use Rattle.fleet_threads.specs.Member.{IsUnderWay, GoesOn, IsOver};
 
     /// The number of its node.
     pub fn number(&self) -> u8
@@ -87,8 +87,7 @@ impl Member {
     // Tells all nodes to halt, and halts.
     fn halt<N: Session>(&mut self, shared: &Shared<Scenario, N>, scenario: &Scenario, end: u64)
         requires { IsUnderWay N.table N.world scenario.now N.floor end self.old }
-        ensures member { IsUnderWay N.table N.world scenario.now N.floor end self.new }
-        ensures runner { self.new.runner ≡ self.old.runner }
+        ensures { IsUnderWay N.table N.world scenario.now N.floor end self.new × (self.new.runner ≡ self.old.runner) }
     {
         let _ = scenario;
         let _ = end;
@@ -126,8 +125,7 @@ impl Member {
     )
         requires member { IsUnderWay N.table N.world scenario.now N.floor end self.old }
         requires none { sends_below N.world.sends self.old.air.number (sent + self.old.gap) ≤ sends_passed self.old.runner }
-        ensures member { IsUnderWay N.table N.world scenario.now N.floor end self.new }
-        ensures number { self.new.runner.number ≡ self.old.runner.number }
+        ensures { GoesOn N.table N.world scenario.now N.floor end self.old self.new }
     {
         let _ = scenario;
         let free = sent.saturating_add(self.gap).min(end);
@@ -147,8 +145,7 @@ impl Member {
     )
         requires member { IsUnderWay N.table N.world scenario.now N.floor end self.old }
         requires asking { self.old.runner.asking ≡ true }
-        ensures member { IsUnderWay N.table N.world scenario.now N.floor end self.new }
-        ensures number { self.new.runner.number ≡ self.old.runner.number }
+        ensures { GoesOn N.table N.world scenario.now N.floor end self.old self.new }
     {
         let cycle = self.runner.cycle();
         match ask(rt, shared, sampling, &mut self.air, cycle) {
@@ -170,8 +167,7 @@ impl Member {
         requires member { IsUnderWay N.table N.world scenario.now N.floor end self.old }
         requires calm { self.old.runner.asking ≡ false }
         requires live { is_live end self.old.runner ≡ true }
-        ensures member { IsUnderWay N.table N.world scenario.now N.floor end self.new }
-        ensures number { self.new.runner.number ≡ self.old.runner.number }
+        ensures { GoesOn N.table N.world scenario.now N.floor end self.old self.new }
     {
         gate.reached(rt, self.runner.number(), self.turn);
         self.turn = self.turn.saturating_add(1);
@@ -204,8 +200,7 @@ impl Member {
         sampling: Sampling,
     ) -> bool
         requires { IsUnderWay N.table N.world scenario.now N.floor end self.old }
-        ensures member { IsUnderWay N.table N.world scenario.now N.floor end self.new }
-        ensures number { self.new.runner.number ≡ self.old.runner.number }
+        ensures on { GoesOn N.table N.world scenario.now N.floor end self.old self.new }
         ensures over { result ≡ true → IsOver end self.new }
     {
         if self.halted {

@@ -1,11 +1,8 @@
 // A run between two epochs.
-use crate::epoch_lists::{Lists, Nodes};
 use crate::gate::Gate;
 use crate::member::Member;
 use crate::threads::run_all;
-use air_record::Air;
-use clock_words::Clocks;
-use neighbour_sync::{Session, Shared};
+use neighbour_sync::{Air, Clocks, Session, Shared};
 use node_runner::Scenario;
 use std::sync::Wait;
 use std::thread::Threads;
@@ -29,24 +26,24 @@ impl Drop for Parts {
 }
 
 impl Parts {
-    ghost use Rattle.std.specs.Prelude.{◌≡◌, vec_len};
+    ghost use Rattle.std.specs.Prelude.{◌≡◌};
     ghost use Rattle.std.specs.List.{All};
     ghost use Rattle.neighbour_sync.specs.Parts.{AreParts};
-    ghost use Rattle.fleet_threads.specs.Member.{IsUnderWay, IsBack, numbers};
-    ghost use Rattle.fleet_threads.specs.Nodes.{HaveRoom};
+    ghost use Rattle.fleet_threads.specs.Member.{IsBack, numbers};
+    ghost use Rattle.fleet_threads.specs.Nodes.{AreBegun};
 
-    /// One epoch in a session of its own, which is made, used and taken apart.
+    /// One epoch in a session of its own, which is made, used and taken apart. The list is for nodes for which no thread is
+    /// found.
     pub fn in_session<N: Session + Send + Sync, R: Threads + Wait + Sync, G: Gate + Sync>(
         self,
         rt: &R,
         gate: &G,
         scenario: &Scenario,
         end: u64,
-        lists: Lists,
+        waiting: Vec<Member>,
     ) -> Parts
         requires parts { AreParts N.table N.world N.floor self.clocks self.air }
-        requires members { All (IsUnderWay N.table N.world scenario.now N.floor end) self.members.items }
-        requires room { HaveRoom (vec_len self.members) lists }
+        requires begun { AreBegun N.table N.world scenario.now N.floor end self.members waiting }
         ensures parts { AreParts N.table N.world N.floor result.clocks result.air }
         ensures members { All (IsBack N.table N.world scenario.now N.floor end) result.members.items }
         ensures numbers { numbers result.members.items ≡ numbers self.members.items }
@@ -56,18 +53,8 @@ impl Parts {
             air,
             members,
         } = self;
-        let Lists {
-            waiting,
-            done,
-            refused,
-        } = lists;
         let shared: Shared<Scenario, N> = Shared::new(clocks, air);
-        let nodes = Nodes {
-            members,
-            waiting,
-            done,
-        };
-        let members = run_all(rt, &shared, gate, scenario, &refused, end, nodes);
+        let members = run_all(rt, &shared, gate, scenario, end, members, waiting);
         let (clocks, air) = shared.into_parts();
         Parts {
             clocks,

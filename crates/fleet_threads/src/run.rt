@@ -1,7 +1,7 @@
 // A run in epochs, and the whole run.
 ghost use Rattle.std.specs.Prelude.{◌≡◌, ◌<◌, ◌≤◌, ◌+◌, ◌++◌, ◌==◌, min, map, true, false, [], IfOk, OnOk, vec_len, vec_capacity};
 ghost use Rattle.std.specs.List.{All};
-ghost use Rattle.global_order.specs.Order.{facts_of, run_rows};
+ghost use Rattle.world_core.specs.Order.{facts_of, run_rows};
 ghost use Rattle.node_runner.specs.Scenario.{fleet_of, IsScenario};
 ghost use Rattle.node_runner.specs.Flight.{epoch};
 ghost use Rattle.node_runner.specs.Run.{rows_upto};
@@ -9,20 +9,18 @@ ghost use Rattle.fleet_threads.specs.Member.{IsEpoch};
 ghost use Rattle.fleet_threads.specs.Run.{IsTied, IsFirst, air_of};
 
 use crate::ending::{any_halted, epoch_rows};
-use crate::epoch_lists::lists_for;
 use crate::gate::Gate;
 use crate::member::Member;
 use crate::parts::Parts;
-use air_record::Air;
 use avr_base::NoMemory;
-use neighbour_sync::{NodeAir, cut_when_passed, open_air};
+use neighbour_sync::{Air, NodeAir, cut_when_passed, open_air};
+use node_core::Row;
 use node_runner::{Runner, Scenario};
 use std::alloc::Global;
 use std::marker::{Brand, Model};
 use std::snapshot::Snapshot;
 use std::sync::Wait;
 use std::thread::Threads;
-use trace_rows::Row;
 use world_core::EPOCH;
 
 // A node at reset.
@@ -86,8 +84,8 @@ fn through<R: Threads + Wait + Sync, G: Gate + Sync>(
     ensures rows { IfOk result (λ e. rows_upto (fleet_of scenario.now) end ≡ rows_upto (fleet_of scenario.now) floor ++ e.rows.items) }
     ensures tied { IfOk result (λ e. IsTied scenario.now end end e.parts) }
 {
-    let lists = lists_for(alloc, parts.members.len())?;
-    let mut parts = parts.in_session::<Brand, R, G>(rt, gate, scenario, end, lists);
+    let waiting = Vec::with_capacity(alloc, parts.members.len())?;
+    let mut parts = parts.in_session::<Brand, R, G>(rt, gate, scenario, end, waiting);
     if any_halted(&parts.members) {
         return Err(NoMemory);
     }
@@ -134,7 +132,7 @@ impl Model for ThreadRun {
 impl ThreadRun {
     ghost use Rattle.std.specs.Prelude.{◌≡◌, ◌<◌, ◌≤◌, ◌+◌, ◌++◌, ◌==◌, min, true, false, IfOk, OnOk};
     ghost use Rattle.world_core.specs.Kept.{IsPostedTo};
-    ghost use Rattle.global_order.specs.Order.{facts_of};
+    ghost use Rattle.world_core.specs.Order.{facts_of};
     ghost use Rattle.node_runner.specs.Scenario.{fleet_of, IsScenario};
     ghost use Rattle.node_runner.specs.Flight.{epoch};
     ghost use Rattle.node_runner.specs.Run.{RunAt, rows_upto};

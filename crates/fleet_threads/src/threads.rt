@@ -1,23 +1,23 @@
 // A thread for each node of an epoch.
-ghost use Rattle.std.specs.Prelude.{◌≡◌, ◌<◌, [], true, IfSome, IfNone, vec_len, vec_capacity};
+ghost use Rattle.std.specs.Prelude.{◌≡◌, true};
 ghost use Rattle.std.specs.List.{All};
 ghost use Rattle.std.specs.Thread.{IsSync};
 ghost use Rattle.fleet_threads.specs.Member.{IsUnderWay, IsBack, IsOver, numbers};
-ghost use Rattle.fleet_threads.specs.Handed.{IsHanded};
-ghost use Rattle.fleet_threads.specs.Nodes.{AreBegun, AreBack, IsNone, IsNext, IsWaiting, IsPut, IsPutLast};
+ghost use Rattle.fleet_threads.specs.Nodes.{IsHanded, AreBegun, AreBack};
 
-use crate::epoch_lists::Nodes;
 use crate::gate::Gate;
-use crate::handed::{Handed, Sent};
 use crate::member::{Member, Sampling};
 use crossbeam_utils::Backoff;
 use neighbour_sync::{Session, Shared};
 use node_runner::Scenario;
 use std::marker::PhantomData;
 use std::sync::Wait;
-use std::sync::atomic::{AtomicBool, Ordering};
+use std::sync::atomic::{AtomicU64, Ordering};
 use std::thread;
 use std::thread::{Promise, Scope, Threads};
+
+/// The number of no node: none was refused yet.
+const NOBODY: u64 = u64::MAX;
 
 /// That a thread hands back the node of this number, under way in this epoch of the scenario or at its end.
 #[derive(Drop)]
@@ -28,7 +28,7 @@ pub struct HandsBack<'s, N: Session> {
     of: PhantomData<N>,
 }
 
-impl<'s, N: Session> Promise<Handed> for HandsBack<'s, N> {
+impl<'s, N: Session> Promise<Member> for HandsBack<'s, N> {
     ghost kept_by = { λ p r. IsHanded N.table N.world p.scenario.now N.floor p.end p.number r };
 }
 
@@ -53,116 +53,25 @@ fn work<N: Session, R: Wait, G: Gate>(
     unreachable!()
 }
 
-// The same, unless no thread was found for the node: then it is handed back as it is.
+// The same, unless no thread was found for the node: then it is handed back as it is. The node that was refused last is the
+// one for which this is called where a thread was to be begun; those that have threads were never refused. No clause rests
+// on it.
 fn work_unless_refused<N: Session, R: Wait, G: Gate>(
     rt: &R,
     shared: &Shared<Scenario, N>,
     gate: &G,
     scenario: &Scenario,
-    refused: &[AtomicBool],
+    refused: &AtomicU64,
     end: u64,
-    sent: Sent,
-) -> Handed
-    requires { IsUnderWay N.table N.world scenario.now N.floor end sent }
-    ensures { IsHanded N.table N.world scenario.now N.floor end sent.runner.number result }
+    member: Member,
+) -> Member
+    requires { IsUnderWay N.table N.world scenario.now N.floor end member }
+    ensures { IsHanded N.table N.world scenario.now N.floor end member.runner.number result }
 {
-    let member = sent.member();
-    if is_refused(refused, member.number()) {
-        return Handed {
-            member,
-            is_over: false,
-        };
+    if refused.load(Ordering::SeqCst) == u64::from(member.number()) {
+        return member;
     }
-    Handed {
-        member: work(rt, shared, gate, scenario, end, member),
-        is_over: true,
-    }
-}
-
-// Whether no thread was found for this node. No clause rests on it.
-fn is_refused(refused: &[AtomicBool], node: u8) -> bool {
-    match refused.get(usize::from(node)) {
-        Some(flag) => flag.load(Ordering::SeqCst),
-        None => false,
-    }
-}
-
-// Notes that no thread was found for this node.
-fn refuse(refused: &[AtomicBool], node: u8) {
-    if let Some(flag) = refused.get(usize::from(node)) {
-        flag.store(true, Ordering::SeqCst);
-    }
-}
-
-// The last of the nodes that are still to be begun.
-fn next<N: Session>(nodes: &mut Nodes, scenario: &Scenario, end: u64) -> Option<Member>
-    requires { All (IsUnderWay N.table N.world scenario.now N.floor end) nodes.old.members.items }
-    ensures some { IfSome result (λ m. IsNext N.table N.world scenario.now N.floor end nodes.old m nodes.new) }
-    ensures none { IfNone result (IsNone nodes.old nodes.new) }
-{
-    let _ = scenario;
-    let _ = end;
-    nodes.members.pop()
-}
-
-// Puts a node that was handed back behind those for which no thread was found. It may or may not have been run.
-fn wait<N: Session>(nodes: &mut Nodes, scenario: &Scenario, end: u64, number: u8, handed: Handed)
-    requires handed { IsHanded N.table N.world scenario.now N.floor end number handed }
-    requires room { vec_len nodes.old.waiting < vec_capacity nodes.old.waiting }
-    ensures { IsWaiting N.table N.world scenario.now N.floor end number nodes.old nodes.new }
-{
-    let _ = scenario;
-    let _ = end;
-    let _ = number;
-    nodes.waiting.push_reserved(handed.member);
-}
-
-// Puts a node that is at the end of the epoch behind those that are back.
-fn put<N: Session>(nodes: &mut Nodes, scenario: &Scenario, end: u64, member: Member)
-    requires member { IsBack N.table N.world scenario.now N.floor end member }
-    requires room { vec_len nodes.old.done < vec_capacity nodes.old.done }
-    ensures { IsPut N.table N.world scenario.now N.floor end member.runner.number nodes.old nodes.new }
-{
-    let _ = scenario;
-    let _ = end;
-    nodes.done.push_reserved(member);
-}
-
-// Puts the node for which no thread was found last behind those that are back.
-fn put_last<N: Session>(nodes: &mut Nodes, scenario: &Scenario, end: u64)
-    requires rest { All (IsBack N.table N.world scenario.now N.floor end) nodes.old.waiting.items }
-    requires some { numbers nodes.old.waiting.items ≡ [] → ⊥ }
-    requires room { vec_len nodes.old.done < vec_capacity nodes.old.done }
-    ensures { IsPutLast N.table N.world scenario.now N.floor end nodes.old nodes.new }
-{
-    let Some(member) = nodes.waiting.pop() else {
-        unreachable!();
-    };
-    put::<N>(nodes, scenario, end, member);
-}
-
-// Puts a node that was handed back behind those that are back, when it has come to the end of the epoch.
-fn put_finished<N: Session, R: Wait, G: Gate>(
-    rt: &R,
-    shared: &Shared<Scenario, N>,
-    gate: &G,
-    scenario: &Scenario,
-    end: u64,
-    number: u8,
-    handed: Handed,
-    nodes: &mut Nodes,
-)
-    requires handed { IsHanded N.table N.world scenario.now N.floor end number handed }
-    requires room { vec_len nodes.old.done < vec_capacity nodes.old.done }
-    ensures { IsPut N.table N.world scenario.now N.floor end number nodes.old nodes.new }
-{
-    let _ = number;
-    if handed.is_over {
-        put::<N>(nodes, scenario, end, handed.member);
-    } else {
-        let member = work(rt, shared, gate, scenario, end, handed.member);
-        put::<N>(nodes, scenario, end, member);
-    }
+    work(rt, shared, gate, scenario, end, member)
 }
 
 // One step of each node for which no thread was found. Whether all of them are over.
@@ -213,28 +122,28 @@ fn rotate<N: Session, R: Wait, G: Gate>(
 }
 
 // Starts the last node, goes on with the others, and joins it. When all are started, those for which no thread was found
-// are run here. (That `R` and `G` may be shared is a condition, since the bounds of a function that calls itself are not told
-// to its proof.)
+// are run here. A node whose thread has taken it to the end of the epoch stays there when it is worked on once more. (That
+// `R` and `G` may be shared is a condition, since the bounds of a function that calls itself are not told to its proof.)
 fn run_from<'s, E, N: Session + Send + Sync, R: Threads + Wait + Sync, G: Gate + Sync>(
     scope: &Scope<'s, E>,
     rt: &'s R,
     shared: &'s Shared<Scenario, N>,
     gate: &'s G,
     scenario: &'s Scenario,
-    refused: &'s [AtomicBool],
+    refused: &'s AtomicU64,
     end: u64,
-    nodes: &mut Nodes,
+    members: &mut Vec<Member>,
+    waiting: &mut Vec<Member>,
 )
     requires shared { IsSync R.row × IsSync G.row }
-    requires begun { AreBegun N.table N.world scenario.now N.floor end nodes.old }
-    ensures { AreBack N.table N.world scenario.now N.floor end nodes.old nodes.new }
+    requires begun { AreBegun N.table N.world scenario.now N.floor end members.old waiting.old }
+    ensures { AreBack N.table N.world scenario.now N.floor end members.old waiting.old members.new waiting.new }
 {
-    let Some(member) = next::<N>(nodes, scenario, end) else {
-        rotate(rt, shared, gate, scenario, end, &mut nodes.waiting);
+    let Some(member) = members.pop() else {
+        rotate(rt, shared, gate, scenario, end, waiting);
         return;
     };
     let number = member.number();
-    let sent = Sent::of(member);
     let promise: HandsBack<'s, N> = HandsBack {
         scenario,
         number,
@@ -242,19 +151,25 @@ fn run_from<'s, E, N: Session + Send + Sync, R: Threads + Wait + Sync, G: Gate +
         of: PhantomData,
     };
     match scope.spawn_with(promise, move || {
-        work_unless_refused(rt, shared, gate, scenario, refused, end, sent)
+        work_unless_refused(rt, shared, gate, scenario, refused, end, member)
     }) {
         Ok(child) => {
-            run_from(scope, rt, shared, gate, scenario, refused, end, nodes);
+            run_from(
+                scope, rt, shared, gate, scenario, refused, end, members, waiting,
+            );
             let handed = child.join(rt);
-            put_finished(rt, shared, gate, scenario, end, number, handed, nodes);
+            members.push_reserved(work(rt, shared, gate, scenario, end, handed));
         }
         Err(unstarted) => {
-            refuse(refused, number);
-            let handed = (unstarted.value)();
-            wait::<N>(nodes, scenario, end, number, handed);
-            run_from(scope, rt, shared, gate, scenario, refused, end, nodes);
-            put_last::<N>(nodes, scenario, end);
+            refused.store(u64::from(number), Ordering::SeqCst);
+            waiting.push_reserved((unstarted.value)());
+            run_from(
+                scope, rt, shared, gate, scenario, refused, end, members, waiting,
+            );
+            let Some(last) = waiting.pop() else {
+                unreachable!();
+            };
+            members.push_reserved(last);
         }
     }
 }
@@ -265,26 +180,39 @@ pub fn run_all<N: Session + Send + Sync, R: Threads + Wait + Sync, G: Gate + Syn
     shared: &Shared<Scenario, N>,
     gate: &G,
     scenario: &Scenario,
-    refused: &[AtomicBool],
     end: u64,
-    nodes: Nodes,
+    members: Vec<Member>,
+    waiting: Vec<Member>,
 ) -> Vec<Member>
-    requires { AreBegun N.table N.world scenario.now N.floor end nodes }
+    requires { AreBegun N.table N.world scenario.now N.floor end members waiting }
     ensures all { All (IsBack N.table N.world scenario.now N.floor end) result.items }
-    ensures numbers { numbers result.items ≡ numbers nodes.members.items }
+    ensures numbers { numbers result.items ≡ numbers members.items }
 {
+    let refused = AtomicU64::new(NOBODY);
+    let refused = &refused;
     thread::scope(
         thread::scope_env(),
         rt,
         move |scope| -> Vec<Member>
             requires shared { IsSync R.row × IsSync G.row }
-            requires begun { AreBegun N.table N.world scenario.now N.floor end nodes }
+            requires begun { AreBegun N.table N.world scenario.now N.floor end members waiting }
             ensures all { All (IsBack N.table N.world scenario.entry.now N.floor end) result.items }
-            ensures numbers { numbers result.items ≡ numbers nodes.members.items }
+            ensures numbers { numbers result.items ≡ numbers members.items }
         {
-            let mut nodes = nodes;
-            run_from(scope, rt, shared, gate, scenario, refused, end, &mut nodes);
-            nodes.done
+            let mut members = members;
+            let mut waiting = waiting;
+            run_from(
+                scope,
+                rt,
+                shared,
+                gate,
+                scenario,
+                refused,
+                end,
+                &mut members,
+                &mut waiting,
+            );
+            members
         },
     )
 }

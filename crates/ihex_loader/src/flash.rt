@@ -1,6 +1,6 @@
 // The flash of a node.
 ghost use Rattle.std.specs.Prelude.{◌≡◌, ℕ, ◌+◌, ◌-◌, ◌*◌, ◌<◌, ◌≤◌, ◌==◌, List, [], max, length, slice_index, IfOk, Decides};
-ghost use Rattle.ihex_loader.specs.Flash.{byte_at, word_at, padded, image_of_words};
+ghost use Rattle.ihex_loader.specs.Flash.{byte_at, bytes_of_words, word_at, padded, image_of_words};
 ghost use Rattle.ihex_loader.specs.Image.{placed, last_put};
 
 use avr_base::NoMemory;
@@ -103,6 +103,19 @@ impl Flash {
     }
 }
 
+/// The bytes of words, low byte first.
+pub fn bytes_of(alloc: Global, words: &[u16]) -> Result<Vec<u8>, AllocError>
+    requires { length words.now ≤ 65536 }
+    ensures bytes { IfOk result (λ bytes. bytes.items ≡ bytes_of_words words.now) }
+    ensures len { IfOk result (λ bytes. length bytes.items ≡ 2 * length words.now) }
+{
+    let mut bytes = Vec::with_capacity(alloc, 2 * words.len())?;
+    for word in words {
+        bytes.extend_from_slice(&word.to_le_bytes())?;
+    }
+    Ok(bytes)
+}
+
 /// The flash that has `words`, at most 65,536 of them, from word address 0 on, low byte first; behind them 0xFF.
 pub fn flash_of(alloc: Global, words: &[u16]) -> Result<Flash, NoMemory>
     requires { length words.now ≤ 65536 }
@@ -110,10 +123,7 @@ pub fn flash_of(alloc: Global, words: &[u16]) -> Result<Flash, NoMemory>
     // so the words read back
     ensures words { IfOk result (λ flash. (pc : ℕ) → pc < length words.now → word_at flash.bytes pc ≡ slice_index words.now pc) }
 {
-    let mut bytes = Vec::with_capacity(alloc, FLASH_BYTES)?;
-    for word in words {
-        bytes.extend_from_slice(&word.to_le_bytes())?;
-    }
+    let bytes = bytes_of(alloc, words)?;
     Ok(Flash {
         used: bytes.len() as u32,
         bytes: padded_to(bytes, FLASH_BYTES)?,

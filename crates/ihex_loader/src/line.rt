@@ -39,8 +39,8 @@ fn fits(kind: u8, len: usize) -> bool
     }
 }
 
-// The sum of the bytes modulo 256.
-fn sum_of(bytes: &[u8]) -> u8
+/// The sum of the bytes modulo 256.
+pub fn sum_of(bytes: &[u8]) -> u8
     ensures { result ≡ sum bytes.now % 256 }
 {
     let mut sum = 0u8;

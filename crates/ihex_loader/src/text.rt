@@ -1,9 +1,10 @@
 // The text of a whole file.
-ghost use Rattle.std.specs.Prelude.{◌≡◌, ◌≤◌, ◌*◌, ◌++◌, ◌<◌, IfOk, OnOk, None, drop, length, take};
-ghost use Rattle.ihex_loader.specs.Flash.{bytes_of_words, image_of_words};
+ghost use Rattle.std.specs.Prelude.{◌≡◌, ◌≤◌, ◌*◌, ◌++◌, ◌<◌, [], IfOk, OnOk, None, drop, length, take};
+ghost use Rattle.ihex_loader.specs.Flash.{image_of_words};
 ghost use Rattle.ihex_loader.specs.Image.{hex_fault, image};
-ghost use Rattle.ihex_loader.specs.Hex.{base_at, count, hex_of, record_at, records_to};
+ghost use Rattle.ihex_loader.specs.Hex.{base_at, count, hex_of, record_at, record_line, records_to};
 
+use crate::flash::bytes_of;
 use crate::rows::put_record;
 use avr_base::NoMemory;
 use std::alloc::{AllocError, Global};
@@ -13,19 +14,6 @@ const RECORD: usize = 16;
 
 // The record at the byte address 0x10000.
 const SECOND_SEGMENT: usize = 4_096;
-
-// The bytes of words, low byte first.
-fn bytes_of(alloc: Global, words: &[u16]) -> Result<Vec<u8>, AllocError>
-    requires { length words.now ≤ 65536 }
-    ensures bytes { IfOk result (λ bytes. bytes.items ≡ bytes_of_words words.now) }
-    ensures len { IfOk result (λ bytes. length bytes.items ≤ 131072) }
-{
-    let mut bytes = Vec::with_capacity(alloc, 2 * words.len())?;
-    for word in words {
-        bytes.extend_from_slice(&word.to_le_bytes())?;
-    }
-    Ok(bytes)
-}
 
 // The bytes of record `n`, counted from 0: 16 of them, or what is left.
 fn row(n: usize, bytes: &[u8]) -> &[u8]
@@ -45,7 +33,7 @@ fn put_base(alloc: Global, n: usize, text: &mut Vec<u8>) -> Result<(), AllocErro
     ensures { OnOk result (text.new.items ≡ text.old.items ++ base_at n) }
 {
     if n == SECOND_SEGMENT {
-        put_record(alloc, 4, 0, &[0, 1], text)?;
+        return put_record(alloc, 4, 0, &[0, 1], text);
     }
     Ok(())
 }
@@ -62,15 +50,15 @@ fn put_row(alloc: Global, n: usize, bytes: &[u8], text: &mut Vec<u8>) -> Result<
     put_record(alloc, 0, offset, row(n, bytes), text)
 }
 
-// Appends all records of the bytes.
+// Appends all records of the bytes, and the end record.
 fn put_rows(alloc: Global, bytes: &[u8], text: &mut Vec<u8>) -> Result<(), AllocError>
     requires { length bytes.now ≤ 131072 }
-    ensures { OnOk result (text.new.items ≡ text.old.items ++ records_to (count bytes.now) bytes.now) }
+    ensures { OnOk result (text.new.items ≡ text.old.items ++ (records_to (count bytes.now) bytes.now ++ record_line 1 0 [])) }
 {
     for n in 0..(bytes.len() + 15) / RECORD {
         put_row(alloc, n, bytes, text)?;
     }
-    Ok(())
+    put_record(alloc, 1, 0, &[], text)
 }
 
 // The text of words, by the rules alone.
@@ -82,7 +70,6 @@ fn written(alloc: Global, words: &[u16]) -> Result<Vec<u8>, NoMemory>
     let bytes = bytes_of(alloc, words)?;
     let mut text = Vec::new(alloc);
     put_rows(alloc, &bytes, &mut text)?;
-    put_record(alloc, 1, 0, &[], &mut text)?;
     Ok(text)
 }
 

@@ -65,11 +65,11 @@ pub fn execute(
         Class::Arith => ("arith", Ok(arith_step::exec(op, &mut m.cpu))),
         Class::Flow => (
             "flow",
-            flow_step::exec(op, flash, &mut m.cpu, &mut m.memory),
+            bus_step::exec_flow(op, flash, &mut m.cpu, &mut m.memory),
         ),
         Class::Memory => (
             "memory",
-            memory_step::exec(op, flash, &mut m.cpu, &mut m.memory),
+            bus_step::exec_memory(op, flash, &mut m.cpu, &mut m.memory),
         ),
         Class::Halting(cause) => ("halting", Err(cause)),
     };

@@ -7,7 +7,7 @@ use Rattle.avr_decoder.specs.declared.op.Op.{Op}
 use Rattle.arith_step.specs.Table.{arith_cpu}
 use Rattle.data_space.specs.declared.cpu.Cpu.{Cpu}
 use Rattle.data_space.specs.Sequence.{Outcome}
-use Rattle.flow_step.specs.Shapes.{branched, ends}
+use Rattle.bus_step.specs.FlowShapes.{branched, ends}
 
 -- the byte in general register d
 abbrev pub reg : ℕ → Cpu → ℕ

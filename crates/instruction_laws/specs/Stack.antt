@@ -7,8 +7,8 @@ use Rattle.avr_decoder.specs.declared.op.Op.TheVariants as op
 use Rattle.data_space.specs.declared.cpu.Cpu.{Cpu}
 use Rattle.data_space.specs.Core.{advanced}
 use Rattle.data_space.specs.Sequence.{Outcome, done}
-use Rattle.flow_step.specs.Table.{flow_effect}
-use Rattle.memory_step.specs.Table.{memory_effect}
+use Rattle.bus_step.specs.FlowTable.{flow_effect}
+use Rattle.bus_step.specs.MemoryTable.{memory_effect}
 
 -- a bus, by what its accesses give
 pub record Accesses (B : Type 0) : Type 0 where

@@ -13,8 +13,8 @@ ghost use Rattle.data_space.specs.declared.cpu.Cpu.{Cpu};
 ghost use Rattle.instruction_laws.specs.Branches.{AreApart, AreBytes, IsCompared, IsCore, both, branches, reg, word, word_in};
 ghost use Rattle.data_space.specs.Core.{advanced, with_reg};
 ghost use Rattle.arith_step.specs.Whole.{signed};
-ghost use Rattle.flow_step.specs.Table.{flow_effect};
-ghost use Rattle.memory_step.specs.Table.{memory_effect};
+ghost use Rattle.bus_step.specs.FlowTable.{flow_effect};
+ghost use Rattle.bus_step.specs.MemoryTable.{memory_effect};
 ghost use Rattle.instruction_laws.specs.Stack.{Accesses, ComesBack, IsStack, TakesReturn, ended, then_memory};
 
 /// After CP, and after CPI, the flags compare the two bytes.

@@ -1,3 +1,12 @@
+pub mod Reached
+pub mod Keeps
+pub mod Words
+pub mod Views
+pub mod NodeSteps
+pub mod AirSteps
+pub mod Laying
+pub mod Calls
+pub mod Seating
 pub mod Seeing
 pub mod Trying
 pub mod Telling

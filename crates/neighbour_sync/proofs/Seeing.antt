@@ -3,7 +3,7 @@ use Rattle.std.proofs.Common.{◌≡◌, ℕ, zero, suc, List, [], ◌∷◌, �
 use Rattle.std.specs.List.{All}
 use Rattle.std.proofs.lemmas.List.Elements.{Contains-append_left, Contains-append_right}
 use Rattle.world_core.specs.declared.world.WorldFacts.{WorldFacts}
-use Rattle.clock_words.specs.Seats.{NodeFacts}
+use Rattle.neighbour_sync.specs.Seats.{NodeFacts}
 use Rattle.neighbour_sync.specs.Looks.{peeked, looked, IsSeenPast, AreSeenPast}
 
 -- ---- what was seen stays seen

@@ -4,9 +4,9 @@ use Rattle.world_core.specs.declared.world.WorldFacts.{WorldFacts}
 use Rattle.world_core.specs.declared.air.Sampled.{Sampled}
 use Rattle.world_core.specs.declared.air.Sampled.TheVariants.{Heard, NotYet, NoMemory}
 use Rattle.world_core.specs.Settled.{truth}
-use Rattle.clock_words.specs.Seats.{NodeFacts, node_told}
-use Rattle.air_record.specs.Looks.{AreReached}
-use Rattle.air_record.specs.Record.{AirRecord, IsSample, with_loads, cut_at}
+use Rattle.neighbour_sync.specs.Seats.{NodeFacts, node_told}
+use Rattle.neighbour_sync.specs.Loads.{AreReached}
+use Rattle.neighbour_sync.specs.Record.{AirRecord, IsSample, with_loads, cut_at}
 use Rattle.neighbour_sync.specs.Told.{IsTold}
 
 pub told : (w : WorldFacts) (r : AirRecord) (j s : ℕ) (a : Sampled) (new : AirRecord) → r.world ≡ w → IsSample r j s a new → IsTold w j s a

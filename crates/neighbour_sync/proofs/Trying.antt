@@ -1,8 +1,8 @@
 -- What one try adds to the looks before it.
 use Rattle.std.proofs.Common.{◌≡◌, ℕ, suc, true, List, [], ◌∷◌, ◌++◌, replicate, sym, ◌∙◌, ap, subst, append_assoc}
 use Rattle.world_core.specs.declared.world.WorldFacts.{WorldFacts}
-use Rattle.clock_words.specs.Seats.{NodeFacts, node_asked}
-use Rattle.air_record.specs.Looks.{IsBehind}
+use Rattle.neighbour_sync.specs.Seats.{NodeFacts, node_asked}
+use Rattle.neighbour_sync.specs.Loads.{IsBehind}
 use Rattle.neighbour_sync.specs.Looks.{peeked, looked, AreSeenPast}
 use Rattle.neighbour_sync.specs.Waits.{IsEnd}
 use Rattle.neighbour_sync.proofs.Seeing.{all_after, look_peek, look_more, zeros_more}

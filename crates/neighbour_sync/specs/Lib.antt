@@ -1,3 +1,12 @@
+pub mod Loads
+pub mod Record
+pub mod Held
+pub mod Layout
+pub mod Rule
+pub mod Steps
+pub mod Seats
+pub mod Inside
+pub mod Asks
 pub mod NoSession
 pub mod Parts
 pub mod Told

@@ -3,7 +3,7 @@ use Rattle.std.specs.Prelude.{◌≡◌, ℕ, ◌-◌, ◌<◌, true, List, ◌+
 use Rattle.std.specs.List.{All, Contains}
 use Rattle.world_core.specs.declared.world.WorldFacts.{WorldFacts}
 use Rattle.world_core.specs.Topology.{is_needed, latency_of, neighbours}
-use Rattle.clock_words.specs.Seats.{NodeFacts}
+use Rattle.neighbour_sync.specs.Seats.{NodeFacts}
 
 -- the seat has looked at these clocks besides, each with its node
 abbrev pub peeked : NodeFacts → List (ℕ × ℕ) → NodeFacts

@@ -2,8 +2,8 @@
 use Rattle.std.specs.Prelude.{◌≡◌, ℕ}
 use Rattle.atomic_table.specs.Seated.{TableId}
 use Rattle.world_core.specs.declared.world.WorldFacts.{WorldFacts}
-use Rattle.clock_words.specs.Seats.{ClocksFacts}
-use Rattle.air_record.specs.Record.{AirRecord}
+use Rattle.neighbour_sync.specs.Seats.{ClocksFacts}
+use Rattle.neighbour_sync.specs.Record.{AirRecord}
 
 -- the words c and the record a are of one table and one world, and the record is cut at the cycle f
 pub record AreParts (t : TableId) (w : WorldFacts) (f : ℕ) (c : ClocksFacts) (a : AirRecord) : Type 0 where

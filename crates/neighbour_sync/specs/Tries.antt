@@ -2,8 +2,8 @@
 use Rattle.std.specs.Prelude.{◌≡◌, ℕ, true, List, [], ◌∷◌, ◌++◌}
 use Rattle.world_core.specs.declared.world.WorldFacts.{WorldFacts}
 use Rattle.world_core.specs.Settled.{truth}
-use Rattle.clock_words.specs.Seats.{NodeFacts, node_asked}
-use Rattle.air_record.specs.Looks.{IsBehind}
+use Rattle.neighbour_sync.specs.Seats.{NodeFacts, node_asked}
+use Rattle.neighbour_sync.specs.Loads.{IsBehind}
 use Rattle.neighbour_sync.specs.declared.answers.Tried.{Tried}
 use Rattle.neighbour_sync.specs.declared.answers.Tried.TheVariants.{Heard, NotYet, Halted, NoMemory}
 use Rattle.neighbour_sync.specs.Looks.{looked, AreSeenPast}

@@ -1,4 +1,4 @@
-// What a node is answered that samples the air.
+// What the calls of the record answer, and what a node is answered that samples the air.
 use world_core::Heard;
 
 /// The answer to one try.
@@ -28,4 +28,27 @@ pub enum Passed {
     Halted,
     /// There was no memory to keep the sample, and the record is as it was.
     NoMemory,
+}
+
+/// The answer to a node that posts a send.
+#[derive(Clone, Copy)]
+pub enum Posted {
+    /// The send is recorded now.
+    Added,
+    /// It was recorded before.
+    There,
+    /// Sends of this node that come before it are not posted yet: only `count` of them are.
+    Early {
+        /// How many sends of the node are posted.
+        count: u64,
+    },
+}
+
+/// A node that is not far enough, and its clock as it was loaded.
+#[derive(Clone, Copy)]
+pub struct Behind {
+    /// The number of the node.
+    pub node: u8,
+    /// Its clock, in cycles.
+    pub clock: u64,
 }

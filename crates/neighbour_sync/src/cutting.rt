@@ -1,11 +1,10 @@
 // The record between two sessions.
 ghost use Rattle.std.specs.Prelude.{◌≡◌, ◌≤◌, ◌++◌, ℕ, List};
 ghost use Rattle.world_core.specs.Kept.{IsPostedTo};
-ghost use Rattle.air_record.specs.Looks.{AreReached};
-ghost use Rattle.air_record.specs.Record.{with_loads, cut_at};
+ghost use Rattle.neighbour_sync.specs.Loads.{AreReached};
+ghost use Rattle.neighbour_sync.specs.Record.{with_loads, cut_at};
 
-use air_record::Air;
-use clock_words::Clocks;
+use crate::{Air, Clocks};
 use crossbeam_utils::Backoff;
 use std::sync::Wait;
 use world_core::World;

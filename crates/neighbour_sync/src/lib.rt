@@ -1,20 +1,33 @@
-//! The record of the air under a lock, beside the clock words, and what a node does with both: it raises its clock, posts
-//! what it sends, and samples the air, also while other threads do the same. docs/AIR.md tells what holds whenever the lock
-//! is free.
+//! What the nodes of a network know of one another while each runs on a thread of its own. The clock words, which need no lock:
+//! for each node a clock word and a word with the number of its posted sends, and one word by which any node halts all of
+//! them; they change under one rule, which docs/AIR.md tells, and each call of `Clocks` but `new` is one step of it. The
+//! record of the air: what was sent and sampled, in the order in which it was recorded, and kept so that each recorded sample
+//! is the true one and no later entry can alter it. And the record under its lock, beside the clock words, with what a node
+//! does with both: it raises its clock, posts what it sends, and samples the air, also while other threads do the same.
 #![tactic(auto)]
 
 mod answers;
+mod clocks;
 mod cutting;
+mod layout;
+mod loading;
 mod looking;
 mod node;
+mod open;
 mod opening;
+mod record;
+mod rule;
+mod seats;
 mod session;
 mod shared;
 mod steps;
 
-pub use answers::{Passed, Tried};
+pub use answers::{Behind, Passed, Posted, Tried};
+pub use clocks::Clocks;
 pub use cutting::cut_when_passed;
 pub use node::NodeAir;
 pub use opening::open_air;
+pub use record::Air;
+pub use seats::{AirSeat, NodeSeat};
 pub use session::Session;
 pub use shared::Shared;

@@ -2,12 +2,11 @@
 ghost use Rattle.std.specs.Prelude.{◌≡◌, ◌<◌, ◌∷◌, ◌++◌, [], ℕ, List, IfSome, IfNone};
 ghost use Rattle.std.specs.List.{All};
 ghost use Rattle.world_core.specs.Topology.{neighbours};
-ghost use Rattle.clock_words.specs.Seats.{node_peeked};
-ghost use Rattle.air_record.specs.Looks.{pair_of, IsBehind};
+ghost use Rattle.neighbour_sync.specs.Seats.{node_peeked};
+ghost use Rattle.neighbour_sync.specs.Loads.{pair_of, IsBehind};
 ghost use Rattle.neighbour_sync.specs.Looks.{peeked, IsSeenPast, AreSeenPast};
 
-use air_record::Behind;
-use clock_words::{Clocks, NodeSeat};
+use crate::{Behind, Clocks, NodeSeat};
 use world_core::{Topo, World};
 
 // The clock of node `from` where the seat's node may hear it in this cycle, and it is not far enough.

@@ -3,7 +3,7 @@ use crate::answers::{Passed, Tried};
 use crate::session::Session;
 use crate::shared::Shared;
 use crate::steps::{record, see_posted, try_once};
-use clock_words::{Clocks, NodeSeat};
+use crate::{Clocks, NodeSeat};
 use crossbeam_utils::Backoff;
 use std::marker::Model;
 use std::sync::Wait;
@@ -47,7 +47,7 @@ impl Drop for NodeAir {
 
 impl Model for NodeAir {
     ghost use Rattle.std.specs.Prelude.{◌≡◌};
-    ghost use Rattle.clock_words.specs.Seats.{NodeFacts};
+    ghost use Rattle.neighbour_sync.specs.Seats.{NodeFacts};
 
     ghost Value = { NodeFacts };
 
@@ -60,8 +60,8 @@ impl NodeAir {
     ghost use Rattle.std.specs.Prelude.{◌≡◌, ◌+◌, ◌≤◌, ◌<◌};
     ghost use Rattle.std.specs.List.{Contains};
     ghost use Rattle.world_core.specs.Sends.{sends_below, IsSendNumber};
-    ghost use Rattle.clock_words.specs.Seats.{node_raised, node_told, node_stopped};
-    ghost use Rattle.air_record.specs.Record.{epoch};
+    ghost use Rattle.neighbour_sync.specs.Seats.{node_raised, node_told, node_stopped};
+    ghost use Rattle.neighbour_sync.specs.Record.{epoch};
     ghost use Rattle.neighbour_sync.specs.Tries.{IsTried};
     ghost use Rattle.neighbour_sync.specs.Waits.{IsPassed};
 

@@ -1,12 +1,11 @@
 // The air of a world, when nothing has happened yet.
 ghost use Rattle.std.specs.Prelude.{◌≡◌, [], IfOk};
 ghost use Rattle.std.specs.List.{All};
-ghost use Rattle.clock_words.specs.Seats.{AreFirstNodes};
-ghost use Rattle.air_record.specs.Record.{first_record};
+ghost use Rattle.neighbour_sync.specs.Seats.{AreFirstNodes};
+ghost use Rattle.neighbour_sync.specs.Record.{first_record};
 
 use crate::node::NodeAir;
-use air_record::Air;
-use clock_words::{Clocks, NodeSeat};
+use crate::{Air, Clocks, NodeSeat};
 use std::alloc::Global;
 use world_core::{NoMemory, World};
 

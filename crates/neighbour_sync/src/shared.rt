@@ -2,8 +2,7 @@
 ghost use Rattle.std.specs.Prelude.{◌≡◌};
 
 use crate::session::Session;
-use air_record::{Air, Posted};
-use clock_words::Clocks;
+use crate::{Air, Clocks, Posted};
 use std::marker::{Model, PhantomData};
 use std::sync::{Mutex, Wait};
 use world_core::{Sampled, Send, World};
@@ -18,7 +17,7 @@ struct Locked<N: Session> {
 
 impl<N: Session> Model for Locked<N> {
     ghost use Rattle.std.specs.Prelude.{◌≡◌};
-    ghost use Rattle.air_record.specs.Record.{AirRecord};
+    ghost use Rattle.neighbour_sync.specs.Record.{AirRecord};
 
     ghost Value = { AirRecord };
 
@@ -31,7 +30,7 @@ impl<N: Session> Locked<N> {
     ghost use Rattle.std.specs.Prelude.{◌≡◌, ◌+◌, ◌≤◌, ◌<◌};
     ghost use Rattle.std.specs.List.{Contains};
     ghost use Rattle.world_core.specs.Sends.{IsSendNumber};
-    ghost use Rattle.air_record.specs.Record.{epoch, IsPost, IsSample};
+    ghost use Rattle.neighbour_sync.specs.Record.{epoch, IsPost, IsSample};
     ghost use Rattle.neighbour_sync.specs.Told.{IsTold};
 
     fn post<W: World>(&mut self, clocks: &Clocks<W>, send: Send, number: u64) -> Posted
@@ -67,7 +66,7 @@ impl<W: World, N: Session> Shared<W, N> {
     ghost use Rattle.std.specs.Prelude.{◌≡◌, ◌+◌, ◌≤◌, ◌<◌};
     ghost use Rattle.std.specs.List.{Contains};
     ghost use Rattle.world_core.specs.Sends.{IsSendNumber};
-    ghost use Rattle.air_record.specs.Record.{epoch, IsSound};
+    ghost use Rattle.neighbour_sync.specs.Record.{epoch, IsSound};
     ghost use Rattle.neighbour_sync.specs.Told.{IsTold};
     ghost use Rattle.neighbour_sync.specs.Parts.{AreParts};
 

@@ -2,16 +2,15 @@
 ghost use Rattle.std.specs.Prelude.{◌≡◌, ◌+◌, ◌≤◌, ◌<◌};
 ghost use Rattle.std.specs.List.{Contains};
 ghost use Rattle.world_core.specs.Sends.{IsSendNumber};
-ghost use Rattle.clock_words.specs.Seats.{node_told};
-ghost use Rattle.air_record.specs.Record.{epoch};
+ghost use Rattle.neighbour_sync.specs.Seats.{node_told};
+ghost use Rattle.neighbour_sync.specs.Record.{epoch};
 ghost use Rattle.neighbour_sync.specs.Tries.{IsTried};
 
 use crate::answers::Tried;
 use crate::looking::first_behind;
 use crate::session::Session;
 use crate::shared::Shared;
-use air_record::Posted;
-use clock_words::{Clocks, NodeSeat};
+use crate::{Clocks, NodeSeat, Posted};
 use crossbeam_utils::Backoff;
 use std::sync::Wait;
 use world_core::{Sampled, Send, Topo, World};

@@ -8,8 +8,8 @@ use Rattle.avr_decoder.specs.declared.op.Op.{Op}
 use Rattle.data_space.specs.declared.bus.Done.{Done}
 use Rattle.data_space.specs.declared.cpu.Cpu.{Cpu}
 use Rattle.data_space.specs.Space.{Access}
-use Rattle.trace_rows.specs.declared.row.Kind.{Kind as RowKind}
-use Rattle.trace_rows.specs.declared.row.Row.{Row}
+use Rattle.node_core.specs.declared.row.Kind.{Kind as RowKind}
+use Rattle.node_core.specs.declared.row.Row.{Row}
 use Rattle.node_core.specs.declared.bus.NodeBus.{NodeBus}
 use Rattle.node_core.specs.Bus.{bus_at}
 use Rattle.node_core.specs.Cycle.{acted, acted_rows, after_entry, after_instruction, cpu_cycle, cpu_rows, entered, entered_rows, entry_rows, instructed, instructed_rows, instruction_rows, is_refused, op_now, row, row_within}

@@ -8,7 +8,7 @@ use Rattle.board_io.specs.Lagging.{IsIdle}
 use Rattle.board_io.specs.Lines.{lines_of}
 use Rattle.board_io.proofs.Radio.{get_clock, put_clock}
 use Rattle.data_space.specs.declared.cpu.Cpu.{Cpu}
-use Rattle.usart_port.specs.Script.{script_byte}
+use Rattle.serial_ports.specs.Script.{script_byte}
 use Rattle.node_core.specs.declared.bus.NodeBus.{NodeBus}
 use Rattle.node_core.specs.declared.machine.Machine.{Machine}
 use Rattle.node_core.specs.Execute.{executed}

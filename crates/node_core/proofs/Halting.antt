@@ -7,7 +7,7 @@ use Rattle.avr_decoder.specs.declared.op.Class.{Class}
 use Rattle.avr_decoder.specs.declared.op.Class.TheVariants as class
 use Rattle.avr_decoder.specs.declared.op.Op.{Op}
 use Rattle.avr_decoder.specs.declared.op.Op.TheVariants as op
-use Rattle.trace_rows.specs.declared.row.Kind.TheVariants as kind
+use Rattle.node_core.specs.declared.row.Kind.TheVariants as kind
 use Rattle.node_core.specs.declared.machine.Machine.{Machine}
 use Rattle.node_core.specs.Cycle.{instructed, instructed_rows, is_sleep, op_now, row}
 use Rattle.node_core.specs.Execute.{executed}

@@ -5,12 +5,12 @@ use Rattle.avr_base.specs.declared.stop.StopCause.{StopCause}
 use Rattle.avr_decoder.specs.declared.op.Op.{Op}
 use Rattle.board_io.specs.declared.board.Board.{Board}
 use Rattle.board_io.proofs.Radio as board
-use Rattle.spi_port.specs.declared.radio.Radio.{Radio}
+use Rattle.serial_ports.specs.declared.radio.Radio.{Radio}
 use Rattle.data_space.specs.declared.bus.Done.{Done}
 use Rattle.data_space.specs.declared.cpu.Cpu.{Cpu}
 use Rattle.data_space.specs.Space.{Access}
 use Rattle.avr_base.specs.declared.interrupts.Vector.{Vector}
-use Rattle.usart_port.specs.Script.{script_byte}
+use Rattle.serial_ports.specs.Script.{script_byte}
 use Rattle.world_core.specs.declared.air.Heard.{Heard}
 use Rattle.node_core.specs.declared.bus.NodeBus.{NodeBus}
 use Rattle.node_core.specs.Bus.{bus_at}

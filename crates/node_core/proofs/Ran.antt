@@ -1,8 +1,9 @@
 -- What the processor's part of a cycle leaves, by what an instruction does to the core and the data space, and what an entry does.
-use Rattle.std.proofs.Common.{◌≡◌, ℕ, ◌&&◌, ◌||◌, ◌++◌, nat_le, nat_lt, Bool, true, false, cond, List, refl, sym, ap, ◌∙◌}
+use Rattle.std.proofs.Common.{◌≡◌, ℕ, ◌&&◌, ◌||◌, ◌++◌, nat_le, nat_lt, Bool, true, false, cond, Option, Some, None, List, refl, sym, ap, ◌∙◌}
 use Rattle.std.proofs.lemmas.Bool.{false≢true}
 use Rattle.std.specs.Prelude.{Result}
 use Rattle.avr_base.specs.declared.stop.StopCause.{StopCause}
+use Rattle.avr_base.specs.declared.stop.StopCause.TheVariants as stop
 use Rattle.avr_decoder.specs.Class.{class_of}
 use Rattle.avr_decoder.specs.declared.op.Class.{Class}
 use Rattle.avr_decoder.specs.declared.op.Class.TheVariants as class
@@ -14,13 +15,15 @@ use Rattle.data_space.specs.declared.bus.Done.{Done}
 use Rattle.data_space.specs.declared.cpu.Cpu.{Cpu}
 use Rattle.data_space.specs.Sequence.{Outcome}
 use Rattle.data_space.specs.Space.{Access}
-use Rattle.trace_rows.specs.declared.row.Row.{Row}
+use Rattle.node_core.specs.declared.row.Kind.TheVariants as kind
+use Rattle.node_core.specs.declared.row.Row.{Row}
 use Rattle.node_core.specs.declared.bus.NodeBus.{NodeBus}
 use Rattle.node_core.specs.declared.machine.Machine.{Machine}
 use Rattle.node_core.specs.Bus.{bus_at, with_board}
-use Rattle.node_core.specs.Cycle.{after_entry, after_instruction, entered, entered_rows, entry_rows, instructed, instructed_rows, instruction_rows, is_other, is_refused, is_sei, op_now, owes}
+use Rattle.node_core.specs.Cycle.{acted, acted_rows, after_entry, after_instruction, cpu_cycle, cpu_rows, entered, entered_rows, entry_rows, instructed, instructed_rows, instruction_rows, is_other, is_refused, is_sei, op_now, owes, row}
 use Rattle.node_core.specs.Execute.{executed, executed_by}
-use Rattle.node_core.specs.Interrupts.{entry}
+use Rattle.node_core.specs.Interrupts.{due, entry}
+use Rattle.node_core.specs.Midway.{IsActed}
 use Rattle.node_core.specs.Shown.{shown}
 use Rattle.node_core.specs.State.{NodeState}
 use Rattle.node_core.proofs.Halting.{is_no_flow, no_sleep}
@@ -90,3 +93,56 @@ no_flow_runs s o k e no_flow = ap (λ (b : Bool). b && is_other (sleep_mode s.bu
 
 pub memory_owes : (o : Op) (before after : ℕ) → class_of o ≡ class.Memory → (nat_lt before 128 && nat_le 128 after) ≡ owes o before after
 memory_owes o before after e = sym (ap (λ (b : Bool). b || (nat_lt before 128 && nat_le 128 after)) (no_sei o (ap is_memory e)))
+
+taken : {A : Type 0} (b : Bool) (p q : A) → b ≡ true → p ≡ cond b p q
+taken b p q e = sym (ap (λ (x : Bool). cond x p q) e)
+
+-- the same, told otherwise
+pub acted_as : (n : ℕ) (u w : NodeState) (k l : List Row) (old new : Machine) → u ≡ w → k ≡ l → IsActed n u k old new → IsActed n w l old new
+acted_as n u w k l old new state rows h = record {
+  state = h.state ∙ state;
+  rows = h.rows ∙ ap (λ (r : List Row). old.rows.items ++ r) rows;
+  going = h.going;
+  same = h.same;
+  room = h.room;
+  clock = h.clock;
+}
+
+-- SLEEP in a mode other than idle
+module _ (t : ℕ) (s : NodeState) (o : Op) (fetched : o ≡ op_now s) (is : is_refused s o ≡ true) where
+  refused_now : is_refused s (op_now s) ≡ true
+  refused_now = ap (is_refused s) (sym fetched) ∙ is
+
+  pub refused : (let u : NodeState = record s { stop = Some stop.SleepMode } in u) ≡ instructed t s
+  unfolding instructed
+  refused = taken (is_refused s (op_now s)) _ _ refused_now
+
+  pub refused_rows : row t s (kind.Stop s.cpu.pc stop.SleepMode) ≡ instructed_rows t s
+  unfolding instructed_rows
+  refused_rows = taken (is_refused s (op_now s)) _ _ refused_now
+
+-- what the processor does that neither waits nor sleeps, by what is due and whether an instruction is owed
+abbrev pub Part : ℕ → NodeState → NodeState → List Row → Type 0
+Part t s u k = (u ≡ cpu_cycle t s) × (k ≡ cpu_rows t s)
+
+module _ (t : ℕ) (s : NodeState) (free : s.wait ≡ 0) (awake : s.asleep ≡ false) where
+  idles_not : nat_lt 0 s.wait ≡ false
+  idles_not = ap (nat_lt 0) free
+
+  part : (o : Option Vector) (u : NodeState) (k : List Row) → due s ≡ o → u ≡ acted t s o → k ≡ acted_rows t s o → Part t s u k
+  unfolding cpu_cycle cpu_rows
+  part o u k is state rows = (
+    state ∙ (ap (acted t s) (sym is) ∙ skip (nat_lt 0 s.wait) _ _ idles_not),
+    rows ∙ (ap (acted_rows t s) (sym is) ∙ skip (nat_lt 0 s.wait) _ _ idles_not),
+  )
+
+  pub lets_in : (v : Vector) → due s ≡ Some v → s.owed ≡ false → Part t s (entered t 3 v s) (entered_rows t v s)
+  lets_in v is free =
+      part (Some v) _ _ is (skip s.owed _ _ free ∙ skip s.asleep _ _ awake) (skip s.owed _ _ free ∙ skip s.asleep _ _ awake)
+
+  pub goes_on_owed : (v : Vector) → due s ≡ Some v → s.owed ≡ true → Part t s (instructed t s) (instructed_rows t s)
+  goes_on_owed v is owed =
+      part (Some v) _ _ is (taken s.owed _ _ owed ∙ skip s.asleep _ _ awake) (taken s.owed _ _ owed ∙ skip s.asleep _ _ awake)
+
+  pub goes_on : due s ≡ None → Part t s (instructed t s) (instructed_rows t s)
+  goes_on is = part None _ _ is (skip s.asleep _ _ awake) (skip s.asleep _ _ awake)

@@ -1,8 +1,11 @@
 -- A run of a node goes on: by a rest, and by a cycle that neither samples nor sends.
-use Rattle.std.proofs.Common.{◌≡◌, ℕ, ◌+◌, ◌++◌, false, None, List, [], sym, subst}
-use Rattle.trace_rows.specs.declared.row.Row.{Row}
+use Rattle.std.proofs.Common.{◌≡◌, ℕ, ◌+◌, ◌^◌, ◌≤◌, ◌++◌, Bool, false, None, List, [], add-zero, sym, ◌∙◌, subst, arith}
+use Rattle.std.proofs.lemmas.Bool.{false≢true}
+use Rattle.node_core.specs.declared.row.Row.{Row}
 use Rattle.world_core.specs.NodeRun.{AllQuiet, Comes, Timed, passed, passed_rows}
 use Rattle.world_core.proofs.QuietCycles.{comes_leap, comes_more}
+use Rattle.node_core.specs.declared.machine.Machine.{Machine}
+use Rattle.node_core.specs.Inside.{IsWhole}
 use Rattle.node_core.specs.State.{NodeState}
 use Rattle.node_core.specs.Cycle.{asks_in, begun_in, begun_rows, node_kind, sends_in}
 
@@ -15,3 +18,13 @@ pub begun_comes : (v : Timed NodeState Row) (c : ℕ) (s u : NodeState) (l k : L
 begun_comes v c s u l k h asks sends e r =
     subst (λ (w : NodeState). Comes node_kind v (c + 1) w k) (sym e)
     (subst (Comes node_kind v (c + 1) (begun_in c s)) (sym r) (comes_more node_kind v c s l h (asks, sends)))
+
+-- the inside of a node that stands between two cycles
+pub whole_between : (t : ℕ) (b : Bool) (m : Machine) → b ≡ false → m.count ≤ 2 ^ 40 + t → (m.stop ≡ None → m.bus.board.clock ≡ t) → IsWhole t b m
+whole_between t b m calm few clock = subst (λ (a : Bool). IsWhole t a m) (sym calm) record {
+  few = omega (arith, few);
+  clock = λ going. clock going ∙ sym (add-zero t);
+  early = λ e. absurd (false≢true e);
+  room = λ e. absurd (false≢true e);
+  waits = λ e. absurd (false≢true e);
+}

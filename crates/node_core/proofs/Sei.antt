@@ -11,8 +11,8 @@ use Rattle.data_space.specs.Space.{Access}
 use Rattle.arith_step.specs.Shapes.{sets_flag}
 use Rattle.arith_step.specs.Table.{effect}
 use Rattle.data_space.specs.Sequence.{popped_word, then_do}
-use Rattle.flow_step.specs.Shapes.{ends, jumped, returns_enabling}
-use Rattle.flow_step.specs.Table.{flow_effect}
+use Rattle.bus_step.specs.FlowShapes.{ends, jumped, returns_enabling}
+use Rattle.bus_step.specs.FlowTable.{flow_effect}
 use Rattle.node_core.specs.declared.bus.NodeBus.{NodeBus}
 use Rattle.node_core.specs.Bus.{bus_get}
 use Rattle.node_core.specs.Execute.{executed}

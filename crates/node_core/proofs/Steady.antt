@@ -7,8 +7,8 @@ use Rattle.avr_base.specs.declared.stop.StopCause.{StopCause}
 use Rattle.board_io.specs.Cycle.{board_sends, board_serial}
 use Rattle.data_space.specs.declared.bus.Done.{Done}
 use Rattle.avr_base.specs.declared.interrupts.Vector.{Vector}
-use Rattle.trace_rows.specs.declared.row.Row.{Row}
-use Rattle.trace_rows.specs.declared.row.Kind.{Kind as RowKind}
+use Rattle.node_core.specs.declared.row.Row.{Row}
+use Rattle.node_core.specs.declared.row.Kind.{Kind as RowKind}
 use Rattle.world_core.specs.NodeKind.{IsSteady}
 use Rattle.node_core.specs.Bus.{bus_at}
 use Rattle.node_core.specs.State.{NodeState}

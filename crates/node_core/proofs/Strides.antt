@@ -3,8 +3,8 @@ use Rattle.std.proofs.Common.{◌≡◌, ℕ, ◌+◌, ◌-◌, ◌++◌, ◌<�
 use Rattle.board_io.specs.Cycle.{board_quiet, timers_leap}
 use Rattle.board_io.proofs.Lags.{leap_add}
 use Rattle.board_io.proofs.Leaps.{leap_quiet}
-use Rattle.trace_rows.specs.declared.row.Row.{Row}
-use Rattle.usart_port.specs.Script.{script_byte}
+use Rattle.node_core.specs.declared.row.Row.{Row}
+use Rattle.serial_ports.specs.Script.{script_byte}
 use Rattle.world_core.specs.NodeRun.{Comes, Timed, passed_rows}
 use Rattle.world_core.proofs.QuietCycles.{comes_step}
 use Rattle.node_core.specs.declared.machine.OnAir.{OnAir}

@@ -11,8 +11,8 @@ use Rattle.board_io.specs.Registers.{io_get, io_put}
 use Rattle.data_space.specs.declared.cpu.Cpu.{Cpu}
 use Rattle.data_space.specs.Sequence.{pushed_word}
 use Rattle.data_space.proofs.Keeps.{Got, Keeps, Put, then_kept, word_pushed}
-use Rattle.flow_step.proofs.Keeps.{flow_keeps}
-use Rattle.memory_step.proofs.Keeps.{memory_keeps}
+use Rattle.bus_step.proofs.FlowKeeps.{flow_keeps}
+use Rattle.bus_step.proofs.MemoryKeeps.{memory_keeps}
 use Rattle.node_core.specs.declared.bus.NodeBus.{NodeBus}
 use Rattle.node_core.specs.Bus.{board_got, board_put, bus_get, bus_put}
 use Rattle.node_core.specs.Execute.{executed, executed_by}

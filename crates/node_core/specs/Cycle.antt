@@ -18,11 +18,11 @@ use Rattle.data_space.specs.declared.bus.Done.{Done}
 use Rattle.data_space.specs.Space.{Access}
 use Rattle.ihex_loader.specs.Flash.{word_at}
 use Rattle.avr_base.specs.declared.interrupts.Vector.{Vector}
-use Rattle.trace_rows.specs.declared.row.Row.{Row}
-use Rattle.trace_rows.specs.declared.row.Kind.{Kind as RowKind}
-use Rattle.trace_rows.specs.declared.row.Kind.TheVariants as kind
-use Rattle.trace_rows.specs.declared.row.NodeEnd.{NodeEnd}
-use Rattle.trace_rows.specs.declared.row.NodeEnd.TheVariants as end
+use Rattle.node_core.specs.declared.row.Row.{Row}
+use Rattle.node_core.specs.declared.row.Kind.{Kind as RowKind}
+use Rattle.node_core.specs.declared.row.Kind.TheVariants as kind
+use Rattle.node_core.specs.declared.row.NodeEnd.{NodeEnd}
+use Rattle.node_core.specs.declared.row.NodeEnd.TheVariants as end
 use Rattle.world_core.specs.declared.air.Heard.{Heard}
 use Rattle.world_core.specs.NodeKind.{NodeKind}
 use Rattle.node_core.specs.declared.bus.NodeBus.{NodeBus}
@@ -30,7 +30,7 @@ use Rattle.node_core.specs.Bus.{bus_at, with_board}
 use Rattle.node_core.specs.State.{NodeState}
 use Rattle.node_core.specs.Execute.{executed}
 use Rattle.node_core.specs.Interrupts.{due, entry}
-use Rattle.usart_port.specs.Script.{script_byte}
+use Rattle.serial_ports.specs.Script.{script_byte}
 
 abbrev pub row : ℕ → NodeState → RowKind → List Row
 row t s kind = (record { cycle = t; node = s.number; kind = kind }) ∷ []

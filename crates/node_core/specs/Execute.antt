@@ -1,5 +1,5 @@
 -- The effect of one instruction on the core and the data space (AVR Instruction Set Manual), by its class: the tables
--- of arith_step, flow_step and memory_step over this node's bus. An instruction that halts changes nothing.
+-- of arith_step and bus_step over this node's bus. An instruction that halts changes nothing.
 use Rattle.std.specs.Prelude.{ℕ, List, Ok, Err}
 use Rattle.avr_decoder.specs.declared.op.Op.{Op}
 use Rattle.avr_decoder.specs.declared.op.Class.{Class}
@@ -8,8 +8,8 @@ use Rattle.avr_decoder.specs.Class.{class_of}
 use Rattle.data_space.specs.declared.cpu.Cpu.{Cpu}
 use Rattle.data_space.specs.Sequence.{Outcome}
 use Rattle.arith_step.specs.Table.{arith_cpu, arith_done}
-use Rattle.flow_step.specs.Table.{flow_effect}
-use Rattle.memory_step.specs.Table.{memory_effect}
+use Rattle.bus_step.specs.FlowTable.{flow_effect}
+use Rattle.bus_step.specs.MemoryTable.{memory_effect}
 use Rattle.node_core.specs.declared.bus.NodeBus.{NodeBus}
 use Rattle.node_core.specs.Bus.{bus_get, bus_put}
 

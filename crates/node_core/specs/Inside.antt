@@ -7,7 +7,7 @@ use Rattle.node_core.specs.declared.machine.Machine.{Machine}
 use Rattle.node_core.specs.Bus.{with_board}
 use Rattle.node_core.specs.State.{NodeState}
 use Rattle.board_io.specs.Cycle.{board_quiet, timers_leap}
-use Rattle.usart_port.specs.Script.{script_byte}
+use Rattle.serial_ports.specs.Script.{script_byte}
 
 pub record IsWhole (cycle : ℕ) (asking : Bool) (m : Machine) : Type 0 where
   pub few : m.count ≤ 2 ^ 40 + cycle + (if asking then 1 else 0)

@@ -1,7 +1,11 @@
--- A run of a node that stands in the middle of a cycle: of that cycle the processor's part is done, the devices' is not.
-use Rattle.std.specs.Prelude.{◌≡◌, ℕ, false, is_some, List, ◌++◌}
-use Rattle.trace_rows.specs.declared.row.Row.{Row}
-use Rattle.world_core.specs.NodeRun.{Timed, Comes}
+-- A run of a node that stands in the middle of a cycle: of that cycle the processor's part is done, the devices' is not. What
+-- that part did, and what the cycles did in which the node only rested.
+use Rattle.std.specs.Prelude.{◌≡◌, ◌<◌, ◌+◌, ℕ, None, false, is_some, List, [], ◌++◌, vec_len, vec_capacity}
+use Rattle.node_core.specs.declared.row.Row.{Row}
+use Rattle.world_core.specs.NodeRun.{AllQuiet, Timed, Comes, passed, passed_rows}
+use Rattle.node_core.specs.declared.machine.Machine.{Machine}
+use Rattle.node_core.specs.Inside.{IsGoing}
+use Rattle.node_core.specs.Shown.{shown}
 use Rattle.node_core.specs.State.{NodeState}
 use Rattle.node_core.specs.Cycle.{cpu_cycle, cpu_rows, node_kind}
 
@@ -13,3 +17,23 @@ pub record IsMidway (v : Timed NodeState Row) (c : ℕ) (u : NodeState) (k : Lis
   pub going : is_some state.stop ≡ false
   pub part : u ≡ cpu_cycle c state
   pub told : k ≡ rows ++ cpu_rows c state
+
+-- the processor's part of a cycle in which it neither waited nor slept: it came to u and told k. Where it answers n, and not 0,
+-- the node goes on with an instruction or an entry of n cycles, and told nothing
+pub record IsActed (n : ℕ) (u : NodeState) (k : List Row) (old new : Machine) : Type 0 where
+  pub state : shown new ≡ u
+  pub rows : new.rows.items ≡ old.rows.items ++ k
+  pub going : 0 < n → IsGoing n (shown new)
+  pub same : 0 < n → vec_len new.rows ≡ vec_len old.rows
+  pub room : vec_capacity new.rows ≡ vec_capacity old.rows
+  pub clock : new.bus.board.clock ≡ old.bus.board.clock
+
+-- n cycles from cycle t on in which it only waited or slept
+pub record IsRested (t n : ℕ) (old new : Machine) : Type 0 where
+  pub quiet : AllQuiet node_kind t n (shown old)
+  pub state : shown new ≡ passed node_kind t n (shown old)
+  pub rows : passed_rows node_kind t n (shown old) ≡ []
+  pub same : new.rows ≡ old.rows
+  pub stop : new.stop ≡ None
+  pub count : new.count ≡ old.count
+  pub clock : new.bus.board.clock ≡ t + n

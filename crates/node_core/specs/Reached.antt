@@ -1,7 +1,7 @@
 -- What a run of a node answers, and where the node then stands.
 use Rattle.std.specs.Prelude.{◌≡◌, ℕ, ◌≤◌, ◌<◌, false, is_some}
 use Rattle.world_core.specs.NodeRun.{Timed, Rests, Stops, Sends, Asks}
-use Rattle.trace_rows.specs.declared.row.Row.{Row}
+use Rattle.node_core.specs.declared.row.Row.{Row}
 use Rattle.node_core.specs.State.{NodeState}
 use Rattle.node_core.specs.Cycle.{node_kind}
 use Rattle.node_core.specs.declared.node.Reached.{Reached}

@@ -6,7 +6,7 @@ use Rattle.data_space.specs.declared.cpu.Cpu.{Cpu}
 use Rattle.data_space.specs.Core.{zero_cpu}
 use Rattle.node_core.specs.declared.bus.NodeBus.{NodeBus}
 use Rattle.node_core.specs.Bus.{reset_bus}
-use Rattle.usart_port.specs.Script.{ScriptBytes}
+use Rattle.serial_ports.specs.Script.{ScriptBytes}
 
 pub record NodeState : Type 0 where
   pub number : ℕ  -- the node's number in its network

@@ -1,5 +1,6 @@
-//! One node of the network, cycle by cycle: its processor, its devices, and the rows that it makes. `specs/` says what
-//! one cycle of a node is; `Node` runs many, whole instructions and sleep up to the next event of its devices.
+//! One node of the network, cycle by cycle: its processor, its devices, and the rows that it makes as it runs: what happened,
+//! in which cycle, at which node. `specs/` says what one cycle of a node is; `Node` runs many, whole instructions and sleep up
+//! to the next event of its devices. `trace_writer` writes the text of the rows.
 #![tactic(auto)]
 
 mod bus;
@@ -8,9 +9,11 @@ mod law;
 mod machine;
 mod node;
 mod rests;
+mod row;
 mod rows;
 mod stride;
 
 pub use bus::NodeBus;
 pub use law::steady_law;
 pub use node::{Node, Reached};
+pub use row::{Kind, NodeEnd, Row};

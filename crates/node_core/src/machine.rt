@@ -3,26 +3,26 @@ ghost use Rattle.std.specs.Prelude.{◌≡◌, ◌==◌, ◌<◌, ◌≤◌, ◌
 ghost use Rattle.node_core.specs.Cycle.{acted, acted_rows, asks_after, asks_in, begun_in, begun_rows, cpu_cycle, cpu_rows, device_rows, devices_cycle, entered, entered_rows, finished_in, finished_rows, instructed, instructed_rows, is_idle, is_other, is_refused, is_sei, is_sleep, op_now, owes, row, row_within, sends_after, sends_in, sent_rows, serial_rows};
 ghost use Rattle.avr_decoder.specs.Class.{class_of};
 ghost use Rattle.avr_decoder.specs.declared.op.Class.TheVariants as class;
-ghost use Rattle.trace_rows.specs.declared.row.Kind.TheVariants as kind;
+ghost use Rattle.node_core.specs.declared.row.Kind.TheVariants as kind;
 ghost use Rattle.node_core.specs.Inside.{IsOnAir, IsGoing};
 ghost use Rattle.node_core.specs.Interrupts.{due};
+ghost use Rattle.node_core.specs.Midway.{IsActed};
 ghost use Rattle.node_core.specs.Shown.{shown};
-ghost use Rattle.usart_port.specs.Script.{script_byte};
+ghost use Rattle.serial_ports.specs.Script.{script_byte};
 ghost use Rattle.board_io.specs.Board.{sleep_mode};
 ghost use Rattle.board_io.specs.Lines.{lines_of};
 ghost use Rattle.ihex_loader.specs.Flash.{word_at};
 ghost use Rattle.avr_base.specs.Lines.{pending_of};
 
-use crate::NodeBus;
 use crate::interrupts::enter;
 use crate::rows::{is_within, put_row, tell, tell_instruction, unless_told};
+use crate::{Kind, NodeBus, Row};
 use avr_base::{Sreg, StopCause, Vector};
 use avr_decoder::{Class, Op};
 use avr_program::Program;
 use board_io::Sleep;
 use data_space::{Cpu, Done};
-use trace_rows::{Kind, Row};
-use usart_port::Script;
+use serial_ports::Script;
 use world_core::Heard;
 
 // The rows that a cycle makes at most: the processor's, a frame's, and one of the radio's before and after its sample.
@@ -236,12 +236,7 @@ impl Machine {
         requires few { self.old.count ≤ 2 ^ 41 }
         requires now { self.old.bus.board.clock ≡ cycle }
         requires room { vec_len self.old.rows < vec_capacity self.old.rows }
-        ensures state { shown self.new ≡ instructed cycle (shown self.old) }
-        ensures rows { self.new.rows.items ≡ self.old.rows.items ++ instructed_rows cycle (shown self.old) }
-        ensures going { 0 < result → IsGoing result (shown self.new) }
-        ensures same { 0 < result → vec_len self.new.rows ≡ vec_len self.old.rows }
-        ensures room { vec_capacity self.new.rows ≡ vec_capacity self.old.rows }
-        ensures clock { self.new.bus.board.clock ≡ self.old.bus.board.clock }
+        ensures { IsActed result (instructed cycle (shown self.old)) (instructed_rows cycle (shown self.old)) self.old self.new }
     {
         let pc = self.cpu.pc;
         let before = self.cpu.sreg.bits;
@@ -260,7 +255,6 @@ impl Machine {
 
     // The first cycle of an instruction of the program's flow. The answer is that of `instruct`.
     #[inline(always)]
-    #[tactic(auto, unfolding(crate::specs::Cycle::instructed, crate::specs::Cycle::instructed_rows))]
     fn instruct_flow(&mut self, cycle: u64, op: &Op) -> u8
         requires fetched { op.now ≡ op_now (shown self.old) }
         requires class { class_of op.now ≡ class.Flow }
@@ -269,12 +263,7 @@ impl Machine {
         requires few { self.old.count ≤ 2 ^ 41 }
         requires now { self.old.bus.board.clock ≡ cycle }
         requires room { vec_len self.old.rows < vec_capacity self.old.rows }
-        ensures state { shown self.new ≡ instructed cycle (shown self.old) }
-        ensures rows { self.new.rows.items ≡ self.old.rows.items ++ instructed_rows cycle (shown self.old) }
-        ensures going { 0 < result → IsGoing result (shown self.new) }
-        ensures same { 0 < result → vec_len self.new.rows ≡ vec_len self.old.rows }
-        ensures room { vec_capacity self.new.rows ≡ vec_capacity self.old.rows }
-        ensures clock { self.new.bus.board.clock ≡ self.old.bus.board.clock }
+        ensures { IsActed result (instructed cycle (shown self.old)) (instructed_rows cycle (shown self.old)) self.old self.new }
     {
         let pc = self.cpu.pc;
         if self.refuses(op) {
@@ -282,7 +271,7 @@ impl Machine {
             return 0;
         }
         let before = self.cpu.sreg.bits;
-        match flow_step::exec(*op, self.program.flash(), &mut self.cpu, &mut self.bus) {
+        match bus_step::exec_flow(*op, self.program.flash(), &mut self.cpu, &mut self.bus) {
             Ok(done) => {
                 let owed = owes(op, before, self.cpu.sreg.bits);
                 self.end(cycle, pc, owed, done)
@@ -304,16 +293,11 @@ impl Machine {
         requires few { self.old.count ≤ 2 ^ 41 }
         requires now { self.old.bus.board.clock ≡ cycle }
         requires room { vec_len self.old.rows < vec_capacity self.old.rows }
-        ensures state { shown self.new ≡ instructed cycle (shown self.old) }
-        ensures rows { self.new.rows.items ≡ self.old.rows.items ++ instructed_rows cycle (shown self.old) }
-        ensures going { 0 < result → IsGoing result (shown self.new) }
-        ensures same { 0 < result → vec_len self.new.rows ≡ vec_len self.old.rows }
-        ensures room { vec_capacity self.new.rows ≡ vec_capacity self.old.rows }
-        ensures clock { self.new.bus.board.clock ≡ self.old.bus.board.clock }
+        ensures { IsActed result (instructed cycle (shown self.old)) (instructed_rows cycle (shown self.old)) self.old self.new }
     {
         let pc = self.cpu.pc;
         let before = self.cpu.sreg.bits;
-        match memory_step::exec(*op, self.program.flash(), &mut self.cpu, &mut self.bus) {
+        match bus_step::exec_memory(*op, self.program.flash(), &mut self.cpu, &mut self.bus) {
             Ok(done) => {
                 let owed = turns_on(before, self.cpu.sreg.bits);
                 self.end(cycle, pc, owed, done)
@@ -334,12 +318,7 @@ impl Machine {
         requires few { self.old.count ≤ 2 ^ 41 }
         requires now { self.old.bus.board.clock ≡ cycle }
         requires room { vec_len self.old.rows < vec_capacity self.old.rows }
-        ensures state { shown self.new ≡ instructed cycle (shown self.old) }
-        ensures rows { self.new.rows.items ≡ self.old.rows.items ++ instructed_rows cycle (shown self.old) }
-        ensures going { 0 < result → IsGoing result (shown self.new) }
-        ensures same { 0 < result → vec_len self.new.rows ≡ vec_len self.old.rows }
-        ensures room { vec_capacity self.new.rows ≡ vec_capacity self.old.rows }
-        ensures clock { self.new.bus.board.clock ≡ self.old.bus.board.clock }
+        ensures { IsActed result (instructed cycle (shown self.old)) (instructed_rows cycle (shown self.old)) self.old self.new }
     {
         let op = self.program.op(self.cpu.pc);
         match op.class() {
@@ -360,12 +339,7 @@ impl Machine {
         requires going { self.old.stop ≡ None }
         requires now { self.old.bus.board.clock ≡ cycle }
         requires room { vec_len self.old.rows < vec_capacity self.old.rows }
-        ensures state { shown self.new ≡ entered cycle wait vector (shown self.old) }
-        ensures rows { self.new.rows.items ≡ self.old.rows.items ++ entered_rows cycle vector (shown self.old) }
-        ensures going { 0 < result → IsGoing result (shown self.new) }
-        ensures same { 0 < result → vec_len self.new.rows ≡ vec_len self.old.rows }
-        ensures room { vec_capacity self.new.rows ≡ vec_capacity self.old.rows }
-        ensures clock { self.new.bus.board.clock ≡ self.old.bus.board.clock }
+        ensures { IsActed result (entered cycle wait vector (shown self.old)) (entered_rows cycle vector (shown self.old)) self.old self.new }
     {
         let back = self.cpu.pc;
         let node = self.number;
@@ -416,7 +390,6 @@ impl Machine {
     // The processor's part of a cycle in which it neither waits nor sleeps: how many cycles its instruction or its entry
     // takes, or 0 where the node stopped, executed SLEEP, or has a row more.
     #[inline(always)]
-    #[tactic(auto, unfolding(crate::specs::Cycle::cpu_cycle, crate::specs::Cycle::cpu_rows))]
     pub fn act(&mut self, cycle: u64) -> u8
         requires few { self.old.count ≤ 2 ^ 41 }
         requires now { self.old.bus.board.clock ≡ cycle }
@@ -424,12 +397,7 @@ impl Machine {
         requires free { self.old.wait ≡ 0 }
         requires awake { self.old.asleep ≡ false }
         requires room { vec_len self.old.rows < vec_capacity self.old.rows }
-        ensures state { shown self.new ≡ cpu_cycle cycle (shown self.old) }
-        ensures rows { self.new.rows.items ≡ self.old.rows.items ++ cpu_rows cycle (shown self.old) }
-        ensures going { 0 < result → IsGoing result (shown self.new) }
-        ensures same { 0 < result → vec_len self.new.rows ≡ vec_len self.old.rows }
-        ensures room { vec_capacity self.new.rows ≡ vec_capacity self.old.rows }
-        ensures clock { self.new.bus.board.clock ≡ self.old.bus.board.clock }
+        ensures { IsActed result (cpu_cycle cycle (shown self.old)) (cpu_rows cycle (shown self.old)) self.old self.new }
     {
         if let Some(vector) = self.due() {
             if !self.owed {

@@ -5,16 +5,15 @@ ghost use Rattle.node_core.specs.State.{reset};
 ghost use Rattle.node_core.specs.Cycle.{node_kind, end_row};
 ghost use Rattle.node_core.specs.Reached.{IsReached};
 
-use crate::NodeBus;
 use crate::machine::{Machine, OnAir, ROWS_OF_A_CYCLE};
+use crate::{Kind, NodeBus, NodeEnd, Row};
 use avr_base::{NoMemory, StopCause};
 use avr_program::Program;
 use data_space::Cpu;
+use serial_ports::Script;
 use std::alloc::Global;
 use std::marker::Model;
 use std::mem;
-use trace_rows::{Kind, NodeEnd, Row};
-use usart_port::Script;
 use world_core::Heard;
 
 /// Where a run of a node ended.
@@ -54,7 +53,7 @@ impl Drop for Node {
 
 impl Model for Node {
     ghost use Rattle.world_core.specs.NodeRun.{Timed};
-    ghost use Rattle.trace_rows.specs.declared.row.Row.{Row};
+    ghost use Rattle.node_core.specs.declared.row.Row.{Row};
     ghost use Rattle.node_core.specs.State.{NodeState};
     ghost use Rattle.node_core.specs.Shown.{shown};
     ghost use Rattle.node_core.specs.Inside.{IsWhole};

@@ -1,8 +1,7 @@
 // Cycles in which a node only waits or sleeps, many at once.
-ghost use Rattle.std.specs.Prelude.{◌≡◌, ◌≤◌, ◌<◌, ◌+◌, ◌^◌, [], None, true, false};
-ghost use Rattle.world_core.specs.NodeRun.{AllQuiet, passed, passed_rows};
-ghost use Rattle.node_core.specs.Cycle.{node_kind};
+ghost use Rattle.std.specs.Prelude.{◌≡◌, ◌≤◌, ◌<◌, ◌+◌, ◌^◌, None, true};
 ghost use Rattle.node_core.specs.Interrupts.{due};
+ghost use Rattle.node_core.specs.Midway.{IsRested};
 ghost use Rattle.node_core.specs.Shown.{shown};
 
 use crate::machine::Machine;
@@ -13,13 +12,7 @@ impl Machine {
         requires going { self.old.stop ≡ None }
         requires now { self.old.bus.board.clock ≡ cycle }
         requires early { cycle + most ≤ 2 ^ 40 }
-        ensures quiet { AllQuiet node_kind cycle result (shown self.old) }
-        ensures state { shown self.new ≡ passed node_kind cycle result (shown self.old) }
-        ensures rows { passed_rows node_kind cycle result (shown self.old) ≡ [] }
-        ensures same { self.new.rows ≡ self.old.rows }
-        ensures stop { self.new.stop ≡ None }
-        ensures count { self.new.count ≡ self.old.count }
-        ensures clock { self.new.bus.board.clock ≡ cycle + result }
+        ensures rested { IsRested cycle result self.old self.new }
         ensures within { result ≤ most }
     {
         let wait = self.wait;
@@ -37,13 +30,7 @@ impl Machine {
         requires free { self.old.wait ≡ 0 }
         requires asleep { self.old.asleep ≡ true }
         requires none { due (shown self.old) ≡ None }
-        ensures quiet { AllQuiet node_kind cycle result (shown self.old) }
-        ensures state { shown self.new ≡ passed node_kind cycle result (shown self.old) }
-        ensures rows { passed_rows node_kind cycle result (shown self.old) ≡ [] }
-        ensures same { self.new.rows ≡ self.old.rows }
-        ensures stop { self.new.stop ≡ None }
-        ensures count { self.new.count ≡ self.old.count }
-        ensures clock { self.new.bus.board.clock ≡ cycle + result }
+        ensures rested { IsRested cycle result self.old self.new }
         ensures within { result ≤ most }
     {
         let calm = self.script.quiet(cycle, most);
@@ -56,13 +43,7 @@ impl Machine {
         requires going { self.old.stop ≡ None }
         requires now { self.old.bus.board.clock ≡ cycle }
         requires early { cycle + most ≤ 2 ^ 40 }
-        ensures quiet { AllQuiet node_kind cycle result (shown self.old) }
-        ensures state { shown self.new ≡ passed node_kind cycle result (shown self.old) }
-        ensures rows { passed_rows node_kind cycle result (shown self.old) ≡ [] }
-        ensures same { self.new.rows ≡ self.old.rows }
-        ensures stop { self.new.stop ≡ None }
-        ensures count { self.new.count ≡ self.old.count }
-        ensures clock { self.new.bus.board.clock ≡ cycle + result }
+        ensures rested { IsRested cycle result self.old self.new }
         ensures within { result ≤ most }
     {
         if self.wait > 0 {

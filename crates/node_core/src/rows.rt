@@ -1,10 +1,10 @@
 // Rows, where there is room for them.
 ghost use Rattle.std.specs.Prelude.{◌≡◌, ◌<◌, ◌≤◌, ◌+◌, ◌%◌, ◌++◌, ◌&&◌, nat_le, nat_lt, if◌then◌else◌, [], ◌∷◌, false, vec_len, vec_capacity};
 ghost use Rattle.ihex_loader.specs.Flash.{word_at};
-ghost use Rattle.trace_rows.specs.declared.row.Kind.TheVariants as kind;
+ghost use Rattle.node_core.specs.declared.row.Kind.TheVariants as kind;
 
+use crate::{Kind, Row};
 use avr_program::Program;
-use trace_rows::{Kind, Row};
 
 // Adds a row where there is room.
 pub fn put_row(rows: &mut Vec<Row>, row: Row)

@@ -3,7 +3,7 @@ ghost use Rattle.std.specs.Prelude.{◌≡◌, ◌≤◌, ◌<◌, ◌+◌, ◌-
 ghost use Rattle.node_core.specs.Inside.{IsGoing, IsPassed};
 ghost use Rattle.node_core.specs.Midway.{IsMidway};
 ghost use Rattle.node_core.specs.Shown.{shown};
-ghost use Rattle.usart_port.specs.Script.{script_byte};
+ghost use Rattle.serial_ports.specs.Script.{script_byte};
 
 use crate::machine::Machine;
 

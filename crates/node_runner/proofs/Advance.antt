@@ -6,7 +6,7 @@ use Rattle.std.proofs.lemmas.Bool.{false≢true}
 use Rattle.std.proofs.lemmas.Bool.Decides.{nat_tests}
 use Rattle.world_core.specs.declared.air.Send.{Send}
 use Rattle.world_core.specs.Sends.{IsSendNumber}
-use Rattle.global_order.specs.Order.{facts_of}
+use Rattle.world_core.specs.Order.{facts_of}
 use Rattle.node_runner.specs.declared.runner.Event.TheVariants.{Ask, Sent, Turn, Ended}
 use Rattle.node_runner.specs.Scenario.{fleet_of}
 use Rattle.node_runner.specs.Place.{Place, HasEnded, is_live, state_at, noted_of, sends_passed}

@@ -3,10 +3,10 @@ use Rattle.std.specs.Prelude.{is_some}
 use Rattle.std.proofs.Common.{◌≡◌, ℕ, ◌+◌, ◌-◌, ◌≤◌, ⊎_elim, Bool, true, false, cond, sym, ◌∙◌, ap, arith}
 use Rattle.world_core.specs.Sends.{sends_below}
 use Rattle.world_core.specs.NodeRun.{Timed}
-use Rattle.trace_rows.specs.declared.row.Row.{Row}
+use Rattle.node_core.specs.declared.row.Row.{Row}
 use Rattle.node_core.specs.State.{NodeState}
-use Rattle.global_order.specs.Order.{facts_of}
-use Rattle.global_order.proofs.Rows.{stopped_count}
+use Rattle.world_core.specs.Order.{facts_of}
+use Rattle.world_core.proofs.OrderRows.{stopped_count}
 use Rattle.node_runner.specs.Scenario.{fleet_of}
 use Rattle.node_runner.specs.Place.{Place, IsRunner, HasEnded, noted_of, sends_passed, state_at}
 use Rattle.node_runner.proofs.Sound.{sound}

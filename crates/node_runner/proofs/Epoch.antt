@@ -5,9 +5,9 @@ use Rattle.std.specs.List.Sorted.{IsNonDecreasingBy, IsStableByKey}
 use Rattle.std.specs.Ordering.{nat_cmp}
 use Rattle.std.proofs.lemmas.Bool.Decides.{nat_tests}
 use native.Mathlib.Decide.{ℕ_discrete}
-use Rattle.trace_rows.specs.declared.row.Row.{Row}
+use Rattle.node_core.specs.declared.row.Row.{Row}
 use Rattle.node_core.specs.State.{NodeState}
-use Rattle.global_order.specs.Order.{Fleet, world_at, end_rows}
+use Rattle.world_core.specs.Order.{Fleet, world_at, end_rows}
 use Rattle.node_runner.specs.Scenario.{ScenarioOf, IsScenario, fleet_of}
 use Rattle.node_runner.specs.Place.{Place, is_live, rows_of}
 use Rattle.node_runner.specs.Flight.{place_at, IsAt, IsTaken}

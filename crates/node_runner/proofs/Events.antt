@@ -6,15 +6,15 @@ use Rattle.world_core.specs.declared.air.Heard.{Heard}
 use Rattle.world_core.specs.Sends.{sends_of, sends_below, IsSendNumber}
 use Rattle.world_core.specs.Settled.{truth}
 use Rattle.world_core.specs.NodeRun.{Timed, Rests, Sends, Asks, answered}
-use Rattle.trace_rows.specs.declared.row.Row.{Row}
+use Rattle.node_core.specs.declared.row.Row.{Row}
 use Rattle.node_core.specs.State.{NodeState}
 use Rattle.node_core.specs.Cycle.{node_kind}
-use Rattle.global_order.specs.Order.{Fleet, Moment, facts_of, node_at, world_at}
-use Rattle.global_order.specs.Sound.{IsSound}
-use Rattle.global_order.specs.Stands.{Stands, QuietBetween}
-use Rattle.global_order.proofs.Sends.{count_is, first, sends_front}
-use Rattle.global_order.proofs.Alone.{rows_none}
-use Rattle.global_order.proofs.Steps.{stands_plain, rests_stands, sends_stands, asks_stands, answered_stands, plain_state, come_state, come_quiet, count_quiet, count_sent, sent_number, asked, count_answered}
+use Rattle.world_core.specs.Order.{Fleet, Moment, facts_of, node_at, world_at}
+use Rattle.world_core.specs.Sound.{IsSound}
+use Rattle.world_core.specs.Stands.{Stands, QuietBetween}
+use Rattle.world_core.proofs.Sends.{count_is, first, sends_front}
+use Rattle.world_core.proofs.Alone.{rows_none}
+use Rattle.world_core.proofs.OrderSteps.{stands_plain, rests_stands, sends_stands, asks_stands, answered_stands, plain_state, come_state, come_quiet, count_quiet, count_sent, sent_number, asked, count_answered}
 use Rattle.node_runner.specs.declared.runner.Event.TheVariants.{Ask, Sent, Turn, Ended, NoMemory}
 use Rattle.node_runner.specs.Scenario.{ScenarioOf, IsScenario, fleet_of}
 use Rattle.node_runner.specs.Place.{Place, IsRunner, is_live, noted_of, state_at}

@@ -9,14 +9,14 @@ use Rattle.std.proofs.lemmas.List.Concat.{flat_map-append, flat_map_single}
 use Rattle.std.proofs.lemmas.List.Elements.{filter_agree}
 use Rattle.std.proofs.lemmas.Bool.Decides.{nat_tests}
 use Rattle.world_core.specs.Each.{each_below}
-use Rattle.trace_rows.specs.declared.row.Row.{Row}
+use Rattle.node_core.specs.declared.row.Row.{Row}
 use Rattle.node_core.specs.State.{NodeState}
 use Rattle.node_core.specs.Cycle.{node_kind, end_row}
-use Rattle.global_order.specs.Order.{Fleet, Moment, node_at, world_at, rows_between, end_rows}
-use Rattle.global_order.proofs.Alone.{rows_join, rows_none}
-use Rattle.global_order.proofs.Sorted.{Agree}
-use Rattle.global_order.proofs.Sends.{first}
-use Rattle.global_order.proofs.Rows.{rows_merged, stopped_rows, stopped_state}
+use Rattle.world_core.specs.Order.{Fleet, Moment, node_at, world_at, rows_between, end_rows}
+use Rattle.world_core.proofs.Alone.{rows_join, rows_none}
+use Rattle.world_core.proofs.Sorted.{Agree}
+use Rattle.world_core.proofs.Sends.{first}
+use Rattle.world_core.proofs.OrderRows.{rows_merged, stopped_rows, stopped_state}
 use Rattle.node_runner.specs.Scenario.{ScenarioOf, IsScenario, fleet_of}
 use Rattle.node_runner.specs.Place.{Place, is_live, rows_of}
 use Rattle.node_runner.proofs.Sound.{sound}

@@ -6,7 +6,7 @@ use Rattle.std.proofs.lemmas.Bool.Decides.{nat_tests}
 use Rattle.node_core.specs.State.{NodeState}
 use Rattle.node_core.specs.Cycle.{node_kind}
 use Rattle.node_core.proofs.Steady.{steady}
-use Rattle.global_order.specs.Order.{node_at}
+use Rattle.world_core.specs.Order.{node_at}
 use Rattle.node_runner.specs.Scenario.{ScenarioOf, fleet_of}
 use Rattle.node_runner.specs.Place.{Place, is_live, state_at}
 use Rattle.node_runner.specs.Flight.{IsAt, IsTaken}

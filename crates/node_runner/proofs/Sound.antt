@@ -2,9 +2,9 @@
 use Rattle.std.proofs.Common.{arith}
 use Rattle.world_core.specs.Lawful.{IsLawful}
 use Rattle.node_core.proofs.Steady.{steady, steady_gap}
-use Rattle.global_order.specs.Order.{facts_of}
-use Rattle.global_order.specs.Sound.{IsSound}
-use Rattle.global_order.proofs.Laws.{lawful}
+use Rattle.world_core.specs.Order.{facts_of}
+use Rattle.world_core.specs.Sound.{IsSound}
+use Rattle.world_core.proofs.Laws.{lawful}
 use Rattle.node_runner.specs.Scenario.{ScenarioOf, IsScenario, fleet_of}
 
 pub sound : (s : ScenarioOf) → IsScenario s → IsSound (fleet_of s)

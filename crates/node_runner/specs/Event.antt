@@ -2,8 +2,8 @@
 use Rattle.std.specs.Prelude.{is_some, ◌≡◌, ℕ, ◌+◌, ◌≤◌, ◌<◌, true, false, Some}
 use Rattle.std.specs.List.{Contains}
 use Rattle.world_core.specs.Sends.{IsSendNumber}
-use Rattle.global_order.specs.Order.{facts_of, node_at}
-use Rattle.global_order.specs.Stands.{QuietBetween}
+use Rattle.world_core.specs.Order.{facts_of, node_at}
+use Rattle.world_core.specs.Stands.{QuietBetween}
 use Rattle.node_runner.specs.Scenario.{fleet_of}
 use Rattle.node_runner.specs.Place.{Place, HasEnded, state_at, noted_of}
 use Rattle.node_core.specs.Cycle.{node_kind}

@@ -3,7 +3,7 @@ use Rattle.std.specs.Prelude.{◌≡◌, ℕ, ◌+◌, ◌-◌, ◌*◌, ◌≤�
 use Rattle.world_core.specs.declared.air.Send.{Send}
 use Rattle.world_core.specs.Sends.{IsSendNumber}
 use Rattle.node_core.specs.Cycle.{node_kind}
-use Rattle.global_order.specs.Order.{facts_of, node_at}
+use Rattle.world_core.specs.Order.{facts_of, node_at}
 use Rattle.node_runner.specs.Scenario.{ScenarioOf, fleet_of}
 use Rattle.node_runner.specs.Place.{Place, is_live, sends_passed}
 

@@ -1,6 +1,6 @@
 -- Where a node begins, its last row, and its rows taken. Own to this simulator.
 use Rattle.std.specs.Prelude.{ℕ, false}
-use Rattle.trace_rows.specs.declared.row.Row.{Row}
+use Rattle.node_core.specs.declared.row.Row.{Row}
 use Rattle.node_core.specs.Cycle.{end_row}
 use Rattle.node_runner.specs.Scenario.{ScenarioOf}
 use Rattle.node_runner.specs.Place.{Place, state_at}

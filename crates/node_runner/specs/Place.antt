@@ -2,10 +2,10 @@
 use Rattle.std.specs.Prelude.{is_some, ◌≡◌, ℕ, ◌+◌, ◌-◌, ◌<◌, ◌⊎◌, Bool, true, false, not, ◌&&◌, ◌||◌, nat_lt, if◌then◌else◌, List}
 use Rattle.world_core.specs.Sends.{sends_below}
 use Rattle.world_core.specs.NodeRun.{Timed}
-use Rattle.trace_rows.specs.declared.row.Row.{Row}
+use Rattle.node_core.specs.declared.row.Row.{Row}
 use Rattle.node_core.specs.State.{NodeState}
-use Rattle.global_order.specs.Order.{facts_of, node_at}
-use Rattle.global_order.specs.Stands.{Stands, rows_shown}
+use Rattle.world_core.specs.Order.{facts_of, node_at}
+use Rattle.world_core.specs.Stands.{Stands, rows_shown}
 use Rattle.node_runner.specs.Scenario.{ScenarioOf, IsScenario, fleet_of}
 
 -- node `number` of the scenario: its cycle, the cycle of the last taking of rows, an unanswered sample, an unnoted send

@@ -1,8 +1,8 @@
 -- How far a run has come, and the rows up to there. Own to this simulator.
 use Rattle.std.specs.Prelude.{ℕ, Bool, ◌==◌, if◌then◌else◌, List, [], ◌++◌}
-use Rattle.trace_rows.specs.declared.row.Row.{Row}
+use Rattle.node_core.specs.declared.row.Row.{Row}
 use Rattle.node_core.specs.State.{NodeState}
-use Rattle.global_order.specs.Order.{Fleet, world_at, end_rows}
+use Rattle.world_core.specs.Order.{Fleet, world_at, end_rows}
 use Rattle.node_runner.specs.Scenario.{ScenarioOf}
 
 -- the scenario, the cycle reached, and whether there was want of memory

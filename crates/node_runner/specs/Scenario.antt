@@ -2,11 +2,11 @@
 use Rattle.std.specs.Prelude.{◌≡◌, ℕ, ◌≤◌, List, [], length, slice_index_or}
 use Rattle.world_core.specs.Topology.{Topology, IsTopology}
 use Rattle.ihex_loader.specs.Flash.{Image}
-use Rattle.usart_port.specs.Script.{ScriptBytes}
-use Rattle.trace_rows.specs.declared.row.Row.{Row}
+use Rattle.serial_ports.specs.Script.{ScriptBytes}
+use Rattle.node_core.specs.declared.row.Row.{Row}
 use Rattle.node_core.specs.State.{NodeState, reset}
 use Rattle.node_core.specs.Cycle.{node_kind}
-use Rattle.global_order.specs.Order.{Fleet}
+use Rattle.world_core.specs.Order.{Fleet}
 
 pub record ScenarioOf : Type 0 where
   pub topo : Topology

@@ -3,8 +3,8 @@ ghost use Rattle.std.specs.Prelude.{OnOk};
 ghost use Rattle.std.specs.List.Sorted.{IsNonDecreasingBy, IsStableByKey};
 ghost use Rattle.std.specs.Ordering.{nat_cmp};
 
+use node_core::Row;
 use std::alloc::AllocError;
-use trace_rows::Row;
 
 /// In order of cycle; rows of one cycle stay in their order, which is that of the nodes.
 pub fn sort(rows: &mut Vec<Row>) -> Result<(), AllocError>

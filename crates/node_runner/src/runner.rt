@@ -2,7 +2,7 @@
 ghost use Rattle.std.specs.Prelude.{◌≡◌, ◌<◌, ◌≤◌, ◌+◌, true, false, IfOk};
 ghost use Rattle.world_core.specs.Sends.{sends_below};
 ghost use Rattle.world_core.specs.Settled.{truth};
-ghost use Rattle.global_order.specs.Order.{facts_of};
+ghost use Rattle.world_core.specs.Order.{facts_of};
 ghost use Rattle.node_core.specs.Cycle.{end_row};
 ghost use Rattle.node_runner.specs.Scenario.{fleet_of};
 ghost use Rattle.node_runner.specs.Place.{HasEnded, is_live, rows_of, noted_of, state_at};
@@ -10,11 +10,10 @@ ghost use Rattle.node_runner.specs.Event.{IsEvent};
 
 use crate::Scenario;
 use avr_base::NoMemory;
-use node_core::{Node, Reached};
+use node_core::{Node, Reached, Row};
 use std::alloc::Global;
 use std::marker::Model;
 use std::snapshot::Snapshot;
-use trace_rows::Row;
 use world_core::{Heard, Send};
 
 /// What a node did.

@@ -1,8 +1,8 @@
 // A scenario is a world of the air.
 use avr_program::Program;
 use scenario_file::ScenarioText;
+use serial_ports::Script;
 use std::marker::Model;
-use usart_port::Script;
 use world_core::{Topo, World};
 
 /// What a whole run needs: who hears whom, each node's program memory, the bytes that arrive at it, and the window of cycles
@@ -99,7 +99,7 @@ impl Scenario {
 
 impl World for Scenario {
     ghost use Rattle.node_runner.specs.Scenario.{fleet_of};
-    ghost use Rattle.global_order.specs.Order.{facts_of};
+    ghost use Rattle.world_core.specs.Order.{facts_of};
 
     ghost facts = { λ s. facts_of (fleet_of s) };
 

@@ -1,12 +1,12 @@
 -- How a part of the work ends the call.
 use Rattle.std.proofs.Common.{◌≡◌, ℕ, nat_lt, ◌<◌, ◌≤◌, length, true, false, List, Option, Some, None, IfSome, Result, if◌then◌else◌, inl, inr, refl, subst, arith}
 use Rattle.std.proofs.lemmas.Bool.Decides.{nat_tests}
-use Rattle.command_words.specs.Words.{Asked, shown}
-use Rattle.command_words.specs.declared.order.Order.{Order}
-use Rattle.plain_commands.specs.Plan.{Plan, Give, Refuse, Refusal, Job, plan, plan_of}
+use Rattle.command_words.specs.Words.{Asked}
+use Rattle.plain_commands.specs.Plan.{Plan, Give, Refuse, Refusal, Job}
 use Rattle.plain_commands.specs.Reading.{Files, Reached, Here, Fitting, TooLong, Accepts, Refuses, Verdict, Refused, Accepted, Says, verdict, on_bytes}
 use Rattle.plain_commands.specs.Ends.{Ends, Reads, Stream}
-use Rattle.plain_commands.specs.Parts.{AsksFor, Called, JobEnds, StopsAt, end_at, end_of}
+use Rattle.plain_commands.specs.Parts.{Called, IsShort, JobEnds, Ready, Reported, Told, StopsAt, end_at, end_of, job_at}
+use Rattle.plain_commands.specs.declared.task.Task.{Task}
 use Rattle.plain_commands.specs.declared.status.Status.{Status}
 use Rattle.plain_commands.specs.declared.trouble.Trouble.{Trouble}
 use Rattle.plain_commands.specs.declared.trouble.Trouble.TheVariants as trouble
@@ -48,6 +48,13 @@ pub refuses : (files : Files) (plan : Plan) (refusal : Refusal) → Reached file
 unfolding verdict
 refuses files plan refusal r = record { reached = r; verdict_is = reached_says files plan (Refuse refusal) (Refused refusal) r refl }
 
+-- what was told was reported
+pub reported_told : (t : Trouble) (err err' : Stream) (answer : Status) → Told (end_at t) err err' answer → Reported (end_at t) err err' answer
+reported_told trouble.OutFailed err err' answer told = told
+reported_told trouble.NoMemory err err' answer told = told
+reported_told (trouble.ReadFailed name) err err' answer told = told
+reported_told (trouble.Refused c) err err' answer told = told
+
 -- reading that stops ends the call
 pub ends_stopped : (files : Files) (plan : Plan) (store store' : Reads) (out : Stream) (t : Trouble)
     → StopsAt files plan store store' t → Ends files plan store store' out out (end_at t)
@@ -65,12 +72,24 @@ ends_job files plan job store store' out out' (Result.Err trouble.NoMemory) reac
 ends_job files plan job store store' out out' (Result.Err (trouble.ReadFailed name)) reached same h = absurd h
 ends_job files plan job store store' out out' (Result.Err (trouble.Refused c)) reached same h = absurd h
 
--- what the words ask for was done, and nothing was said before
-pub called_silent : (files : Files) (words : List (List ℕ)) (order : Order) (store store' : Reads) (out out' err mid err' : Stream) (answer : Status)
-    → AsksFor words err mid order → Called files (plan_of (shown order)) store store' out out' mid err' answer
-    → Called files (plan words) store store' out out' err err' answer
-called_silent files words order store store' out out' err mid err' answer asks called =
-    rw asks.asked (subst (λ e. Called files (plan_of (shown order)) store store' out out' e err' answer) asks.silent called)
+-- a reading that stopped, and was told, ends the call
+pub ended_stopped : (files : Files) (plan : Plan) (store store' : Reads) (out err err' : Stream) (t : Trouble) (answer : Status)
+    → StopsAt files plan store store' t → Told (end_at t) err err' answer → Called files plan store store' out out err err' answer
+ended_stopped files plan store store' out err err' t answer stops told = record {
+  end = end_at t;
+  ends = ends_stopped files plan store store' out t stops;
+  reported = reported_told t err err' answer told;
+}
+
+-- a plan that was read up to its job leaves this task
+pub ready : (files : Files) (plan rest : Plan) (store store' : Reads) (err err' : Stream) (task : Task) → Reached files plan rest → rest ≡ Give (job_at task) → store' ≡ store → err' ≡ err → IsShort task
+    → Ready files plan store store' err err' task
+ready files plan rest store store' err err' task reached is same silent short = record {
+  reached = subst (λ p. Reached files plan p) is reached;
+  same = same;
+  silent = silent;
+  short = short;
+}
 
 pub asked_not_none : (o : Option Asked) (asked : Asked) → o ≡ Some asked → o ≡ None → ⊥
 asked_not_none o asked e none = cc

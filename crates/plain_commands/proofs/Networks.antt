@@ -1,17 +1,17 @@
--- How the reading of a network ends, and a command over it.
-use Rattle.std.proofs.Common.{◌≡◌, ℕ, List, Result, sym, subst}
+-- How the reading of a network ends, and what is left to do then.
+use Rattle.std.proofs.Common.{◌≡◌, ℕ, List, sym, subst}
 use Rattle.ihex_loader.specs.Flash.{Image}
 use Rattle.scenario_file.specs.Scenario.{ScenarioParts}
 use Rattle.node_runner.specs.Scenario.{ScenarioOf}
 use Rattle.plain_commands.specs.Network.{network_of}
-use Rattle.plain_commands.specs.Plan.{Plan, Give, Job, images_plan, network_plan, scenario_plan}
+use Rattle.plain_commands.specs.Plan.{Plan, Give, Job, TraceJob, SizeJob, images_plan, network_plan, scenario_plan}
 use Rattle.plain_commands.specs.Reading.{Files, Reached}
 use Rattle.plain_commands.specs.Ends.{Ends, Reads, Stream}
-use Rattle.plain_commands.specs.Parts.{Called, HasRead, JobEnds, Reported, StopsAt, end_at, end_of}
-use Rattle.plain_commands.specs.declared.status.Status.{Status}
+use Rattle.plain_commands.specs.Parts.{HasRead, Ready, StopsAt, end_at}
+use Rattle.plain_commands.specs.declared.task.Task.TheVariants as task
 use Rattle.plain_commands.specs.declared.trouble.Trouble.{Trouble}
 use Rattle.plain_commands.proofs.Steps.{both, stops_on, stops_moved, reached_moved}
-use Rattle.plain_commands.proofs.Endings.{ends_stopped, ends_job}
+use Rattle.plain_commands.proofs.Endings.{ends_stopped}
 
 module _ (files files' : Files) (name : List ℕ) (job : ScenarioOf → Job) where
   -- what is left behind the scenario
@@ -45,12 +45,12 @@ module _ (files files' : Files) (name : List ℕ) (job : ScenarioOf → Job) whe
       (both files Whole (Rest parts) (Give (job made)) (reached Rest)
       (reached_moved files files' (Rest parts) (Give (job made)) e (more (λ it. Give (job (network_of parts it))))))
 
--- a command over the network that was read ends as its job does
-pub called_with : {A : Type 0} (files : Files) (name : List ℕ) (job : ScenarioOf → Job) (network : ScenarioOf) (store store' : Reads) (out out' err mid err' : Stream) (r : Result A Trouble) (answer : Status)
-    → HasRead files name store store' err mid network → JobEnds (job network) out out' r → Reported (end_of r) mid err' answer
-    → Called files (network_plan name (λ it. Give (job it))) store store' out out' err err' answer
-called_with files name job network store store' out out' err mid err' r answer read ends reported = record {
-  end = end_of r;
-  ends = ends_job files (network_plan name (λ it. Give (job it))) (job network) store store' out out' r (read.reached job) read.same ends;
-  reported = subst (λ e. Reported (end_of r) e err' answer) read.silent reported;
-}
+module _ (files : Files) (name : List ℕ) (store store' : Reads) (err err' : Stream) (network : ScenarioOf) (read : HasRead files name store store' err err' network) where
+  pub traces : Ready files (network_plan name (λ it. Give (TraceJob it))) store store' err err' (task.Trace network)
+  traces = record { reached = read.reached TraceJob; same = read.same; silent = read.silent; short = tt }
+
+  pub traces_plain : Ready files (network_plan name (λ it. Give (TraceJob it))) store store' err err' (task.PlainTrace network)
+  traces_plain = record { reached = read.reached TraceJob; same = read.same; silent = read.silent; short = tt }
+
+  pub tells_size : Ready files (network_plan name (λ it. Give (SizeJob it))) store store' err err' (task.Size network)
+  tells_size = record { reached = read.reached SizeJob; same = read.same; silent = read.silent; short = tt }

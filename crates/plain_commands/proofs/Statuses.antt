@@ -1,5 +1,5 @@
 -- What each status says of a call.
-use Rattle.std.proofs.Common.{◌≡◌, ◌≢◌, ◌⊎◌, ℕ, List, [], ◌∷◌, Option, Some, None, Result, Ok, Err, inl, inr, refl, sym, ◌∙◌, subst}
+use Rattle.std.proofs.Common.{◌≡◌, ◌≢◌, ◌⊎◌, ℕ, List, [], ◌∷◌, Option, Some, None, is_some, true, false, Result, Ok, Err, inl, inr, refl, sym, ap, ◌∙◌, subst}
 use Rattle.sim_io.specs.Outside.{Rose}
 use Rattle.command_words.specs.Words.{Asked, Node, Run, RunPlain, Check, Disasm, Asm, Make, asked_by, shown}
 use Rattle.command_words.specs.declared.order.Order.{Order}
@@ -13,11 +13,13 @@ use Rattle.scenario_file.specs.declared.fault.ScenarioFault.{ScenarioFault}
 use Rattle.node_runner.specs.Scenario.{ScenarioOf}
 use Rattle.plain_commands.specs.Network.{lone_node, network_of}
 use Rattle.plain_commands.specs.Plan.{Plan, Give, Refuse, Read, BadWords, BadScenario, BadImage, BadSource, Job, TraceJob, SizeJob, DisasmJob, AsmJob, image_plan, images_plan, network_plan, on_image, on_scenario, on_source, plan, plan_for, plan_of, source_plan}
-use Rattle.plain_commands.specs.Reading.{Files, Reached, Here, Fitting, TooLong, Verdict, Untold, Refused as RefusedVerdict, Accepted, Says, verdict}
+use Rattle.plain_commands.specs.Reading.{Files, Reached, Here, Fitting, TooLong, Refuses, Verdict, Untold, Refused as RefusedVerdict, Accepted, Says, verdict}
 use Rattle.plain_commands.specs.Ends.{Ends, End, Done, OutFailed, NoMemory, ReadFailed, Refused, Reads, Stream, status_due, EndedSaying, EndedUnsaid, HasStatus}
 use Rattle.plain_commands.specs.TopClause.{TopClause}
-use Rattle.plain_commands.specs.Parts.{AsksFor, Called, EndedAtWords, Told, Said, Unsaid, Reported}
-use Rattle.plain_commands.proofs.Endings.{asked_not_none, called_silent}
+use Rattle.plain_commands.specs.Parts.{Called, JobEnds, Prepared, Prepares, Ready, Told, Said, Unsaid, Reported, TaskRead, end_of, job_at}
+use Rattle.plain_commands.specs.declared.task.Task.{Task}
+use Rattle.plain_commands.specs.declared.trouble.Trouble.{Trouble}
+use Rattle.plain_commands.proofs.Endings.{asked_not_none, ends_job, refuses}
 use Rattle.plain_commands.specs.declared.trouble.ImageCause.{ImageCause}
 use Rattle.plain_commands.specs.declared.trouble.ImageCause.TheVariants as cause
 use Rattle.plain_commands.specs.declared.trouble.ScenarioCause.{ScenarioCause}
@@ -236,17 +238,46 @@ module _ (files : Files) (words : List (List ℕ)) (store store' : Reads) (out o
     complete = expected_from (how c);
   }
 
--- words that ask for an order are followed by it
-pub asked_clause : (files files' : Files) (words : List (List ℕ)) (order : Order) (store store' : Reads) (out out' err mid err' : Stream) (answer : Status) → files' ≡ files
-    → AsksFor words err mid order → Called files (plan_of (shown order)) store store' out out' mid err' answer
+-- a call that was prepared ends with its task
+pub done_clause : {A : Type 0} (files files' : Files) (words : List (List ℕ)) (store store' : Reads) (out out' err mid err' : Stream) (task : Task) (r : Result A Trouble) (answer : Status)
+    → Prepared files files' words store store' err mid task → JobEnds (job_at task) out out' r → Reported (end_of r) mid err' answer
     → TopClause files files' words store store' out out' err err' answer
-asked_clause files files' words order store store' out out' err mid err' answer same asks called =
-    top_clause files words store store' out out' err err' answer files' same
-    (called_silent files words order store store' out out' err mid err' answer asks called)
-    (λ none. absurd (asked_not_none (asked_by words) (shown order) asks.asked none))
+done_clause files files' words store store' out out' err mid err' task r answer prepared ends reported =
+    top_clause files words store store' out out' err err' answer files' prepared.held
+    (record {
+      end = end_of r;
+      ends = ends_job files (plan words) (job_at task) store store' out out' r prepared.ready.reached prepared.ready.same ends;
+      reported = subst (λ e. Reported (end_of r) e err' answer) prepared.ready.silent reported;
+    })
+    (λ none. let bad : false ≡ true = ap is_some (sym none) ∙ prepared.asked in absurd (cc))
 
--- words that ask for none, or for which memory is short, end the call
-pub unasked_clause : (files : Files) (words : List (List ℕ)) (store : Reads) (out err err' : Stream) (answer : Status)
-    → EndedAtWords words err err' answer → TopClause files files words store store out out err err' answer
-unasked_clause files words store out err err' answer ended =
-    top_clause files words store store out out err err' answer files refl (ended.called files store out) ended.first
+-- words that ask for an order are followed by it
+pub asked_prepares : (files files' : Files) (words : List (List ℕ)) (order : Order) (store store' : Reads) (err err' : Stream) (r : Result Task Status)
+    → files' ≡ files → Some (shown order) ≡ asked_by words → TaskRead files (plan_of (shown order)) store store' err err' r
+    → Prepares files files' words store store' err err' r
+asked_prepares files files' words order store store' err err' (Ok task) same asked read = record {
+  held = same;
+  asked = ap is_some (sym asked);
+  ready = subst (λ o. Ready files (plan_for o) store store' err err' task) asked read;
+}
+asked_prepares files files' words order store store' err err' (Err answer) same asked ended =
+    λ out. top_clause files words store store' out out err err' answer files' same
+    (subst (λ o. Called files (plan_for o) store store' out out err err' answer) asked (ended out))
+    (λ none. absurd (asked_not_none (asked_by words) (shown order) (sym asked) none))
+
+-- words that ask for none are refused
+pub refused_prepares : (files : Files) (words : List (List ℕ)) (store : Reads) (err err' : Stream) (answer : Status)
+    → None ≡ asked_by words → Told (Refused BadWords) err err' answer → (out : Stream) → TopClause files files words store store out out err err' answer
+refused_prepares files words store err err' answer none told out =
+    let refusal = refuses files (plan_for None) BadWords (Here (Refuse BadWords)) in
+    top_clause files words store store out out err err' answer files refl
+    (record { end = Refused BadWords; ends = (refl, subst (λ o. Refuses files (plan_for o) BadWords) none refusal, refl); reported = told })
+    (λ e. told)
+
+-- where memory is short for words that ask for an order, nothing is done
+pub short_prepares : (files : Files) (words : List (List ℕ)) (store : Reads) (err err' : Stream) (answer : Status)
+    → is_some (asked_by words) ≡ true → Told NoMemory err err' answer → (out : Stream) → TopClause files files words store store out out err err' answer
+short_prepares files words store err err' answer accepted told out =
+    top_clause files words store store out out err err' answer files refl
+    (record { end = NoMemory; ends = (refl, inl refl); reported = told })
+    (λ none. let bad : false ≡ true = ap is_some (sym none) ∙ accepted in absurd (cc))

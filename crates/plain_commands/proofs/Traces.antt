@@ -5,12 +5,12 @@ use Rattle.std.proofs.lemmas.Bool.Decides.{nat_tests}
 use native.Mathlib.Decide.{ℕ_discrete}
 use Rattle.sim_io.specs.Outside.{extended, TookFront}
 use Rattle.sim_io.proofs.Taken.{extended-extended}
-use Rattle.trace_rows.specs.declared.row.Row.{Row}
+use Rattle.node_core.specs.declared.row.Row.{Row}
 use Rattle.trace_writer.specs.Line.{row_line, rows_text}
 use Rattle.node_core.specs.State.{NodeState}
 use Rattle.world_core.specs.NodeKind.{ticked_rows}
 use Rattle.world_core.specs.Each.{each_below}
-use Rattle.global_order.specs.Order.{Fleet, world_after, world_at, hears, end_rows, run_rows}
+use Rattle.world_core.specs.Order.{Fleet, world_after, world_at, hears, end_rows, run_rows}
 use Rattle.node_runner.specs.Scenario.{ScenarioOf, IsScenario, fleet_of}
 use Rattle.node_runner.specs.Run.{rows_upto}
 use Rattle.node_runner.proofs.Epoch.{first_rows}

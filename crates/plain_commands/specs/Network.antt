@@ -4,7 +4,7 @@ use Rattle.world_core.specs.Topology.{topology}
 use Rattle.ihex_loader.specs.Flash.{Image}
 use Rattle.scenario_file.specs.Scenario.{ScenarioParts, no_script}
 use Rattle.node_runner.specs.Scenario.{ScenarioOf, fleet_of}
-use Rattle.global_order.specs.Order.{run_rows}
+use Rattle.world_core.specs.Order.{run_rows}
 use Rattle.trace_writer.specs.Line.{rows_text}
 
 -- the network of a scenario's text, with the image of each node

@@ -1,13 +1,15 @@
 -- What the parts of a call owe to one another: how reading stops, how a job ends, and that an end was told. These are the
 -- contracts of functions inside this crate, and no part of what the top clause says.
-use Rattle.std.specs.Prelude.{◌≡◌, ℕ, List, Some, None, Result, Ok, Err}
+use Rattle.std.specs.Prelude.{◌≡◌, ◌≤◌, ℕ, true, is_some, length, List, Result, Ok, Err}
 use Rattle.sim_io.specs.Outside.{TookFront}
 use Rattle.node_runner.specs.Scenario.{ScenarioOf}
-use Rattle.command_words.specs.Words.{IsInLimits, asked_by, shown}
-use Rattle.command_words.specs.declared.order.Order.{Order}
-use Rattle.plain_commands.specs.Plan.{Plan, Give, Refuse, Refusal, BadWords, BadScenario, BadImage, BadSource, Job, network_plan, output, plan}
+use Rattle.command_words.specs.Words.{asked_by}
+use Rattle.plain_commands.specs.Plan.{Plan, Give, Refuse, Refusal, BadWords, BadScenario, BadImage, BadSource, Job, TraceJob, SizeJob, DisasmJob, AsmJob, SampleJob, network_plan, output, plan}
 use Rattle.plain_commands.specs.Reading.{Files, Reached, IsNext}
 use Rattle.plain_commands.specs.Ends.{Reads, Stream, took, FailedIn, FailedRead, End, Done, OutFailed, NoMemory, ReadFailed, Refused, Ends, line_due, status_due}
+use Rattle.plain_commands.specs.TopClause.{TopClause}
+use Rattle.plain_commands.specs.declared.task.Task.{Task}
+use Rattle.plain_commands.specs.declared.task.Task.TheVariants as task
 use Rattle.plain_commands.specs.declared.trouble.Complaint.{Complaint}
 use Rattle.plain_commands.specs.declared.trouble.Complaint.TheVariants as complaint
 use Rattle.plain_commands.specs.declared.trouble.Trouble.{Trouble}
@@ -87,13 +89,43 @@ abbrev pub EndedReading : Files → List ℕ → Reads → Reads → Stream → 
 EndedReading files name store store' err err' answer =
     (job : ScenarioOf → Job) (out : Stream) → Called files (network_plan name (λ it. Give (job it))) store store' out out err err' answer
 
--- the call ended with its words: over any store and output it ended and was reported so, and words that are not accepted were refused
-pub record EndedAtWords (words : List (List ℕ)) (err err' : Stream) (answer : Status) : Type 0 where
-  pub called : (files : Files) (store : Reads) (out : Stream) → Called files (plan words) store store out out err err' answer
-  pub first : asked_by words ≡ None → Reported (Refused BadWords) err err' answer
+-- the job that a task of the code stands for
+abbrev pub job_at : Task → Job
+job_at (task.Trace network) = TraceJob network
+job_at (task.PlainTrace network) = TraceJob network
+job_at (task.Size network) = SizeJob network
+job_at (task.Listing flash) = DisasmJob flash
+job_at (task.Program words) = AsmJob words.items
+job_at (task.Sample number) = SampleJob number
 
--- the words ask for this order, and nothing was said
-pub record AsksFor (words : List (List ℕ)) (err err' : Stream) (order : Order) : Type 0 where
-  pub asked : asked_by words ≡ Some (shown order)
-  pub limits : IsInLimits (shown order)
+-- a program is no longer than the flash
+abbrev pub IsShort : Task → Type 0
+IsShort (task.Trace network) = Unit {0}
+IsShort (task.PlainTrace network) = Unit {0}
+IsShort (task.Size network) = Unit {0}
+IsShort (task.Listing flash) = Unit {0}
+IsShort (task.Program words) = length words.items ≤ 65536
+IsShort (task.Sample number) = Unit {0}
+
+-- what a plan reads was read, this is left to do, and nothing was said
+pub record Ready (files : Files) (plan : Plan) (store store' : Reads) (err err' : Stream) (task : Task) : Type 0 where
+  pub reached : Reached files plan (Give (job_at task))
+  pub same : store' ≡ store
   pub silent : err' ≡ err
+  pub short : IsShort task
+
+-- what a plan reads was read; or the call ended with that, over any output
+abbrev pub TaskRead : Files → Plan → Reads → Reads → Stream → Stream → Result Task Status → Type 0
+TaskRead files plan store store' err err' (Ok task) = Ready files plan store store' err err' task
+TaskRead files plan store store' err err' (Err answer) = (out : Stream) → Called files plan store store' out out err err' answer
+
+-- the words ask for something, and what it needs was read
+pub record Prepared (files files' : Files) (words : List (List ℕ)) (store store' : Reads) (err err' : Stream) (task : Task) : Type 0 where
+  pub held : files' ≡ files
+  pub asked : is_some (asked_by words) ≡ true
+  pub ready : Ready files (plan words) store store' err err' task
+
+-- a call is prepared; or it ended before it wrote any output
+abbrev pub Prepares : Files → Files → List (List ℕ) → Reads → Reads → Stream → Stream → Result Task Status → Type 0
+Prepares files files' words store store' err err' (Ok task) = Prepared files files' words store store' err err' task
+Prepares files files' words store store' err err' (Err answer) = (out : Stream) → TopClause files files' words store store' out out err err' answer

@@ -1,6 +1,6 @@
 -- What is written of a sample.
 use Rattle.std.specs.Prelude.{ℕ, List, ◌++◌, codes, decimal}
-use Rattle.global_order.specs.Order.{run_rows}
+use Rattle.world_core.specs.Order.{run_rows}
 use Rattle.node_runner.specs.Scenario.{fleet_of}
 use Rattle.sample_maker.specs.Sample.{sample}
 use Rattle.sample_maker.specs.Counts.{counts_of}

@@ -14,9 +14,9 @@ use fleet_plain::PlainRun;
 use ihex_loader::Flash;
 use node_runner::Scenario;
 use scenario_file::ScenarioText;
+use serial_ports::Script;
 use sim_io::{Sink, put_decimal, write_all};
 use std::alloc::Global;
-use usart_port::Script;
 use world_core::Topo;
 
 // The latency and the byte time of a scenario that names none, in cycles.

@@ -129,8 +129,8 @@ fn status_at(trouble: Trouble) -> Status
     }
 }
 
-// Says on `err` why a call stopped short.
-fn tell<E: Sink>(err: &mut E, trouble: Trouble) -> Status
+/// Says on `err` why a call stopped short.
+pub fn tell<E: Sink>(err: &mut E, trouble: Trouble) -> Status
     ensures { Told (end_at trouble.entry) (stream (E.taken err.old) (E.faults err.old)) (stream (E.taken err.new) (E.faults err.new)) result }
 {
     let mut after = ArrayString::new();

@@ -1,6 +1,6 @@
 // Samples, and what is written of them.
 ghost use Rattle.std.specs.Prelude.{◌≡◌, ◌++◌};
-ghost use Rattle.global_order.specs.Order.{run_rows};
+ghost use Rattle.world_core.specs.Order.{run_rows};
 ghost use Rattle.node_runner.specs.Scenario.{fleet_of};
 ghost use Rattle.sample_maker.specs.Sample.{sample};
 ghost use Rattle.plain_commands.specs.Sample.{counts_line};
@@ -11,10 +11,10 @@ ghost use Rattle.plain_commands.specs.Parts.{JobEnds};
 use crate::trouble::Trouble;
 use arrayvec::ArrayString;
 use fleet_plain::run_plain;
+use node_core::Row;
 use sample_maker::{Counts, count, make};
 use sim_io::{Sink, put_decimal, write_all};
 use std::alloc::Global;
-use trace_rows::Row;
 
 /// How many nodes the sample has.
 pub const NODES: u8 = 8;

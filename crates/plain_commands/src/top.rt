@@ -1,66 +1,14 @@
 // From the words to a status.
-ghost use Rattle.std.specs.Prelude.{◌≡◌, map, IfErr, IfOk};
-ghost use Rattle.command_words.specs.Words.{IsInLimits, shown};
-ghost use Rattle.plain_commands.specs.Plan.{plan_of};
+ghost use Rattle.std.specs.Prelude.{◌≡◌, map};
 ghost use Rattle.plain_commands.specs.Ends.{reads, stream};
 ghost use Rattle.plain_commands.specs.TopClause.{TopClause};
-ghost use Rattle.plain_commands.specs.Parts.{AsksFor, Called, EndedAtWords};
 
 use crate::Status;
-use crate::commands::{asm, check, disasm, node, run_plain};
+use crate::reading::prepare;
 use crate::reports::report;
-use crate::sample::write_sample;
-use crate::trouble::{Complaint, Trouble};
-use command_words::{Order, read_words};
+use crate::task::do_task;
 use sim_io::{Sink, Store};
 use std::alloc::Global;
-
-/// Does what an order asks for, and says how it ended.
-pub fn obey<'w, S: Store, O: Sink, E: Sink>(
-    alloc: Global,
-    order: Order<'w>,
-    store: &mut S,
-    out: &mut O,
-    err: &mut E,
-) -> Status
-    requires { IsInLimits (shown order) }
-    ensures held { S.held store.new ≡ S.held store.old }
-    ensures called { Called (S.held store.old) (plan_of (shown order.entry))
-        (reads (S.faults store.old) (S.failed store.old)) (reads (S.faults store.new) (S.failed store.new))
-        (stream (O.taken out.old) (O.faults out.old)) (stream (O.taken out.new) (O.faults out.new))
-        (stream (E.taken err.old) (E.faults err.old)) (stream (E.taken err.new) (E.faults err.new)) result }
-{
-    let outcome = match order {
-        // The same trace, for a caller that has no threads to give.
-        Order::Run { file } => return run_plain(alloc, file, store, out, err),
-        Order::RunPlain { file } => return run_plain(alloc, file, store, out, err),
-        Order::Check { file } => return check(alloc, file, store, out, err),
-        Order::Node { file, cycles } => node(alloc, file, cycles, store, out),
-        Order::Disasm { file } => disasm(alloc, file, store, out),
-        Order::Asm { file } => asm(alloc, file, store, out),
-        Order::Make { number } => write_sample(alloc, number, out),
-    };
-    report(err, outcome)
-}
-
-/// The order that the words ask for. Where they ask for none, or memory is short, `err` has the line that says so, and the answer is
-/// the status of the call.
-pub fn read_order<'w, E: Sink>(
-    alloc: Global,
-    words: &'w [&'w str],
-    err: &mut E,
-) -> Result<Order<'w>, Status>
-    ensures ok { IfOk result (AsksFor (map (λ w. w.now) words.entry.now)
-        (stream (E.taken err.old) (E.faults err.old)) (stream (E.taken err.new) (E.faults err.new))) }
-    ensures err { IfErr result (EndedAtWords (map (λ w. w.now) words.entry.now)
-        (stream (E.taken err.old) (E.faults err.old)) (stream (E.taken err.new) (E.faults err.new))) }
-{
-    match read_words(alloc, words) {
-        Ok(Some(order)) => Ok(order),
-        Ok(None) => Err(report(err, Err(Trouble::Refused(Complaint::BadWords)))),
-        Err(_) => Err(report(err, Err(Trouble::NoMemory))),
-    }
-}
 
 /// The whole program over a store of files and two streams, on one thread: does what the words after the program's
 /// name ask for, and answers how it ended. Files are read in the order in which the command needs them, each whole, and
@@ -91,8 +39,11 @@ pub fn avrora_alone<'w, S: Store, O: Sink, E: Sink>(
         (stream (O.taken out.old) (O.faults out.old)) (stream (O.taken out.new) (O.faults out.new))
         (stream (E.taken err.old) (E.faults err.old)) (stream (E.taken err.new) (E.faults err.new)) result }
 {
-    match read_order(alloc, words, err) {
-        Ok(order) => obey(alloc, order, store, out, err),
+    match prepare(alloc, words, store, err) {
+        Ok(task) => {
+            let outcome = do_task(alloc, task, out);
+            report(err, outcome)
+        }
         Err(status) => status,
     }
 }

@@ -1,8 +1,7 @@
 // What a node or the record answers to a step, or is to answer.
 use crate::fault::Fault;
 use air_cases::{Section, byte_of};
-use air_record::{Behind, Posted};
-use neighbour_sync::{Passed, Tried};
+use neighbour_sync::{Behind, Passed, Posted, Tried};
 use world_core::{Heard, Sampled};
 
 /// An answer.

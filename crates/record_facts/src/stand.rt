@@ -5,9 +5,8 @@ ghost use Rattle.std.specs.List.{All};
 use crate::answer::Answer;
 use crate::fault::Fault;
 use air_cases::{count_below, is_asked, send_number};
-use air_record::Air;
-use clock_words::{Clocks, NodeSeat};
 use list_world::ListWorld;
+use neighbour_sync::{Air, Clocks, NodeSeat};
 use std::alloc::Global;
 use world_core::{Ask, EPOCH, Heard, Send, World};
 

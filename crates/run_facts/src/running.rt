@@ -4,10 +4,9 @@ ghost use Rattle.std.specs.Prelude.{◌≤◌, ◌^◌};
 use crate::trials::Trial;
 use avr_program::Program;
 use ihex_loader::load;
-use node_core::Node;
+use node_core::{Node, Row};
+use serial_ports::Script;
 use std::alloc::Global;
-use trace_rows::Row;
-use usart_port::Script;
 use world_core::Heard;
 
 // The cycles that a byte takes the radio.

@@ -1,8 +1,8 @@
 // What is written of a run.
 use crate::running::Run;
 use arrayvec::ArrayString;
+use node_core::{Kind, Row};
 use sim_io::{Sink, SinkFault, put_decimal, put_hex2, write_all};
-use trace_rows::{Kind, Row};
 
 fn is_instruction(row: &Row) -> bool {
     match row.kind {

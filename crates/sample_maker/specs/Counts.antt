@@ -1,9 +1,9 @@
 -- How often the nodes of a run sent, and what they heard. Own to this simulator.
 use Rattle.std.specs.Prelude.{ℕ, ◌==◌, Bool, true, false, List}
 use Rattle.std.specs.List.{count_by}
-use Rattle.trace_rows.specs.declared.row.Row.{Row}
-use Rattle.trace_rows.specs.declared.row.Kind.{Kind}
-use Rattle.trace_rows.specs.declared.row.Kind.TheVariants as kind
+use Rattle.node_core.specs.declared.row.Row.{Row}
+use Rattle.node_core.specs.declared.row.Kind.{Kind}
+use Rattle.node_core.specs.declared.row.Kind.TheVariants as kind
 use Rattle.sample_maker.specs.declared.counts.Counts.{Counts}
 
 abbrev pub is_sent : Row → Bool

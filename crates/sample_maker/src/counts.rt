@@ -3,7 +3,7 @@ ghost use Rattle.std.specs.Prelude.{◌≡◌};
 ghost use Rattle.std.specs.List.{count_by};
 ghost use Rattle.sample_maker.specs.Counts.{is_sent, is_heard, counts_of};
 
-use trace_rows::{Kind, Row};
+use node_core::{Kind, Row};
 
 /// How often the nodes of a run sent, and what they heard when they sampled the air.
 #[derive(Clone, Copy)]

@@ -11,8 +11,8 @@ use avr_base::NoMemory;
 use avr_program::Program;
 use node_runner::Scenario;
 use scenario_file::ScenarioText;
+use serial_ports::Script;
 use std::alloc::{AllocError, Global};
-use usart_port::Script;
 
 // The cycles between the bytes of a script, where it has none.
 const EVERY: u64 = 7_680;

@@ -1,14 +1,16 @@
 -- Lists of a document beside the lists of the code.
-use Rattle.std.proofs.Common.{◌≡◌, sum, ℕ, zero, suc, ◌+◌, ◌<◌, ◌++◌, true, take, drop, get_or, arith, length, ◌||◌, Bool, List, [], ◌∷◌, map, Option, Some, pos, negsuc, String, Global, string_bytes, refl, sym, ap, ◌∙◌}
+use Rattle.std.proofs.Common.{◌≡◌, sum, ℕ, zero, suc, ◌+◌, ◌<◌, ◌≤◌, ◌++◌, true, false, take, drop, get_or, arith, length, ◌||◌, Bool, List, [], ◌∷◌, map, Option, Some, None, pos, negsuc, String, Global, string_bytes, refl, sym, ap, ◌∙◌}
 use Rattle.std.specs.List.{list_any, list_all}
 use Rattle.std.specs.Map.{keys_of}
+use Rattle.std.specs.Option.{option_zip}
 use Rattle.std.proofs.lemmas.List.{map-append, take_more, take-append-drop}
 use Rattle.std.proofs.lemmas.List.Sums.{sum_by-append}
 use Rattle.std.proofs.lemmas.Bool.{and_parts}
 use Rattle.toml.specs.Data.{Data, integer, array, as_array}
 use Rattle.toml.specs.View.{view, items_of, items_view, members_view}
 use Rattle.toml.specs.declared.value.Value.{Value}
-use Rattle.scenario_file.specs.Document.{values_in, keys_in, array_elements, on_array, natural_in, pair_made, pair_in, pair_of}
+use Rattle.scenario_file.specs.Document.{values_in, keys_in, array_elements, on_array, natural, natural_in, pair_made, pair_in, pair_of}
+use Rattle.scenario_file.specs.Rules.{are_two}
 
 pub values_in-items : (ds : List Data) → values_in (items_of ds) ≡ ds
 unfolding values_in
@@ -37,11 +39,48 @@ pub array_pair : (vs : List Value) (d : Data) → Some (items_view vs) ≡ as_ar
 array_pair vs (array ds) is = let e : items_view vs ≡ ds = cc in ap pair_in (sym (values_in-items (map view vs)) ∙ ap values_in e)
 array_pair vs _ is = cc
 
-pub pair_is : (d e : Data) → pair_made (natural_in d) (natural_in e) ≡ pair_in (d ∷ e ∷ [])
-pair_is (integer a) (integer b) = refl
+zip_is : (a b : Option ℕ) → option_zip a b ≡ pair_made a b
+zip_is (Some a) (Some b) = refl
+zip_is (Some a) None = refl
+zip_is None b = refl
+
+pub pair_is : (d e : Data) → option_zip (natural_in d) (natural_in e) ≡ pair_in (d ∷ e ∷ [])
+pair_is (integer a) (integer b) = zip_is (natural a) (natural b)
 pair_is (integer (pos n)) e = refl
 pair_is (integer (negsuc n)) e = refl
 pair_is d e = refl
+
+-- a list of fewer or more than two is no pair
+pub pair_below : {X : Type 0} (f : X → Data) (xs : List X) → length xs < 2 → pair_in (map f xs) ≡ None
+pair_below f [] h = refl
+pair_below f (x ∷ []) h = one (f x)
+  where
+    one : (d : Data) → pair_in (d ∷ []) ≡ None
+    one (integer a) = refl
+    one d = refl
+pair_below f (x ∷ y ∷ xs) h = absurd (omega (h, arith))
+
+pub pair_above : {X : Type 0} (f : X → Data) (xs : List X) → 3 ≤ length xs → pair_in (map f xs) ≡ None
+pair_above f [] h = absurd (omega (h, arith))
+pair_above f (x ∷ []) h = absurd (omega (h, arith))
+pair_above f (x ∷ y ∷ []) h = absurd (omega (h, arith))
+pair_above f (x ∷ y ∷ z ∷ xs) h = three (f x) (f y) (f z) (map f xs)
+  where
+    three : (d e g : Data) (ds : List Data) → pair_in (d ∷ e ∷ g ∷ ds) ≡ None
+    three (integer a) (integer b) g ds = refl
+    three (integer a) e g ds = refl
+    three d e g ds = refl
+
+pub two_below : {X : Type 0} (f : X → Data) (xs : List X) → length xs < 2 → are_two (map f xs) ≡ false
+two_below f [] h = refl
+two_below f (x ∷ []) h = refl
+two_below f (x ∷ y ∷ xs) h = absurd (omega (h, arith))
+
+pub two_above : {X : Type 0} (f : X → Data) (xs : List X) → 3 ≤ length xs → are_two (map f xs) ≡ false
+two_above f [] h = absurd (omega (h, arith))
+two_above f (x ∷ []) h = absurd (omega (h, arith))
+two_above f (x ∷ y ∷ []) h = absurd (omega (h, arith))
+two_above f (x ∷ y ∷ z ∷ xs) h = refl
 
 pub length_map : {X Y : Type 0} (f : X → Y) (xs : List X) → length (map f xs) ≡ length xs
 length_map f [] = refl

@@ -5,7 +5,7 @@ use Rattle.hex.specs.Hex.{decode_of}
 use Rattle.hex.specs.declared.error.FromHexError.{FromHexError}
 use Rattle.world_core.specs.declared.air.Span.{Span}
 use Rattle.world_core.specs.Topology.{Topology, topology}
-use Rattle.usart_port.specs.Script.{ScriptBytes}
+use Rattle.serial_ports.specs.Script.{ScriptBytes}
 use Rattle.scenario_file.specs.Document.{elements, members_of, number_at, text_at, pair_of, pair_or, pair_at}
 use Rattle.scenario_file.specs.Faults.{nodes, links, inputs, link_of, node_of, document_of, document_fault}
 use Rattle.scenario_file.specs.declared.fault.ScenarioFault.{ScenarioFault}

@@ -52,6 +52,6 @@ pub fn in_range(version: Version, table: &Table) -> bool
     ensures { result ≡ in_range version (table_view table.now) }
 {
     Rule::InRange(version, node_count(table)).holds_in(table)
-        && is_few(Keys::OfLink, elements(table, "link"))
-        && is_few(Keys::OfInput, elements(table, "input"))
+        & is_few(Keys::OfLink, elements(table, "link"))
+        & is_few(Keys::OfInput, elements(table, "input"))
 }

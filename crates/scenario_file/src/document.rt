@@ -75,10 +75,7 @@ fn pair_in(values: &[Value]) -> Option<(u64, u64)>
     ensures { result ≡ pair_in (map view values.now) }
 {
     match values {
-        [first, second] => match (natural_in(first), natural_in(second)) {
-            (Some(a), Some(b)) => Some((a, b)),
-            _ => None,
-        },
+        [first, second] => natural_in(first).zip(natural_in(second)),
         _ => None,
     }
 }

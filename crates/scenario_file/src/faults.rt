@@ -55,10 +55,8 @@ fn late_fault(
         return Ok(Some(ScenarioFault::TwiceLinked));
     }
     let nodes = numbers_in(alloc, elements(table, "input"), "node", 0)?;
-    if any_twice(node_count(table), nodes.as_slice()) {
-        return Ok(Some(ScenarioFault::TwiceScripted));
-    }
-    Ok(None)
+    let twice = any_twice(node_count(table), nodes.as_slice());
+    Ok(twice.then_some(ScenarioFault::TwiceScripted))
 }
 
 /// The lowest fault that applies to a document, if one does.

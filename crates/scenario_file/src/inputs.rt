@@ -10,9 +10,9 @@ ghost use Rattle.scenario_file.specs.declared.keys.Keys.TheVariants.{OfInput};
 
 use crate::document::{number_in, text_in};
 use crate::keys::Version;
+use serial_ports::Script;
 use std::alloc::{AllocError, Global};
 use toml::Value;
-use usart_port::Script;
 
 fn count_of(node: u64, nodes: &[u64]) -> usize
     ensures { result ≡ count_by (λ m. m == node) nodes.now }

@@ -10,7 +10,7 @@ fn are_two(values: &[Value]) -> bool
     ensures { result ≡ are_two (map view values.now) }
 {
     match values {
-        [first, second] => first.is_integer() && second.is_integer(),
+        [first, second] => first.is_integer() & second.is_integer(),
         _ => false,
     }
 }

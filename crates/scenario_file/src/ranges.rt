@@ -19,7 +19,7 @@ pub fn fits(least: u64, most: u64, value: &Value) -> bool
     match value.as_integer() {
         None => true,
         Some(number) => match natural(number) {
-            Some(n) => least <= n && n <= most,
+            Some(n) => (least <= n) & (n <= most),
             None => false,
         },
     }
@@ -41,7 +41,7 @@ pub fn is_name(value: &Value) -> bool
 {
     match value.as_str() {
         None => true,
-        Some(text) => 1 <= text.len() && text.len() <= 255,
+        Some(text) => (1 <= text.len()) & (text.len() <= 255),
     }
 }
 
@@ -57,7 +57,7 @@ pub fn is_hex(value: &Value) -> bool
 {
     match value.as_str() {
         None => true,
-        Some(text) => has_hex_digits(text) && text.len() % 2 == 0,
+        Some(text) => has_hex_digits(text) & (text.len() % 2 == 0),
     }
 }
 
@@ -67,7 +67,7 @@ pub fn is_window(cycles: u64, value: &Value) -> bool
 {
     match pair_of(value) {
         Some((first, last)) => {
-            first <= last && last <= cycles && last.saturating_sub(first) <= 20_000
+            (first <= last) & (last <= cycles) & (last.saturating_sub(first) <= 20_000)
         }
         None => false,
     }
@@ -77,7 +77,7 @@ fn is_span_behind(last: u64, pair: Option<(u64, u64)>) -> bool
     ensures { result ≡ is_span_behind last pair }
 {
     match pair {
-        Some((from, until)) => last <= from && from < until && until <= MOST_CYCLE,
+        Some((from, until)) => (last <= from) & (from < until) & (until <= MOST_CYCLE),
         None => false,
     }
 }

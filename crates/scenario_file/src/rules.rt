@@ -1,4 +1,5 @@
-// The rules of the tables: of one, of all of a kind, and of a document with all that it holds.
+// The rules of the tables: of one, of all of a kind, and of a document with all that it holds. Each test is made, by `&` and not `&&`: none
+// needs the answer of another, and a way round a test costs more to prove than the test.
 ghost use Rattle.std.specs.Prelude.{◌≡◌, map};
 ghost use Rattle.toml.specs.View.{view, table_view};
 ghost use Rattle.scenario_file.specs.Document.{at_key};
@@ -26,8 +27,8 @@ fn lacks_key(keys: Keys, table: &Table) -> bool
     match keys {
         Keys::Top => !has_key(table, "cycles"),
         Keys::OfNode => !has_key(table, "image"),
-        Keys::OfLink => !has_key(table, "from") || !has_key(table, "to"),
-        Keys::OfInput => !has_key(table, "node") || !has_key(table, "at") || !has_key(table, "hex"),
+        Keys::OfLink => !has_key(table, "from") | !has_key(table, "to"),
+        Keys::OfInput => !has_key(table, "node") | !has_key(table, "at") | !has_key(table, "hex"),
     }
 }
 
@@ -37,23 +38,23 @@ fn has_kinds(keys: Keys, table: &Table) -> bool
     match keys {
         Keys::Top => {
             passes_at(table, "version", Asked::Whole)
-                && passes_at(table, "cycles", Asked::Whole)
-                && passes_at(table, "latency", Asked::Whole)
-                && passes_at(table, "byte_time", Asked::Whole)
-                && passes_at(table, "window", Asked::Two)
+                & passes_at(table, "cycles", Asked::Whole)
+                & passes_at(table, "latency", Asked::Whole)
+                & passes_at(table, "byte_time", Asked::Whole)
+                & passes_at(table, "window", Asked::Two)
         }
         Keys::OfNode => passes_at(table, "image", Asked::Text),
         Keys::OfLink => {
             passes_at(table, "from", Asked::Whole)
-                && passes_at(table, "to", Asked::Whole)
-                && passes_at(table, "latency", Asked::Whole)
-                && passes_at(table, "open", Asked::Twos)
+                & passes_at(table, "to", Asked::Whole)
+                & passes_at(table, "latency", Asked::Whole)
+                & passes_at(table, "open", Asked::Twos)
         }
         Keys::OfInput => {
             passes_at(table, "node", Asked::Whole)
-                && passes_at(table, "at", Asked::Whole)
-                && passes_at(table, "every", Asked::Whole)
-                && passes_at(table, "hex", Asked::Text)
+                & passes_at(table, "at", Asked::Whole)
+                & passes_at(table, "every", Asked::Whole)
+                & passes_at(table, "hex", Asked::Text)
         }
     }
 }
@@ -64,10 +65,10 @@ fn has_top_ranges(version: Version, table: &Table) -> bool
 {
     let cycles = number_at(table, "cycles", 0);
     passes_at(table, "version", Asked::Between(1, 3))
-        && passes_at(table, "cycles", Asked::Between(1, most_cycles(version)))
-        && passes_at(table, "latency", Asked::Between(1, 65_535))
-        && passes_at(table, "byte_time", Asked::Between(256, 4_096))
-        && passes_at(table, "window", Asked::Window(cycles))
+        & passes_at(table, "cycles", Asked::Between(1, most_cycles(version)))
+        & passes_at(table, "latency", Asked::Between(1, 65_535))
+        & passes_at(table, "byte_time", Asked::Between(256, 4_096))
+        & passes_at(table, "window", Asked::Window(cycles))
 }
 
 fn has_ranges(version: Version, count: u64, keys: Keys, table: &Table) -> bool
@@ -78,15 +79,15 @@ fn has_ranges(version: Version, count: u64, keys: Keys, table: &Table) -> bool
         Keys::OfNode => passes_at(table, "image", Asked::Name),
         Keys::OfLink => {
             passes_at(table, "from", Asked::Node(count))
-                && passes_at(table, "to", Asked::Node(count))
-                && passes_at(table, "latency", Asked::Between(1, 65_535))
-                && passes_at(table, "open", Asked::Spans)
+                & passes_at(table, "to", Asked::Node(count))
+                & passes_at(table, "latency", Asked::Between(1, 65_535))
+                & passes_at(table, "open", Asked::Spans)
         }
         Keys::OfInput => {
             passes_at(table, "node", Asked::Node(count))
-                && passes_at(table, "at", Asked::Between(0, MOST_CYCLE))
-                && passes_at(table, "every", Asked::Between(1, 65_535))
-                && passes_at(table, "hex", Asked::Hex)
+                & passes_at(table, "at", Asked::Between(0, MOST_CYCLE))
+                & passes_at(table, "every", Asked::Between(1, 65_535))
+                & passes_at(table, "hex", Asked::Hex)
         }
     }
 }
@@ -138,9 +139,9 @@ impl Rule {
         ensures { result ≡ holds_in self (table_view table.now) }
     {
         self.holds(Keys::Top, table)
-            && self.holds_of_all(Keys::OfNode, elements(table, "node"))
-            && self.holds_of_all(Keys::OfLink, elements(table, "link"))
-            && self.holds_of_all(Keys::OfInput, elements(table, "input"))
+            & self.holds_of_all(Keys::OfNode, elements(table, "node"))
+            & self.holds_of_all(Keys::OfLink, elements(table, "link"))
+            & self.holds_of_all(Keys::OfInput, elements(table, "input"))
     }
 }
 
@@ -163,7 +164,7 @@ pub fn right_kinds(table: &Table) -> bool
     ensures { result ≡ right_kinds (table_view table.now) }
 {
     has_kinds(Keys::Top, table)
-        && are_rows_at(Keys::OfNode, table, "node")
-        && are_rows_at(Keys::OfLink, table, "link")
-        && are_rows_at(Keys::OfInput, table, "input")
+        & are_rows_at(Keys::OfNode, table, "node")
+        & are_rows_at(Keys::OfLink, table, "link")
+        & are_rows_at(Keys::OfInput, table, "input")
 }

@@ -11,10 +11,10 @@ use crate::faults::document_fault;
 use crate::inputs::scripts_of;
 use crate::keys::version_of;
 use crate::links::{links_of, spans_of};
+use serial_ports::Script;
 use sim_io::Name;
 use std::alloc::{AllocError, Global};
 use toml::{Table, Value};
-use usart_port::Script;
 use world_core::Topo;
 
 /// What a scenario's text says: the nodes and the air between them, which image each node runs, what arrives at it, and from which

@@ -15,7 +15,6 @@ mod sink;
 mod std_sink;
 mod store;
 
-pub use avr_base::NoMemory;
 pub use decimal::{put_decimal, put_distance};
 pub use dir_store::{DirStore, read_whole};
 pub use hex::{put_hex2, put_hex4};

@@ -1,8 +1,7 @@
 // An owned file name.
 ghost use Rattle.std.specs.Prelude.{◌≡◌, IfOk};
 
-use avr_base::NoMemory;
-use std::alloc::Global;
+use std::alloc::{AllocError, Global};
 use std::marker::Model;
 
 /// An owned file name. A contract sees it as its bytes, in UTF-8.
@@ -27,7 +26,7 @@ impl Model for Name {
 
 impl Name {
     /// A copy of `text`.
-    pub fn new(alloc: Global, text: &str) -> Result<Self, NoMemory>
+    pub fn new(alloc: Global, text: &str) -> Result<Self, AllocError>
         ensures { IfOk result (λ name. name ≡ text.now) }
     {
         let text = String::from_str(alloc, text)?;

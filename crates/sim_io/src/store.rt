@@ -24,14 +24,6 @@ impl From<AllocError> for ReadFault {
     }
 }
 
-impl From<avr_base::NoMemory> for ReadFault {
-    ghost from_gives = { λ _ fault. fault ≡ NoMemory };
-
-    fn from(_error: avr_base::NoMemory) -> Self {
-        ReadFault::NoMemory
-    }
-}
-
 /// A store of files, read whole by name.
 pub trait Store {
     /// The bytes of the file of this name. `None` where the store does not tell, or has no such file.

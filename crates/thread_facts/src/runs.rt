@@ -8,11 +8,11 @@ use ihex_loader::{Flash, load};
 use memory_io::MemSink;
 use node_runner::Scenario;
 use scenario_file::ScenarioText;
+use serial_ports::Script;
 use sim_io::{DirStore, Sink, SinkFault, put_decimal, write_all};
 use std::fs::{self, Files};
 use std::sync::Wait;
 use std::thread::Threads;
-use usart_port::Script;
 use world_core::{Link, Topo};
 
 // More than any stream of a run takes.

@@ -6,11 +6,11 @@ use Rattle.avr_base.specs.Causes.{cause_text}
 use Rattle.avr_decoder.specs.Opcodes.{op_at}
 use Rattle.avr_disassembler.specs.Text.{line_of}
 use Rattle.sim_io.specs.Digits.{hex2, hex4}
-use Rattle.trace_rows.specs.declared.row.Row.{Row}
-use Rattle.trace_rows.specs.declared.row.Kind.{Kind}
-use Rattle.trace_rows.specs.declared.row.Kind.TheVariants.{Instr, Enter, Serial, Sent, Heard, Stop, End}
-use Rattle.trace_rows.specs.declared.row.NodeEnd.{NodeEnd}
-use Rattle.trace_rows.specs.declared.row.NodeEnd.TheVariants.{Running, Asleep, Stopped}
+use Rattle.node_core.specs.declared.row.Row.{Row}
+use Rattle.node_core.specs.declared.row.Kind.{Kind}
+use Rattle.node_core.specs.declared.row.Kind.TheVariants.{Instr, Enter, Serial, Sent, Heard, Stop, End}
+use Rattle.node_core.specs.declared.row.NodeEnd.{NodeEnd}
+use Rattle.node_core.specs.declared.row.NodeEnd.TheVariants.{Running, Asleep, Stopped}
 
 -- how a node stands at the end
 unfoldable pub state_text : NodeEnd → List ℕ

@@ -6,8 +6,8 @@ ghost use Rattle.trace_writer.specs.Line.{kind_text, row_line, state_text};
 use arrayvec::ArrayString;
 use avr_decoder::decode;
 use avr_disassembler::put_line;
+use node_core::{Kind, NodeEnd, Row};
 use sim_io::{put_decimal, put_hex2, put_hex4};
-use trace_rows::{Kind, NodeEnd, Row};
 
 /// How many bytes the longest line has at most.
 pub const LINE: usize = 64;

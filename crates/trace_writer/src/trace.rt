@@ -5,8 +5,8 @@ ghost use Rattle.trace_writer.specs.Line.{rows_text};
 
 use crate::line::{LINE, put_row};
 use arrayvec::ArrayString;
+use node_core::Row;
 use sim_io::{Sink, SinkFault, make_room, write_all};
-use trace_rows::Row;
 
 // Bytes that go to the sink at one call: large enough that the call's own cost does not show.
 const PAGE: usize = 16384;

@@ -1,3 +1,16 @@
+pub mod Chained
+pub mod Looks
+pub mod NodeByNode
+pub mod Building
+pub mod Cutting
+pub mod Each
+pub mod Sends
+pub mod Alone
+pub mod OrderSteps
+pub mod Laws
+pub mod Sorted
+pub mod OrderRows
+pub mod Resumed
 pub mod QuietCycles
 pub mod LinkRows
 pub mod NeighbourRows

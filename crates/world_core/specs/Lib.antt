@@ -1,3 +1,9 @@
+pub mod Chain
+pub mod Over
+pub mod Order
+pub mod Sound
+pub mod Stands
+pub mod Resumed
 pub mod Each
 pub mod NodeKind
 pub mod NodeRun

@@ -3,7 +3,7 @@ use Rattle.world_core.specs.declared.air.Send.{Send}
 use Rattle.world_core.specs.declared.world.WorldFacts.{WorldFacts}
 use Rattle.world_core.specs.Lawful.{IsLawful}
 use Rattle.world_core.specs.Sends.{sends_below}
-use Rattle.clock_words.specs.Seats.{NodeFacts}
+use Rattle.neighbour_sync.specs.Seats.{NodeFacts}
 use Rattle.air_trials.proofs.Counted.{below_next, next_send, below_limit}
 use Rattle.air_trials.proofs.nodes.send_all.Goals as goal
 

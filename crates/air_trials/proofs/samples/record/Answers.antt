@@ -3,7 +3,7 @@ use Rattle.std.specs.List.{All}
 use Rattle.std.proofs.lemmas.List.Elements.{All-filter, All-push, All-weaker}
 use Rattle.world_core.specs.declared.air.Send.{Send}
 use Rattle.world_core.specs.Topology.{IsInside}
-use Rattle.send_log.specs.Chain.{LogFacts}
+use Rattle.world_core.specs.Chain.{LogFacts}
 use Rattle.air_trials.proofs.samples.record.Goals as goal
 
 pub push-requires-clause-after : goal.push-requires-clause-after

@@ -1,6 +1,6 @@
 use Rattle.std.proofs.Common.{◌≡◌, ℕ, ◌+◌, ◌≤◌, min, List, refl, ap, ◌∙◌, subst, arith}
 use Rattle.sim_io.specs.Outside.{Rose, TookFront, extended}
-use Rattle.trace_rows.specs.declared.row.Row.{Row}
+use Rattle.node_core.specs.declared.row.Row.{Row}
 use Rattle.trace_writer.specs.Line.{rows_text}
 use Rattle.node_runner.specs.Scenario.{ScenarioOf}
 use Rattle.node_runner.specs.Run.{RunAt}

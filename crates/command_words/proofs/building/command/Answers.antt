@@ -10,7 +10,7 @@ pub loop-form-preserved : goal.loop-form-preserved
 loop-form-preserved c = record {
   given =
       rw c.push_reserved.ensures.items
-      (one_more met form_met c.loop-form.subcommands.items _ c.loop-form.form-index _ _ c.loop-form-test.true (form_met_of _ _ c.in_ok-subcommand_of.ensures) c.loop-form.invariant.given);
+      (one_more met form_met c.loop-form.subcommands.items _ c.loop-form.form-index _ _ c.loop-form-test.true (form_met_of _ _ c.in-Ok.ensures) c.loop-form.invariant.given);
   count = search rules;
   room = search rules;
 }

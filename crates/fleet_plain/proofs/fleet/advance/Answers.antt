@@ -1,6 +1,6 @@
 use Rattle.std.proofs.Common.{◌≡◌, ◌-◌, ◌≤◌, min, sym, subst, ap, ◌∙◌, rules}
 use Rattle.world_core.specs.Topology.{Topology}
-use Rattle.send_log.specs.Chain.{LogFacts}
+use Rattle.world_core.specs.Chain.{LogFacts}
 use Rattle.node_runner.specs.Place.{Place}
 use Rattle.node_runner.proofs.Advance.{adv_answer, adv_turn, adv_ask, adv_ended, adv_sent}
 use Rattle.fleet_plain.proofs.fleet.advance.Goals as goal

@@ -5,8 +5,8 @@ use Rattle.std.specs.Ordering.{nat_cmp}
 use Rattle.std.proofs.lemmas.Bool.{eqb-true}
 use Rattle.world_core.specs.Topology.{Topology}
 use Rattle.world_core.specs.Kept.{is_kept, kept_room_of}
-use Rattle.send_log.specs.Chain.{LogFacts, log_of}
-use Rattle.trace_rows.specs.declared.row.Row.{Row}
+use Rattle.world_core.specs.Chain.{LogFacts, log_of}
+use Rattle.node_core.specs.declared.row.Row.{Row}
 use Rattle.node_runner.specs.Place.{Place, HasEnded}
 use Rattle.node_runner.specs.Gather.{end_row_of}
 use Rattle.fleet_plain.specs.Run.{IsResting}

@@ -1,12 +1,12 @@
 use Rattle.std.proofs.Common.{◌≡◌, ◌≤◌, ℕ, false, List, ◌++◌, refl, sym, subst, ◌∙◌, arith}
 use Rattle.std.specs.List.{All}
 use Rattle.world_core.specs.declared.world.WorldFacts.{WorldFacts}
-use Rattle.global_order.specs.Order.{facts_of}
+use Rattle.world_core.specs.Order.{facts_of}
 use Rattle.node_runner.specs.Scenario.{fleet_of}
 use Rattle.neighbour_sync.specs.Parts.{AreParts}
-use Rattle.fleet_threads.specs.Nodes.{HaveRoom}
 use Rattle.fleet_threads.specs.declared.member.Member.{Member}
 use Rattle.fleet_threads.specs.declared.parts.Parts.{Parts}
+use Rattle.fleet_threads.proofs.Nodes.{begun}
 use Rattle.fleet_threads.proofs.Epochs.{tied, at_end, tied_taken, all_go_on}
 use Rattle.fleet_threads.proofs.run.through.Goals as goal
 
@@ -47,11 +47,11 @@ pub in_session-parts-requires-clause-parts : goal.in_session-parts-requires-clau
 in_session-parts-requires-clause-parts g c κs within =
     subst (λ (n : ℕ). AreParts c.args.parts.air.table (facts_of (fleet_of c.args.scenario.now)) n c.args.parts.clocks c.args.parts.air) (sym c.requires.tied.parts.floor) c.requires.tied.parts
 
-pub in_session-parts-requires-clause-members : goal.in_session-parts-requires-clause-members
-in_session-parts-requires-clause-members g c κs within = all_go_on c.args.scenario.now c.args.floor c.args.end c.args.parts c.requires.tied c.requires.epoch
-
-pub in_session-parts-requires-clause-room : goal.in_session-parts-requires-clause-room
-in_session-parts-requires-clause-room g c κs within = subst (λ (n : ℕ). HaveRoom n c.in_ok-lists.lists) c.len.ensures c.in_ok-lists.ensures
+pub in_session-parts-requires-clause-begun : goal.in_session-parts-requires-clause-begun
+in_session-parts-requires-clause-begun g c κs within =
+    let len = c.len.ensures in
+    let room = c.in_ok-waiting.ensures.capacity in
+    begun _ _ _ _ _ c.args.parts.members c.in_ok-waiting.waiting (all_go_on c.args.scenario.now c.args.floor c.args.end c.args.parts c.requires.tied c.requires.epoch) c.in_ok-waiting.ensures.len (omega arith)
 
 pub cut_when_passed-requires-clause-table : goal.cut_when_passed-requires-clause-table
 cut_when_passed-requires-clause-table g c = c.in_session-parts.ensures.parts.table ∙ sym c.in_session-parts.ensures.parts.words

@@ -1,4 +1,4 @@
-use Rattle.global_order.specs.Order.{facts_of}
+use Rattle.world_core.specs.Order.{facts_of}
 use Rattle.node_runner.specs.Scenario.{fleet_of}
 use Rattle.fleet_threads.proofs.run.through.Given as goal
 

@@ -16,8 +16,8 @@ loop-k-preserved g c =
     let len : length xs ≡ vec_len c.loop-k.waiting = search rules in
     let long : k < length xs = omega (arith, c.loop-k-test.true, c.len-k-end.ensures, inv.len, len) in
     record {
-      all = All-set (IsUnderWay g.N.Session.table g.N.Session.world c.args.scenario.now g.N.Session.floor c.args.end) xs k new c.step.ensures.member inv.all;
-      numbers = stepped xs k c.index_mut.result.now new long (c.step.ensures.number ∙ ap (λ (m : Member). m.runner.number) c.index_mut.ensures.value) ∙ inv.numbers;
+      all = All-set (IsUnderWay g.N.Session.table g.N.Session.world c.args.scenario.now g.N.Session.floor c.args.end) xs k new c.step.ensures.on.0 inv.all;
+      numbers = stepped xs k c.index_mut.result.now new long (c.step.ensures.on.1 ∙ ap (λ (m : Member). m.runner.number) c.index_mut.ensures.value) ∙ inv.numbers;
       len = inv.len;
       over = (λ on. elim c.if-not-step.branch [
         | then-not-step w ↦ absurd (false≢true (sym w.over-is ∙ on))

@@ -1,7 +1,7 @@
 use Rattle.std.proofs.Common.{◌≤◌, ◌++◌, ◌∷◌, [], sym, subst, ap, ◌∙◌}
 use Rattle.world_core.specs.Kept.{IsPostedTo}
-use Rattle.air_record.specs.Looks.{pair_of}
-use Rattle.air_record.specs.Record.{AirRecord}
+use Rattle.neighbour_sync.specs.Loads.{pair_of}
+use Rattle.neighbour_sync.specs.Record.{AirRecord}
 use Rattle.neighbour_sync.proofs.Telling.{loads_more, cut_last}
 use Rattle.neighbour_sync.proofs.cutting.cut_when_passed.Goals as goal
 

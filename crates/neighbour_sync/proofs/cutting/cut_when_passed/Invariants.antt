@@ -1,5 +1,5 @@
 use Rattle.std.proofs.Common.{◌≡◌, ℕ, List}
-use Rattle.air_record.specs.Record.{with_loads}
+use Rattle.neighbour_sync.specs.Record.{with_loads}
 use Rattle.neighbour_sync.proofs.cutting.cut_when_passed.Given as goal
 
 abbrev pub invariant-loop : goal.invariant-loop

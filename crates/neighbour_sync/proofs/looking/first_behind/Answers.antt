@@ -2,8 +2,8 @@ use Rattle.std.proofs.Common.{◌≡◌, ℕ, ◌<◌, ◌++◌, true, get_or, t
 use Rattle.std.specs.List.{All}
 use Rattle.std.proofs.lemmas.List.Elements.{All-more}
 use Rattle.world_core.specs.Topology.{Topology, is_linked, neighbours}
-use Rattle.send_log.proofs.Neighbours.{are_linked}
-use Rattle.clock_words.specs.Seats.{NodeFacts}
+use Rattle.world_core.proofs.NodeByNode.{are_linked}
+use Rattle.neighbour_sync.specs.Seats.{NodeFacts}
 use Rattle.neighbour_sync.specs.Looks.{IsSeenPast}
 use Rattle.neighbour_sync.proofs.Seeing.{peek_more, all_before, seen_after}
 use Rattle.neighbour_sync.proofs.looking.first_behind.Goals as goal

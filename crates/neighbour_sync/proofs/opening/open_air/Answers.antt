@@ -1,6 +1,6 @@
 use Rattle.std.proofs.Common.{sym, subst, ◌∙◌, ap}
-use Rattle.clock_words.specs.Seats.{AirFacts, NodeFacts, AreFirstNodes}
-use Rattle.air_record.specs.Record.{first_record}
+use Rattle.neighbour_sync.specs.Seats.{AirFacts, NodeFacts, AreFirstNodes}
+use Rattle.neighbour_sync.specs.Record.{first_record}
 use Rattle.neighbour_sync.proofs.opening.open_air.Goals as goal
 
 pub new-requires-2 : goal.new-requires-2

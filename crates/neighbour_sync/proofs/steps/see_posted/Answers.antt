@@ -1,5 +1,5 @@
 use Rattle.std.proofs.Common.{ℕ, ◌<◌, ap, sym, subst}
-use Rattle.clock_words.specs.Seats.{NodeFacts}
+use Rattle.neighbour_sync.specs.Seats.{NodeFacts}
 use Rattle.neighbour_sync.proofs.Telling.{told_again, told_rises}
 use Rattle.neighbour_sync.proofs.steps.see_posted.Goals as goal
 

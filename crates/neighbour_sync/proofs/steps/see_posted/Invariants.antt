@@ -1,5 +1,5 @@
 use Rattle.std.proofs.Common.{◌≡◌, ◌≤◌}
-use Rattle.clock_words.specs.Seats.{node_told}
+use Rattle.neighbour_sync.specs.Seats.{node_told}
 use Rattle.neighbour_sync.proofs.steps.see_posted.Given as goal
 
 abbrev pub invariant-loop : goal.invariant-loop

@@ -2,7 +2,7 @@ use Rattle.std.proofs.Common.{◌≡◌, ℕ, [], ◌∷◌, ◌++◌, sym, ◌�
 use Rattle.std.specs.List.{Contains}
 use Rattle.world_core.specs.declared.air.Sampled.{Sampled}
 use Rattle.world_core.specs.Settled.{truth}
-use Rattle.clock_words.specs.Seats.{NodeFacts}
+use Rattle.neighbour_sync.specs.Seats.{NodeFacts}
 use Rattle.neighbour_sync.specs.Told.{IsTold}
 use Rattle.neighbour_sync.proofs.Seeing.{look_peek}
 use Rattle.neighbour_sync.proofs.Trying.{come_again, far_enough}

@@ -2,7 +2,7 @@ use Rattle.std.proofs.Common.{◌≡◌, ℕ, List, length, ap, ◌∙◌, arith
 use Rattle.std.proofs.lemmas.List.FromFn.{length-map-range_with_len}
 use Rattle.world_core.specs.Topology.{Topology}
 use Rattle.ihex_loader.specs.Flash.{Image}
-use Rattle.usart_port.specs.Script.{ScriptBytes}
+use Rattle.serial_ports.specs.Script.{ScriptBytes}
 use Rattle.scenario_file.specs.Scenario.{no_script}
 use Rattle.sample_maker.specs.Sample.{image_of_node}
 use Rattle.sample_maker.proofs.sample.make.Goals as goal

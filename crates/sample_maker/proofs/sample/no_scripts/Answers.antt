@@ -1,7 +1,7 @@
 use Rattle.std.proofs.Common.{map, ◌≡◌, ℕ, ◌∷◌, ◌++◌, [], List, sym, ap, ◌∙◌, rules, arith}
 use Rattle.std.specs.List.{range_with_len}
 use Rattle.std.proofs.lemmas.List.FromFn.{map-range_with_len_more}
-use Rattle.usart_port.specs.Script.{ScriptBytes}
+use Rattle.serial_ports.specs.Script.{ScriptBytes}
 use Rattle.scenario_file.specs.Scenario.{no_script}
 use Rattle.sample_maker.proofs.sample.no_scripts.Goals as goal
 

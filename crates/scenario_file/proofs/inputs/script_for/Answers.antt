@@ -5,7 +5,7 @@ use Rattle.scenario_file.specs.Document.{on_table}
 use Rattle.scenario_file.specs.Rules.{has_ranges}
 use Rattle.scenario_file.specs.Faults.{all_in_range, amount_of, node_of}
 use Rattle.scenario_file.specs.Scenario.{script_of, script_for, no_script}
-use Rattle.usart_port.specs.Script.{ScriptBytes}
+use Rattle.serial_ports.specs.Script.{ScriptBytes}
 use Rattle.std.proofs.lemmas.List.{drop_all}
 use Rattle.scenario_file.specs.declared.keys.Keys.TheVariants.{OfInput}
 use Rattle.scenario_file.proofs.Lists.{all_at}

@@ -1,5 +1,5 @@
 use Rattle.std.proofs.Common.{ap, ◌∙◌}
-use Rattle.usart_port.specs.Usart.{frame_ended}
+use Rattle.serial_ports.specs.Usart.{frame_ended}
 use Rattle.board_io.proofs.Turns.{arrived_ended}
 use Rattle.board_io.proofs.board.Board.tick_usart.Goals as goal
 

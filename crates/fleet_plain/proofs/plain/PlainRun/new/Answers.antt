@@ -1,6 +1,6 @@
 use Rattle.std.proofs.Common.{◌≡◌, false, [], sym, subst, ap, ◌∙◌, arith}
 use Rattle.world_core.specs.Topology.{Topology}
-use Rattle.send_log.specs.Chain.{LogFacts, log_of}
+use Rattle.world_core.specs.Chain.{LogFacts, log_of}
 use Rattle.world_core.specs.Kept.{kept_room_of}
 use Rattle.node_runner.specs.Scenario.{ScenarioOf}
 use Rattle.fleet_plain.specs.Run.{IsRun}

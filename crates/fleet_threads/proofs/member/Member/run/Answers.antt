@@ -11,33 +11,12 @@ look_ahead-requires-clause-none g c =
     let few : c.min-quantum.result ≡ min (c.args.end - old.runner.cycle) 1024 = turn_of c.args.end old.runner.cycle c.cycle.result c.min-quantum.result c.cycle.ensures.value c.min-quantum.ensures in
     ahead _ _ _ _ _ old c.requires.member c.requires.live _ c.requires.calm few _ _ c.in-Sent.ensures.event c.in-Sent.ensures.count new c.count-number.result _ c.count-number.ensures c.noted.ensures.place c.noted.ensures.count c.post.ensures.told c.post.ensures.same refl refl
 
-pub returns-in-Ask-clause-member : goal.returns-in-Ask-clause-member
-returns-in-Ask-clause-member g c =
+pub look_ahead-requires-clause-member : goal.look_ahead-requires-clause-member
+look_ahead-requires-clause-member g c =
     let old : Member = c.args.self.now in
-    let new : Member = record { runner = c.event.new.self; air = old.air; turn = c.saturating_add-self.result; gap = old.gap; halted = old.halted } in
+    let new : Member = record { runner = c.noted.new.self; air = c.post.new.self; turn = c.saturating_add-self.result; gap = old.gap; halted = old.halted } in
     let few : c.min-quantum.result ≡ min (c.args.end - old.runner.cycle) 1024 = turn_of c.args.end old.runner.cycle c.cycle.result c.min-quantum.result c.cycle.ensures.value c.min-quantum.ensures in
-    (asks _ _ _ _ _ old c.requires.member c.requires.live _ c.requires.calm few new _ c.in-Ask.ensures.event c.in-Ask.ensures.count refl refl).0
-
-pub returns-in-Turn-clause-member : goal.returns-in-Turn-clause-member
-returns-in-Turn-clause-member g c =
-    let old : Member = c.args.self.now in
-    let new : Member = record { runner = c.event.new.self; air = old.air; turn = c.saturating_add-self.result; gap = old.gap; halted = old.halted } in
-    let few : c.min-quantum.result ≡ min (c.args.end - old.runner.cycle) 1024 = turn_of c.args.end old.runner.cycle c.cycle.result c.min-quantum.result c.cycle.ensures.value c.min-quantum.ensures in
-    (turned _ _ _ _ _ old c.requires.member c.requires.live _ c.requires.calm few new _ c.in-Turn.ensures.event c.in-Turn.ensures.count refl refl).0
-
-pub returns-else-self-eq0-clause-member : goal.returns-else-self-eq0-clause-member
-returns-else-self-eq0-clause-member g c =
-    let old : Member = c.args.self.now in
-    let new : Member = record { runner = c.event.new.self; air = old.air; turn = c.saturating_add-self.result; gap = old.gap; halted = old.halted } in
-    let few : c.min-quantum.result ≡ min (c.args.end - old.runner.cycle) 1024 = turn_of c.args.end old.runner.cycle c.cycle.result c.min-quantum.result c.cycle.ensures.value c.min-quantum.ensures in
-    (turned _ _ _ _ _ old c.requires.member c.requires.live _ c.requires.calm few new _ c.in-Turn.ensures.event c.in-Turn.ensures.count refl refl).0
-
-pub returns-in-Ended-clause-member : goal.returns-in-Ended-clause-member
-returns-in-Ended-clause-member g c =
-    let old : Member = c.args.self.now in
-    let new : Member = record { runner = c.event.new.self; air = old.air; turn = c.saturating_add-self.result; gap = old.gap; halted = old.halted } in
-    let few : c.min-quantum.result ≡ min (c.args.end - old.runner.cycle) 1024 = turn_of c.args.end old.runner.cycle c.cycle.result c.min-quantum.result c.cycle.ensures.value c.min-quantum.ensures in
-    (ended _ _ _ _ _ old c.requires.member c.requires.live _ c.requires.calm few new c.in-Ended.ensures.event c.in-Ended.ensures.count refl refl).0
+    (sent _ _ _ _ _ old c.requires.member c.requires.live _ c.requires.calm few _ _ c.in-Sent.ensures.event c.in-Sent.ensures.count new c.count-number.result c.count-number.ensures c.noted.ensures.place c.noted.ensures.count c.post.ensures.told c.post.ensures.same refl).0
 
 pub halt-requires : goal.halt-requires
 halt-requires g c =
@@ -46,57 +25,44 @@ halt-requires g c =
     let few : c.min-quantum.result ≡ min (c.args.end - old.runner.cycle) 1024 = turn_of c.args.end old.runner.cycle c.cycle.result c.min-quantum.result c.cycle.ensures.value c.min-quantum.ensures in
     (cut_off _ _ _ _ _ old c.requires.member c.requires.live _ c.requires.calm few new c.in-NoMemory.ensures.event c.in-NoMemory.ensures.count refl refl).0
 
-pub look_ahead-requires-clause-member : goal.look_ahead-requires-clause-member
-look_ahead-requires-clause-member g c =
+pub returns-in-Ask : goal.returns-in-Ask
+returns-in-Ask g c =
+    let old : Member = c.args.self.now in
+    let new : Member = record { runner = c.event.new.self; air = old.air; turn = c.saturating_add-self.result; gap = old.gap; halted = old.halted } in
+    let few : c.min-quantum.result ≡ min (c.args.end - old.runner.cycle) 1024 = turn_of c.args.end old.runner.cycle c.cycle.result c.min-quantum.result c.cycle.ensures.value c.min-quantum.ensures in
+    asks _ _ _ _ _ old c.requires.member c.requires.live _ c.requires.calm few new _ c.in-Ask.ensures.event c.in-Ask.ensures.count refl refl
+
+pub returns-in-Turn : goal.returns-in-Turn
+returns-in-Turn g c =
+    let old : Member = c.args.self.now in
+    let new : Member = record { runner = c.event.new.self; air = old.air; turn = c.saturating_add-self.result; gap = old.gap; halted = old.halted } in
+    let few : c.min-quantum.result ≡ min (c.args.end - old.runner.cycle) 1024 = turn_of c.args.end old.runner.cycle c.cycle.result c.min-quantum.result c.cycle.ensures.value c.min-quantum.ensures in
+    turned _ _ _ _ _ old c.requires.member c.requires.live _ c.requires.calm few new _ c.in-Turn.ensures.event c.in-Turn.ensures.count refl refl
+
+pub returns-else-self-eq0 : goal.returns-else-self-eq0
+returns-else-self-eq0 g c =
+    let old : Member = c.args.self.now in
+    let new : Member = record { runner = c.event.new.self; air = old.air; turn = c.saturating_add-self.result; gap = old.gap; halted = old.halted } in
+    let few : c.min-quantum.result ≡ min (c.args.end - old.runner.cycle) 1024 = turn_of c.args.end old.runner.cycle c.cycle.result c.min-quantum.result c.cycle.ensures.value c.min-quantum.ensures in
+    turned _ _ _ _ _ old c.requires.member c.requires.live _ c.requires.calm few new _ c.in-Turn.ensures.event c.in-Turn.ensures.count refl refl
+
+pub returns-in-Ended : goal.returns-in-Ended
+returns-in-Ended g c =
+    let old : Member = c.args.self.now in
+    let new : Member = record { runner = c.event.new.self; air = old.air; turn = c.saturating_add-self.result; gap = old.gap; halted = old.halted } in
+    let few : c.min-quantum.result ≡ min (c.args.end - old.runner.cycle) 1024 = turn_of c.args.end old.runner.cycle c.cycle.result c.min-quantum.result c.cycle.ensures.value c.min-quantum.ensures in
+    ended _ _ _ _ _ old c.requires.member c.requires.live _ c.requires.calm few new c.in-Ended.ensures.event c.in-Ended.ensures.count refl refl
+
+pub returns-in-NoMemory : goal.returns-in-NoMemory
+returns-in-NoMemory g c =
+    let old : Member = c.args.self.now in
+    let new : Member = record { runner = c.event.new.self; air = old.air; turn = c.saturating_add-self.result; gap = old.gap; halted = old.halted } in
+    let few : c.min-quantum.result ≡ min (c.args.end - old.runner.cycle) 1024 = turn_of c.args.end old.runner.cycle c.cycle.result c.min-quantum.result c.cycle.ensures.value c.min-quantum.ensures in
+    (c.halt.ensures.0, ap (λ (p : Place). p.number) c.halt.ensures.1 ∙ (cut_off _ _ _ _ _ old c.requires.member c.requires.live _ c.requires.calm few new c.in-NoMemory.ensures.event c.in-NoMemory.ensures.count refl refl).1)
+
+pub returns-in-Sent : goal.returns-in-Sent
+returns-in-Sent g c =
     let old : Member = c.args.self.now in
     let new : Member = record { runner = c.noted.new.self; air = c.post.new.self; turn = c.saturating_add-self.result; gap = old.gap; halted = old.halted } in
     let few : c.min-quantum.result ≡ min (c.args.end - old.runner.cycle) 1024 = turn_of c.args.end old.runner.cycle c.cycle.result c.min-quantum.result c.cycle.ensures.value c.min-quantum.ensures in
-    (sent _ _ _ _ _ old c.requires.member c.requires.live _ c.requires.calm few _ _ c.in-Sent.ensures.event c.in-Sent.ensures.count new c.count-number.result c.count-number.ensures c.noted.ensures.place c.noted.ensures.count c.post.ensures.told c.post.ensures.same refl).0
-
-pub returns-in-Ask-clause-number : goal.returns-in-Ask-clause-number
-returns-in-Ask-clause-number g c =
-    let old : Member = c.args.self.now in
-    let new : Member = record { runner = c.event.new.self; air = old.air; turn = c.saturating_add-self.result; gap = old.gap; halted = old.halted } in
-    let few : c.min-quantum.result ≡ min (c.args.end - old.runner.cycle) 1024 = turn_of c.args.end old.runner.cycle c.cycle.result c.min-quantum.result c.cycle.ensures.value c.min-quantum.ensures in
-    (asks _ _ _ _ _ old c.requires.member c.requires.live _ c.requires.calm few new _ c.in-Ask.ensures.event c.in-Ask.ensures.count refl refl).1
-
-pub returns-in-Turn-clause-number : goal.returns-in-Turn-clause-number
-returns-in-Turn-clause-number g c =
-    let old : Member = c.args.self.now in
-    let new : Member = record { runner = c.event.new.self; air = old.air; turn = c.saturating_add-self.result; gap = old.gap; halted = old.halted } in
-    let few : c.min-quantum.result ≡ min (c.args.end - old.runner.cycle) 1024 = turn_of c.args.end old.runner.cycle c.cycle.result c.min-quantum.result c.cycle.ensures.value c.min-quantum.ensures in
-    (turned _ _ _ _ _ old c.requires.member c.requires.live _ c.requires.calm few new _ c.in-Turn.ensures.event c.in-Turn.ensures.count refl refl).1
-
-pub returns-else-self-eq0-clause-number : goal.returns-else-self-eq0-clause-number
-returns-else-self-eq0-clause-number g c =
-    let old : Member = c.args.self.now in
-    let new : Member = record { runner = c.event.new.self; air = old.air; turn = c.saturating_add-self.result; gap = old.gap; halted = old.halted } in
-    let few : c.min-quantum.result ≡ min (c.args.end - old.runner.cycle) 1024 = turn_of c.args.end old.runner.cycle c.cycle.result c.min-quantum.result c.cycle.ensures.value c.min-quantum.ensures in
-    (turned _ _ _ _ _ old c.requires.member c.requires.live _ c.requires.calm few new _ c.in-Turn.ensures.event c.in-Turn.ensures.count refl refl).1
-
-pub returns-in-Ended-clause-number : goal.returns-in-Ended-clause-number
-returns-in-Ended-clause-number g c =
-    let old : Member = c.args.self.now in
-    let new : Member = record { runner = c.event.new.self; air = old.air; turn = c.saturating_add-self.result; gap = old.gap; halted = old.halted } in
-    let few : c.min-quantum.result ≡ min (c.args.end - old.runner.cycle) 1024 = turn_of c.args.end old.runner.cycle c.cycle.result c.min-quantum.result c.cycle.ensures.value c.min-quantum.ensures in
-    (ended _ _ _ _ _ old c.requires.member c.requires.live _ c.requires.calm few new c.in-Ended.ensures.event c.in-Ended.ensures.count refl refl).1
-
-pub returns-in-NoMemory-clause-number : goal.returns-in-NoMemory-clause-number
-returns-in-NoMemory-clause-number g c =
-    let old : Member = c.args.self.now in
-    let new : Member = record { runner = c.event.new.self; air = old.air; turn = c.saturating_add-self.result; gap = old.gap; halted = old.halted } in
-    let few : c.min-quantum.result ≡ min (c.args.end - old.runner.cycle) 1024 = turn_of c.args.end old.runner.cycle c.cycle.result c.min-quantum.result c.cycle.ensures.value c.min-quantum.ensures in
-    ap (λ (p : Place). p.number) c.halt.ensures.runner ∙ (cut_off _ _ _ _ _ old c.requires.member c.requires.live _ c.requires.calm few new c.in-NoMemory.ensures.event c.in-NoMemory.ensures.count refl refl).1
-
-pub returns-in-Sent-clause-number : goal.returns-in-Sent-clause-number
-returns-in-Sent-clause-number g c =
-    let old : Member = c.args.self.now in
-    let new : Member = record { runner = c.noted.new.self; air = c.post.new.self; turn = c.saturating_add-self.result; gap = old.gap; halted = old.halted } in
-    let few : c.min-quantum.result ≡ min (c.args.end - old.runner.cycle) 1024 = turn_of c.args.end old.runner.cycle c.cycle.result c.min-quantum.result c.cycle.ensures.value c.min-quantum.ensures in
-    c.look_ahead.ensures.number ∙ (sent _ _ _ _ _ old c.requires.member c.requires.live _ c.requires.calm few _ _ c.in-Sent.ensures.event c.in-Sent.ensures.count new c.count-number.result c.count-number.ensures c.noted.ensures.place c.noted.ensures.count c.post.ensures.told c.post.ensures.same refl).1
-
-pub returns-in-Sent-clause-member : goal.returns-in-Sent-clause-member
-returns-in-Sent-clause-member g c = c.look_ahead.ensures.member
-
-pub returns-in-NoMemory-clause-member : goal.returns-in-NoMemory-clause-member
-returns-in-NoMemory-clause-member g c = c.halt.ensures.member
+    (c.look_ahead.ensures.0, c.look_ahead.ensures.1 ∙ (sent _ _ _ _ _ old c.requires.member c.requires.live _ c.requires.calm few _ _ c.in-Sent.ensures.event c.in-Sent.ensures.count new c.count-number.result c.count-number.ensures c.noted.ensures.place c.noted.ensures.count c.post.ensures.told c.post.ensures.same refl).1)

@@ -13,17 +13,17 @@ ask-requires-clause-floor g c =
     let h : g.N.Session.floor ≤ c.args.self.now.runner.cycle = late _ _ _ _ _ c.args.self.now c.requires.member c.requires.asking in
     omega arith
 
-pub returns-in-Heard-clause-member : goal.returns-in-Heard-clause-member
-returns-in-Heard-clause-member g c =
+pub returns-in-Heard : goal.returns-in-Heard
+returns-in-Heard g c =
     let looked = c.in-Heard.ensures.1 in
     let new : Member = record { runner = c.answer.new.self; air = c.ask.new.air; turn = c.args.self.now.turn; gap = c.args.self.now.gap; halted = c.args.self.now.halted } in
-    (answered _ _ _ _ _ c.args.self.now c.requires.member c.requires.asking new c.answer.ensures.place c.answer.ensures.count looked.number looked.table looked.world looked.told looked.clock refl).0
+    answered _ _ _ _ _ c.args.self.now c.requires.member c.requires.asking new c.answer.ensures.place c.answer.ensures.count looked.number looked.table looked.world looked.told looked.clock refl
 
-pub returns-in-NotYet-clause-member : goal.returns-in-NotYet-clause-member
-returns-in-NotYet-clause-member g c =
+pub returns-in-NotYet : goal.returns-in-NotYet
+returns-in-NotYet g c =
     let m : Member = c.args.self.now in
     let new : Member = record { runner = m.runner; air = c.ask.new.air; turn = m.turn; gap = m.gap; halted = m.halted } in
-    looked _ _ _ _ _ m c.requires.member new refl refl (has_looked g.N.Session.world m.air c.ask.new.air c.cycle-cycle.result c.ask.result c.ask.ensures)
+    (looked _ _ _ _ _ m c.requires.member new refl refl (has_looked g.N.Session.world m.air c.ask.new.air c.cycle-cycle.result c.ask.result c.ask.ensures), refl)
 
 pub halt-requires : goal.halt-requires
 halt-requires g c =
@@ -31,8 +31,5 @@ halt-requires g c =
     let new : Member = record { runner = m.runner; air = c.ask.new.air; turn = m.turn; gap = m.gap; halted = m.halted } in
     looked _ _ _ _ _ m c.requires.member new refl refl (has_looked g.N.Session.world m.air c.ask.new.air c.cycle-cycle.result c.ask.result c.ask.ensures)
 
-pub returns-in-Halted-clause-member : goal.returns-in-Halted-clause-member
-returns-in-Halted-clause-member g c = c.halt.ensures.member
-
-pub returns-in-Heard-clause-number : goal.returns-in-Heard-clause-number
-returns-in-Heard-clause-number g c = ap (λ (p : Place). p.number) c.answer.ensures.place
+pub returns-in-Halted : goal.returns-in-Halted
+returns-in-Halted g c = (c.halt.ensures.0, ap (λ (p : Place). p.number) c.halt.ensures.1)

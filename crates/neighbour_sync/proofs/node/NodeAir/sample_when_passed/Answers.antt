@@ -1,7 +1,7 @@
 use Rattle.std.proofs.Common.{◌∷◌, [], ◌++◌, ◌∙◌, ap, sym, subst}
 use Rattle.std.specs.List.{Contains}
 use Rattle.world_core.specs.Settled.{truth}
-use Rattle.clock_words.specs.Seats.{NodeFacts}
+use Rattle.neighbour_sync.specs.Seats.{NodeFacts}
 use Rattle.neighbour_sync.specs.declared.answers.Tried.{Tried}
 use Rattle.neighbour_sync.specs.declared.answers.Tried.TheVariants.{Heard, NotYet, Halted, NoMemory}
 use Rattle.neighbour_sync.specs.Tries.{IsTried}

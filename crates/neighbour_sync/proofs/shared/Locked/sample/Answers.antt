@@ -1,7 +1,7 @@
 use Rattle.std.proofs.Common.{◌≤◌, ℕ, sym, subst, ◌∙◌}
 use Rattle.std.specs.List.{Contains}
 use Rattle.world_core.specs.declared.world.WorldFacts.{WorldFacts}
-use Rattle.air_record.specs.Record.{AirRecord, IsSample}
+use Rattle.neighbour_sync.specs.Record.{AirRecord, IsSample}
 use Rattle.neighbour_sync.proofs.Telling.{told}
 use Rattle.neighbour_sync.proofs.shared.Locked.sample.Goals as goal
 

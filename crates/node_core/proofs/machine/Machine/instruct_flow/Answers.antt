@@ -1,14 +1,15 @@
-use Rattle.std.proofs.Common.{◌≡◌, Bool, sym, ap, ◌∙◌}
+use Rattle.std.proofs.Common.{◌≡◌, ◌++◌, Bool, List, sym, ap, ◌∙◌, arith}
 use Rattle.std.specs.Prelude.{Ok, Err}
 use Rattle.avr_decoder.specs.declared.op.Class.TheVariants as class
 use Rattle.data_space.specs.Sequence.{Outcome}
+use Rattle.node_core.specs.declared.row.Row.{Row}
 use Rattle.node_core.specs.declared.bus.NodeBus.{NodeBus}
 use Rattle.node_core.specs.Cycle.{after_instruction}
 use Rattle.node_core.specs.Execute.{executed}
 use Rattle.node_core.specs.Shown.{shown}
 use Rattle.node_core.specs.State.{NodeState}
 use Rattle.node_core.proofs.Clocks.{executed_clock}
-use Rattle.node_core.proofs.Ran.{by_class, ran, ran_rows}
+use Rattle.node_core.proofs.Ran.{by_class, ran, ran_rows, refused, refused_rows}
 use Rattle.node_core.proofs.Sei.{sei_left_on}
 use Rattle.node_core.proofs.machine.Machine.instruct_flow.Goals as goal
 
@@ -16,75 +17,60 @@ pub owes-owed-requires : goal.owes-owed-requires
 owes-owed-requires c =
     let m = c.args.self.now in
     let o = c.args.op.now in
-    let a : Outcome NodeBus = record { result = c.exec.result; cpu = c.exec.new.cpu; bus = c.exec.new.bus } in
+    let a : Outcome NodeBus = record { result = c.exec_flow.result; cpu = c.exec_flow.new.cpu; bus = c.exec_flow.new.bus } in
     let flash = c.flash.result.now.bytes in
-    let e = c.exec.ensures in
+    let e = c.exec_flow.ensures in
     let done : a ≡ executed flash o m.cpu m.bus = (λ i. let x : Outcome NodeBus = record { result = e.result i; cpu = e.core i; bus = e.bus i } in x) ∙ by_class class.Flow flash o m.cpu m.bus c.requires.class in
-    sei_left_on flash o m.cpu m.bus c.in-Ok.done c.exec.result c.exec.new.cpu c.in-Ok.is (ap (λ (x : Outcome NodeBus). x.result) done) (ap (λ (x : Outcome NodeBus). x.cpu) done)
+    sei_left_on flash o m.cpu m.bus c.in-Ok.done c.exec_flow.result c.exec_flow.new.cpu c.in-Ok.is (ap (λ (x : Outcome NodeBus). x.result) done) (ap (λ (x : Outcome NodeBus). x.cpu) done)
 
-pub returns-in-Ok-clause-state : goal.returns-in-Ok-clause-state
-returns-in-Ok-clause-state c =
+pub returns-then-refuses : goal.returns-then-refuses
+returns-then-refuses c =
+    let m = c.args.self.now in
+    let is = sym c.refuses.ensures ∙ c.if-refuses.true in
+    record {
+      state = c.halt.ensures.state ∙ refused c.args.cycle (shown m) c.args.op.now c.requires.fetched is;
+      rows = c.halt.ensures.rows ∙ ap (λ (l : List Row). m.rows.items ++ l) (refused_rows c.args.cycle (shown m) c.args.op.now c.requires.fetched is);
+      going = λ l. absurd (omega arith);
+      same = λ l. absurd (omega arith);
+      room = c.halt.ensures.room;
+      clock = c.halt.ensures.clock;
+    }
+
+pub returns-in-Ok : goal.returns-in-Ok
+returns-in-Ok c =
     let m = c.args.self.now in
     let o = c.args.op.now in
     let s : NodeState = shown m in
-    let a : Outcome NodeBus = record { result = c.exec.result; cpu = c.exec.new.cpu; bus = c.exec.new.bus } in
+    let a : Outcome NodeBus = record { result = c.exec_flow.result; cpu = c.exec_flow.new.cpu; bus = c.exec_flow.new.bus } in
     let flash = c.flash.result.now.bytes in
-    let e = c.exec.ensures in
+    let e = c.exec_flow.ensures in
     let done : a ≡ executed flash o m.cpu m.bus = (λ i. let x : Outcome NodeBus = record { result = e.result i; cpu = e.core i; bus = e.bus i } in x) ∙ by_class class.Flow flash o m.cpu m.bus c.requires.class in
     let runs = sym c.refuses.ensures ∙ c.if-refuses.false in
-    c.end.ensures.state
-    ∙ (ap (λ (b : Bool). let u : NodeState = record (after_instruction s o (Ok c.in-Ok.done) a.cpu a.bus) { owed = b } in u) c.owes-owed.ensures
-    ∙ ran c.args.cycle m o c.requires.fetched runs c.requires.now a flash (λ i. (c.flash.ensures i).bytes) done (Ok c.in-Ok.done) c.in-Ok.is)
+    record {
+      state = c.end.ensures.state
+          ∙ (ap (λ (b : Bool). let u : NodeState = record (after_instruction s o (Ok c.in-Ok.done) a.cpu a.bus) { owed = b } in u) c.owes-owed.ensures
+          ∙ ran c.args.cycle m o c.requires.fetched runs c.requires.now a flash (λ i. (c.flash.ensures i).bytes) done (Ok c.in-Ok.done) c.in-Ok.is);
+      rows = c.end.ensures.rows ∙ ran_rows c.args.cycle m o c.requires.fetched runs c.requires.now a flash (λ i. (c.flash.ensures i).bytes) done m.rows.items (Ok c.in-Ok.done) c.in-Ok.is;
+      going = c.end.ensures.going;
+      same = c.end.ensures.same;
+      room = c.end.ensures.room;
+      clock = c.end.ensures.clock ∙ (ap (λ (x : Outcome NodeBus). x.bus.board.clock) done ∙ executed_clock flash o m.cpu m.bus);
+    }
 
-pub returns-in-Ok-clause-rows : goal.returns-in-Ok-clause-rows
-returns-in-Ok-clause-rows c =
+pub returns-in-Err : goal.returns-in-Err
+returns-in-Err c =
     let m = c.args.self.now in
     let o = c.args.op.now in
-    let a : Outcome NodeBus = record { result = c.exec.result; cpu = c.exec.new.cpu; bus = c.exec.new.bus } in
+    let a : Outcome NodeBus = record { result = c.exec_flow.result; cpu = c.exec_flow.new.cpu; bus = c.exec_flow.new.bus } in
     let flash = c.flash.result.now.bytes in
-    let e = c.exec.ensures in
+    let e = c.exec_flow.ensures in
     let done : a ≡ executed flash o m.cpu m.bus = (λ i. let x : Outcome NodeBus = record { result = e.result i; cpu = e.core i; bus = e.bus i } in x) ∙ by_class class.Flow flash o m.cpu m.bus c.requires.class in
     let runs = sym c.refuses.ensures ∙ c.if-refuses.false in
-    c.end.ensures.rows ∙ ran_rows c.args.cycle m o c.requires.fetched runs c.requires.now a flash (λ i. (c.flash.ensures i).bytes) done m.rows.items (Ok c.in-Ok.done) c.in-Ok.is
-
-pub returns-in-Ok-clause-clock : goal.returns-in-Ok-clause-clock
-returns-in-Ok-clause-clock c =
-    let m = c.args.self.now in
-    let o = c.args.op.now in
-    let a : Outcome NodeBus = record { result = c.exec.result; cpu = c.exec.new.cpu; bus = c.exec.new.bus } in
-    let flash = c.flash.result.now.bytes in
-    let e = c.exec.ensures in
-    let done : a ≡ executed flash o m.cpu m.bus = (λ i. let x : Outcome NodeBus = record { result = e.result i; cpu = e.core i; bus = e.bus i } in x) ∙ by_class class.Flow flash o m.cpu m.bus c.requires.class in
-    c.end.ensures.clock ∙ (ap (λ (x : Outcome NodeBus). x.bus.board.clock) done ∙ executed_clock flash o m.cpu m.bus)
-
-pub returns-in-Err-clause-state : goal.returns-in-Err-clause-state
-returns-in-Err-clause-state c =
-    let m = c.args.self.now in
-    let o = c.args.op.now in
-    let a : Outcome NodeBus = record { result = c.exec.result; cpu = c.exec.new.cpu; bus = c.exec.new.bus } in
-    let flash = c.flash.result.now.bytes in
-    let e = c.exec.ensures in
-    let done : a ≡ executed flash o m.cpu m.bus = (λ i. let x : Outcome NodeBus = record { result = e.result i; cpu = e.core i; bus = e.bus i } in x) ∙ by_class class.Flow flash o m.cpu m.bus c.requires.class in
-    let runs = sym c.refuses.ensures ∙ c.if-refuses.false in
-    c.halt-in-Err.ensures.state ∙ ran c.args.cycle m o c.requires.fetched runs c.requires.now a flash (λ i. (c.flash.ensures i).bytes) done (Err c.in-Err.cause) c.in-Err.is
-
-pub returns-in-Err-clause-rows : goal.returns-in-Err-clause-rows
-returns-in-Err-clause-rows c =
-    let m = c.args.self.now in
-    let o = c.args.op.now in
-    let a : Outcome NodeBus = record { result = c.exec.result; cpu = c.exec.new.cpu; bus = c.exec.new.bus } in
-    let flash = c.flash.result.now.bytes in
-    let e = c.exec.ensures in
-    let done : a ≡ executed flash o m.cpu m.bus = (λ i. let x : Outcome NodeBus = record { result = e.result i; cpu = e.core i; bus = e.bus i } in x) ∙ by_class class.Flow flash o m.cpu m.bus c.requires.class in
-    let runs = sym c.refuses.ensures ∙ c.if-refuses.false in
-    c.halt-in-Err.ensures.rows ∙ ran_rows c.args.cycle m o c.requires.fetched runs c.requires.now a flash (λ i. (c.flash.ensures i).bytes) done m.rows.items (Err c.in-Err.cause) c.in-Err.is
-
-pub returns-in-Err-clause-clock : goal.returns-in-Err-clause-clock
-returns-in-Err-clause-clock c =
-    let m = c.args.self.now in
-    let o = c.args.op.now in
-    let a : Outcome NodeBus = record { result = c.exec.result; cpu = c.exec.new.cpu; bus = c.exec.new.bus } in
-    let flash = c.flash.result.now.bytes in
-    let e = c.exec.ensures in
-    let done : a ≡ executed flash o m.cpu m.bus = (λ i. let x : Outcome NodeBus = record { result = e.result i; cpu = e.core i; bus = e.bus i } in x) ∙ by_class class.Flow flash o m.cpu m.bus c.requires.class in
-    c.halt-in-Err.ensures.clock ∙ (ap (λ (x : Outcome NodeBus). x.bus.board.clock) done ∙ executed_clock flash o m.cpu m.bus)
+    record {
+      state = c.halt-in-Err.ensures.state ∙ ran c.args.cycle m o c.requires.fetched runs c.requires.now a flash (λ i. (c.flash.ensures i).bytes) done (Err c.in-Err.cause) c.in-Err.is;
+      rows = c.halt-in-Err.ensures.rows ∙ ran_rows c.args.cycle m o c.requires.fetched runs c.requires.now a flash (λ i. (c.flash.ensures i).bytes) done m.rows.items (Err c.in-Err.cause) c.in-Err.is;
+      going = λ l. absurd (omega arith);
+      same = λ l. absurd (omega arith);
+      room = c.halt-in-Err.ensures.room;
+      clock = c.halt-in-Err.ensures.clock ∙ (ap (λ (x : Outcome NodeBus). x.bus.board.clock) done ∙ executed_clock flash o m.cpu m.bus);
+    }

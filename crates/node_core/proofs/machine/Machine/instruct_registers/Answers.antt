@@ -26,8 +26,8 @@ owes_after_compute-owed-requires-clause-on c =
     let done : a ≡ executed flash o m.cpu m.bus = (λ i. let x : Outcome NodeBus = record { result = Ok (e.done i); cpu = e.core i; bus = m.bus } in x) ∙ by_class class.Arith flash o m.cpu m.bus c.requires.class in
     sei_left_on flash o m.cpu m.bus c.exec-done.result a.result a.cpu refl (ap (λ (x : Outcome NodeBus). x.result) done) (ap (λ (x : Outcome NodeBus). x.cpu) done)
 
-pub returns-clause-state : goal.returns-clause-state
-returns-clause-state c =
+pub returns : goal.returns
+returns c =
     let m = c.args.self.now in
     let o = c.args.op.now in
     let s : NodeState = shown m in
@@ -36,17 +36,14 @@ returns-clause-state c =
     let e = c.exec-done.ensures in
     let done : a ≡ executed flash o m.cpu m.bus = (λ i. let x : Outcome NodeBus = record { result = Ok (e.done i); cpu = e.core i; bus = m.bus } in x) ∙ by_class class.Arith flash o m.cpu m.bus c.requires.class in
     let runs = no_flow_runs s o class.Arith c.requires.class refl in
-    c.end.ensures.state
-    ∙ (ap (λ (b : Bool). let u : NodeState = record (after_instruction s o a.result a.cpu a.bus) { owed = b } in u) c.owes_after_compute-owed.ensures
-    ∙ ran c.args.cycle m o c.requires.fetched runs c.requires.now a flash refl done a.result refl)
-
-pub returns-clause-rows : goal.returns-clause-rows
-returns-clause-rows c =
-    let m = c.args.self.now in
-    let o = c.args.op.now in
-    let a : Outcome NodeBus = record { result = Ok c.exec-done.result; cpu = c.exec-done.new.cpu; bus = m.bus } in
-    let flash = m.program.bytes in
-    let e = c.exec-done.ensures in
-    let done : a ≡ executed flash o m.cpu m.bus = (λ i. let x : Outcome NodeBus = record { result = Ok (e.done i); cpu = e.core i; bus = m.bus } in x) ∙ by_class class.Arith flash o m.cpu m.bus c.requires.class in
     let runs = no_flow_runs (shown m) o class.Arith c.requires.class refl in
-    c.end.ensures.rows ∙ ran_rows c.args.cycle m o c.requires.fetched runs c.requires.now a flash refl done m.rows.items a.result refl
+    record {
+      state = c.end.ensures.state
+          ∙ (ap (λ (b : Bool). let u : NodeState = record (after_instruction s o a.result a.cpu a.bus) { owed = b } in u) c.owes_after_compute-owed.ensures
+          ∙ ran c.args.cycle m o c.requires.fetched runs c.requires.now a flash refl done a.result refl);
+      rows = c.end.ensures.rows ∙ ran_rows c.args.cycle m o c.requires.fetched runs c.requires.now a flash refl done m.rows.items a.result refl;
+      going = c.end.ensures.going;
+      same = c.end.ensures.same;
+      room = c.end.ensures.room;
+      clock = c.end.ensures.clock;
+    }

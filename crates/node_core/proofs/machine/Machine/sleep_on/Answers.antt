@@ -1,4 +1,4 @@
-use Rattle.std.proofs.Common.{◌≡◌, ℕ, ◌-◌, is_some, sym, ap, ◌∙◌, arith}
+use Rattle.std.proofs.Common.{◌≡◌, ℕ, ◌+◌, ◌-◌, is_some, refl, sym, ap, ◌∙◌, arith}
 use Rattle.board_io.specs.Board.{unclocked}
 use Rattle.board_io.specs.Cycle.{timers_leap}
 use Rattle.node_core.specs.Bus.{with_board}
@@ -9,18 +9,8 @@ use Rattle.node_core.proofs.Clocks.{calm_of, lines_stay}
 use Rattle.node_core.proofs.Idling.{all_quiet, no_rows, passed_rested, sleeps}
 use Rattle.node_core.proofs.machine.Machine.sleep_on.Goals as goal
 
-pub returns-clause-quiet : goal.returns-clause-quiet
-returns-clause-quiet c =
-    let s : NodeState = shown c.args.self.now in
-    let r = c.requires in
-    let n = c.pass.result in
-    let within = c.pass.ensures.within in
-    let calm : IsCalm c.args.cycle n s = calm_of c.args.cycle n c.args.self.now r.now c.pass.ensures.idle (λ i l. c.quiet-calm.ensures.none i (omega (arith, within, l))) in
-    let lines = lines_stay c.args.cycle n c.args.self.now r.now c.pass.ensures.idle in
-    all_quiet c.args.cycle s (ap is_some r.going) n calm (sleeps c.args.cycle n s r.free r.asleep r.none lines)
-
-pub returns-clause-state : goal.returns-clause-state
-returns-clause-state c =
+pub returns-clause-rested : goal.returns-clause-rested
+returns-clause-rested c =
     let s : NodeState = shown c.args.self.now in
     let r = c.requires in
     let n = c.pass.result in
@@ -29,15 +19,13 @@ returns-clause-state c =
     let lines = lines_stay c.args.cycle n c.args.self.now r.now c.pass.ensures.idle in
     let board = c.pass.ensures.state ∙ ap (λ (t : ℕ). timers_leap t n (unclocked c.args.self.now.bus.board)) r.now in
     let wait : s.wait ≡ s.wait - n = omega (arith, r.free) in
-    (λ k. let u : NodeState = record s { wait = wait k; bus = with_board s.bus (board k) } in u)
-    ∙ sym (passed_rested c.args.cycle s (ap is_some r.going) n calm (sleeps c.args.cycle n s r.free r.asleep r.none lines) n (omega arith))
-
-pub returns-clause-rows : goal.returns-clause-rows
-returns-clause-rows c =
-    let s : NodeState = shown c.args.self.now in
-    let r = c.requires in
-    let n = c.pass.result in
-    let within = c.pass.ensures.within in
-    let calm : IsCalm c.args.cycle n s = calm_of c.args.cycle n c.args.self.now r.now c.pass.ensures.idle (λ i l. c.quiet-calm.ensures.none i (omega (arith, within, l))) in
-    let lines = lines_stay c.args.cycle n c.args.self.now r.now c.pass.ensures.idle in
-    no_rows c.args.cycle s (ap is_some r.going) n calm (sleeps c.args.cycle n s r.free r.asleep r.none lines)
+    record {
+      quiet = all_quiet c.args.cycle s (ap is_some r.going) n calm (sleeps c.args.cycle n s r.free r.asleep r.none lines);
+      state = (λ k. let u : NodeState = record s { wait = wait k; bus = with_board s.bus (board k) } in u)
+          ∙ sym (passed_rested c.args.cycle s (ap is_some r.going) n calm (sleeps c.args.cycle n s r.free r.asleep r.none lines) n (omega arith));
+      rows = no_rows c.args.cycle s (ap is_some r.going) n calm (sleeps c.args.cycle n s r.free r.asleep r.none lines);
+      same = refl;
+      stop = c.requires.going;
+      count = refl;
+      clock = c.pass.ensures.clock ∙ ap (λ (t : ℕ). t + c.pass.result) c.requires.now;
+    }

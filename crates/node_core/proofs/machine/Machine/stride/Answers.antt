@@ -1,7 +1,7 @@
 use Rattle.std.proofs.Common.{◌≡◌, ℕ, ◌+◌, ◌-◌, ◌<◌, ◌≤◌, ◌^◌, None, false, is_some, refl, add-zero, sym, subst, ap, ◌∙◌, arith}
 use Rattle.std.specs.Prelude.{vec_len, vec_capacity}
-use Rattle.trace_rows.specs.declared.row.Row.{Row}
-use Rattle.usart_port.specs.Script.{ScriptBytes, script_byte}
+use Rattle.node_core.specs.declared.row.Row.{Row}
+use Rattle.serial_ports.specs.Script.{ScriptBytes, script_byte}
 use Rattle.world_core.specs.NodeRun.{Comes, Timed}
 use Rattle.world_core.proofs.QuietCycles.{comes_none}
 use Rattle.node_core.specs.Cycle.{node_kind}

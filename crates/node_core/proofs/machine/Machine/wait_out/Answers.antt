@@ -1,4 +1,4 @@
-use Rattle.std.proofs.Common.{ℕ, ◌-◌, is_some, sym, ap, ◌∙◌, arith}
+use Rattle.std.proofs.Common.{ℕ, ◌+◌, ◌-◌, is_some, refl, sym, ap, ◌∙◌, arith}
 use Rattle.board_io.specs.declared.board.Board.{Board}
 use Rattle.board_io.specs.Board.{unclocked}
 use Rattle.board_io.specs.Cycle.{timers_leap}
@@ -10,31 +10,21 @@ use Rattle.node_core.proofs.Clocks.{calm_of}
 use Rattle.node_core.proofs.Idling.{all_quiet, no_rows, passed_rested, waits}
 use Rattle.node_core.proofs.machine.Machine.wait_out.Goals as goal
 
-pub returns-clause-quiet : goal.returns-clause-quiet
-returns-clause-quiet c =
-    let s : NodeState = shown c.args.self.now in
-    let n = c.pass-n.result in
-    let within = c.pass-n.ensures.within in
-    let calm : IsCalm c.args.cycle n s =
-    calm_of c.args.cycle n c.args.self.now c.requires.now c.pass-n.ensures.idle (λ i l. c.quiet-calm.ensures.none i (omega (arith, within, l))) in
-    all_quiet c.args.cycle s (ap is_some c.requires.going) n calm (waits c.args.cycle n s (omega arith))
-
-pub returns-clause-state : goal.returns-clause-state
-returns-clause-state c =
+pub returns-clause-rested : goal.returns-clause-rested
+returns-clause-rested c =
     let s : NodeState = shown c.args.self.now in
     let n = c.pass-n.result in
     let within = c.pass-n.ensures.within in
     let calm : IsCalm c.args.cycle n s =
     calm_of c.args.cycle n c.args.self.now c.requires.now c.pass-n.ensures.idle (λ i l. c.quiet-calm.ensures.none i (omega (arith, within, l))) in
     let board = c.pass-n.ensures.state ∙ ap (λ (t : ℕ). timers_leap t n (unclocked c.args.self.now.bus.board)) c.requires.now in
-    ap (λ (b : Board). let u : NodeState = record s { wait = s.wait - n; bus = with_board s.bus b } in u) board
-    ∙ sym (passed_rested c.args.cycle s (ap is_some c.requires.going) n calm (waits c.args.cycle n s (omega arith)) n (omega arith))
-
-pub returns-clause-rows : goal.returns-clause-rows
-returns-clause-rows c =
-    let s : NodeState = shown c.args.self.now in
-    let n = c.pass-n.result in
-    let within = c.pass-n.ensures.within in
-    let calm : IsCalm c.args.cycle n s =
-    calm_of c.args.cycle n c.args.self.now c.requires.now c.pass-n.ensures.idle (λ i l. c.quiet-calm.ensures.none i (omega (arith, within, l))) in
-    no_rows c.args.cycle s (ap is_some c.requires.going) n calm (waits c.args.cycle n s (omega arith))
+    record {
+      quiet = all_quiet c.args.cycle s (ap is_some c.requires.going) n calm (waits c.args.cycle n s (omega arith));
+      state = ap (λ (b : Board). let u : NodeState = record s { wait = s.wait - n; bus = with_board s.bus b } in u) board
+          ∙ sym (passed_rested c.args.cycle s (ap is_some c.requires.going) n calm (waits c.args.cycle n s (omega arith)) n (omega arith));
+      rows = no_rows c.args.cycle s (ap is_some c.requires.going) n calm (waits c.args.cycle n s (omega arith));
+      same = refl;
+      stop = c.requires.going;
+      count = refl;
+      clock = c.pass-n.ensures.clock ∙ ap (λ (t : ℕ). t + c.pass-n.result) c.requires.now;
+    }

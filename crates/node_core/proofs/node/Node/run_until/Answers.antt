@@ -1,13 +1,13 @@
 use Rattle.std.proofs.Common.{◌≡◌, ℕ, ◌+◌, Bool, true, false, is_some, refl, add-zero, sym, ap, ◌∙◌, subst, arith}
-use Rattle.trace_rows.specs.declared.row.Row.{Row}
+use Rattle.node_core.specs.declared.row.Row.{Row}
 use Rattle.world_core.specs.NodeRun.{Timed, Comes}
 use Rattle.world_core.proofs.QuietCycles.{comes_none, running_next}
 use Rattle.node_core.specs.State.{NodeState}
 use Rattle.node_core.specs.Shown.{shown}
 use Rattle.node_core.specs.Inside.{IsOnAir, IsWhole}
 use Rattle.node_core.specs.Midway.{IsMidway}
-use Rattle.node_core.specs.Cycle.{asks_in, node_kind, sends_in}
-use Rattle.node_core.proofs.Runs.{begun_comes, rested_comes}
+use Rattle.node_core.specs.Cycle.{asks_after, asks_in, node_kind, sends_after, sends_in}
+use Rattle.node_core.proofs.Runs.{begun_comes, rested_comes, whole_between}
 use Rattle.node_core.proofs.Strides.{ended, ended_air, ended_rows, joined}
 use Rattle.node_core.proofs.Steady.{steady}
 use Rattle.node_core.proofs.node.Node.run_until.Goals as goal
@@ -33,13 +33,13 @@ pub returns-then-at-cycle : goal.returns-then-at-cycle
 returns-then-at-cycle c =
     let i = c.loop-self.self-inside in
     let e = c.rest.ensures in
-    let comes = rested_comes c.args.self.now i.cycle c.rest.result (shown i.machine) (shown c.rest.new.self) i.machine.rows.items c.rest.new.self.rows.items c.loop-self.invariant.comes e.quiet e.state e.rows (ap (λ v. v.items) e.same) in (
+    let comes = rested_comes c.args.self.now i.cycle c.rest.result (shown i.machine) (shown c.rest.new.self) i.machine.rows.items c.rest.new.self.rows.items c.loop-self.invariant.comes e.rested.quiet e.rested.state e.rested.rows (ap (λ v. v.items) e.rested.same) in (
       record {
         cycle = c.if-at-cycle.true;
         asking = c.loop-self.invariant.calm;
         comes = subst (λ (t : ℕ). Comes node_kind c.args.self.now t (shown c.rest.new.self) c.rest.new.self.rows.items) c.if-at-cycle.true comes;
       },
-      ap is_some e.stop,
+      ap is_some e.rested.stop,
     )
 
 pub loop-self-preserved : goal.loop-self-preserved
@@ -52,7 +52,7 @@ loop-self-preserved c =
     let s : NodeState = shown c.rest.new.self in
     let u : NodeState = shown c.stride.new.self in
     let w : NodeState = shown c.conclude.new.self in
-    let kept = rested_comes v i.cycle c.rest.result (shown i.machine) s i.machine.rows.items c.reserve.new.self.items c.loop-self.invariant.comes e.quiet e.state e.rows (c.reserve.ensures.items ∙ ap (λ x. x.items) e.same) in
+    let kept = rested_comes v i.cycle c.rest.result (shown i.machine) s i.machine.rows.items c.reserve.new.self.items c.loop-self.invariant.comes e.rested.quiet e.rested.state e.rested.rows (c.reserve.ensures.items ∙ ap (λ x. x.items) e.rested.same) in
     let mid : IsMidway v there u c.stride.new.self.rows.items =
     joined v at there s u c.reserve.new.self.items c.stride.new.self.rows.items kept c.stride.ensures.midway in
     let b = c.conclude.ensures in
@@ -78,7 +78,7 @@ returns-in-Sent c =
     let s : NodeState = shown c.rest.new.self in
     let u : NodeState = shown c.stride.new.self in
     let w : NodeState = shown c.conclude.new.self in
-    let kept = rested_comes v i.cycle c.rest.result (shown i.machine) s i.machine.rows.items c.reserve.new.self.items c.loop-self.invariant.comes e.quiet e.state e.rows (c.reserve.ensures.items ∙ ap (λ x. x.items) e.same) in
+    let kept = rested_comes v i.cycle c.rest.result (shown i.machine) s i.machine.rows.items c.reserve.new.self.items c.loop-self.invariant.comes e.rested.quiet e.rested.state e.rested.rows (c.reserve.ensures.items ∙ ap (λ x. x.items) e.rested.same) in
     let mid : IsMidway v there u c.stride.new.self.rows.items =
     joined v at there s u c.reserve.new.self.items c.stride.new.self.rows.items kept c.stride.ensures.midway in
     let b = c.conclude.ensures in
@@ -106,7 +106,7 @@ returns-in-Asks c =
     let s : NodeState = shown c.rest.new.self in
     let u : NodeState = shown c.stride.new.self in
     let w : NodeState = shown c.conclude.new.self in
-    let kept = rested_comes v i.cycle c.rest.result (shown i.machine) s i.machine.rows.items c.reserve.new.self.items c.loop-self.invariant.comes e.quiet e.state e.rows (c.reserve.ensures.items ∙ ap (λ x. x.items) e.same) in
+    let kept = rested_comes v i.cycle c.rest.result (shown i.machine) s i.machine.rows.items c.reserve.new.self.items c.loop-self.invariant.comes e.rested.quiet e.rested.state e.rested.rows (c.reserve.ensures.items ∙ ap (λ x. x.items) e.rested.same) in
     let mid : IsMidway v there u c.stride.new.self.rows.items =
     joined v at there s u c.reserve.new.self.items c.stride.new.self.rows.items kept c.stride.ensures.midway in
     let b = c.conclude.ensures in
@@ -130,11 +130,59 @@ returns-then-is_err c =
     let at : ℕ = i.cycle + c.rest.result in
     let v = c.args.self.now in
     let u : NodeState = shown c.rest.new.self in
-    let comes = rested_comes v i.cycle c.rest.result (shown i.machine) u i.machine.rows.items c.reserve.new.self.items c.loop-self.invariant.comes e.quiet e.state e.rows (c.reserve.ensures.items ∙ ap (λ x. x.items) e.same) in (
+    let comes = rested_comes v i.cycle c.rest.result (shown i.machine) u i.machine.rows.items c.reserve.new.self.items c.loop-self.invariant.comes e.rested.quiet e.rested.state e.rested.rows (c.reserve.ensures.items ∙ ap (λ x. x.items) e.rested.same) in (
       omega (arith, e.within),
       record {
         cycle = refl;
         asking = c.loop-self.invariant.calm;
         comes = comes;
+      },
+    )
+
+pub invariant_of-self : goal.invariant_of-self
+invariant_of-self c = let i = c.loop-self.invariant in whole_between _ _ _ i.calm i.few i.clock
+
+pub invariant_of-self-2 : goal.invariant_of-self-2
+invariant_of-self-2 c = let i = c.loop-self.invariant in whole_between _ _ _ i.calm i.few i.clock
+
+pub invariant_of-self-then-at-cycle : goal.invariant_of-self-then-at-cycle
+invariant_of-self-then-at-cycle c =
+    let i = c.loop-self.invariant in
+    let r = c.rest.ensures.rested in
+    whole_between _ _ _ i.calm (omega (arith, i.few, r.count)) (λ going. r.clock)
+
+pub invariant_of-self-then-is_err : goal.invariant_of-self-then-is_err
+invariant_of-self-then-is_err c =
+    let i = c.loop-self.invariant in
+    let r = c.rest.ensures.rested in
+    whole_between _ _ _ i.calm (omega (arith, i.few, r.count)) (λ going. r.clock)
+
+pub invariant_of-self-in-Sent : goal.invariant_of-self-in-Sent
+invariant_of-self-in-Sent c =
+    let b = c.conclude.ensures in
+    whole_between _ _ _ c.loop-self.invariant.calm (omega (arith, b.count, c.stride.ensures.count)) (λ going. b.clock (sym b.stop ∙ going))
+
+pub invariant_of-self-in-Asks : goal.invariant_of-self-in-Asks
+invariant_of-self-in-Asks c =
+    let b = c.conclude.ensures in
+    let t : ℕ = c.loop-self.self-inside.cycle + c.rest.result + c.stride.result in
+    let u : NodeState = shown c.stride.new.self in
+    let asks = subst (λ a. IsOnAir (asks_after t u) (sends_after t u) a) c.in-Asks.is b.air in
+    record {
+      few = omega (arith, b.count, c.stride.ensures.count);
+      clock = λ going. b.clock (sym b.stop ∙ going);
+      early = λ e. omega (arith, c.rest.ensures.within, c.stride.ensures.within, c.requires.early);
+      room = λ e. b.room;
+      waits = λ e. b.waits asks;
+    }
+
+pub returns-then-is_some : goal.returns-then-is_some
+returns-then-is_some c =
+    let i = c.loop-self.invariant in (
+      i.within,
+      record {
+        rests = record { cycle = refl; asking = i.calm; comes = i.comes };
+        stopped = sym c.is_some.ensures ∙ c.if-is_some.true;
+        running = i.running;
       },
     )

@@ -2,7 +2,7 @@ use Rattle.std.proofs.Common.{sym, ◌∙◌, ap}
 use Rattle.node_runner.specs.Scenario.{fleet_of}
 use Rattle.node_runner.specs.Place.{Place}
 use Rattle.world_core.specs.Settled.{truth}
-use Rattle.global_order.specs.Order.{facts_of}
+use Rattle.world_core.specs.Order.{facts_of}
 use Rattle.node_runner.specs.Place.{noted_of}
 use Rattle.node_runner.proofs.Counts.{noted_is}
 use Rattle.node_runner.proofs.Events.{answer_keeps}

@@ -1,6 +1,6 @@
 use Rattle.std.proofs.Common.{◌≡◌, sym, subst}
 use Rattle.world_core.specs.Sends.{sends_below}
-use Rattle.global_order.specs.Order.{facts_of}
+use Rattle.world_core.specs.Order.{facts_of}
 use Rattle.node_runner.specs.Scenario.{fleet_of}
 use Rattle.node_runner.specs.Place.{Place, HasEnded}
 use Rattle.node_runner.proofs.Counts.{all_noted}

@@ -1,5 +1,5 @@
 use Rattle.std.proofs.Common.{◌≡◌, ℕ, false, [], sym, subst, ◌∙◌, ap}
-use Rattle.trace_rows.specs.declared.row.Row.{Row}
+use Rattle.node_core.specs.declared.row.Row.{Row}
 use Rattle.world_core.specs.Topology.{Topology}
 use Rattle.world_core.specs.NodeRun.{Timed}
 use Rattle.node_core.specs.State.{NodeState, reset}

@@ -1,6 +1,6 @@
 use Rattle.std.proofs.Common.{subst}
 use Rattle.world_core.specs.Lawful.{IsLawful}
-use Rattle.global_order.specs.Order.{facts_of}
+use Rattle.world_core.specs.Order.{facts_of}
 use Rattle.node_runner.specs.Scenario.{ScenarioOf, fleet_of}
 use Rattle.node_runner.proofs.Sound.{scenario_lawful}
 use Rattle.node_runner.proofs.scenario.ScenarioWorld.topo.Goals as goal

@@ -1,7 +1,7 @@
 use Rattle.std.proofs.Common.{◌≡◌, ℕ, ◌+◌, ◌*◌, ◌/◌, ◌≤◌, ◌∙◌, ap, subst, arith}
 use Rattle.world_core.specs.Topology.{Topology}
 use Rattle.world_core.specs.Settled.{room_of}
-use Rattle.send_log.specs.Chain.{LogFacts}
+use Rattle.world_core.specs.Chain.{LogFacts}
 use Rattle.sync_core.proofs.Inductive.{opens_as}
 use Rattle.sync_core.proofs.machine.Core.new.Goals as goal
 

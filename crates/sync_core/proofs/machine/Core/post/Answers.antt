@@ -3,7 +3,7 @@ use Rattle.world_core.specs.Sends.{IsSendNumber}
 use Rattle.world_core.specs.Posted.{sent_of}
 use Rattle.world_core.specs.Consistent.{AirState}
 use Rattle.world_core.proofs.Records.{in_nodes, record_after, record_room, few_sends}
-use Rattle.send_log.specs.Chain.{LogFacts}
+use Rattle.world_core.specs.Chain.{LogFacts}
 use Rattle.sync_core.specs.declared.machine.Core.TheInside.{Inside}
 use Rattle.sync_core.proofs.Inductive.{count_at, posts_as}
 use Rattle.sync_core.proofs.machine.Core.post.Given

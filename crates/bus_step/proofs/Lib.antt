@@ -1,0 +1,4 @@
+pub mod FlowKeeps
+mod FlowTakes
+pub mod MemoryKeeps
+mod MemoryTakes

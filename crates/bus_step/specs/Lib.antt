@@ -1,0 +1,4 @@
+pub mod FlowShapes
+pub mod FlowTable
+pub mod MemoryShapes
+pub mod MemoryTable

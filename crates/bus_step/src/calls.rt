@@ -1,0 +1,76 @@
+// Calls and returns. Where an access to the stack stops, those before it stay.
+ghost use Rattle.std.specs.Prelude.{◌≡◌, ◌≤◌, IfOk};
+ghost use Rattle.data_space.specs.Core.{pair_at};
+ghost use Rattle.bus_step.specs.FlowShapes.{calls, pushes_return, relative, returns, returns_enabling};
+
+use crate::jumps::{jump, relative_to};
+use avr_base::{Reg, Sreg, StopCause};
+use data_space::{Bus, Cpu, Done, pop_word, push_word};
+
+// The pointer Z.
+#[inline]
+pub fn z(cpu: &Cpu) -> u16
+    ensures { result ≡ pair_at 30 cpu.now }
+{
+    cpu.pair(Reg::numbered(30))
+}
+
+// Pushes the address `words` on.
+#[inline]
+fn push_return<B: Bus>(words: u16, cpu: &mut Cpu, bus: &mut B) -> Result<(), StopCause>
+    ensures { record { result = result; cpu = cpu.new; bus = bus.new } ≡ pushes_return B.put_gives words cpu.old bus.old }
+{
+    let back = cpu.pc.wrapping_add(words);
+    push_word(cpu, bus, back)
+}
+
+// CALL.
+#[inline]
+#[tactic(auto, unfolding(crate::specs::FlowShapes::calls))]
+pub fn call<B: Bus>(k: u16, cpu: &mut Cpu, bus: &mut B) -> Result<Done, StopCause>
+    ensures { record { result = result; cpu = cpu.new; bus = bus.new } ≡ calls B.put_gives 4 2 (λ _. k) cpu.old bus.old }
+{
+    push_return(2, cpu, bus)?;
+    Ok(jump(4, k, cpu))
+}
+
+// RCALL.
+#[inline]
+#[tactic(auto, unfolding(crate::specs::FlowShapes::calls))]
+pub fn call_near<B: Bus>(k: i16, cpu: &mut Cpu, bus: &mut B) -> Result<Done, StopCause>
+    ensures { record { result = result; cpu = cpu.new; bus = bus.new } ≡ calls B.put_gives 3 1 (relative k) cpu.old bus.old }
+{
+    push_return(1, cpu, bus)?;
+    Ok(jump(3, relative_to(k, cpu), cpu))
+}
+
+// ICALL. The stack may lie on Z, which is read after the pushes.
+#[inline]
+#[tactic(auto, unfolding(crate::specs::FlowShapes::calls))]
+pub fn call_at_z<B: Bus>(cpu: &mut Cpu, bus: &mut B) -> Result<Done, StopCause>
+    ensures { record { result = result; cpu = cpu.new; bus = bus.new } ≡ calls B.put_gives 3 1 (pair_at 30) cpu.old bus.old }
+{
+    push_return(1, cpu, bus)?;
+    Ok(jump(3, z(cpu), cpu))
+}
+
+// RET.
+#[inline]
+#[tactic(auto, unfolding(crate::specs::FlowShapes::returns))]
+pub fn ret<B: Bus>(cpu: &mut Cpu, bus: &mut B) -> Result<Done, StopCause>
+    ensures { record { result = result; cpu = cpu.new; bus = bus.new } ≡ returns B.get_gives cpu.old bus.old }
+{
+    let pc = pop_word(cpu, bus)?;
+    Ok(jump(4, pc, cpu))
+}
+
+// RETI.
+#[inline]
+#[tactic(auto, unfolding(crate::specs::FlowShapes::returns_enabling))]
+pub fn reti<B: Bus>(cpu: &mut Cpu, bus: &mut B) -> Result<Done, StopCause>
+    ensures { record { result = result; cpu = cpu.new; bus = bus.new } ≡ returns_enabling B.get_gives cpu.old bus.old }
+{
+    let pc = pop_word(cpu, bus)?;
+    cpu.sreg = cpu.sreg.with(Sreg::I, true);
+    Ok(jump(4, pc, cpu))
+}

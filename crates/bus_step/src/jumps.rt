@@ -1,0 +1,114 @@
+// Jumps, branches and skips: each gives what the instruction reports. The core comes last, since the operands before it
+// are read from it.
+ghost use Rattle.std.specs.Prelude.{◌≡◌, ◌<◌, ◌≤◌, true, IfOk};
+ghost use Rattle.data_space.specs.Core.{advanced};
+ghost use Rattle.data_space.specs.Sequence.{done};
+ghost use Rattle.bus_step.specs.FlowShapes.{at_pc, bit_is, branched, jumped, relative, skipped, skipping, skips_by_io};
+
+use avr_base::{IO_START, Sreg, StopCause};
+use avr_decoder::width;
+use data_space::{Bus, Cpu, Done, load};
+use ihex_loader::Flash;
+
+// What an instruction other than SLEEP reports.
+#[inline]
+fn took(cycles: u8) -> Done
+    ensures { result ≡ done cycles }
+{
+    Done {
+        cycles,
+        sleep: false,
+    }
+}
+
+// The program address `k` words behind the next word.
+#[inline]
+pub fn relative_to(k: i16, cpu: &Cpu) -> u16
+    ensures { result ≡ relative k cpu.now }
+{
+    cpu.pc.wrapping_add(1).wrapping_add(k.cast_unsigned())
+}
+
+// Whether bit `b` of a byte is `on`. Bits are numbered as the flags of SREG are.
+#[inline]
+pub fn bit(on: bool, b: u8, byte: u8) -> bool
+    requires { b < 8 }
+    ensures { result ≡ bit_is on b byte }
+{
+    let byte = Sreg { bits: byte };
+    if on { byte.has(b) } else { !byte.has(b) }
+}
+
+#[inline]
+pub fn jump(cycles: u8, pc: u16, cpu: &mut Cpu) -> Done
+    ensures { (result, cpu.new) ≡ jumped cycles pc cpu.old }
+{
+    cpu.pc = pc;
+    took(cycles)
+}
+
+#[inline]
+#[tactic(auto, unfolding(crate::specs::FlowShapes::branched))]
+pub fn branch(on: bool, k: i16, cpu: &mut Cpu) -> Done
+    ensures { (result, cpu.new) ≡ branched on k cpu.old }
+{
+    if on {
+        let pc = relative_to(k, cpu);
+        return jump(2, pc, cpu);
+    }
+    cpu.advance(1);
+    took(1)
+}
+
+// The words by which the program goes on that leaves out the next instruction where `on`.
+#[inline]
+#[tactic(auto, unfolding(crate::specs::FlowShapes::skipping))]
+fn words_on(on: bool, flash: &Flash, cpu: &Cpu) -> u8
+    ensures { result ≡ skipping flash.now.bytes on cpu.now }
+{
+    if on {
+        1 + width(flash.word(cpu.pc.wrapping_add(1)))
+    } else {
+        1
+    }
+}
+
+#[inline]
+pub fn skip(on: bool, flash: &Flash, cpu: &mut Cpu) -> Done
+    ensures { (result, cpu.new) ≡ skipped flash.now.bytes on cpu.old }
+{
+    let words = words_on(on, flash, cpu);
+    cpu.advance(u16::from(words));
+    took(words)
+}
+
+// A skip where bit `b` of the register at the I/O address `a` is `on`.
+#[inline]
+#[tactic(auto, unfolding(crate::specs::FlowShapes::skips_by_io))]
+pub fn skip_by_io<B: Bus>(
+    a: u8,
+    b: u8,
+    on: bool,
+    flash: &Flash,
+    cpu: &mut Cpu,
+    bus: &mut B,
+) -> Result<Done, StopCause>
+    requires { b < 8 }
+    ensures { record { result = result; cpu = cpu.new; bus = bus.new } ≡ skips_by_io B.get_gives flash.now.bytes a b on cpu.old bus.old }
+{
+    let byte = load(cpu, bus, IO_START + u16::from(a))?;
+    Ok(skip(bit(on, b, byte), flash, cpu))
+}
+
+// SLEEP goes on by one word; what it then does is not the core's.
+#[inline]
+pub fn sleep(cpu: &mut Cpu) -> Done
+    ensures core { cpu.new ≡ advanced 1 cpu.old }
+    ensures reported { result ≡ record { cycles = 1; sleep = true } }
+{
+    cpu.advance(1);
+    Done {
+        cycles: 1,
+        sleep: true,
+    }
+}

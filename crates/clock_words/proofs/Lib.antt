@@ -1,7 +1,0 @@
-pub mod Words
-pub mod Views
-pub mod NodeSteps
-pub mod AirSteps
-pub mod Opening
-pub mod Calls
-pub mod Seating

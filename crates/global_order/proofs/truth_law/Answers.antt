@@ -1,5 +1,0 @@
-use Rattle.global_order.proofs.Alone.{hears_truth}
-use Rattle.global_order.proofs.truth_law.Goals as goal
-
-pub returns : goal.returns
-returns g c = λ f k t ok g h. hears_truth f ok k t g h

@@ -1,4 +1,0 @@
-pub mod Order
-pub mod Sound
-pub mod Stands
-pub mod Resumed

@@ -1,0 +1,4 @@
+pub mod Laws
+pub mod Quiet
+pub mod Cycles
+pub mod Arrivals

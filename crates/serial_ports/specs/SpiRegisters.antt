@@ -1,0 +1,45 @@
+-- The registers of the serial peripheral interface (ATmega128 datasheet, "SPI Control Register - SPCR", "SPI Status
+-- Register - SPSR", "SPI Data Register - SPDR").
+use Rattle.std.specs.Prelude.{ℕ, ◌+◌, ◌&&◌, not, if◌then◌else◌, true, false, Some, None, is_some, Result, Ok, Err}
+use Rattle.avr_base.specs.declared.stop.StopCause.{StopCause}
+use Rattle.avr_base.specs.declared.stop.StopCause.TheVariants as stop
+use Rattle.device_clocks.specs.Bits.{any_bit, bit}
+use Rattle.serial_ports.specs.declared.spi_registers.SpiReg.{SpiReg}
+use Rattle.serial_ports.specs.declared.spi_registers.SpiReg.TheVariants.{Control, Status, Spdr}
+use Rattle.serial_ports.specs.declared.spi.Spi.{Spi}
+use Rattle.serial_ports.specs.Spi.{transfer_cycles}
+
+-- SPSR: SPIF 7, WCOL 6, SPI2X 0
+abbrev pub status_of : Spi → ℕ
+status_of s = bit s.spif 0x80 + bit s.wcol 0x40 + bit s.double 0x01
+
+-- an access of SPDR clears the flags that the last read of SPSR saw set
+abbrev pub accessed : Spi → Spi
+accessed s = record s {
+  spif = s.spif && not s.noted_spif;
+  wcol = s.wcol && not s.noted_wcol;
+  noted_spif = false;
+  noted_wcol = false;
+}
+
+-- what a read gives, and the port after it: a read of SPSR notes which flags are set
+abbrev pub get_of : Spi → SpiReg → ℕ × Spi
+get_of s Control = (s.control, s)
+get_of s Status = (status_of s, record s { noted_spif = s.spif; noted_wcol = s.wcol })
+get_of s Spdr = (s.«data», accessed s)
+
+-- the byte b to transfer from cycle t on: lost where SPE, bit 6 of SPCR, is clear; a collision while a transfer runs
+abbrev pub sent_out : ℕ → ℕ → Spi → Spi
+sent_out t b s =
+    if not (any_bit s.control 0x40) then s
+    else if is_some s.transfer then record s { wcol = true }
+    else record s { transfer = Some (record { ends = t + transfer_cycles s; byte = b }) }
+
+-- the port after a write of the byte b in cycle t, or why that stops: SPE without MSTR, bit 4, asks for a slave. A write
+-- that clears SPE abandons the transfer that runs; of SPSR SPI2X alone is written
+abbrev pub put_of : ℕ → Spi → SpiReg → ℕ → Result Spi StopCause
+put_of t s Control b =
+    if any_bit b 0x40 && not (any_bit b 0x10) then Err stop.SpiSlave
+    else Ok (record s { control = b; transfer = if any_bit b 0x40 then s.transfer else None })
+put_of t s Status b = Ok (record s { double = any_bit b 0x01 })
+put_of t s Spdr b = Ok (sent_out t b (accessed s))

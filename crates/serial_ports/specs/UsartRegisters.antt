@@ -1,0 +1,63 @@
+-- The registers of USART0 (ATmega128 datasheet, "USART Register Description").
+use Rattle.std.specs.Prelude.{ℕ, ◌+◌, ◌*◌, ◌/◌, ◌%◌, ◌&&◌, not, if◌then◌else◌, false, Some, is_some, Result, Ok, Err, bit_and}
+use Rattle.avr_base.specs.declared.stop.StopCause.{StopCause}
+use Rattle.avr_base.specs.declared.stop.StopCause.TheVariants as stop
+use Rattle.device_clocks.specs.Bits.{any_bit, bit}
+use Rattle.serial_ports.specs.declared.inbox.Inbox.{Inbox}
+use Rattle.serial_ports.specs.declared.inbox.Inbox.TheVariants.{Empty, One, Two}
+use Rattle.serial_ports.specs.declared.usart_registers.UsartReg.{UsartReg}
+use Rattle.serial_ports.specs.declared.usart_registers.UsartReg.TheVariants.{StatusA, ControlB, ControlC, BaudL, BaudH, Udr}
+use Rattle.serial_ports.specs.declared.usart.Usart.{Usart}
+use Rattle.serial_ports.specs.Usart.{is_filled, started}
+
+-- UCSR0A: RXC 7, TXC 6, UDRE 5, DOR 3, U2X 1; there are no frame and no parity errors
+abbrev pub status_of : Usart → ℕ
+status_of u =
+    bit (is_filled u.inbox) 0x80 + bit u.txc 0x40 + bit (not (is_some u.waiting)) 0x20 + bit u.dor 0x08 + bit u.double 0x02
+
+-- the oldest byte of the receive buffer, 0 where there is none
+abbrev pub oldest : Inbox → ℕ
+oldest Empty = 0
+oldest (One a) = a
+oldest (Two a b) = a
+
+abbrev pub without_oldest : Inbox → Inbox
+without_oldest Empty = Empty
+without_oldest (One a) = Empty
+without_oldest (Two a b) = One b
+
+-- what a read gives, and the port after it: a read of UDR0 takes a byte and clears DOR
+abbrev pub get_of : Usart → UsartReg → ℕ × Usart
+get_of u StatusA = (status_of u, u)
+get_of u ControlB = (u.control_b, u)
+get_of u ControlC = (u.control_c, u)
+get_of u BaudL = (u.baud % 256, u)
+get_of u BaudH = (u.baud / 256, u)
+get_of u Udr = (oldest u.inbox, record u { inbox = without_oldest u.inbox; dor = false })
+
+-- a byte to send from cycle t on: lost where TXEN, bit 3 of UCSR0B, is clear; while a frame runs it waits, and is lost
+-- where another one waits already
+abbrev pub sent_out : ℕ → ℕ → Usart → Usart
+sent_out t b u =
+    if not (any_bit u.control_b 0x08) then u
+    else if not (is_some u.frame) then started t b u
+    else if is_some u.waiting then u
+    else record u { waiting = Some b }
+
+-- UCSR0B; without RXEN the receive buffer is emptied
+abbrev pub with_control_b : ℕ → Usart → Usart
+with_control_b b u =
+    if any_bit b 0x10 then record u { control_b = bit_and b 0xF9 }
+    else record u { control_b = bit_and b 0xF9; inbox = Empty; dor = false }
+
+-- the port after a write of the byte b in cycle t, or why that stops: multi-processor mode (MPCM), nine data bits
+-- (UCSZ2), synchronous mode and parity (UMSEL, UPM) are not there. TXC is cleared by a 1; RXB8 reads 0
+abbrev pub put_of : ℕ → Usart → UsartReg → ℕ → Result Usart StopCause
+put_of t u StatusA b =
+    if any_bit b 0x01 then Err stop.UsartMode
+    else Ok (record u { double = any_bit b 0x02; txc = u.txc && not (any_bit b 0x40) })
+put_of t u ControlB b = if any_bit b 0x04 then Err stop.UsartMode else Ok (with_control_b b u)
+put_of t u ControlC b = if any_bit b 0x70 then Err stop.UsartMode else Ok (record u { control_c = bit_and b 0x0F })
+put_of t u BaudL b = Ok (record u { baud = u.baud / 256 * 256 + b })
+put_of t u BaudH b = Ok (record u { baud = b % 16 * 256 + u.baud % 256 })
+put_of t u Udr b = Ok (sent_out t b u)

@@ -1,3 +1,0 @@
-pub mod Radio
-pub mod Registers
-pub mod Spi

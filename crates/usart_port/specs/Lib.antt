@@ -1,3 +1,0 @@
-pub mod Usart
-pub mod Registers
-pub mod Script
