@@ -145,8 +145,9 @@ impl<W: World> Clocks<W> {
         }
     }
 
-    /// Wakes those who sleep at the clock of a node (`sleep_at`). A raise wakes nobody, since it costs a hundredth of a wake: a
-    /// node wakes the others before it waits itself, and now and then. It does nothing where there is no such node.
+    /// Wakes those who sleep at the clock of a node (`sleep_at`). A raise wakes nobody, since a wake is a call of the system
+    /// and costs some twenty raises: a node wakes the others before it waits itself, and now and then. It does nothing where
+    /// there is no such node.
     pub fn wake(&self, node: u8) {
         if node < self.nodes {
             self.table.shared.wake_all(clock_word(node));

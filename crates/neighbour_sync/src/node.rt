@@ -93,7 +93,8 @@ impl NodeAir {
         self.seat.told()
     }
 
-    /// Raises the node's clock to this cycle, so that others need not wait for its sends below it. It takes no lock.
+    /// Raises the node's clock to this cycle, so that others need not wait for its sends below it. It takes no lock, and
+    /// wakes nobody (`wake`).
     /// The clock may not fall or pass the limit, and the node has to have seen that all its sends below it are posted.
     pub fn raise<W: World, N: Session>(&mut self, shared: &Shared<W, N>, clock: u64)
         requires session { (self.old.table ≡ N.table) × (self.old.world ≡ N.world) }

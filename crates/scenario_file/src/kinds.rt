@@ -1,4 +1,4 @@
-// The kinds of values.
+// The kinds of values. Each test is made, by `&`, as in `rules.rt`.
 ghost use Rattle.std.specs.Prelude.{◌≡◌, map};
 ghost use Rattle.toml.specs.View.{view};
 ghost use Rattle.scenario_file.specs.Document.{on_array};

@@ -1,4 +1,5 @@
-// The ranges of numbers, and the sizes of texts; what is of another kind passes here.
+// The ranges of numbers, and the sizes of texts; what is of another kind passes here. Each test is made, by `&`, as in
+// `rules.rt`.
 ghost use Rattle.std.specs.Prelude.{◌≡◌, ◌%◌, ◌==◌, ◌&&◌, length, map};
 ghost use Rattle.std.specs.List.{list_all};
 ghost use Rattle.std.specs.Char.{is_ascii_hexdigit};

@@ -12,7 +12,7 @@ use crate::{Link, NoMemory, Span, TopoFault};
 use std::marker::Model;
 
 /// Which nodes there are, how long they run, and who hears whom: what all nodes of a network share.
-/// Its numbers are in their ranges (nodes 1 to 64, limit 1 to 10,000,000 cycles, latency 1 to 65,535 cycles, byte time
+/// Its numbers are in their ranges (nodes 1 to 64, limit 1 to 2^40 cycles, latency 1 to 65,535 cycles, byte time
 /// 256 to 4,096 cycles), each link joins two different nodes that there are, and no link stands there twice.
 pub struct Topo {
     nodes: u8,
@@ -297,7 +297,7 @@ impl Topo {
         self.nodes
     }
 
-    /// The cycle at which a run ends, 1 to 10,000,000.
+    /// The cycle at which a run ends, 1 to 2^40.
     pub fn limit(&self) -> u64
         ensures value { result ≡ self.now.limit }
         ensures lawful { IsTopology self.now }
