@@ -26,7 +26,7 @@ pub enum StopCause {
     ForcedCompare,
     /// The input capture interrupt.
     InputCapture,
-    /// A prescaler reset or a pull-up disable in SFIOR.
+    /// A prescaler held or reset by SFIOR (TSM, PSR0, PSR321).
     Prescaler,
     /// USART0 with parity, nine bits, synchronous or multi-processor.
     UsartMode,

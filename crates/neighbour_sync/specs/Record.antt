@@ -50,7 +50,7 @@ with_send r x = record r { sent = slice_set r.sent x.node (sent_of r.sent x.node
 abbrev pub with_sample : AirRecord → ℕ → ℕ → HeardValue → AirRecord
 with_sample r j s h = record r { samples = r.samples ++ (record { node = j; cycle = s }, h) ∷ [] }
 
--- the sends that nobody can hear from the cycle f on, and the samples below it, are gone
+-- the sends that are over at the cycle f, which nobody can hear from there on, and the samples below it, are gone
 abbrev pub cut_at : AirRecord → ℕ → AirRecord
 cut_at r f = record r { floor = f; sends = filter (is_kept r.world.topo f) r.sends; samples = filter (λ x. nat_le f x.0.cycle) r.samples }
 

@@ -22,8 +22,9 @@ const LONGEST_SLEEP: u64 = 10;
 
 pub(crate) type Words<W> = Table<(), View, Snapshot<W>, ClockRule, Global>;
 
-/// The clock words of the nodes of a world, which threads share by reference. Each call is one step: it waits for no one,
-/// takes no memory, and needs a seat of the same table, lent by whoever has it.
+/// The clock words of the nodes of a world, which threads share by reference. Each call with a seat is one step: it waits for
+/// no one and takes no memory, and the seat is of the same table, lent by whoever has it. `sleep_at` waits for a word to
+/// change, `wake` ends such sleeps; they are no steps, and change no word.
 pub struct Clocks<W: World> {
     table: Words<W>,
     nodes: u8,

@@ -132,8 +132,8 @@ impl Air {
         Sampled::Heard(heard)
     }
 
-    /// Raises the floor to this cycle, where the clock of each node was loaded and was at least that. The sends that nobody
-    /// can hear from there on are gone, and the samples below it. `Behind` only where the clock that it names was loaded in
+    /// Raises the floor to this cycle, where the clock of each node was loaded and was at least that. The sends that are over
+    /// there, which nobody can hear any more, are gone, and the samples below it. `Behind` only where the clock that it names was loaded in
     /// this call and is below the cycle; nothing then changes but what the seat has loaded. It takes no memory.
     pub fn cut<W: World>(&mut self, clocks: &Clocks<W>, floor: u64) -> Result<(), Behind>
         requires table { self.old.table ≡ clocks.now.table }

@@ -108,7 +108,7 @@ step_keeps a (Raise k c) i may = raise_keeps a k c i may
 step_keeps a (Post k) i may = post_keeps a k i may
 step_keeps a (Sample j s) i may = sample_keeps a j s i may
 
-post_reaches : (a : AirState) (k j s : ℕ) → IsConsistent a → MayPost a k → AllPostedFor a.world a.sent j s → AllPostedFor a.world (after_post a k).sent j s
+pub post_reaches : (a : AirState) (k j s : ℕ) → IsConsistent a → MayPost a k → AllPostedFor a.world a.sent j s → AllPostedFor a.world (after_post a k).sent j s
 post_reaches a k j s i may reached =
     let (x, e, next) = next_of a.world k (sent_of a.sent k) may in
     let b = in_nodes a.world (sent_of a.sent k) x i.lawful next in

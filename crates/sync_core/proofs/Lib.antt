@@ -2,3 +2,4 @@ pub mod Inductive
 pub mod Waiting
 pub mod Numbered
 pub mod Runs
+pub mod Moves

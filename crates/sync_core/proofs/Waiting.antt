@@ -1,6 +1,5 @@
 -- Where no node is behind, all have passed.
 use Rattle.std.proofs.Common.{◌≡◌, inl, ℕ, ◌-◌, ◌<◌, ◌≤◌, Bool, true, false, ◌&&◌, List, refl, ◌∙◌, arith}
-use Rattle.std.specs.Prelude.{nat_le}
 use Rattle.std.proofs.lemmas.Bool.{false≢true}
 use native.Mathlib.Decide.{dec_le}
 use Rattle.world_core.specs.Topology.{Topology, IsTopology, is_linked, is_needed, is_reached_in, place_in, latency_of}

@@ -3,10 +3,12 @@
 #![tactic(auto)]
 
 mod behind;
+mod law;
 mod machine;
 mod run;
 mod steps;
 
+pub use law::any_order_law;
 pub use machine::Core;
 pub use run::replay;
 pub use steps::{ReplayFault, Step};

@@ -114,7 +114,8 @@ impl<W: World> Core<W> {
     /// The clock of a node, in cycles: 0 to the limit.
     pub fn clock(&self, node: u8) -> u64
         requires { node < self.now.world.topo.nodes }
-        ensures { result ≡ clock_of self.now.clocks node }
+        ensures value { result ≡ clock_of self.now.clocks node }
+        ensures consistent { IsConsistent self.now }
     {
         self.clocks[usize::from(node)]
     }
@@ -122,7 +123,8 @@ impl<W: World> Core<W> {
     /// How many sends of a node are posted.
     pub fn sent(&self, node: u8) -> u64
         requires { node < self.now.world.topo.nodes }
-        ensures { result ≡ sent_of self.now.sent node }
+        ensures value { result ≡ sent_of self.now.sent node }
+        ensures consistent { IsConsistent self.now }
     {
         self.sent[usize::from(node)]
     }

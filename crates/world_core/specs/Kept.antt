@@ -7,7 +7,8 @@ use Rattle.world_core.specs.Topology.{Topology, reach}
 use Rattle.world_core.specs.Sends.{sends_of, sends_below}
 use Rattle.world_core.specs.Posted.{sent_of}
 
--- some node may hear the send in the cycle f or later: what a record keeps whose floor is f
+-- The send is not over at the cycle f: over a link with the greatest latency it would be heard in f or later. What a record keeps
+-- whose floor is f.
 abbrev pub is_kept : Topology → ℕ → Send → Bool
 is_kept t f x = nat_lt f (x.cycle + reach t + t.byte_time)
 

@@ -52,6 +52,6 @@ pub record MayCut (a : AirState) (f : ℕ) : Type 0 where
   pub within : f ≤ a.world.topo.limit
   pub posted : IsPostedTo a.world f a.sent
 
--- the sends that nobody can hear from f on, and the samples below f, are gone
+-- the sends that are over at f, which nobody can hear from there on, and the samples below f, are gone
 abbrev pub after_cut : AirState → ℕ → AirState
 after_cut a f = record a { floor = f; sends = filter (is_kept a.world.topo f) a.sends; samples = filter (λ x. nat_le f x.0.cycle) a.samples }

@@ -74,8 +74,8 @@ impl SendLog {
         self.last[node] = self.sends.len();
     }
 
-    /// Drops exactly the sends that no node can hear from the cycle `floor` on: those whose cycle, the topology's reach and its
-    /// byte time together are at most `floor`. The others keep their order. It takes no memory.
+    /// Drops exactly the sends that are over at the cycle `floor`: those whose cycle, the topology's reach and its byte time
+    /// together are at most that, so that no node can hear them from there on. The others keep their order. It takes no memory.
     pub fn cut(&mut self, topo: &Topo, floor: u64)
         ensures { self.new ≡ log_of (filter (is_kept topo.now floor) self.old.sends) self.old.room }
     {

@@ -83,7 +83,7 @@ fn keep_above(sends: &mut Vec<Send>, bound: u64)
     sends.retain(|s| bound < s.cycle);
 }
 
-/// Drops the sends that no node can hear from this cycle on.
+/// Drops the sends that are over at this cycle.
 pub fn keep(sends: &mut Vec<Send>, topo: &Topo, floor: u64)
     ensures items { sends.new.items ≡ filter (is_kept topo.now floor) sends.old.items }
     ensures capacity { vec_capacity sends.new ≡ vec_capacity sends.old }

@@ -1,4 +1,4 @@
-use Rattle.std.proofs.Common.{◌≡◌, ℕ, ◌<◌, ◌≤◌, length, vec_len, List, sym, ap, ◌∙◌, refl, subst, arith, rules}
+use Rattle.std.proofs.Common.{◌≡◌, ℕ, ◌<◌, length, vec_len, List, sym, ap, ◌∙◌, refl, subst, arith, rules}
 use Rattle.std.specs.List.{Contains}
 use Rattle.world_core.specs.declared.air.Sampled.{Sampled}
 use Rattle.world_core.specs.declared.air.Sampled.TheVariants.{Heard, NoMemory}
