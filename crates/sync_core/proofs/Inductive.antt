@@ -73,7 +73,7 @@ only_at k (x ∷ xs) zero d o lt = o.0
 only_at k (x ∷ xs) (suc n) d o lt = only_at k xs n d o.1 (omega arith)
 
 -- the next send of node k
-next_of : (w : WorldFacts) (k n : ℕ) → n < length (sends_of k w.sends) → (x : Send) × (x.node ≡ k) × IsSendNumber w n x
+pub next_of : (w : WorldFacts) (k n : ℕ) → n < length (sends_of k w.sends) → (x : Send) × (x.node ≡ k) × IsSendNumber w n x
 next_of w k n lt =
     let l = sends_of k w.sends in
     let x = get_or l n no_send in

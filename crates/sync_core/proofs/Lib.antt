@@ -3,3 +3,4 @@ pub mod Waiting
 pub mod Numbered
 pub mod Runs
 pub mod Moves
+pub mod Going

@@ -8,7 +8,7 @@ use Rattle.world_core.specs.Steps.{AllPassed}
 use Rattle.world_core.proofs.Links.{not_linked}
 use Rattle.sync_core.specs.Sampling.{IsBehind, NoneBehind}
 
-first_true : (u v : Bool) → (u && v) ≡ true → u ≡ true
+pub first_true : (u v : Bool) → (u && v) ≡ true → u ≡ true
 first_true true v e = refl
 first_true false v e = e
 

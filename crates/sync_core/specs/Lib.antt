@@ -1,3 +1,4 @@
 pub mod Sampling
 pub mod Run
 pub mod Moves
+pub mod Going

@@ -8,7 +8,7 @@ mod machine;
 mod run;
 mod steps;
 
-pub use law::any_order_law;
+pub use law::{any_order_law, never_stuck_law};
 pub use machine::Core;
 pub use run::replay;
 pub use steps::{ReplayFault, Step};
