@@ -1,5 +1,5 @@
 // A thread for each node of an epoch.
-ghost use Rattle.std.specs.Prelude.{◌≡◌, true};
+ghost use Rattle.std.specs.Prelude.{◌≡◌, true, IfErr, IfOk};
 ghost use Rattle.std.specs.List.{All};
 ghost use Rattle.std.specs.Thread.{IsSync};
 ghost use Rattle.fleet_threads.specs.Member.{IsUnderWay, IsBack, IsOver, numbers};
@@ -14,7 +14,7 @@ use std::marker::PhantomData;
 use std::sync::Wait;
 use std::sync::atomic::{AtomicU64, Ordering};
 use std::thread;
-use std::thread::{Promise, Scope, Threads};
+use std::thread::{Promise, PromisedHandle, Scope, Threads};
 
 /// The number of no node: none was refused yet.
 const NOBODY: u64 = u64::MAX;
@@ -121,9 +121,46 @@ fn rotate<N: Session, R: Wait, G: Gate>(
     unreachable!()
 }
 
-// Starts the last node, goes on with the others, and joins it. When all are started, those for which no thread was found
-// are run here. A node whose thread has taken it to the end of the epoch stays there when it is worked on once more. (That
-// `R` and `G` may be shared is a condition, since the bounds of a function that calls itself are not told to its proof.)
+// A thread that takes the node to the end of the epoch. Else the node comes back as it is: where it goes on no more in this
+// epoch, so that a thread would only cost, and where none was found for it.
+fn begin<'s, E, N: Session + Send + Sync, R: Threads + Wait + Sync, G: Gate + Sync>(
+    scope: &Scope<'s, E>,
+    rt: &'s R,
+    shared: &'s Shared<Scenario, N>,
+    gate: &'s G,
+    scenario: &'s Scenario,
+    refused: &'s AtomicU64,
+    end: u64,
+    member: Member,
+) -> Result<PromisedHandle<Member, HandsBack<'s, N>>, Member>
+    requires { IsUnderWay N.table N.world scenario.now N.floor end member }
+    ensures thread { IfOk result (λ h. (h.promise.scenario.now ≡ scenario.now) × (h.promise.number ≡ member.runner.number) × (h.promise.end ≡ end)) }
+    ensures node { IfErr result (IsHanded N.table N.world scenario.now N.floor end member.runner.number) }
+{
+    if !member.runner.is_live(end) {
+        return Err(member);
+    }
+    let number = member.number();
+    let promise: HandsBack<'s, N> = HandsBack {
+        scenario,
+        number,
+        end,
+        of: PhantomData,
+    };
+    match scope.spawn_with(promise, move || {
+        work_unless_refused(rt, shared, gate, scenario, refused, end, member)
+    }) {
+        Ok(child) => Ok(child),
+        Err(unstarted) => {
+            refused.store(u64::from(number), Ordering::SeqCst);
+            Err((unstarted.value)())
+        }
+    }
+}
+
+// Starts the last node, goes on with the others, and joins it. When all are started, those that have no thread are run here.
+// A node whose thread has taken it to the end of the epoch stays there when it is worked on once more. (That `R` and `G` may
+// be shared is a condition, since the bounds of a function that calls itself are not told to its proof.)
 fn run_from<'s, E, N: Session + Send + Sync, R: Threads + Wait + Sync, G: Gate + Sync>(
     scope: &Scope<'s, E>,
     rt: &'s R,
@@ -143,16 +180,7 @@ fn run_from<'s, E, N: Session + Send + Sync, R: Threads + Wait + Sync, G: Gate +
         rotate(rt, shared, gate, scenario, end, waiting);
         return;
     };
-    let number = member.number();
-    let promise: HandsBack<'s, N> = HandsBack {
-        scenario,
-        number,
-        end,
-        of: PhantomData,
-    };
-    match scope.spawn_with(promise, move || {
-        work_unless_refused(rt, shared, gate, scenario, refused, end, member)
-    }) {
+    match begin(scope, rt, shared, gate, scenario, refused, end, member) {
         Ok(child) => {
             run_from(
                 scope, rt, shared, gate, scenario, refused, end, members, waiting,
@@ -160,9 +188,8 @@ fn run_from<'s, E, N: Session + Send + Sync, R: Threads + Wait + Sync, G: Gate +
             let handed = child.join(rt);
             members.push_reserved(work(rt, shared, gate, scenario, end, handed));
         }
-        Err(unstarted) => {
-            refused.store(u64::from(number), Ordering::SeqCst);
-            waiting.push_reserved((unstarted.value)());
+        Err(member) => {
+            waiting.push_reserved(member);
             run_from(
                 scope, rt, shared, gate, scenario, refused, end, members, waiting,
             );

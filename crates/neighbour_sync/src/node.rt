@@ -6,7 +6,7 @@ use crate::steps::{record, see_posted, try_once};
 use crate::{Clocks, NodeSeat};
 use crossbeam_utils::Backoff;
 use std::marker::Model;
-use std::sync::Wait;
+use std::sync::{Arc, Wait};
 use world_core::{Send, Topo, World};
 
 // How often a node that waits looks again before it sleeps, and twice as long after each look: some microseconds in all, about
@@ -32,10 +32,11 @@ fn pause<W: World, R: Wait>(
     }
 }
 
-/// A node's part of the air: its seat at the clock words, and the topology, by which it sees for whom it has to wait.
+/// A node's part of the air: its seat at the clock words, and the topology, by which it sees for whom it has to wait. All nodes
+/// hold one topology together.
 pub struct NodeAir {
     seat: NodeSeat,
-    topo: Topo,
+    topo: Arc<Topo>,
 }
 
 // By hand, so that an exit that lets go of one, here and in the crates above, has one call to prove.
@@ -47,17 +48,19 @@ impl Drop for NodeAir {
 
 impl Model for NodeAir {
     ghost use Rattle.std.specs.Prelude.{◌≡◌};
+    ghost use Rattle.std.specs.Arc.{arc_value};
     ghost use Rattle.neighbour_sync.specs.Seats.{NodeFacts};
 
     ghost Value = { NodeFacts };
 
     ghost view = { λ n. n.seat };
 
-    ghost invariant = { λ n. n.topo ≡ n.seat.world.topo };
+    ghost invariant = { λ n. arc_value n.topo ≡ n.seat.world.topo };
 }
 
 impl NodeAir {
     ghost use Rattle.std.specs.Prelude.{◌≡◌, ◌+◌, ◌≤◌, ◌<◌};
+    ghost use Rattle.std.specs.Arc.{arc_value};
     ghost use Rattle.std.specs.List.{Contains};
     ghost use Rattle.world_core.specs.Sends.{sends_below, IsSendNumber};
     ghost use Rattle.neighbour_sync.specs.Seats.{node_raised, node_told, node_stopped};
@@ -65,8 +68,8 @@ impl NodeAir {
     ghost use Rattle.neighbour_sync.specs.Tries.{IsTried};
     ghost use Rattle.neighbour_sync.specs.Waits.{IsPassed};
 
-    pub(crate) fn of(seat: NodeSeat, topo: Topo) -> NodeAir
-        requires { topo ≡ seat.world.topo }
+    pub(crate) fn of(seat: NodeSeat, topo: Arc<Topo>) -> NodeAir
+        requires { arc_value topo ≡ seat.world.topo }
         ensures { result ≡ seat }
     {
         NodeAir { seat, topo }

@@ -1,13 +1,36 @@
 // The air of a world, when nothing has happened yet.
 ghost use Rattle.std.specs.Prelude.{◌≡◌, [], IfOk};
 ghost use Rattle.std.specs.List.{All};
+ghost use Rattle.std.specs.Arc.{arc_value};
 ghost use Rattle.neighbour_sync.specs.Seats.{AreFirstNodes};
 ghost use Rattle.neighbour_sync.specs.Record.{first_record};
 
 use crate::node::NodeAir;
 use crate::{Air, Clocks, NodeSeat};
 use std::alloc::Global;
-use world_core::{NoMemory, World};
+use std::sync::Arc;
+use world_core::{NoMemory, Topo, World};
+
+// The part of the node with this seat.
+fn node_air(topo: &Arc<Topo>, seat: NodeSeat) -> Result<NodeAir, NoMemory>
+    requires { arc_value topo.now ≡ seat.world.topo }
+    ensures { IfOk result (λ n. n ≡ seat) }
+{
+    match Arc::try_clone(topo) {
+        Ok(topo) => Ok(NodeAir::of(seat, topo)),
+        Err(_) => Err(NoMemory),
+    }
+}
+
+// The topology of the world, for all nodes.
+fn shared_topo<W: World>(alloc: Global, world: &W) -> Result<Arc<Topo>, NoMemory>
+    ensures { IfOk result (λ t. arc_value t ≡ (W.facts world.now).topo) }
+{
+    match Arc::new(alloc, world.topo().copy()?) {
+        Ok(topo) => Ok(topo),
+        Err(_) => Err(NoMemory),
+    }
+}
 
 // The node's parts with these seats.
 fn node_airs<W: World>(
@@ -18,10 +41,10 @@ fn node_airs<W: World>(
     requires { All (λ s. s.world ≡ W.facts world.now) seats.items }
     ensures { IfOk result (λ v. v.items ≡ seats.items) }
 {
+    let topo = shared_topo(alloc, world)?;
     let mut nodes = Vec::new(alloc);
     for seat in seats {
-        let topo = world.topo().copy()?;
-        if nodes.push(NodeAir::of(seat, topo)).is_err() {
+        if nodes.push(node_air(&topo, seat)?).is_err() {
             return Err(NoMemory);
         }
     }
