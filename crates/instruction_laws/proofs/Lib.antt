@@ -6,3 +6,5 @@ pub mod Sums
 pub mod Pairs
 pub mod Stack
 pub mod Returns
+pub mod Sram
+pub mod NodeStack

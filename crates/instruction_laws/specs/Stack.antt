@@ -1,6 +1,6 @@
 -- What comes back from the stack (AVR Instruction Set Manual: PUSH, POP, CALL, RCALL, ICALL, RET), over a bus that keeps
 -- what is put.
-use Rattle.std.specs.Prelude.{◌≡◌, ◌≢◌, ℕ, ◌+◌, ◌-◌, ◌/◌, ◌%◌, ◌≤◌, ◌<◌, List, Result, Ok}
+use Rattle.std.specs.Prelude.{◌≡◌, ◌≢◌, ℕ, ◌+◌, ◌-◌, ◌/◌, ◌%◌, ◌≤◌, ◌<◌, Bool, true, List, Result, Ok}
 use Rattle.avr_base.specs.declared.stop.StopCause.{StopCause}
 use Rattle.avr_decoder.specs.declared.op.Op.{Op}
 use Rattle.avr_decoder.specs.declared.op.Op.TheVariants as op
@@ -15,21 +15,26 @@ pub record Accesses (B : Type 0) : Type 0 where
   pub get : B → ℕ → Result (ℕ × B) StopCause
   pub put : B → ℕ → ℕ → Result B StopCause
 
--- between two data addresses a bus is a memory: what is put at an address comes back from it, and what stands at the
--- others stays
-pub record IsMemory {B : Type 0} (a : Accesses B) (first last : ℕ) : Type 0 where
-  pub back : (bus bus' : B) (at x : ℕ) → first ≤ at → at ≤ last → a.put bus at x ≡ Ok bus' → a.get bus' at ≡ Ok (x, bus')
-  pub others : (bus bus' : B) (at other x y : ℕ) → first ≤ at → at ≤ last → first ≤ other → other ≤ last → at ≢ other
+-- between two data addresses a bus is a memory while it is sound, whatever that asks of it: what is put at an address comes
+-- back from it, what stands at the others stays, and the bus is still sound
+pub record IsMemory {B : Type 0} (a : Accesses B) (sound : B → Bool) (first last : ℕ) : Type 0 where
+  pub kept : (bus bus' : B) (at x : ℕ) → sound bus ≡ true → first ≤ at → at ≤ last → a.put bus at x ≡ Ok bus' → sound bus' ≡ true
+  pub back : (bus bus' : B) (at x : ℕ) → sound bus ≡ true → first ≤ at → at ≤ last → a.put bus at x ≡ Ok bus' → a.get bus' at ≡ Ok (x, bus')
+  pub others : (bus bus' : B) (at other x y : ℕ) → sound bus ≡ true → first ≤ at → at ≤ last → first ≤ other → other ≤ last → at ≢ other
       → a.get bus other ≡ Ok (y, bus) → a.put bus at x ≡ Ok bus' → a.get bus' other ≡ Ok (y, bus')
 
--- from `first` to `last`, behind the core's own registers, there is a stack, and the stack pointer is in it, with room for
--- so many bytes
-pub record IsStack {B : Type 0} (a : Accesses B) (first last room : ℕ) (cpu : Cpu) : Type 0 where
-  pub memory : IsMemory a first last
-  pub behind : 0x60 ≤ first
-  pub small : last < 65536
+-- the stack pointer is between two data addresses, with room for so many bytes
+pub record HasRoom (first last room : ℕ) (cpu : Cpu) : Type 0 where
   pub low : first + room ≤ cpu.sp + 1
   pub high : cpu.sp ≤ last
+
+-- from `first` to `last`, behind the core's own registers, there is a stack while the bus is sound, and the stack pointer is
+-- in it, with room for so many bytes
+pub record IsStack {B : Type 0} (a : Accesses B) (sound : B → Bool) (first last room : ℕ) (cpu : Cpu) : Type 0 where
+  pub memory : IsMemory a sound first last
+  pub behind : 0x60 ≤ first
+  pub small : last < 65536
+  pub within : HasRoom first last room cpu
 
 -- an instruction ended, after so many cycles, with this core and this bus
 abbrev pub ended : {B : Type 0} → ℕ → Cpu → B → Outcome B

@@ -3,7 +3,7 @@
 //! function that does nothing; it is about the definitions that the steps are proved to compute.
 #![tactic(auto)]
 
-ghost use Rattle.std.specs.Prelude.{◌≡◌, ◌≢◌, ℕ, ◌+◌, ◌-◌, ◌%◌, nat_le, nat_lt, int_lt, not, ◌==◌, ℤ, List, Ok, if◌then◌else◌};
+ghost use Rattle.std.specs.Prelude.{◌≡◌, ◌≢◌, ℕ, ◌+◌, ◌-◌, ◌%◌, ◌≤◌, nat_le, nat_lt, int_lt, not, ◌==◌, ℤ, Bool, true, List, Ok, if◌then◌else◌};
 ghost use Rattle.avr_decoder.specs.Opcodes.{op_at};
 ghost use Rattle.avr_decoder.specs.Words.{is_two_words, words_of};
 ghost use Rattle.avr_decoder.specs.declared.op.Op.TheVariants as op;
@@ -15,7 +15,15 @@ ghost use Rattle.data_space.specs.Core.{advanced, with_reg};
 ghost use Rattle.arith_step.specs.Whole.{signed};
 ghost use Rattle.bus_step.specs.FlowTable.{flow_effect};
 ghost use Rattle.bus_step.specs.MemoryTable.{memory_effect};
-ghost use Rattle.instruction_laws.specs.Stack.{Accesses, ComesBack, IsStack, TakesReturn, ended, then_memory};
+ghost use Rattle.instruction_laws.specs.Stack.{Accesses, ComesBack, IsMemory, IsStack, TakesReturn, ended, then_memory};
+ghost use Rattle.instruction_laws.specs.Sram.{HasStack, NodeComesBack, has_sram, node_accesses, sram_first, sram_last, then_executed, with_byte};
+ghost use Rattle.board_io.specs.declared.board.Board.{Board};
+ghost use Rattle.node_core.specs.declared.bus.NodeBus.{NodeBus};
+ghost use Rattle.node_core.specs.Bus.{bus_put, reset_bus, with_board};
+ghost use Rattle.node_core.specs.Cycle.{begun_in, finished_in};
+ghost use Rattle.node_core.specs.Execute.{executed};
+ghost use Rattle.node_core.specs.State.{NodeState};
+ghost use Rattle.world_core.specs.declared.air.Heard.{Heard};
 
 /// After CP, and after CPI, the flags compare the two bytes.
 pub fn compare_law()
@@ -71,20 +79,46 @@ pub fn difference_law()
 
 /// PUSH and then POP: the register has the byte that was pushed, and all else of the core is as before.
 pub fn stack_law<B>()
-    ensures { (a : Accesses B) (first last : ℕ) (flash : List ℕ) (r d : ℕ) (cpu : Cpu) (bus bus' : B)
-        → IsStack a first last 1 cpu → a.put bus cpu.sp (reg r cpu) ≡ Ok bus'
+    ensures { (a : Accesses B) (sound : B → Bool) (first last : ℕ) (flash : List ℕ) (r d : ℕ) (cpu : Cpu) (bus bus' : B)
+        → IsStack a sound first last 1 cpu → sound bus ≡ true → a.put bus cpu.sp (reg r cpu) ≡ Ok bus'
         → then_memory a flash (op.Pop d) (memory_effect a.get a.put flash (op.Push r) cpu bus)
         ≡ ended 2 (advanced 2 (with_reg d (reg r cpu) cpu)) bus' }
 {}
 
 /// CALL, RCALL and ICALL, and then RET: the program goes on behind the call, and all else of the core is as before.
 pub fn return_law<B>()
-    ensures call { (a : Accesses B) (first last : ℕ) (flash : List ℕ) (k : ℕ) (cpu : Cpu) (bus mid bus' : B)
-        → IsStack a first last 2 cpu → TakesReturn a 2 cpu bus mid bus' → ComesBack a flash (op.Call k) 2 cpu bus bus' }
-    ensures relative { (a : Accesses B) (first last : ℕ) (flash : List ℕ) (k : ℤ) (cpu : Cpu) (bus mid bus' : B)
-        → IsStack a first last 2 cpu → TakesReturn a 1 cpu bus mid bus' → ComesBack a flash (op.Rcall k) 1 cpu bus bus' }
-    ensures indirect { (a : Accesses B) (first last : ℕ) (flash : List ℕ) (cpu : Cpu) (bus mid bus' : B)
-        → IsStack a first last 2 cpu → TakesReturn a 1 cpu bus mid bus' → ComesBack a flash op.Icall 1 cpu bus bus' }
+    ensures call { (a : Accesses B) (sound : B → Bool) (first last : ℕ) (flash : List ℕ) (k : ℕ) (cpu : Cpu) (bus mid bus' : B)
+        → IsStack a sound first last 2 cpu → sound bus ≡ true → TakesReturn a 2 cpu bus mid bus' → ComesBack a flash (op.Call k) 2 cpu bus bus' }
+    ensures relative { (a : Accesses B) (sound : B → Bool) (first last : ℕ) (flash : List ℕ) (k : ℤ) (cpu : Cpu) (bus mid bus' : B)
+        → IsStack a sound first last 2 cpu → sound bus ≡ true → TakesReturn a 1 cpu bus mid bus' → ComesBack a flash (op.Rcall k) 1 cpu bus bus' }
+    ensures indirect { (a : Accesses B) (sound : B → Bool) (first last : ℕ) (flash : List ℕ) (cpu : Cpu) (bus mid bus' : B)
+        → IsStack a sound first last 2 cpu → sound bus ≡ true → TakesReturn a 1 cpu bus mid bus' → ComesBack a flash op.Icall 1 cpu bus bus' }
+{}
+
+/// The SRAM of a node is such a memory, from 0x0100 to 0x10FF, while it has its 4,096 bytes: what is stored at an address is
+/// loaded from it, and the bytes at the others stay. A store there never stops. The SRAM has so many bytes after reset, and
+/// still has them after each cycle, up to its sample of the air and from it on; in the code its type says so of every node.
+pub fn sram_law()
+    ensures memory { IsMemory node_accesses has_sram sram_first sram_last }
+    ensures stores { (bus : NodeBus) (at x : ℕ) → sram_first ≤ at → at ≤ sram_last → bus_put bus at x ≡ Ok (with_byte at x bus) }
+    ensures reset { (byte_time : ℕ) → has_sram (reset_bus byte_time) ≡ true }
+    ensures begun { (t : ℕ) (s : NodeState) → has_sram s.bus ≡ true → has_sram (begun_in t s).bus ≡ true }
+    ensures finished { (t : ℕ) (s : NodeState) (h : Heard) → has_sram s.bus ≡ true → has_sram (finished_in t s h).bus ≡ true }
+{}
+
+/// The stack of a node, with the stack pointer in its SRAM and room for what is pushed: PUSH and then POP give a register the
+/// byte that was pushed, and RET comes back behind CALL, RCALL and ICALL, whatever the devices do meanwhile. All else of the
+/// core is as before, and what was pushed stays in the SRAM.
+pub fn node_stack_law()
+    ensures push { (flash : List ℕ) (r d : ℕ) (cpu : Cpu) (bus : NodeBus) (board : Board) → has_sram bus ≡ true → HasStack 1 cpu
+        → then_executed flash (op.Pop d) board (executed flash (op.Push r) cpu bus)
+        ≡ ended 2 (advanced 2 (with_reg d (reg r cpu) cpu)) (with_board (with_byte cpu.sp (reg r cpu) bus) board) }
+    ensures call { (flash : List ℕ) (k : ℕ) (cpu : Cpu) (bus : NodeBus) → has_sram bus ≡ true → HasStack 2 cpu
+        → NodeComesBack flash (op.Call k) 2 cpu bus }
+    ensures relative { (flash : List ℕ) (k : ℤ) (cpu : Cpu) (bus : NodeBus) → has_sram bus ≡ true → HasStack 2 cpu
+        → NodeComesBack flash (op.Rcall k) 1 cpu bus }
+    ensures indirect { (flash : List ℕ) (cpu : Cpu) (bus : NodeBus) → has_sram bus ≡ true → HasStack 2 cpu
+        → NodeComesBack flash op.Icall 1 cpu bus }
 {}
 
 /// The words that the decoded instruction takes are those that its first word says.
