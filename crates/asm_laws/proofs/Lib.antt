@@ -3,3 +3,7 @@ pub mod Parts
 pub mod Families
 pub mod Displaced
 pub mod Singles
+pub mod Cut
+pub mod Bytes
+pub mod Bounds
+pub mod Lines

@@ -6,7 +6,7 @@ use Rattle.avr_decoder.specs.Opcodes.{op_at}
 use Rattle.avr_disassembler.specs.Text.{shown, operand_text}
 use Rattle.avr_disassembler.specs.declared.parts.Operands.{Operands}
 use Rattle.avr_disassembler.specs.declared.parts.Operands.TheVariants as printed
-use Rattle.asm_words.specs.Line.{Texts, Zero, One, Two}
+use Rattle.asm_words.specs.Line.{Texts, Zero, One, Two, Said, Code}
 use Rattle.asm_words.specs.Encoded.{encoded, piece}
 use Rattle.asm_words.specs.declared.labels.Label.{Label}
 use Rattle.asm_words.specs.declared.instruction.Piece.{Piece}
@@ -25,6 +25,10 @@ texts (printed.Two a b) = Two (operand_text a) (operand_text b)
 -- what the printed mnemonic and operands of an instruction assemble to, at a word address and with these labels
 abbrev pub assembled : Op → ℕ → Labels → Result Piece WordFault
 assembled instruction at labels = encoded (shown instruction).mnemonic (texts (shown instruction).operands) at labels
+
+-- what a line says that has an instruction as it is printed, with its word address or without one
+abbrev pub code : Option ℕ → Op → Said
+code address instruction = Code address (shown instruction).mnemonic (texts (shown instruction).operands)
 
 -- the first word of an instruction, with the ignored bits of JMP and CALL 0
 abbrev pub without_ignored : Op → ℕ → ℕ

@@ -2,10 +2,12 @@
 //! disassembler are proved to compute, the contract of a function that does nothing.
 #![tactic(auto)]
 
-ghost use Rattle.std.specs.Prelude.{◌≡◌, ◌<◌, ℕ, Ok, false, true};
+ghost use Rattle.std.specs.Prelude.{◌≡◌, ◌<◌, ℕ, Ok, Some, None, false, true};
 ghost use Rattle.avr_decoder.specs.Opcodes.{op_at};
 ghost use Rattle.avr_decoder.specs.Words.{is_two_words};
-ghost use Rattle.asm_laws.specs.Printed.{Labels, assembled, one_word, two_words, without_ignored};
+ghost use Rattle.avr_disassembler.specs.Text.{line_of as printed_line, text_of};
+ghost use Rattle.asm_words.specs.Line.{line_of};
+ghost use Rattle.asm_laws.specs.Printed.{Labels, assembled, code, one_word, two_words, without_ignored};
 
 /// The printed text of an instruction assembles to its words, whatever they are, wherever the instruction stands and whatever
 /// the labels are. Of JMP and CALL the ignored bits are 0 then; the words decode to the same instruction.
@@ -16,4 +18,13 @@ pub fn instruction_law()
         → assembled (op_at word next) at labels ≡ Ok (two_words word next) }
     ensures same { (word next : ℕ) → word < 65536 → is_two_words word ≡ true
         → op_at (without_ignored (op_at word next) word) next ≡ op_at word next }
+{}
+
+/// The printed line of an instruction, with its word address or without it, is read as exactly that: its address, its
+/// mnemonic and its operands.
+pub fn line_law()
+    ensures at { (word next pc : ℕ) → word < 65536 → next < 65536 → pc < 65536
+        → line_of (printed_line pc (op_at word next)) ≡ code (Some pc) (op_at word next) }
+    ensures alone { (word next : ℕ) → word < 65536 → next < 65536
+        → line_of (text_of (op_at word next)) ≡ code None (op_at word next) }
 {}
