@@ -7,3 +7,4 @@ pub mod Cut
 pub mod Bytes
 pub mod Bounds
 pub mod Lines
+pub mod Pieces

@@ -106,6 +106,10 @@ module _ (instruction : Op) (shows : Shows instruction) where
       ∙ (λ i. code_of (address_is pc rest h i) (hex4 pc ++ 32 ∷ rest))
       ∙ ap (λ c. Code (Some pc) c.0 c.1) text_cut
 
+  pub kept_with : (pc : ℕ) → pc < 65536 → list_all is_kept (printed.line_of pc instruction) ≡ true
+  unfolding printed.line_of hex2 hex4
+  kept_with pc h = appended is_kept (hex4 pc) (32 ∷ text_of instruction) (weaker is_solid is_kept kept (hex4 pc) (hex4_solid pc h)) text_kept
+
   pub without_address : line_of (text_of instruction) ≡ code None instruction
   unfolding text_of
   without_address =

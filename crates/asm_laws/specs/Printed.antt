@@ -1,8 +1,9 @@
 -- What the text of an instruction that is printed assembles to.
-use Rattle.std.specs.Prelude.{ℕ, List, Option, Some, None, Result}
+use Rattle.std.specs.Prelude.{ℕ, if◌then◌else◌, List, Option, Some, None, Result}
 use Rattle.avr_decoder.specs.declared.op.Op.{Op}
 use Rattle.avr_decoder.specs.declared.op.Op.TheVariants as op
 use Rattle.avr_decoder.specs.Opcodes.{op_at}
+use Rattle.avr_decoder.specs.Words.{is_two_words}
 use Rattle.avr_disassembler.specs.Text.{shown, operand_text}
 use Rattle.avr_disassembler.specs.declared.parts.Operands.{Operands}
 use Rattle.avr_disassembler.specs.declared.parts.Operands.TheVariants as printed
@@ -42,3 +43,7 @@ one_word word = piece word None
 
 abbrev pub two_words : ℕ → ℕ → Piece
 two_words word next = piece (without_ignored (op_at word next) word) (Some next)
+
+-- the words of the instruction at a word and the one behind it
+abbrev pub words_at : ℕ → ℕ → Piece
+words_at word next = if is_two_words word then two_words word next else one_word word

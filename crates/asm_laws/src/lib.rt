@@ -2,12 +2,13 @@
 //! disassembler are proved to compute, the contract of a function that does nothing.
 #![tactic(auto)]
 
-ghost use Rattle.std.specs.Prelude.{◌≡◌, ◌<◌, ℕ, Ok, Some, None, false, true};
+ghost use Rattle.std.specs.Prelude.{◌≡◌, ◌+◌, ◌<◌, ◌≤◌, if◌then◌else◌, ℕ, Ok, Some, None, false, true};
 ghost use Rattle.avr_decoder.specs.Opcodes.{op_at};
 ghost use Rattle.avr_decoder.specs.Words.{is_two_words};
 ghost use Rattle.avr_disassembler.specs.Text.{line_of as printed_line, text_of};
 ghost use Rattle.asm_words.specs.Line.{line_of};
-ghost use Rattle.asm_laws.specs.Printed.{Labels, assembled, code, one_word, two_words, without_ignored};
+ghost use Rattle.asm_text.specs.Source.{piece_of};
+ghost use Rattle.asm_laws.specs.Printed.{Labels, assembled, code, one_word, two_words, without_ignored, words_at};
 
 /// The printed text of an instruction assembles to its words, whatever they are, wherever the instruction stands and whatever
 /// the labels are. Of JMP and CALL the ignored bits are 0 then; the words decode to the same instruction.
@@ -27,4 +28,11 @@ pub fn line_law()
         → line_of (printed_line pc (op_at word next)) ≡ code (Some pc) (op_at word next) }
     ensures alone { (word next : ℕ) → word < 65536 → next < 65536
         → line_of (text_of (op_at word next)) ≡ code None (op_at word next) }
+{}
+
+/// That line, with its address, has the instruction's words in a source, where it stands at that address with room for them:
+/// whatever its number and the labels are.
+pub fn one_line_law()
+    ensures { (word next pc number : ℕ) (labels : Labels) → word < 65536 → next < 65536 → pc + (if is_two_words word then 2 else 1) ≤ 65536
+        → piece_of labels number pc (line_of (printed_line pc (op_at word next))) ≡ Ok (Some (words_at word next)) }
 {}
