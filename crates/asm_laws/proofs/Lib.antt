@@ -8,3 +8,4 @@ pub mod Bytes
 pub mod Bounds
 pub mod Lines
 pub mod Pieces
+pub mod Listed
