@@ -49,7 +49,7 @@ table_shows : (n : ℕ → ℕ) (next : ℕ) → n K < 256 → n A < 256 → nex
 unfolding shown
 table_shows n next constant address second = omega arith
 
-abbrev first : ℕ → ℕ → List Row → Op
+abbrev pub first : ℕ → ℕ → List Row → Op
 first word next rows = elim rows [ [] ↦ op.Reserved word | row ∷ _ ↦ row.made (λ letter. spelled letter row.pattern word) next ]
 
 module _ (word next : ℕ) (small : word < 65536) (second : next < 65536) where

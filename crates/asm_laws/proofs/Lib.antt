@@ -9,3 +9,4 @@ pub mod Bounds
 pub mod Lines
 pub mod Pieces
 pub mod Listed
+pub mod Again

@@ -35,7 +35,7 @@ no_ignored (op.Jmp k) w h = absurd (cc)
 no_ignored (op.Call k) w h = absurd (cc)
 no_ignored _ w h = refl
 
-first_kept : (w : ℕ) → is_two_words w ≡ false → without_ignored (op_at w 0) w ≡ w
+pub first_kept : (w : ℕ) → is_two_words w ≡ false → without_ignored (op_at w 0) w ≡ w
 unfolding is_two_words
 first_kept w h = no_ignored (op_at w 0) w h
 
@@ -72,15 +72,15 @@ module _ (word : ℕ → ℕ) (small : (pc : ℕ) → word pc < 65536) where
   abbrev lines : ℕ → ℕ → List Said
   lines pc n = source.lines_of (text pc n)
 
-  next_second : (pc : ℕ) → is_second word (pc + 1) ≡ (not (is_second word pc) && is_two_words (word pc))
+  pub next_second : (pc : ℕ) → is_second word (pc + 1) ≡ (not (is_second word pc) && is_two_words (word pc))
   unfolding is_second
   next_second pc = rw add-one refl
 
   -- one more word, and two more
-  first_word : (pc : ℕ) → is_second word pc ≡ false → kept_word word pc ≡ without_ignored (op_at (word pc) 0) (word pc)
+  pub first_word : (pc : ℕ) → is_second word pc ≡ false → kept_word word pc ≡ without_ignored (op_at (word pc) 0) (word pc)
   first_word pc first = ap (λ b. if b then word pc else without_ignored (op_at (word pc) 0) (word pc)) first
 
-  second_word : (pc : ℕ) → is_second word pc ≡ true → kept_word word pc ≡ word pc
+  pub second_word : (pc : ℕ) → is_second word pc ≡ true → kept_word word pc ≡ word pc
   second_word pc second = ap (λ b. if b then word pc else without_ignored (op_at (word pc) 0) (word pc)) second
 
   words_more : (pc : ℕ) → words_to (pc + 1) ≡ words_to pc ++ kept_word word pc ∷ []
@@ -152,7 +152,7 @@ module _ (word : ℕ → ℕ) (small : (pc : ℕ) → word pc < 65536) where
   lines_second pc n second = ap (λ b. source.lines_of ((if b then [] else instruction_line word pc) ++ text (pc + 1) n)) second
 
   -- an instruction of two words has room for both
-  room : (pc end : ℕ) (t : Bool) → pc < end → end ≤ 65536 → (end ≡ 65536 → is_second word end ≡ false) → is_second word pc ≡ false → is_two_words (word pc) ≡ t → pc + (if t then 2 else 1) ≤ 65536
+  pub room : (pc end : ℕ) (t : Bool) → pc < end → end ≤ 65536 → (end ≡ 65536 → is_second word end ≡ false) → is_second word pc ≡ false → is_two_words (word pc) ≡ t → pc + (if t then 2 else 1) ≤ 65536
   room pc end false low high wraps first e = omega arith
   room pc end true low high wraps first e = elim (cases_lt (pc + 1) 65536) [
     | inl within ↦ omega arith
@@ -194,7 +194,7 @@ module _ (word : ℕ → ℕ) (small : (pc : ℕ) → word pc < 65536) where
         ∙ all_lines n (pc + 1) end (number + 1) labels (omega arith) high wraps
   ]
 
-  within : (count : ℕ) (second : Bool) → is_second word count ≡ second → (if second then count + 1 else count) ≤ 65536 → (count ≤ 65536) × (count ≡ 65536 → is_second word count ≡ false)
+  pub within : (count : ℕ) (second : Bool) → is_second word count ≡ second → (if second then count + 1 else count) ≤ 65536 → (count ≤ 65536) × (count ≡ 65536 → is_second word count ≡ false)
   within count true e h = (omega arith, λ last. absurd (omega arith))
   within count false e h = (h, λ last. e)
 
@@ -210,7 +210,7 @@ byte_small flash i h = elim (cases_lt i (length flash)) [
   | inr past ↦ rw get_or_past (omega arith)
 ]
 
-word_small : (flash : List ℕ) → All (λ b. b < 256) flash → (at : ℕ) → word_at flash at < 65536
+pub word_small : (flash : List ℕ) → All (λ b. b < 256) flash → (at : ℕ) → word_at flash at < 65536
 word_small flash h at =
     let low = byte_small flash (2 * at) h in
     let high = byte_small flash (2 * at + 1) h in

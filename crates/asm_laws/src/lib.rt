@@ -10,7 +10,7 @@ ghost use Rattle.avr_disassembler.specs.Listing.{listing_of};
 ghost use Rattle.ihex_loader.specs.Flash.{word_at};
 ghost use Rattle.asm_words.specs.Line.{line_of};
 ghost use Rattle.asm_text.specs.Source.{assembled as program, piece_of};
-ghost use Rattle.asm_laws.specs.Listed.{listed_words, listing_end};
+ghost use Rattle.asm_laws.specs.Listed.{kept_word, listed_words, listing_end};
 ghost use Rattle.asm_laws.specs.Printed.{Labels, assembled, code, one_word, two_words, without_ignored, words_at};
 
 /// The printed text of an instruction assembles to its words, whatever they are, wherever the instruction stands and whatever
@@ -42,8 +42,10 @@ pub fn one_line_law()
 
 /// The whole listing of the first words of a flash is a source that assembles to these words: as they are, but of JMP and CALL
 /// with the ignored bits 0, and where the last listed word begins an instruction of two, with its second word too. That one
-/// is in the flash, where no instruction of two words is listed at its last word, 0xFFFF.
+/// is in the flash, where no instruction of two words is listed at its last word, 0xFFFF. These words have the same listing.
 pub fn listing_law()
-    ensures { (flash : List ℕ) (count : ℕ) → All (λ b. b < 256) flash → listing_end (word_at flash) count ≤ 65536
+    ensures words { (flash : List ℕ) (count : ℕ) → All (λ b. b < 256) flash → listing_end (word_at flash) count ≤ 65536
         → program (listing_of (word_at flash) count) ≡ Ok (listed_words (word_at flash) count) }
+    ensures same { (flash : List ℕ) (count : ℕ) → All (λ b. b < 256) flash → listing_end (word_at flash) count ≤ 65536
+        → listing_of (kept_word (word_at flash)) count ≡ listing_of (word_at flash) count }
 {}
