@@ -178,3 +178,12 @@ same_op w next small two =
     (λ e f. ap (λ o. op_at (first o) next) (jmp_at w next e f) ∙ (jmp_at 37900 next refl refl ∙ sym (jmp_at w next e f)))
     (λ e f. ap (λ o. op_at (first o) next) (call_at w next e f) ∙ (call_at 37902 next refl refl ∙ sym (call_at w next e f)))
     (sym (is_two_words-by_fields w small) ∙ two)
+
+-- nor does the second word
+pub first_same : (w next : ℕ) → w < 65536 → is_two_words w ≡ true → without_ignored (op_at w next) w ≡ without_ignored (op_at w 0) w
+first_same w next small two =
+    let first : Op → ℕ = λ o. without_ignored o w in
+    by_kind (first (op_at w next) ≡ first (op_at w 0)) w
+    (λ e f. ap first (lds_at w next e f) ∙ sym (ap first (lds_at w 0 e f))) (λ e f. ap first (sts_at w next e f) ∙ sym (ap first (sts_at w 0 e f)))
+    (λ e f. ap first (jmp_at w next e f) ∙ sym (ap first (jmp_at w 0 e f))) (λ e f. ap first (call_at w next e f) ∙ sym (ap first (call_at w 0 e f)))
+    (sym (is_two_words-by_fields w small) ∙ two)

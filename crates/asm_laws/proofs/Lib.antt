@@ -3,3 +3,10 @@ pub mod Parts
 pub mod Families
 pub mod Displaced
 pub mod Singles
+pub mod Cut
+pub mod Bytes
+pub mod Bounds
+pub mod Lines
+pub mod Pieces
+pub mod Listed
+pub mod Again

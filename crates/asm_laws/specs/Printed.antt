@@ -1,12 +1,13 @@
 -- What the text of an instruction that is printed assembles to.
-use Rattle.std.specs.Prelude.{ℕ, List, Option, Some, None, Result}
+use Rattle.std.specs.Prelude.{ℕ, if◌then◌else◌, List, Option, Some, None, Result}
 use Rattle.avr_decoder.specs.declared.op.Op.{Op}
 use Rattle.avr_decoder.specs.declared.op.Op.TheVariants as op
 use Rattle.avr_decoder.specs.Opcodes.{op_at}
+use Rattle.avr_decoder.specs.Words.{is_two_words}
 use Rattle.avr_disassembler.specs.Text.{shown, operand_text}
 use Rattle.avr_disassembler.specs.declared.parts.Operands.{Operands}
 use Rattle.avr_disassembler.specs.declared.parts.Operands.TheVariants as printed
-use Rattle.asm_words.specs.Line.{Texts, Zero, One, Two}
+use Rattle.asm_words.specs.Line.{Texts, Zero, One, Two, Said, Code}
 use Rattle.asm_words.specs.Encoded.{encoded, piece}
 use Rattle.asm_words.specs.declared.labels.Label.{Label}
 use Rattle.asm_words.specs.declared.instruction.Piece.{Piece}
@@ -26,6 +27,10 @@ texts (printed.Two a b) = Two (operand_text a) (operand_text b)
 abbrev pub assembled : Op → ℕ → Labels → Result Piece WordFault
 assembled instruction at labels = encoded (shown instruction).mnemonic (texts (shown instruction).operands) at labels
 
+-- what a line says that has an instruction as it is printed, with its word address or without one
+abbrev pub code : Option ℕ → Op → Said
+code address instruction = Code address (shown instruction).mnemonic (texts (shown instruction).operands)
+
 -- the first word of an instruction, with the ignored bits of JMP and CALL 0
 abbrev pub without_ignored : Op → ℕ → ℕ
 without_ignored (op.Jmp k) word = 0x940C
@@ -38,3 +43,7 @@ one_word word = piece word None
 
 abbrev pub two_words : ℕ → ℕ → Piece
 two_words word next = piece (without_ignored (op_at word next) word) (Some next)
+
+-- the words of the instruction at a word and the one behind it
+abbrev pub words_at : ℕ → ℕ → Piece
+words_at word next = if is_two_words word then two_words word next else one_word word

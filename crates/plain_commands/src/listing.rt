@@ -2,8 +2,8 @@
 ghost use Rattle.std.specs.Prelude.{◌≡◌, ◌≤◌, ◌<◌, ◌+◌, ◌++◌, false, if◌then◌else◌};
 ghost use Rattle.arrayvec.specs.ArrayString.{array_string_len};
 ghost use Rattle.avr_decoder.specs.Words.{is_two_words};
+ghost use Rattle.avr_disassembler.specs.Listing.{instruction_line};
 ghost use Rattle.ihex_loader.specs.Flash.{word_at};
-ghost use Rattle.plain_commands.specs.Listing.{instruction_line};
 ghost use Rattle.plain_commands.specs.Plan.{DisasmJob};
 ghost use Rattle.plain_commands.specs.Ends.{stream};
 ghost use Rattle.plain_commands.specs.Parts.{JobEnds};
@@ -21,10 +21,10 @@ const PAGE_BYTES: usize = 16_384;
 const LINE_BYTES: usize = 29;
 
 // Appends the line of the instruction at the word address `pc`, and answers how many words it takes.
-#[tactic(auto, unfolding(crate::specs::Listing::instruction_line))]
+#[tactic(auto, unfolding(avr_disassembler::specs::Listing::instruction_line))]
 fn put_instruction(flash: &Flash, pc: u16, page: &mut ArrayString<PAGE_BYTES>) -> u8
     requires { array_string_len page.old + LINE_BYTES ≤ PAGE_BYTES }
-    ensures line { page.new.bytes ≡ page.old.bytes ++ instruction_line flash.now.bytes pc }
+    ensures line { page.new.bytes ≡ page.old.bytes ++ instruction_line (word_at flash.now.bytes) pc }
     ensures words { result ≡ (if is_two_words (word_at flash.now.bytes pc) then 2 else 1) }
 {
     let word = flash.word(pc);

@@ -13,7 +13,7 @@ pub loop-pc-init : goal.loop-pc-init
 loop-pc-init g c = record {
   stands = stands_first _ _ _ _ c.new-page.ensures (lines_left_all c.args.flash.now);
   count = refl;
-  first = word_0_first c.args.flash.now.bytes;
+  first = word_0_first (word_at c.args.flash.now.bytes);
   small = omega arith;
 }
 
@@ -26,17 +26,17 @@ returns-in_default g c = record {
 
 pub loop-pc-preserved : goal.loop-pc-preserved
 loop-pc-preserved g c =
-    let flash = c.args.flash.now.bytes in
+    let word = word_at c.args.flash.now.bytes in
     let pc = c.loop-pc.pc in
-    let words : c.from-pc.result ≡ (if is_two_words (word_at flash pc) then 2 else 1) = c.from-pc.ensures ∙ c.put_instruction.ensures.words in
-    let most : c.from-pc.result ≤ 2 = two_at_most (is_two_words (word_at flash pc)) c.from-pc.result words in
+    let words : c.from-pc.result ≡ (if is_two_words (word pc) then 2 else 1) = c.from-pc.ensures ∙ c.put_instruction.ensures.words in
+    let most : c.from-pc.result ≤ 2 = two_at_most (is_two_words (word pc)) c.from-pc.result words in
     let within : pc < words_used c.args.flash.now = omega arith in
     record {
       stands = stands_more _ _ _ _ _ _ _ _
           (stands_moved _ _ _ _ _ _ _ c.loop-pc.invariant.stands c.in-Ok.ensures.moved)
-          (lines_left_step flash _ pc c.from-pc.result within c.loop-pc.invariant.first words) c.put_instruction.ensures.line;
+          (lines_left_step word _ pc c.from-pc.result within c.loop-pc.invariant.first words) c.put_instruction.ensures.line;
       count = c.in-Ok.ensures.ok ∙ c.loop-pc.invariant.count;
-      first = first_step flash pc c.from-pc.result c.loop-pc.invariant.first words;
+      first = first_step word pc c.from-pc.result c.loop-pc.invariant.first words;
       small = omega arith;
     }
 
