@@ -1,13 +1,14 @@
 #!/usr/bin/env bash
 # Runs by threads where the system refuses some of them, or all: bench/refused.sh [PROGRAM] (the program that ./avrora builds
-# where absent). As nobody, with room for 1, 2, 3, 5, 9 and 64 processes and threads in all, each run has to write what a run
-# on one thread writes. It takes root, for setpriv.
+# where absent). As nobody, with room for 1, 2, 3, 5, 9 and 64 processes and threads in all, with little stack, and with an
+# address space for few stacks of threads, each run has to write what a run on one thread writes. It takes root, for setpriv.
 set -eu
 . "$(dirname "$0")/program.sh"
 cp "$program" "$work/program"
-cp "$top"/examples/*.hex "$top"/examples/*.toml "$top"/bench/make0/* "$work"
+cp "$top"/examples/*.hex "$top"/examples/*.toml "$top"/bench/make0/* "$top"/bench/ring.hex "$work"
 chmod -R a+rX "$work"
 cd "$work"
+network 64 ring 300000 "latency = 1" "byte_time = 256" >ring64.toml
 
 # limited MOST WORD ..: a run with these words where so many processes and threads are allowed.
 limited() {
@@ -16,11 +17,19 @@ limited() {
     setpriv --reuid 65534 --regid 65534 --clear-groups prlimit --nproc="$most" ./program "$@"
 }
 
-for scenario in relay.toml flood.toml make0.toml; do
+for scenario in relay.toml flood.toml make0.toml ring64.toml; do
     ./program run --plain "$scenario" >plain.out
     for most in 1 2 3 5 9 64; do
         limited "$most" run "$scenario" >limited.out
         cmp plain.out limited.out
     done
-    echo "$scenario: the same with 1, 2, 3, 5, 9 and 64 threads allowed"
+    for stack in 1024 2048; do
+        (ulimit -s "$stack" && ./program run "$scenario" >limited.out)
+        cmp plain.out limited.out
+    done
+    for space in 50000 100000 200000 400000; do
+        (ulimit -v "$space" && ./program run "$scenario" >limited.out)
+        cmp plain.out limited.out
+    done
+    echo "$scenario: the same with 1, 2, 3, 5, 9 and 64 threads allowed, with 1 and 2 MB of stack, and with 50 to 400 MB of addresses"
 done
