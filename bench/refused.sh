@@ -8,7 +8,7 @@ cp "$program" "$work/program"
 cp "$top"/examples/*.hex "$top"/examples/*.toml "$top"/bench/make0/* "$top"/bench/ring.hex "$work"
 chmod -R a+rX "$work"
 cd "$work"
-network 64 ring 300000 "latency = 1" "byte_time = 256" >ring64.toml
+network 64 ring 20000 "latency = 1" "byte_time = 256" >ring64.toml
 
 # limited MOST WORD ..: a run with these words where so many processes and threads are allowed.
 limited() {
