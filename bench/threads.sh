@@ -4,7 +4,7 @@
 # times as fast the run by threads is. The two traces are compared.
 set -eu
 . "$(dirname "$0")/program.sh"
-cp "$top"/bench/ring.hex "$top"/bench/mixed.hex "$top"/bench/network/net.hex "$top"/bench/make0/* "$top"/examples/flood.hex "$work"
+cp "$top"/bench/ring.hex "$top"/bench/mixed.hex "$top"/bench/sleep.hex "$top"/bench/network/net.hex "$top"/bench/make0/* "$top"/examples/flood.hex "$work"
 cd "$work"
 
 # timed OUT WORD ..: the seconds on the wall of a run with these words.
@@ -46,3 +46,7 @@ network 8 ring 2000000 "latency = 1" "byte_time = 256" >close8.toml
 report "ring of 8, latency 1, byte time 256" close8.toml
 network 64 ring 200000 "latency = 1" "byte_time = 256" >close64.toml
 report "ring of 64, latency 1, byte time 256" close64.toml
+network 8 sleep 100000000 "latency = 3072" "byte_time = 3072" >sleep8.toml
+report "8 nodes asleep but for a timer, 100 million cycles" sleep8.toml
+network 64 sleep 20000000 "latency = 3072" "byte_time = 3072" >sleep64.toml
+report "64 nodes asleep but for a timer, 20 million cycles" sleep64.toml
