@@ -7,7 +7,6 @@ ghost use Rattle.fleet_threads.specs.Nodes.{IsHanded, AreBegun, AreBack};
 
 use crate::gate::Gate;
 use crate::member::{Member, Sampling};
-use core::thread::Stack;
 use crossbeam_utils::Backoff;
 use neighbour_sync::{Session, Shared};
 use node_runner::Scenario;
@@ -16,10 +15,6 @@ use std::sync::Wait;
 use std::sync::atomic::{AtomicU64, Ordering};
 use std::thread;
 use std::thread::{Promise, PromisedHandle, Scope, Threads};
-
-// The bytes of a thread's stack, of which a node takes a tenth. By default it would be the system's 8 MB, so that the threads of
-// 64 nodes would want half a gigabyte of addresses.
-const STACK: usize = 262_144;
 
 /// The number of no node: none was refused yet.
 const NOBODY: u64 = u64::MAX;
@@ -152,8 +147,7 @@ fn begin<'s, E, N: Session + Send + Sync, R: Threads + Wait + Sync, G: Gate + Sy
         end,
         of: PhantomData,
     };
-    let stack = Stack::new().stack_size(STACK);
-    match stack.spawn_scoped_with(scope, promise, move || {
+    match scope.spawn_with(promise, move || {
         work_unless_refused(rt, shared, gate, scenario, refused, end, member)
     }) {
         Ok(child) => Ok(child),
