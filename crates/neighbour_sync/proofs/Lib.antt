@@ -10,3 +10,4 @@ pub mod Seating
 pub mod Seeing
 pub mod Trying
 pub mod Telling
+pub mod Shown

@@ -13,3 +13,4 @@ pub mod Told
 pub mod Looks
 pub mod Tries
 pub mod Waits
+pub mod Shows

@@ -10,6 +10,7 @@
 mod answers;
 mod clocks;
 mod cutting;
+mod law;
 mod layout;
 mod loading;
 mod looking;
@@ -26,6 +27,7 @@ mod steps;
 pub use answers::{Behind, Passed, Posted, Tried};
 pub use clocks::Clocks;
 pub use cutting::cut_when_passed;
+pub use law::state_law;
 pub use node::NodeAir;
 pub use opening::open_air;
 pub use record::Air;

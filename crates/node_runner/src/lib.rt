@@ -7,10 +7,12 @@
 //! the single global order.
 #![tactic(auto)]
 
+mod law;
 mod order;
 mod runner;
 mod scenario;
 
+pub use law::order_law;
 pub use order::sort;
 pub use runner::{Event, Runner};
 pub use scenario::Scenario;

@@ -66,7 +66,7 @@ hears a x (Take (Post k) ∷ xs) i right reached may late = hears (after_post a 
 hears a x (Take (Sample j s) ∷ xs) i right reached may late = hears (after_sample a j s) x xs (step_keeps a (Sample j s) i may.0) right reached may.1 late
 hears a x (Cut f ∷ xs) i right reached may late = hears (after_cut a f) x xs (cut_keeps a f i may.0) right reached may.1 late
 
-for_good : (a : AirState) → IsConsistent a → All (IsForGood a) a.samples
+pub for_good : (a : AirState) → IsConsistent a → All (IsForGood a) a.samples
 for_good a i k d lt =
     let x : Ask × Heard = get_or a.samples k d in
     let final = i.recorded.final k d lt in

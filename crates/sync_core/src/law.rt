@@ -13,6 +13,8 @@ ghost use Rattle.sync_core.specs.Moves.{Move, MayMoveAll, after_moves, IsForGood
 pub fn any_order_law()
     ensures consistent { (w : WorldFacts) (moves : List Move) → IsLawful w → MayMoveAll (opening w) moves → IsConsistent (after_moves (opening w) moves) }
     ensures for_good { (w : WorldFacts) (moves : List Move) → IsLawful w → MayMoveAll (opening w) moves → All (IsForGood (after_moves (opening w) moves)) (after_moves (opening w) moves).samples }
+    ensures keeps { (a : AirState) (moves : List Move) → IsConsistent a → MayMoveAll a moves → IsConsistent (after_moves a moves) }
+    ensures from_any { (a : AirState) → IsConsistent a → All (IsForGood a) a.samples }
 {}
 
 /// Nobody is stuck. In every consistent state the node that is furthest behind may take a sample in the cycle of its clock, where
