@@ -28,7 +28,9 @@ fn do_parts<R: Files + AllocGlobal, O: Sink>(
         "sources" => instruction_facts::do_sources(rt, file, out),
         "scenarios" => run_facts::do_scenarios(rt, file, out),
         "nodes" => run_facts::do_nodes(rt, file, out),
+        "profiles" => run_facts::do_profiles(rt, file, out),
         "samples" => run_facts::do_samples(rt, file, out),
+        "sniffs" => run_facts::do_sniffs(rt, file, out),
         _ => Err(Failed),
     }
 }

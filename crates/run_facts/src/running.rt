@@ -67,3 +67,20 @@ pub fn run_trial<'l>(alloc: Global, image: &[u8], trial: Trial<'l>) -> Option<Ru
         rows: node.into_rows(),
     })
 }
+
+/// The rows of a run of an image below a limit, on a node at which nothing arrives; of its instructions and entries those of a
+/// window.
+pub fn rows_in(alloc: Global, image: &[u8], limit: u32, from: u32, until: u32) -> Option<Vec<Row>> {
+    if from > until {
+        return None;
+    }
+    let limit = u64::from(limit);
+    let window = (u64::from(from), u64::from(until));
+    let script = Script::new(0, 1, Vec::new(alloc));
+    let program = Program::new(alloc, load(alloc, image).ok()?).ok()?;
+    let mut node = Node::new(alloc, 0, program, script, window, BYTE_TIME).ok()?;
+    for _ in 0..TURNS {
+        turn(&mut node, limit);
+    }
+    Some(node.into_rows())
+}

@@ -1,0 +1,5 @@
+mod Heads
+mod Behind
+pub mod Cuts
+mod Opens
+mod Walks

@@ -1,0 +1,3 @@
+pub mod Head
+pub mod Frames
+pub mod Sniffed

@@ -1,0 +1,5 @@
+pub mod Counts
+pub mod Owners
+pub mod Rooms
+pub mod Steps
+pub mod Tables

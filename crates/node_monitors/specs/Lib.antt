@@ -1,0 +1,5 @@
+pub mod Account
+pub mod Owner
+pub mod Spent
+pub mod Sums
+pub mod Taken
