@@ -37,7 +37,6 @@ pub fn send_all<N: Session, R: Wait>(
         let next = send.cycle + 1;
         if node.clock() <= next {
             node.raise(shared, next);
-            node.wake(shared);
         }
     }
     node

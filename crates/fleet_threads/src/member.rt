@@ -11,10 +11,6 @@ use std::sync::Wait;
 // The cycles of one turn of a node, at most.
 const QUANTUM: u64 = 1_024;
 
-// How many turns a node takes, at most, before it wakes those who sleep until it has got further. A wake that finds nobody
-// costs about a fortieth of what as many cycles of a node that sleeps cost.
-const WAKE_TURNS: u64 = 16;
-
 /// A node: its runner, its part of the air, the number of its next turn, and the least number of cycles from one of its sends
 /// to the next, which is the byte time.
 pub struct Member {
@@ -131,7 +127,6 @@ impl Member {
         let free = sent.saturating_add(self.gap).min(end);
         let clock = free.max(self.air.clock());
         self.air.raise(shared, clock);
-        self.air.wake(shared);
     }
 
     // Finishes the cycle in which the node samples, if it may be told what it hears.
@@ -182,7 +177,6 @@ impl Member {
             }
             Event::NoMemory => self.halt(shared, scenario, end),
             Event::Ask { .. } => {}
-            Event::Turn { .. } if self.turn % WAKE_TURNS == 0 => self.air.wake(shared),
             Event::Turn { .. } => {}
             Event::Ended => {}
         }
@@ -208,11 +202,9 @@ impl Member {
         }
         self.raise(shared, scenario, end);
         if !self.runner.is_live(end) {
-            self.air.wake(shared);
             return true;
         }
         if self.runner.asking() {
-            self.air.wake(shared);
             self.sample(rt, shared, scenario, end, sampling);
         } else {
             self.run(rt, shared, gate, scenario, end);

@@ -1,18 +1,18 @@
 -- What each call owes to the table, from what the fields of the words and of the seat keep.
-use Rattle.std.proofs.Common.{◌≡◌, ℕ, ◌+◌, ◌<◌, ◌≤◌, List, length, sym, subst, ◌∙◌, ap, arith}
+use Rattle.std.proofs.Common.{◌≡◌, ℕ, ◌+◌, ◌<◌, ◌≤◌, min, List, length, sym, subst, ◌∙◌, ap, arith}
 use mathlib.Core.Option.{none}
 use Rattle.atomic_table.specs.Table.{step, Allows}
 use Rattle.atomic_table.specs.Seated.{TableId}
 use Rattle.world_core.specs.declared.world.WorldFacts.{WorldFacts}
 use Rattle.world_core.specs.Sends.{sends_of, sends_below}
 use Rattle.world_core.specs.Posted.{sent_of}
-use Rattle.neighbour_sync.specs.Layout.{clock_at, sent_at, halt_at}
+use Rattle.neighbour_sync.specs.Layout.{clock_at, sent_at, want_at, halt_at}
 use Rattle.neighbour_sync.specs.Rule.{KeepsRule}
-use Rattle.neighbour_sync.specs.Steps.{clock_loaded, clock_peeked, clock_raised, sent_stored, sent_seen, halt_stored, halt_loaded}
+use Rattle.neighbour_sync.specs.Steps.{clock_loaded, clock_peeked, clock_raised, sent_stored, sent_seen, want_left, halt_stored, halt_loaded}
 use Rattle.neighbour_sync.specs.Inside.{IsLaid, IsAirSeat, IsNodeSeat}
-use Rattle.neighbour_sync.specs.Asks.{MayLoad, MayStore}
+use Rattle.neighbour_sync.specs.Asks.{MayLoad, MayStore, MayLower}
 use Rattle.neighbour_sync.proofs.Views.{Seat}
-use Rattle.neighbour_sync.proofs.NodeSteps.{peeks, raises, sees, stops, asks}
+use Rattle.neighbour_sync.proofs.NodeSteps.{peeks, raises, sees, wants, stops, asks}
 use Rattle.neighbour_sync.proofs.AirSteps.{loads, counts}
 
 words_same : (z mine : TableId) → mine ≡ z → mine.words ≡ z.words
@@ -39,7 +39,7 @@ may_store_sent w z mine id nodes k i c me sent same laid seat lt further at is =
           (counts w z.slots id k me seat.is_air (omega arith) (subst (λ (l : List ℕ). sent_of l k < length (sends_of k me.0.world.sends)) (sym seat.sent_is) further)));
     }
 
--- the five steps of a node's seat
+-- the six steps of a node's seat
 module _ (w : WorldFacts) (z mine : TableId) (id nodes number clock told : ℕ) (me : Seat) (same : mine ≡ z) (laid : IsLaid z.words nodes w) (seat : IsNodeSeat mine.words me number clock told) where
   nodes_same : me.0.world.topo.nodes ≡ w.topo.nodes
   nodes_same = let e = words_same z mine same in omega (arith, seat.words_is, laid.words_is, laid.nodes_is)
@@ -61,6 +61,22 @@ module _ (w : WorldFacts) (z mine : TableId) (id nodes number clock told : ℕ) 
       let n = nodes_same in
       let at' : sent_at w.topo.nodes me.0.number ≡ i = let q = seat.number_is in let r = laid.nodes_is in omega arith in
       record { same = same; inside = omega (arith, laid.words_is, laid.nodes_is, seat.below); allowed = subst (λ (m : ℕ). Allows (KeepsRule w) z.slots id me m (λ x. x) (sent_seen (step z.slots m 0 0 none) me)) at' (sees w z.slots id me seat.is_node) }
+
+  -- a look at its own want word, with no seat
+  pub may_look : (i : ℕ) → i ≡ want_at nodes number → i < z.words
+  may_look i at = let n = nodes_same in omega (arith, laid.words_is, laid.nodes_is, seat.below)
+
+  pub may_clear : (i c : ℕ) → i ≡ want_at nodes number → MayStore w z mine id me i c want_left
+  may_clear i c at =
+      let n = nodes_same in
+      let at' : want_at w.topo.nodes number ≡ i = let r = laid.nodes_is in omega arith in
+      let lt : number < w.topo.nodes = let q = seat.below in omega arith in
+      record { same = same; inside = may_look i at; allowed = subst (λ (m : ℕ). Allows (KeepsRule w) z.slots id me m (λ _. c) (λ _. want_left (step z.slots m c 0 none) me c)) at' (wants w z.slots id number (λ _. c) me seat.is_node lt) }
+
+  pub may_want : (k i c : ℕ) → k < w.topo.nodes → i ≡ want_at nodes k → MayLower w z mine id me i c want_left
+  may_want k i c lt at =
+      let at' : want_at w.topo.nodes k ≡ i = let r = laid.nodes_is in omega arith in
+      record { same = same; inside = omega (arith, laid.words_is, laid.nodes_is); allowed = subst (λ (m : ℕ). Allows (KeepsRule w) z.slots id me m (λ x. min x c) (want_left (step z.slots m c 0 none) me)) at' (wants w z.slots id k (λ x. min x c) me seat.is_node lt) }
 
   pub may_halt : (i : ℕ) → i ≡ halt_at nodes → MayStore w z mine id me i 1 halt_stored
   may_halt i at =

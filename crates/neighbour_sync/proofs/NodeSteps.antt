@@ -1,4 +1,4 @@
--- The five kinds of step of a node's seat keep the rule.
+-- The six kinds of step of a node's seat keep the rule.
 use Rattle.std.proofs.Common.{◌≡◌, ℕ, suc, ◌<◌, ◌≤◌, ◌≢◌, ⊎_elim, true, false, List, length, get_or, set, refl, sym, subst, ◌∙◌, ap, arith, length-set}
 use Rattle.std.proofs.lemmas.List.{set-get_or}
 use mathlib.Core.Option.{some, none}
@@ -10,7 +10,7 @@ use Rattle.world_core.specs.declared.world.WorldFacts.{WorldFacts}
 use Rattle.world_core.specs.Sends.{sends_below}
 use Rattle.world_core.specs.Posted.{sent_of}
 use Rattle.neighbour_sync.specs.declared.rule.View.{View}
-use Rattle.neighbour_sync.specs.Layout.{clock_at, sent_at, halt_at, line_of}
+use Rattle.neighbour_sync.specs.Layout.{clock_at, sent_at, want_at, halt_at, line_of}
 use Rattle.neighbour_sync.specs.Rule.{IsNodeView, KeepsRule}
 use Rattle.neighbour_sync.specs.Steps.{with_load, with_clock, with_told, with_stop, with_halt, clock_peeked, clock_raised, sent_seen, halt_stored, halt_loaded}
 use Rattle.neighbour_sync.proofs.Words.{here, beside, has_place}
@@ -201,3 +201,35 @@ stops w slots id me t =
     let i = halt_at w.topo.nodes in
     node_allowed w slots id i (λ _. 1) me (λ _. halt_stored (step slots i 1 0 none) me 1) t
     (λ s h at. (with_stop me.0, follows_keep w s me.0 (with_stop me.0) (set s.words i 1) h at (stopped w s me.0 h at t), refl))
+
+-- the rule names no want word: whatever one becomes, nothing else does
+unnamed : (w : WorldFacts) (s : Table) (v : View) (k c : ℕ) (h : KeepsRule w s) → get_elem? s.views (suc v.number) ≡ some v → v.is_air ≡ false → k < w.topo.nodes
+    → Follows w s h.air.sent v v (set s.words (want_at w.topo.nodes k) c)
+unnamed w s v k c h at t kt =
+    let n = w.topo.nodes in
+    let i = want_at n k in
+    let lt = seat_inside w s v.number v h at in
+    let old = h.nodes v.number v at in
+    let halt = beside s.words i (halt_at n) c (λ q. absurd (omega arith)) in
+    record {
+      len = length-set s.words i c;
+      is_node = t;
+      world = refl;
+      number = refl;
+      told = old.told;
+      clock = beside s.words i (clock_at v.number) c (λ q. absurd (omega arith)) ∙ old.clock;
+      within = subst (λ (m : ℕ). m ≤ w.topo.limit) old.clock (h.within v.number lt);
+      passed = subst (λ (m : ℕ). sends_below w.sends v.number m ≤ sent_of h.air.sent v.number) old.clock (h.passed v.number lt);
+      stopped = λ e. halt ∙ old.stopped e;
+      clocks = λ j d jt. beside s.words i (clock_at j) c (λ q. absurd (omega arith));
+      sents = λ j jt. beside s.words i (sent_at n j) c (λ q. absurd (omega arith));
+      halt = let a = h.halt in omega arith;
+      halts = λ e. halt ∙ e;
+    }
+
+pub wants : (w : WorldFacts) (slots id k : ℕ) (f : ℕ → ℕ) (me : Seat) → me.0.is_air ≡ false → k < w.topo.nodes → Allows (KeepsRule w) slots id me (want_at w.topo.nodes k) f (λ _ new. new ≡ me)
+wants w slots id k f me t kt =
+    let i = want_at w.topo.nodes k in
+    node_allowed w slots id i f me (λ _ new. new ≡ me) t
+    (λ s h at. let c = f (get_or s.words i 0) in
+    (me.0, follows_keep w s me.0 me.0 (set s.words i c) h at (unnamed w s me.0 k c h at t kt), refl))

@@ -1,5 +1,5 @@
--- What a load and a store of a word owe to the table.
-use Rattle.std.specs.Prelude.{◌≡◌, ℕ, ◌<◌}
+-- What a step on a word owes to the table.
+use Rattle.std.specs.Prelude.{◌≡◌, ℕ, ◌<◌, min}
 use mathlib.Core.Option.{none}
 use Rattle.atomic_table.specs.Table.{Me, step, Allows}
 use Rattle.atomic_table.specs.Seated.{TableId}
@@ -19,3 +19,9 @@ pub record MayStore (w : WorldFacts) (z mine : TableId) (id : ℕ) (me : Me (Uni
   pub same : mine ≡ z
   pub inside : i < z.words
   pub allowed : Allows (KeepsRule w) z.slots id me i (λ _. c) (λ _. then (step z.slots i c 0 none) me c)
+
+-- it may lower the word there to c, where it is higher
+pub record MayLower (w : WorldFacts) (z mine : TableId) (id : ℕ) (me : Me (Unit {0}) View) (i c : ℕ) (then : Telling) : Type 0 where
+  pub same : mine ≡ z
+  pub inside : i < z.words
+  pub allowed : Allows (KeepsRule w) z.slots id me i (λ n. min n c) (then (step z.slots i c 0 none) me)

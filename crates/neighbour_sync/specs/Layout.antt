@@ -9,16 +9,19 @@ word_at i = 8 * i
 abbrev pub line_of : ℕ → ℕ
 line_of word = word / 8
 
--- the clock of node k, the number of its posted sends, and the halt
+-- the clock of node k, the number of its posted sends, the least cycle that somebody wants its clock to pass, and the halt
 abbrev pub clock_at : ℕ → ℕ
 clock_at k = word_at k
 
 abbrev pub sent_at : ℕ → ℕ → ℕ
 sent_at n k = word_at (n + k)
 
+abbrev pub want_at : ℕ → ℕ → ℕ
+want_at n k = word_at (n + n + k)
+
 abbrev pub halt_at : ℕ → ℕ
-halt_at n = word_at (n + n)
+halt_at n = word_at (n + n + n)
 
 -- all words, used or not
 abbrev pub word_count : ℕ → ℕ
-word_count n = word_at (n + n + 1)
+word_count n = word_at (n + n + n + 1)

@@ -26,6 +26,7 @@ pub record IsNodeView (w : WorldFacts) (words : List ℕ) (k : ℕ) (v : View) :
   pub stopped : v.stopped ≡ true → slice_index words (halt_at w.topo.nodes) ≡ 1
 
 -- The first seat is the air's. Behind it stand the seats of the nodes 0, 1, .. in order, one each, as many as the air's seat has made.
+-- Nothing is said of the want words, and nothing rests on them: they only tell whom to wake.
 pub record KeepsRule (w : WorldFacts) (s : State (Unit {0}) View) : Type 0 where
   pub words : length s.words ≡ word_count w.topo.nodes
   pub air : View

@@ -1,4 +1,4 @@
--- The eight kinds of step, and what each tells the seat that takes it. Own to this simulator.
+-- The nine kinds of step, and what each tells the seat that takes it. Own to this simulator.
 use Rattle.std.specs.Prelude.{◌≡◌, ℕ, ◌+◌, ◌-◌, ◌≤◌, true, [], ◌∷◌, ◌++◌, slice_set}
 use Rattle.atomic_table.specs.Table.{Me, Step}
 use Rattle.world_core.specs.Sends.{sends_below}
@@ -50,6 +50,10 @@ with_told v n = record v { told = n }
 
 abbrev pub sent_seen : Telling
 sent_seen s me found new = (new ≡ (with_told me.0 found, me.1)) × (me.0.told ≤ found)
+
+-- want: a want word is lowered or stored, which tells nothing and leaves the seat as it is
+abbrev pub want_left : Telling
+want_left s me found new = new ≡ me
 
 -- store halt
 abbrev pub with_stop : View → View

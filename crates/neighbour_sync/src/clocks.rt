@@ -2,11 +2,11 @@
 ghost use Rattle.std.specs.Prelude.{◌≡◌};
 ghost use mathlib.Core.Option.{none};
 ghost use Rattle.atomic_table.specs.Table.{step};
-ghost use Rattle.neighbour_sync.specs.Asks.{MayLoad, MayStore};
+ghost use Rattle.neighbour_sync.specs.Asks.{MayLoad, MayStore, MayLower};
 
-use crate::layout::{clock_word, halt_word, sent_word};
+use crate::layout::{clock_word, halt_word, sent_word, want_word};
 use crate::rule::{
-    ClockRule, LoadClock, LoadHalt, PeekClock, Raise, SeeSent, StoreHalt, StoreSent, View,
+    ClockRule, LoadClock, LoadHalt, PeekClock, Raise, SeeSent, StoreHalt, StoreSent, View, Want,
 };
 use crate::seats::{AirSeat, NodeSeat};
 use atomic_table::{Play, Seat, Table};
@@ -17,14 +17,30 @@ use std::sync::Wait;
 use std::time::Duration;
 use world_core::World;
 
-// The longest sleep of one call, in milliseconds: how late a halt is seen, and a raise behind which nobody was woken.
+// The longest sleep of one call, in milliseconds: how late a halt is seen.
 const LONGEST_SLEEP: u64 = 10;
+
+// What a want word shows while nobody waits: a cycle that no clock passes.
+const NOBODY: u64 = u64::MAX;
 
 pub(crate) type Words<W> = Table<(), View, Snapshot<W>, ClockRule, Global>;
 
-/// The clock words of the nodes of a world, which threads share by reference. Each call with a seat is one step: it waits for
-/// no one and takes no memory, and the seat is of the same table, lent by whoever has it. `sleep_at` waits for a word to
-/// change, `wake` ends such sleeps; they are no steps, and change no word.
+/// The clock words of the nodes of a world, which threads share by reference. Each call with a seat is one step, and `raise` a
+/// second one where it wakes somebody: it waits for no one, but for `sleep_until_past`, and takes no memory, and the seat is
+/// of the same table, lent by whoever has it.
+///
+/// *Why no wake is lost.* All steps on the words, loads too, are sequentially consistent: they stand in one order, in which
+/// each thread's stand as it takes them. Who is about to sleep lowers the want word of the node for which it waits and then
+/// looks at that node's clock (`sleep_until_past`). The node stores its clock and then looks at its want word (`raise`). So
+/// where the look at the clock comes before the store, the want stands in the word before the node looks there. If the node
+/// has passed it, it clears the word, and wakes all who sleep there behind that. A sleep begins only while the word still
+/// shows what it showed with this want in it, and the system compares and goes to sleep in one step, in which no wake falls:
+/// where the word was cleared before, the sleep ends at once, and where it is cleared later, the wake behind that finds it.
+/// A want that is cleared unseen, or that was not passed yet, is not lost either: its sleep ends the same way, and it is put
+/// there anew. Where another has lowered the word meanwhile, the sleep ends at once too, or begins at a want that is no
+/// higher than its own, and so is passed no later. (The system compares the low half of the word. The wants of one epoch lie
+/// closer than that, and one of an earlier epoch is below the clock, so the node's next raise clears it; a want whose low half
+/// is that of `NOBODY`, one in each 4,294,967,296 cycles, could sleep for its 10 ms.)
 pub struct Clocks<W: World> {
     table: Words<W>,
     nodes: u8,
@@ -56,6 +72,19 @@ fn get<W: World, M: Play<(), View>>(words: &Words<W>, seat: &mut Seat<(), View>,
     words.shared.load::<M>(seat, word)
 }
 
+// Lowers a word to this number, where it is higher, by a step of this kind. What it showed before.
+fn lower<W: World, M: Play<(), View>>(
+    words: &Words<W>,
+    seat: &mut Seat<(), View>,
+    word: usize,
+    new: u64,
+) -> u64
+    requires { MayLower (W.facts words.now.shared.key.value) words.now.shared.table_id seat.old.table_id seat.old.id seat.old.me word new M.then }
+    ensures { (seat.new.table_id ≡ seat.old.table_id) × (seat.new.id ≡ seat.old.id) × M.then (step words.now.shared.table_id.slots word new 0 none) seat.old.me result seat.new.me }
+{
+    words.shared.fetch_min::<M>(seat, word, new)
+}
+
 // Stores a number in a word by a step of this kind.
 fn put<W: World, M: Play<(), View>>(
     words: &Words<W>,
@@ -85,9 +114,8 @@ impl<W: World> Clocks<W> {
         Clocks { table, nodes }
     }
 
-    /// Raises the clock of the seat's node to this cycle, so that others need not wait for the node's sends below it.
-    /// The clock may not fall or pass the limit, and the seat has to have seen that all its sends below it are posted.
-    pub fn raise(&self, seat: &mut NodeSeat, clock: u64)
+    // Stores the clock of the seat's node.
+    fn store_clock(&self, seat: &mut NodeSeat, clock: u64)
         requires table { seat.old.table ≡ self.now.table }
         requires rises { seat.old.clock ≤ clock }
         requires within { clock ≤ seat.old.world.topo.limit }
@@ -97,6 +125,35 @@ impl<W: World> Clocks<W> {
         let word = clock_word(seat.number());
         put::<_, Raise>(&self.table, &mut seat.seat, word, clock);
         seat.clock = clock;
+    }
+
+    // Wakes those who sleep until the clock of the seat's node has passed a cycle, if it has passed the least of those cycles.
+    // While it has not, this is one load. One who wants a later cycle is woken with them, and sleeps again.
+    fn serve(&self, seat: &mut NodeSeat)
+        requires { seat.old.table ≡ self.now.table }
+        ensures { seat.new ≡ seat.old }
+    {
+        let word = want_word(self.nodes, seat.number());
+        if self.table.shared.peek(word) < seat.clock {
+            put::<_, Want>(&self.table, &mut seat.seat, word, NOBODY);
+            self.table.shared.wake_all(word);
+        }
+    }
+
+    /// Raises the clock of the seat's node to this cycle, so that others need not wait for the node's sends below it, and wakes
+    /// those who sleep until it is there (`sleep_until_past`). Where the clock stands there already it does nothing.
+    /// The clock may not fall or pass the limit, and the seat has to have seen that all its sends below it are posted.
+    pub fn raise(&self, seat: &mut NodeSeat, clock: u64)
+        requires table { seat.old.table ≡ self.now.table }
+        requires rises { seat.old.clock ≤ clock }
+        requires within { clock ≤ seat.old.world.topo.limit }
+        requires told { sends_below seat.old.world.sends seat.old.number clock ≤ seat.old.told }
+        ensures { seat.new ≡ node_raised seat.old clock }
+    {
+        if seat.clock < clock {
+            self.store_clock(seat, clock);
+            self.serve(seat);
+        }
     }
 
     /// The clock of a node, a cycle: all sends of the node below it are posted, and counted by this seat.
@@ -133,25 +190,32 @@ impl<W: World> Clocks<W> {
         seat.sent[usize::from(node)] = count;
     }
 
-    /// Sleeps while the clock word of a node shows the cycle that was seen there, until it is woken (`wake`) and for 10 ms at
-    /// most. It may return at any time, as it does where there is no such node, and nothing follows from it.
-    pub fn sleep_at<R: Wait>(&self, rt: &R, node: u8, seen: u64) {
-        if node < self.nodes {
-            // The system compares the low half of the word, which changes with each raise of an epoch.
-            let low_half = (seen & u64::from(u32::MAX)) as u32;
+    // Says that somebody wants the clock of a node to pass this cycle. The least cycle that anybody wants it to pass.
+    fn want(&self, seat: &mut NodeSeat, node: u8, cycle: u64) -> u64
+        requires table { seat.old.table ≡ self.now.table }
+        requires node { node < self.now.world.topo.nodes }
+        ensures { seat.new ≡ seat.old }
+    {
+        let word = want_word(self.nodes, node);
+        lower::<_, Want>(&self.table, &mut seat.seat, word, cycle).min(cycle)
+    }
+
+    /// Sleeps until the clock of a node has passed this cycle, and for 10 ms at most. It may return at any time, as it does where
+    /// there is no such node, and nothing follows from it.
+    pub fn sleep_until_past<R: Wait>(&self, rt: &R, seat: &mut NodeSeat, node: u8, cycle: u64)
+        requires { seat.old.table ≡ self.now.table }
+        ensures { seat.new ≡ seat.old }
+    {
+        if node >= self.nodes {
+            return;
+        }
+        let wanted = self.want(seat, node, cycle);
+        if self.table.shared.peek(clock_word(node)) <= cycle {
+            let low_half = (wanted & u64::from(u32::MAX)) as u32;
             let longest = Duration::from_millis(LONGEST_SLEEP);
             self.table
                 .shared
-                .park_timeout(rt, clock_word(node), low_half, longest);
-        }
-    }
-
-    /// Wakes those who sleep at the clock of a node (`sleep_at`). A raise wakes nobody, since a wake is a call of the system
-    /// and costs some twenty raises: a node wakes the others before it waits itself, and now and then. It does nothing where
-    /// there is no such node.
-    pub fn wake(&self, node: u8) {
-        if node < self.nodes {
-            self.table.shared.wake_all(clock_word(node));
+                .park_timeout(rt, want_word(self.nodes, node), low_half, longest);
         }
     }
 

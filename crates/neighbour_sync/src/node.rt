@@ -1,36 +1,12 @@
 // What a node does with the shared air.
+use crate::NodeSeat;
 use crate::answers::{Passed, Tried};
 use crate::session::Session;
 use crate::shared::Shared;
 use crate::steps::{record, see_posted, try_once};
-use crate::{Clocks, NodeSeat};
-use crossbeam_utils::Backoff;
 use std::marker::Model;
 use std::sync::{Arc, Wait};
 use world_core::{Send, Topo, World};
-
-// How often a node that waits looks again before it sleeps, and twice as long after each look: some microseconds in all, about
-// what a sleep and its wake cost.
-const LOOKS: u32 = 6;
-
-// Lets some time pass between two looks at the clock of a node, which showed this cycle. How often it was looked at so far, and
-// by now.
-fn pause<W: World, R: Wait>(
-    rt: &R,
-    clocks: &Clocks<W>,
-    backoff: &Backoff,
-    looks: u32,
-    node: u8,
-    clock: u64,
-) -> u32 {
-    if looks < LOOKS {
-        backoff.spin();
-        looks + 1
-    } else {
-        clocks.sleep_at(rt, node, clock);
-        looks
-    }
-}
 
 /// A node's part of the air: its seat at the clock words, and the topology, by which it sees for whom it has to wait. All nodes
 /// hold one topology together.
@@ -96,8 +72,8 @@ impl NodeAir {
         self.seat.told()
     }
 
-    /// Raises the node's clock to this cycle, so that others need not wait for its sends below it. It takes no lock, and
-    /// wakes nobody (`wake`).
+    /// Raises the node's clock to this cycle, so that others need not wait for its sends below it, and wakes those who sleep until
+    /// it is there (`sample_when_passed`). It takes no lock.
     /// The clock may not fall or pass the limit, and the node has to have seen that all its sends below it are posted.
     pub fn raise<W: World, N: Session>(&mut self, shared: &Shared<W, N>, clock: u64)
         requires session { (self.old.table ≡ N.table) × (self.old.world ≡ N.world) }
@@ -150,11 +126,27 @@ impl NodeAir {
         try_once(rt, shared, &mut self.seat, &self.topo, cycle)
     }
 
+    // Sleeps until the clock of that node is past the last cycle whose sends may be heard in this one.
+    fn sleep<W: World, N: Session, R: Wait>(
+        &mut self,
+        rt: &R,
+        shared: &Shared<W, N>,
+        node: u8,
+        cycle: u64,
+    )
+        requires { self.old.table ≡ N.table }
+        ensures { self.new ≡ self.old }
+    {
+        let latency = self.topo.latency_of(node, self.seat.number());
+        let last = cycle.saturating_sub(latency);
+        shared
+            .clocks()
+            .sleep_until_past(rt, &mut self.seat, node, last);
+    }
+
     /// Takes one of the node's samples, not below the session's floor, as soon as the nodes that it may hear are far enough.
-    /// While it waits it looks at words, and at the lock not at all: at first again and again, in case that the one it waits for
-    /// runs beside it, and then it sleeps at that one's clock word, so that its processor is free for others. It yields to nobody: a
-    /// yield gives the rest of a time slice to whatever else the machine is at. `Halted` only where its last look at the halt gave 1, and
-    /// no earlier one did.
+    /// While it waits it looks at words, and at the lock not at all, and sleeps between its looks until the one that it waits for is
+    /// far enough. `Halted` only where its last look at the halt gave 1, and no earlier one did.
     pub fn sample_when_passed<W: World, N: Session, R: Wait>(
         &mut self,
         rt: &R,
@@ -166,24 +158,15 @@ impl NodeAir {
         requires floor { N.floor ≤ cycle }
         ensures { IsPassed N.world self.old cycle result self.new }
     {
-        let backoff = Backoff::new();
-        let mut looks = 0;
         for _ in rt.forever() {
             match self.try_sample(rt, shared, cycle) {
                 Tried::Heard(heard) => return Passed::Heard(heard),
-                Tried::NotYet { node, clock } => {
-                    looks = pause(rt, shared.clocks(), &backoff, looks, node, clock);
-                }
+                Tried::NotYet { node, .. } => self.sleep(rt, shared, node, cycle),
                 Tried::Halted => return Passed::Halted,
                 Tried::NoMemory => return Passed::NoMemory,
             }
         }
         unreachable!()
-    }
-
-    /// Wakes the nodes that sleep until this node's clock is raised (`sample_when_passed`). It takes no lock.
-    pub fn wake<W: World, N: Session>(&self, shared: &Shared<W, N>) {
-        shared.clocks().wake(self.number());
     }
 
     /// Tells all nodes to halt, for good. It takes no lock.

@@ -96,6 +96,15 @@ impl Play<(), View> for SeeSent {
     ghost then = { sent_seen };
 }
 
+/// A node's seat lowers the want word of a node for which it waits, or clears its own.
+pub struct Want;
+
+impl Play<(), View> for Want {
+    ghost use Rattle.neighbour_sync.specs.Steps.{want_left};
+
+    ghost then = { want_left };
+}
+
 /// A node's seat stores the halt.
 pub struct StoreHalt;
 

@@ -39,13 +39,6 @@ returns-in-Turn g c =
     let few : c.min-quantum.result ≡ min (c.args.end - old.runner.cycle) 1024 = turn_of c.args.end old.runner.cycle c.cycle.result c.min-quantum.result c.cycle.ensures.value c.min-quantum.ensures in
     turned _ _ _ _ _ old c.requires.member c.requires.live _ c.requires.calm few new _ c.in-Turn.ensures.event c.in-Turn.ensures.count refl refl
 
-pub returns-else-self-eq0 : goal.returns-else-self-eq0
-returns-else-self-eq0 g c =
-    let old : Member = c.args.self.now in
-    let new : Member = record { runner = c.event.new.self; air = old.air; turn = c.saturating_add-self.result; gap = old.gap; halted = old.halted } in
-    let few : c.min-quantum.result ≡ min (c.args.end - old.runner.cycle) 1024 = turn_of c.args.end old.runner.cycle c.cycle.result c.min-quantum.result c.cycle.ensures.value c.min-quantum.ensures in
-    turned _ _ _ _ _ old c.requires.member c.requires.live _ c.requires.calm few new _ c.in-Turn.ensures.event c.in-Turn.ensures.count refl refl
-
 pub returns-in-Ended : goal.returns-in-Ended
 returns-in-Ended g c =
     let old : Member = c.args.self.now in

@@ -26,7 +26,7 @@ loop-preserved g c =
     let load = tried.1 in record {
       next = tt;
       finite = tt;
-      tries = waits_on c.args.self.now c.loop.self c.try_sample.new.self before.0 before.1 (load.0 ++ (k, d) ∷ []) before.2 load.1;
+      tries = waits_on c.args.self.now c.loop.self c.sleep.new.self before.0 before.1 (load.0 ++ (k, d) ∷ []) before.2 (c.sleep.ensures ∙ load.1);
     }
 
 pub returns-in-Heard : goal.returns-in-Heard

@@ -1,7 +1,7 @@
 use Rattle.std.proofs.Common.{◌≡◌, sym, ◌∙◌, ap, arith}
 use Rattle.neighbour_sync.specs.Seats.{ClocksFacts, NodeFacts}
 use Rattle.neighbour_sync.proofs.Calls.{may_raise}
-use Rattle.neighbour_sync.proofs.clocks.Clocks.raise.Goals as goal
+use Rattle.neighbour_sync.proofs.clocks.Clocks.store_clock.Goals as goal
 
 pub put-requires : goal.put-requires
 put-requires g c =
