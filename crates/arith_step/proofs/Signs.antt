@@ -1,5 +1,5 @@
 -- The flags of a result from a table, and put into a flags byte at once: tests over all bytes and flags.
-use Rattle.std.proofs.Common.{◌≡◌, ℕ, ◌+◌, ◌%◌, ◌<◌, ◌==◌, nat_le, Bool, true, false, ◌&&◌, if◌then◌else◌, refl, ap, ◌∙◌, bit_and, bit_or, bit_xor, arith, get_or, zero-add, ◌-◌, pos, ◌+ℤ◌, ◌-ℤ◌}
+use Rattle.std.proofs.Common.{◌≡◌, ℕ, ◌+◌, ◌%◌, ◌<◌, ◌==◌, nat_le, Bool, true, false, ◌&&◌, refl, ap, ◌∙◌, bit_and, bit_or, bit_xor, arith, get_or, zero-add, ◌-◌, pos, ◌+ℤ◌, ◌-ℤ◌}
 use Rattle.std.proofs.lemmas.Bool.Decides.{nat_tests}
 use Rattle.std.proofs.lemmas.Int.{ints}
 use Rattle.std.specs.Prelude.{map}
@@ -8,8 +8,7 @@ use Rattle.std.proofs.lemmas.Bool.{eqb-true}
 use Rattle.std.proofs.lemmas.List.FromFn.{get_or-map-range_with_len}
 use Rattle.avr_base.specs.Flags.{with_flag}
 use Rattle.avr_base.proofs.Computed.{all_from, all_from-at}
-use Rattle.arith_step.specs.Signs.{difference_overflows, sum_overflows}
-use Rattle.arith_step.specs.Whole.{one_if, overflows, signed, signs_of, with_sign}
+use Rattle.arith_step.specs.Whole.{one_if, overflows, signed, signs_of, with_sign, xor}
 use Rattle.arith_step.specs.declared.flags.TheConstants.{SIGNS}
 
 -- ---- the table
@@ -28,21 +27,15 @@ turned true false = refl
 turned false true = refl
 turned false false = refl
 
-pub cleared : (n z v : Bool) → bit_and (signs_of n z v) 253 ≡ signs_of n false v
-cleared true true true = refl
-cleared true true false = refl
-cleared true false true = refl
-cleared true false false = refl
-cleared false true true = refl
-cleared false true false = refl
-cleared false false true = refl
-cleared false false false = refl
-
-pub kept_zero : (keep had zero : Bool) → ((if keep then had else true) && zero) ≡ (if keep then had && zero else zero)
-kept_zero true had zero = refl
-kept_zero false had zero = refl
-
 -- ---- overflow by signs
+-- of a sum with the low byte r: its sign is neither that of a nor that of b
+abbrev pub sum_overflows : ℕ → ℕ → ℕ → Bool
+sum_overflows a b r = xor (nat_le 128 a) (nat_le 128 r) && xor (nat_le 128 b) (nat_le 128 r)
+
+-- of a difference a - b with the low byte r: a and b differ in sign, and r is not of that of a
+abbrev pub difference_overflows : ℕ → ℕ → ℕ → Bool
+difference_overflows a b r = xor (nat_le 128 a) (nat_le 128 b) && xor (nat_le 128 a) (nat_le 128 r)
+
 pub sum_by_signs : (a b : ℕ) (carry : Bool) → a < 256 → b < 256 → sum_overflows a b ((a + b + one_if carry) % 256) ≡ overflows 128 (signed 128 a +ℤ signed 128 b +ℤ pos (one_if carry))
 sum_by_signs a b true f g = grind (arith, ints, nat_tests)
 sum_by_signs a b false f g = grind (arith, ints, nat_tests)

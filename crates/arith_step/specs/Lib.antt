@@ -1,6 +1,5 @@
 pub mod Bytes
 pub mod Shapes
-pub mod Signs
 pub mod Table
 pub mod Whole
 pub mod Words

@@ -1,48 +1,50 @@
 // Differences and complements of bytes.
-ghost use Rattle.std.specs.Prelude.{◌≡◌, ◌+◌, ◌-◌, ◌%◌, ◌==◌, ◌&&◌, true, ◌-ℤ◌, pos, nat_lt, if◌then◌else◌};
-ghost use Rattle.avr_base.specs.Flags.{has_flag};
-ghost use Rattle.arith_step.specs.Whole.{one_if, signed};
+ghost use Rattle.std.specs.Prelude.{◌≡◌, ◌+◌, ◌-◌, ◌%◌, ◌==◌, ◌&&◌, false, nat_le, if◌then◌else◌};
+ghost use Rattle.avr_base.specs.Flags.{Z, has_flag};
+ghost use Rattle.arith_step.specs.Whole.{one_if, signs_of};
 ghost use Rattle.arith_step.specs.Bytes.{complemented, decremented, negated, subtracted};
 
-use crate::flags::{carries, result, result_of};
-use crate::signed::difference_overflows;
+use crate::flags::{T_AND_I, carries_at, result, signs_at};
 use avr_base::Sreg;
 
+// The flag Z.
+const ZERO: u8 = 0x02;
+
+// `a - b - borrow` modulo 512, below further bits.
 #[inline]
-fn difference(a: u8, b: u8, borrow: bool) -> u8
-    ensures { result ≡ (a + 256 - (b + one_if borrow)) % 256 }
+fn difference(a: u8, b: u8, borrow: bool) -> u32
+    ensures { result % 512 ≡ (a + 512 - (b + one_if borrow)) % 512 }
 {
-    a.wrapping_sub(b).wrapping_sub(u8::from(borrow))
+    u32::from(a)
+        .wrapping_sub(u32::from(b))
+        .wrapping_sub(u32::from(borrow))
 }
 
-// Whether `a - b - borrow` is below 0.
+// N, Z and S of a difference that did not overflow; with Z kept, it stays set only where it was set.
 #[inline]
-fn borrows(a: u8, b: u8, borrow: bool) -> bool
-    ensures { result ≡ nat_lt a (b + one_if borrow) }
+fn difference_signs(r: u8, keep_z: bool, s: Sreg) -> u8
+    ensures { result ≡ signs_of (nat_le 128 r) (if keep_z then has_flag s.bits Z && r == 0 else r == 0) false }
 {
-    u16::from(a) < u16::from(b) + u16::from(borrow)
-}
-
-// Whether a result may set Z; kept, it stays set only where it was set.
-#[inline]
-fn may_be_zero(keep: bool, s: Sreg) -> bool
-    ensures { result ≡ (if keep then has_flag s.bits 1 else true) }
-{
-    if keep { s.has(Sreg::Z) } else { true }
+    let signs = signs_at(r);
+    if keep_z {
+        signs & (s.bits | !ZERO)
+    } else {
+        signs
+    }
 }
 
 /// SUB, SBC, CP, CPC and their kin: `a - b - borrow` modulo 256, and the flags C, Z, N, V, S and H of that difference
 /// in `s`; T and I stay. With `keep_z`, as in SBC and CPC, Z is set only where it was set in `s` and the result is 0.
 #[inline]
-#[tactic(auto, unfolding(crate::specs::Bytes::subtracted), using(crate::proofs::Signs::difference_by_signs, crate::proofs::Signs::kept_zero))]
+#[tactic(auto, unfolding(crate::specs::Bytes::subtracted))]
 pub fn sub(a: u8, b: u8, borrow: bool, keep_z: bool, s: Sreg) -> (u8, Sreg)
     ensures { result ≡ subtracted a b borrow keep_z s }
 {
-    let r = difference(a, b, borrow);
-    let v = difference_overflows(a, b, r);
-    let zero = may_be_zero(keep_z, s);
-    let s = carries(s, borrows(a, b, borrow), borrows(a % 16, b % 16, borrow));
-    (r, result_of(s, r, v, zero))
+    let difference = difference(a, b, borrow);
+    let r = (difference % 256) as u8;
+    let flags = difference_signs(r, keep_z, s) ^ carries_at(a, b, difference);
+    let bits = (s.bits & T_AND_I) | flags;
+    (r, Sreg { bits })
 }
 
 /// COM: `255 - a`, C set, V cleared, and N, Z and S of the result; H, T and I stay.

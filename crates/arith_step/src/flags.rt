@@ -1,7 +1,7 @@
 // Flags set together.
-ghost use Rattle.std.specs.Prelude.{◌≡◌, ◌==◌, ◌&&◌, false, nat_le, slice_index_or};
-ghost use Rattle.arith_step.specs.declared.flags.TheConstants.{SIGNS};
-ghost use Rattle.arith_step.specs.Whole.{signs_of, with_carries, with_result, with_sign};
+ghost use Rattle.std.specs.Prelude.{◌≡◌, ◌/◌, ◌%◌, ◌==◌, bit_xor, false, nat_le, slice_index_or};
+ghost use Rattle.arith_step.specs.declared.flags.TheConstants.{CARRIES, SIGNS};
+ghost use Rattle.arith_step.specs.Whole.{signs_of, with_result};
 
 use avr_base::Sreg;
 
@@ -25,21 +25,48 @@ pub static SIGNS: [u8; 256] = [
     0x14, 0x14, 0x14, 0x14, 0x14, 0x14, 0x14, 0x14, 0x14, 0x14, 0x14, 0x14, 0x14, 0x14, 0x14, 0x14,
 ];
 
+// C, H, V, and what V does to S, of a sum or a difference of bytes, by its carries into bits 4 to 8, that into bit 4 lowest.
+pub static CARRIES: [u8; 32] = [
+    0x00, 0x20, 0x00, 0x20, 0x00, 0x20, 0x00, 0x20, 0x18, 0x38, 0x18, 0x38, 0x18, 0x38, 0x18, 0x38,
+    0x19, 0x39, 0x19, 0x39, 0x19, 0x39, 0x19, 0x39, 0x01, 0x21, 0x01, 0x21, 0x01, 0x21, 0x01, 0x21,
+];
+
 // The flags V and S, of which an overflow sets the one and turns the other round.
 const OVERFLOW: u8 = 0x18;
-
-// The flag Z.
-const ZERO: u8 = 0x02;
 
 // All flags but N, Z, V and S.
 const OTHERS: u8 = 0xE1;
 
+// The flags that no sum and no difference of bytes changes.
+pub const T_AND_I: u8 = 0xC0;
+
+// The flags that no shift, and no sum or difference of a word and a constant, changes.
+pub const H_T_AND_I: u8 = 0xE0;
+
 #[inline]
-fn signs_at(r: u8) -> u8
+pub fn signs_at(r: u8) -> u8
     ensures listed { result ≡ slice_index_or SIGNS r 0 }
     ensures value { result ≡ signs_of (nat_le 128 r) (r == 0) false }
 {
     SIGNS[usize::from(r)]
+}
+
+// C, H, V and what V does to S, where `whole` is the sum or the difference of two bytes: the carries are the bits in which
+// it is not their exclusive or.
+#[inline]
+pub fn carries_at(a: u8, b: u8, whole: u32) -> u8
+    ensures { result ≡ slice_index_or CARRIES (bit_xor (bit_xor a b) whole / 16 % 32) 0 }
+{
+    let into = (u32::from(a ^ b) ^ whole) / 16 % 32;
+    CARRIES[into as usize]
+}
+
+// So few results overflow that the test before this call stays a jump.
+#[inline(never)]
+fn turned(signs: u8) -> u8
+    ensures { result ≡ bit_xor signs 24 }
+{
+    signs ^ OVERFLOW
 }
 
 // N, Z, V and S of a byte, each at its place.
@@ -48,26 +75,7 @@ fn signs_of(r: u8, v: bool) -> u8
     ensures { result ≡ signs_of (nat_le 128 r) (r == 0) v }
 {
     let signs = signs_at(r);
-    if v { signs ^ OVERFLOW } else { signs }
-}
-
-// The same, with Z only where it may be set.
-#[inline]
-fn signs_with(r: u8, v: bool, zero: bool) -> u8
-    ensures { result ≡ signs_of (nat_le 128 r) (zero && r == 0) v }
-{
-    let signs = signs_of(r, v);
-    if zero { signs } else { signs & !ZERO }
-}
-
-// N, Z, V and S of a result that is a byte; Z only where it may be set.
-#[inline]
-pub fn result_of(s: Sreg, r: u8, v: bool, zero: bool) -> Sreg
-    ensures { result.bits ≡ with_sign (nat_le 128 r) (zero && r == 0) v s.bits }
-{
-    Sreg {
-        bits: (s.bits & OTHERS) | signs_with(r, v, zero),
-    }
+    if v { turned(signs) } else { signs }
 }
 
 // N, Z, V and S of a result that is a byte.
@@ -75,26 +83,7 @@ pub fn result_of(s: Sreg, r: u8, v: bool, zero: bool) -> Sreg
 pub fn result(s: Sreg, r: u8, v: bool) -> Sreg
     ensures { result.bits ≡ with_result 128 r v s.bits }
 {
-    result_of(s, r, v, true)
-}
-
-// N, Z and V, and S, which is N xor V.
-#[inline]
-#[tactic(auto, unfolding(crate::specs::Whole::with_sign))]
-pub fn signs(s: Sreg, n: bool, z: bool, v: bool) -> Sreg
-    ensures { result.bits ≡ with_sign n z v s.bits }
-{
-    s.with(Sreg::Z, z)
-        .with(Sreg::N, n)
-        .with(Sreg::V, v)
-        .with(Sreg::S, n != v)
-}
-
-// The carry and the half carry.
-#[inline]
-#[tactic(auto, unfolding(crate::specs::Whole::with_carries))]
-pub fn carries(s: Sreg, c: bool, h: bool) -> Sreg
-    ensures { result.bits ≡ with_carries c h s.bits }
-{
-    s.with(Sreg::C, c).with(Sreg::H, h)
+    Sreg {
+        bits: (s.bits & OTHERS) | signs_of(r, v),
+    }
 }

@@ -3,7 +3,7 @@ ghost use Rattle.std.specs.Prelude.{◌≡◌, false, nat_le};
 ghost use Rattle.avr_base.specs.Flags.{has_flag};
 ghost use Rattle.arith_step.specs.Bytes.{shifted};
 
-use crate::flags::result;
+use crate::flags::{H_T_AND_I, signs_at};
 use avr_base::Sreg;
 
 #[inline]
@@ -11,10 +11,13 @@ use avr_base::Sreg;
 fn shift(top: bool, a: u8, s: Sreg) -> (u8, Sreg)
     ensures { result ≡ shifted top a s }
 {
-    let r = a / 2 + if top { 128 } else { 0 };
-    let c = a % 2 == 1;
-    let v = (r >= 128) != c;
-    (r, result(s.with(Sreg::C, c), r, v))
+    let top = u8::from(top);
+    let r = a / 2 + 128 * top;
+    let c = a % 2;
+    let v = c ^ top;
+    let flags = signs_at(r) ^ c ^ (v * 0x18);
+    let bits = (s.bits & H_T_AND_I) | flags;
+    (r, Sreg { bits })
 }
 
 /// LSR: `a` shifted right by one, bit 7 cleared. C is the bit shifted out, N and Z are those of the result, V is N xor

@@ -3,23 +3,20 @@ ghost use Rattle.std.specs.Prelude.{◌≡◌, ◌+ℤ◌, pos};
 ghost use Rattle.arith_step.specs.Whole.{one_if, signed};
 ghost use Rattle.arith_step.specs.Bytes.{added, incremented, logical};
 
-use crate::flags::{carries, result};
-use crate::signed::sum_overflows;
+use crate::flags::{T_AND_I, carries_at, result, signs_at};
 use avr_base::Sreg;
 
 /// ADD and ADC: `a + b + carry` modulo 256, and the flags C, Z, N, V, S and H of that sum in `s`; T and I stay.
 #[inline]
-#[tactic(auto, unfolding(crate::specs::Bytes::added), using(crate::proofs::Signs::sum_by_signs))]
+#[tactic(auto, unfolding(crate::specs::Bytes::added))]
 pub fn add(a: u8, b: u8, carry: bool, s: Sreg) -> (u8, Sreg)
     ensures { result ≡ added a b carry s }
 {
-    let one = u16::from(carry);
-    let sum = u16::from(a) + u16::from(b) + one;
-    let low = u16::from(a % 16) + u16::from(b % 16) + one;
+    let sum = u32::from(a) + u32::from(b) + u32::from(carry);
     let r = (sum % 256) as u8;
-    let v = sum_overflows(a, b, r);
-    let s = carries(s, sum >= 256, low >= 16);
-    (r, result(s, r, v))
+    let flags = signs_at(r) ^ carries_at(a, b, sum);
+    let bits = (s.bits & T_AND_I) | flags;
+    (r, Sreg { bits })
 }
 
 /// The flags of a bitwise result `r`, as of AND, OR and EOR: N, Z and S of it, V cleared; C, H, T and I stay.
