@@ -4,6 +4,8 @@ pub mod Counter
 pub mod First
 pub mod Flags
 pub mod Mode
+pub mod Numbers16
+pub mod Numbers8
 pub mod Prescaler
 pub mod Registers16
 pub mod Registers8

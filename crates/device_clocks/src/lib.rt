@@ -10,6 +10,8 @@ mod counter;
 mod event;
 mod flags;
 mod mode;
+mod numbers16;
+mod numbers8;
 mod prescaler;
 mod registers16;
 mod registers8;

@@ -79,7 +79,7 @@ impl Timer16 {
     }
 
     // TCCRB as it reads.
-    fn control_b(&self) -> u8
+    pub(crate) fn control_b(&self) -> u8
         ensures { result ≡ control_b self.now }
     {
         let input_capture = bit(self.noise_canceler, 0x80) | bit(self.rising_edge, 0x40);

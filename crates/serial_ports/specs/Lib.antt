@@ -4,3 +4,7 @@ pub mod Spi
 pub mod Usart
 pub mod UsartRegisters
 pub mod Script
+pub mod Numbers
+pub mod SpiNumbers
+pub mod UsartNumbers
+pub mod RadioNumbers

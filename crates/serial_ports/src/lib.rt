@@ -6,11 +6,15 @@
 #![tactic(auto)]
 
 mod inbox;
+mod numbers;
 mod radio;
+mod radio_numbers;
 mod script;
 mod spi;
+mod spi_numbers;
 mod spi_registers;
 mod usart;
+mod usart_numbers;
 mod usart_registers;
 
 pub use inbox::Inbox;

@@ -1,0 +1,40 @@
+-- Numbers by which a device is saved: lists of known length, flags, and bytes of bits.
+use Rattle.std.proofs.Common.{◌≡◌, ◌≤◌, ◌+◌, ℕ, zero, suc, Bool, true, false, refl, sym, ◌∙◌, ap, arith, List, [], ◌∷◌, length, slice_index, ◌==◌}
+use Rattle.device_clocks.specs.Bits.{bit}
+
+-- ---- a list by its places
+
+abbrev pub from_places : (ℕ → ℕ) → ℕ → ℕ → List ℕ
+from_places f at zero = []
+from_places f at (suc k) = f at ∷ from_places f (at + 1) k
+
+places-from : (f : ℕ → ℕ) (n : List ℕ) (at : ℕ) → ((i : ℕ) → slice_index n i ≡ f (at + i)) → from_places f at (length n) ≡ n
+places-from f [] at h = refl
+places-from f (x ∷ n) at h =
+    let first : f at ≡ x = ap f (omega arith) ∙ sym (h 0) in
+    let rest = places-from f n (at + 1) (λ i. h (suc i) ∙ ap f (omega arith)) in
+    cc
+
+-- a list of k numbers is what stands at its k places
+pub by-places : (n : List ℕ) (k : ℕ) → length n ≡ k → from_places (slice_index n) 0 k ≡ n
+by-places n k h = ap (from_places (slice_index n) 0) (sym h) ∙ places-from (slice_index n) n 0 (λ i. ap (slice_index n) (omega arith))
+
+-- ---- a flag
+
+pub flag-bit : (b : Bool) → (bit b 1 == 1) ≡ b
+flag-bit true = refl
+flag-bit false = refl
+
+pub bit-most : (b : Bool) → bit b 1 ≤ 1
+bit-most true = omega arith
+bit-most false = omega arith
+
+pub bit-flag : (n : ℕ) → n ≤ 1 → bit (n == 1) 1 ≡ n
+bit-flag zero h = refl
+bit-flag (suc zero) h = refl
+bit-flag (suc (suc n)) h = absurd (omega arith)
+
+-- ---- a list by its numbers
+
+pub same-list : {x y : ℕ} {xs ys : List ℕ} → x ≡ y → xs ≡ ys → (x ∷ xs) ≡ (y ∷ ys)
+same-list first rest = cc

@@ -1,0 +1,22 @@
+use Rattle.std.proofs.Common.{rules, ◌≡◌, ◌∙◌, ap, refl, arith}
+use Rattle.device_clocks.specs.Bits.{bit}
+use Rattle.device_clocks.specs.Numbers16.{are_numbers}
+use Rattle.device_clocks.proofs.Places.{same-list}
+use Rattle.device_clocks.proofs.Saved16.{IsPlain, numbers-within}
+use Rattle.device_clocks.proofs.timer16.Timer16.numbers.Goals as goal
+
+pub returns-clause-within : goal.returns-clause-within
+returns-clause-within c = λ select.
+    let plain : IsPlain c.args.self.now = record { count = omega arith; compare_a = omega arith; compare_b = omega arith; compare_c = omega arith; icr = omega arith; temp = omega arith } in
+    let within = numbers-within c.args.self.now select plain in
+    let blocked : c.from-8.result ≡ bit c.args.self.now.blocked 1 = search rules in
+    let over : c.from-9.result ≡ bit c.args.self.now.flags.over 1 = search rules in
+    let comp_a : c.from-10.result ≡ bit c.args.self.now.flags.comp_a 1 = search rules in
+    let comp_b : c.from-11.result ≡ bit c.args.self.now.flags.comp_b 1 = search rules in
+    let comp_c : c.from-12.result ≡ bit c.args.self.now.flags.comp_c 1 = search rules in
+    let icr : c.from-13.result ≡ bit c.args.self.now.flags.icr 1 = search rules in
+    let flags = same-list blocked (same-list over (same-list comp_a (same-list comp_b (same-list comp_c (same-list icr refl))))) in
+    let last = same-list c.from-5.ensures (same-list c.from-6.ensures (same-list c.from-7.ensures flags)) in
+    let words = same-list c.from-2.ensures (same-list c.from-3.ensures (same-list c.from-4.ensures last)) in
+    let same = same-list (c.from.ensures ∙ c.control_b.ensures) words in
+    ap are_numbers same ∙ within

@@ -1,0 +1,16 @@
+use Rattle.std.proofs.Common.{rules, ◌≡◌, ◌∙◌, ap, refl, arith}
+use Rattle.device_clocks.specs.Bits.{bit}
+use Rattle.device_clocks.specs.Numbers8.{are_numbers}
+use Rattle.device_clocks.proofs.Places.{same-list}
+use Rattle.device_clocks.proofs.Saved8.{numbers-within}
+use Rattle.device_clocks.proofs.timer8.Timer8.numbers.Goals as goal
+
+pub returns-clause-within : goal.returns-clause-within
+returns-clause-within c = λ select.
+    let within = numbers-within c.args.self.now select (omega arith) (omega arith) in
+    let blocked : c.from-4.result ≡ bit c.args.self.now.blocked 1 = search rules in
+    let over : c.from-5.result ≡ bit c.args.self.now.over 1 = search rules in
+    let comp_a : c.from-6.result ≡ bit c.args.self.now.comp_a 1 = search rules in
+    let flags = same-list blocked (same-list over (same-list comp_a refl)) in
+    let same = same-list (c.from.ensures ∙ c.get.ensures) (same-list c.from-2.ensures (same-list c.from-3.ensures flags)) in
+    ap (are_numbers c.args.self.now.prescaler) same ∙ within

@@ -1,0 +1,39 @@
+-- The six numbers of an 8-bit timer, by which it is saved and restored: TCCR, TCNT, OCR, whether the next clock is
+-- blocked, TOV and OCF.
+use Rattle.std.specs.Prelude.{◌≡◌, ◌<◌, ℕ, ◌%◌, nat_le, nat_lt, ◌&&◌, not, Bool, List, [], ◌∷◌, slice_index}
+use Rattle.device_clocks.specs.Bits.{bit}
+use Rattle.device_clocks.specs.Prescaler.{is_pin}
+use Rattle.device_clocks.specs.Registers8.{get_of}
+use Rattle.device_clocks.specs.declared.prescaler.Prescaler.{Prescaler}
+use Rattle.device_clocks.specs.declared.registers8.Reg8.TheVariants.{Control}
+use Rattle.device_clocks.specs.declared.timer8.Timer8.{Timer8}
+
+abbrev pub numbers_of : Timer8 → List ℕ
+numbers_of tm =
+    get_of tm Control
+    ∷ tm.count
+    ∷ tm.compare
+    ∷ bit tm.blocked 1
+    ∷ bit tm.over 1
+    ∷ bit tm.comp_a 1
+    ∷ []
+
+-- whether each number is within its bound: a control byte that a write accepts, as it reads; two bytes; three flags
+unfoldable pub are_numbers : Prescaler → List ℕ → Bool
+are_numbers p n =
+    nat_le (slice_index n 0) 15 && not (is_pin p (slice_index n 0 % 8))
+    && nat_le (slice_index n 1) 255
+    && nat_le (slice_index n 2) 255
+    && nat_le (slice_index n 3) 1
+    && nat_le (slice_index n 4) 1
+    && nat_le (slice_index n 5) 1
+
+-- whether a clock select is one that a timer can have
+abbrev pub is_select : Prescaler → ℕ → Bool
+is_select p s = nat_lt s 8 && not (is_pin p s)
+
+-- a timer of a prescaler that has these numbers; without the bound of its select two would
+pub record HasNumbers (p : Prescaler) (n : List ℕ) (tm : Timer8) : Type 0 where
+  pub prescaler : tm.prescaler ≡ p
+  pub select : tm.select < 8
+  pub numbers : numbers_of tm ≡ n

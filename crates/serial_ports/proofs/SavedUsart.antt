@@ -1,0 +1,152 @@
+-- The numbers of the port: what their bounds say, and the one port that has them.
+use Rattle.std.proofs.Common.{◌≡◌, ◌≤◌, ℕ, zero, suc, true, refl, sym, ◌∙◌, ap, arith, List, length, slice_index, nat_le, ◌==◌, Option, None, Some, is_some}
+use Rattle.std.proofs.lemmas.Bool.{and_parts, leb-true}
+use Rattle.device_clocks.specs.Bits.{bit}
+use Rattle.device_clocks.specs.declared.transmission.Transmission.{Transmission}
+use Rattle.device_clocks.proofs.Places.{by-places, bit-flag, flag-bit, same-list}
+use Rattle.serial_ports.specs.Numbers.{is_end_number, owned, transmission_of}
+use Rattle.serial_ports.specs.UsartNumbers.{are_registers, are_sent, first_number, inbox_of, numbers_of, received, second_number, waiting_number, waiting_of}
+use Rattle.serial_ports.specs.declared.inbox.Inbox.{Inbox}
+use Rattle.serial_ports.specs.declared.inbox.Inbox.TheVariants.{Empty, One, Two}
+use Rattle.serial_ports.specs.declared.usart.Usart.{Usart}
+use Rattle.serial_ports.proofs.Absent.{owned-most, runs-again, transmission-again}
+
+-- ---- the buffers
+
+pub inbox-again : (i : Inbox) → inbox_of (received i) (first_number i) (second_number i) ≡ i
+inbox-again Empty = refl
+inbox-again (One a) = refl
+inbox-again (Two a b) = refl
+
+pub record Holds (k a b : ℕ) : Type 0 where
+  pub count : received (inbox_of k a b) ≡ k
+  pub first : first_number (inbox_of k a b) ≡ a
+  pub second : second_number (inbox_of k a b) ≡ b
+
+pub holds-again : (k a b : ℕ) → k ≤ 2 → a ≤ owned (nat_le 1 k) 255 → b ≤ owned (nat_le 2 k) 255 → Holds k a b
+holds-again zero a b h first second = record { count = refl; first = omega arith; second = omega arith }
+holds-again (suc zero) a b h first second = record { count = refl; first = refl; second = omega arith }
+holds-again (suc (suc zero)) a b h first second = record { count = refl; first = refl; second = refl }
+holds-again (suc (suc (suc n))) a b h first second = absurd (omega arith)
+
+pub waiting-again : (o : Option ℕ) → waiting_of (bit (is_some o) 1 == 1) (waiting_number o) ≡ o
+waiting-again None = refl
+waiting-again (Some b) = refl
+
+pub record Waits (w b : ℕ) : Type 0 where
+  pub waits : bit (is_some (waiting_of (w == 1) b)) 1 ≡ w
+  pub byte : waiting_number (waiting_of (w == 1) b) ≡ b
+
+pub waits-again : (w b : ℕ) → w ≤ 1 → b ≤ owned (w == 1) 255 → Waits w b
+waits-again zero b h most = record { waits = refl; byte = omega arith }
+waits-again (suc zero) b h most = record { waits = refl; byte = refl }
+waits-again (suc (suc n)) b h most = absurd (omega arith)
+
+-- ---- the bounds
+
+pub record Registers (n : List ℕ) : Type 0 where
+  pub double : slice_index n 0 ≤ 1
+  pub control_b : slice_index n 1 ≤ 255
+  pub control_c : slice_index n 2 ≤ 15
+  pub baud : slice_index n 3 ≤ 4095
+  pub txc : slice_index n 4 ≤ 1
+  pub dor : slice_index n 5 ≤ 1
+  pub count : slice_index n 6 ≤ 2
+  pub first : slice_index n 7 ≤ owned (nat_le 1 (slice_index n 6)) 255
+  pub second : slice_index n 8 ≤ owned (nat_le 2 (slice_index n 6)) 255
+
+pub registers : (n : List ℕ) → are_registers n ≡ true → Registers n
+unfolding are_registers
+registers n h =
+    let g = and_parts _ _ h in
+    let f = and_parts _ _ g.0 in
+    let e = and_parts _ _ f.0 in
+    let d = and_parts _ _ e.0 in
+    let c = and_parts _ _ d.0 in
+    let b = and_parts _ _ c.0 in
+    let a = and_parts _ _ b.0 in
+    let z = and_parts _ _ a.0 in
+    let y = and_parts _ _ z.1 in
+    record {
+      double = leb-true _ _ z.0;
+      control_b = leb-true _ _ y.0;
+      control_c = leb-true _ _ a.1;
+      baud = leb-true _ _ b.1;
+      txc = leb-true _ _ c.1;
+      dor = leb-true _ _ d.1;
+      count = leb-true _ _ e.1;
+      first = leb-true _ _ f.1;
+      second = leb-true _ _ g.1;
+    }
+
+pub record Sent (t : ℕ) (n : List ℕ) : Type 0 where
+  pub runs : slice_index n 9 ≤ 1
+  pub ends : is_end_number t (slice_index n 9 == 1) (slice_index n 10) ≡ true
+  pub byte : slice_index n 11 ≤ owned (slice_index n 9 == 1) 255
+  pub waits : slice_index n 12 ≤ 1
+  pub next : slice_index n 13 ≤ owned (slice_index n 12 == 1) 255
+
+pub sent : (t : ℕ) (n : List ℕ) → are_sent t n ≡ true → Sent t n
+unfolding are_sent
+sent t n h =
+    let d = and_parts _ _ h in
+    let c = and_parts _ _ d.0 in
+    let b = and_parts _ _ c.0 in
+    let a = and_parts _ _ b.0 in
+    record {
+      runs = leb-true _ _ a.0;
+      ends = a.1;
+      byte = leb-true _ _ b.1;
+      waits = owned-most (slice_index n 9 == 1) _ 1 (leb-true _ _ c.1);
+      next = leb-true _ _ d.1;
+    }
+
+-- ---- the port that has the numbers
+
+abbrev pub usart_of : List ℕ → Usart
+usart_of n = record {
+  baud = slice_index n 3;
+  double = slice_index n 0 == 1;
+  control_b = slice_index n 1;
+  control_c = slice_index n 2;
+  txc = slice_index n 4 == 1;
+  dor = slice_index n 5 == 1;
+  inbox = inbox_of (slice_index n 6) (slice_index n 7) (slice_index n 8);
+  frame = transmission_of (slice_index n 9 == 1) (slice_index n 10) (slice_index n 11);
+  waiting = waiting_of (slice_index n 12 == 1) (slice_index n 13);
+}
+
+pub has-numbers : (t : ℕ) (n : List ℕ) → length n ≡ 14 → are_registers n ≡ true → are_sent t n ≡ true → numbers_of (usart_of n) ≡ n
+has-numbers t n len r s =
+    let w = registers n r in
+    let v = sent t n s in
+    let h = holds-again (slice_index n 6) (slice_index n 7) (slice_index n 8) w.count w.first w.second in
+    let f = runs-again t (slice_index n 9) (slice_index n 10) (slice_index n 11) v.runs v.ends v.byte in
+    let b = waits-again (slice_index n 12) (slice_index n 13) v.waits v.next in
+    let double = bit-flag (slice_index n 0) w.double in
+    let txc = bit-flag (slice_index n 4) w.txc in
+    let dor = bit-flag (slice_index n 5) w.dor in
+    let waiting = same-list b.waits (same-list b.byte refl) in
+    let frame = same-list f.runs (same-list f.ends (same-list f.byte waiting)) in
+    let inbox = same-list h.count (same-list h.first (same-list h.second frame)) in
+    let flags = same-list txc (same-list dor inbox) in
+    same-list double (same-list refl (same-list refl (same-list refl flags))) ∙ by-places n 14 len
+
+pub one-usart : (n : List ℕ) (u : Usart) → numbers_of u ≡ n → usart_of n ≡ u
+one-usart n u numbers =
+    let double = flag-bit u.double in
+    let txc = flag-bit u.txc in
+    let dor = flag-bit u.dor in
+    let inbox = inbox-again u.inbox in
+    let frame = transmission-again u.frame in
+    let waiting = waiting-again u.waiting in
+    let whole : usart_of (numbers_of u) ≡ u = rw (inbox, frame, waiting, double, txc, dor) refl in
+    ap usart_of (sym numbers) ∙ whole
+
+pub made-is :
+    (n : List ℕ) (i : Inbox) (f : Option Transmission) (w : Option ℕ)
+    → i ≡ inbox_of (slice_index n 6) (slice_index n 7) (slice_index n 8)
+    → f ≡ transmission_of (slice_index n 9 == 1) (slice_index n 10) (slice_index n 11)
+    → w ≡ waiting_of (slice_index n 12 == 1) (slice_index n 13)
+    → (record (usart_of n) { inbox = i; frame = f; waiting = w }) ≡ usart_of n
+made-is n i f w inbox frame waiting = rw (inbox, frame, waiting) refl

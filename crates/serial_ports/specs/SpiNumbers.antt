@@ -1,0 +1,35 @@
+-- The ten numbers of the interface: SPCR, SPI2X, what SPDR reads, whether a transfer runs, its end and its byte, SPIF,
+-- WCOL, and which of these two are noted.
+use Rattle.std.specs.Prelude.{ℕ, ◌==◌, nat_le, ◌&&◌, not, Bool, is_some, List, [], ◌∷◌, slice_index}
+use Rattle.device_clocks.specs.Bits.{any_bit, bit}
+use Rattle.serial_ports.specs.Numbers.{byte_number, end_number, is_end_number, owned}
+use Rattle.serial_ports.specs.declared.spi.Spi.{Spi}
+
+abbrev pub numbers_of : Spi → List ℕ
+numbers_of s =
+    s.control
+    ∷ bit s.double 1
+    ∷ s.«data»
+    ∷ bit (is_some s.transfer) 1
+    ∷ end_number s.transfer
+    ∷ byte_number s.transfer
+    ∷ bit s.spif 1
+    ∷ bit s.wcol 1
+    ∷ bit s.noted_spif 1
+    ∷ bit s.noted_wcol 1
+    ∷ []
+
+-- whether each number is within its bound, of an interface before cycle t: SPCR is a byte that a write accepts, and a
+-- transfer runs with SPE alone
+unfoldable pub are_numbers : ℕ → List ℕ → Bool
+are_numbers t n =
+    nat_le (slice_index n 0) 255 && not (any_bit (slice_index n 0) 0x40 && not (any_bit (slice_index n 0) 0x10))
+    && nat_le (slice_index n 1) 1
+    && nat_le (slice_index n 2) 255
+    && nat_le (slice_index n 3) (owned (any_bit (slice_index n 0) 0x40) 1)
+    && is_end_number t (slice_index n 3 == 1) (slice_index n 4)
+    && nat_le (slice_index n 5) (owned (slice_index n 3 == 1) 255)
+    && nat_le (slice_index n 6) 1
+    && nat_le (slice_index n 7) 1
+    && nat_le (slice_index n 8) 1
+    && nat_le (slice_index n 9) 1

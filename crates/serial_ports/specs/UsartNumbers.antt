@@ -1,0 +1,77 @@
+-- The fourteen numbers of the port: U2X, UCSR0B, UCSR0C, UBRR0, TXC, DOR, how many bytes were received, the first and the
+-- second, whether a frame runs, its end and its byte, whether a byte waits, and that byte.
+use Rattle.std.specs.Prelude.{ℕ, ◌==◌, nat_le, ◌&&◌, not, if◌then◌else◌, Bool, Option, None, Some, is_some, List, [], ◌∷◌, slice_index}
+use Rattle.device_clocks.specs.Bits.{any_bit, bit}
+use Rattle.serial_ports.specs.Numbers.{byte_number, end_number, is_end_number, owned}
+use Rattle.serial_ports.specs.declared.inbox.Inbox.{Inbox}
+use Rattle.serial_ports.specs.declared.inbox.Inbox.TheVariants.{Empty, One, Two}
+use Rattle.serial_ports.specs.declared.usart.Usart.{Usart}
+
+abbrev pub received : Inbox → ℕ
+received Empty = 0
+received (One a) = 1
+received (Two a b) = 2
+
+abbrev pub first_number : Inbox → ℕ
+first_number Empty = 0
+first_number (One a) = a
+first_number (Two a b) = a
+
+abbrev pub second_number : Inbox → ℕ
+second_number Empty = 0
+second_number (One a) = 0
+second_number (Two a b) = b
+
+abbrev pub inbox_of : ℕ → ℕ → ℕ → Inbox
+inbox_of received a b = if received == 0 then Empty else if received == 1 then One a else Two a b
+
+abbrev pub waiting_number : Option ℕ → ℕ
+waiting_number None = 0
+waiting_number (Some b) = b
+
+abbrev pub waiting_of : Bool → ℕ → Option ℕ
+waiting_of waits b = if waits then Some b else None
+
+abbrev pub numbers_of : Usart → List ℕ
+numbers_of u =
+    bit u.double 1
+    ∷ u.control_b
+    ∷ u.control_c
+    ∷ u.baud
+    ∷ bit u.txc 1
+    ∷ bit u.dor 1
+    ∷ received u.inbox
+    ∷ first_number u.inbox
+    ∷ second_number u.inbox
+    ∷ bit (is_some u.frame) 1
+    ∷ end_number u.frame
+    ∷ byte_number u.frame
+    ∷ bit (is_some u.waiting) 1
+    ∷ waiting_number u.waiting
+    ∷ []
+
+-- whether the numbers of registers and of the receive buffer are within their bounds: UCSR0B as it reads, with bits 2 and
+-- 1 clear; the four low bits of UCSR0C; twelve bits of UBRR0; at most two bytes
+unfoldable pub are_registers : List ℕ → Bool
+are_registers n =
+    nat_le (slice_index n 0) 1
+    && (nat_le (slice_index n 1) 255 && not (any_bit (slice_index n 1) 0x06))
+    && nat_le (slice_index n 2) 15
+    && nat_le (slice_index n 3) 4095
+    && nat_le (slice_index n 4) 1
+    && nat_le (slice_index n 5) 1
+    && nat_le (slice_index n 6) 2
+    && nat_le (slice_index n 7) (owned (nat_le 1 (slice_index n 6)) 255)
+    && nat_le (slice_index n 8) (owned (nat_le 2 (slice_index n 6)) 255)
+
+-- whether those of what is sent are, of a port before cycle t: a byte waits only where a frame runs
+unfoldable pub are_sent : ℕ → List ℕ → Bool
+are_sent t n =
+    nat_le (slice_index n 9) 1
+    && is_end_number t (slice_index n 9 == 1) (slice_index n 10)
+    && nat_le (slice_index n 11) (owned (slice_index n 9 == 1) 255)
+    && nat_le (slice_index n 12) (owned (slice_index n 9 == 1) 1)
+    && nat_le (slice_index n 13) (owned (slice_index n 12 == 1) 255)
+
+abbrev pub are_numbers : ℕ → List ℕ → Bool
+are_numbers t n = are_registers n && are_sent t n
