@@ -1,15 +1,18 @@
 -- The fleet between two steps: the sample that is furthest behind may be answered, the record takes the next send, and a step keeps all.
-use Rattle.std.proofs.Common.{◌≡◌, ℕ, ◌+◌, ◌-◌, ◌<◌, ◌≤◌, ◌⊎◌, inl, inr, ⊎_elim, Bool, true, false, ◌&&◌, List, [], ◌∷◌, ◌++◌, length, set, refl, sym, subst, ◌∙◌, ap, arith, length-set, length-append}
+use Rattle.std.proofs.Common.{◌≡◌, ℕ, ◌+◌, ◌-◌, ◌<◌, ◌≤◌, ◌⊎◌, inl, inr, ⊎_elim, true, false, ◌&&◌, ◌==◌, List, [], ◌∷◌, ◌++◌, length, set, refl, sym, subst, ◌∙◌, ap, arith, length-set, length-append}
 use Rattle.std.specs.Prelude.{is_some}
 use Rattle.std.specs.List.{All, sum_by}
 use Rattle.std.proofs.lemmas.List.{get_or-set_same, get_or-set_other}
 use Rattle.std.proofs.lemmas.List.Sums.{sum_by-set}
 use Rattle.std.proofs.lemmas.List.Elements.{All-push}
 use Rattle.std.proofs.lemmas.Bool.{false≢true}
+use Rattle.std.proofs.lemmas.Bool.Decides.{nat_tests}
+use Rattle.std.proofs.lemmas.List.Folds.{Any-from_list_any}
 use native.Mathlib.Decide.{dec_le, ℕ_discrete}
 use Rattle.world_core.specs.declared.air.Send.{Send}
 use Rattle.world_core.specs.declared.world.WorldFacts.{WorldFacts}
-use Rattle.world_core.specs.Topology.{is_needed, latency_of}
+use Rattle.world_core.specs.declared.air.Link.{Link}
+use Rattle.world_core.specs.Topology.{Topology, is_linked, is_needed, latency_of}
 use Rattle.world_core.specs.Heard.{heard}
 use Rattle.world_core.specs.Sends.{sends_below, IsSendNumber}
 use Rattle.world_core.specs.Posted.{sent_of, AllPostedFor}
@@ -33,11 +36,18 @@ use Rattle.node_runner.specs.Place.{Place, is_live, state_at, sends_passed}
 use Rattle.node_runner.proofs.Sound.{sound, scenario_lawful}
 use Rattle.node_runner.specs.Flight.{epoch, place_at, IsAt, IsTaken, Advanced, PostsNothing, PostsOne, rank}
 use Rattle.node_runner.proofs.Places.{still_over, live_taken, bool_cases, home, away}
-use Rattle.fleet_plain.specs.Flight.{InFlight, HearsRight, CanPost}
+use Rattle.fleet_plain.specs.Flight.{InFlight, HearsRight, CanPost, IsLow}
 
-linked_of : (a b : Bool) → (a && b) ≡ true → a ≡ true
-linked_of true b e = refl
-linked_of false b e = e
+-- a bound of the latency of each link is one of the latency from a node to one that hears it
+joined : (m k : ℕ) (y : Link) → ((y.from == m) && (y.to == k)) ≡ true → (y.from ≡ m) × (y.to ≡ k)
+joined m k y e = (grind (arith, nat_tests), grind (arith, nat_tests))
+
+near_link : (t : Topology) (ahead m k : ℕ) → All (λ l. ahead ≤ latency_of t l.from l.to) t.links → is_linked t m k ≡ true → ahead ≤ latency_of t m k
+near_link t ahead m k each e =
+    let (i, y, lt, at, q) = Any-from_list_any (λ (l : Link). (l.from == m) && (l.to == k)) t.links e in
+    let own : ahead ≤ latency_of t y.from y.to = subst (λ (l : Link). ahead ≤ latency_of t l.from l.to) at (each i y lt) in
+    let ends = joined m k y q in
+    subst (λ (n : ℕ). ahead ≤ latency_of t n k) ends.0 (subst (λ (n : ℕ). ahead ≤ latency_of t y.from n) ends.1 own)
 
 module _ (sc : ScenarioOf) (floor end : ℕ) (ps : List Place) (sends : List Send) (ok : IsScenario sc) (limit : end ≤ sc.topo.limit) (fl : InFlight sc floor end ps sends) where
   abbrev f : Fleet NodeState Row
@@ -52,17 +62,17 @@ module _ (sc : ScenarioOf) (floor end : ℕ) (ps : List Place) (sends : List Sen
   stopped_here : (k : ℕ) (p : Place) → IsAt sc end k p → is_some (state_at p).stop ≡ true → is_some (node_at f k p.cycle).stop ≡ true
   stopped_here k p at e = home (λ z n. is_some (node_at (fleet_of z) n p.cycle).stop ≡ true) p sc k at.scenario at.number e
 
-  -- ---- the runner that is furthest behind hears what the world gives it
-  module _ (k : ℕ) (d : Place) (h : k < sc.topo.nodes) (lowest : (j : ℕ) (e : Place) → j < length ps → is_live end (place_at ps j e) ≡ true → (place_at ps k e).cycle ≤ (place_at ps j e).cycle)
+  -- ---- a runner that is no further ahead of all others than a byte takes to it hears what the world gives it
+  module _ (k : ℕ) (d : Place) (low ahead : ℕ) (h : k < sc.topo.nodes) (lowest : IsLow end low ps) (near : (place_at ps k d).cycle < low + ahead) (each : All (λ l. ahead ≤ latency_of sc.topo l.from l.to) sc.topo.links)
       (on : (place_at ps k d).asking ≡ true) where
     abbrev s : ℕ
     s = (place_at ps k d).cycle
 
-    clear_case : (m : ℕ) → m < sc.topo.nodes → (c : ℕ) → c ≤ s → (is_live end (place_at ps m d) ≡ true) ⊎ (is_live end (place_at ps m d) ≡ false) → sends_below w.sends m c ≤ sends_below w.sends m (place_at ps m d).cycle
-    clear_case m l c le (inl live) =
+    clear_case : (m : ℕ) → m < sc.topo.nodes → (c : ℕ) → c ≤ s → c ≤ low → (is_live end (place_at ps m d) ≡ true) ⊎ (is_live end (place_at ps m d) ≡ false) → sends_below w.sends m c ≤ sends_below w.sends m (place_at ps m d).cycle
+    clear_case m l c le under (inl live) =
         let n = fl.count in
         sends_below-le w.sends m c (place_at ps m d).cycle (let x = lowest m d (omega arith) live in omega arith)
-    clear_case m l c le (inr still) =
+    clear_case m l c le under (inr still) =
         let at = fl.at m d l in
         let early = (fl.at k d h).early on in
         ⊎_elim
@@ -79,8 +89,9 @@ module _ (sc : ScenarioOf) (floor end : ℕ) (ps : List Place) (sends : List Sen
         let heard_at = needed_hears sc.topo m k s ok.topo need in
         let from = heard_at.from in
         let pos = latency_from sc.topo m k ok.topo in
+        let wide = near_link sc.topo ahead m k each heard_at.linked in
         let l : m < sc.topo.nodes = omega arith in
-        let a = clear_case m l (s - latency_of sc.topo m k + 1) (omega arith) (bool_cases (is_live end (place_at ps m d))) in
+        let a = clear_case m l (s - latency_of sc.topo m k + 1) (omega arith) (omega arith) (bool_cases (is_live end (place_at ps m d))) in
         let b = fl.counts m d l in
         omega arith
 
@@ -90,12 +101,13 @@ module _ (sc : ScenarioOf) (floor end : ℕ) (ps : List Place) (sends : List Sen
     hears : floor ≤ s → heard sc.topo sends k s ≡ truth w k s
     hears late = record_right w floor fl.sent sends [] k s law fl.recorded late reached
 
-  pub hears_right : (k : ℕ) (d : Place) → k < sc.topo.nodes → is_live end (place_at ps k d) ≡ true → ((j : ℕ) (e : Place) → j < length ps → is_live end (place_at ps j e) ≡ true → (place_at ps k e).cycle ≤ (place_at ps j e).cycle) → HearsRight (place_at ps k d) sends
-  hears_right k d h live lowest on =
+  pub hears_right : (k : ℕ) (d : Place) (low ahead : ℕ) → k < sc.topo.nodes → is_live end (place_at ps k d) ≡ true → IsLow end low ps → (place_at ps k d).cycle < low + ahead
+      → All (λ l. ahead ≤ latency_of sc.topo l.from l.to) sc.topo.links → HearsRight (place_at ps k d) sends
+  hears_right k d low ahead h live lowest near each on =
       let at = fl.at k d h in
       let p = place_at ps k d in
       let t = live_taken sc floor end k p at (fl.taken k d h) live in
-      away (λ z n. heard z.topo sends n p.cycle ≡ truth (facts_of (fleet_of z)) n p.cycle) p sc k at.scenario at.number (hears k d h lowest on t.1)
+      away (λ z n. heard z.topo sends n p.cycle ≡ truth (facts_of (fleet_of z)) n p.cycle) p sc k at.scenario at.number (hears k d low ahead h lowest near each on t.1)
 
   -- ---- the record takes the next send of a node
   next_number : (k : ℕ) (d : Place) (x : Send) → k < sc.topo.nodes → x.node ≡ (place_at ps k d).number → IsSendNumber (facts_of (fleet_of (place_at ps k d).scenario)) (sends_passed (place_at ps k d)) x → IsSendNumber w (sent_of fl.sent x.node) x
@@ -194,6 +206,19 @@ module _ (sc : ScenarioOf) (floor end : ℕ) (ps : List Place) (sends : List Sen
 
     pub flight_on : InFlight sc floor end (set ps k new) after
     flight_on = ⊎_elim nothing_on one_on adv.posts
+
+    low_case : (low : ℕ) → IsLow end low ps → (j : ℕ) (e : Place) → Dec (j ≡ k) → j < length ps → is_live end (place_at (set ps k new) j e) ≡ true → low ≤ (place_at (set ps k new) j e).cycle
+    low_case low lowest j e (yes q) lt on =
+        let n = fl.count in
+        let here = lowest k d (omega arith) live in
+        let l = adv.later in
+        subst (λ (m : ℕ). low ≤ (place_at (set ps k new) m e).cycle) (sym q) (subst (λ (p : Place). low ≤ p.cycle) (sym (get_or-set_same ps k new e (omega arith))) (omega arith))
+    low_case low lowest j e (no q) lt on =
+        let other = get_or-set_other ps k j new e q in
+        subst (λ (p : Place). low ≤ p.cycle) (sym other) (lowest j e lt (subst (λ (p : Place). is_live end p ≡ true) other on))
+
+    pub low_on : (low : ℕ) → IsLow end low ps → IsLow end low (set ps k new)
+    low_on low lowest j e lt on = low_case low lowest j e (ℕ_discrete j k) (let same = length-set ps k new in omega arith) on
 
     pub rank_falls : sum_by (rank end) (set ps k new) < sum_by (rank end) ps
     rank_falls = let n = fl.count in let e = sum_by-set (rank end) ps k new d (omega arith) in let l = adv.less in omega arith

@@ -1,5 +1,5 @@
 -- All nodes of a scenario between two steps of one of them. Own to this simulator.
-use Rattle.std.specs.Prelude.{◌≡◌, ℕ, ◌≤◌, ◌<◌, true, false, List, [], length, MatchOption}
+use Rattle.std.specs.Prelude.{◌≡◌, ℕ, ◌+◌, ◌≤◌, ◌<◌, true, false, List, [], length, MatchOption}
 use Rattle.std.specs.declared.option.Option.{Option}
 use Rattle.std.specs.List.{All}
 use Rattle.world_core.specs.declared.air.Send.{Send}
@@ -12,6 +12,7 @@ use Rattle.world_core.specs.Order.{facts_of}
 use Rattle.node_runner.specs.Scenario.{ScenarioOf, fleet_of}
 use Rattle.node_runner.specs.Place.{Place, is_live, sends_passed}
 use Rattle.node_runner.specs.Flight.{place_at, IsAt, IsTaken}
+use Rattle.fleet_plain.specs.declared.fleet.Turn.{Turn}
 
 -- All runners, and the record of the sends that can still be heard from the cycle `floor` on: of each node the sends below its cycle
 -- are posted.
@@ -38,9 +39,17 @@ pub record CanPush (l : LogFacts) (x : Send) : Type 0 where
 abbrev pub CanPost : ℕ → Place → LogFacts → Type 0
 CanPost end p l = (x : Send) → x.node ≡ p.number → x.cycle < end → IsSendNumber (facts_of (fleet_of p.scenario)) (sends_passed p) x → CanPush l x
 
--- no runner is live, or this one is, and none that is has a lower cycle
-abbrev pub IsBehind : ℕ → List Place → Option ℕ → Type 0
-IsBehind end ps r =
-    MatchOption r (All (λ p. is_live end p ≡ false) ps)
-    (λ k. (k < length ps) × ((d : Place) → is_live end (place_at ps k d) ≡ true)
-    × ((j : ℕ) (d : Place) → j < length ps → is_live end (place_at ps j d) ≡ true → (place_at ps k d).cycle ≤ (place_at ps j d).cycle))
+-- no live runner has a lower cycle
+abbrev pub IsLow : ℕ → ℕ → List Place → Type 0
+IsLow end low ps = (j : ℕ) (d : Place) → j < length ps → is_live end (place_at ps j d) ≡ true → low ≤ (place_at ps j d).cycle
+
+-- a runner that is live, and not as far as `ahead` cycles beyond one that no live runner is below
+pub record MayStep (end ahead : ℕ) (ps : List Place) (t : Turn) : Type 0 where
+  pub within : t.number < length ps
+  pub live : (d : Place) → is_live end (place_at ps t.number d) ≡ true
+  pub near : (d : Place) → (place_at ps t.number d).cycle < t.low + ahead
+  pub low : IsLow end t.low ps
+
+-- no runner is live, or this one may be stepped
+abbrev pub IsTurn : ℕ → ℕ → List Place → Option Turn → Type 0
+IsTurn end ahead ps r = MatchOption r (All (λ p. is_live end p ≡ false) ps) (MayStep end ahead ps)

@@ -1,23 +1,44 @@
 // Steps of all nodes.
-ghost use Rattle.std.specs.Prelude.{◌≡◌, ◌<◌, ◌≤◌, ◌+◌, true, false, OnOk};
+ghost use Rattle.std.specs.Prelude.{◌≡◌, ◌<◌, ◌≤◌, ◌+◌, true, false, length, OnOk};
 ghost use Rattle.std.specs.List.{All};
-ghost use Rattle.world_core.specs.Topology.{IsInside};
+ghost use Rattle.world_core.specs.Topology.{IsInside, latency_of};
 ghost use Rattle.world_core.specs.Kept.{kept_room_of};
 ghost use Rattle.node_runner.specs.Place.{is_live};
 ghost use Rattle.node_runner.specs.Scenario.{IsScenario};
 ghost use Rattle.node_runner.specs.Flight.{epoch, IsAt, Advanced};
-ghost use Rattle.fleet_plain.specs.Flight.{InFlight, HearsRight, CanPost, IsBehind};
+ghost use Rattle.fleet_plain.specs.Flight.{InFlight, HearsRight, CanPost, IsLow, IsTurn};
 
 use avr_base::NoMemory;
 use node_runner::{Event, Runner, Scenario};
-use world_core::{SendLog, Topo};
+use world_core::{EPOCH, SendLog, Topo};
 
 // The cycles of one turn of a node, at most.
 const QUANTUM: u64 = 1_024;
 
+// A live runner that may be stepped, and a cycle that no live runner is below.
+#[derive(Clone, Copy)]
+struct Turn {
+    number: usize,
+    low: u64,
+}
+
+// How many cycles a node may be ahead of all others and yet hear all that it can: the least latency of all links, in cycles.
+// Where nobody hears anybody, that is an epoch.
+fn lookahead(topo: &Topo) -> u64
+    ensures some { 1 ≤ result }
+    ensures each { All (λ l. result ≤ latency_of topo.now l.from l.to) topo.now.links }
+{
+    let mut least = EPOCH;
+    for link in topo.links() {
+        least = least.min(topo.latency_of(link.from, link.to));
+    }
+    least
+}
+
 // The live runner with the lowest cycle.
-fn behind(runners: &[Runner], end: u64) -> Option<usize>
-    ensures { IsBehind end runners.now result }
+fn behind(runners: &[Runner], end: u64, ahead: u64) -> Option<Turn>
+    requires { 1 ≤ ahead }
+    ensures { IsTurn end ahead runners.now result }
 {
     let mut found = false;
     let mut best = 0;
@@ -30,7 +51,30 @@ fn behind(runners: &[Runner], end: u64) -> Option<usize>
             lowest = runner.cycle();
         }
     }
-    if found { Some(best) } else { None }
+    if found {
+        Some(Turn {
+            number: best,
+            low: lowest,
+        })
+    } else {
+        None
+    }
+}
+
+// The turn behind this one, whose runner has taken a step: it goes on while it is not too far ahead of the others, so that
+// they need not be asked after each step.
+fn next_turn(runners: &[Runner], end: u64, ahead: u64, turn: Turn) -> Option<Turn>
+    requires some { 1 ≤ ahead }
+    requires within { turn.number < length runners.now }
+    requires low { IsLow end turn.low runners.now }
+    ensures { IsTurn end ahead runners.now result }
+{
+    let runner = &runners[turn.number];
+    if runner.is_live(end) && runner.cycle().saturating_sub(turn.low) < ahead {
+        Some(turn)
+    } else {
+        behind(runners, end, ahead)
+    }
 }
 
 // One step of a live runner: it is answered, or runs up to its next event.
@@ -66,7 +110,8 @@ fn advance(runner: &mut Runner, log: &mut SendLog, topo: &Topo, end: u64) -> Res
     }
 }
 
-/// Steps the runner that is furthest behind, until all have come to the cycle `end` or stopped.
+/// Steps the runner that is furthest behind, and goes on with it as far as nobody can send what it would hear; until all have
+/// come to the cycle `end` or stopped.
 pub fn run_to(
     runners: &mut Vec<Runner>,
     log: &mut SendLog,
@@ -83,8 +128,11 @@ pub fn run_to(
     ensures room { OnOk result (log.new.room ≡ log.old.room) }
 {
     let topo = scenario.lawful_topo();
-    while let Some(k) = behind(runners, end) {
-        advance(&mut runners[k], log, topo, end)?;
+    let ahead = lookahead(topo);
+    let mut turn = behind(runners, end, ahead);
+    while let Some(now) = turn {
+        advance(&mut runners[now.number], log, topo, end)?;
+        turn = next_turn(runners, end, ahead, now);
     }
     Ok(())
 }

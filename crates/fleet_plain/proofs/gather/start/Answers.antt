@@ -1,4 +1,4 @@
-use Rattle.std.proofs.Common.{◌≡◌, ℕ, ◌<◌, ◌∷◌, [], ◌++◌, sym, subst, ap, ◌∙◌, arith, rules}
+use Rattle.std.proofs.Common.{◌≡◌, ℕ, ◌∷◌, [], ◌++◌, subst, ap, ◌∙◌, arith, rules}
 use Rattle.world_core.specs.Topology.{Topology}
 use Rattle.fleet_plain.specs.Gather.{AllStart}
 use Rattle.fleet_plain.proofs.Gathered.{starts_on, none_start}

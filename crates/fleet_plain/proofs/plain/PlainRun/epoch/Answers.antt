@@ -1,6 +1,6 @@
-use Rattle.std.proofs.Common.{◌≡◌, ℕ, ◌+◌, ◌++◌, ◌≤◌, false, min, sym, subst, ap, ◌∙◌, arith}
-use Rattle.node_runner.specs.Scenario.{ScenarioOf, fleet_of}
-use Rattle.node_runner.specs.Run.{RunAt, rows_upto}
+use Rattle.std.proofs.Common.{◌≡◌, ◌+◌, false, min, sym, subst, ap, ◌∙◌, arith}
+use Rattle.node_runner.specs.Scenario.{ScenarioOf}
+use Rattle.node_runner.specs.Run.{RunAt}
 use Rattle.fleet_plain.specs.Run.{IsResting}
 use Rattle.fleet_plain.proofs.plain.PlainRun.epoch.Goals as goal
 
