@@ -1,4 +1,5 @@
 """Runs all tests of this folder, and says in a few lines what came of them: each skip and its cause, each failure."""
+import io
 import sys
 import time
 import unittest
@@ -9,7 +10,7 @@ import support
 def main():
     start = time.monotonic()
     suite = unittest.defaultTestLoader.discover(support.TESTS)
-    result = unittest.TextTestRunner(verbosity=0, stream=open("/dev/null", "w", encoding="utf-8")).run(suite)
+    result = unittest.TextTestRunner(verbosity=0, stream=io.StringIO()).run(suite)
     for test, text in result.errors + result.failures:
         print(f"tools: {test}\n{text}", file=sys.stderr)
     for test, cause in result.skipped:
