@@ -10,6 +10,7 @@ import itertools
 import operator
 import os
 import re
+import signal
 import subprocess
 import tempfile
 
@@ -25,7 +26,12 @@ Outcome = collections.namedtuple("Outcome", "failure rows expectations")
 Case = collections.namedtuple("Case", "path folder source nodes kinds statements")
 
 COMPARISONS = {
-    "==": operator.eq, "!=": operator.ne, "<=": operator.le, ">=": operator.ge, "<": operator.lt, ">": operator.gt,
+    "==": operator.eq,
+    "!=": operator.ne,
+    "<=": operator.le,
+    ">=": operator.ge,
+    "<": operator.lt,
+    ">": operator.gt,
 }
 
 SOURCES = {"run": 1, "node": 2, "trace": 1}  # how many words follow each
@@ -206,7 +212,9 @@ def read_text(line, number, span):
     value = ast.literal_eval(match[2]) if match else None
     if not isinstance(value, str) or not value:
         raise ValueError('text is `text NODE "TEXT"`, with escapes as in Python')
-    return Text(number, int(match[1]), value.encode("latin-1", "replace"), span)
+    if max(value) > "\xff":
+        raise ValueError(f"{max(value)} is no byte; write its bytes as \\x and two digits")
+    return Text(number, int(match[1]), value.encode("latin-1"), span)
 
 
 class Sequence:
@@ -271,7 +279,9 @@ def unwanted(case, never):
     """The report of a row that was never to come."""
     return lambda place: "\n".join(
         [f"{case.path}, line {never.line}: this row was never to come:", f"- {never.pattern.text}", "but it did:"]
-        + [f"  {text}" for text in place.before] + [f"> {place.row}"] + [f"  {text}" for text in place.after]
+        + [f"  {text}" for text in place.before]
+        + [f"> {place.row}"]
+        + [f"  {text}" for text in place.after]
     )
 
 
@@ -289,8 +299,10 @@ class Counter:
     def finish(self):
         count = self.count
         if not COMPARISONS[count.comparison](self.came, count.wanted):
-            text = (f"{self.case.path}, line {count.line}: {count.comparison} {count.wanted} rows wanted{within(count.span)}, "
-                    f"{self.came} came:\n- {count.pattern.text}")
+            text = (
+                f"{self.case.path}, line {count.line}: {count.comparison} {count.wanted} rows wanted"
+                f"{within(count.span)}, {self.came} came:\n- {count.pattern.text}"
+            )
             raise Failure(lambda place: text)
 
 
@@ -326,13 +338,15 @@ class Writes:
         text = self.text
         if self.found or row.node != text.node or text.span and not text.span[0] <= row.cycle <= text.span[1]:
             return
-        self.last = (self.last + bytes([int(row.rest, 16)]))[-max(self.SHOWN, len(text.text)):]
+        self.last = (self.last + bytes([int(row.rest, 16)]))[-max(self.SHOWN, len(text.text)) :]
         self.found = self.last.endswith(text.text)
 
     def finish(self):
         if not self.found:
-            text = (f"{self.case.path}, line {self.text.line}: node {self.text.node} did not write{within(self.text.span)}:\n"
-                    f"- {printed(self.text.text)}\nbut, at the end:\n+ {printed(self.last)}")
+            text = (
+                f"{self.case.path}, line {self.text.line}: node {self.text.node} did not write"
+                f"{within(self.text.span)}:\n- {printed(self.text.text)}\nbut, at the end:\n+ {printed(self.last)}"
+            )
             raise Failure(lambda place: text)
 
 
@@ -374,8 +388,11 @@ class GoldenTrace:
         before = list(self.before)
         rest = [line.rstrip("\n") for line in itertools.islice(self.file, CONTEXT)]
         diff = difflib.unified_diff(before + [wanted] * bool(wanted) + rest, before + came, n=CONTEXT, lineterm="")
-        report = [f"{self.case.path}, line {self.golden.line}: row {self.number} differs from {self.golden.path}:",
-                  "--- expected", "+++ came"]
+        report = [
+            f"{self.case.path}, line {self.golden.line}: row {self.number} differs from {self.golden.path}:",
+            "--- expected",
+            "+++ came",
+        ]
         return "\n".join(report + list(diff)[3:])
 
 
@@ -430,7 +447,8 @@ def watch(case, lines, name, save, stack, looked):
 
 
 def looked_at(case, lines, name, writers):
-    """The rows of the case's nodes and kinds, each as its parts; what is written to USART0 goes to the `writers` first."""
+    """The rows of the case's nodes and kinds, each as its parts; what is written to USART0 goes to the `writers`
+    first."""
     for row in traces.parse(lines, name, whole=True):
         if row.kind == "serial":
             for writer in writers:
@@ -458,8 +476,8 @@ def watchers_of(case, save, stack):
 
 
 def run_case(case, avrora, save=False):
-    """Makes the trace of the case, by the simulator `avrora` in the case's folder, and checks it as it comes. A run that
-    ends with another status than 0 is a failure. Raises BadInput where the case names no source or no trace."""
+    """Makes the trace of the case, by the simulator `avrora` in the case's folder, and checks it as it comes. A run
+    that ends with another status than 0 is a failure. Raises BadInput where the case names no source or no trace."""
     if case.source is None:
         raise BadInput(f"{case.path}: no run, node or trace says where the rows come from")
     if case.source[0] == "trace":
@@ -486,7 +504,7 @@ def checked_run(case, process, errors, save):
         process.kill()
         process.wait()
         return outcome
-    if process.wait():
+    if process.wait() not in (0, -signal.SIGPIPE):
         errors.seek(0)
         said = errors.read().decode(errors="replace").strip()
         return outcome._replace(failure=f"{case.path}: {words}: status {process.returncode}: {said}")

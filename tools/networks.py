@@ -7,9 +7,9 @@ import scenarios
 from traces import BadInput
 
 # The shapes, in words.
-SHAPES = """line: each node is linked with the next, ring: the last one with the first too, grid:WIDTH: with those beside, above and
-below, torus:WIDTH: the same without edges, star: node 0 with all others, full: all with all, geo:RANGE: those at most RANGE apart,
-where nodes lie in a square of side 1 as the seed draws them"""
+SHAPES = """line: each node is linked with the next, ring: the last one with the first too, grid:WIDTH: with those
+beside, above and below, torus:WIDTH: the same without edges, star: node 0 with all others, full: all with all,
+geo:RANGE: those at most RANGE apart, where nodes lie in a square of side 1 as the seed draws them"""
 
 
 def pairs_of(shape, count, seed=0):
@@ -65,23 +65,47 @@ def near(distance, count, seed):
     """Nodes in a square of side 1 that lie at most `distance` apart; their places are drawn by the seed."""
     draw = random.Random(seed)
     places = [(draw.random(), draw.random()) for _ in range(count)]
-    return [(low, high) for high in range(count) for low in range(high) if math.dist(places[low], places[high]) <= distance]
+    return [
+        (low, high) for high in range(count) for low in range(high) if math.dist(places[low], places[high]) <= distance
+    ]
 
 
-def scenario(shape, images, *, cycles=2_000_000, latency=300, byte_time=1_024, window=(0, 0), seed=0, link_latency=None,
-             at=500, stagger=0, spans=None, numbers=True, inputs=None, every=7_680):
-    """The text of a scenario of version 3: `images` are the names of the nodes' images, in order; all links go both ways.
+def scenario(
+    shape,
+    images,
+    *,
+    cycles=2_000_000,
+    latency=300,
+    byte_time=1_024,
+    window=(0, 0),
+    seed=0,
+    link_latency=None,
+    at=500,
+    stagger=0,
+    spans=None,
+    numbers=True,
+    inputs=None,
+    every=7_680,
+):
+    """The text of a scenario of version 3: `images` are the names of the nodes' images, in order; all links go both
+    ways.
 
-    `link_latency` is a pair of numbers, between which each link draws a latency of its own by the seed. Where `numbers`
-    is true each node's number arrives at its USART0 as the first byte, at cycle `at` and `stagger` cycles later for each
-    node. `inputs` has further bytes that arrive at nodes, `every` cycles apart, as hexadecimal digits: node: digits. `spans`
-    has the spans of links that are not always open: (from, to): [(first, end), ..].
+    `link_latency` is a pair of numbers, between which each link draws a latency of its own by the seed. Where
+    `numbers` is true each node's number arrives at its USART0 as the first byte, at cycle `at` and `stagger` cycles
+    later for each node. `inputs` has further bytes that arrive at nodes, `every` cycles apart, as hexadecimal digits:
+    node: digits. `spans` has the spans of links that are not always open: (from, to): [(first, end), ..].
     Raises BadInput where it would be no scenario.
     """
     spans = dict(spans or {})
     draw = random.Random(f"{seed} latencies")
-    out = [f"# {shape}, {len(images)} nodes, seed {seed}", "version = 3", f"cycles = {cycles}", f"latency = {latency}",
-           f"byte_time = {byte_time}", f"window = [{window[0]}, {window[1]}]"]
+    out = [
+        f"# {shape}, {len(images)} nodes, seed {seed}",
+        "version = 3",
+        f"cycles = {cycles}",
+        f"latency = {latency}",
+        f"byte_time = {byte_time}",
+        f"window = [{window[0]}, {window[1]}]",
+    ]
     for node, image in enumerate(images):
         out += ["", f"[[node]]  # {node}", f"image = {quoted(image)}"]
     for low, high in pairs_of(shape, len(images), seed):
@@ -97,7 +121,9 @@ def scenario(shape, images, *, cycles=2_000_000, latency=300, byte_time=1_024, w
         if len(digits) > 2:
             out.append(f"every = {every}")
     if spans:
-        raise BadInput(f"{shape} has no link from {next(iter(spans))[0]} to {next(iter(spans))[1]} to be open for a while")
+        raise BadInput(
+            f"{shape} has no link from {next(iter(spans))[0]} to {next(iter(spans))[1]} to be open for a while"
+        )
     text = "\n".join(out) + "\n"
     scenarios.Scenario.of_text(text, "the network")
     return text

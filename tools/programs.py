@@ -1,5 +1,5 @@
-"""Programs as ELF files: the functions and source lines of addresses, by pyelftools. Addresses are word addresses, as in
-a trace."""
+"""Programs as ELF files: the functions and source lines of addresses, by pyelftools. Addresses are word addresses, as
+in a trace."""
 import bisect
 import collections
 import os
@@ -14,7 +14,8 @@ try:
 except ImportError:
     ELFFile = None
 
-# The interrupts of the ATmega128 in the order of their vectors, two words each from word 2 on (its manual, "Interrupts").
+# The interrupts of the ATmega128 in the order of their vectors, two words each from word 2 on (its manual,
+# "Interrupts").
 INTERRUPTS = """INT0 INT1 INT2 INT3 INT4 INT5 INT6 INT7 TIMER2_COMP TIMER2_OVF TIMER1_CAPT TIMER1_COMPA TIMER1_COMPB
 TIMER1_OVF TIMER0_COMP TIMER0_OVF SPI_STC USART0_RX USART0_UDRE USART0_TX ADC EE_READY ANALOG_COMP TIMER1_COMPC
 TIMER3_CAPT TIMER3_COMPA TIMER3_COMPB TIMER3_COMPC TIMER3_OVF USART1_RX USART1_UDRE USART1_TX TWI SPM_READY""".split()
@@ -80,7 +81,7 @@ class Program:
         word = function.first
         while word < function.end:
             yield word
-            word += 2 if is_long(int.from_bytes(self.code[2 * word:2 * word + 2], "little")) else 1
+            word += 2 if is_long(int.from_bytes(self.code[2 * word : 2 * word + 2], "little")) else 1
 
 
 def is_long(opcode):
@@ -109,7 +110,12 @@ def functions_of(elf, end):
             continue
         if not elf.get_section(section)["sh_flags"] & 4:
             continue  # data
-        rank = (kind == "STT_FUNC", symbol["st_info"]["bind"] == "STB_GLOBAL", not symbol.name.startswith("__"), symbol.name)
+        rank = (
+            kind == "STT_FUNC",
+            symbol["st_info"]["bind"] == "STB_GLOBAL",
+            not symbol.name.startswith("__"),
+            symbol.name,
+        )
         word = symbol["st_value"] // 2
         best[word] = max(best.get(word, rank), rank)
     words = sorted(word for word in best if word < end)
@@ -163,7 +169,9 @@ class Programs:
         if nodes is None and scenario:
             nodes = {node for node, image in enumerate(scenario.images) if stem(image) == stem(program.path)}
             if not nodes:
-                raise BadInput(f"{program.path}: no node has the image {stem(program.path)}.hex; say which: -e NODES={word}")
+                raise BadInput(
+                    f"{program.path}: no node has the image {stem(program.path)}.hex; say which: -e NODES={word}"
+                )
         if nodes is None:
             self.others = program
         else:
@@ -179,6 +187,12 @@ def stem(path):
 
 
 def add_programs(parser):
-    parser.add_argument("-e", "--elf", action="append", default=[], metavar="[NODES=]ELF",
-                        help="the program of all nodes, of NODES such as 0,2-4, or with -s of the nodes with an image of its name")
+    parser.add_argument(
+        "-e",
+        "--elf",
+        action="append",
+        default=[],
+        metavar="[NODES=]ELF",
+        help="the program of all nodes, of NODES such as 0,2-4, or with -s of the nodes with an image of its name",
+    )
     parser.add_argument("-s", "--scenario", metavar="SCENARIO", help="says which image each node has")

@@ -1,4 +1,5 @@
-"""Scenarios: what one says, where it is at fault (docs/FORMATS.md, "Scenarios"), and what is on the air (docs/AIR.md)."""
+"""Scenarios: what one says, where it is at fault (docs/FORMATS.md, "Scenarios"), and what is on the air
+(docs/AIR.md)."""
 import collections
 import re
 import tomllib
@@ -6,9 +7,8 @@ import tomllib
 from traces import BadInput, MAX_NODES, read_text, shown
 
 # The causes of a refused scenario; of several that apply the simulator tells the first of this list.
-CAUSES = (
-    "NotToml UnknownKey Missing WrongKind OutOfRange NoNodes TooManyNodes SelfLink TwiceLinked TwiceScripted TooLong".split()
-)
+CAUSES = """NotToml UnknownKey Missing WrongKind OutOfRange NoNodes TooManyNodes SelfLink TwiceLinked TwiceScripted
+TooLong""".split()
 
 MAX_BYTES = 524_288
 MAX_CYCLES = {1: 10_000_000, 2: 10_000_000, 3: 2**40}
@@ -160,8 +160,13 @@ class Check:
                     if key not in known:
                         self.tell("UnknownKey", f"no key of [[{name}]]", name, number, key)
                     elif known[key] > self.version:
-                        self.tell("UnknownKey", f"a key from version {known[key]} on, and this text has version "
-                                  f"{self.version}", name, number, key)
+                        self.tell(
+                            "UnknownKey",
+                            f"a key from version {known[key]} on, and this text has version " f"{self.version}",
+                            name,
+                            number,
+                            key,
+                        )
                 for key in NEEDED[name]:
                     if key not in table:
                         self.tell("Missing", "it must be there", name, number, key)
@@ -282,7 +287,8 @@ def is_pair(value):
 
 
 TOKEN = re.compile(
-    r'"""(?:\\.|[^\\])*?"""|\'\'\'.*?\'\'\'|"(?:\\.|[^"\\\n])*"|\'[^\'\n]*\'|#[^\n]*|[ \t\r]+|[\[\]{},=.\n]|[^\s#"\'\[\]{},=.]+|.',
+    r'"""(?:\\.|[^\\])*?"""|\'\'\'.*?\'\'\'|'  # strings of several lines
+    r'"(?:\\.|[^"\\\n])*"|\'[^\'\n]*\'|#[^\n]*|[ \t\r]+|[\[\]{},=.\n]|[^\s#"\'\[\]{},=.]+|.',
     re.DOTALL,
 )
 
@@ -315,18 +321,18 @@ def places(text):
         words = [word for word, _ in tokens]
         line = tokens[0][1]
         if words[:2] == ["[", "["]:
-            name = bare("".join(words[2:words.index("]")]))
+            name = bare("".join(words[2 : words.index("]")]))
             number = count[name]
             count[name] += 1
             lines[name, number, ""] = line
         elif words[0] == "[":
-            name, number = bare("".join(words[1:words.index("]")])), 0
+            name, number = bare("".join(words[1 : words.index("]")])), 0
             lines["", 0, name] = line
         elif "=" in words:
-            key = bare("".join(words[:words.index("=")]))
+            key = bare("".join(words[: words.index("=")]))
             lines.setdefault((name, number, key), line)
-            if not name and words[words.index("=") + 1:][:1] == ["["]:
-                inline_tables(key, tokens[words.index("=") + 1:], lines)
+            if not name and words[words.index("=") + 1 :][:1] == ["["]:
+                inline_tables(key, tokens[words.index("=") + 1 :], lines)
     return lines
 
 
@@ -374,8 +380,8 @@ class Air:
         sends.append((cycle, byte))
 
     def heard(self, hearer, cycle):
-        """The bytes that a sample of the node `hearer` in `cycle` hears, by sender. Sends of its cycle and of later ones
-        change nothing, so they may be recorded or not."""
+        """The bytes that a sample of the node `hearer` in `cycle` hears, by sender. Sends of its cycle and of later
+        ones change nothing, so they may be recorded or not."""
         found = []
         for link in self.into[hearer]:
             for sent, byte in reversed(self.sends[link.sender]):

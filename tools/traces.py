@@ -140,8 +140,10 @@ def watched(file, name):
 
 def missing(module, package):
     """What to say where Python's `module` is missing that Debian has in `package`."""
-    return (f"{sys.executable} has no {module}. Debian: apt-get install {package} (for /usr/bin/python3, which "
-            f"runs the tools where they are called by name)")
+    return (
+        f"{sys.executable} has no {module}. Debian: apt-get install {package} (for /usr/bin/python3, which "
+        f"runs the tools where they are called by name)"
+    )
 
 
 def warn(text):
@@ -157,7 +159,9 @@ def command_line(description, example):
 
 def add_trace(parser):
     """The argument TRACE, which all tools that read one take last."""
-    parser.add_argument("trace", nargs="?", default="-", metavar="TRACE", help="a file, .gz too; - or none: the standard input")
+    parser.add_argument(
+        "trace", nargs="?", default="-", metavar="TRACE", help="a file, .gz too; - or none: the standard input"
+    )
 
 
 def add_clock(parser):
@@ -167,7 +171,6 @@ def add_clock(parser):
 def main(run, parser):
     """Runs a tool and ends the process: with what `run(arguments)` returns, 0 for None; 2 for bad input, as argparse
     does for bad words; 1 where writing fails. A closed pipe ends it quietly, as it ends any program."""
-    signal.signal(signal.SIGPIPE, signal.SIG_DFL)
     arguments = parser.parse_args()
     try:
         status = run(arguments) or 0
@@ -177,6 +180,9 @@ def main(run, parser):
             sys.stdout.flush()
         print(f"{parser.prog}: {fault}", file=sys.stderr)
         status = 2
+    except BrokenPipeError:
+        signal.signal(signal.SIGPIPE, signal.SIG_DFL)
+        os.kill(os.getpid(), signal.SIGPIPE)
     except OSError as fault:
         print(f"{parser.prog}: {fault.filename or 'write failed'}: {fault.strerror}", file=sys.stderr)
         status = 1
@@ -233,7 +239,9 @@ def simulator(path=None):
 
 
 def add_simulator(parser):
-    parser.add_argument("--avrora", metavar="PROGRAM", help="the simulator; else $AVRORA, else this repository's ./avrora")
+    parser.add_argument(
+        "--avrora", metavar="PROGRAM", help="the simulator; else $AVRORA, else this repository's ./avrora"
+    )
 
 
 @contextlib.contextmanager

@@ -21,8 +21,11 @@ def run_tool(name, *words, stdin="", env=None):
     """Runs a tool by the interpreter of these tests; its status, output and errors."""
     done = subprocess.run(
         [sys.executable, "-B", f"{TOOLS}/{name}", *words],
-        input=stdin if isinstance(stdin, bytes) else stdin.encode(), capture_output=True, check=False,
-        env={**os.environ, **(env or {})}, timeout=120,
+        input=stdin if isinstance(stdin, bytes) else stdin.encode(),
+        capture_output=True,
+        check=False,
+        env={**os.environ, **(env or {})},
+        timeout=120,
     )
     return done.returncode, done.stdout.decode(), done.stderr.decode()
 

@@ -59,21 +59,36 @@ class Met(unittest.TestCase):
         self.fails("10 0 sent 72", "+0..19 1 heard *")
 
     def test_missing_row(self):
-        self.unmet("10 0 sent 72", "* 1 serial 73", says="line 2: this row did not come:\n- * 1 serial 73\nafter this one:\n"
-                   "  10 0 sent 72\nbut of its node and kind:\n+ 40 1 serial 72\n+ 70 1 serial 65")
-        self.unmet("* 5 serial 73", says="line 1: this row did not come:\n- * 5 serial 73\nand none of its node and kind")
+        self.unmet(
+            "10 0 sent 72",
+            "* 1 serial 73",
+            says="line 2: this row did not come:\n- * 1 serial 73\nafter this one:\n"
+            "  10 0 sent 72\nbut of its node and kind:\n+ 40 1 serial 72\n+ 70 1 serial 65",
+        )
+        self.unmet(
+            "* 5 serial 73", says="line 1: this row did not come:\n- * 5 serial 73\nand none of its node and kind"
+        )
 
     def test_next(self):
         self.met("10 0 sent 72", "next 20 0 heard *", "next 2: 50 0 sent 65")
-        self.unmet("10 0 sent 72", "next 30 1 heard *", says="line 2: this row was to come next, and came not:\n"
-                   "- 30 1 heard *\nafter this one:\n  10 0 sent 72\nbut these:\n+ 20 0 heard 0 00 0")
+        self.unmet(
+            "10 0 sent 72",
+            "next 30 1 heard *",
+            says="line 2: this row was to come next, and came not:\n"
+            "- 30 1 heard *\nafter this one:\n  10 0 sent 72\nbut these:\n+ 20 0 heard 0 00 0",
+        )
         self.fails("10 0 sent 72", "next 2: 50 0 sent 65")
 
     def test_never(self):
         self.met("never * * stop *", "10 0 sent 72", "never * * stop *", "70 1 serial 65")
-        self.unmet("10 0 sent 72", "never * 1 stop *", "* 0 end *", says="line 2: this row was never to come:\n- * 1 stop *\n"
-                   "but it did:\n  50 0 sent 65\n  60 1 heard 1 65 12\n  70 1 serial 65\n> 80 1 stop 0102 .word 0xFFFF\n"
-                   "  99 0 end 12 running\n  99 1 end 7 stopped")
+        self.unmet(
+            "10 0 sent 72",
+            "never * 1 stop *",
+            "* 0 end *",
+            says="line 2: this row was never to come:\n- * 1 stop *\n"
+            "but it did:\n  50 0 sent 65\n  60 1 heard 1 65 12\n  70 1 serial 65\n> 80 1 stop 0102 .word 0xFFFF\n"
+            "  99 0 end 12 running\n  99 1 end 7 stopped",
+        )
         self.fails("50 0 sent 65", "never * * stop *")  # to the end
         self.met("* 1 stop *", "never * * stop *")  # a row that is found is none that came between
 
@@ -113,7 +128,10 @@ class Golden(unittest.TestCase):
     def test_saved_and_compared(self):
         with scratch("x") as place:
             folder = os.path.dirname(place)
-            for text, rows in (("golden a.rows", self.ROWS), ("golden a.rows without cycles", "0 sent 72\n1 serial 72\n0 sent 65\n1 serial 65\n")):
+            for text, rows in (
+                ("golden a.rows", self.ROWS),
+                ("golden a.rows without cycles", "0 sent 72\n1 serial 72\n0 sent 65\n1 serial 65\n"),
+            ):
                 case = self.case(folder, f"only sent serial\n{text}\n")
                 self.assertIsNone(self.check(case, save=True))
                 with open(f"{folder}/a.rows", encoding="utf-8") as file:
@@ -126,8 +144,18 @@ class Golden(unittest.TestCase):
         with scratch("a.rows", self.ROWS) as path:
             case = self.case(os.path.dirname(path), "only sent serial\ngolden a.rows\n")
             said = self.check(case, TRACE.replace("50 0 sent 65", "55 0 sent 65")).splitlines()
-            self.assertEqual(said[1:], ["--- expected", "+++ came", " 10 0 sent 72", " 40 1 serial 72", "-50 0 sent 65",
-                                        "+55 0 sent 65", " 70 1 serial 65"])
+            self.assertEqual(
+                said[1:],
+                [
+                    "--- expected",
+                    "+++ came",
+                    " 10 0 sent 72",
+                    " 40 1 serial 72",
+                    "-50 0 sent 65",
+                    "+55 0 sent 65",
+                    " 70 1 serial 65",
+                ],
+            )
             said = self.check(case, TRACE.replace("70 1 serial 65\n", "")).splitlines()
             self.assertEqual(said[-2:], [" 50 0 sent 65", "-70 1 serial 65"])
             said = self.check(case, TRACE.replace("80 1 stop 0102 .word 0xFFFF", "80 1 serial 41")).splitlines()
@@ -149,18 +177,33 @@ class Golden(unittest.TestCase):
 class Refused(unittest.TestCase):
     def test_lines(self):
         for line, why in (
-            ("10 0", "is no row"), ("* * talked *", "no row has the kind talked"), ("1.. 0 sent x..", "x.. is no"),
-            ("count 5: * * sent *", "a count is"), ("text 1 two", "malformed|text is"), ("text 1 5", "text is"), ("text one 'a'", "text is"),
-            ("within 1: * * sent *", "within"), ("golden", "golden is"), ("run", "after run stand 1"), ("node a.hex", "after node stand 2"),
-            ("only talked", "talked is no kind"), ("only 64 sent", "nodes are 0 to 63"), ("within 0..9: golden x", "within"),
-            ("count == 1: +5 0 sent *", "cycles are counted"), ("next", "is no row"), ("run a\nrun b", "a second source"),
+            ("10 0", "is no row"),
+            ("* * talked *", "no row has the kind talked"),
+            ("1.. 0 sent x..", "x.. is no"),
+            ("count 5: * * sent *", "a count is"),
+            ("text 1 two", "malformed|text is"),
+            ("text 1 5", "text is"),
+            ("text 1 '\u20ac'", "is no byte"),
+            ("text one 'a'", "text is"),
+            ("within 1: * * sent *", "within"),
+            ("golden", "golden is"),
+            ("run", "after run stand 1"),
+            ("node a.hex", "after node stand 2"),
+            ("only talked", "talked is no kind"),
+            ("only 64 sent", "nodes are 0 to 63"),
+            ("within 0..9: golden x", "within"),
+            ("count == 1: +5 0 sent *", "cycles are counted"),
+            ("next", "is no row"),
+            ("run a\nrun b", "a second source"),
         ):
             with self.subTest(line), scratch("case.expect", f"{line}\n* * sent *\n") as path:
                 with self.assertRaisesRegex(BadInput, f"case.expect, line [12]: .*({why})"):
                     expectations.read_case(path)
 
     def test_nothing_expected(self):
-        with scratch("case.expect", "run a.toml\n# only this\n") as path, self.assertRaisesRegex(BadInput, "without an expectation"):
+        with scratch("case.expect", "run a.toml\n# only this\n") as path, self.assertRaisesRegex(
+            BadInput, "without an expectation"
+        ):
             expectations.read_case(path)
 
 
@@ -183,13 +226,18 @@ class Command(unittest.TestCase):
         self.assertIn("== 24 rows wanted, 25 came:", out)
 
     def test_tap(self):
-        with scratch("a.expect", "text 4 'relay'\ncount == 25: * * sent *\n") as good, scratch("b.expect", "text 4 'yes'\n") as bad:
+        with scratch("a.expect", "text 4 'relay'\ncount == 25: * * sent *\n") as good, scratch(
+            "b.expect", "text 4 'yes'\n"
+        ) as bad:
             status, out, _ = run_tool("expect", "--trace", "-", good, stdin=data("relay.trace"))
             self.assertEqual((status, out), (0, f"TAP version 13\n1..1\nok 1 - {good} # 260 rows, 2 expectations\n"))
             status, out, _ = run_tool("expect", "--trace", f"{DATA}/relay.trace", good, bad)
         self.assertEqual(status, 1)
-        self.assertEqual(out, f"TAP version 13\n1..2\nok 1 - {good} # 260 rows, 2 expectations\nnot ok 2 - {bad}\n  ---\n  message: |\n"
-                              f"    {bad}, line 1: node 4 did not write:\n    - 'yes'\n    but, at the end:\n    + 'relay'\n  ...\n")
+        self.assertEqual(
+            out,
+            f"TAP version 13\n1..2\nok 1 - {good} # 260 rows, 2 expectations\nnot ok 2 - {bad}\n  ---\n  message: |\n"
+            f"    {bad}, line 1: node 4 did not write:\n    - 'yes'\n    but, at the end:\n    + 'relay'\n  ...\n",
+        )
 
     def test_run(self):
         with scratch("avrora", SIMULATOR) as avrora, scratch("a.expect", "run net\ntext 4 'relay'\n") as case:
@@ -209,6 +257,8 @@ class Command(unittest.TestCase):
                 self.assertEqual(status, 2)
                 self.assertIn("not ok 1", out)
                 self.assertIn(why, out)
+            status, _, err = run_tool("expect", "--trace", "-", case, case)
+            self.assertEqual((status, err), (2, "expect: --trace - is read once, so it serves one case\n"))
             status, out, _ = run_tool("expect", case)
             self.assertEqual(status, 2)
             self.assertIn("no run, node or trace", out)
@@ -222,11 +272,14 @@ class Command(unittest.TestCase):
     @needs_module("junit_xml", "python3-junit.xml")
     def test_junit(self):
         import xml.etree.ElementTree as tree
-        with scratch("a.expect", "text 4 'relay'\n") as good, scratch("b.expect", "text 4 '<&>'\n") as bad, scratch("out.xml") as report:
+
+        with scratch("a.expect", "text 4 'relay'\n") as good, scratch("b.expect", "text 4 '<&>'\n") as bad, scratch(
+            "out.xml"
+        ) as report:
             run_tool("expect", "--trace", f"{DATA}/relay.trace", "--junit", report, good, bad)
             suite = tree.parse(report).getroot().find("testsuite")
             self.assertEqual((suite.get("tests"), suite.get("failures")), ("2", "1"))
-            failed, = suite.iter("failure")
+            (failed,) = suite.iter("failure")
             self.assertIn("did not write", failed.get("message"))
             self.assertIn("- '<&>'", failed.text)
 

@@ -13,8 +13,9 @@ node = [{image = "a"}, {image = "a"}, {image = "a"}]
 link = [{from = 0, to = 2}, {from = 1, to = 2, open = [[0, 5_000]]}]
 """
 
-# By hand: 0 sends at 0, heard clean at 500; at 2000 with 1's of 2500, heard alone at 2550 and then in a clash at 2700; at 4000
-# with 1's of 4000, a clash alone; at 6000, which nobody samples, and 1's of 6000, while its link is closed.
+# By hand: 0 sends at 0, heard clean at 500; at 2000 with 1's of 2500, heard alone at 2550 and then in a clash at
+# 2700; at 4000 with 1's of 4000, a clash alone; at 6000, which nobody samples, and 1's of 6000, while its link is
+# closed.
 TRACE = """\
 0 0 sent 41
 500 2 heard 1 41 25
@@ -42,35 +43,49 @@ class Links(unittest.TestCase):
     def test_fates(self):
         status, out, err = self.links(TRACE)
         self.assertEqual((status, err), (0, ""))
-        self.assertEqual([line.split() for line in out.splitlines()], [
-            "link sent closed clean clashed unheard clean of sent".split(),
-            "0 to 2 4 0 2 1 1 50.0%".split(),
-            "1 to 2 3 1 0 2 0 0.0%".split(),
-            [],
-            "node sent samples nothing a byte a clash".split(),
-            "0 4 0 0 0 0".split(),
-            "1 3 0 0 0 0".split(),
-            "2 0 5 1 2 2".split(),
-            [],
-            "each of 5 samples is what the sends give".split(),
-        ])
+        self.assertEqual(
+            [line.split() for line in out.splitlines()],
+            [
+                "link sent closed clean clashed unheard clean of sent".split(),
+                "0 to 2 4 0 2 1 1 50.0%".split(),
+                "1 to 2 3 1 0 2 0 0.0%".split(),
+                [],
+                "node sent samples nothing a byte a clash".split(),
+                "0 4 0 0 0 0".split(),
+                "1 3 0 0 0 0".split(),
+                "2 0 5 1 2 2".split(),
+                [],
+                "each of 5 samples is what the sends give".split(),
+            ],
+        )
 
     def test_who_clashed(self):
         out = self.links(TRACE, "--clashes")[1]
-        self.assertEqual(out.splitlines()[:2], [
-            "2700 clash at node 2: 42 of node 0 sent at 2000, 61 of node 1 sent at 2500",
-            "4500 clash at node 2: 43 of node 0 sent at 4000, 62 of node 1 sent at 4000",
-        ])
+        self.assertEqual(
+            out.splitlines()[:2],
+            [
+                "2700 clash at node 2: 42 of node 0 sent at 2000, 61 of node 1 sent at 2500",
+                "4500 clash at node 2: 43 of node 0 sent at 4000, 62 of node 1 sent at 4000",
+            ],
+        )
 
     def test_losses_alone(self):
-        lossless = re.sub("(?m)^.* 1 sent .*\n|^.*heard 2.*\n|^6000.*\n", "", TRACE).replace("20000 0", "4200 2 heard 1 43 6\n20000 0")
+        lossless = re.sub("(?m)^.* 1 sent .*\n|^.*heard 2.*\n|^6000.*\n", "", TRACE).replace(
+            "20000 0", "4200 2 heard 1 43 6\n20000 0"
+        )
         self.assertEqual(self.links(lossless, "--losses")[1].splitlines()[1], "")
 
     def test_each_wrong_sample_is_found(self):
-        for right, wrong in (("500 2 heard 1 41 25", "500 2 heard 1 41 26"), ("500 2 heard 1 41 25", "500 2 heard 1 40 25"),
-                             ("500 2 heard 1 41 25", "500 2 heard 0 00 0"), ("1200 2 heard 0 00 0", "1200 2 heard 1 41 68"),
-                             ("2700 2 heard 2 63 0", "2700 2 heard 1 42 37"), ("2700 2 heard 2 63 0", "2700 2 heard 2 61 0"),
-                             ("2700 2 heard 2 63 0", "2700 2 heard 2 63 1"), ("1200 2 heard 0 00 0", "1200 1 heard 2 00 0")):
+        for right, wrong in (
+            ("500 2 heard 1 41 25", "500 2 heard 1 41 26"),
+            ("500 2 heard 1 41 25", "500 2 heard 1 40 25"),
+            ("500 2 heard 1 41 25", "500 2 heard 0 00 0"),
+            ("1200 2 heard 0 00 0", "1200 2 heard 1 41 68"),
+            ("2700 2 heard 2 63 0", "2700 2 heard 1 42 37"),
+            ("2700 2 heard 2 63 0", "2700 2 heard 2 61 0"),
+            ("2700 2 heard 2 63 0", "2700 2 heard 2 63 1"),
+            ("1200 2 heard 0 00 0", "1200 1 heard 2 00 0"),
+        ):
             with self.subTest(wrong):
                 status, out, _ = self.links(TRACE.replace(right, wrong))
                 self.assertEqual(status, 1)

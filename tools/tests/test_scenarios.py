@@ -16,7 +16,15 @@ class Causes(unittest.TestCase):
 
     def test_stored_texts(self):
         known = cases.Cases()
-        for group in (cases.alone, cases.strangers, cases.pairs, cases.kinds, cases.bounds, cases.prefixes, cases.forms):
+        for group in (
+            cases.alone,
+            cases.strangers,
+            cases.pairs,
+            cases.kinds,
+            cases.bounds,
+            cases.prefixes,
+            cases.forms,
+        ):
             group(known)
         self.assertGreater(len(known.cases), 2000)
         for name, data, lines in known.cases:
@@ -60,18 +68,21 @@ hex = ""
 class Places(unittest.TestCase):
     def test_every_fault_has_its_line(self):
         told = [(fault.cause, fault.line, fault.place) for fault in scenarios.faults(TEXT)]
-        self.assertEqual(told, [
-            ("Missing", 9, "[[node]] 1, image"),
-            ("OutOfRange", 3, "window"),
-            ("OutOfRange", 8, "[[node]] 0, image"),
-            ("OutOfRange", 11, "[[input]] 0, node"),
-            ("OutOfRange", 13, "[[input]] 0, hex"),
-            ("SelfLink", 5, "[[link]] 1, to"),
-            ("TwiceScripted", 18, "[[input]] 2"),
-        ])
+        self.assertEqual(
+            told,
+            [
+                ("Missing", 9, "[[node]] 1, image"),
+                ("OutOfRange", 3, "window"),
+                ("OutOfRange", 8, "[[node]] 0, image"),
+                ("OutOfRange", 11, "[[input]] 0, node"),
+                ("OutOfRange", 13, "[[input]] 0, hex"),
+                ("SelfLink", 5, "[[link]] 1, to"),
+                ("TwiceScripted", 18, "[[input]] 2"),
+            ],
+        )
 
     def test_broken_text(self):
-        fault, = scenarios.faults("cycles = 5\nnode = = 1\n")
+        (fault,) = scenarios.faults("cycles = 5\nnode = = 1\n")
         self.assertEqual((fault.cause, fault.line), ("NotToml", 2))
 
     def test_too_long(self):
@@ -86,8 +97,11 @@ class Why(unittest.TestCase):
         with scratch("bad.toml", "cycles = 0\n[[node]]\nimage = 'a'\nspeed = 1\n") as path:
             status, out, _ = run_tool("why", path)
         self.assertEqual(status, 1)
-        self.assertEqual(out, "UnknownKey, line 4, [[node]] 0, speed: no key of [[node]]\n"
-                              "OutOfRange, line 1, cycles: 0 is not 1 to 10,000,000\n")
+        self.assertEqual(
+            out,
+            "UnknownKey, line 4, [[node]] 0, speed: no key of [[node]]\n"
+            "OutOfRange, line 1, cycles: 0 is not 1 to 10,000,000\n",
+        )
 
     def test_no_file(self):
         status, _, err = run_tool("why", "/nowhere.toml")
@@ -108,8 +122,15 @@ class OnTheAir(unittest.TestCase):
     """By the rules of docs/AIR.md, each by hand."""
 
     def setUp(self):
-        self.air = Air(network([{"from": 0, "to": 3}, {"from": 1, "to": 3, "latency": 600},
-                                {"from": 2, "to": 3, "open": [[0, 50], [60, 70]]}]))
+        self.air = Air(
+            network(
+                [
+                    {"from": 0, "to": 3},
+                    {"from": 1, "to": 3, "latency": 600},
+                    {"from": 2, "to": 3, "open": [[0, 50], [60, 70]]},
+                ]
+            )
+        )
 
     def heard(self, cycle):
         return answer(self.air.heard(3, cycle), cycle)
@@ -156,7 +177,9 @@ class OnTheAir(unittest.TestCase):
 class Loading(unittest.TestCase):
     def test_flood(self):
         flood = Scenario.load(f"{TOP}/examples/flood.toml")
-        self.assertEqual((flood.cycles, flood.latency, flood.byte_time, flood.window), (35_000, 300, 1_024, (11_950, 11_990)))
+        self.assertEqual(
+            (flood.cycles, flood.latency, flood.byte_time, flood.window), (35_000, 300, 1_024, (11_950, 11_990))
+        )
         self.assertEqual(len(flood.images), 16)
         self.assertEqual(len(flood.links), 48)  # two each of 2 * 4 * 3 neighbours
         self.assertEqual(flood.links[1], Link(0, 4, 300, None))

@@ -18,18 +18,45 @@ def parsed(text, whole=False):
 
 class Rows(unittest.TestCase):
     def test_each_kind(self):
-        text = ("1 0 instr 006E sbis 0x0B, 5\n7 0 enter 001E 0081\n7 0 serial 68\n7 1 sent 7F\n8 63 heard 2 FF 255\n"
-                "9 0 stop 0102 .word 0xFFFF\n100 0 end 42 stopped\n")
-        self.assertEqual(parsed(text), [
-            Row(1, 0, "instr", "006E sbis 0x0B, 5"), Row(7, 0, "enter", "001E 0081"), Row(7, 0, "serial", "68"),
-            Row(7, 1, "sent", "7F"), Row(8, 63, "heard", "2 FF 255"), Row(9, 0, "stop", "0102 .word 0xFFFF"),
-            Row(100, 0, "end", "42 stopped"),
-        ])
+        text = (
+            "1 0 instr 006E sbis 0x0B, 5\n7 0 enter 001E 0081\n7 0 serial 68\n7 1 sent 7F\n8 63 heard 2 FF 255\n"
+            "9 0 stop 0102 .word 0xFFFF\n100 0 end 42 stopped\n"
+        )
+        self.assertEqual(
+            parsed(text),
+            [
+                Row(1, 0, "instr", "006E sbis 0x0B, 5"),
+                Row(7, 0, "enter", "001E 0081"),
+                Row(7, 0, "serial", "68"),
+                Row(7, 1, "sent", "7F"),
+                Row(8, 63, "heard", "2 FF 255"),
+                Row(9, 0, "stop", "0102 .word 0xFFFF"),
+                Row(100, 0, "end", "42 stopped"),
+            ],
+        )
 
     def test_what_is_no_row(self):
-        for line in ("", " ", "1 0", "1 0 sent", "1 0 sent 7", "1 0 sent 7f", "1 0 sent 7F ", "1  0 sent 7F", "x 0 sent 7F",
-                     "-1 0 sent 7F", "1 64 sent 7F", "1 0 heard 3 00 0", "1 0 heard 1 00", "1 0 spoke 7F", "1 0 end 5 dead",
-                     "1 0 instr 6E nop", "1 0 sent \xe9\xe9", "1 0 enter 001E", "ok 5 nodes, 4 links, 90000 cycles"):
+        for line in (
+            "",
+            " ",
+            "1 0",
+            "1 0 sent",
+            "1 0 sent 7",
+            "1 0 sent 7f",
+            "1 0 sent 7F ",
+            "1  0 sent 7F",
+            "x 0 sent 7F",
+            "-1 0 sent 7F",
+            "1 64 sent 7F",
+            "1 0 heard 3 00 0",
+            "1 0 heard 1 00",
+            "1 0 spoke 7F",
+            "1 0 end 5 dead",
+            "1 0 instr 6E nop",
+            "1 0 sent \xe9\xe9",
+            "1 0 enter 001E",
+            "ok 5 nodes, 4 links, 90000 cycles",
+        ):
             with self.subTest(line), self.assertRaisesRegex(BadInput, "^t, line 2: no row of a trace: "):
                 parsed(f"1 0 sent 7F\n{line}\n")
 
@@ -67,7 +94,12 @@ class Rows(unittest.TestCase):
 
 # The tools that read a trace, each with the words that it wants before it.
 READERS = {
-    "annotate": [], "console": [], "links": [f"{DATA}/relay.toml"], "profile": [], "timeline": [], "vcd": ["-n", "0"],
+    "annotate": [],
+    "console": [],
+    "links": [f"{DATA}/relay.toml"],
+    "profile": [],
+    "timeline": [],
+    "vcd": ["-n", "0"],
 }
 
 
@@ -93,16 +125,24 @@ class Ends(unittest.TestCase):
         long = "".join(f"{cycle} 0 serial 0A\n" for cycle in range(20_000)).encode()
         for name, words in (("console", ["--hex"]), ("annotate", []), ("vcd", ["-n", "0"])):
             with self.subTest(name):
-                tool = subprocess.Popen([sys.executable, "-B", f"{TOOLS}/{name}", *words, "-"], stdin=subprocess.PIPE,
-                                        stdout=subprocess.PIPE, stderr=subprocess.PIPE)
+                tool = subprocess.Popen(
+                    [sys.executable, "-B", f"{TOOLS}/{name}", *words, "-"],
+                    stdin=subprocess.PIPE,
+                    stdout=subprocess.PIPE,
+                    stderr=subprocess.PIPE,
+                )
                 tool.stdout.close()
                 _, err = tool.communicate(long)
                 self.assertEqual((tool.returncode, err), (-signal.SIGPIPE, b""))  # as cat ends
 
     def test_full_device(self):
         with open("/dev/full", "wb") as full:
-            done = subprocess.run([sys.executable, "-B", f"{TOOLS}/console", f"{DATA}/relay.trace"], stdout=full,
-                                  stderr=subprocess.PIPE, check=False)
+            done = subprocess.run(
+                [sys.executable, "-B", f"{TOOLS}/console", f"{DATA}/relay.trace"],
+                stdout=full,
+                stderr=subprocess.PIPE,
+                check=False,
+            )
         self.assertEqual((done.returncode, done.stderr), (1, b"console: write failed: No space left on device\n"))
 
     def test_help_has_an_example(self):
