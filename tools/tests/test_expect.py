@@ -3,7 +3,7 @@ import os
 import sys
 import unittest
 
-from support import DATA, data, needs_module, run_tool, scratch
+from support import DATA, TOP, data, needs_module, run_tool, scratch
 import expectations
 from traces import BadInput
 
@@ -268,6 +268,11 @@ class Command(unittest.TestCase):
             status, out, _ = run_tool("expect", "--avrora", "/nowhere/avrora", case)
         self.assertEqual(status, 2)
         self.assertIn("cannot run /nowhere/avrora: No such file or directory", out)
+
+    def test_cases_of_the_examples(self):
+        for name in ("relay", "flood"):
+            status, out, _ = run_tool("expect", "--trace", f"{DATA}/{name}.trace", f"{TOP}/examples/{name}.expect")
+            self.assertEqual((status, out.splitlines()[2][:4]), (0, "ok 1"))
 
     @needs_module("junit_xml", "python3-junit.xml")
     def test_junit(self):
