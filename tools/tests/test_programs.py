@@ -1,5 +1,6 @@
 """Functions and source lines of addresses, and where cycles went. relay.elf is examples/relay.c as avr-gcc 5.4
 compiles it with -Os -gdwarf-2; what is expected of it was read in its listing by avr-objdump -dl."""
+import random
 import unittest
 
 from support import DATA, data, needs_module, run_tool, scratch
@@ -189,6 +190,30 @@ class Profile(unittest.TestCase):
             self.profile("--window", "200..240", trace=WINDOW + "210 1 instr 0000 nop\n")[1:3],
             ["0 0 0 40 0 0".split(), "1 30 0 0 10 240".split()],
         )
+
+    def test_drawn_rows(self):
+        """Against the rule, asked of each cycle: its owner is the node's last row up to it."""
+        draw = random.Random(1)
+        for _ in range(30):
+            rows, cycle, stopped = [], 0, False
+            while cycle < 100 and not stopped:
+                kind = draw.choice(["instr 0001 nop", "instr 0002 sleep", "enter 0024 0001", "stop 0003 x"])
+                stopped = kind[0] == "s"
+                rows.append((cycle, kind))
+                cycle += draw.choice([1, 2, 9, 30])
+            first = draw.randrange(120)
+            end = first + draw.randrange(1, 60)
+            counts = {"busy": 0, "asleep": 0, "stopped": 0, "unknown": 0}
+            rows = [row for row in rows if first <= row[0] < end or row[1][0] == "s"]  # as a trace has them
+            for now in range(first, end):
+                owner = max((row for row in rows if row[0] <= now), default=None)
+                asleep = owner and owner[1].endswith("sleep") and owner[0] < now
+                kind = "unknown" if not owner else "stopped" if owner[1][0] == "s" else "asleep" if asleep else "busy"
+                counts[kind] += 1
+            trace = "".join(f"{cycle} 0 {kind}\n" for cycle, kind in rows) + "500 0 end 1 running\n"
+            charge = 8 * counts["busy"] + counts["asleep"]
+            expected = ["0", *map(str, counts.values()), str(charge)]
+            self.assertEqual(self.profile("--window", f"{first}..{end}", trace=trace)[1], expected)
 
     # What a monitor writes of the same window.
     MONITOR = (
