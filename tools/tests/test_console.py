@@ -57,6 +57,20 @@ class Console(unittest.TestCase):
             out, "       17224  1 | relay\n       20296  2 | relay\n       23368  3 | relay\n       26440  4 | relay\n"
         )
 
+    def test_packet(self):
+        # Each sensor's readings begin at 20 and its number, and rise with each second packet.
+        out = run_tool("console", f"{DATA}/packet.trace")[1]
+        texts = [line.split(" | ")[1] for line in out.splitlines()]
+        readings = [(21, 22), (22, 23), (22, 23), (23, 24)]
+        self.assertEqual(
+            texts,
+            [
+                f"from {sensor} packet {number}: {pair[sensor - 1]}"
+                for number, pair in enumerate(readings)
+                for sensor in (1, 2)
+            ],
+        )
+
     def test_nothing_written(self):
         self.assertEqual(self.console(trace="5 0 sent 41\n"), "")
 

@@ -98,7 +98,7 @@ class Links(unittest.TestCase):
         self.assertIn("999 node 0 sent 42: its byte before is on the air until 1000", out)
 
     def test_stored_traces(self):
-        for name, samples in (("relay", 145), ("flood", 544)):
+        for name, samples in (("relay", 145), ("flood", 544), ("packet", 495)):
             status, out, _ = run_tool("links", f"{DATA}/{name}.toml", f"{DATA}/{name}.trace")
             self.assertEqual(status, 0)
             self.assertTrue(out.endswith(f"each of {samples} samples is what the sends give\n"))
@@ -108,6 +108,15 @@ class Links(unittest.TestCase):
         out = run_tool("links", "--clashes", f"{DATA}/flood.toml", f"{DATA}/flood.trace")[1]
         found = re.findall(r"clash at node (\d+): .. of node (\d+) .*, .. of node (\d+) ", out)
         self.assertEqual(found, [("1", "2", "5"), ("6", "2", "5"), ("9", "10", "13"), ("14", "10", "13")] * 2)
+
+    def test_losses_of_packet(self):
+        # Sensors 1 and 2 send four packets of seven bytes each; the sink hears all, the other sensor never listens then.
+        out = run_tool("links", "--losses", f"{DATA}/packet.toml", f"{DATA}/packet.trace")[1]
+        self.assertEqual(
+            [line.split() for line in out.splitlines()[1:3]],
+            ["1 to 2 28 0 0 0 28 0.0%".split(), "2 to 1 28 0 0 0 28 0.0%".split()],
+        )
+        self.assertEqual(out.splitlines()[3], "")
 
     def test_another_scenario(self):
         status, _, err = run_tool("links", f"{DATA}/relay.toml", f"{DATA}/flood.trace")

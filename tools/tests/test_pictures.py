@@ -51,6 +51,13 @@ class Page(unittest.TestCase):
         node = data_of(page_of("flood"))["nodes"][6]
         self.assertEqual(node["clash"], [15506, 1, [2, 5], 9216, 2, [2, 5]])
 
+    def test_packet(self):
+        # AA AA 7E, the length, and as payload the sensor's number, the packet's, and a reading
+        sent = data_of(page_of("packet"))["nodes"][2]["sent"][1::2]
+        self.assertEqual(
+            bytes(sent).hex(" "), "aa aa 7e 03 02 00 16 aa aa 7e 03 02 01 17 aa aa 7e 03 02 02 17 aa aa 7e 03 02 03 18"
+        )
+
     def test_part(self):
         drawn = data_of(page_of("flood", "--from", "15_000", "--to", "16_000", "-n", "1-2"))
         self.assertEqual(
