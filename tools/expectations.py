@@ -483,7 +483,7 @@ def run_case(case, avrora, save=False):
     if case.source[0] == "trace":
         path = os.path.join(case.folder, case.source[1])
         with traces.opened(path) as file:
-            return check(case, file, save, path)
+            return check(case, traces.lines_of(file), save, path)
     with tempfile.TemporaryFile() as errors:
         try:
             process = subprocess.Popen([avrora, *case.source], cwd=case.folder, stdout=subprocess.PIPE, stderr=errors)
@@ -496,7 +496,7 @@ def checked_run(case, process, errors, save):
     words = f"avrora {' '.join(case.source)}"
     bad = None
     try:
-        outcome = check(case, process.stdout, save, words)
+        outcome = check(case, traces.lines_of(process.stdout), save, words)
     except BadInput as fault:
         bad, outcome = fault, Outcome(str(fault), 0, len(case.statements))
     process.stdout.close()

@@ -9,7 +9,6 @@ import traces
 from traces import BadInput
 
 try:
-    from elftools.common.exceptions import DWARFError, ELFError
     from elftools.elf.elffile import ELFFile
 except ImportError:
     ELFFile = None
@@ -53,8 +52,10 @@ class Program:
                 self.lines = lines_of(elf)
                 if not self.lines and elf.get_section_by_name(".stab"):
                     traces.warn(f"{path}: its source lines are in the form STABS; compile with -gdwarf-2 to see them")
-            except (ELFError, DWARFError, KeyError, IndexError, UnicodeDecodeError) as fault:
-                raise BadInput(f"{path}: no ELF file: {fault}") from None
+            except BadInput:
+                raise
+            except Exception as fault:  # whatever a broken file leads the library to
+                raise BadInput(f"{path}: no ELF file: {fault or type(fault).__name__}") from None
         self.firsts = [function.first for function in self.functions]
         self.line_words = [word for word, _ in self.lines]
 

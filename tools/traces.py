@@ -6,6 +6,7 @@ does not grow with it.
 import argparse
 import collections
 import contextlib
+import functools
 import gzip
 import os
 import re
@@ -39,6 +40,10 @@ NOTHING, ONE_BYTE, CLASH = "0", "1", "2"
 
 MAX_NODES = 64
 
+# More bytes than a row has, and than a small file has (a scenario, a case).
+LONGEST_ROW = 256
+LARGEST_TEXT = 16 * 1024 * 1024
+
 # Rows between two looks at the clock, and seconds between two lines of progress.
 ROWS_A_LOOK = 32_768
 SECONDS_A_LINE = 0.5
@@ -63,7 +68,7 @@ def parse(lines, name, whole=False):
             good = KINDS[kind].fullmatch(rest, 0, len(rest) - 1) and cycle.isdigit() and node.isdigit()
         except (ValueError, KeyError):
             good = False
-        if not line.endswith(b"\n"):
+        if not line.endswith(b"\n") and len(line) < LONGEST_ROW:
             if whole:
                 raise BadInput(f"{name}, line {number}: the trace is cut off in this line")
             warn(f"{name}, line {number}: cut off, and left out")
@@ -85,8 +90,13 @@ def rows(name, whole=False, prints=False):
     `prints` is for tools that print as they read: they show progress only where their output is no terminal.
     """
     with opened(name) as file:
-        lines = watched(file, name) if shows_progress(prints) else file
+        lines = watched(file, name) if shows_progress(prints) else lines_of(file)
         yield from parse(lines, shown(name), whole)
+
+
+def lines_of(file):
+    """The lines of a file of bytes; of one that is too long for a row the first part."""
+    return iter(functools.partial(file.readline, LONGEST_ROW), b"")
 
 
 @contextlib.contextmanager
@@ -106,8 +116,11 @@ def opened(name):
 def read_text(name):
     """The whole text of the small file `name` in UTF-8. Raises BadInput where it cannot be read or is no text."""
     with opened(name) as file:
+        content = file.read(LARGEST_TEXT + 1)
+        if len(content) > LARGEST_TEXT:
+            raise BadInput(f"{name}: more than {LARGEST_TEXT:,} bytes")
         try:
-            return file.read().decode()
+            return content.decode()
         except UnicodeDecodeError:
             raise BadInput(f"{name}: no text in UTF-8") from None
 
@@ -126,7 +139,7 @@ def watched(file, name):
     size = os.path.getsize(name) if name != "-" and not name.endswith(".gz") else 0
     next_line = time.monotonic() + SECONDS_A_LINE
     shown_one = False
-    for number, line in enumerate(file):
+    for number, line in enumerate(lines_of(file)):
         if number % ROWS_A_LOOK == 0 and time.monotonic() > next_line:
             part = f" ({100 * file.tell() // size}%)" if size else ""
             sys.stderr.write(f"\r{shown(name)}: {number:,} rows{part}\x1b[K")

@@ -60,6 +60,15 @@ class Rows(unittest.TestCase):
             with self.subTest(line), self.assertRaisesRegex(BadInput, "^t, line 2: no row of a trace: "):
                 parsed(f"1 0 sent 7F\n{line}\n")
 
+    def test_a_line_without_end(self):
+        for tool, words in (("console", []), ("profile", [])):
+            status, out, err = run_tool(tool, *words, "/dev/zero")
+            self.assertEqual((status, out), (2, ""))
+            self.assertIn("line 1: no row of a trace: ", err)
+        for tool, words in (("why", []), ("annotate", ["-s"])):
+            status, out, err = run_tool(tool, *words, "/dev/zero")
+            self.assertEqual((status, out, err), (2, "", f"{tool}: /dev/zero: more than 16,777,216 bytes\n"))
+
     def test_cycles_that_fall(self):
         with self.assertRaisesRegex(BadInput, "t, line 2: cycle 4 stands behind cycle 5"):
             parsed("5 0 sent 7F\n4 0 sent 7F\n")
