@@ -11,7 +11,7 @@ STYLE = """.sent{fill:#3b6fb6}.heard{stroke:#1a8f3c;stroke-width:1.3}.clash{stro
 .grid{stroke:#e6e6e6}.line{stroke:#f0f0f0}.way{stroke:#d11;stroke-width:.6;opacity:.45}
 .hop{stroke:#1a8f3c;stroke-width:.5;opacity:.4}text{fill:#222}"""
 
-MAX_WAYS = 400  # lines from sends to where they were heard
+MAX_WAYS = 250  # lines from sends to where they were heard
 MAX_TITLED = 20_000  # events that each have a text of their own to hover
 MARGIN = 92  # left of the cycles, in pixels
 RIGHT = 12
