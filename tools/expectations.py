@@ -2,6 +2,7 @@
 
 A trace is read once, row by row; what is kept of it is a few rows for the report.
 """
+import argparse
 import ast
 import collections
 import contextlib
@@ -10,7 +11,6 @@ import itertools
 import operator
 import os
 import re
-import signal
 import subprocess
 import tempfile
 
@@ -128,7 +128,10 @@ def read_case(path):
     folder = os.path.dirname(os.path.abspath(path))
     source = nodes = kinds = None
     statements = []
-    for number, line in enumerate(traces.read_text(path).splitlines(), 1):
+    text = traces.read_text(path)
+    if "\0" in text:
+        raise BadInput(f"{path}: no text")
+    for number, line in enumerate(text.splitlines(), 1):
         words = without_comment(line).split()
         try:
             if not words:
@@ -139,7 +142,7 @@ def read_case(path):
                 nodes, kinds = read_only(words[1:])
             else:
                 statements.append(read_statement(" ".join(words), without_comment(line).strip(), number, folder))
-        except (ValueError, SyntaxError, traces.argparse.ArgumentTypeError) as fault:
+        except (ValueError, SyntaxError, argparse.ArgumentTypeError) as fault:
             raise BadInput(f"{path}, line {number}: {fault}") from None
     if not statements:
         raise BadInput(f"{path}: a case without an expectation")
@@ -208,10 +211,10 @@ def absolute(text):
 
 
 def read_text(line, number, span):
-    match = re.fullmatch(r"text\s+(\d+)\s+(.*)", line)
-    value = ast.literal_eval(match[2]) if match else None
-    if not isinstance(value, str) or not value:
+    match = re.fullmatch(r"""text\s+(\d+)\s+("(?:\\.|[^"\\])+"|'(?:\\.|[^'\\])+')""", line)
+    if not match:
         raise ValueError('text is `text NODE "TEXT"`, with escapes as in Python')
+    value = ast.literal_eval(match[2])
     if max(value) > "\xff":
         raise ValueError(f"{max(value)} is no byte; write its bytes as \\x and two digits")
     return Text(number, int(match[1]), value.encode("latin-1"), span)
@@ -360,7 +363,7 @@ class GoldenTrace:
     def __init__(self, case, golden):
         self.case, self.golden = case, golden
         try:
-            self.file = open(golden.path, encoding="utf-8")
+            self.file = open(golden.path, encoding="utf-8", errors="replace")
         except OSError as fault:
             text = f"{case.path}, line {golden.line}: cannot read {golden.path}: {fault.strerror} (--save writes it)"
             raise Failure(lambda place: text) from None
@@ -410,29 +413,41 @@ class SavedTrace:
         pass
 
 
-def check(case, lines, save=False, name="the trace"):
+def check(case, lines, save=False, name="the trace", ended=None):
     """Whether a trace, an iterable of lines as bytes, meets the case: the first failure, or none. With `save` golden
-    traces are written anew, whatever they were, unless another expectation is not met. Raises BadInput where the lines
-    are no whole trace."""
+    traces are written anew, whatever they were, unless another expectation is not met. `ended` is called behind the
+    last line; it may raise Unmet. Raises BadInput where the lines are no whole trace."""
     looked = itertools.count()
     try:
         with contextlib.ExitStack() as stack:
-            watch(case, lines, name, save, stack, looked)
+            watch(case, whole_trace(lines, name, ended), save, stack, looked)
         failure = None
     except Unmet as unmet:
         failure = str(unmet)
     return Outcome(failure, next(looked), len(case.statements))
 
 
-def watch(case, lines, name, save, stack, looked):
+def whole_trace(lines, name, ended):
+    """The rows of a trace whose maker ended well. How it ended goes before what its lines lack."""
+    try:
+        yield from traces.parse(lines, name, whole=True)
+    except BadInput:
+        if ended and next(iter(lines), None) is None:
+            ended()
+        raise
+    if ended:
+        ended()
+
+
+def watch(case, rows, save, stack, looked):
     """Shows the watchers of a case all rows. Raises Unmet where one is not content."""
     before = collections.deque(maxlen=CONTEXT)
     parts = None
-    rows = iter(())
+    seen = iter(())
     try:
         watchers, writers = watchers_of(case, save, stack)
-        rows = looked_at(case, lines, name, writers)
-        for parts in rows:
+        seen = looked_at(case, rows, writers)
+        for parts in seen:
             next(looked)
             for watcher in watchers:
                 watcher.feed(parts)
@@ -441,15 +456,15 @@ def watch(case, lines, name, save, stack, looked):
         for watcher in watchers + writers:
             watcher.finish()
     except Failure as failure:
-        after = [" ".join(row) for row in itertools.islice(rows, CONTEXT)] if parts else []
+        after = [" ".join(row) for row in itertools.islice(seen, CONTEXT)] if parts else []
         place = Place([" ".join(row) for row in before], parts and " ".join(parts), after)
         raise Unmet(failure.explain(place)) from None
 
 
-def looked_at(case, lines, name, writers):
+def looked_at(case, rows, writers):
     """The rows of the case's nodes and kinds, each as its parts; what is written to USART0 goes to the `writers`
     first."""
-    for row in traces.parse(lines, name, whole=True):
+    for row in rows:
         if row.kind == "serial":
             for writer in writers:
                 writer.serial(row)
@@ -489,25 +504,20 @@ def run_case(case, avrora, save=False):
             process = subprocess.Popen([avrora, *case.source], cwd=case.folder, stdout=subprocess.PIPE, stderr=errors)
         except OSError as fault:
             raise BadInput(f"cannot run {avrora}: {fault.strerror}") from None
-        return checked_run(case, process, errors, save)
+        with process.stdout, contextlib.ExitStack() as stack:
+            stack.callback(process.wait)
+            stack.callback(process.kill)  # where the trace is not read to its end
+            return checked_run(case, process, errors, save)
 
 
 def checked_run(case, process, errors, save):
     words = f"avrora {' '.join(case.source)}"
-    bad = None
-    try:
-        outcome = check(case, traces.lines_of(process.stdout), save, words)
-    except BadInput as fault:
-        bad, outcome = fault, Outcome(str(fault), 0, len(case.statements))
-    process.stdout.close()
-    if outcome.failure and not bad:
-        process.kill()
-        process.wait()
-        return outcome
-    if process.wait() not in (0, -signal.SIGPIPE):
-        errors.seek(0)
-        said = errors.read().decode(errors="replace").strip()
-        return outcome._replace(failure=f"{case.path}: {words}: status {process.returncode}: {said}")
-    if bad:
-        raise bad
-    return outcome
+
+    def ended():
+        """Raises Unmet where the run ended otherwise than well."""
+        if process.wait():
+            errors.seek(0)
+            said = errors.read().decode(errors="replace").strip()
+            raise Unmet(f"{case.path}: {words}: status {process.returncode}: {said}")
+
+    return check(case, traces.lines_of(process.stdout), save, words, ended)

@@ -1,5 +1,6 @@
 """Programs as ELF files: the functions and source lines of addresses, by pyelftools. Addresses are word addresses, as
 in a trace."""
+import argparse
 import bisect
 import collections
 import os
@@ -163,7 +164,7 @@ class Programs:
         match = re.fullmatch(r"([\d,-]+)=(.+)", word)
         try:
             nodes = traces.node_set(match[1]) if match else None
-        except traces.argparse.ArgumentTypeError as fault:
+        except argparse.ArgumentTypeError as fault:
             raise BadInput(str(fault)) from None
         program = Program(match[2] if match else word)
         self.all.append(program)

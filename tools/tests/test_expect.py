@@ -181,7 +181,7 @@ class Refused(unittest.TestCase):
             ("* * talked *", "no row has the kind talked"),
             ("1.. 0 sent x..", "x.. is no"),
             ("count 5: * * sent *", "a count is"),
-            ("text 1 two", "malformed|text is"),
+            ("text 1 two", "text is"),
             ("text 1 5", "text is"),
             ("text 1 '\u20ac'", "is no byte"),
             ("text one 'a'", "text is"),
@@ -249,6 +249,26 @@ class Command(unittest.TestCase):
             status, out, _ = run_tool("expect", "--avrora", avrora, case)
         self.assertEqual(status, 1)
         self.assertIn("avrora run net: status 4: avrora: no.toml: scenario refused: NoNodes", out)
+
+    def test_a_run_that_fails_late(self):
+        """A golden trace is not renewed by it, and its status goes before rows that did not come."""
+        late = f"#!/bin/sh\nhead -n 100 {DATA}/relay.trace\necho 'avrora: out of memory' >&2\nexit 6\n"
+        for case_text in ("golden a.rows\n", "text 4 'relay'\n"):
+            with scratch("avrora", late) as avrora, scratch("a.expect", f"run net\n{case_text}") as case:
+                os.chmod(avrora, 0o755)
+                status, out, _ = run_tool("expect", "--save", "--avrora", avrora, case)
+                self.assertEqual(status, 1)
+                self.assertIn("avrora run net: status 6: avrora: out of memory", out)
+                self.assertEqual(os.listdir(os.path.dirname(case)), ["a.expect"])
+
+    def test_a_run_that_goes_on(self):
+        """Where a row fails at once, the run is ended."""
+        endless = f"#!/bin/sh\nhead -n 100 {DATA}/relay.trace\nexec sleep 1000\n"
+        with scratch("avrora", endless) as avrora, scratch("a.expect", "run net\nnever * * enter *\n") as case:
+            os.chmod(avrora, 0o755)
+            status, out, _ = run_tool("expect", "--avrora", avrora, case)
+        self.assertEqual(status, 1)
+        self.assertIn("> 3136 0 enter 001E 0104", out)
 
     def test_what_is_no_trace(self):
         with scratch("a.expect", "text 4 'relay'\n") as case:
