@@ -1,0 +1,313 @@
+"""Expectations of a trace, met and not met, each by hand."""
+import os
+import sys
+import unittest
+
+from support import DATA, TOP, data, needs_module, run_tool, scratch
+import expectations
+from traces import BadInput
+
+TRACE = """\
+10 0 sent 72
+20 0 heard 0 00 0
+30 1 heard 1 72 12
+40 1 serial 72
+50 0 sent 65
+60 1 heard 1 65 12
+70 1 serial 65
+80 1 stop 0102 .word 0xFFFF
+99 0 end 12 running
+99 1 end 7 stopped
+"""
+
+
+def outcome(text, trace=TRACE, save=False):
+    with scratch("case.expect", text) as path:
+        case = expectations.read_case(path)
+        return expectations.check(case, trace.encode().splitlines(keepends=True), save)
+
+
+class Met(unittest.TestCase):
+    def met(self, *lines, trace=TRACE):
+        self.assertIsNone(outcome("\n".join(lines), trace).failure)
+
+    def unmet(self, *lines, says, trace=TRACE):
+        failure = outcome("\n".join(lines), trace).failure
+        self.assertIsNotNone(failure)
+        self.assertEqual(failure.split(": ", 1)[1] if "\n" not in says else failure.split("case.expect, ", 1)[1], says)
+
+    def fails(self, *lines):
+        self.assertIsNotNone(outcome("\n".join(lines)).failure)
+
+    def test_rows_in_order(self):
+        self.met("10 0 sent 72", "40 1 serial 72", "70 1 serial 65")
+        self.fails("70 1 serial 65", "10 0 sent 72")
+        self.fails("10 0 sent 72", "10 0 sent 72")  # a row is found once
+
+    def test_parts(self):
+        self.met("* 0 sent *", "30 1 heard 1 72 *", "* 1 *", "80 1 stop 0102 .word 0xFFFF")
+        self.met("5..15 * sent {71,72}", "..30 1 heard 1 72 11+-1", "40.. 1 heard *")
+        self.met("10..1_0 0 sent 72")
+        self.fails("11.. 0 sent 72")
+        self.fails("* 0 sent {71,73}")
+        self.fails("30 1 heard 1 72 10+-1")
+        self.fails("30 1 heard 1 72")  # a row ends where the pattern ends
+        self.fails("10 0 sent 72 00")
+
+    def test_cycles_since_the_row_before(self):
+        self.met("10 0 sent 72", "+20 1 heard *", "+0..10 1 serial 72", "+10+-0 0 sent *")
+        self.fails("10 0 sent 72", "+0..19 1 heard *")
+
+    def test_missing_row(self):
+        self.unmet(
+            "10 0 sent 72",
+            "* 1 serial 73",
+            says="line 2: this row did not come:\n- * 1 serial 73\nafter this one:\n"
+            "  10 0 sent 72\nbut of its node and kind:\n+ 40 1 serial 72\n+ 70 1 serial 65",
+        )
+        self.unmet(
+            "* 5 serial 73", says="line 1: this row did not come:\n- * 5 serial 73\nand none of its node and kind"
+        )
+
+    def test_next(self):
+        self.met("10 0 sent 72", "next 20 0 heard *", "next 2: 50 0 sent 65")
+        self.unmet(
+            "10 0 sent 72",
+            "next 30 1 heard *",
+            says="line 2: this row was to come next, and came not:\n"
+            "- 30 1 heard *\nafter this one:\n  10 0 sent 72\nbut these:\n+ 20 0 heard 0 00 0",
+        )
+        self.fails("10 0 sent 72", "next 2: 50 0 sent 65")
+
+    def test_never(self):
+        self.met("never * * stop *", "10 0 sent 72", "never * * stop *", "70 1 serial 65")
+        self.unmet(
+            "10 0 sent 72",
+            "never * 1 stop *",
+            "* 0 end *",
+            says="line 2: this row was never to come:\n- * 1 stop *\n"
+            "but it did:\n  50 0 sent 65\n  60 1 heard 1 65 12\n  70 1 serial 65\n> 80 1 stop 0102 .word 0xFFFF\n"
+            "  99 0 end 12 running\n  99 1 end 7 stopped",
+        )
+        self.fails("50 0 sent 65", "never * * stop *")  # to the end
+        self.met("* 1 stop *", "never * * stop *")  # a row that is found is none that came between
+
+    def test_within(self):
+        self.met("within 0..79: never * * stop *", 'within 0..40: text 1 "r"', "within 41..: count == 1: * 1 serial *")
+        self.fails("within 0..80: never * * stop *")
+        self.fails('within 0..69: text 1 "re"')
+        self.fails("within ..40: count == 2: * 1 serial *")
+
+    def test_count(self):
+        for sign, number in (("==", 2), ("!=", 3), ("<=", 2), (">=", 2), ("<", 3), (">", 1)):
+            self.met(f"count {sign} {number}: * 1 serial *")
+        self.unmet("count == 3: * 1 serial *", says="line 1: == 3 rows wanted, 2 came:\n- * 1 serial *")
+
+    def test_text(self):
+        self.met(r'text 1 "\x72e"', "text 1 're' # a comment, and 'quotes'")
+        self.unmet('text 1 "er"', says="line 1: node 1 did not write:\n- 'er'\nbut, at the end:\n+ 're'")
+        self.met('text 0 "#"', trace="1 0 serial 23\n2 0 end 1 running\n")
+
+    def test_only(self):
+        self.met("only 1 heard serial", "30 1 heard *", "next 40 1 serial *", "next 60 1 heard *", "count == 0: * 0 *")
+        self.met("only 1 heard", 'text 1 "re"')  # text looks at all that a node writes
+
+
+class Golden(unittest.TestCase):
+    ROWS = "10 0 sent 72\n40 1 serial 72\n50 0 sent 65\n70 1 serial 65\n"
+
+    def case(self, folder, text):
+        path = f"{folder}/golden.expect"
+        with open(path, "w", encoding="utf-8") as file:
+            file.write(text)
+        return expectations.read_case(path)
+
+    def check(self, case, trace=TRACE, save=False):
+        return expectations.check(case, trace.encode().splitlines(keepends=True), save).failure
+
+    def test_saved_and_compared(self):
+        with scratch("x") as place:
+            folder = os.path.dirname(place)
+            for text, rows in (
+                ("golden a.rows", self.ROWS),
+                ("golden a.rows without cycles", "0 sent 72\n1 serial 72\n0 sent 65\n1 serial 65\n"),
+            ):
+                case = self.case(folder, f"only sent serial\n{text}\n")
+                self.assertIsNone(self.check(case, save=True))
+                with open(f"{folder}/a.rows", encoding="utf-8") as file:
+                    self.assertEqual(file.read(), rows)
+                self.assertIsNone(self.check(case))
+            self.assertIsNone(self.check(case, TRACE.replace("50 0 sent", "51 0 sent")))
+            self.assertIn("row 3 differs", self.check(case, TRACE.replace("50 0 sent 65", "50 0 sent 66")))
+
+    def test_difference_in_context(self):
+        with scratch("a.rows", self.ROWS) as path:
+            case = self.case(os.path.dirname(path), "only sent serial\ngolden a.rows\n")
+            said = self.check(case, TRACE.replace("50 0 sent 65", "55 0 sent 65")).splitlines()
+            self.assertEqual(
+                said[1:],
+                [
+                    "--- expected",
+                    "+++ came",
+                    " 10 0 sent 72",
+                    " 40 1 serial 72",
+                    "-50 0 sent 65",
+                    "+55 0 sent 65",
+                    " 70 1 serial 65",
+                ],
+            )
+            said = self.check(case, TRACE.replace("70 1 serial 65\n", "")).splitlines()
+            self.assertEqual(said[-2:], [" 50 0 sent 65", "-70 1 serial 65"])
+            said = self.check(case, TRACE.replace("80 1 stop 0102 .word 0xFFFF", "80 1 serial 41")).splitlines()
+            self.assertEqual(said[-2:], [" 70 1 serial 65", "+80 1 serial 41"])
+
+    def test_no_file(self):
+        with scratch("x") as place:
+            case = self.case(os.path.dirname(place), "golden none.rows\n")
+            self.assertIn("(--save writes it)", self.check(case))
+
+    def test_not_saved_where_another_fails(self):
+        with scratch("a.rows", self.ROWS) as path:
+            case = self.case(os.path.dirname(path), "golden a.rows\ncount == 7: * * sent *\n")
+            self.assertIn("== 7 rows wanted", self.check(case, save=True))
+            with open(path, encoding="utf-8") as file:
+                self.assertEqual(file.read(), self.ROWS)
+
+
+class Refused(unittest.TestCase):
+    def test_lines(self):
+        for line, why in (
+            ("10 0", "is no row"),
+            ("* * talked *", "no row has the kind talked"),
+            ("1.. 0 sent x..", "x.. is no"),
+            ("count 5: * * sent *", "a count is"),
+            ("text 1 two", "text is"),
+            ("text 1 5", "text is"),
+            ("text 1 '\u20ac'", "is no byte"),
+            ("text one 'a'", "text is"),
+            ("within 1: * * sent *", "within"),
+            ("golden", "golden is"),
+            ("run", "after run stand 1"),
+            ("node a.hex", "after node stand 2"),
+            ("only talked", "talked is no kind"),
+            ("only 64 sent", "nodes are 0 to 63"),
+            ("within 0..9: golden x", "within"),
+            ("count == 1: +5 0 sent *", "cycles are counted"),
+            ("next", "is no row"),
+            ("run a\nrun b", "a second source"),
+        ):
+            with self.subTest(line), scratch("case.expect", f"{line}\n* * sent *\n") as path:
+                with self.assertRaisesRegex(BadInput, f"case.expect, line [12]: .*({why})"):
+                    expectations.read_case(path)
+
+    def test_nothing_expected(self):
+        with scratch("case.expect", "run a.toml\n# only this\n") as path, self.assertRaisesRegex(
+            BadInput, "without an expectation"
+        ):
+            expectations.read_case(path)
+
+
+# A stand-in for the simulator: it writes the file that it is asked to run, and ends with status 4 where there is none.
+SIMULATOR = f"""#!{sys.executable}
+import sys
+try:
+    sys.stdout.write(open(sys.argv[2]).read())
+except OSError:
+    sys.stderr.write("avrora: no.toml: scenario refused: NoNodes\\n")
+    sys.exit(4)
+"""
+
+
+class Command(unittest.TestCase):
+    def test_trace_of_a_case(self):
+        with scratch("a.expect", f"trace {DATA}/relay.trace\ntext 4 'relay'\ncount == 24: * * sent *\n") as path:
+            status, out, err = run_tool("expect", path)
+        self.assertEqual((status, out, err), (1, out, ""))  # 25 are sent: five bytes by five nodes
+        self.assertIn("== 24 rows wanted, 25 came:", out)
+
+    def test_tap(self):
+        with scratch("a.expect", "text 4 'relay'\ncount == 25: * * sent *\n") as good, scratch(
+            "b.expect", "text 4 'yes'\n"
+        ) as bad:
+            status, out, _ = run_tool("expect", "--trace", "-", good, stdin=data("relay.trace"))
+            self.assertEqual((status, out), (0, f"TAP version 13\n1..1\nok 1 - {good} # 260 rows, 2 expectations\n"))
+            status, out, _ = run_tool("expect", "--trace", f"{DATA}/relay.trace", good, bad)
+        self.assertEqual(status, 1)
+        self.assertEqual(
+            out,
+            f"TAP version 13\n1..2\nok 1 - {good} # 260 rows, 2 expectations\nnot ok 2 - {bad}\n  ---\n  message: |\n"
+            f"    {bad}, line 1: node 4 did not write:\n    - 'yes'\n    but, at the end:\n    + 'relay'\n  ...\n",
+        )
+
+    def test_run(self):
+        with scratch("avrora", SIMULATOR) as avrora, scratch("a.expect", "run net\ntext 4 'relay'\n") as case:
+            os.chmod(avrora, 0o755)
+            with open(f"{os.path.dirname(case)}/net", "w", encoding="utf-8") as file:
+                file.write(data("relay.trace"))
+            self.assertEqual(run_tool("expect", case, env={"AVRORA": avrora})[0], 0)
+            os.unlink(f"{os.path.dirname(case)}/net")
+            status, out, _ = run_tool("expect", "--avrora", avrora, case)
+        self.assertEqual(status, 1)
+        self.assertIn("avrora run net: status 4: avrora: no.toml: scenario refused: NoNodes", out)
+
+    def test_a_run_that_fails_late(self):
+        """A golden trace is not renewed by it, and its status goes before rows that did not come."""
+        late = f"#!/bin/sh\nhead -n 100 {DATA}/relay.trace\necho 'avrora: out of memory' >&2\nexit 6\n"
+        for case_text in ("golden a.rows\n", "text 4 'relay'\n"):
+            with scratch("avrora", late) as avrora, scratch("a.expect", f"run net\n{case_text}") as case:
+                os.chmod(avrora, 0o755)
+                status, out, _ = run_tool("expect", "--save", "--avrora", avrora, case)
+                self.assertEqual(status, 1)
+                self.assertIn("avrora run net: status 6: avrora: out of memory", out)
+                self.assertEqual(os.listdir(os.path.dirname(case)), ["a.expect"])
+
+    def test_a_run_that_goes_on(self):
+        """Where a row fails at once, the run is ended."""
+        endless = f"#!/bin/sh\nhead -n 100 {DATA}/relay.trace\nexec sleep 1000\n"
+        with scratch("avrora", endless) as avrora, scratch("a.expect", "run net\nnever * * enter *\n") as case:
+            os.chmod(avrora, 0o755)
+            status, out, _ = run_tool("expect", "--avrora", avrora, case)
+        self.assertEqual(status, 1)
+        self.assertIn("> 3136 0 enter 001E 0104", out)
+
+    def test_what_is_no_trace(self):
+        with scratch("a.expect", "text 4 'relay'\n") as case:
+            for trace, why in (("", "an empty trace"), ("hello\n", "no row"), (data("relay.trace")[:-5], "cut off")):
+                status, out, _ = run_tool("expect", "--trace", "-", case, stdin=trace)
+                self.assertEqual(status, 2)
+                self.assertIn("not ok 1", out)
+                self.assertIn(why, out)
+            status, _, err = run_tool("expect", "--trace", "-", case, case)
+            self.assertEqual((status, err), (2, "expect: --trace - is read once, so it serves one case\n"))
+            status, out, _ = run_tool("expect", case)
+            self.assertEqual(status, 2)
+            self.assertIn("no run, node or trace", out)
+
+    def test_no_simulator(self):
+        with scratch("a.expect", "run a.toml\n* * sent *\n") as case:
+            status, out, _ = run_tool("expect", "--avrora", "/nowhere/avrora", case)
+        self.assertEqual(status, 2)
+        self.assertIn("cannot run /nowhere/avrora: No such file or directory", out)
+
+    def test_cases_of_the_examples(self):
+        for name in ("relay", "flood"):
+            status, out, _ = run_tool("expect", "--trace", f"{DATA}/{name}.trace", f"{TOP}/examples/{name}.expect")
+            self.assertEqual((status, out.splitlines()[2][:4]), (0, "ok 1"))
+
+    @needs_module("junit_xml", "python3-junit.xml")
+    def test_junit(self):
+        import xml.etree.ElementTree as tree
+
+        with scratch("a.expect", "text 4 'relay'\n") as good, scratch("b.expect", "text 4 '<&>'\n") as bad, scratch(
+            "out.xml"
+        ) as report:
+            run_tool("expect", "--trace", f"{DATA}/relay.trace", "--junit", report, good, bad)
+            suite = tree.parse(report).getroot().find("testsuite")
+            self.assertEqual((suite.get("tests"), suite.get("failures")), ("2", "1"))
+            (failed,) = suite.iter("failure")
+            self.assertIn("did not write", failed.get("message"))
+            self.assertIn("- '<&>'", failed.text)
+
+
+if __name__ == "__main__":
+    unittest.main()

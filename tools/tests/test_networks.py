@@ -1,0 +1,173 @@
+"""Networks of each shape; a window of a scenario."""
+import os
+import sys
+import tomllib
+import unittest
+
+from support import DATA, data, run_tool, scratch
+import networks
+import scenarios
+from traces import BadInput
+
+
+class Shapes(unittest.TestCase):
+    def test_pairs(self):
+        for shape, count, pairs in (
+            ("line", 4, [(0, 1), (1, 2), (2, 3)]),
+            ("ring", 4, [(0, 1), (0, 3), (1, 2), (2, 3)]),
+            ("ring", 2, [(0, 1)]),
+            ("line", 1, []),
+            ("star", 4, [(0, 1), (0, 2), (0, 3)]),
+            ("full", 3, [(0, 1), (0, 2), (1, 2)]),
+            ("grid:2", 5, [(0, 1), (0, 2), (1, 3), (2, 3), (2, 4)]),
+            ("grid:9", 3, [(0, 1), (1, 2)]),
+            ("torus:3", 6, [(0, 1), (0, 2), (0, 3), (1, 2), (1, 4), (2, 5), (3, 4), (3, 5), (4, 5)]),
+            ("geo:2", 3, [(0, 1), (0, 2), (1, 2)]),
+        ):
+            with self.subTest(shape):
+                self.assertEqual(networks.pairs_of(shape, count), pairs)
+
+    def test_drawn(self):
+        near, far = (set(networks.pairs_of(f"geo:{reach}", 64, seed=7)) for reach in (0.1, 0.3))
+        self.assertLess(near, far)
+        self.assertEqual(far, set(networks.pairs_of("geo:0.3", 64, seed=7)))
+        self.assertNotEqual(far, set(networks.pairs_of("geo:0.3", 64, seed=8)))
+
+    def test_no_shape(self):
+        for shape in ("cube", "line:3", "grid", "grid:0", "grid:x", "geo", "geo:-1", "geo:inf", "torus:4"):
+            with self.subTest(shape), self.assertRaisesRegex(BadInput, shape.split(":")[0]):
+                networks.pairs_of(shape, 6)
+
+
+class Texts(unittest.TestCase):
+    def test_all_keys(self):
+        text = networks.scenario(
+            "line",
+            ["a.hex", 'b".hex'],
+            cycles=50_000,
+            latency=77,
+            byte_time=512,
+            window=(10, 20),
+            at=100,
+            stagger=7,
+            link_latency=(5, 6),
+            spans={(1, 0): [(0, 9), (20, 30)]},
+            inputs={1: "FF"},
+            every=999,
+        )
+        document = tomllib.loads(text)
+        for link in document["link"]:
+            self.assertIn(link.pop("latency"), (5, 6))
+        self.assertEqual(
+            document,
+            {
+                "version": 3,
+                "cycles": 50_000,
+                "latency": 77,
+                "byte_time": 512,
+                "window": [10, 20],
+                "node": [{"image": "a.hex"}, {"image": 'b".hex'}],
+                "link": [{"from": 0, "to": 1}, {"from": 1, "to": 0, "open": [[0, 9], [20, 30]]}],
+                "input": [{"node": 0, "at": 100, "hex": "00"}, {"node": 1, "at": 107, "hex": "01FF", "every": 999}],
+            },
+        )
+
+    def test_refused(self):
+        for change, why in (
+            (dict(cycles=0), "OutOfRange.*cycles"),
+            (dict(images=["x"] * 65), "TooManyNodes"),
+            (dict(latency=65_536), "OutOfRange.*latency"),
+            (dict(window=(0, 20_001)), "OutOfRange.*window"),
+            (dict(spans={(0, 2): [(0, 1)]}), "no link from 0 to 2"),
+            (dict(inputs={3: "00"}), "there is no node 3"),
+        ):
+            with self.subTest(why), self.assertRaisesRegex(BadInput, why):
+                networks.scenario(**{"shape": "line", "images": ["x"] * 3, **change})
+
+    def test_command(self):
+        words = [
+            "--cycles",
+            "9999",
+            "--open",
+            "0-1=0..5,7..9",
+            "--stagger",
+            "10",
+            "--seed",
+            "4",
+            "--link-latency",
+            "100..200",
+            "ring",
+            "a.hex*3",
+            "b.hex",
+        ]
+        status, out, err = run_tool("mknet", *words)
+        self.assertEqual((status, err), (0, ""))
+        self.assertEqual(run_tool("mknet", *words)[1], out)
+        network = scenarios.Scenario.of_text(out, "out")
+        self.assertEqual((network.cycles, network.images, len(network.links)), (9999, ["a.hex"] * 3 + ["b.hex"], 8))
+        self.assertEqual(network.links[0].spans, [[0, 5], [7, 9]])
+        self.assertTrue(all(100 <= link.latency <= 200 for link in network.links))
+
+    def test_command_refused(self):
+        for words, why in (
+            (["cube", "a"], "cube is no shape"),
+            (["line", "a", "--open", "0-1"], "no FROM-TO"),
+            (["line", "a*70"], "TooManyNodes"),
+            (["line", "a", "--link-latency", "9..3"], "the lower number"),
+        ):
+            status, out, err = run_tool("mknet", *words)
+            self.assertEqual((status, out), (2, ""))
+            self.assertIn(why, err)
+
+
+# A stand-in for the simulator: it writes the scenario that it reads to its errors, and the stored trace of relay.
+SIMULATOR = f"""#!{sys.executable}
+import os, sys
+sys.stderr.write(os.getcwd() + "\\n" + " ".join(sys.argv[1:-1]) + "\\n" + open(sys.argv[-1]).read())
+sys.stdout.write(open("{DATA}/relay.trace").read())
+sys.exit(6)
+"""
+
+
+class Window(unittest.TestCase):
+    def test_rows_and_scenario(self):
+        with scratch("avrora", SIMULATOR) as avrora:
+            os.chmod(avrora, 0o755)
+            status, out, err = run_tool("window", "--avrora", avrora, "--plain", f"{DATA}/relay.toml", "9_000", "9_500")
+        self.assertEqual(status, 6)
+        self.assertEqual(out, data("relay.trace")[data("relay.trace").index("9367 0 heard") :])
+        folder, words, text = err.split("\n", 2)
+        self.assertEqual((folder, words), (DATA, "run --plain"))
+        whole = tomllib.loads(data("relay.toml"))
+        self.assertEqual(tomllib.loads(text), whole | {"cycles": 9_500, "window": [9_000, 9_500]})
+
+    def test_keys_over_lines(self):
+        text = 'window = [1,\n 2,\n]\nnode = [{image = "x"}]\n"cycles" = 100 # cycles = 5\n[[link]]\nfrom = 0\n'
+        namespace = {}
+        with open(f"{DATA}/../../window", encoding="utf-8") as file:
+            source = file.read().split("parser = ")[0]
+        exec(compile(source, "window", "exec"), namespace)
+        self.assertEqual(
+            tomllib.loads(namespace["windowed"](text, 3, 4)),
+            {"cycles": 4, "window": [3, 4], "node": [{"image": "x"}], "link": [{"from": 0}]},
+        )
+
+    def test_no_window(self):
+        for first, end in (("5", "5"), ("0", "20001"), ("0", "90001"), ("89000", "90001"), ("7", "6")):
+            status, out, err = run_tool("window", "--avrora", "/nowhere", f"{DATA}/relay.toml", first, end)
+            self.assertEqual((status, out), (2, ""))
+            self.assertIn("is no window", err)
+
+    def test_no_trace(self):
+        with scratch("avrora", "#!/bin/sh\necho hello\n") as avrora:
+            os.chmod(avrora, 0o755)
+            status, out, err = run_tool("window", "--avrora", avrora, f"{DATA}/relay.toml", "5", "6")
+        self.assertEqual((status, out, err), (2, "", "window: what the simulator wrote is no trace: hello\n"))
+
+    def test_no_simulator(self):
+        status, _, err = run_tool("window", "--avrora", "/nowhere", f"{DATA}/relay.toml", "5", "6")
+        self.assertEqual((status, err), (2, "window: cannot run /nowhere: No such file or directory\n"))
+
+
+if __name__ == "__main__":
+    unittest.main()

@@ -1,0 +1,271 @@
+"""Timelines and waves."""
+import json
+import re
+import subprocess
+import tempfile
+import unittest
+import xml.etree.ElementTree as tree
+
+from support import DATA, data, needs_program, run_tool, scratch
+
+SVG = "{http://www.w3.org/2000/svg}"
+
+
+def page_of(name, *words):
+    status, out, err = run_tool("timeline", *words, "-s", f"{DATA}/{name}.toml", f"{DATA}/{name}.trace")
+    assert (status, err) == (0, ""), err
+    return out
+
+
+def data_of(page):
+    return json.loads(re.search(r"(?m)^const data = (.*);$", page)[1])
+
+
+def cycles(flat, fields):
+    """The cycles of a list of a page's data, whose cycles are distances."""
+    found = []
+    for distance in flat[::fields]:
+        found.append((found[-1] if found else 0) + distance)
+    return found
+
+
+class Page(unittest.TestCase):
+    def test_relay(self):
+        drawn = data_of(page_of("relay"))
+        self.assertEqual(
+            (drawn["first"], drawn["end"], drawn["byteTime"], drawn["window"]), (0, 90_000, 3_072, [3_130, 3_165])
+        )
+        self.assertEqual([node["name"] for node in drawn["nodes"]], [f"{node} relay" for node in range(5)])
+        node = drawn["nodes"][1]
+        self.assertEqual(node["sent"], [9640, 0x72, 9216, 0x65, 6144, 0x6C, 9216, 0x61, 6144, 0x79])
+        self.assertEqual(
+            node["heard"],
+            [9367, 0x72, 114, 0, 9216, 0x65, 114, 0, 6144, 0x6C, 114, 0, 9216, 0x61, 114, 0, 6144, 0x79, 114, 0],
+        )
+        self.assertEqual(cycles(node["serial"], 2), [17224, 26440, 34120, 41800, 49480])
+        self.assertEqual(
+            (len(node["quiet"]), node["clash"], node["enter"], node["state"]), (24, [], [3136, 0x1E], "asleep")
+        )
+
+    def test_clashes_of_flood(self):
+        node = data_of(page_of("flood"))["nodes"][6]
+        self.assertEqual(node["clash"], [15506, 1, [2, 5], 9216, 2, [2, 5]])
+
+    def test_packet(self):
+        # AA AA 7E, the length, and as payload the sensor's number, the packet's, and a reading
+        sent = data_of(page_of("packet"))["nodes"][2]["sent"][1::2]
+        self.assertEqual(
+            bytes(sent).hex(" "), "aa aa 7e 03 02 00 16 aa aa 7e 03 02 01 17 aa aa 7e 03 02 02 17 aa aa 7e 03 02 03 18"
+        )
+
+    def test_part(self):
+        drawn = data_of(page_of("flood", "--from", "15_000", "--to", "16_000", "-n", "1-2"))
+        self.assertEqual(
+            [(node["node"], cycles(node["sent"], 2), cycles(node["clash"], 3)) for node in drawn["nodes"]],
+            [(1, [], [15506]), (2, [15051], [])],
+        )
+
+    def test_sleep_and_stop(self):
+        trace = (
+            "10 0 instr 0010 sleep\n30 0 enter 001E 0011\n38 0 instr 001E nop\n39 0 instr 001F sleep\n"
+            "60 0 sent 41\n70 1 stop 0098 .word 0xFFFF\n"
+        )
+        status, out, _ = run_tool("timeline", stdin=trace)
+        node, other = data_of(out)["nodes"]
+        self.assertEqual((status, node["asleep"], other["stop"]), (0, [11, 19], [70, "0098 .word 0xFFFF"]))
+
+    def test_names_do_not_end_the_script(self):
+        with scratch("net.toml", 'cycles = 9\n[[node]]\nimage = "</script>.hex"\n') as scenario:
+            page = run_tool("timeline", "-s", scenario, stdin="5 0 sent 41\n")[1]
+        self.assertEqual(page.count("</script>"), 1)
+
+    def test_large(self):
+        """64 nodes and 100,000 events make less than 3 MB."""
+        rows = []
+        for cycle in range(0, 1_600_000, 1024):
+            rows += [
+                f"{cycle} {node} {'sent 41' if (cycle // 1024 + node) % 8 == 0 else 'heard 1 41 11'}\n"
+                for node in range(64)
+            ]
+        self.assertEqual(len(rows) // 1000, 100)
+        status, out, err = run_tool("timeline", stdin="".join(rows))
+        self.assertEqual((status, err), (0, ""))
+        self.assertLess(len(out), 3_000_000)
+
+    def test_no_rows_of_the_nodes(self):
+        status, _, err = run_tool("timeline", "-n", "9", f"{DATA}/relay.trace")
+        self.assertEqual((status, err), (2, "timeline: the trace has no row of these nodes\n"))
+
+    PROBE = """<script>
+goToClash(true); paint();
+const frame = sky.getBoundingClientRect(), at = { clientX: frame.left + x(15506), clientY: frame.top + y(6) + 5 };
+sky.dispatchEvent(new MouseEvent("mousemove", { ...at, bubbles: true }));
+const { data: points } = pen.getImageData(0, 0, sky.width, sky.height);
+const ink = points.filter((value, i) => i % 4 === 0 && value < 128).length;
+document.body.innerHTML = `<pre>${tip.textContent}|${shown.length}|${Math.round(from)}|${ink > 1000}|</pre>`;
+</script>"""
+
+    @needs_program("chromium", "chromium")
+    def test_in_a_browser(self):
+        with scratch("page.html", page_of("flood") + self.PROBE) as page, tempfile.TemporaryDirectory() as profile:
+            words = [
+                "chromium",
+                "--headless=new",
+                "--no-sandbox",
+                "--disable-gpu",
+                "--disable-dev-shm-usage",
+                f"--user-data-dir={profile}",
+                "--window-size=1300,600",
+                "--dump-dom",
+                f"file://{page}",
+            ]
+            try:
+                done = subprocess.run(words, capture_output=True, timeout=40, check=False)
+            except subprocess.TimeoutExpired:
+                self.skipTest("chromium did not end in 40 s")
+        if done.returncode:
+            self.skipTest(f"chromium ended with status {done.returncode}")
+        self.assertIn(
+            "15,506  CLASH of node 2's 01 of 15,051, node 5's 01 of 15,046|2|5266|true|", done.stdout.decode()
+        )
+
+
+class Picture(unittest.TestCase):
+    def shapes(self, name, *words):
+        root = tree.fromstring(page_of(name, "--svg", *words))
+        found = {}
+        for shape in root.iter():
+            found.setdefault(shape.get("class"), []).append(shape)
+        return found
+
+    def test_counts(self):
+        # One shape each, and one of each kind in the legend.
+        for name, sent, heard, clash, serial in (("relay", 25, 20, 0, 20), ("flood", 32, 80, 8, 32)):
+            found = self.shapes(name)
+            self.assertEqual(
+                [len(found[kind]) - 1 for kind in ("sent", "heard", "clash", "serial")], [sent, heard, clash, serial]
+            )
+            self.assertEqual((len(found.get("hop", [])), len(found.get("way", []))), (heard, 2 * clash))
+
+    def test_samples_of_nothing(self):
+        self.assertEqual(len(self.shapes("flood", "--quiet")["quiet"]), 544 - 80 - 8)
+
+    def test_place(self):
+        # 1,200 pixels, of which 92 stand before the cycles and 12 behind: cycle 45,000 of 90,000 is 640
+        bar = self.shapes("relay")["sent"][0]
+        self.assertEqual(
+            (bar.get("x"), bar.get("width")),
+            (f"{92 + round(6542 * 1096 / 90_000, 2):.2f}", f"{3072 * 1096 / 90_000 - .4:.2f}"),
+        )
+        self.assertEqual(bar.find(f"{SVG}title").text, "6,542: node 0 sent 72 'r'")
+
+    def test_many_events(self):
+        rows = "".join(f"{cycle} {cycle % 3} sent 41\n" for cycle in range(0, 3_000_000, 100))
+        status, out, _ = run_tool("timeline", "--svg", stdin=rows)
+        self.assertEqual(status, 0)
+        self.assertLess(len(out), 200_000)
+        self.assertEqual(len(tree.fromstring(out).findall(f"{SVG}path")), 3 + 1)
+
+
+def changes(dump):
+    """The changes of a dump: (time, name of the node and variable, value)."""
+    names, scope, now, found = {}, [], 0, []
+    for line in dump.splitlines():
+        words = line.split()
+        if words[:1] == ["$scope"]:
+            scope.append(words[2])
+        elif words[:1] == ["$upscope"]:
+            scope.pop()
+        elif words[:1] == ["$var"]:
+            names[words[3]] = f"{scope[-1]}.{words[4]}"
+        elif line[:1] == "#":
+            now = int(line[1:])
+        elif line[:1] in ("b", "s"):
+            found.append((now, names[words[1]], words[0][1:]))
+        elif line[:1] in ("0", "1", "x"):
+            found.append((now, names[line[1:]], line[0]))
+    return found
+
+
+class Waves(unittest.TestCase):
+    TRACE = (
+        "10 0 instr 0010 sleep\n30 0 enter 001E 0011\n38 0 instr 001E nop\n40 0 sent 41\n45 1 heard 2 0F 0\n"
+        "50 1 serial 61\n60 1 heard 1 41 3\n70 1 stop 0098 .word 0xFFFF\n"
+    )
+
+    # By hand, with a byte time of 25.
+    CHANGES = [
+        (10, "node0.pc", "10000"),
+        (10, "node0.instr", "sleep"),
+        (10, "node0.asleep", "0"),
+        (11, "node0.asleep", "1"),
+        (30, "node0.asleep", "0"),
+        (30, "node0.vector", "TIMER0_COMP_vect"),
+        (38, "node0.pc", "11110"),
+        (38, "node0.instr", "nop"),
+        (40, "node0.sent_byte", "1000001"),
+        (40, "node0.sent", "1"),
+        (45, "node1.heard_status", "10"),
+        (45, "node1.heard_byte", "1111"),
+        (45, "node1.heard_age", "0"),
+        (45, "node1.clash", "1"),
+        (45, "node1.sample", "1"),
+        (50, "node1.serial_byte", "1100001"),
+        (50, "node1.serial", "1"),
+        (60, "node1.heard_status", "1"),
+        (60, "node1.heard_byte", "1000001"),
+        (60, "node1.heard_age", "11"),
+        (60, "node1.clash", "0"),
+        (60, "node1.sample", "1"),
+        (65, "node0.sent", "0"),
+        (70, "node1.instr", "stop_.word_0xFFFF"),
+        (70, "node1.stopped", "1"),
+    ]
+
+    def test_changes(self):
+        status, out, err = run_tool("vcd", "-n", "0,1", "--byte-time", "25", stdin=self.TRACE)
+        self.assertEqual((status, err), (0, ""))
+        self.assertEqual(sorted(change for change in changes(out) if change[0]), sorted(self.CHANGES))
+        times = [int(time) for time in re.findall(r"(?m)^#(\d+)$", out)]
+        self.assertEqual(times, sorted(set(times)))
+
+    def test_time_in_picoseconds(self):
+        out = run_tool("vcd", "-n", "0,1", "--hz", "1000000", stdin=self.TRACE)[1]
+        self.assertIn("$timescale 1 ps $end", out)
+        self.assertIn((40_000_000, "node0.sent", "1"), changes(out))
+
+    def test_behind_the_window(self):
+        out = run_tool("vcd", "-s", f"{DATA}/relay.toml", f"{DATA}/relay.trace")[1]
+        self.assertIn((3165, "node4_relay.pc", "x"), changes(out))
+        self.assertEqual(sum(name.endswith(".sent") and value == "1" for _, name, value in changes(out)), 25)
+
+    def test_nodes_of_a_file(self):
+        with scratch("t.trace", self.TRACE) as path:
+            self.assertEqual(set(re.findall("module (node.*) ", run_tool("vcd", path)[1])), {"node0", "node1"})
+
+    def test_a_stream_wants_its_nodes(self):
+        status, out, err = run_tool("vcd", stdin=self.TRACE)
+        self.assertEqual((status, out), (2, ""))
+        self.assertIn("name them (-n)", err)
+
+    @needs_program("vcd2fst", "gtkwave")
+    def test_read_by_another_program(self):
+        """GTKWave's own converter reads the dump, and writes the same changes back."""
+        dump = run_tool("vcd", "-s", f"{DATA}/flood.toml", stdin=data("flood.trace"))[1]
+        with scratch("flood.vcd", dump) as path:
+            subprocess.run(["vcd2fst", path, f"{path}.fst"], check=True, capture_output=True)
+            back = subprocess.run(["fst2vcd", "-f", f"{path}.fst"], check=True, capture_output=True).stdout.decode()
+        self.assertEqual(self.settled(back), self.settled(dump))
+
+    def settled(self, dump):
+        """The changes behind the start, events aside, in order; leading zeros and the width of what is unknown are
+        forms."""
+        return sorted(
+            (time, name, "x" if value.strip("x") == "" else value.lstrip("0") or "0")
+            for time, name, value in changes(dump)
+            if time and not name.endswith((".sample", ".serial"))
+        )
+
+
+if __name__ == "__main__":
+    unittest.main()

@@ -1,0 +1,279 @@
+"""Functions and source lines of addresses, and where cycles went. relay.elf is examples/relay.c as avr-gcc 5.4
+compiles it with -Os -gdwarf-2; what is expected of it was read in its listing by avr-objdump -dl."""
+import random
+import unittest
+
+from support import DATA, data, needs_module, run_tool, scratch
+import programs
+from traces import BadInput
+
+ELF = f"{DATA}/relay.elf"
+
+pyelftools = needs_module("elftools", "python3-pyelftools")
+
+
+@pyelftools
+class Programs(unittest.TestCase):
+    def setUp(self):
+        self.relay = programs.Program(ELF)
+
+    def test_functions(self):
+        names = [(2 * function.first, function.name) for function in self.relay.functions]
+        self.assertEqual(
+            names,
+            [
+                (0x00, "__vectors"),
+                (0x8C, "__init"),
+                (0x98, "__do_clear_bss"),
+                (0xB0, "__bad_interrupt"),
+                (0xB4, "put"),
+                (0xD4, "transfer"),
+                (0xDE, "__vector_18"),
+                (0x130, "__vector_15"),
+                (0x1DC, "main"),
+                (0x210, "_exit"),
+                (0x212, "__stop_program"),
+            ],
+        )
+        self.assertEqual(self.relay.functions[-1].end, 0x214 // 2)
+
+    def test_places(self):
+        for byte, place in (
+            (0x1E * 2, "__vectors+0x3C"),
+            (0xB4, "put relay.c:21"),
+            (0xD8, "transfer+0x4 relay.c:29"),
+            (0x130, "__vector_15 relay.c:52"),
+            (0x20A, "main+0x2E relay.c:71"),
+            (0x214, "?"),
+        ):
+            self.assertEqual(self.relay.place(byte // 2), place)
+
+    def test_instructions(self):
+        # put: LDS and STS of two words each among words of one
+        words = [2 * word for word in self.relay.instructions(self.relay.functions[4])]
+        self.assertEqual(words, [0xB4, 0xB8, 0xBA, 0xBC, 0xBE, 0xC2, 0xC4, 0xC6, 0xC8, 0xCA, 0xCC, 0xCE, 0xD2])
+
+    def test_what_is_no_elf(self):
+        with open(ELF, "rb") as file:
+            good = file.read()
+        for content, why in (
+            (b"", "no ELF file"),
+            (b"\x7fELF", "no ELF file"),
+            (b":00000001FF\n", "no ELF file"),
+            (good[:18] + b"\x3e\x00" + good[20:], "for EM_X86_64, and not for the AVR"),
+            (good[:600], "no ELF file"),
+            (good[:-800], "no ELF file"),
+        ):
+            with self.subTest(content[:20]), scratch("bad.elf", content) as path, self.assertRaisesRegex(
+                BadInput, f"bad.elf: .*{why}"
+            ):
+                programs.Program(path)
+
+    def test_of_each_node(self):
+        class Scenario:
+            images = ["a/relay.hex", "other.hex", "relay.hex"]
+
+        self.assertEqual([bool(programs.Programs([ELF], Scenario).of(node)) for node in range(3)], [True, False, True])
+        self.assertEqual([bool(programs.Programs([f"1-2={ELF}"]).of(node)) for node in range(3)], [False, True, True])
+        self.assertTrue(programs.Programs([ELF]).of(63))
+        Scenario.images = ["other.hex"]
+        with self.assertRaisesRegex(BadInput, "no node has the image relay.hex"):
+            programs.Programs([ELF], Scenario)
+
+
+class Vectors(unittest.TestCase):
+    def test_names(self):
+        # the manual's table of vectors: 2 INT0, 1E TIMER0 COMP, 22 SPI STC, 44 SPM READY
+        self.assertEqual(
+            [programs.vector_name(word) for word in (0x02, 0x1E, 0x22, 0x30, 0x44, 0x46)],
+            ["INT0_vect", "TIMER0_COMP_vect", "SPI_STC_vect", "TIMER1_COMPC_vect", "SPM_READY_vect", "vector 0046"],
+        )
+
+    def test_annotated_without_a_program(self):
+        status, out, _ = run_tool("annotate", stdin="5 0 enter 001E 0104\n6 0 sent 41\n")
+        self.assertEqual((status, out), (0, f"{'5 0 enter 001E 0104':<44} ; TIMER0_COMP_vect\n6 0 sent 41\n"))
+
+
+class Annotate(unittest.TestCase):
+    @pyelftools
+    def test_relay(self):
+        status, out, err = run_tool("annotate", "-s", f"{DATA}/relay.toml", "-e", ELF, f"{DATA}/relay.trace")
+        self.assertEqual((status, err), (0, ""))
+        lines = out.splitlines()
+        self.assertEqual([line.split(" ; ")[0].rstrip() for line in lines], data("relay.trace").splitlines())
+        notes = [line.split(" ; ")[1] for line in lines[0:75:5] if " ; " in line]
+        self.assertEqual(
+            notes[:4],
+            [
+                "TIMER0_COMP_vect, from main+0x2C relay.c:71",
+                "__vectors+0x3C",
+                "__vector_15 relay.c:52",
+                "__vector_15+0x2 relay.c:52",
+            ],
+        )
+
+    @pyelftools
+    def test_stop(self):
+        out = run_tool("annotate", "-e", f"1={ELF}", stdin="5 0 stop 006C .word 0xFFFF\n5 1 stop 006C .word 0xFFFF\n")[
+            1
+        ]
+        self.assertEqual(
+            out.splitlines(),
+            ["5 0 stop 006C .word 0xFFFF", f"{'5 1 stop 006C .word 0xFFFF':<44} ; transfer+0x4 relay.c:29"],
+        )
+
+    @pyelftools
+    def test_no_elf(self):
+        status, out, err = run_tool("annotate", "-e", f"{DATA}/relay.toml", f"{DATA}/relay.trace")
+        self.assertEqual((status, out), (2, ""))
+        self.assertIn(f"annotate: {DATA}/relay.toml: no ELF file", err)
+
+    def test_missing_package(self):
+        with scratch("elftools.py", "raise ImportError") as path:
+            status, _, err = run_tool(
+                "annotate", "-e", ELF, f"{DATA}/relay.trace", env={"PYTHONPATH": path.rsplit("/", 1)[0]}
+            )
+        self.assertEqual(status, 2)
+        self.assertIn("has no pyelftools. Debian: apt-get install python3-pyelftools", err)
+
+
+# A node's rows about a window of 40 cycles from 100 on. By hand: lead 100 to 110; LDI 1; SLEEP its own cycle 1, then
+# asleep 9 up to 121; the entry 8; JMP 3; the stop owns 132 to 140.
+WINDOW = """\
+90 0 sent 41
+110 0 instr 0010 ldi r16, 1
+111 0 instr 0011 sleep
+121 0 enter 001E 0012
+125 0 sent 42
+129 0 instr 001E jmp 0x0098
+132 0 stop 0098 .word 0xFFFF
+150 0 sent 43
+"""
+
+
+class Profile(unittest.TestCase):
+    def profile(self, *words, trace=WINDOW):
+        status, out, err = run_tool("profile", *words, stdin=trace)
+        self.assertEqual((status, err), (0, ""))
+        return [line.split() for line in out.splitlines()]
+
+    def test_window(self):
+        # 13 busy cycles at 8, 9 asleep, one byte sent in the window at 512
+        self.assertEqual(
+            self.profile("--window", "100..140"),
+            [
+                "node busy asleep stopped unknown charge".split(),
+                "0 13 9 8 10 625".split(),
+                [],
+                "all nodes".split(),
+                "cycles % rows".split(),
+                "3 7.50 1 001E".split(),
+                "1 2.50 1 0010".split(),
+                "1 2.50 1 0011".split(),
+                "8 20.00 1 (entering interrupts)".split(),
+                "9 22.50 (asleep)".split(),
+                "8 20.00 (stopped)".split(),
+                "10 25.00 (before the first row)".split(),
+            ],
+        )
+
+    def test_no_window_named(self):
+        # from the first instruction row to the last: 110 to 129
+        self.assertEqual(self.profile()[1], "0 10 9 0 0 601".split())
+
+    def test_asleep_to_the_end(self):
+        trace = "".join(WINDOW.splitlines(keepends=True)[:3])
+        self.assertEqual(self.profile("--window", "100..140", trace=trace)[1], "0 2 28 0 10 44".split())
+
+    def test_stopped_before(self):
+        self.assertEqual(
+            self.profile("--window", "200..240", trace=WINDOW + "210 1 instr 0000 nop\n")[1:3],
+            ["0 0 0 40 0 0".split(), "1 30 0 0 10 240".split()],
+        )
+
+    def test_drawn_rows(self):
+        """Against the rule, asked of each cycle: its owner is the node's last row up to it."""
+        draw = random.Random(1)
+        for _ in range(30):
+            rows, cycle, stopped = [], 0, False
+            while cycle < 100 and not stopped:
+                kind = draw.choice(["instr 0001 nop", "instr 0002 sleep", "enter 0024 0001", "stop 0003 x"])
+                stopped = kind[0] == "s"
+                rows.append((cycle, kind))
+                cycle += draw.choice([1, 2, 9, 30])
+            first = draw.randrange(120)
+            end = first + draw.randrange(1, 60)
+            counts = {"busy": 0, "asleep": 0, "stopped": 0, "unknown": 0}
+            rows = [row for row in rows if first <= row[0] < end or row[1][0] == "s"]  # as a trace has them
+            for now in range(first, end):
+                owner = max((row for row in rows if row[0] <= now), default=None)
+                asleep = owner and owner[1].endswith("sleep") and owner[0] < now
+                kind = "unknown" if not owner else "stopped" if owner[1][0] == "s" else "asleep" if asleep else "busy"
+                counts[kind] += 1
+            trace = "".join(f"{cycle} 0 {kind}\n" for cycle, kind in rows) + "500 0 end 1 running\n"
+            charge = 8 * counts["busy"] + counts["asleep"]
+            expected = ["0", *map(str, counts.values()), str(charge)]
+            self.assertEqual(self.profile("--window", f"{first}..{end}", trace=trace)[1], expected)
+
+    # What a monitor writes of the same window.
+    MONITOR = (
+        "0 lead 10\n0 at 0010 1 1\n0 at 0011 1 1\n0 at 001E 1 3\n0 vector 001E 1 8\n"
+        "0 asleep 9\n0 stopped 8\n0 charge 625\n"
+    )
+
+    def test_monitor(self):
+        self.assertEqual(self.profile(trace=self.MONITOR), self.profile("--window", "100..140"))
+
+    def test_broken_monitor(self):
+        for line in ("0 at 0010 1\n", "0 lid 10\n", "64 lead 1\n", "0 lead 10"):
+            status, _, err = run_tool("profile", stdin=self.MONITOR + line)
+            self.assertEqual((status, err), (2, "profile: standard input, line 9: no line of a monitor\n"))
+
+    def test_no_instructions(self):
+        status, _, err = run_tool("profile", stdin="5 0 sent 41\n")
+        self.assertEqual(status, 2)
+        self.assertIn("no instruction is traced: run the scenario with a window", err)
+
+    @pyelftools
+    def test_relay(self):
+        # Five nodes, each with the entry of an interrupt in 8 cycles and the jump in 3, and 18 cycles of the
+        # handler's head.
+        lines = self.profile("-s", f"{DATA}/relay.toml", "-e", ELF, "--callers", "--lines", trace=data("relay.trace"))
+        for line in (
+            "90 51.43 55 __vector_15",
+            "15 8.57 5 __vectors",
+            "40 22.86 5 (entering interrupts)",
+            "30 17.14 (before the first row)",
+            "90 51.43 55 relay.c:52",
+            "5 TIMER0_COMP_vect > __vector_15",
+            "3 29 0 0 6 232",
+        ):
+            self.assertIn(line.split(), lines)
+
+    @pyelftools
+    def test_coverage(self):
+        # The jump is one of 35 in the table of vectors; eleven pushes and ins of the handler ran.
+        lines = self.profile("-s", f"{DATA}/relay.toml", "-e", ELF, "--coverage", trace=data("relay.trace"))
+        self.assertIn("1 35 3 __vectors".split(), lines)
+        self.assertIn("0 13 0 put".split(), lines)
+        self.assertIn("11 76 14 __vector_15".split(), lines)
+
+    @pyelftools
+    def test_calls(self):
+        # main calls transfer (word 6A) at word F0, transfer returns; put (word 5A) is called from an interrupt's
+        # handler.
+        trace = (
+            "1 0 instr 00F0 call 0x006A\n5 0 instr 006A out 0x0F, r24\n6 0 instr 006E ret\n10 0 instr 00F2 nop\n"
+            "11 0 instr 00F0 call 0x006A\n15 0 enter 0024 006A\n23 0 instr 0024 jmp 0x006F\n26 0 instr 006F push r1\n"
+            "28 0 instr 0083 call 0x005A\n32 0 instr 005A lds r30, 0x0101\n"
+        )
+        lines = self.profile("-e", ELF, "--callers", trace=trace)
+        self.assertEqual(
+            lines[lines.index(["calls"]) + 1 :],
+            [["calls"]]
+            + [line.split() for line in ("1 USART0_RX_vect > __vector_18", "1 __vector_18 > put", "1 main > transfer")],
+        )
+
+
+if __name__ == "__main__":
+    unittest.main()
