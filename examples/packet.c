@@ -10,7 +10,7 @@
 #include <avr/sleep.h>
 #include <stdlib.h>
 #include "radio.h"
-enum { TICK = 1536, PERIOD = 100 };     /* cycles; ticks from a packet to the next */
+enum { TICK = 1536, PAUSE = 96 };       /* cycles; ticks between two packets, 20 ms */
 enum { SINK = 0 };
 enum { PREAMBLE = 0xAA, MARK = 0x7E, LONGEST = 32, SILENCE = 4 };
 struct packet { uint8_t length, payload[LONGEST]; };
@@ -98,6 +98,13 @@ static void pause(uint8_t count)
 {
     for (uint8_t start = ticks; (uint8_t)(ticks - start) < count;) sleep_mode();
 }
+/* Whether nobody is heard. One sample may fall between two bytes of a packet, so there are two. */
+static bool is_free(void)
+{
+    if (radio_listen().status != RADIO_NOTHING) return false;
+    pause(1);
+    return radio_listen().status == RADIO_NOTHING;
+}
 static void send_packet(const struct packet *p)
 {
     radio_send_when_free(PREAMBLE);
@@ -110,8 +117,8 @@ static void sensor(void)
 {
     struct packet p = { 3, { number, 0, 20 + number } };
     for (;;) {
-        pause(PERIOD);
-        while (radio_listen().status != RADIO_NOTHING) pause(2 * number);
+        pause(PAUSE);
+        while (!is_free()) pause(2 * number);
         send_packet(&p);
         p.payload[1]++;
         p.payload[2] += p.payload[1] & 1;
