@@ -1,5 +1,5 @@
-/* Pins of a node for Arduino's core: 0 to 7 are port B (SS 0, SCK 1, MOSI 2, MISO 3), 8 to 15 port A. None is on a timer,
-   so `analogWrite` sets no PWM mode, which would stop the node. */
+/* Pins of a node for Arduino's core: 0 to 7 are port B (SS 0, SCK 1, MOSI 2, MISO 3), 8 to 15 port A. None is on a timer:
+   PWM would stop the node. */
 #ifndef Pins_Arduino_h
 #define Pins_Arduino_h
 #include <avr/pgmspace.h>
