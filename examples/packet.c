@@ -1,9 +1,9 @@
 /* Sensors send packets by radio, and a sink writes what it hears to USART0 (UBRR 3: 115,200 bauds at 7.3728 MHz, 640
-   cycles a byte). All nodes run this program; the first byte that arrives at a node on USART0 is its number, and node 0 is
-   the sink (packet.toml).
-   A packet is AA AA 7E n and n bytes of payload, n from 1 to 32: here the sensor's number, the packet's, and a reading.
-   Timer 1 (CTC) ticks each 1,536 cycles, half of the radio's byte time: the sink samples with each tick, and so misses no
-   byte. A sensor listens before it sends, and waits while somebody is heard. Asleep (idle) between.
+   cycles a byte). All nodes run this program; the first byte that arrives at a node on USART0 is its number, and node
+   0 is the sink (packet.toml).
+   A packet is AA AA 7E n and n bytes of payload, n from 1 to 32: here the sensor's number, the packet's, a reading.
+   Timer 1 (CTC) ticks each 1,536 cycles, half of the radio's byte time: the sink samples with each tick, and so misses
+   no byte. A sensor listens before it sends, and waits while somebody is heard. Asleep (idle) between.
    avr-gcc -mmcu=atmega128 -Os packet.c -o packet.elf
    avr-objcopy -j .text -j .data -O ihex packet.elf packet.hex */
 #include <avr/interrupt.h>

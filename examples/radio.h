@@ -1,7 +1,7 @@
-/* The byte radio of a node from C, polled. It is the slave on the node's SPI: it moves one byte with each transfer, takes
-   a command and then answers for it (docs/FIRMWARE.md; the whole table stands in docs/AIR.md).
-   A sample looks at the air in one cycle. Whoever samples at least twice in a byte time (a scenario's `byte_time`) misses
-   no byte, and `radio_hear` gives each of them once. No interrupt may use the radio while these calls do. */
+/* The byte radio of a node from C, polled. It is the slave on the node's SPI: it moves one byte with each transfer,
+   takes a command and then answers for it (docs/FIRMWARE.md; the whole table stands in docs/AIR.md).
+   A sample looks at the air in one cycle. Whoever samples at least twice in a byte time (a scenario's `byte_time`)
+   misses no byte, and `radio_hear` gives each of them once. No interrupt may use the radio while these calls do. */
 #ifndef RADIO_H
 #define RADIO_H
 #include <avr/io.h>
@@ -49,8 +49,8 @@ static inline struct radio_sample radio_listen(void)
     s.age = radio_transfer(0);
     return s;
 }
-/* Samples the air, and says whether a byte is heard that the sample before did not hear: the same byte has become older,
-   a new one is younger. */
+/* Samples the air, and says whether a byte is heard that the sample before did not hear: the same byte has become
+   older, a new one is younger. */
 static inline bool radio_hear(struct radio_sample *s)
 {
     static struct radio_sample before;

@@ -54,7 +54,9 @@ def read(path):
             runs.append(one)
             if len(runs) > MAX_RUNS:
                 raise BadInput(f"{path}: more than {MAX_RUNS:,} runs")
-    twice = [run_name for run_name, count in collections.Counter(file_name(run.name) for run in runs).items() if count > 1]
+    twice = [
+        run_name for run_name, count in collections.Counter(file_name(run.name) for run in runs).items() if count > 1
+    ]
     if twice:
         raise BadInput(f"{path}: two runs have the name {twice[0]}")
     return Campaign(path, name, folder, settings, runs, files.contents)
@@ -116,7 +118,9 @@ def runs_of(place, table, folder, files):
         parameters = dict(choice)
         name = " ".join([base] + [f"{key}={shown(value)}" for key, value in choice])
         where = f"{place} ({name})"
-        network = varied(where, scenario, parameters) if scenario is not None else made(where, table["network"], parameters)
+        network = (
+            varied(where, scenario, parameters) if scenario is not None else made(where, table["network"], parameters)
+        )
         yield run_of(where, name, parameters, network, cases, files)
 
 
@@ -150,7 +154,11 @@ def values_of(place, key, values):
     """The values of a varied key: a list, or all numbers from one to another."""
     if isinstance(values, list) and values:
         return values
-    if isinstance(values, dict) and values.keys() <= {"from", "to", "step"} and all(type(v) is int for v in values.values()):
+    if (
+        isinstance(values, dict)
+        and values.keys() <= {"from", "to", "step"}
+        and all(type(v) is int for v in values.values())
+    ):
         first, last, step = values.get("from"), values.get("to"), values.get("step", 1)
         if first is not None and last is not None and first <= last and step > 0:
             if (last - first) // step >= MAX_RUNS:
@@ -179,8 +187,11 @@ def tables_of(place, network, key, parts):
     if len(parts) != 3 or parts[0] not in ("node", "input", "link"):
         raise BadInput(f"{place}: {key} is no KEY, node.K.KEY, input.K.KEY or link.A-B.KEY; * stands for all of them")
     tables = network.get(parts[0], [])
-    names = {"node": lambda index, table: f"{index}", "input": lambda index, table: f"{table.get('node')}",
-             "link": lambda index, table: f"{table.get('from')}-{table.get('to')}"}
+    names = {
+        "node": lambda index, table: f"{index}",
+        "input": lambda index, table: f"{table.get('node')}",
+        "link": lambda index, table: f"{table.get('from')}-{table.get('to')}",
+    }
     found = [table for index, table in enumerate(tables) if parts[1] in ("*", names[parts[0]](index, table))]
     if not found:
         raise BadInput(f"{place}: the scenario has no {parts[0]} {parts[1]}")
@@ -194,7 +205,11 @@ def made(place, network, parameters):
     options = {**network, **parameters}
     shape, images = options.pop("shape", None), options.pop("images", None)
     images = [images] if isinstance(images, str) else images
-    if not isinstance(shape, str) or not isinstance(images, list) or not all(isinstance(image, str) for image in images):
+    if (
+        not isinstance(shape, str)
+        or not isinstance(images, list)
+        or not all(isinstance(image, str) for image in images)
+    ):
         raise BadInput(f"{place}: a network has a shape, and images: a list of IMAGE or IMAGE*COUNT")
     for key in ("window", "link_latency"):
         if isinstance(options.get(key), list):
@@ -202,7 +217,9 @@ def made(place, network, parameters):
     if "spans" in options:
         options["spans"] = spans_of(place, options["spans"])
     if isinstance(options.get("inputs"), dict):
-        options["inputs"] = {int(node) if node.isdigit() else node: digits for node, digits in options["inputs"].items()}
+        options["inputs"] = {
+            int(node) if node.isdigit() else node: digits for node, digits in options["inputs"].items()
+        }
     try:
         return tomllib.loads(networks.scenario(shape, counted(images), **options))
     except (TypeError, ValueError, BadInput) as fault:
@@ -220,7 +237,10 @@ def counted(images):
 
 def spans_of(place, spans):
     try:
-        return {tuple(int(node) for node in link.split("-")): [tuple(pair) for pair in pairs] for link, pairs in spans.items()}
+        return {
+            tuple(int(node) for node in link.split("-")): [tuple(pair) for pair in pairs]
+            for link, pairs in spans.items()
+        }
     except (AttributeError, TypeError, ValueError):
         raise BadInput(f'{place}: spans is a table such as {{ "0-1" = [[0, 1000]] }}') from None
 
@@ -250,7 +270,9 @@ def scenario_text(network):
     lines = [f"{key_text(key)} = {value_text(value)}" for key, value in top.items()]
     for key, value in network.items():
         for table in value if is_tables(value) else []:
-            lines += ["", f"[[{key_text(key)}]]"] + [f"{key_text(name)} = {value_text(it)}" for name, it in table.items()]
+            lines += ["", f"[[{key_text(key)}]]"] + [
+                f"{key_text(name)} = {value_text(it)}" for name, it in table.items()
+            ]
     return "\n".join(lines) + "\n"
 
 

@@ -1,7 +1,7 @@
-"""Where the jobs of a campaign go: to the workers of dask, or to processes of this machine by the standard library alone.
+"""Where the jobs of a campaign go: to workers of dask, or to processes of this machine by the standard library alone.
 
-Both pools have `submit(job)`, which gives a future of `concurrent.futures`, `room()`, how many jobs are worth having under
-way at once, and `close()`.
+Both pools have `submit(job)`, which gives a future of `concurrent.futures`, `room()`, how many jobs are worth having
+under way at once, and `close()`.
 """
 import concurrent.futures
 import contextlib
@@ -31,7 +31,7 @@ def interrupts_kept():
 
 
 class DaskPool:
-    """The workers of a scheduler of dask.distributed; without an address, of one that this machine starts for itself."""
+    """The workers of a scheduler of dask.distributed; without an address, of one that is started here for this pool."""
 
     LEAST_ROOM = 8  # jobs that wait at the scheduler for workers to come
 
@@ -44,8 +44,13 @@ class DaskPool:
             self.local = tempfile.mkdtemp(prefix="campaign-")
             with interrupts_kept():
                 self.cluster = distributed.LocalCluster(
-                    n_workers=processes, threads_per_worker=1, host="127.0.0.1", dashboard_address=None, memory_limit=None,
-                    local_directory=self.local, silence_logs=logging.CRITICAL,
+                    n_workers=processes,
+                    threads_per_worker=1,
+                    host="127.0.0.1",
+                    dashboard_address=None,
+                    memory_limit=None,
+                    local_directory=self.local,
+                    silence_logs=logging.CRITICAL,
                 )
         try:
             self.client = distributed.Client(self.cluster or address, set_as_default=False)

@@ -7,9 +7,9 @@ A worker gets the simulator, the images and the cases once, as a shipment, and t
   timeout    seconds that the simulator may take
   trace      when the trace is handed back: "none", "failed" or "all"
 
-What comes of it is a dictionary too: `outcome` is one of the words below, `message` says why, `counts` has how many rows
-of each kind the trace has, `seconds` is the time of the run and its checks, `host` where it ran, and `trace` the trace in
-gzip's format or None.
+What comes of it is a dictionary too: `outcome` is one of the words below, `message` says why, `counts` has how many
+rows of each kind the trace has, `seconds` is the time of the run and its checks, `host` where it ran, and `trace` the
+trace in gzip's format or None.
 """
 import collections
 import gzip
@@ -71,7 +71,13 @@ def judged(job, folder, work, trace):
     words = [os.path.join(folder, PROGRAM), "run", f"{work}/scenario.toml"]
     try:
         done = subprocess.run(
-            words, cwd=folder, stdin=subprocess.DEVNULL, stdout=trace, stderr=subprocess.PIPE, timeout=job["timeout"], check=False
+            words,
+            cwd=folder,
+            stdin=subprocess.DEVNULL,
+            stdout=trace,
+            stderr=subprocess.PIPE,
+            timeout=job["timeout"],
+            check=False,
         )
     except subprocess.TimeoutExpired:
         return answer(BROKEN, f"took more than {job['timeout']} s")
@@ -103,7 +109,9 @@ def shipped_case(shipped, folder):
     case = expectations.read_case(os.path.join(folder, shipped["file"]))
     goldens = iter(shipped["goldens"])
     statements = [
-        statement._replace(path=os.path.join(folder, next(goldens))) if isinstance(statement, expectations.Golden) else statement
+        statement._replace(path=os.path.join(folder, next(goldens)))
+        if isinstance(statement, expectations.Golden)
+        else statement
         for statement in case.statements
     ]
     return case._replace(path=shipped["path"], statements=statements)
@@ -125,8 +133,8 @@ def counted(trace):
 def shipment(name, files):
     """The shipment for workers of dask, and the function that runs a job with it there.
 
-    Each worker has it unpacked before its first job, also one that joins late or is started again. All code goes there by
-    value, so a worker needs dask and nothing of this repository.
+    Each worker has it unpacked before its first job, also one that joins late or is started again. All code goes there
+    by value, so a worker needs dask and nothing of this repository.
     """
     import cloudpickle
     from distributed import WorkerPlugin, get_worker

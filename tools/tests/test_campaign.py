@@ -19,7 +19,8 @@ import campaigns
 from traces import BadInput
 
 # Stands for the simulator. What it does is told by the latency of the scenario, so that a campaign can vary it: 1 the
-# scenario is refused, 2 it hangs, 3 it fails the first time, 4 it always fails, else node 0 sends a byte. It notes each start.
+# scenario is refused, 2 it hangs, 3 it fails the first time, 4 it always fails, else node 0 sends a byte. It notes
+# each start.
 SIMULATOR = f"""#!{sys.executable} -IS
 import os, sys, time
 text = open(sys.argv[2]).read()
@@ -70,7 +71,13 @@ latency = [1, 3, 4, 20, 30]
 def folder(campaign=CAMPAIGN, case=CASE, scenario=SCENARIO):
     """A folder with a campaign, its scenario, case and image, and a simulator."""
     with tempfile.TemporaryDirectory() as path:
-        texts = {"c.toml": campaign, "net.toml": scenario, "net.expect": case, "a.hex": ":00000001FF\n", "avrora": SIMULATOR}
+        texts = {
+            "c.toml": campaign,
+            "net.toml": scenario,
+            "net.expect": case,
+            "a.hex": ":00000001FF\n",
+            "avrora": SIMULATOR,
+        }
         for name, text in texts.items():
             with open(f"{path}/{name}", "w", encoding="utf-8") as file:
                 file.write(text)
@@ -115,7 +122,9 @@ class TheFile(unittest.TestCase):
         vary = 'latency = [7, 8]\nwindow = [[0, 9]]\n"input.1.at" = { from = 10, to = 20, step = 5 }\n'
         campaign = self.read('[[run]]\nscenario = "net.toml"\n[run.vary]\n' + vary)
         names = [run.name for run in campaign.runs]
-        self.assertEqual(names[:2], ["net latency=7 window=[0,9] input.1.at=10", "net latency=7 window=[0,9] input.1.at=15"])
+        self.assertEqual(
+            names[:2], ["net latency=7 window=[0,9] input.1.at=10", "net latency=7 window=[0,9] input.1.at=15"]
+        )
         self.assertEqual(len(set(names)), 6)
         last = tomllib.loads(campaign.runs[-1].scenario)
         self.assertEqual((last["latency"], last["window"], last["input"][0]["at"]), (8, [0, 9], 20))
@@ -123,21 +132,56 @@ class TheFile(unittest.TestCase):
 
     def test_keys_of_links_and_of_all_nodes(self):
         vary = 'vary = { "link.0-1.open" = [[[0, 5], [6, 9]]], node."*".image = ["net.expect"] }\n'
-        run, = self.read(f'[[run]]\nscenario = "net.toml"\n{vary}').runs
+        (run,) = self.read(f'[[run]]\nscenario = "net.toml"\n{vary}').runs
         scenario = tomllib.loads(run.scenario)
         self.assertEqual(scenario["link"], [{"from": 0, "to": 1, "open": [[0, 5], [6, 9]]}])
         self.assertEqual([node["image"] for node in scenario["node"]], ["net.expect"] * 2)
 
+    def test_a_network_by_seeds(self):
+        text = """[[run]]
+name = "ring"
+[run.network]
+shape = "ring"
+images = ["a.hex*2", "net.expect"]
+cycles = 7_000
+link_latency = [10, 900]
+inputs = { 2 = "FF" }
+spans = { "0-1" = [[5, 9]] }
+[run.vary]
+seed = { from = 1, to = 2 }
+stagger = [0, 30]
+"""
+        runs = self.read(text).runs
+        self.assertEqual(
+            [run.name for run in runs],
+            [
+                "ring seed=1 stagger=0",
+                "ring seed=1 stagger=30",
+                "ring seed=2 stagger=0",
+                "ring seed=2 stagger=30",
+            ],
+        )
+        first, second, third, _ = [tomllib.loads(run.scenario) for run in runs]
+        self.assertEqual([node["image"] for node in first["node"]], ["a.hex", "a.hex", "net.expect"])
+        self.assertEqual(
+            [(link["from"], link["to"]) for link in first["link"]], [(0, 1), (1, 0), (0, 2), (2, 0), (1, 2), (2, 1)]
+        )
+        self.assertEqual([link.get("open") for link in first["link"]], [[[5, 9]]] + [None] * 5)
+        self.assertEqual([(it["at"], it["hex"]) for it in second["input"]], [(500, "00"), (530, "01"), (560, "02FF")])
+        self.assertEqual(first["link"], second["link"])
+        self.assertNotEqual(first["link"], third["link"])
+
     def test_what_is_shipped_has_each_content_once(self):
         campaign = self.read('[[run]]\nscenario = "net.toml"\nexpect = ["net.expect", "net.expect"]\n')
-        run, = campaign.runs
+        (run,) = campaign.runs
         self.assertEqual(len(campaign.files), 2)
         self.assertEqual(set(run.files), set(campaign.files))
         for node in tomllib.loads(run.shipped)["node"]:
             self.assertEqual(campaign.files[node["image"]], b":00000001FF\n")
 
     def test_a_scenario_is_written_as_it_was_read(self):
-        text = 'cycles = 5\n"odd key" = [1.5, true, "q\\"\\\\\\n\\u00e9\\u007f", {a = 1}]\nday = 1979-05-27\n[[node]]\nimage = "a.hex"\n'
+        odd = '"odd key" = [1.5, true, "q\\"\\\\\\n\\u00e9\\u007f", {a = 1}]\nday = 1979-05-27\n'
+        text = f'cycles = 5\n{odd}[[node]]\nimage = "a.hex"\n'
         self.assertEqual(tomllib.loads(campaigns.scenario_text(tomllib.loads(text))), tomllib.loads(text))
 
     def test_names_of_files(self):
@@ -159,10 +203,17 @@ class TheFile(unittest.TestCase):
         self.assert_refused(f"{run}expect = 1\n", "expect is a name or a list of names")
         self.assert_refused(f"{run}vary = {{ latency = 3 }}\n", "latency has no list of values")
         self.assert_refused(f"{run}vary = {{ latency = {{ from = 3, to = 2 }} }}\n", "latency has no list of values")
-        self.assert_refused(f"{run}vary = {{ latency = {{ from = 0, to = 9_000_000 }} }}\n", "more than 1,000,000 values")
+        self.assert_refused(
+            f"{run}vary = {{ latency = {{ from = 0, to = 9_000_000 }} }}\n", "more than 1,000,000 values"
+        )
         self.assert_refused(f'{run}vary = {{ "link.1-0.latency" = [3] }}\n', "the scenario has no link 1-0")
         self.assert_refused(f'{run}vary = {{ "nodes.1.image" = [3] }}\n', "is no KEY, node.K.KEY")
         self.assert_refused(f"{run}{run}", "two runs have the name net")
+        network = '[[run]]\n[run.network]\nshape = "ring"\n'
+        self.assert_refused(network, "a network has a shape, and images")
+        self.assert_refused(f'{network}images = "a.hex"\ncycle = 5\n', "cycle")
+        self.assert_refused(f'{network}images = "a.hex*3"\nspans = {{ "0:1" = 5 }}\n', "spans is a table such as")
+        self.assert_refused(network.replace("ring", "wheel") + 'images = "a.hex"\n', "wheel is no shape")
         self.assert_refused('[[run]]\nscenario = "gone.toml"\n', "cannot read")
         self.assert_refused(run, "a.hax: No such file", scenario=SCENARIO.replace("a.hex", "a.hax"))
         self.assert_refused(f'{run}expect = "net.expect"\n', "net.expect, line 1", case="1 0 nonsense *\n")
@@ -178,15 +229,23 @@ class Outcomes:
             status, out, errors, rows = run_campaign(path, "--processes", "2", without_dask=self.without_dask)
             self.assertEqual(status, 1, errors)
             found = {name: (row["outcome"], row["attempts"]) for name, row in rows.items()}
-            self.assertEqual(found, {
-                "net latency=1": ("refused", 1), "net latency=3": ("passed", 2), "net latency=4": ("broken", 2),
-                "net latency=20": ("failed", 1), "net latency=30": ("passed", 1),
-            })
+            self.assertEqual(
+                found,
+                {
+                    "net latency=1": ("refused", 1),
+                    "net latency=3": ("passed", 2),
+                    "net latency=4": ("broken", 2),
+                    "net latency=20": ("failed", 1),
+                    "net latency=30": ("passed", 1),
+                },
+            )
             self.assertEqual(sorted(starts(path)), sorted("1 3 3 4 4 20 30".split()))
             self.assertEqual(rows["net latency=1"]["message"], "avrora: scenario.toml: scenario refused: OutOfRange")
             self.assertEqual(rows["net latency=4"]["message"], "status 6: ")
             self.assertIn("net.expect, line 2", rows["net latency=20"]["message"])
-            self.assertEqual(rows["net latency=30"]["counts"], {"sent": 1, "heard": 1, "clashes": 0, "serial": 0, "stops": 0})
+            self.assertEqual(
+                rows["net latency=30"]["counts"], {"sent": 1, "heard": 1, "clashes": 0, "serial": 0, "stops": 0}
+            )
             self.assertEqual(rows["net latency=30"]["parameters"], {"latency": 30})
             self.assertIn("c: 5 runs, 2 passed, 1 failed, 1 refused, 1 broken", out)
             names = [os.path.basename(name) for name in glob.glob(f"{path}/c.results/runs/*.toml")]
@@ -226,13 +285,17 @@ class WithoutDask(Outcomes, unittest.TestCase):
             self.assertNotIn("already", errors)
 
     def test_time_and_traces(self):
-        campaign = CAMPAIGN.replace("[1, 3, 4, 20, 30]", "[2, 20]").replace("attempts = 2", 'attempts = 1\ntraces = "failed"')
+        campaign = CAMPAIGN.replace("[1, 3, 4, 20, 30]", "[2, 20]").replace(
+            "attempts = 2", 'attempts = 1\ntraces = "failed"'
+        )
         with folder(campaign) as path:
             status, _, errors, rows = run_campaign(path)
             self.assertEqual(status, 1, errors)
             self.assertEqual(rows["net latency=2"]["message"], "took more than 1 s")
             self.assertEqual(os.listdir(f"{path}/c.results/runs").count("net,latency=20.trace.gz"), 1)
-            status, out, errors = run_tool("expect", "--trace", f"{path}/c.results/runs/net,latency=20.trace.gz", f"{path}/net.expect")
+            status, out, errors = run_tool(
+                "expect", "--trace", f"{path}/c.results/runs/net,latency=20.trace.gz", f"{path}/net.expect"
+            )
             self.assertEqual(status, 1, errors)
             self.assertIn("20 0 sent AA", out)
 
@@ -304,13 +367,32 @@ class OnACluster(unittest.TestCase):
         campaign = CAMPAIGN.replace("[1, 3, 4, 20, 30]", f"{{ from = 100, to = {99 + self.RUNS} }}")
         self.path = self.stack.enter_context(folder(campaign))
         self.env = {name: value for name, value in os.environ.items() if name != "PYTHONPATH"}
-        self.env |= {"CAMPAIGN_LOG": f"{self.path}/log", "CAMPAIGN_SLEEP": "0.05", "DASK_DISTRIBUTED__COMM__TIMEOUTS__CONNECT": "3s"}
-        self.start("distributed.cli.dask_scheduler", "--port", "0", "--scheduler-file", f"{self.path}/scheduler.json", "--no-dashboard")
+        self.env |= {
+            "CAMPAIGN_LOG": f"{self.path}/log",
+            "CAMPAIGN_SLEEP": "0.05",
+            "DASK_DISTRIBUTED__COMM__TIMEOUTS__CONNECT": "3s",
+        }
+        self.start(
+            "distributed.cli.dask_scheduler",
+            "--port",
+            "0",
+            "--scheduler-file",
+            f"{self.path}/scheduler.json",
+            "--no-dashboard",
+        )
         wait_for(lambda: os.path.exists(f"{self.path}/scheduler.json"))
         self.workers = []
         for number in range(3):
-            words = ["--scheduler-file", f"{self.path}/scheduler.json", "--nthreads", "1", "--no-nanny", "--no-dashboard",
-                     "--local-directory", f"{self.path}/worker{number}"]
+            words = [
+                "--scheduler-file",
+                f"{self.path}/scheduler.json",
+                "--nthreads",
+                "1",
+                "--no-nanny",
+                "--no-dashboard",
+                "--local-directory",
+                f"{self.path}/worker{number}",
+            ]
             self.workers.append(self.start("distributed.cli.dask_worker", *words))
         with open(f"{self.path}/scheduler.json", encoding="utf-8") as file:
             self.address = json.load(file)["address"]
@@ -323,7 +405,9 @@ class OnACluster(unittest.TestCase):
 
     def start(self, module, *words):
         words = [sys.executable, "-m", module, "--host", "127.0.0.1", *words]
-        process = subprocess.Popen(words, cwd=self.path, env=self.env, stdout=subprocess.DEVNULL, stderr=subprocess.DEVNULL)
+        process = subprocess.Popen(
+            words, cwd=self.path, env=self.env, stdout=subprocess.DEVNULL, stderr=subprocess.DEVNULL
+        )
         self.processes.append(process)
         return process
 
@@ -331,7 +415,15 @@ class OnACluster(unittest.TestCase):
         return len(glob.glob(f"{self.path}/c.results/runs/*.json"))
 
     def test_a_worker_is_killed(self):
-        words = [sys.executable, f"{TOOLS}/campaign", "--avrora", f"{self.path}/avrora", "--scheduler", self.address, f"{self.path}/c.toml"]
+        words = [
+            sys.executable,
+            f"{TOOLS}/campaign",
+            "--avrora",
+            f"{self.path}/avrora",
+            "--scheduler",
+            self.address,
+            f"{self.path}/c.toml",
+        ]
         campaign = subprocess.Popen(words, env=self.env, stdout=subprocess.PIPE, stderr=subprocess.STDOUT, text=True)
         self.processes.append(campaign)
         wait_for(lambda: self.results() >= 10)
@@ -342,12 +434,16 @@ class OnACluster(unittest.TestCase):
         self.assertEqual(campaign.returncode, 0, out)
         with open(f"{self.path}/c.results/summary.jsonl", encoding="utf-8") as file:
             rows = [json.loads(line) for line in file]
-        self.assertEqual([row["name"] for row in rows], [f"net latency={latency}" for latency in range(100, 100 + self.RUNS)])
+        self.assertEqual(
+            [row["name"] for row in rows], [f"net latency={latency}" for latency in range(100, 100 + self.RUNS)]
+        )
         self.assertEqual({row["outcome"] for row in rows}, {"passed"})
         self.assertEqual(self.results(), self.RUNS)
         # What the killed worker had under way was run again, and nothing else.
         self.assertLessEqual(len(starts(self.path)), self.RUNS + 3)
-        self.assertEqual({row["parameters"]["latency"] for row in rows}, {int(latency) for latency in starts(self.path)})
+        self.assertEqual(
+            {row["parameters"]["latency"] for row in rows}, {int(latency) for latency in starts(self.path)}
+        )
 
 
 if __name__ == "__main__":
