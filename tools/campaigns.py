@@ -4,6 +4,7 @@ The format stands in CAMPAIGNS.md.
 """
 import collections
 import copy
+import functools
 import hashlib
 import itertools
 import json
@@ -35,6 +36,7 @@ SETTINGS = {
 RUN_KEYS = {"name", "scenario", "network", "expect", "vary"}
 
 MAX_RUNS = 1_000_000
+NODE_WINDOW = 20_000  # cycles, of `avrora node`
 LONGEST_NAME = 120  # bytes of the name of a run in the names of files
 
 
@@ -44,10 +46,10 @@ def read(path):
     folder = os.path.dirname(os.path.abspath(path))
     unknown(path, table, SETTINGS.keys() | {"run"})
     settings = {key: setting_of(path, table, key) for key in SETTINGS}
-    name = settings["name"] or os.path.splitext(os.path.basename(path))[0]
+    name = settings["name"] or stem(path)
     if not isinstance(table.get("run"), list) or not all(isinstance(run, dict) for run in table["run"]):
         raise BadInput(f"{path}: no [[run]]")
-    files = Files(folder)
+    files = Files()
     runs = []
     for number, run in enumerate(table["run"], 1):
         for one in runs_of(f"{path}, run {number}", run, folder, files):
@@ -85,14 +87,12 @@ def setting_of(path, table, key):
 class Files:
     """The shipment: the content of each file once, under a name that its content tells."""
 
-    def __init__(self, folder):
-        self.folder = folder
+    def __init__(self):
         self.contents = {}
         self.names = {}
 
     def add(self, place, path):
         """The name in the shipment of the file `path`."""
-        path = os.path.join(self.folder, path)
         if path not in self.names:
             try:
                 with open(path, "rb") as file:
@@ -106,22 +106,63 @@ class Files:
 
 
 def runs_of(place, table, folder, files):
-    """The runs of one [[run]]: one, or one for each combination of varied values."""
+    """The runs of one [[run]]: of each scenario one, or one for each combination of varied values."""
     unknown(place, table, RUN_KEYS)
-    if ("scenario" in table) == ("network" in table):
-        raise BadInput(f"{place}: a run has either a scenario or a network")
-    base = table.get("name") or os.path.splitext(os.path.basename(str(table.get("scenario", "network"))))[0]
     cases = [case_of(place, path, folder, files) for path in words(place, table, "expect")]
     axes = [[(key, value) for value in values_of(place, key, values)] for key, values in vary_of(place, table).items()]
-    scenario = toml(os.path.join(folder, table["scenario"])) if "scenario" in table else None
-    for choice in itertools.product(*axes):
-        parameters = dict(choice)
-        name = " ".join([base] + [f"{key}={shown(value)}" for key, value in choice])
-        where = f"{place} ({name})"
-        network = (
-            varied(where, scenario, parameters) if scenario is not None else made(where, table["network"], parameters)
+    for origin in origins_of(place, table, folder, cases):
+        for choice in itertools.product(*axes):
+            name = " ".join([origin.name] + [f"{key}={shown(value)}" for key, value in choice])
+            where = f"{place} ({name})"
+            network = origin.vary(where, dict(choice))
+            yield run_of(where, name, dict(choice), network, origin, files)
+
+
+# Where runs come from: their name, the folder of their images, `vary(place, parameters)`, which is the scenario with
+# these values, and their cases.
+Origin = collections.namedtuple("Origin", "name folder vary cases")
+
+
+def origins_of(place, table, folder, cases):
+    """What a [[run]] says is to be run: a scenario, a network, or what each of its cases has as its source."""
+    name = table.get("name", "")
+    if not isinstance(name, str):
+        raise BadInput(f"{place}: name is a text")
+    shipped = [case.shipped for case in cases]
+    if "scenario" in table and "network" in table:
+        raise BadInput(f"{place}: a run has a scenario or a network, and not both")
+    if "network" in table:
+        return [Origin(name or "network", folder, functools.partial(made, table["network"]), shipped)]
+    if "scenario" in table:
+        path = os.path.join(folder, *words(place, table, "scenario"))
+        vary = functools.partial(varied, toml(path))
+        return [Origin(name or stem(path), os.path.dirname(path), vary, shipped)]
+    if not cases:
+        raise BadInput(f"{place}: a run has a scenario, a network, or cases whose sources are run")
+    return [
+        Origin(
+            f"{name} {stem(case.read.path)}".strip(),
+            case.read.folder,
+            functools.partial(varied, source_of(place, case.read)),
+            [case.shipped],
         )
-        yield run_of(where, name, parameters, network, cases, files)
+        for case in cases
+    ]
+
+
+def stem(path):
+    return os.path.splitext(os.path.basename(path))[0]
+
+
+def source_of(place, case):
+    """The scenario that a case has as its source; `node IMAGE CYCLES` is a network of one node."""
+    if case.source and case.source[0] == "run":
+        return toml(os.path.join(case.folder, case.source[1]))
+    if case.source and case.source[0] == "node" and case.source[2].isdigit():
+        cycles = int(case.source[2])
+        window = [0, min(cycles, NODE_WINDOW)]
+        return {"cycles": cycles, "window": window, "node": [{"image": case.source[1]}]}
+    raise BadInput(f"{place}: {case.path} has no `run FILE` and no `node FILE CYCLES`")
 
 
 def words(place, table, key):
@@ -171,7 +212,7 @@ def shown(value):
     return value if isinstance(value, str) else json.dumps(value, separators=(",", ":"), default=str)
 
 
-def varied(place, scenario, parameters):
+def varied(scenario, place, parameters):
     """A scenario with other values at the keys that the parameters name."""
     network = copy.deepcopy(scenario)
     for key, value in parameters.items():
@@ -198,7 +239,7 @@ def tables_of(place, network, key, parts):
     return found
 
 
-def made(place, network, parameters):
+def made(network, place, parameters):
     """The scenario that mknet makes of a network's table and the parameters."""
     if not isinstance(network, dict):
         raise BadInput(f"{place}: network is a table: shape, images, and the options of mknet")
@@ -245,21 +286,27 @@ def spans_of(place, spans):
         raise BadInput(f'{place}: spans is a table such as {{ "0-1" = [[0, 1000]] }}') from None
 
 
+# A case as its reader has it, and as jobs have it (runs.py).
+CampaignCase = collections.namedtuple("CampaignCase", "read shipped")
+
+
 def case_of(place, path, folder, files):
     """A case of `expect` for the shipment; its golden traces go with it."""
     full = os.path.join(folder, path)
     case = expectations.read_case(full)
     goldens = [statement.path for statement in case.statements if isinstance(statement, expectations.Golden)]
-    return {"file": files.add(place, full), "path": path, "goldens": [files.add(place, golden) for golden in goldens]}
+    shipped = {"file": files.add(place, full), "path": path, "goldens": [files.add(place, it) for it in goldens]}
+    return CampaignCase(case, shipped)
 
 
-def run_of(place, name, parameters, network, cases, files):
+def run_of(place, name, parameters, network, origin, files):
     """A run, whose images go into the shipment."""
     shipped = copy.deepcopy(network)
+    cases = origin.cases
     names = [case["file"] for case in cases] + [golden for case in cases for golden in case["goldens"]]
     for node in shipped.get("node", []) if isinstance(shipped.get("node"), list) else []:
         if isinstance(node, dict) and isinstance(node.get("image"), str) and node["image"]:
-            node["image"] = files.add(place, node["image"])
+            node["image"] = files.add(place, os.path.join(origin.folder, node["image"]))
             names.append(node["image"])
     return Run(name, parameters, scenario_text(network), scenario_text(shipped), cases, sorted(set(names)))
 

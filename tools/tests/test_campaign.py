@@ -171,6 +171,31 @@ stagger = [0, 30]
         self.assertEqual(first["link"], second["link"])
         self.assertNotEqual(first["link"], third["link"])
 
+    def test_cases_with_their_own_sources(self):
+        with folder('[[run]]\nexpect = ["net.expect", "sub/one.expect"]\n', case=f"run net.toml\n{CASE}") as path:
+            os.mkdir(f"{path}/sub")
+            with open(f"{path}/sub/one.expect", "w", encoding="utf-8") as file:
+                file.write("node b.hex 30000\n* 0 sent *\n")
+            with open(f"{path}/sub/b.hex", "wb") as file:
+                file.write(b"b")
+            campaign = campaigns.read(f"{path}/c.toml")
+            net, one = campaign.runs
+            self.assertEqual((net.name, one.name), ("net", "one"))
+            self.assertEqual([case["path"] for case in one.cases], ["sub/one.expect"])
+            self.assertEqual(tomllib.loads(net.scenario), tomllib.loads(SCENARIO))
+            node = {"cycles": 30_000, "window": [0, 20_000], "node": [{"image": "b.hex"}]}
+            self.assertEqual(tomllib.loads(one.scenario), node)
+            self.assertEqual(campaign.files[tomllib.loads(one.shipped)["node"][0]["image"]], b"b")
+
+    def test_images_are_sought_beside_the_scenario(self):
+        with folder('[[run]]\nscenario = "sub/net.toml"\n') as path:
+            os.mkdir(f"{path}/sub")
+            os.rename(f"{path}/net.toml", f"{path}/sub/net.toml")
+            with open(f"{path}/sub/a.hex", "wb") as file:
+                file.write(b"sub")
+            campaign = campaigns.read(f"{path}/c.toml")
+            self.assertEqual(list(campaign.files.values()), [b"sub"])
+
     def test_what_is_shipped_has_each_content_once(self):
         campaign = self.read('[[run]]\nscenario = "net.toml"\nexpect = ["net.expect", "net.expect"]\n')
         (run,) = campaign.runs
@@ -198,7 +223,10 @@ stagger = [0, 30]
         self.assert_refused(f"retries = 2\n{run}", "the key retries is unknown")
         self.assert_refused(f"attempts = 0\n{run}", "attempts is not 1 to 100")
         self.assert_refused(f"timeout = true\n{run}", "timeout is not 1 to 1,000,000 seconds")
-        self.assert_refused('[[run]]\nname = "n"\n', "either a scenario or a network")
+        self.assert_refused('[[run]]\nname = "n"\n', "a run has a scenario, a network, or cases")
+        self.assert_refused(f"{run}[run.network]\n", "a scenario or a network, and not both")
+        self.assert_refused("[[run]]\nscenario = 7\n", "scenario is a name")
+        self.assert_refused('[[run]]\nexpect = "net.expect"\n', "net.expect has no `run FILE`")
         self.assert_refused(f"{run}wary = 1\n", "the key wary is unknown")
         self.assert_refused(f"{run}expect = 1\n", "expect is a name or a list of names")
         self.assert_refused(f"{run}vary = {{ latency = 3 }}\n", "latency has no list of values")
