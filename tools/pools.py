@@ -16,6 +16,8 @@ import runs
 import traces
 from traces import BadInput
 
+LOOPBACK = "127.0.0.1"  # nobody else reaches what this machine starts for itself
+
 GONE = "the scheduler of dask is gone"
 
 
@@ -46,8 +48,9 @@ class DaskPool:
                 self.cluster = distributed.LocalCluster(
                     n_workers=processes,
                     threads_per_worker=1,
-                    host="127.0.0.1",
-                    dashboard_address=None,
+                    host=LOOPBACK,
+                    dashboard_address=f"{LOOPBACK}:0",
+                    worker_dashboard_address=f"{LOOPBACK}:0",
                     memory_limit=None,
                     local_directory=self.local,
                     silence_logs=logging.CRITICAL,
