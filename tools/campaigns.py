@@ -295,7 +295,8 @@ def case_of(place, path, folder, files):
     full = os.path.join(folder, path)
     case = expectations.read_case(full)
     goldens = [statement.path for statement in case.statements if isinstance(statement, expectations.Golden)]
-    shipped = {"file": files.add(place, full), "path": path, "goldens": [files.add(place, it) for it in goldens]}
+    goldens = [{"file": files.add(place, it), "path": os.path.relpath(it, folder)} for it in goldens]
+    shipped = {"file": files.add(place, full), "path": path, "goldens": goldens}
     return CampaignCase(case, shipped)
 
 
@@ -303,7 +304,7 @@ def run_of(place, name, parameters, network, origin, files):
     """A run, whose images go into the shipment."""
     shipped = copy.deepcopy(network)
     cases = origin.cases
-    names = [case["file"] for case in cases] + [golden for case in cases for golden in case["goldens"]]
+    names = [case["file"] for case in cases] + [golden["file"] for case in cases for golden in case["goldens"]]
     for node in shipped.get("node", []) if isinstance(shipped.get("node"), list) else []:
         if isinstance(node, dict) and isinstance(node.get("image"), str) and node["image"]:
             node["image"] = files.add(place, os.path.join(origin.folder, node["image"]))

@@ -3,7 +3,8 @@
 A worker gets the simulator, the images and the cases once, as a shipment, and then jobs. A job is a dictionary:
 
   scenario   the text of the scenario; its images are names of files of the shipment
-  cases      of each case its `file` in the shipment, the `path` that messages name, and the `goldens` in the shipment
+  cases      of each case its `file` in the shipment and the `path` that messages name; `goldens` has the same of its
+             golden traces, in their order
   timeout    seconds that the simulator may take
   trace      when the trace is handed back: "none", "failed" or "all"
 
@@ -100,6 +101,8 @@ def checked(job, folder, trace):
         trace.seek(0)
         failure = expectations.check(shipped_case(case, folder), trace).failure
         if failure:
+            for golden in case["goldens"]:
+                failure = failure.replace(os.path.join(folder, golden["file"]), golden["path"])
             failures.append(failure)
     return answer(FAILED if failures else PASSED, "\n".join(failures), counted(trace))
 
@@ -109,7 +112,7 @@ def shipped_case(shipped, folder):
     case = expectations.read_case(os.path.join(folder, shipped["file"]))
     goldens = iter(shipped["goldens"])
     statements = [
-        statement._replace(path=os.path.join(folder, next(goldens)))
+        statement._replace(path=os.path.join(folder, next(goldens)["file"]))
         if isinstance(statement, expectations.Golden)
         else statement
         for statement in case.statements

@@ -327,6 +327,22 @@ class WithoutDask(Outcomes, unittest.TestCase):
             self.assertEqual(status, 1, errors)
             self.assertIn("20 0 sent AA", out)
 
+    def test_golden_traces(self):
+        case = "only sent\ngolden one.rows\ngolden two.rows without cycles\n"
+        with folder(CAMPAIGN.replace("[1, 3, 4, 20, 30]", "[30, 31]"), case) as path:
+            for name, text in ("one.rows", "30 0 sent AA\n"), ("two.rows", "0 sent AA\n"):
+                with open(f"{path}/{name}", "w", encoding="utf-8") as file:
+                    file.write(text)
+            _, _, errors, rows = run_campaign(path)
+            self.assertEqual(rows["net latency=30"]["outcome"], "passed", errors)
+            message = rows["net latency=31"]["message"]
+            self.assertEqual(message.splitlines()[0], "net.expect, line 2: row 1 differs from one.rows:")
+            self.assertIn("\n-30 0 sent AA\n+31 0 sent AA", message)
+            with open(f"{path}/two.rows", "w", encoding="utf-8") as file:
+                file.write("0 sent AB\n")
+            _, _, errors, rows = run_campaign(path)
+            self.assertIn("differs from two.rows", rows["net latency=30"]["message"], errors)
+
     def test_two_at_once(self):
         with folder() as path:
             env = {**os.environ, "CAMPAIGN_LOG": f"{path}/log", "CAMPAIGN_SLEEP": "2", "PYTHONPATH": f"{path}/hidden"}
