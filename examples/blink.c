@@ -1,7 +1,7 @@
 /* Counts compare matches of timer 0 (CTC, clock / 64, 115 counts: 7,360 cycles) and toggles port A after each, asleep
    (idle) between.
    avr-gcc -mmcu=atmega128 -Os blink.c -o blink.elf
-   avr-objcopy -O ihex -R .eeprom blink.elf blink.hex */
+   avr-objcopy -j .text -j .data -O ihex blink.elf blink.hex */
 #include <avr/interrupt.h>
 #include <avr/io.h>
 #include <avr/sleep.h>

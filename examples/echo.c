@@ -2,7 +2,7 @@
    receive interrupt fills and the data register interrupt empties; a byte that finds the ring full is lost. Asleep
    (idle) between.
    avr-gcc -mmcu=atmega128 -Os echo.c -o echo.elf
-   avr-objcopy -O ihex -R .eeprom echo.elf echo.hex */
+   avr-objcopy -j .text -j .data -O ihex echo.elf echo.hex */
 #include <avr/interrupt.h>
 #include <avr/io.h>
 #include <avr/sleep.h>

@@ -6,7 +6,7 @@
    The radio is on the SPI (clock / 4), selected by PB0 low, and served by the SPI's interrupt: a tick of timer 1 (CTC,
    1,024 cycles, the radio's byte time) begins a sample, and a message that is due is sent behind it. Asleep (idle) between.
    avr-gcc -mmcu=atmega128 -Os flood.c -o flood.elf
-   avr-objcopy -O ihex -R .eeprom flood.elf flood.hex */
+   avr-objcopy -j .text -j .data -O ihex flood.elf flood.hex */
 #include <avr/interrupt.h>
 #include <avr/io.h>
 #include <avr/sleep.h>

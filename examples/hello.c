@@ -2,7 +2,7 @@
    waiting for UDRE before each byte, then stays in a loop. The start-up copies the first word of the text to SRAM by
    ELPM; the rest is read by LPM.
    avr-gcc -mmcu=atmega128 -Os hello.c -o hello.elf
-   avr-objcopy -O ihex -R .eeprom hello.elf hello.hex */
+   avr-objcopy -j .text -j .data -O ihex hello.elf hello.hex */
 #include <avr/io.h>
 #include <avr/pgmspace.h>
 static const char rest[] PROGMEM = ", air\n";

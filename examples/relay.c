@@ -5,7 +5,7 @@
    ticks every 3,072 cycles, which is the radio's byte time: with one sample a tick each byte is heard once. Asleep (idle)
    between.
    avr-gcc -mmcu=atmega128 -Os relay.c -o relay.elf
-   avr-objcopy -O ihex -R .eeprom relay.elf relay.hex */
+   avr-objcopy -j .text -j .data -O ihex relay.elf relay.hex */
 #include <avr/interrupt.h>
 #include <avr/io.h>
 #include <avr/sleep.h>

@@ -1,7 +1,7 @@
 /* Sorts 32 pseudo-random bytes in SRAM, sums them up, and stays in a loop; with FOREVER it does so again and again,
    which is bench/mixed.hex. No device is used.
    avr-gcc -mmcu=atmega128 -Os -nostartfiles -Wl,-e,start [-DFOREVER] sort.c -o sort.elf
-   avr-objcopy -O ihex -R .eeprom sort.elf sort.hex */
+   avr-objcopy -j .text -j .data -O ihex sort.elf sort.hex */
 #include <stdint.h>
 static volatile uint8_t values[32];
 static volatile uint16_t total;

@@ -2,7 +2,7 @@
    sends by its radio, with bit 6 it samples the air, and with bit 5 it writes to USART0. What it sends and writes goes by
    what it heard so far. So a scenario's inputs say when its nodes send and sample. Asleep (idle) between.
    avr-gcc -mmcu=atmega128 -Os net.c -o net.elf
-   avr-objcopy -O ihex -R .eeprom net.elf net.hex */
+   avr-objcopy -j .text -j .data -O ihex net.elf net.hex */
 #include <avr/interrupt.h>
 #include <avr/io.h>
 #include <avr/sleep.h>

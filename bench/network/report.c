@@ -1,7 +1,7 @@
 /* Writes "hi" and LF on USART0 (UBRR 47: 7,680 cycles a byte), waiting for UDRE before each byte, then sends one byte by its
    radio and samples the air once, and stays in a loop. The start-up copies the text to SRAM by ELPM.
    avr-gcc -mmcu=atmega128 -Os report.c -o report.elf
-   avr-objcopy -O ihex -R .eeprom report.elf report.hex */
+   avr-objcopy -j .text -j .data -O ihex report.elf report.hex */
 #include <avr/io.h>
 static char text[] = "hi\n";
 static uint8_t transfer(uint8_t byte)

@@ -1,0 +1,494 @@
+"""campaign: the file, runs by processes and by dask, workers that die, campaigns that are cut."""
+import contextlib
+import glob
+import json
+import os
+import signal
+import socket
+import subprocess
+import sys
+import tempfile
+import time
+import tomllib
+import unittest
+import xml.etree.ElementTree
+
+from support import TOOLS, needs_module, run_tool
+
+import campaigns
+from traces import BadInput
+
+# Stands for the simulator. What it does is told by the latency of the scenario, so that a campaign can vary it: 1 the
+# scenario is refused, 2 it hangs, 3 it fails the first time, 4 it always fails, else node 0 sends a byte. It notes
+# each start.
+SIMULATOR = f"""#!{sys.executable} -IS
+import os, sys, time
+text = open(sys.argv[2]).read()
+latency = int(text.split("latency = ")[1].split()[0])
+log = os.environ["CAMPAIGN_LOG"]
+before = open(log).read().split() if os.path.exists(log) else []
+with open(log, "a") as file:
+    file.write(f"{{latency}}\\n")
+time.sleep(float(os.environ.get("CAMPAIGN_SLEEP", 0)))
+if latency == 1:
+    sys.exit(sys.stderr.write(f"avrora: {{sys.argv[2]}}: scenario refused: OutOfRange\\n") and 4)
+if latency == 2:
+    time.sleep(60)
+if latency == 4 or latency == 3 and "3" not in before:
+    sys.exit(6)
+print(f"{{latency}} 0 sent AA\\n{{latency + 9}} 1 heard 1 AA 0\\n5000 0 end 10 running\\n5000 1 end 10 running")
+"""
+
+SCENARIO = """version = 3
+cycles = 5_000
+latency = 100
+[[node]]
+image = "a.hex"
+[[node]]
+image = "a.hex"
+[[link]]
+from = 0
+to = 1
+[[input]]
+node = 1
+at = 500
+hex = "01"
+"""
+
+CASE = "* 0 sent AA\nwithin 20..29: never * 0 sent *\n"
+
+CAMPAIGN = """attempts = 2
+timeout = 1
+[[run]]
+scenario = "net.toml"
+expect = "net.expect"
+[run.vary]
+latency = [1, 3, 4, 20, 30]
+"""
+
+
+@contextlib.contextmanager
+def folder(campaign=CAMPAIGN, case=CASE, scenario=SCENARIO):
+    """A folder with a campaign, its scenario, case and image, and a simulator."""
+    with tempfile.TemporaryDirectory() as path:
+        texts = {
+            "c.toml": campaign,
+            "net.toml": scenario,
+            "net.expect": case,
+            "a.hex": ":00000001FF\n",
+            "avrora": SIMULATOR,
+        }
+        for name, text in texts.items():
+            with open(f"{path}/{name}", "w", encoding="utf-8") as file:
+                file.write(text)
+        os.chmod(f"{path}/avrora", 0o755)
+        yield path
+
+
+def run_campaign(path, *words, without_dask=True, **env):
+    """Runs the campaign c.toml; its status, output and errors, and the rows of the summary by name."""
+    env = {"CAMPAIGN_LOG": f"{path}/log", "AVRORA": f"{path}/avrora", **env}
+    if without_dask:
+        os.makedirs(f"{path}/hidden", exist_ok=True)
+        with open(f"{path}/hidden/distributed.py", "w", encoding="utf-8") as file:
+            file.write("raise ImportError\n")
+        env["PYTHONPATH"] = f"{path}/hidden"
+    status, out, errors = run_tool("campaign", *words, f"{path}/c.toml", env=env)
+    rows = {}
+    if os.path.exists(f"{path}/c.results/summary.jsonl"):
+        with open(f"{path}/c.results/summary.jsonl", encoding="utf-8") as file:
+            lines = [json.loads(line) for line in file]
+        rows = {row["name"]: row for row in lines}
+        assert len(rows) == len(lines), "a run stands twice in the summary"
+    return status, out, errors, rows
+
+
+def starts(path):
+    with open(f"{path}/log", encoding="utf-8") as file:
+        return file.read().split()
+
+
+class TheFile(unittest.TestCase):
+    def read(self, campaign, **texts):
+        with folder(campaign, **texts) as path:
+            return campaigns.read(f"{path}/c.toml")
+
+    def assert_refused(self, campaign, sentence, **texts):
+        with self.assertRaises(BadInput) as refusal:
+            self.read(campaign, **texts)
+        self.assertIn(sentence, str(refusal.exception))
+
+    def test_a_grid_has_each_combination_once(self):
+        vary = 'latency = [7, 8]\nwindow = [[0, 9]]\n"input.1.at" = { from = 10, to = 20, step = 5 }\n'
+        campaign = self.read('[[run]]\nscenario = "net.toml"\n[run.vary]\n' + vary)
+        names = [run.name for run in campaign.runs]
+        self.assertEqual(
+            names[:2], ["net latency=7 window=[0,9] input.1.at=10", "net latency=7 window=[0,9] input.1.at=15"]
+        )
+        self.assertEqual(len(set(names)), 6)
+        last = tomllib.loads(campaign.runs[-1].scenario)
+        self.assertEqual((last["latency"], last["window"], last["input"][0]["at"]), (8, [0, 9], 20))
+        self.assertEqual([node["image"] for node in last["node"]], ["a.hex", "a.hex"])
+
+    def test_keys_of_links_and_of_all_nodes(self):
+        vary = 'vary = { "link.0-1.open" = [[[0, 5], [6, 9]]], node."*".image = ["net.expect"] }\n'
+        (run,) = self.read(f'[[run]]\nscenario = "net.toml"\n{vary}').runs
+        scenario = tomllib.loads(run.scenario)
+        self.assertEqual(scenario["link"], [{"from": 0, "to": 1, "open": [[0, 5], [6, 9]]}])
+        self.assertEqual([node["image"] for node in scenario["node"]], ["net.expect"] * 2)
+
+    def test_a_network_by_seeds(self):
+        text = """[[run]]
+name = "ring"
+[run.network]
+shape = "ring"
+images = ["a.hex*2", "net.expect"]
+cycles = 7_000
+link_latency = [10, 900]
+inputs = { 2 = "FF" }
+spans = { "0-1" = [[5, 9]] }
+[run.vary]
+seed = { from = 1, to = 2 }
+stagger = [0, 30]
+"""
+        runs = self.read(text).runs
+        self.assertEqual(
+            [run.name for run in runs],
+            [
+                "ring seed=1 stagger=0",
+                "ring seed=1 stagger=30",
+                "ring seed=2 stagger=0",
+                "ring seed=2 stagger=30",
+            ],
+        )
+        first, second, third, _ = [tomllib.loads(run.scenario) for run in runs]
+        self.assertEqual([node["image"] for node in first["node"]], ["a.hex", "a.hex", "net.expect"])
+        self.assertEqual(
+            [(link["from"], link["to"]) for link in first["link"]], [(0, 1), (1, 0), (0, 2), (2, 0), (1, 2), (2, 1)]
+        )
+        self.assertEqual([link.get("open") for link in first["link"]], [[[5, 9]]] + [None] * 5)
+        self.assertEqual([(it["at"], it["hex"]) for it in second["input"]], [(500, "00"), (530, "01"), (560, "02FF")])
+        self.assertEqual(first["link"], second["link"])
+        self.assertNotEqual(first["link"], third["link"])
+
+    def test_cases_with_their_own_sources(self):
+        with folder('[[run]]\nexpect = ["net.expect", "sub/one.expect"]\n', case=f"run net.toml\n{CASE}") as path:
+            os.mkdir(f"{path}/sub")
+            with open(f"{path}/sub/one.expect", "w", encoding="utf-8") as file:
+                file.write("node b.hex 30000\n* 0 sent *\n")
+            with open(f"{path}/sub/b.hex", "wb") as file:
+                file.write(b"b")
+            campaign = campaigns.read(f"{path}/c.toml")
+            net, one = campaign.runs
+            self.assertEqual((net.name, one.name), ("net", "one"))
+            self.assertEqual([case["path"] for case in one.cases], ["sub/one.expect"])
+            self.assertEqual(tomllib.loads(net.scenario), tomllib.loads(SCENARIO))
+            node = {"cycles": 30_000, "window": [0, 20_000], "node": [{"image": "b.hex"}]}
+            self.assertEqual(tomllib.loads(one.scenario), node)
+            self.assertEqual(campaign.files[tomllib.loads(one.shipped)["node"][0]["image"]], b"b")
+
+    def test_images_are_sought_beside_the_scenario(self):
+        with folder('[[run]]\nscenario = "sub/net.toml"\n') as path:
+            os.mkdir(f"{path}/sub")
+            os.rename(f"{path}/net.toml", f"{path}/sub/net.toml")
+            with open(f"{path}/sub/a.hex", "wb") as file:
+                file.write(b"sub")
+            campaign = campaigns.read(f"{path}/c.toml")
+            self.assertEqual(list(campaign.files.values()), [b"sub"])
+
+    def test_what_is_shipped_has_each_content_once(self):
+        campaign = self.read('[[run]]\nscenario = "net.toml"\nexpect = ["net.expect", "net.expect"]\n')
+        (run,) = campaign.runs
+        self.assertEqual(len(campaign.files), 2)
+        self.assertEqual(set(run.files), set(campaign.files))
+        for node in tomllib.loads(run.shipped)["node"]:
+            self.assertEqual(campaign.files[node["image"]], b":00000001FF\n")
+
+    def test_a_scenario_is_written_as_it_was_read(self):
+        odd = '"odd key" = [1.5, true, "q\\"\\\\\\n\\u00e9\\u007f", {a = 1}]\nday = 1979-05-27\n'
+        text = f'cycles = 5\n{odd}[[node]]\nimage = "a.hex"\n'
+        self.assertEqual(tomllib.loads(campaigns.scenario_text(tomllib.loads(text))), tomllib.loads(text))
+
+    def test_names_of_files(self):
+        self.assertEqual(campaigns.file_name("net latency=7"), "net,latency=7")
+        odd, other = campaigns.file_name("../net"), campaigns.file_name(".._net")
+        self.assertNotIn("/", odd)
+        self.assertNotEqual(odd, other)
+        self.assertLess(len(campaigns.file_name("n" * 5000)), 255)
+
+    def test_refusals(self):
+        run = '[[run]]\nscenario = "net.toml"\n'
+        self.assert_refused("x = ", "no TOML")
+        self.assert_refused("attempts = 2\n", "no [[run]]")
+        self.assert_refused(f"retries = 2\n{run}", "the key retries is unknown")
+        self.assert_refused(f"attempts = 0\n{run}", "attempts is not 1 to 100")
+        self.assert_refused(f"timeout = true\n{run}", "timeout is not 1 to 1,000,000 seconds")
+        self.assert_refused('[[run]]\nname = "n"\n', "a run has a scenario, a network, or cases")
+        self.assert_refused(f"{run}[run.network]\n", "a scenario or a network, and not both")
+        self.assert_refused("[[run]]\nscenario = 7\n", "scenario is a name")
+        self.assert_refused('[[run]]\nexpect = "net.expect"\n', "net.expect has no `run FILE`")
+        self.assert_refused(f"{run}wary = 1\n", "the key wary is unknown")
+        self.assert_refused(f"{run}expect = 1\n", "expect is a name or a list of names")
+        self.assert_refused(f"{run}vary = {{ latency = 3 }}\n", "latency has no list of values")
+        self.assert_refused(f"{run}vary = {{ latency = {{ from = 3, to = 2 }} }}\n", "latency has no list of values")
+        self.assert_refused(
+            f"{run}vary = {{ latency = {{ from = 0, to = 9_000_000 }} }}\n", "more than 1,000,000 values"
+        )
+        self.assert_refused(f'{run}vary = {{ "link.1-0.latency" = [3] }}\n', "the scenario has no link 1-0")
+        self.assert_refused(f'{run}vary = {{ "nodes.1.image" = [3] }}\n', "is no KEY, node.K.KEY")
+        self.assert_refused(f"{run}{run}", "two runs have the name net")
+        network = '[[run]]\n[run.network]\nshape = "ring"\n'
+        self.assert_refused(network, "a network has a shape, and images")
+        self.assert_refused(f'{network}images = "a.hex"\ncycle = 5\n', "cycle")
+        self.assert_refused(f'{network}images = "a.hex*3"\nspans = {{ "0:1" = 5 }}\n', "spans is a table such as")
+        self.assert_refused(network.replace("ring", "wheel") + 'images = "a.hex"\n', "wheel is no shape")
+        self.assert_refused('[[run]]\nscenario = "gone.toml"\n', "cannot read")
+        self.assert_refused(run, "a.hax: No such file", scenario=SCENARIO.replace("a.hex", "a.hax"))
+        self.assert_refused(f'{run}expect = "net.expect"\n', "net.expect, line 1", case="1 0 nonsense *\n")
+
+
+class Outcomes:
+    """What comes of five runs, whoever runs them."""
+
+    without_dask = True
+
+    def test_outcomes_and_attempts(self):
+        with folder() as path:
+            status, out, errors, rows = run_campaign(path, "--processes", "2", without_dask=self.without_dask)
+            self.assertEqual(status, 1, errors)
+            found = {name: (row["outcome"], row["attempts"]) for name, row in rows.items()}
+            self.assertEqual(
+                found,
+                {
+                    "net latency=1": ("refused", 1),
+                    "net latency=3": ("passed", 2),
+                    "net latency=4": ("broken", 2),
+                    "net latency=20": ("failed", 1),
+                    "net latency=30": ("passed", 1),
+                },
+            )
+            self.assertEqual(sorted(starts(path)), sorted("1 3 3 4 4 20 30".split()))
+            self.assertEqual(rows["net latency=1"]["message"], "avrora: scenario.toml: scenario refused: OutOfRange")
+            self.assertEqual(rows["net latency=4"]["message"], "status 6: ")
+            self.assertIn("net.expect, line 2", rows["net latency=20"]["message"])
+            self.assertEqual(
+                rows["net latency=30"]["counts"], {"sent": 1, "heard": 1, "clashes": 0, "serial": 0, "stops": 0}
+            )
+            self.assertEqual(rows["net latency=30"]["parameters"], {"latency": 30})
+            self.assertIn("c: 5 runs, 2 passed, 1 failed, 1 refused, 1 broken", out)
+            names = [os.path.basename(name) for name in glob.glob(f"{path}/c.results/runs/*.toml")]
+            self.assertEqual(sorted(names), [f"net,latency={latency}.toml" for latency in (1, 20, 4)])
+
+
+class WithoutDask(Outcomes, unittest.TestCase):
+    """By processes of this machine."""
+
+    def test_it_goes_on_where_it_was(self):
+        with folder() as path:
+            run_campaign(path)
+            os.unlink(f"{path}/c.results/runs/net,latency=20.json")
+            with open(f"{path}/c.results/runs/net,latency=30.json", "r+", encoding="utf-8") as file:
+                file.truncate(30)  # as a result that was cut would be
+            os.unlink(f"{path}/log")
+            status, _, errors, rows = run_campaign(path)
+            self.assertEqual((status, len(rows)), (1, 5), errors)
+            self.assertEqual(sorted(starts(path)), sorted("4 4 20 30".split()))
+            self.assertIn("2 of 5 results are there already", errors)
+
+    def test_it_says_what_is_missing(self):
+        with folder() as path:
+            _, _, errors, _ = run_campaign(path)
+            self.assertIn("python3-distributed", errors)
+            status, _, errors, _ = run_campaign(path, "--anew", "--scheduler", "tcp://127.0.0.1:9")
+            self.assertEqual(status, 2)
+            self.assertIn("python3-distributed", errors)
+
+    def test_changed_content_is_run_again(self):
+        with folder() as path:
+            run_campaign(path)
+            with open(f"{path}/net.expect", "w", encoding="utf-8") as file:
+                file.write("* 1 heard *\n")
+            status, _, errors, rows = run_campaign(path)
+            self.assertEqual((status, rows["net latency=20"]["outcome"]), (1, "passed"), errors)
+            self.assertNotIn("already", errors)
+
+    def test_time_and_traces(self):
+        campaign = CAMPAIGN.replace("[1, 3, 4, 20, 30]", "[2, 20]").replace(
+            "attempts = 2", 'attempts = 1\ntraces = "failed"'
+        )
+        with folder(campaign) as path:
+            status, _, errors, rows = run_campaign(path)
+            self.assertEqual(status, 1, errors)
+            self.assertEqual(rows["net latency=2"]["message"], "took more than 1 s")
+            self.assertEqual(os.listdir(f"{path}/c.results/runs").count("net,latency=20.trace.gz"), 1)
+            status, out, errors = run_tool(
+                "expect", "--trace", f"{path}/c.results/runs/net,latency=20.trace.gz", f"{path}/net.expect"
+            )
+            self.assertEqual(status, 1, errors)
+            self.assertIn("20 0 sent AA", out)
+
+    def test_golden_traces(self):
+        case = "only sent\ngolden one.rows\ngolden two.rows without cycles\n"
+        with folder(CAMPAIGN.replace("[1, 3, 4, 20, 30]", "[30, 31]"), case) as path:
+            for name, text in ("one.rows", "30 0 sent AA\n"), ("two.rows", "0 sent AA\n"):
+                with open(f"{path}/{name}", "w", encoding="utf-8") as file:
+                    file.write(text)
+            _, _, errors, rows = run_campaign(path)
+            self.assertEqual(rows["net latency=30"]["outcome"], "passed", errors)
+            message = rows["net latency=31"]["message"]
+            self.assertEqual(message.splitlines()[0], "net.expect, line 2: row 1 differs from one.rows:")
+            self.assertIn("\n-30 0 sent AA\n+31 0 sent AA", message)
+            with open(f"{path}/two.rows", "w", encoding="utf-8") as file:
+                file.write("0 sent AB\n")
+            _, _, errors, rows = run_campaign(path)
+            self.assertIn("differs from two.rows", rows["net latency=30"]["message"], errors)
+
+    def test_two_at_once(self):
+        with folder() as path:
+            env = {**os.environ, "CAMPAIGN_LOG": f"{path}/log", "CAMPAIGN_SLEEP": "2", "PYTHONPATH": f"{path}/hidden"}
+            words = [sys.executable, f"{TOOLS}/campaign", "--avrora", f"{path}/avrora", f"{path}/c.toml"]
+            os.makedirs(f"{path}/hidden")
+            with open(f"{path}/hidden/distributed.py", "w", encoding="utf-8") as file:
+                file.write("raise ImportError\n")
+            first = subprocess.Popen(words, env=env, stdout=subprocess.DEVNULL, stderr=subprocess.DEVNULL)
+            wait_for(lambda: os.path.exists(f"{path}/log"))
+            status, _, errors, _ = run_campaign(path)
+            first.send_signal(signal.SIGINT)
+            self.assertEqual(first.wait(20), 130)
+            self.assertEqual(status, 2)
+            self.assertIn("another campaign is at work", errors)
+
+    def test_list_and_one_scenario(self):
+        with folder() as path:
+            status, out, _, _ = run_campaign(path, "--list")
+            self.assertEqual((status, out.splitlines()[-1]), (0, "net latency=30"))
+            status, out, _, _ = run_campaign(path, "--scenario", "net latency=30")
+            self.assertEqual((status, tomllib.loads(out)["latency"]), (0, 30))
+            status, _, errors, _ = run_campaign(path, "--scenario", "net")
+            self.assertEqual((status, "no run is called net" in errors), (2, True))
+
+    @needs_module("junit_xml", "python3-junit.xml")
+    def test_junit(self):
+        with folder() as path:
+            run_campaign(path)
+            suite = xml.etree.ElementTree.parse(f"{path}/c.results/junit.xml").getroot().find("testsuite")
+            self.assertEqual((suite.get("tests"), suite.get("failures"), suite.get("errors")), ("5", "2", "1"))
+
+
+def wait_for(condition, seconds=30):
+    end = time.monotonic() + seconds
+    while not condition():
+        if time.monotonic() > end:
+            raise TimeoutError
+        time.sleep(0.05)
+
+
+@needs_module("distributed", "python3-distributed")
+class OnDask(Outcomes, unittest.TestCase):
+    """By the workers of a scheduler that campaign starts for itself."""
+
+    without_dask = False
+
+    def test_no_scheduler(self):
+        with folder() as path, socket.socket() as free:
+            free.bind(("127.0.0.1", 0))  # and nobody listens
+            address = f"tcp://127.0.0.1:{free.getsockname()[1]}"
+            env = {"DASK_DISTRIBUTED__COMM__TIMEOUTS__CONNECT": "1s"}
+            status, _, errors, _ = run_campaign(path, "--scheduler", address, without_dask=False, **env)
+            self.assertEqual(status, 2)
+            self.assertIn(f"no scheduler of dask answers at {address}", errors)
+
+
+@needs_module("distributed", "python3-distributed")
+class OnACluster(unittest.TestCase):
+    """A scheduler and three workers, each a process of its own that knows nothing of this repository."""
+
+    RUNS = 60
+
+    def setUp(self):
+        self.processes = []
+        self.stack = contextlib.ExitStack()
+        campaign = CAMPAIGN.replace("[1, 3, 4, 20, 30]", f"{{ from = 100, to = {99 + self.RUNS} }}")
+        self.path = self.stack.enter_context(folder(campaign))
+        self.env = {name: value for name, value in os.environ.items() if name != "PYTHONPATH"}
+        self.env |= {
+            "CAMPAIGN_LOG": f"{self.path}/log",
+            "CAMPAIGN_SLEEP": "0.05",
+            "DASK_DISTRIBUTED__COMM__TIMEOUTS__CONNECT": "3s",
+        }
+        self.start(
+            "distributed.cli.dask_scheduler",
+            "--port",
+            "0",
+            "--scheduler-file",
+            f"{self.path}/scheduler.json",
+            "--no-dashboard",
+        )
+        wait_for(lambda: os.path.exists(f"{self.path}/scheduler.json"))
+        self.workers = []
+        for number in range(3):
+            words = [
+                "--scheduler-file",
+                f"{self.path}/scheduler.json",
+                "--nthreads",
+                "1",
+                "--no-nanny",
+                "--no-dashboard",
+                "--local-directory",
+                f"{self.path}/worker{number}",
+            ]
+            self.workers.append(self.start("distributed.cli.dask_worker", *words))
+        with open(f"{self.path}/scheduler.json", encoding="utf-8") as file:
+            self.address = json.load(file)["address"]
+
+    def tearDown(self):
+        for process in self.processes:
+            process.kill()
+            process.wait()
+        self.stack.close()
+
+    def start(self, module, *words):
+        words = [sys.executable, "-m", module, "--host", "127.0.0.1", *words]
+        process = subprocess.Popen(
+            words, cwd=self.path, env=self.env, stdout=subprocess.DEVNULL, stderr=subprocess.DEVNULL
+        )
+        self.processes.append(process)
+        return process
+
+    def results(self):
+        return len(glob.glob(f"{self.path}/c.results/runs/*.json"))
+
+    def test_a_worker_is_killed(self):
+        words = [
+            sys.executable,
+            f"{TOOLS}/campaign",
+            "--avrora",
+            f"{self.path}/avrora",
+            "--scheduler",
+            self.address,
+            f"{self.path}/c.toml",
+        ]
+        campaign = subprocess.Popen(words, env=self.env, stdout=subprocess.PIPE, stderr=subprocess.STDOUT, text=True)
+        self.processes.append(campaign)
+        wait_for(lambda: self.results() >= 10)
+        self.workers[0].kill()
+        at_kill = self.results()
+        out, _ = campaign.communicate(timeout=60)
+        self.assertLess(at_kill, self.RUNS - 10, "the worker was not killed in the middle")
+        self.assertEqual(campaign.returncode, 0, out)
+        with open(f"{self.path}/c.results/summary.jsonl", encoding="utf-8") as file:
+            rows = [json.loads(line) for line in file]
+        self.assertEqual(
+            [row["name"] for row in rows], [f"net latency={latency}" for latency in range(100, 100 + self.RUNS)]
+        )
+        self.assertEqual({row["outcome"] for row in rows}, {"passed"})
+        self.assertEqual(self.results(), self.RUNS)
+        # What the killed worker had under way was run again, and nothing else.
+        self.assertLessEqual(len(starts(self.path)), self.RUNS + 3)
+        self.assertEqual(
+            {row["parameters"]["latency"] for row in rows}, {int(latency) for latency in starts(self.path)}
+        )
+
+
+if __name__ == "__main__":
+    unittest.main()
