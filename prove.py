@@ -25,7 +25,7 @@ TOP = os.path.dirname(os.path.realpath(__file__))
 # The folders of a crate that its proof and its code are made from.
 PARTS = ("src", "specs", "proofs")
 
-# How many processor seconds the check of each crate took when it was last measured, a line each; bench/seconds.py writes it.
+# How many processor seconds the check of each crate took when it was last measured, a line each; scripts/seconds.py writes it.
 SECONDS = f"{TOP}/bench/seconds.txt"
 
 # How long the check of a crate that was not measured is likely to take: so many processor seconds for its start, for each
