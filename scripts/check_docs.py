@@ -3,10 +3,12 @@
 
     scripts/check_docs.py                  sizes, links and names; it needs nothing but the repository
     scripts/check_docs.py --run [PROGRAM]  also runs the commands, with PROGRAM or the one that `./avrora` built
+    scripts/check_docs.py --counts         first puts the counts of stored cases right
 
 A command is a line `$ COMMAND` of a block that begins with ```console. It runs in a copy of the repository, and prints first the
 lines that stand below it; a line `...` stands for any lines, at the end for the rest. A command whose program or package is not
-installed is skipped by name. Exit status: 0 all is right, 1 something is wrong, 2 bad words.
+installed is skipped by name. A count of cases is written `N cases [WORD]`, where WORD is that of the stored run.
+Exit status: 0 all is right, 1 something is wrong, 2 bad words.
 """
 import argparse
 import fnmatch
@@ -53,6 +55,7 @@ LINK = re.compile(r"!?\[[^\]\n]*\]\(([^)\s]+)\)")
 NAME = re.compile(r"[A-Za-z_][A-Za-z0-9_]*(?:(?:::|\.|-)[A-Za-z_][A-Za-z0-9_]*)*")
 WORD = re.compile(r"[A-Za-z_][A-Za-z0-9_]*(?:-[A-Za-z0-9_]+)*")
 CONSOLE = re.compile(r"^```console\n(.*?)^```", re.M | re.S)
+COUNT = re.compile(r"([\d,]+) cases \[`(\w+=?)`\]")
 PATH_END = re.compile(r"\.(py|sh|rt|antt|md|toml|hex|c|h|s|S|txt|edit|cases|svg|html)$")
 
 
@@ -160,6 +163,28 @@ def crates(texts):
             yield f"crates.txt: no document names {name}"
 
 
+@functools.lru_cache(maxsize=None)
+def stored_cases():
+    """How many cases the stored run tells of each word, its files taken together."""
+    found, word = {}, None
+    for line in (TOP / "crates/command_facts/stdout").read_text(encoding="utf-8", errors="ignore").splitlines():
+        if it := re.fullmatch(r"=== (\w+=?).*", line):
+            word = it[1]
+        elif it := re.match(r"[\w. ]+: (\d+) cases\b", line):
+            found[word] = found.get(word, 0) + int(it[1])
+    return found
+
+
+def right_count(it):
+    return f"{stored_cases().get(it[2], 0):,} cases [`{it[2]}`]"
+
+
+def counts(path, text):
+    for it in COUNT.finditer(text):
+        if it[0] != right_count(it):
+            yield f"{path}:{line_of(text, it.start())}: it says {it[0]}, the stored run {right_count(it)} (--counts puts it right)"
+
+
 def commands(text):
     """Each command of a document with the lines that it is to print, and the line where it stands."""
     for block in CONSOLE.finditer(text):
@@ -228,11 +253,16 @@ def run_commands(path, text, program):
 def main():
     parser = argparse.ArgumentParser(description=__doc__, formatter_class=argparse.RawDescriptionHelpFormatter)
     parser.add_argument("--run", nargs="?", const=str(TOP / "crates/avrora_program/out/rlib/avrora_program"), metavar="PROGRAM", help="run the commands too")
-    program = parser.parse_args().run
+    parser.add_argument("--counts", action="store_true", help="put the counts of stored cases right")
+    given = parser.parse_args()
+    program = given.run
     if program and not os.access(program, os.X_OK):
         parser.error(f"there is no program {program}; ./avrora builds it")
+    if given.counts:
+        for path, text in documents().items():
+            (TOP / path).write_text(COUNT.sub(right_count, text), encoding="utf-8")
     texts = documents()
-    wrong = [it for path, text in texts.items() for check in (sizes, links, names) for it in check(path, text)]
+    wrong = [it for path, text in texts.items() for check in (sizes, links, names, counts) for it in check(path, text)]
     wrong += crates(texts)
     if program:
         wrong += [it for path in WITH_COMMANDS if path in texts for it in run_commands(path, texts[path], os.path.abspath(program))]
