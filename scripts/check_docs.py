@@ -5,8 +5,8 @@
     scripts/check_docs.py --run [PROGRAM]  also runs the commands, with PROGRAM or the one that `./avrora` built
     scripts/check_docs.py --counts         first puts the counts of stored cases right
 
-A command is a line `$ COMMAND` of a block that begins with ```console. It runs in a copy of the repository, and prints first the
-lines that stand below it; a line `...` stands for any lines, at the end for the rest. A command whose program or package is not
+A command is a line `$ COMMAND` of a block that begins with ```console. It runs in a copy of the repository, in its top folder or
+where the last `$ cd DIR` of the document led, and prints first the lines that stand below it; a line `...` stands for any lines, at the end for the rest. A command whose program or package is not
 installed is skipped by name. A count of cases is written `N cases [WORD]`, where WORD is that of the stored run.
 Exit status: 0 all is right, 1 something is wrong, 2 bad words.
 """
@@ -235,10 +235,14 @@ def copy_for(program, folder):
 
 def run_commands(path, text, program):
     """What a document's commands print that does not stand there, and which are skipped."""
-    with tempfile.TemporaryDirectory() as place:
-        copy_for(program, Path(place))
+    with tempfile.TemporaryDirectory() as top:
+        copy_for(program, Path(top))
+        place = top
         for command, wanted, number in commands(text):
             where = f"{path}:{number}"
+            if it := re.fullmatch(r"cd (\S+)", command):
+                place = os.path.join(place, it[1])
+                continue
             if lacks := missing(command):
                 print(f"{where}: skipped, {lacks} is not installed: {command}")
                 continue
