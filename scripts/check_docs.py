@@ -6,8 +6,9 @@
     scripts/check_docs.py --counts         first puts the counts of stored cases right
 
 A command is a line `$ COMMAND` of a block that begins with ```console. It runs in a copy of the repository, in its top folder or
-where the last `$ cd DIR` of the document led, and prints first the lines that stand below it; a line `...` stands for any lines, at the end for the rest. A command whose program or package is not
-installed is skipped by name. A count of cases is written `N cases [WORD]`, where WORD is that of the stored run.
+where the last `$ cd DIR` of the document led, and prints first the lines that stand below it; a line `...` stands for any lines,
+at the end for the rest. A command whose program or package is not installed is skipped by name. A count of cases is written
+`N cases [WORD]`, where WORD is that of the stored run.
 Exit status: 0 all is right, 1 something is wrong, 2 bad words.
 """
 import argparse
