@@ -46,6 +46,8 @@ OTHERS = {
     "shell and system": "bash cmp cut echo false grep head less make printf sed sort tail tr true ulimit valgrind callgrind perf taskset timeout",
     "compilers": "avr avr-gcc avr-as avr-nm avr-objcopy avr-objdump avr-addr2line binutils simavr clang nm",
     "TOML": "inf nan",
+    "avr-libc": "wdt_enable wdt_disable",
+    "Arduino": "arduino-core-avr analogRead analogWrite attachInterrupt delay digitalWrite init millis tone",
     "Debian": "python3-pyelftools python3-junit xml python3-distributed gcc-avr avr-libc",
     "the kit": "START-HERE KIT rt rattle antt omega grind refl cc rw simp subst elim ap absurd using search std core",
 }
@@ -68,17 +70,22 @@ def tracked():
 
 
 @functools.lru_cache(maxsize=None)
+def sources():
+    """The texts of the sources."""
+    paths = [it for it in tracked() if it.startswith(SOURCES) and it not in NO_SOURCES]
+    return [(TOP / it).read_text(encoding="utf-8", errors="ignore") for it in paths]
+
+
+@functools.lru_cache(maxsize=None)
 def words():
     """All words of the sources, and the names of their files and folders."""
     found = set(" ".join(OTHERS.values()).split())
-    for path in tracked():
-        if path.startswith(SOURCES):
-            found.update(part for piece in path.split("/") for part in (piece, piece.split(".")[0]))
-            if path not in NO_SOURCES:
-                text = (TOP / path).read_text(encoding="utf-8", errors="ignore")
-                for word in WORD.findall(text):
-                    found.add(word)
-                    found.update(word.split("-"))
+    for path in filter(lambda it: it.startswith(SOURCES), tracked()):
+        found.update(part for piece in path.split("/") for part in (piece, piece.split(".")[0]))
+    for text in sources():
+        for word in WORD.findall(text):
+            found.add(word)
+            found.update(word.split("-"))
     return found
 
 
@@ -130,7 +137,9 @@ def is_path(span):
 
 
 def leads_to_file(span):
-    """Whether a path, with or without its end and the folders above it, is one of the repository."""
+    """Whether a path, with or without its end and the folders above it, is one of the repository, or a file that it writes."""
+    if "/" not in span and any(span in text for text in sources()):
+        return True
     wanted = span.removeprefix("./").removeprefix("../").rstrip("/")
     for path in tracked():
         for it in (path, path.rpartition(".")[0]):
@@ -142,12 +151,13 @@ def leads_to_file(span):
 
 
 def names(path, text):
-    own = {word for block in CODE.finditer(text) for word in re.findall(r"[\w./-]+", block[0])}
+    # what the reader's own commands make, by any of its ends
+    own = {part for block in CODE.finditer(text) for word in re.findall(r"[\w./-]+", block[0]) for part in (word, word.split(".")[0])}
     for it in SPAN.finditer(prose(text)):
         span, where = it[1].strip(), f"{path}:{line_of(text, it.start())}"
         first = span.split()[0] if span.split() else ""
         if is_path(first):
-            if not leads_to_file(first) and first not in own:
+            if not leads_to_file(first) and not own & {first, first.split(".")[0]}:
                 yield f"{where}: there is no file `{first}`"
         elif NAME.fullmatch(span) and re.search(r"[a-z]", span):
             gone = [part for part in re.split(r"::|\.", span) if part not in words() | own]
