@@ -5,7 +5,8 @@ memory, and builds it. `./avrora` calls it before each command; where nothing ch
     prove.py PROGRAM ROOM
 
 leaves the program at ROOM/PROGRAM. What is proved of a crate is kept in ROOM too, until the kit changes, or a source of the
-crate or of one below it. Exit status: 0 the program is there, 1 a crate was not proved or built, 2 bad words.
+crate or of one below it. Exit status: 0 the program is there, 1 a crate was not proved or built, 2 bad words, 128 and its number
+after a signal, which ends the checks too.
 
 Each crate is proved by one `rattle build` of the kit, over the statements of the crates below it; that ends well only for a
 crate that is proved. The gate, `rt ci`, proves them so too, and does more: it takes nothing that was kept, looks for
@@ -16,6 +17,7 @@ import hashlib
 import os
 import re
 import shutil
+import signal
 import subprocess
 import sys
 import time
@@ -25,7 +27,7 @@ TOP = os.path.dirname(os.path.realpath(__file__))
 # The folders of a crate that its proof and its code are made from.
 PARTS = ("src", "specs", "proofs")
 
-# How many processor seconds the check of each crate took when it was last measured, a line each; bench/seconds.py writes it.
+# How many processor seconds the check of each crate took when it was last measured, a line each; scripts/seconds.py writes it.
 SECONDS = f"{TOP}/bench/seconds.txt"
 
 # How long the check of a crate that was not measured is likely to take: so many processor seconds for its start, for each
@@ -52,6 +54,14 @@ class NotProved(Exception):
     def __init__(self, why, said=""):
         super().__init__(why)
         self.said = said
+
+
+class Signalled(BaseException):
+    """A signal that is to end this."""
+
+    def __init__(self, number):
+        super().__init__(number)
+        self.number = number
 
 
 class Kit:
@@ -201,7 +211,16 @@ class Check:
             self.process = self.start(room.check_words(crate, copies), said)
 
     def start(self, words, said):
-        return subprocess.Popen(words, cwd=self.crate.folder, stdin=subprocess.DEVNULL, stdout=said, stderr=subprocess.STDOUT)
+        # a process group of its own, so that its copies end with it
+        return subprocess.Popen(words, cwd=self.crate.folder, stdin=subprocess.DEVNULL, stdout=said, stderr=subprocess.STDOUT, preexec_fn=os.setpgrp)
+
+    def kill(self):
+        """Ends it, with all copies of it."""
+        try:
+            os.killpg(self.process.pid, signal.SIGKILL)
+        except ProcessLookupError:
+            pass
+        self.process.wait()
 
     def ended(self):
         """Whether it ended. Then it is known how many processor seconds it took, with its copies."""
@@ -249,14 +268,27 @@ class Order:
             self.above[crate.name] = set(users).union(*(self.above[it] for it in users))
             self.ways[crate.name] = self.works[crate.name] + max((self.ways[it] for it in users), default=0)
 
+    def left(self, undone, running):
+        """How many seconds of work each crate that is not done still is."""
+        left = {name: self.works[name] for name in undone}
+        for check in running:
+            left[check.crate.name] = max(0.0, self.works[check.crate.name] - (time.monotonic() - check.began))
+        return left
+
+    def seconds_left(self, undone, running, lanes):
+        """How long all of it takes at least: the longest way up to the program, or the work of each processor."""
+        left, ends = self.left(undone, running), {}
+        for name, crate in self.crates.items():
+            if name in undone:
+                ends[name] = left[name] + max((ends[it] for it in crate.uses if it in ends), default=0.0)
+        return max([sum(left.values()) / lanes, *ends.values()])
+
     def copies(self, crate, undone, running, lanes):
         """How many copies share the check of a crate: the processors that no other crate can use while it lasts."""
         if crate.is_program:
             return 1  # it has one function, and most of its time goes into what is done in one piece
         work = self.works[crate.name]
-        left = {name: self.works[name] for name in undone}
-        for check in running:
-            left[check.crate.name] = max(0.0, self.works[check.crate.name] - (time.monotonic() - check.began))
+        left = self.left(undone, running)
         starts = {}
 
         def starts_in(name):
@@ -277,11 +309,32 @@ def lanes_here():
     return max(1, min(len(os.sched_getaffinity(0)), free // MEMORY_OF_A_CHECK))
 
 
-def tell(done, of_all, is_last):
-    """One line of how many crates are done; where somebody looks, it is written over."""
-    if sys.stderr.isatty() or is_last:
-        ends = "\r" if sys.stderr.isatty() and not is_last else "\n"
-        print(f"avrora: {done} of {of_all} crates are proved", end=ends, file=sys.stderr, flush=True)
+class Progress:
+    """Tells how far the proving is: over the same line where somebody looks, else in a line for each crate that is done."""
+
+    # So many seconds of the work are to be done before the time that they took says how fast this machine is.
+    SURE = 60
+
+    def __init__(self, order, undone, of_all, lanes):
+        self.order, self.of_all, self.lanes = order, of_all, lanes
+        self.began, self.whole = time.monotonic(), order.seconds_left(undone, [], lanes)
+
+    def minutes_left(self, undone, running):
+        left = self.order.seconds_left(undone, running, self.lanes)
+        done, took = self.whole - left, time.monotonic() - self.began
+        pace = took / done if done >= self.SURE else 1.0
+        return round(left * pace / 60)
+
+    def tell(self, undone, running, ended=None):
+        """`ended` is the check that has just ended, if one has."""
+        is_looked_at, done = sys.stderr.isatty(), self.of_all - len(undone)
+        if not is_looked_at and ended is None:
+            return
+        minutes = self.minutes_left(undone, running)
+        left = "" if not undone else f", about {minutes} min left" if minutes > 1 else ", about a minute left"
+        name = f" ({ended.crate.name})" if ended and not is_looked_at else ""
+        ends = "\r" if is_looked_at and undone else "\n"
+        print(f"avrora: {done} of {self.of_all} crates are proved{name}{left}".ljust(76 if is_looked_at else 0), end=ends, file=sys.stderr, flush=True)
 
 
 def prove(room, names):
@@ -290,26 +343,37 @@ def prove(room, names):
     undone = {it for it in names if not room.is_kept(crates[it])}
     waiting = sorted(undone, key=lambda it: -order.ways[it])
     running = []
+    progress = Progress(order, undone, len(names), lanes)
     try:
         while undone:
             ready = [it for it in waiting if not undone.intersection(crates[it].uses)]
             for name in ready[: lanes - len(running)]:
                 waiting.remove(name)
                 running.append(Check(room, crates[name], order.copies(crates[name], undone, running, lanes)))
-            tell(len(names) - len(undone), len(names), False)
+            progress.tell(undone, running)
             time.sleep(0.1)
             for check in [it for it in running if it.ended()]:
                 running.remove(check)
                 check.finish()
                 undone.remove(check.crate.name)
+                progress.tell(undone, running, check)
     finally:
         for check in running:
-            check.process.kill()
-            check.process.wait()
-    tell(len(names), len(names), True)
+            check.kill()
+
+
+def end_by_signals(handler):
+    for number in (signal.SIGHUP, signal.SIGINT, signal.SIGTERM):
+        signal.signal(number, handler)
+
+
+def raise_signalled(number, _frame):
+    end_by_signals(signal.SIG_IGN)  # the checks are ended in peace
+    raise Signalled(number)
 
 
 def main(words):
+    end_by_signals(raise_signalled)
     if len(words) != 2:
         print("usage: prove.py PROGRAM ROOM", file=sys.stderr)
         return 2
@@ -330,8 +394,8 @@ def main(words):
         for line in [*filter(lambda said: not WENT_WELL.match(said), it.said.splitlines()), f"avrora: {it}"]:
             print(line, file=sys.stderr)
         return 1
-    except KeyboardInterrupt:
-        return 130
+    except Signalled as it:
+        return 128 + it.number
     return 0
 
 

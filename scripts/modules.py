@@ -1,7 +1,7 @@
 #!/usr/bin/env python3
 """Checks a crate from nothing and prints where its seconds go: the stages of the check, and its dearest modules.
 
-    bench/modules.py CRATE [ROOM]    ROOM keeps the libraries below it, as prove.py does; it is made where it is not there
+    scripts/modules.py CRATE [ROOM]    ROOM keeps the libraries below it, as prove.py does; it is made where it is not there
 
 The check writes each module that it has checked to a folder; what lies between two such files is the time of the second.
 Of a function `f`, `f.Lts` and `f.Tie` are made from its code (its paths, and what lives on each of them), `f.Proof` is the

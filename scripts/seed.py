@@ -1,7 +1,7 @@
 #!/usr/bin/env python3
 """Gives `rt check`, `rt tidy` and `rt must-fail` the libraries that prove.py keeps, so that they prove none of them again.
 
-    bench/seed.py TREE [ROOM]    of the checkout TREE, each crate whose sources are those that ROOM's library was made from;
+    scripts/seed.py TREE [ROOM]    of the checkout TREE, each crate whose sources are those that ROOM's library was made from;
                                  without ROOM, that of this checkout's `./avrora`
 
 It writes TREE/crates/*/out/rlib, with the stamp by which the kit's own module `rtlib` tells whether a library is up to date.

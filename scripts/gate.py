@@ -2,8 +2,8 @@
 """Runs the gate from nothing and prints, as a table, the processor seconds of each crate: its proof, the proof and the
 runs of its tests, its must-fail edits, and the build and the runs of its program.
 
-    bench/gate.py            runs `rt ci` at the top of the repository, which begins from nothing with the kit of today
-    bench/gate.py WORD ..    runs `rt ci WORD ..`, for a kit whose gate takes words (with some, --anew begins from nothing)
+    scripts/gate.py            runs `rt ci` at the top of the repository, which begins from nothing with the kit of today
+    scripts/gate.py WORD ..    runs `rt ci WORD ..`, for a kit whose gate takes words (with some, --anew begins from nothing)
 
 It looks at the processes below rt twice a second. What a process and its ended children used is the kernel's count; the
 last half second of each is lost, and told with what rt itself used.

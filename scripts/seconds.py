@@ -2,7 +2,7 @@
 """Writes bench/seconds.txt, by which prove.py knows what to prove first: how many processor seconds the check of each crate
 took in the room of `./avrora`, or in the one that is given.
 
-    bench/seconds.py [ROOM]    do it after a first run from nothing, with nothing else at work
+    scripts/seconds.py [ROOM]    do it after a first run from nothing, with nothing else at work
 """
 import os
 import sys

@@ -1,0 +1,108 @@
+#!/usr/bin/env python3
+"""Writes the tables of docs/SPEED.md from what the scripts beside it printed.
+
+    bench/run.sh >run.out; bench/networks.sh >networks.out; bench/threads.sh >threads1.out; ..
+    bench/tables.py run.out networks.out threads*.out
+
+Each table stands between `<!-- table: bench/SCRIPT -->` and `<!-- end -->`; one of whose script no output is given stays as it
+is. Of several outputs of a script the table has the range of each figure. What an image or a network is stays as the table
+has it; a row that no output names is dropped, and named.
+"""
+import re
+import sys
+from pathlib import Path
+
+SPEED = Path(__file__).resolve().parent.parent / "docs" / "SPEED.md"
+
+NODE = re.compile(r"(simavr, )?(\w+): \d+ cycles in (under )?([\d.]+) s, .*, (\d+) KiB at most")
+HOST = re.compile(r"(\w+): (\d+) host instructions an instruction")
+NETWORK = re.compile(r"(.+): \d+ cycles of nodes and (\d+) rows in (under )?([\d.]+) s: ([\d.]+) million cycles and ([\d.]+) .*, (\d+) KiB at most")
+THREADS = re.compile(r"(.+): one thread ([\d.]+) s, a thread a node ([\d.]+) s, ([\d.]+) times as fast, \d+ rows")
+
+
+def span(values, digits, unit=""):
+    """A figure, or from the least to the greatest."""
+    least, most = f"{min(values):,.{digits}f}", f"{max(values):,.{digits}f}"
+    return (least if least == most else f"{least} to {most}") + unit
+
+
+class Figures(dict):
+    """All figures of a row, by their name."""
+
+    def add(self, row, name, value):
+        self.setdefault(row, {}).setdefault(name, []).append(float(value))
+
+
+def node_cells(row):
+    """Time, simavr, ratio, host instructions, memory."""
+    ours, peers = row["time"], row.get("peer")
+    ratio = span([p / max(o, 0.01) for o, p in zip(ours, peers)], 1) if peers else ""
+    time = "under 0.01 s" if max(ours) < 0.01 else span(ours, 2, " s")
+    host = span(row["host"], 0) if "host" in row else ""
+    return [time, span(peers, 2, " s") if peers else "", ratio, host, span([it / 1024 for it in row["kib"]], 1, " MiB")]
+
+
+def network_cells(row):
+    return [span(row["cycles"], 0, " million"), span(row["rows"], 2, " million"), span(row["kib"], 0, " KiB")]
+
+
+def threads_cells(row):
+    return [span(row["plain"], 2, " s"), span(row["threads"], 2, " s"), span(row["gain"], 1)]
+
+
+# The script of a table, how its cells are made, and how many cells before them say what the row is.
+TABLES = {"bench/run.sh": (node_cells, 2), "bench/networks.sh": (network_cells, 1), "bench/threads.sh": (threads_cells, 1)}
+
+
+def read(paths):
+    """The figures of each script, by the row's name."""
+    found = {script: Figures() for script in TABLES}
+    for line in (line.strip() for path in paths for line in Path(path).read_text().splitlines()):
+        if it := NODE.fullmatch(line):
+            found["bench/run.sh"].add(it[2], "peer" if it[1] else "time", 0.0 if it[3] else it[4])
+            if not it[1]:
+                found["bench/run.sh"].add(it[2], "kib", it[5])
+        elif it := HOST.fullmatch(line):
+            found["bench/run.sh"].add(it[1], "host", it[2])
+        elif it := NETWORK.fullmatch(line):
+            for name, place in (("cycles", 5), ("rows", 6), ("kib", 7)):
+                found["bench/networks.sh"].add(it[1], name, it[place])
+        elif it := THREADS.fullmatch(line):
+            for name, place in (("plain", 2), ("threads", 3), ("gain", 4)):
+                found["bench/threads.sh"].add(it[1], name, it[place])
+    return found
+
+
+def table_of(script, old, figures):
+    """The lines of a table, with the figures in place of those that stand there."""
+    make, kept = TABLES[script]
+    lines, left = old[:2], dict(figures)
+    for line in old[2:]:
+        cells = [it.strip() for it in line.strip("|").split("|")]
+        name = cells[0].strip("`")
+        if name in left:
+            lines.append("| " + " | ".join(cells[:kept] + make(left.pop(name))) + " |")
+        else:
+            print(f"{script}: no figures of {name}: its row is dropped", file=sys.stderr)
+    for name, row in left.items():
+        lines.append("| " + " | ".join([name] + [""] * (kept - 1) + make(row)) + " |")
+    return lines
+
+
+def main(paths):
+    if not paths or paths[0].startswith("-"):
+        print(__doc__, file=sys.stderr)
+        return 2
+    text, found = SPEED.read_text(), read(paths)
+
+    def replaced(it):
+        script, old = it[1], it[2].strip("\n").split("\n")
+        lines = table_of(script, old, found[script]) if found[script] else old
+        return f"<!-- table: {script} -->\n" + "\n".join(lines) + "\n<!-- end -->"
+
+    SPEED.write_text(re.sub(r"<!-- table: (\S+) -->\n(.*?)\n<!-- end -->", replaced, text, flags=re.S))
+    return 0
+
+
+if __name__ == "__main__":
+    sys.exit(main(sys.argv[1:]))

@@ -1,0 +1,169 @@
+#!/usr/bin/env python3
+"""Tests of `./avrora` and prove.py over a kit that proves nothing and three crates that say nothing: what they write while they
+prove, what a signal ends, and what stands below the program's line on a terminal.
+
+    scripts/test_first_run.py
+"""
+import os
+import pty
+import shutil
+import signal
+import subprocess
+import sys
+import tempfile
+import time
+import unittest
+from pathlib import Path
+
+TOP = Path(__file__).resolve().parent.parent
+
+# It takes FAKE_SECONDS for a crate, in a copy of itself, and proves all but the crate FAKE_FAULT.
+RATTLE = """#!/usr/bin/env bash
+while (($#)); do
+    case $1 in --crate-name) name=$2 ;; -o) out=$2 ;; esac
+    shift
+done
+(exec -a "$0-copy" sleep "${FAKE_SECONDS:-0}") &
+wait $!
+if [[ $name == "${FAKE_FAULT:-}" ]]; then echo 'error: an open goal'; exit 1; fi
+echo 'logic=proved functions=1'
+: >"$out"
+"""
+
+# The program that it links: it writes its words and its folder, or refuses an image, or its words.
+LINK = """#!/usr/bin/env bash
+while (($#)); do [[ $1 == -o ]] && out=$2; shift; done
+cat >"$out" <<'END'
+#!/usr/bin/env bash
+case $1 in
+    refused) echo 'avrora: a.hex: image refused: NoEnd' >&2; exit 5 ;;
+    bad) echo 'avrora: bad command line' >&2; exit 2 ;;
+    long) exec -a "$0-long" sleep 60 ;;
+    *) echo "$* in ${PWD##*/}"; cat ;;
+esac
+END
+chmod +x "$out"
+"""
+
+CRATES = "low:\nmiddle: low\navrora_program: middle\n"
+
+
+class FirstRun(unittest.TestCase):
+    def setUp(self):
+        self.place = tempfile.TemporaryDirectory()
+        self.top = Path(self.place.name).resolve() / "repository"
+        kit = self.top.parent / "kit"
+        for path, text in {"bin/rt": "#!/bin/sh\necho a kit\n", "bin/rattle": RATTLE, "bin/rattle-link": LINK, "KIT-ID": "a kit\n"}.items():
+            self.write(kit / path, text)
+        self.write(self.top / "crates.txt", CRATES)
+        for name, root in (("low", "lib"), ("middle", "lib"), ("avrora_program", "main")):
+            self.write(self.top / "crates" / name / "src" / f"{root}.rt", "// nothing\n")
+        (self.top / "docs").mkdir()
+        for path in ("avrora", "prove.py", "docs/FORMATS.md"):
+            shutil.copy2(TOP / path, self.top / path)
+        self.environment = {**os.environ, "PATH": f"{kit / 'bin'}:{os.environ['PATH']}"}
+
+    def tearDown(self):
+        self.place.cleanup()
+
+    @staticmethod
+    def write(path, text):
+        path.parent.mkdir(parents=True, exist_ok=True)
+        path.write_text(text, encoding="utf-8")
+        path.chmod(0o755)
+
+    def start(self, *words, **more):
+        environment = {**self.environment, **more.pop("fake", {})}
+        given = {"stdin": subprocess.DEVNULL, "stdout": subprocess.PIPE, "stderr": subprocess.PIPE, "text": True, **more}
+        return subprocess.Popen([str(self.top / "avrora"), *words], cwd=self.top, env=environment, **given)
+
+    def ended(self, *words, given=None, **fake):
+        more = {"stdin": subprocess.PIPE} if given is not None else {}
+        run = self.start(*words, fake=fake, **more)
+        out, err = run.communicate(given, timeout=60)
+        return run.returncode, out, err
+
+    def left(self):
+        """The processes of the fake kit and its program that run."""
+        found = []
+        for pid in filter(str.isdigit, os.listdir("/proc")):
+            try:
+                words = Path(f"/proc/{pid}/cmdline").read_bytes().decode(errors="replace")
+            except OSError:
+                continue
+            if any(it in words for it in (f"{self.top.parent}/kit/bin/rattle", f"{self.top}/crates")):
+                found.append((pid, words))
+        return found
+
+    def until(self, holds):
+        for _ in range(600):
+            if holds():
+                return
+            time.sleep(0.05)
+        self.fail("it did not come to that")
+
+    def test_no_words_prove_nothing(self):
+        for words in ([], ["-C"]):
+            status, out, err = self.ended(*words)
+            self.assertEqual((status, out), (2, ""))
+            self.assertTrue(err.startswith("avrora: bad command line\nUsage: "))
+        self.assertFalse((self.top / "crates/avrora_program/out").exists())
+
+    def test_a_line_for_each_crate(self):
+        status, out, err = self.ended("run", "x y", given="what comes in")
+        self.assertEqual((status, out), (0, "run x y in repository\nwhat comes in"))
+        self.assertEqual([it.split(",")[0] for it in err.splitlines()[1:-1]], [
+            "avrora: 1 of 3 crates are proved (low)",
+            "avrora: 2 of 3 crates are proved (middle)",
+            "avrora: 3 of 3 crates are proved (avrora_program)",
+        ])
+        self.assertIn("left", err.splitlines()[1])
+        self.assertEqual(self.ended("run", "x"), (0, "run x in repository\n", ""))
+
+    def test_another_folder(self):
+        self.ended("run")
+        self.assertEqual(self.ended("-C", "docs", "run", "x"), (0, "run x in docs\n", ""))
+        self.assertEqual(self.ended("-C", "crates", "-C", "low", "run"), (0, "run in low\n", ""))
+        self.assertEqual(self.ended("-C", "nowhere", "run"), (3, "", "avrora: cannot read nowhere\n"))
+
+    def test_a_crate_that_is_not_proved(self):
+        status, out, err = self.ended("run", FAKE_FAULT="middle")
+        self.assertEqual((status, out), (10, ""))
+        self.assertIn("error: an open goal\navrora: middle was not proved; ", err)
+        self.assertEqual(self.ended("run")[0], 0)
+
+    def test_signals_end_the_checks(self):
+        for number in (signal.SIGTERM, signal.SIGINT, signal.SIGHUP):
+            run = self.start("run", fake={"FAKE_SECONDS": "60"})
+            self.until(lambda: any("rattle-copy" in it for _, it in self.left()))
+            run.send_signal(number)
+            run.communicate(timeout=60)
+            self.assertEqual(run.returncode, 128 + number)
+            self.until(lambda: not self.left())
+
+    def test_a_signal_ends_the_program(self):
+        self.ended("run")
+        run = self.start("long")
+        self.until(lambda: any("-long" in it for _, it in self.left()))
+        run.terminate()
+        run.communicate(timeout=60)
+        self.assertEqual(run.returncode, 143)
+        self.until(lambda: not self.left())
+
+    def test_what_stands_below_the_line(self):
+        self.ended("run")
+        self.assertEqual(self.ended("refused"), (5, "", "avrora: a.hex: image refused: NoEnd\n"))
+        ours, theirs = pty.openpty()
+        self.assertEqual(self.start("refused", stdout=subprocess.DEVNULL, stderr=theirs).wait(timeout=60), 5)
+        os.close(theirs)
+        said = os.read(ours, 10000).decode().splitlines()
+        os.close(ours)
+        self.assertEqual(said[0], "avrora: a.hex: image refused: NoEnd")
+        self.assertEqual(said[1], "(NoEnd: no line is faulty and none has type 01; docs/FORMATS.md)")
+        status, out, err = self.ended("bad")
+        self.assertEqual((status, out), (2, ""))
+        self.assertTrue(err.startswith("avrora: bad command line\nUsage: "))
+
+
+if __name__ == "__main__":
+    sys.exit(not unittest.main(exit=False).result.wasSuccessful())
