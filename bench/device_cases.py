@@ -1,12 +1,14 @@
 #!/usr/bin/env python3
-"""Writes data/registers.txt and data/selects.txt of crates/command_facts: what every I/O register reads after a write, or why
-the write stops, and when each timer has its events behind each of its clock selects.
+"""Writes data/registers.txt, data/selects.txt and data/lagging.txt of crates/command_facts: what every I/O register reads after a
+write, or why the write stops; when each timer has its events behind each of its clock selects; and accesses to the board as a
+node runs it, between stretches of cycles.
 
     python3 bench/device_cases.py crates/command_facts
 
 The answers are those of bench/machine.py, which is docs/MACHINE.md once more. What the machine stops for is besides looked
 for here: of each register that some write stops, each bit alone is written too, and the largest byte that does not stop.
 """
+import random
 import sys
 from pathlib import Path
 
@@ -32,6 +34,18 @@ SELECTS = """\
 #
 # The lines are those of timer8.txt, timer16.txt and registers.txt; board tick FROM N: the N cycles of the board from a cycle on.
 # Each timer returns to 0 at its compare value 2, so its third clock sets the flag. The compare values B and C are others.
+"""
+
+LAGGING = """\
+# The board as a node runs it, whose timers do their cycles once somebody looks at them: accesses between stretches of cycles.
+#
+# Source: the rules of docs/MACHINE.md, as bench/machine.py has them, which does every cycle of every timer; bench/device_cases.py
+# draws the accesses and writes this file.
+#
+# lagging new: at reset, in cycle 0. put ADDRESS BYTE, get ADDRESS: a register, in the cycle that was reached. to CYCLE: the cycles
+# below that one, as a node passes them; no further than one in which USART0 sends a byte (gives the cycle and the byte), the radio
+# sends one (`sends BYTE`) or samples the air (asks: it hears status 1, byte 42, age 3). lines: the interrupt lines, line n at
+# bit n; enter WORD: the interrupt of that vector is served.
 """
 
 
@@ -119,9 +133,90 @@ def selects():
     return lines
 
 
+# Registers that are written, with the bytes that are drawn for them: timers of short rounds, short frames and transfers. Each is a
+# list of accesses that are drawn together.
+MASKS = {0x57: [0xDF, 0x9B, 0x45, 0], 0x7D: [0x1F, 0x1B, 0x15, 0], 0x56: [0xFF, 0x82, 0x10, 0x41], 0x7C: [0x3F, 0x12, 0x05]}
+PARTS = [
+    MASKS | {0x53: [1, 9, 2, 10, 3, 11, 15, 0], 0x51: range(40), 0x52: range(256)},
+    MASKS | {0x45: [1, 9, 2, 10, 3, 11, 13, 0], 0x43: range(40), 0x44: range(256)},
+    MASKS | {0x4E: [1, 9, 25, 2, 10, 26], 0x4A: range(60), 0x48: range(60), 0x78: range(60), 0x4D: [0, 0xFF], 0x4C: range(256), 0x46: range(60)},
+    MASKS | {0x8A: [1, 9, 25, 2, 10, 26], 0x86: range(60), 0x84: range(60), 0x82: range(60), 0x89: [0, 0xFF], 0x88: range(256), 0x80: range(60)},
+    {0x2A: [0x08, 0x28, 0x48, 0x68], 0x29: range(3), 0x2B: [0, 2, 0x40, 0x42], 0x95: [0, 2, 6, 8], 0x2C: range(256)},
+    {0x2D: [0x50, 0xD0, 0xD0, 0xD1], 0x2E: [0, 1], 0x2F: [1, 2, 0x5A], 0x38: [0, 0, 0, 1]},
+]
+# What is written first: a timer runs, USART0 sends, the radio is selected.
+FIRST = [[(0x57, 0xDF), (0x53, 9), (0x51, 30)], [(0x57, 0xDF), (0x45, 2)], [(0x57, 0xDF), (0x4E, 9), (0x4A, 50)],
+         [(0x7D, 0x1F), (0x8A, 1), (0x89, 0xFF), (0x88, 0x80)], [(0x2A, 0x48), (0x2C, 0x7E)], [(0x2D, 0xD0), (0x37, 1), (0x2F, 1)]]
+# The registers whose byte is written most.
+DATA = {4: 0x2C, 5: 0x2F}
+READ = [0x52, 0x44, 0x4C, 0x4D, 0x88, 0x89, 0x56, 0x7C, 0x2B, 0x2E, 0x2F, 0x51, 0x4A, 0x46, 0x80]
+STRETCHES = [1, 1, 2, 3, 5, 8, 13, 40, 100, 300, 1000, 1000]
+
+
+def cycle_of(board):
+    """One cycle of the devices, and what it gives where that ends the stretch."""
+    at = board.cycle
+    for timer in board.t:
+        timer.tick(at)
+    serial = board.tick_usart(at, None)
+    sent, asks = board.end_transfer(at)
+    board.cycle += 1
+    if asks:
+        board.answers = [1, 0x42, 3]
+        return "asks"
+    if serial is not None:
+        return f"{at} {serial:02X}"
+    return None if sent is None else f"sends {sent:02X}"
+
+
+def stretch(board, to):
+    while board.cycle < to:
+        event = cycle_of(board)
+        if event:
+            return event
+    return None
+
+
+def drawn_access(rnd, core, parts):
+    """One line, and what it does to the machine."""
+    board, kind = core.bus, rnd.randrange(12)
+    if kind < 4:
+        part = rnd.choice(parts)
+        at = DATA[part] if part in DATA and rnd.randrange(3) else rnd.choice(list(PARTS[part]))
+        x = rnd.choice(list(PARTS[part][at]))
+        cause = put(core, at, x)
+        return f"put {at:02X} {x:02X}" + (f" gives {cause}" if cause else "")
+    if kind < 8:
+        to = board.cycle + rnd.choice(STRETCHES)
+        event = stretch(board, to)
+        return f"to {to}" + (f" gives {event}" if event else "")
+    if kind < 9:
+        at = rnd.choice(READ)
+        return f"get {at:02X} gives {get(core, at)}"
+    asking = board.asks()
+    if kind == 10 and asking:
+        vector = min(asking)
+        board.entered(asking[vector])
+        return f"enter {vector:04X}"
+    return f"lines gives {sum(1 << vector // 2 for vector in asking):08X}"
+
+
+def lagging():
+    rnd, lines = random.Random(44), []
+    for parts in [[0], [1], [2], [3], [4], [5], [5], [0, 5], [2, 4], [3, 5], [1, 4, 5], [0, 1, 2, 3]]:
+        core = fresh()
+        lines += ["", "lagging new"]
+        for at, x in [first for part in parts for first in FIRST[part]]:
+            assert put(core, at, x) is None
+            lines.append(f"lagging put {at:02X} {x:02X}")
+        lines += ["lagging " + drawn_access(rnd, core, parts) for _ in range(60)]
+        lines += [f"lagging get {at:02X} gives {get(core, at)}" for at in READ]
+    return lines
+
+
 def main():
     folder = Path(sys.argv[1]) / "data"
-    for name, head, lines in (("registers.txt", REGISTERS, registers()), ("selects.txt", SELECTS, selects())):
+    for name, head, lines in (("registers.txt", REGISTERS, registers()), ("selects.txt", SELECTS, selects()), ("lagging.txt", LAGGING, lagging())):
         (folder / name).write_text(head + "\n".join(lines) + "\n")
         count = sum(1 for line in lines if line and not line.startswith("#"))
         print(f"{name}: {count} lines")

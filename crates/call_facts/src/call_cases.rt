@@ -2,7 +2,7 @@
 // stands on the output and on the error stream.
 use crate::call_lines::{Line, read_line};
 use crate::call_texts::{write_outcome, write_statuses};
-use crate::calling::called;
+use crate::calling::{called, called_without_memory};
 use crate::files::hold_file;
 use crate::held::Held;
 use case_files::{Failed, text_of, write_line};
@@ -20,8 +20,13 @@ fn do_line<R: Files + AllocGlobal, O: Sink>(
         Line::Comment => Ok(()),
         Line::File(name) => hold_file(rt, name, held),
         Line::Blank(name, length) => Ok(held.add_blank(alloc, name, length)?),
+        Line::Lines(name, count, text) => Ok(held.add_lines(alloc, name, count, text)?),
         Line::Call(call) => {
             let outcome = called(alloc, call.words.as_slice(), held, &call.faults)?;
+            Ok(write_outcome(&outcome, out)?)
+        }
+        Line::Starved(words) => {
+            let outcome = called_without_memory(alloc, words.as_slice())?;
             Ok(write_outcome(&outcome, out)?)
         }
         Line::Statuses => Ok(write_statuses(out)?),

@@ -18,8 +18,12 @@ pub enum Line<'l> {
     File(&'l str),
     /// That it holds a text of so many blank lines.
     Blank(&'l str, usize),
+    /// That it holds a text of so many lines of these characters.
+    Lines(&'l str, usize, &'l str),
     /// What is called.
     Call(Call<'l>),
+    /// What is called where no file gets memory.
+    Starved(Vec<&'l str>),
     /// That the number of each status is told.
     Statuses,
     /// None of these.
@@ -38,10 +42,11 @@ fn numbers(alloc: Global, text: &str) -> Result<Option<Vec<u64>>, AllocError> {
     Ok(Some(all))
 }
 
+// The words of a text; `""` is the empty word.
 fn words(alloc: Global, text: &str) -> Result<Vec<&str>, AllocError> {
     let mut all = Vec::new(alloc);
     for word in text.split_whitespace() {
-        all.push(word)?;
+        all.push(if word == "\"\"" { "" } else { word })?;
     }
     Ok(all)
 }
@@ -98,14 +103,17 @@ fn read_call<'l>(alloc: Global, line: &'l str) -> Result<Line<'l>, AllocError> {
     }))
 }
 
-fn read_blank(rest: &str) -> Line<'_> {
-    match rest.split_once(' ') {
-        Some((name, length)) => match length.parse::<usize>() {
-            Ok(length) => Line::Blank(name, length),
-            Err(_) => Line::Other,
-        },
-        None => Line::Other,
-    }
+// `NAME N`
+fn read_blank(rest: &str) -> Option<Line<'_>> {
+    let (name, length) = rest.split_once(' ')?;
+    Some(Line::Blank(name, length.parse().ok()?))
+}
+
+// `NAME N TEXT`
+fn read_lines(rest: &str) -> Option<Line<'_>> {
+    let (name, rest) = rest.split_once(' ')?;
+    let (count, text) = rest.split_once(' ')?;
+    Some(Line::Lines(name, count.parse().ok()?, text))
 }
 
 /// Reads a line.
@@ -121,7 +129,9 @@ pub fn read_line<'l>(alloc: Global, line: &'l str) -> Result<Line<'l>, AllocErro
     }
     match line.split_once(' ') {
         Some(("file", name)) => Ok(Line::File(name)),
-        Some(("blank", rest)) => Ok(read_blank(rest)),
+        Some(("blank", rest)) => Ok(read_blank(rest).unwrap_or(Line::Other)),
+        Some(("starved", rest)) => Ok(Line::Starved(words(alloc, rest)?)),
+        Some(("lines", rest)) => Ok(read_lines(rest).unwrap_or(Line::Other)),
         _ => Ok(Line::Other),
     }
 }

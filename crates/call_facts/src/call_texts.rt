@@ -2,9 +2,10 @@
 use crate::calling::Outcome;
 use arrayvec::ArrayString;
 use avrora_top::Status;
+use case_files::{Digest, write_line};
 use sim_io::{Sink, SinkFault, put_decimal, write_all};
 
-// Of a text of more lines than this only the first two and the last two are written.
+// Of a text of more lines than this only the first two and the last two are written, and between them a number for all of it.
 const MOST_LINES: usize = 20;
 
 // `NAME: N bytes, M lines`
@@ -24,6 +25,12 @@ fn write_size<O: Sink>(
     write_all(out, line.as_str().as_bytes())
 }
 
+// `| .. N bytes HASH`, of the whole text, where lines of it are left out.
+fn write_digest<O: Sink>(text: &[u8], out: &mut O) -> Result<(), SinkFault> {
+    write_all(out, b"| .. ")?;
+    write_line(Digest::of(text).text().as_str(), out)
+}
+
 // A text under its size, each of its lines behind a bar; a last one that has no end too.
 fn write_text<O: Sink>(name: &str, text: &[u8], out: &mut O) -> Result<(), SinkFault> {
     let lines = text.iter().filter(|c| **c == b'\n').count();
@@ -34,6 +41,9 @@ fn write_text<O: Sink>(name: &str, text: &[u8], out: &mut O) -> Result<(), SinkF
     let body = text.strip_suffix(b"\n").unwrap_or(text);
     let mut number: usize = 0;
     for line in body.split(|c| *c == b'\n') {
+        if lines > MOST_LINES && number == 2 {
+            write_digest(text, out)?;
+        }
         if lines <= MOST_LINES || number < 2 || number.saturating_add(2) >= lines {
             write_all(out, b"| ")?;
             write_all(out, line)?;

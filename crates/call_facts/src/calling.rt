@@ -1,5 +1,6 @@
 // The call.
 use crate::held::Held;
+use crate::starved::Starved;
 use avrora_top::{avrora, avrora_alone};
 use fleet_threads::OpenGate;
 use memory_io::MemSink;
@@ -91,7 +92,20 @@ pub fn called(
     })
 }
 
-/// The same, with the nodes of `run` and `make` on threads of their own.
+/// Makes a call with these words where no file gets memory.
+pub fn called_without_memory(alloc: Global, words: &[&str]) -> Result<Outcome, AllocError> {
+    let mut store = Starved;
+    let mut out = Stream::ample(alloc).sink(alloc)?;
+    let mut err = Stream::ample(alloc).sink(alloc)?;
+    let status = avrora_alone(alloc, words, &mut store, &mut out, &mut err);
+    Ok(Outcome {
+        status: status.number(),
+        out,
+        err,
+    })
+}
+
+/// As [`called`], with the nodes of `run` and `make` on threads of their own.
 pub fn called_on_threads<R: Threads + Wait + AllocGlobal + Sync>(
     rt: &R,
     words: &[&str],

@@ -35,6 +35,21 @@ impl Held {
         self.add(alloc, name, text)
     }
 
+    /// Holds a text of so many lines of these characters.
+    pub fn add_lines(
+        &mut self,
+        alloc: Global,
+        name: &str,
+        count: usize,
+        line: &str,
+    ) -> Result<(), AllocError> {
+        self.add(alloc, name, Vec::new(alloc))?;
+        for _ in 0..count {
+            self.extend(line)?;
+        }
+        Ok(())
+    }
+
     /// Adds a line to the last file.
     pub fn extend(&mut self, line: &str) -> Result<(), AllocError> {
         if let Some((_, bytes)) = self.files.last_mut() {

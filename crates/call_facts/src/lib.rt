@@ -19,6 +19,7 @@ mod network_texts;
 mod rows;
 mod series;
 mod shown;
+mod starved;
 mod trace_cases;
 mod trying;
 

@@ -1,6 +1,7 @@
 // What is told of a call.
 use crate::calling::Outcome;
 use arrayvec::ArrayString;
+use case_files::Digest;
 use sim_io::put_decimal;
 use std::alloc::{AllocError, Global};
 
@@ -26,25 +27,6 @@ fn share_of(taken: &[u8], due: &[u8]) -> &'static str {
     }
 }
 
-// A number for a text (FNV-1a, 64 bits), so that a long one need not be written out.
-fn hash_of(text: &[u8]) -> u64 {
-    let mut hash: u64 = 0xCBF2_9CE4_8422_2325;
-    for byte in text {
-        hash = (hash ^ u64::from(*byte)).wrapping_mul(0x100_0000_01B3);
-    }
-    hash
-}
-
-// `N bytes HASH`
-fn put_size(taken: &[u8], text: &mut Vec<u8>) -> Result<(), AllocError> {
-    let mut line = ArrayString::<64>::new();
-    put_decimal(taken.len() as u64, &mut line);
-    line.push_str(" bytes ");
-    put_decimal(hash_of(taken), &mut line);
-    text.extend_from_slice(line.as_str().as_bytes())?;
-    Ok(())
-}
-
 fn put_out(taken: &[u8], due: Due<'_>, text: &mut Vec<u8>) -> Result<(), AllocError> {
     match due {
         Due::Out(due) => {
@@ -55,7 +37,10 @@ fn put_out(taken: &[u8], due: Due<'_>, text: &mut Vec<u8>) -> Result<(), AllocEr
             text.extend_from_slice(b"nothing")?;
             Ok(())
         }
-        _ => put_size(taken, text),
+        _ => {
+            text.extend_from_slice(Digest::of(taken).text().as_str().as_bytes())?;
+            Ok(())
+        }
     }
 }
 

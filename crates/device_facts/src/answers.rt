@@ -38,6 +38,14 @@ impl Answer {
         }
     }
 
+    /// The byte, or the stop.
+    pub fn of_get(got: Result<u8, StopCause>) -> Self {
+        match got {
+            Ok(b) => Answer::Byte(b),
+            Err(cause) => Answer::Stop(cause),
+        }
+    }
+
     /// A number, or that there is none.
     pub fn perhaps(number: Option<u64>) -> Self {
         match number {

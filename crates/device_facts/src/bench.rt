@@ -2,6 +2,7 @@
 use crate::answers::{Answer, text_of};
 use crate::board::{CoreAndBoard, do_board};
 use crate::clocks::{do_clocks, do_interrupts};
+use crate::lagging::{NodeBoard, do_lagging};
 use crate::radio::do_radio;
 use crate::serial::{do_script, do_usart};
 use crate::timers::{do_timer8, do_timer16};
@@ -33,6 +34,7 @@ pub struct Bench {
     usart: Usart,
     radio: Radio,
     board: CoreAndBoard,
+    lagging: NodeBoard,
 }
 
 impl Bench {
@@ -48,6 +50,7 @@ impl Bench {
             usart: Usart::new(),
             radio: Radio::new(512),
             board: CoreAndBoard::new(),
+            lagging: NodeBoard::new(),
         }
     }
 
@@ -72,6 +75,7 @@ impl Bench {
             "script" => do_script(self.alloc, words),
             "radio" => do_radio(&mut self.radio, words),
             "board" => do_board(&mut self.board, words),
+            "lagging" => do_lagging(&mut self.lagging, words),
             "clocks" => do_clocks(words),
             "interrupts" => do_interrupts(words),
             _ => None,

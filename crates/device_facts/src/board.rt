@@ -10,8 +10,8 @@ use device_clocks::TimerFlags;
 use serial_ports::Inbox;
 use world_core::Heard;
 
-// A sample hears one byte.
-const HEARD: Heard = Heard {
+/// A sample hears one byte.
+pub const HEARD: Heard = Heard {
     status: 1,
     byte: 0x42,
     age: 3,
@@ -62,10 +62,7 @@ impl CoreAndBoard {
     }
 
     fn get(&mut self, at: u8) -> Answer {
-        match load(&mut self.cpu, &mut self.board, u16::from(at)) {
-            Ok(b) => Answer::Byte(b),
-            Err(cause) => Answer::Stop(cause),
-        }
+        Answer::of_get(load(&mut self.cpu, &mut self.board, u16::from(at)))
     }
 
     // One cycle of the devices, in which nothing arrives; where the radio asks the air, it is answered.

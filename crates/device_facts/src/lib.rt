@@ -6,6 +6,7 @@ mod answers;
 mod bench;
 mod board;
 mod clocks;
+mod lagging;
 mod numbers;
 mod radio;
 mod serial;

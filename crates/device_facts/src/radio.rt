@@ -6,22 +6,22 @@ use crate::numbers::{byte, cycle, short};
 use serial_ports::{Moved, Radio};
 use world_core::Heard;
 
-// A sample hears one byte.
+// What a sample hears where nothing else is said: one byte.
 const HEARD: Heard = Heard {
     status: 1,
     byte: 0x5A,
     age: 3,
 };
 
-// A transfer that ends in a cycle; where the radio asks the air, it is answered.
-fn moved(radio: &mut Radio, at: u64, selected: bool, mosi: u8) -> Answer
+// A transfer that ends in a cycle; where the radio asks the air, it hears this.
+fn moved(radio: &mut Radio, at: u64, selected: bool, mosi: u8, heard: Heard) -> Answer
     requires { at ≤ 2 ^ 41 }
 {
     match radio.transfer(at, selected, mosi) {
         Moved::Answer(b) => Answer::Byte(b),
         Moved::Send { byte, miso } => Answer::Sent(byte, miso),
         Moved::Ask => {
-            radio.answer(HEARD);
+            radio.answer(heard);
             Answer::Asks
         }
     }
@@ -35,6 +35,15 @@ fn new_radio(word: &str) -> Option<Radio> {
     Some(Radio::new(u64::from(byte_time)))
 }
 
+// A status, a byte and an age.
+fn heard(status: &str, b: &str, age: &str) -> Option<Heard> {
+    Some(Heard {
+        status: status.parse().ok()?,
+        byte: byte(b)?,
+        age: age.parse().ok()?,
+    })
+}
+
 /// The radio.
 pub fn do_radio(radio: &mut Radio, words: &[&str]) -> Option<Answer> {
     match words {
@@ -42,8 +51,12 @@ pub fn do_radio(radio: &mut Radio, words: &[&str]) -> Option<Answer> {
             *radio = new_radio(byte_time)?;
             Some(Answer::Done)
         }
-        [at, "selected", b] => Some(moved(radio, cycle(at)?, true, byte(b)?)),
-        [at, "released", b] => Some(moved(radio, cycle(at)?, false, byte(b)?)),
+        [at, "selected", b] => Some(moved(radio, cycle(at)?, true, byte(b)?, HEARD)),
+        [at, "selected", b, "hears", status, found, age] => {
+            let heard = heard(status, found, age)?;
+            Some(moved(radio, cycle(at)?, true, byte(b)?, heard))
+        }
+        [at, "released", b] => Some(moved(radio, cycle(at)?, false, byte(b)?, HEARD)),
         _ => None,
     }
 }

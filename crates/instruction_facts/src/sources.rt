@@ -1,5 +1,6 @@
 // The sources of a file: it is lines of bytes. A line `== NAME` begins a case, a line `-> ..` ends it with what comes of it, and
-// the source is what stands between them, without the last LF. In it a line `* N TEXT` stands for N lines of the text.
+// the source is what stands between them, without the last LF. In it a line `* N TEXT` stands for N lines of the text, and in the
+// line that ends it `N*WORD` for a word N times.
 use asm_text::{AsmFault, assemble};
 use case_files::{Failed, Tally, bytes_of, write_line};
 use sim_io::{Sink, write_all};
@@ -74,6 +75,32 @@ fn answer(alloc: Global, source: &[u8]) -> Result<String, AllocError> {
     }
 }
 
+// What a word of the line that ends a case stands for, and how often: `WORD` or `N*WORD`.
+fn counted(word: &[u8]) -> (u32, &[u8]) {
+    let mut parts = word.splitn(2, |b| *b == b'*');
+    if let (Some(count), Some(rest)) = (parts.next(), parts.next()) {
+        if let Some(n) = number(count) {
+            return (n, rest);
+        }
+    }
+    (1, word)
+}
+
+// The line that ends a case, with each word as often as it says.
+fn spelled_out(alloc: Global, line: &[u8]) -> Result<Vec<u8>, AllocError> {
+    let mut text = Vec::new(alloc);
+    for word in line.split(|b| *b == b' ') {
+        let (times, word) = counted(word);
+        for _ in 0..times {
+            if !text.is_empty() {
+                text.push(b' ')?;
+            }
+            text.extend_from_slice(word)?;
+        }
+    }
+    Ok(text)
+}
+
 // Judges a case by the line that ends it; what came of one that is wrong is written.
 fn is_right<O: Sink>(
     alloc: Global,
@@ -82,7 +109,7 @@ fn is_right<O: Sink>(
     out: &mut O,
 ) -> Result<bool, Failed> {
     let got = answer(alloc, case.source())?;
-    if got.as_str().as_bytes() == line {
+    if got.as_str().as_bytes() == spelled_out(alloc, line)?.as_slice() {
         return Ok(true);
     }
     write_all(out, case.name)?;

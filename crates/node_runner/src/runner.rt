@@ -1,6 +1,5 @@
 // One node of a scenario, stepped by itself.
 ghost use Rattle.std.specs.Prelude.{◌≡◌, ◌<◌, ◌≤◌, ◌+◌, true, false, IfOk};
-ghost use Rattle.world_core.specs.Sends.{sends_below};
 ghost use Rattle.world_core.specs.Settled.{truth};
 ghost use Rattle.world_core.specs.Order.{facts_of};
 ghost use Rattle.node_core.specs.Cycle.{end_row};
@@ -173,15 +172,6 @@ impl Runner {
     /// How many of its sends are noted.
     pub fn count(&self) -> u64
         ensures { result ≡ noted_of self.now }
-    {
-        self.count
-    }
-
-    /// The same where it has ended: then all sends of its node are noted.
-    pub fn count_at_end(&self) -> u64
-        requires { HasEnded self.now }
-        ensures value { result ≡ noted_of self.now }
-        ensures all { result ≡ sends_below (facts_of (fleet_of self.now.scenario)).sends self.now.number self.now.scenario.topo.limit }
     {
         self.count
     }

@@ -5,12 +5,10 @@ use crate::trials::Trial;
 use avr_program::Program;
 use ihex_loader::load;
 use node_core::{Node, Row};
+use scenario_file::{BYTE_TIME, no_script};
 use serial_ports::Script;
 use std::alloc::Global;
 use world_core::Heard;
-
-// The cycles that a byte takes the radio.
-const BYTE_TIME: u64 = 3_072;
 
 // More than the sends and samples of any run here.
 const TURNS: usize = 16;
@@ -76,9 +74,8 @@ pub fn rows_in(alloc: Global, image: &[u8], limit: u32, from: u32, until: u32) -
     }
     let limit = u64::from(limit);
     let window = (u64::from(from), u64::from(until));
-    let script = Script::new(0, 1, Vec::new(alloc));
     let program = Program::new(alloc, load(alloc, image).ok()?).ok()?;
-    let mut node = Node::new(alloc, 0, program, script, window, BYTE_TIME).ok()?;
+    let mut node = Node::new(alloc, 0, program, no_script(alloc), window, BYTE_TIME).ok()?;
     for _ in 0..TURNS {
         turn(&mut node, limit);
     }

@@ -1,9 +1,11 @@
-// Samples run to their end on one thread, each a line of a text file: for each how often its nodes sent, and what they heard.
+// Samples run to their end on one thread, each a line of a text file: for each how often its nodes sent and what they heard, how
+// long its trace is with a hash of it, and the first byte of each node. And the words of a node's program.
 ghost use Rattle.std.specs.Prelude.{◌≤◌, IfSome};
 
-use case_files::{Failed, text_of, write_line};
+use case_files::{Digest, Failed, text_of, write_line};
 use fleet_plain::run_plain;
-use sample_maker::{Counts, count, make};
+use node_core::{Kind, Row};
+use sample_maker::{count, make};
 use sim_io::Sink;
 use std::alloc::Global;
 use std::fs::Files;
@@ -28,14 +30,59 @@ fn read_case(line: &str) -> Option<Case>
     Some(Case { number, nodes })
 }
 
-// The whole sample, and what came out.
-fn run_case(alloc: Global, case: Case) -> Option<Counts>
+// The rows of the whole sample.
+fn rows_of(alloc: Global, case: Case) -> Option<Vec<Row>>
     requires some { 1 ≤ case.nodes }
     requires few { case.nodes ≤ 64 }
 {
     let network = make(alloc, case.number, case.nodes).ok()?;
-    let rows = run_plain(alloc, &network).ok()?;
-    Some(count(rows.as_slice()))
+    run_plain(alloc, &network).ok()
+}
+
+fn is_sent_by(node: u8, row: &Row) -> bool {
+    match row.kind {
+        Kind::Sent { .. } => row.node == node,
+        _ => false,
+    }
+}
+
+// The first row of each node that sends.
+fn write_first_sends<O: Sink>(nodes: u8, rows: &[Row], out: &mut O) -> Result<(), Failed> {
+    for node in 0..nodes {
+        if let Some(row) = rows.iter().find(|row| is_sent_by(node, row)) {
+            trace_writer::write(&[*row], out)?;
+        }
+    }
+    Ok(())
+}
+
+fn write_rows<O: Sink>(alloc: Global, nodes: u8, rows: &[Row], out: &mut O) -> Result<(), Failed> {
+    let counts = count(rows);
+    let line = format!(in alloc;
+        "{} sent, {} quiet, {} heard, {} clashes",
+        counts.sent, counts.quiet, counts.heard, counts.clashes
+    )?;
+    write_line(line.as_str(), out)?;
+    let mut trace = Digest::new();
+    trace_writer::write(rows, &mut trace)?;
+    write_line(trace.text().as_str(), out)?;
+    write_first_sends(nodes, rows, out)
+}
+
+// The words of the program of node 0 of a sample, and the two behind them.
+fn write_words<O: Sink>(alloc: Global, number: u16, out: &mut O) -> Result<(), Failed> {
+    let network = make(alloc, number, 1)?;
+    let program = network.program(0);
+    let mut text = String::new(alloc);
+    for pc in 0..32 {
+        let word = format!(in alloc;
+            "{}{:04X}",
+            if pc == 0 { "" } else { " " },
+            program.word(pc)
+        )?;
+        text.push_str(word.as_str())?;
+    }
+    Ok(write_line(text.as_str(), out)?)
 }
 
 fn do_line<O: Sink>(alloc: Global, line: &str, out: &mut O) -> Result<(), Failed> {
@@ -43,17 +90,19 @@ fn do_line<O: Sink>(alloc: Global, line: &str, out: &mut O) -> Result<(), Failed
     if line.is_empty() || line.starts_with('#') {
         return Ok(());
     }
+    if let Some(number) = line.strip_prefix("words ") {
+        return match number.parse::<u16>() {
+            Ok(number) => write_words(alloc, number, out),
+            Err(_) => Err(Failed),
+        };
+    }
     let Some(case) = read_case(line) else {
         return Err(Failed);
     };
-    let Some(counts) = run_case(alloc, case) else {
+    let Some(rows) = rows_of(alloc, case) else {
         return Err(Failed);
     };
-    let line = format!(in alloc;
-        "{} sent, {} quiet, {} heard, {} clashes",
-        counts.sent, counts.quiet, counts.heard, counts.clashes
-    )?;
-    Ok(write_line(line.as_str(), out)?)
+    write_rows(alloc, case.nodes, rows.as_slice(), out)
 }
 
 /// Runs the samples of a file, line after line; the lines are written too.

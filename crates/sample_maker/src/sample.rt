@@ -10,12 +10,9 @@ use crate::ring::ring_image;
 use avr_base::NoMemory;
 use avr_program::Program;
 use node_runner::Scenario;
-use scenario_file::ScenarioText;
+use scenario_file::{ScenarioText, no_script};
 use serial_ports::Script;
 use std::alloc::{AllocError, Global};
-
-// The cycles between the bytes of a script, where it has none.
-const EVERY: u64 = 7_680;
 
 fn first_byte(number: u16, node: u8) -> u8
     ensures { result ≡ first_byte number node }
@@ -49,8 +46,7 @@ fn no_scripts(alloc: Global, nodes: u8) -> Result<Vec<Script>, NoMemory>
 {
     let mut scripts = Vec::new(alloc);
     for _node in 0..nodes {
-        let script = Script::new(0, EVERY, Vec::new(alloc));
-        if scripts.push(script).is_err() {
+        if scripts.push(no_script(alloc)).is_err() {
             return Err(NoMemory);
         }
     }

@@ -8,6 +8,7 @@ ghost use Rattle.scenario_file.specs.Faults.{all_in_range, amount_of, is_few, an
 ghost use Rattle.scenario_file.specs.Scenario.{bytes_in, script_of, script_for, scripts_below};
 ghost use Rattle.scenario_file.specs.declared.keys.Keys.TheVariants.{OfInput};
 
+use crate::defaults::{EVERY, no_script};
 use crate::document::{number_in, text_in};
 use crate::keys::Version;
 use serial_ports::Script;
@@ -61,7 +62,7 @@ fn script_of(
 {
     let bytes = bytes_in(alloc, text_in(value, "hex"))?;
     let at = number_in(value, "at", 0);
-    let every = number_in(value, "every", 7_680);
+    let every = number_in(value, "every", EVERY);
     Ok(Script::new(at, every, bytes))
 }
 
@@ -82,7 +83,7 @@ fn script_for(
             return script_of(alloc, version, count, value);
         }
     }
-    Ok(Script::new(0, 7_680, Vec::new(alloc)))
+    Ok(no_script(alloc))
 }
 
 /// The script of each of so many nodes, in the order of their numbers.

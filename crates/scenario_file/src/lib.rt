@@ -4,6 +4,7 @@
 
 mod amounts;
 mod asked;
+mod defaults;
 mod document;
 mod fault;
 mod faults;
@@ -15,5 +16,6 @@ mod ranges;
 mod rules;
 mod text;
 
+pub use defaults::{BYTE_TIME, LATENCY, no_script};
 pub use fault::ScenarioFault;
 pub use text::{ScenarioText, read};

@@ -6,6 +6,7 @@ ghost use Rattle.scenario_file.specs.Scenario.{image_of, topology_of, parts_of, 
 ghost use Rattle.scenario_file.specs.Shown.{parts};
 
 use crate::ScenarioFault;
+use crate::defaults::{BYTE_TIME, LATENCY};
 use crate::document::{elements, node_count, number_at, numbers_in, pair_at, text_in};
 use crate::faults::document_fault;
 use crate::inputs::scripts_of;
@@ -51,13 +52,13 @@ fn topology_of(alloc: Global, table: &Table) -> Result<Topo, AllocError>
     ensures { IfOk result (λ topo. topo ≡ topology_of (table_view table.now)) }
 {
     let count = node_count(table);
-    let latency = number_at(table, "latency", 3_072);
+    let latency = number_at(table, "latency", LATENCY);
     let values = elements(table, "link");
     let links = links_of(alloc, version_of(table), count, values)?;
     let own = numbers_in(alloc, values, "latency", latency)?;
     let spans = spans_of(alloc, values)?;
     let cycles = number_at(table, "cycles", 0);
-    let byte_time = number_at(table, "byte_time", 3_072);
+    let byte_time = number_at(table, "byte_time", BYTE_TIME);
     match Topo::with_spans(count as u8, cycles, latency, byte_time, links, own, spans) {
         Ok(topo) => Ok(topo),
         Err(_) => unreachable!(),

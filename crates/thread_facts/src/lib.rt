@@ -6,7 +6,7 @@
 mod gates;
 mod runs;
 
-use case_files::Failed;
+use case_files::{Failed, write_line};
 use gates::{BothBegin, FirstIsLate, LastTurn, SecondIsLate, Told};
 use runs::{write_call, write_rows};
 use sim_io::{Sink, write_all};
@@ -21,15 +21,10 @@ static MAKE: [&str; 2] = ["make", "0"];
 
 static LONG: [&str; 2] = ["run", "gates_long.toml"];
 
-fn write_line<O: Sink>(line: &str, out: &mut O) -> Result<(), Failed> {
-    write_all(out, line.as_bytes())?;
-    Ok(write_all(out, b"\n")?)
-}
-
 // Whether what is to be so was seen to be so.
 fn write_seen<O: Sink>(what: &str, seen: bool, out: &mut O) -> Result<(), Failed> {
     write_all(out, what.as_bytes())?;
-    write_line(if seen { ": yes" } else { ": no" }, out)
+    Ok(write_line(if seen { ": yes" } else { ": no" }, out)?)
 }
 
 // Each of two nodes begins while the other has not ended.

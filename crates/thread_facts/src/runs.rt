@@ -7,8 +7,7 @@ use fleet_threads::{Gate, run_threads};
 use ihex_loader::{Flash, load};
 use memory_io::MemSink;
 use node_runner::Scenario;
-use scenario_file::ScenarioText;
-use serial_ports::Script;
+use scenario_file::{ScenarioText, no_script};
 use sim_io::{DirStore, Sink, SinkFault, put_decimal, write_all};
 use std::fs::{self, Files};
 use std::sync::Wait;
@@ -41,10 +40,7 @@ fn two_rings<R: Files + AllocGlobal>(rt: &R) -> Result<Scenario, Failed> {
     let text = ScenarioText {
         topo,
         images: Vec::new(alloc),
-        scripts: vec![in alloc;
-            Script::new(0, 7_680, Vec::new(alloc)),
-            Script::new(0, 7_680, Vec::new(alloc)),
-        ]?,
+        scripts: vec![in alloc; no_script(alloc), no_script(alloc)]?,
         window: (0, 0),
     };
     Ok(Scenario::new(text, vec![in alloc; first, second]?))

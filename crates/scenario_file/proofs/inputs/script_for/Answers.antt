@@ -49,5 +49,4 @@ pub returns : goal.returns
 unfolding script_for
 returns c =
     let none : script_for c.args.node (map view c.args.values.now) ≡ no_script = c.loop-value.invariant ∙ ap (λ t. script_for c.args.node (map view t)) (drop_all c.loop-value.value-index c.args.values.now c.loop-value-test.false) in
-    let empty : c.new-2.result ≡ no_script = c.new-2.ensures ∙ ap (λ (t : List ℕ). record { at = 0; every = 7680; bytes = t }) c.new.ensures.items in
-    empty ∙ sym none
+    c.no_script.ensures ∙ sym none
