@@ -17,6 +17,7 @@ from draw import foreign, hex_text, ring
 from facts import Files, two
 from network import Refused, open_network
 from stored_parts import put_part
+from watch import frame_lines, profile_lines, read_window, sender
 
 HERE = Path(__file__).resolve().parent
 EPOCH = 262_144
@@ -126,12 +127,24 @@ class CaseFile:
         self.rows([shown(*of(self.held | {name: whole[:n]})) for n in range(len(whole) + 1)])
 
 
+def watched(it, name, command):
+    """What `monitor NAME` or `sniff NAME` writes."""
+    network = open_network(Files(it.held, None), name)
+    network.run()
+    nodes = len(network.nodes)
+    window = read_window(it.held[name].decode())
+    lines = profile_lines(network.rows, nodes, window) if command == "monitor" else frame_lines(network.sends, nodes)
+    return "".join(line + "\n" for line in lines)
+
+
 def reads_in_turn(it):
     it.about("Each read fails in turn: the scenario, then the image of each node.")
     names = ["two.toml", "a.hex", "b.hex"]
     whole = shown(0, it.held["two.trace"], "")
     it.reads("run two.toml", names, whole)
     it.reads("run --plain two.toml", names, whole)
+    for command in ("monitor", "sniff"):
+        it.reads(f"{command} two.toml", names, shown(0, watched(it, "two.toml", command).encode(), ""))
     it.reads("check two.toml", names, shown(0, b"ok 2 nodes, 1 links, 500 cycles\n", ""))
     it.reads("node loop.hex 8", ["loop.hex"], shown(0, it.held["node.trace"], ""))
     it.reads("disasm loop.hex", ["loop.hex"], shown(0, it.held["loop.listing"], ""))
@@ -144,6 +157,8 @@ def writes_in_turn(it, early):
         ("run two.toml", "two.trace"),
         ("run --plain two.toml", "two.trace"),
         ("node loop.hex 8", "node.trace"),
+        ("monitor node.toml", "node.profile"),
+        ("sniff frames.toml", "frames.lines"),
         ("check two.toml", "two.size"),
         ("disasm loop.hex", "loop.listing"),
         ("asm loop.s", "loop.hex"),
@@ -167,6 +182,8 @@ def complaints_in_turn(it):
         ("run none.toml", "none.line", 3),
         ("run --plain none.toml", "none.line", 3),
         ("check self.toml", "self.line", 4),
+        ("monitor none.toml", "none.line", 3),
+        ("sniff self.toml", "self.line", 4),
         ("run image.toml", "sum.line", 5),
         ("node sum.hex 8", "sum.line", 5),
         ("asm r3.s", "source.line", 7),
@@ -249,6 +266,8 @@ def case_file(folder):
     it.file("image.toml", two(images=("a.hex", "sum.hex")))
     it.file("epochs.toml", f'cycles = {EPOCH + 6}\nwindow = [{EPOCH - 6}, {EPOCH + 6}]\nnode = [{{image = "loop.hex"}}]\n')
     it.file("node.toml", 'cycles = 8\nwindow = [0, 8]\nnode = [{image = "loop.hex"}]\n')
+    it.file("frame.hex", hex_text(sender([0xAA, 0xAA, 0xAA, 0x7E, 2, 0x11, 0x22])))
+    it.file("frames.toml", 'cycles = 9000\nbyte_time = 512\nnode = [{image = "frame.hex"}]\n')
     it.line("")
     it.line("# What is due where nothing fails: traces, and lines.")
     it.copy("two.trace", trace_of(it, "two.toml"), folder)
@@ -256,6 +275,8 @@ def case_file(folder):
     epochs = trace_of(it, "epochs.toml")
     it.copy("epochs.trace", epochs, folder)
     it.file("loop.listing", "0000 ldi r16, 0x01\n0001 rjmp .-2\n")
+    it.file("node.profile", watched(it, "node.toml", "monitor"))
+    it.file("frames.lines", watched(it, "frames.toml", "sniff"))
     it.file("two.size", "ok 2 nodes, 1 links, 500 cycles\n")
     it.file("make.line", "make 0: 8 nodes, 1000000 cycles, 14706 sent, 1 quiet, 29407 heard, 0 clashes\n")
     it.file("words.line", "avrora: bad command line\n")

@@ -1,7 +1,7 @@
 -- What is accepted behind the name of each command.
 use Rattle.std.proofs.Common.{◌≡◌, ℕ, ◌<◌, ◌≤◌, ◌&&◌, if◌then◌else◌, Bool, true, false, is_some, option_map, List, Option, Some, None, [], ◌∷◌, codes, length, map, refl, arith}
 use Rattle.std.proofs.lemmas.Slice.Eq.{bytes_eq-Decides}
-use Rattle.command_words.specs.Words.{Asked, Node, Run, RunPlain, Check, Disasm, Asm, Make, as_make, as_node, as_plain_run, asked_by, cycles_of, file_behind, is_file, is_word, or_else, sample_of}
+use Rattle.command_words.specs.Words.{Asked, Node, Run, RunPlain, Monitor, Sniff, Check, Disasm, Asm, Make, as_make, as_node, as_plain_run, asked_by, cycles_of, file_behind, is_file, is_word, or_else, sample_of}
 
 absent : (b : Bool) → (b ≡ true → ⊥) → b ≡ false
 absent true h = absurd (h refl)
@@ -23,6 +23,14 @@ pub run_pair : (file : List ℕ) → is_some (asked_by (codes "run" ∷ file ∷
 unfolding asked_by as_node file_behind as_plain_run as_make
 run_pair file = one_file Run file (is_file file)
 
+pub monitor_pair : (file : List ℕ) → is_some (asked_by (codes "monitor" ∷ file ∷ [])) ≡ is_file file
+unfolding asked_by as_node file_behind as_plain_run as_make
+monitor_pair file = one_file Monitor file (is_file file)
+
+pub sniff_pair : (file : List ℕ) → is_some (asked_by (codes "sniff" ∷ file ∷ [])) ≡ is_file file
+unfolding asked_by as_node file_behind as_plain_run as_make
+sniff_pair file = one_file Sniff file (is_file file)
+
 pub check_pair : (file : List ℕ) → is_some (asked_by (codes "check" ∷ file ∷ [])) ≡ is_file file
 unfolding asked_by as_node file_behind as_plain_run as_make
 check_pair file = one_file Check file (is_file file)
@@ -39,10 +47,11 @@ pub make_pair : (number : List ℕ) → is_some (asked_by (codes "make" ∷ numb
 unfolding asked_by as_node file_behind as_plain_run as_make
 make_pair number = one_number Make (sample_of number)
 
-pub no_pair : (word file : List ℕ) → is_word (codes "run") word ≡ false → is_word (codes "check") word ≡ false → is_word (codes "disasm") word ≡ false
+pub no_pair : (word file : List ℕ) → is_word (codes "run") word ≡ false → is_word (codes "monitor") word ≡ false → is_word (codes "sniff") word ≡ false
+    → is_word (codes "check") word ≡ false → is_word (codes "disasm") word ≡ false
     → is_word (codes "asm") word ≡ false → is_word (codes "make") word ≡ false → is_some (asked_by (word ∷ file ∷ [])) ≡ false
 unfolding asked_by as_node file_behind as_plain_run as_make
-no_pair word file run check disasm asm make = rw (run, check, disasm, asm, make) refl
+no_pair word file run monitor sniff check disasm asm make = rw (run, monitor, sniff, check, disasm, asm, make) refl
 
 node_test : (file : List ℕ) (b : Bool) (o : Option ℕ) → is_some (or_else (if b then option_map (Node file) o else None) None) ≡ b && is_some o
 node_test file true (Some n) = refl

@@ -4,7 +4,7 @@ use Rattle.std.proofs.lemmas.Bool.{and_parts}
 use Rattle.std.proofs.lemmas.Slice.Eq.{bytes_eq-Decides}
 use Rattle.std.specs.Prelude.{IfSome}
 use Rattle.command_words.specs.declared.order.Order.{Order}
-use Rattle.command_words.specs.Words.{Asked, Node, Run, RunPlain, Check, Disasm, Asm, Make, as_make, as_node, as_plain_run, asked_by, cycles_of, file_behind, is_file, is_word, or_else, sample_of, shown, IsInLimits}
+use Rattle.command_words.specs.Words.{Asked, Node, Run, RunPlain, Monitor, Sniff, Check, Disasm, Asm, Make, as_make, as_node, as_plain_run, asked_by, cycles_of, file_behind, is_file, is_word, or_else, sample_of, shown, IsInLimits}
 use Rattle.command_words.proofs.Numerals.{number_limits}
 
 -- words that ask for something, each form with what it says
@@ -12,6 +12,8 @@ pub data Form : List (List ℕ) → Asked → Type 0 where
   IsNode : (file cycles : List ℕ) (n : ℕ) → is_file file ≡ true → cycles_of cycles ≡ Some n → Form (codes "node" ∷ file ∷ cycles ∷ []) (Node file n)
   IsRun : (file : List ℕ) → is_file file ≡ true → Form (codes "run" ∷ file ∷ []) (Run file)
   IsPlainRun : (file : List ℕ) → is_file file ≡ true → Form (codes "run" ∷ codes "--plain" ∷ file ∷ []) (RunPlain file)
+  IsMonitor : (file : List ℕ) → is_file file ≡ true → Form (codes "monitor" ∷ file ∷ []) (Monitor file)
+  IsSniff : (file : List ℕ) → is_file file ≡ true → Form (codes "sniff" ∷ file ∷ []) (Sniff file)
   IsCheck : (file : List ℕ) → is_file file ≡ true → Form (codes "check" ∷ file ∷ []) (Check file)
   IsDisasm : (file : List ℕ) → is_file file ≡ true → Form (codes "disasm" ∷ file ∷ []) (Disasm file)
   IsAsm : (file : List ℕ) → is_file file ≡ true → Form (codes "asm" ∷ file ∷ []) (Asm file)
@@ -116,15 +118,19 @@ form_of words asked h =
     either words asked (as_node words) _ (of_node words asked)
     (either words asked (option_map Run (file_behind (codes "run") words)) _ (of_file (codes "run") words Run _ refl IsRun asked)
     (either words asked (as_plain_run words) _ (of_plain_run words asked)
+    (either words asked (option_map Monitor (file_behind (codes "monitor") words)) _ (of_file (codes "monitor") words Monitor _ refl IsMonitor asked)
+    (either words asked (option_map Sniff (file_behind (codes "sniff") words)) _ (of_file (codes "sniff") words Sniff _ refl IsSniff asked)
     (either words asked (option_map Check (file_behind (codes "check") words)) _ (of_file (codes "check") words Check _ refl IsCheck asked)
     (either words asked (option_map Disasm (file_behind (codes "disasm") words)) _ (of_file (codes "disasm") words Disasm _ refl IsDisasm asked)
     (either words asked (option_map Asm (file_behind (codes "asm") words)) _ (of_file (codes "asm") words Asm _ refl IsAsm asked)
-    (of_make words asked)))))) h
+    (of_make words asked)))))))) h
 
 pub in_limits : (words : List (List ℕ)) (asked : Asked) → Form words asked → IsInLimits asked
 in_limits _ _ (IsNode file cycles n f e) = number_limits 8 1 10000000 cycles n e
 in_limits _ _ (IsRun file f) = tt
 in_limits _ _ (IsPlainRun file f) = tt
+in_limits _ _ (IsMonitor file f) = tt
+in_limits _ _ (IsSniff file f) = tt
 in_limits _ _ (IsCheck file f) = tt
 in_limits _ _ (IsDisasm file f) = tt
 in_limits _ _ (IsAsm file f) = tt

@@ -4,11 +4,11 @@ use Rattle.std.specs.Str.{bytes_eq}
 use Rattle.clap.specs.Lexer.{strip_byte}
 use Rattle.clap.specs.Words.{subcommand_of, takes}
 use Rattle.clap.proofs.OnLiterals.{clap_on_literals}
-use Rattle.command_words.specs.Words.{Asked, Node, Run, RunPlain, Check, Disasm, Asm, Make, asked_by, is_file}
+use Rattle.command_words.specs.Words.{Asked, Node, Run, RunPlain, Monitor, Sniff, Check, Disasm, Asm, Make, asked_by, is_file}
 use Rattle.command_words.specs.Apps.{the_app}
-use Rattle.command_words.specs.Split.{asked_in, asked_of, read_in}
+use Rattle.command_words.specs.Split.{asked_in, asked_of, read_in, watch_in}
 use Rattle.command_words.proofs.Numerals.{number_file}
-use Rattle.command_words.proofs.Forms.{Form, IsNode, IsRun, IsPlainRun, IsCheck, IsDisasm, IsAsm, IsMake, form_of}
+use Rattle.command_words.proofs.Forms.{Form, IsNode, IsRun, IsPlainRun, IsMonitor, IsSniff, IsCheck, IsDisasm, IsAsm, IsMake, form_of}
 
 -- a word that `clap` takes for a value
 record Plain (word : List ℕ) : Type 0 where
@@ -34,6 +34,8 @@ taken _ _ (IsNode file cycles n f e) =
     simp (a.short, a.long, b.short, b.long) (refl {a = true})
 taken _ _ (IsRun file f) = let a = plain_file file f in simp (a.short, a.long) (refl {a = true})
 taken _ _ (IsPlainRun file f) = let a = plain_file file f in simp (a.short, a.long) (refl {a = true})
+taken _ _ (IsMonitor file f) = let a = plain_file file f in simp (a.short, a.long) (refl {a = true})
+taken _ _ (IsSniff file f) = let a = plain_file file f in simp (a.short, a.long) (refl {a = true})
 taken _ _ (IsCheck file f) = let a = plain_file file f in simp (a.short, a.long) (refl {a = true})
 taken _ _ (IsDisasm file f) = let a = plain_file file f in simp (a.short, a.long) (refl {a = true})
 taken _ _ (IsAsm file f) = let a = plain_file file f in simp (a.short, a.long) (refl {a = true})
@@ -41,13 +43,15 @@ taken _ _ (IsMake number n e) = let a = plain_file number (number_file 5 0 65535
 
 -- and its matches ask for what the words ask for
 pub kept : (words : List (List ℕ)) (asked : Asked) → Form words asked → asked_of (subcommand_of the_app words) ≡ Some asked
-unfolding clap_on_literals asked_of asked_in read_in
+unfolding clap_on_literals asked_of asked_in watch_in read_in
 kept _ _ (IsNode file cycles n f e) =
     let a = plain_file file f in
     let b = plain_file cycles (number_file 8 1 10000000 cycles n e) in
     simp (a.short, a.long, b.short, b.long, e) (refl {a = Some (Node file n)})
 kept _ _ (IsRun file f) = let a = plain_file file f in simp (a.short, a.long) (refl {a = Some (Run file)})
 kept _ _ (IsPlainRun file f) = let a = plain_file file f in simp (a.short, a.long) (refl {a = Some (RunPlain file)})
+kept _ _ (IsMonitor file f) = let a = plain_file file f in simp (a.short, a.long) (refl {a = Some (Monitor file)})
+kept _ _ (IsSniff file f) = let a = plain_file file f in simp (a.short, a.long) (refl {a = Some (Sniff file)})
 kept _ _ (IsCheck file f) = let a = plain_file file f in simp (a.short, a.long) (refl {a = Some (Check file)})
 kept _ _ (IsDisasm file f) = let a = plain_file file f in simp (a.short, a.long) (refl {a = Some (Disasm file)})
 kept _ _ (IsAsm file f) = let a = plain_file file f in simp (a.short, a.long) (refl {a = Some (Asm file)})

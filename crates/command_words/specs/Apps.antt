@@ -32,6 +32,10 @@ without_first a = record a { top = record a.top { no_binary_name = true } }
 abbrev pub simulating : App → App
 simulating app = with_subcommand (with_subcommand (with_subcommand app node_app.top) run_app.top) (one_word_app (codes "make") (codes "number")).top
 
+-- those that watch what they simulate
+abbrev pub watching : App → App
+watching app = with_subcommand (with_subcommand app (one_word_app (codes "monitor") (codes "file")).top) (one_word_app (codes "sniff") (codes "file")).top
+
 -- and those that simulate nothing
 abbrev pub reading : App → App
 reading app =
@@ -39,7 +43,7 @@ reading app =
     (one_word_app (codes "asm") (codes "file")).top
 
 abbrev pub the_app : App
-the_app = reading (simulating (without_first (new_app (codes "avrora"))))
+the_app = reading (watching (simulating (without_first (new_app (codes "avrora")))))
 
 -- where a subcommand could be made, it is this one, and none of its words is global
 abbrev pub MakesLeaf : App → Result Command AllocError → Type 0

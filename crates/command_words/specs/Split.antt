@@ -3,7 +3,7 @@ use Rattle.std.specs.Prelude.{List, [], codes, Option, Some, None, option_map, i
 use Rattle.std.specs.Option.{option_map_or}
 use Rattle.std.specs.Str.{bytes_eq}
 use Rattle.clap.specs.Words.{Row, Text, first_of}
-use Rattle.command_words.specs.Words.{Asked, Node, Run, RunPlain, Check, Disasm, Asm, Make, cycles_of, sample_of}
+use Rattle.command_words.specs.Words.{Asked, Node, Run, RunPlain, Monitor, Sniff, Check, Disasm, Asm, Make, cycles_of, sample_of}
 
 -- the word of this name, or no text
 abbrev pub text_in : Text → List Row → Text
@@ -28,13 +28,20 @@ read_in name rows =
     else if bytes_eq name (codes "asm") then Some (Asm (text_in (codes "file") rows))
     else None
 
+-- what a subcommand that watches a run asks for with these words, or one of those that simulate nothing
+unfoldable pub watch_in : Text → List Row → Option Asked
+watch_in name rows =
+    if bytes_eq name (codes "monitor") then Some (Monitor (text_in (codes "file") rows))
+    else if bytes_eq name (codes "sniff") then Some (Sniff (text_in (codes "file") rows))
+    else read_in name rows
+
 -- what any subcommand asks for with these words
 unfoldable pub asked_in : Text → List Row → Option Asked
 asked_in name rows =
     if bytes_eq name (codes "run") then Some (run_in rows)
     else if bytes_eq name (codes "make") then make_in rows
     else if bytes_eq name (codes "node") then node_in rows
-    else read_in name rows
+    else watch_in name rows
 
 unfoldable pub asked_of : Option (Text × List Row) → Option Asked
 asked_of None = None

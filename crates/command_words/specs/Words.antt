@@ -15,6 +15,10 @@ pub data Asked : Type 0 where
   Run : (file : List ℕ) → Asked
   -- the same on one thread
   RunPlain : (file : List ℕ) → Asked
+  -- simulate the network of the scenario in this file, and write on what its nodes spent the window
+  Monitor : (file : List ℕ) → Asked
+  -- the same, and write the frames that its nodes sent
+  Sniff : (file : List ℕ) → Asked
   -- read the scenario in this file and its images, and run nothing
   Check : (file : List ℕ) → Asked
   -- list the instructions of the image in this file
@@ -29,6 +33,8 @@ abbrev pub shown : Order → Asked
 shown (order.Node file cycles) = Node file.now cycles
 shown (order.Run file) = Run file.now
 shown (order.RunPlain file) = RunPlain file.now
+shown (order.Monitor file) = Monitor file.now
+shown (order.Sniff file) = Sniff file.now
 shown (order.Check file) = Check file.now
 shown (order.Disasm file) = Disasm file.now
 shown (order.Asm file) = Asm file.now
@@ -63,7 +69,7 @@ as_node (command ∷ file ∷ cycles ∷ []) =
     if is_word (codes "node") command && is_file file then option_map (Node file) (cycles_of cycles) else None
 as_node _ = None
 
--- the FILE of a command that has nothing else: `run FILE`, `check FILE`, `disasm FILE`, `asm FILE`
+-- the FILE of a command that has nothing else: `run FILE`, `monitor FILE`, `sniff FILE`, `check FILE`, `disasm FILE`, `asm FILE`
 unfoldable pub file_behind : List ℕ → List (List ℕ) → Option (List ℕ)
 file_behind name (command ∷ file ∷ []) = if is_word name command && is_file file then Some file else None
 file_behind name _ = None
@@ -89,16 +95,20 @@ asked_by words =
     or_else (as_node words)
     (or_else (option_map Run (file_behind (codes "run") words))
     (or_else (as_plain_run words)
+    (or_else (option_map Monitor (file_behind (codes "monitor") words))
+    (or_else (option_map Sniff (file_behind (codes "sniff") words))
     (or_else (option_map Check (file_behind (codes "check") words))
     (or_else (option_map Disasm (file_behind (codes "disasm") words))
     (or_else (option_map Asm (file_behind (codes "asm") words))
-    (as_make words))))))
+    (as_make words))))))))
 
 -- the number of cycles, where there is one, is from 1 to 10,000,000, and that of a sample at most 65,535
 abbrev pub IsInLimits : Asked → Type 0
 IsInLimits (Node file cycles) = (1 ≤ cycles) × (cycles ≤ 10000000)
 IsInLimits (Run file) = Unit {0}
 IsInLimits (RunPlain file) = Unit {0}
+IsInLimits (Monitor file) = Unit {0}
+IsInLimits (Sniff file) = Unit {0}
 IsInLimits (Check file) = Unit {0}
 IsInLimits (Disasm file) = Unit {0}
 IsInLimits (Asm file) = Unit {0}

@@ -9,7 +9,7 @@ fn is_pair(command: &str, word: &str) -> bool
     ensures { result ≡ is_some (asked_by (command.now ∷ word.now ∷ [])) }
 {
     match command {
-        "run" | "check" | "disasm" | "asm" => is_file(word),
+        "run" | "monitor" | "sniff" | "check" | "disasm" | "asm" => is_file(word),
         "make" => sample(word).is_some(),
         _ => false,
     }

@@ -24,7 +24,7 @@ struct Form {
 }
 
 // The forms, but for `run` with and without its flag, which are one.
-static FORMS: [Form; 6] = [
+static FORMS: [Form; 8] = [
     Form {
         name: "node",
         words: &[Word::Required("file"), Word::Required("cycles")],
@@ -36,6 +36,14 @@ static FORMS: [Form; 6] = [
     Form {
         name: "make",
         words: &[Word::Required("number")],
+    },
+    Form {
+        name: "monitor",
+        words: &[Word::Required("file")],
+    },
+    Form {
+        name: "sniff",
+        words: &[Word::Required("file")],
     },
     Form {
         name: "check",

@@ -15,6 +15,10 @@ pub enum Order<'w> {
     Disasm { file: &'w str },
     /// `asm FILE`: write the program of this source in assembly as an image.
     Asm { file: &'w str },
+    /// `monitor FILE`: simulate the network of this scenario, and write on what its nodes spent the window.
+    Monitor { file: &'w str },
+    /// `sniff FILE`: simulate the network of this scenario, and write the frames that its nodes sent.
+    Sniff { file: &'w str },
     /// `make NUMBER`: simulate the sample network of this number, and count what came out.
     Make { number: u16 },
 }

@@ -2,7 +2,7 @@
 ghost use Rattle.std.specs.Prelude.{◌≡◌, option_map};
 ghost use Rattle.clap.specs.Words.{found_of, rows_of, subcommand_rows_of};
 ghost use Rattle.command_words.specs.Words.{shown};
-ghost use Rattle.command_words.specs.Split.{asked_in, asked_of, make_in, node_in, read_in, run_in, text_in};
+ghost use Rattle.command_words.specs.Split.{asked_in, asked_of, make_in, node_in, read_in, run_in, text_in, watch_in};
 
 use crate::Order;
 use crate::operands::{cycles, sample};
@@ -42,6 +42,19 @@ fn reading_in<'w>(name: &str, matches: &ArgMatches<'w>) -> Option<Order<'w>>
     }
 }
 
+// What a subcommand that watches a run asks for, or one of those that simulate nothing.
+#[tactic(auto, unfolding(crate::specs::Split::watch_in))]
+fn watching_in<'w>(name: &str, matches: &ArgMatches<'w>) -> Option<Order<'w>>
+    ensures { option_map shown result ≡ watch_in name.now (rows_of (found_of matches.now)) }
+{
+    let file = text_at(matches, "file");
+    match name {
+        "monitor" => Some(Order::Monitor { file }),
+        "sniff" => Some(Order::Sniff { file }),
+        _ => reading_in(name, matches),
+    }
+}
+
 fn make_order<'w>(matches: &ArgMatches<'w>) -> Option<Order<'w>>
     ensures { option_map shown result ≡ make_in (rows_of (found_of matches.now)) }
 {
@@ -69,7 +82,7 @@ fn order_in<'w>(name: &str, matches: &ArgMatches<'w>) -> Option<Order<'w>>
         "run" => Some(run_order(matches)),
         "make" => make_order(matches),
         "node" => node_order(matches),
-        _ => reading_in(name, matches),
+        _ => watching_in(name, matches),
     }
 }
 

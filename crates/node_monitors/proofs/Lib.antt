@@ -1,3 +1,4 @@
+pub mod Accounts
 pub mod Counts
 pub mod Owners
 pub mod Rooms

@@ -1,4 +1,5 @@
 pub mod Account
+pub mod Matters
 pub mod Owner
 pub mod Spent
 pub mod Sums

@@ -4,8 +4,10 @@
 #![tactic(auto)]
 
 mod ledger;
+mod needed;
 mod profile;
 mod spent;
 
+pub use needed::{matters, matters_law};
 pub use profile::Profile;
 pub use spent::Spent;

@@ -4,7 +4,7 @@ use Rattle.ihex_loader.specs.Flash.{Image}
 use Rattle.scenario_file.specs.Scenario.{ScenarioParts}
 use Rattle.node_runner.specs.Scenario.{ScenarioOf}
 use Rattle.plain_commands.specs.Network.{network_of}
-use Rattle.plain_commands.specs.Plan.{Plan, Give, Job, TraceJob, SizeJob, images_plan, network_plan, scenario_plan}
+use Rattle.plain_commands.specs.Plan.{Plan, Give, Job, TraceJob, MonitorJob, SniffJob, SizeJob, images_plan, network_plan, scenario_plan}
 use Rattle.plain_commands.specs.Reading.{Files, Reached}
 use Rattle.plain_commands.specs.Ends.{Ends, Reads, Stream}
 use Rattle.plain_commands.specs.Parts.{HasRead, Ready, StopsAt, end_at}
@@ -51,6 +51,12 @@ module _ (files : Files) (name : List ℕ) (store store' : Reads) (err err' : St
 
   pub traces_plain : Ready files (network_plan name (λ it. Give (TraceJob it))) store store' err err' (task.PlainTrace network)
   traces_plain = record { reached = read.reached TraceJob; same = read.same; silent = read.silent; short = tt }
+
+  pub profiles : Ready files (network_plan name (λ it. Give (MonitorJob it))) store store' err err' (task.Profiles network)
+  profiles = record { reached = read.reached MonitorJob; same = read.same; silent = read.silent; short = read.narrow }
+
+  pub gives_frames : Ready files (network_plan name (λ it. Give (SniffJob it))) store store' err err' (task.Frames network)
+  gives_frames = record { reached = read.reached SniffJob; same = read.same; silent = read.silent; short = tt }
 
   pub tells_size : Ready files (network_plan name (λ it. Give (SizeJob it))) store store' err err' (task.Size network)
   tells_size = record { reached = read.reached SizeJob; same = read.same; silent = read.silent; short = tt }

@@ -1,7 +1,7 @@
 -- What each status says of a call.
 use Rattle.std.proofs.Common.{◌≡◌, ◌≢◌, ◌⊎◌, ℕ, List, [], ◌∷◌, Option, Some, None, is_some, true, false, Result, Ok, Err, inl, inr, refl, sym, ap, ◌∙◌, subst}
 use Rattle.sim_io.specs.Outside.{Rose}
-use Rattle.command_words.specs.Words.{Asked, Node, Run, RunPlain, Check, Disasm, Asm, Make, asked_by, shown}
+use Rattle.command_words.specs.Words.{Asked, Node, Run, RunPlain, Monitor, Sniff, Check, Disasm, Asm, Make, asked_by, shown}
 use Rattle.command_words.specs.declared.order.Order.{Order}
 use Rattle.asm_text.specs.Source.{assembled}
 use Rattle.asm_text.specs.declared.fault.AsmFault.{AsmFault}
@@ -12,7 +12,7 @@ use Rattle.scenario_file.specs.Scenario.{ScenarioParts, scenario_in}
 use Rattle.scenario_file.specs.declared.fault.ScenarioFault.{ScenarioFault}
 use Rattle.node_runner.specs.Scenario.{ScenarioOf}
 use Rattle.plain_commands.specs.Network.{lone_node, network_of}
-use Rattle.plain_commands.specs.Plan.{Plan, Give, Refuse, Read, BadWords, BadScenario, BadImage, BadSource, Job, TraceJob, SizeJob, DisasmJob, AsmJob, image_plan, images_plan, network_plan, on_image, on_scenario, on_source, plan, plan_for, plan_of, source_plan}
+use Rattle.plain_commands.specs.Plan.{Plan, Give, Refuse, Read, BadWords, BadScenario, BadImage, BadSource, Job, TraceJob, MonitorJob, SniffJob, SizeJob, DisasmJob, AsmJob, image_plan, images_plan, network_plan, on_image, on_scenario, on_source, plan, plan_for, plan_of, source_plan}
 use Rattle.plain_commands.specs.Reading.{Files, Reached, Here, Fitting, TooLong, Refuses, Verdict, Untold, Refused as RefusedVerdict, Accepted, Says, verdict}
 use Rattle.plain_commands.specs.Ends.{Ends, End, Done, OutFailed, NoMemory, ReadFailed, Refused, Reads, Stream, status_due, EndedSaying, EndedUnsaid, HasStatus}
 use Rattle.plain_commands.specs.TopClause.{TopClause}
@@ -85,6 +85,8 @@ unfolding plan_of
 keeps_plan (Node file cycles) = keeps_image file (λ flash. Give (TraceJob (lone_node flash cycles))) (λ f. tt)
 keeps_plan (Run file) = keeps_network file TraceJob
 keeps_plan (RunPlain file) = keeps_network file TraceJob
+keeps_plan (Monitor file) = keeps_network file MonitorJob
+keeps_plan (Sniff file) = keeps_network file SniffJob
 keeps_plan (Check file) = keeps_network file SizeJob
 keeps_plan (Disasm file) = keeps_image file (λ flash. Give (DisasmJob flash)) (λ f. tt)
 keeps_plan (Asm file) = keeps_source file (λ words. Give (AsmJob words)) (λ words. tt)

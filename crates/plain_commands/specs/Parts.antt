@@ -1,10 +1,10 @@
 -- What the parts of a call owe to one another: how reading stops, how a job ends, and that an end was told. These are the
 -- contracts of functions inside this crate, and no part of what the top clause says.
-use Rattle.std.specs.Prelude.{◌≡◌, ◌≤◌, ℕ, true, is_some, length, List, Result, Ok, Err}
+use Rattle.std.specs.Prelude.{◌≡◌, ◌≤◌, ◌-◌, ℕ, true, is_some, length, List, Result, Ok, Err}
 use Rattle.sim_io.specs.Outside.{TookFront}
 use Rattle.node_runner.specs.Scenario.{ScenarioOf}
 use Rattle.command_words.specs.Words.{asked_by}
-use Rattle.plain_commands.specs.Plan.{Plan, Give, Refuse, Refusal, BadWords, BadScenario, BadImage, BadSource, Job, TraceJob, SizeJob, DisasmJob, AsmJob, SampleJob, network_plan, output, plan}
+use Rattle.plain_commands.specs.Plan.{Plan, Give, Refuse, Refusal, BadWords, BadScenario, BadImage, BadSource, Job, TraceJob, MonitorJob, SniffJob, SizeJob, DisasmJob, AsmJob, SampleJob, network_plan, output, plan}
 use Rattle.plain_commands.specs.Reading.{Files, Reached, IsNext}
 use Rattle.plain_commands.specs.Ends.{Reads, Stream, took, FailedIn, FailedRead, End, Done, OutFailed, NoMemory, ReadFailed, Refused, Ends, line_due, status_due}
 use Rattle.plain_commands.specs.TopClause.{TopClause}
@@ -78,11 +78,16 @@ pub record Called (files : Files) (plan : Plan) (store store' : Reads) (out out'
   pub ends : Ends files plan store store' out out' end
   pub reported : Reported end err err' answer
 
+-- the window of a scenario's network has at most 20,000 cycles
+abbrev pub IsNarrow : ScenarioOf → Type 0
+IsNarrow network = network.to - network.from ≤ 20000
+
 -- the network of the scenario in this file was read, whatever is to be done with it, and nothing was said
 pub record HasRead (files : Files) (name : List ℕ) (store store' : Reads) (err err' : Stream) (network : ScenarioOf) : Type 0 where
   pub reached : (job : ScenarioOf → Job) → Reached files (network_plan name (λ it. Give (job it))) (Give (job network))
   pub same : store' ≡ store
   pub silent : err' ≡ err
+  pub narrow : IsNarrow network
 
 -- the call ended with the reading of that network, whatever was to be done with it
 abbrev pub EndedReading : Files → List ℕ → Reads → Reads → Stream → Stream → Status → Type 0
@@ -93,15 +98,19 @@ EndedReading files name store store' err err' answer =
 abbrev pub job_at : Task → Job
 job_at (task.Trace network) = TraceJob network
 job_at (task.PlainTrace network) = TraceJob network
+job_at (task.Profiles network) = MonitorJob network
+job_at (task.Frames network) = SniffJob network
 job_at (task.Size network) = SizeJob network
 job_at (task.Listing flash) = DisasmJob flash
 job_at (task.Program words) = AsmJob words.items
 job_at (task.Sample number) = SampleJob number
 
--- a program is no longer than the flash
+-- a program is no longer than the flash, and a window that is watched is narrow
 abbrev pub IsShort : Task → Type 0
 IsShort (task.Trace network) = Unit {0}
 IsShort (task.PlainTrace network) = Unit {0}
+IsShort (task.Profiles network) = IsNarrow network
+IsShort (task.Frames network) = Unit {0}
 IsShort (task.Size network) = Unit {0}
 IsShort (task.Listing flash) = Unit {0}
 IsShort (task.Program words) = length words.items ≤ 65536

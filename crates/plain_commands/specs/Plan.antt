@@ -1,6 +1,6 @@
 -- What a command reads, in order, what comes of it, and what it writes.
 use Rattle.std.specs.Prelude.{ℕ, List, [], ◌∷◌, Option, Some, None, Result, Ok, Err}
-use Rattle.command_words.specs.Words.{Asked, Node, Run, RunPlain, Check, Disasm, Asm, Make, asked_by}
+use Rattle.command_words.specs.Words.{Asked, Node, Run, RunPlain, Monitor, Sniff, Check, Disasm, Asm, Make, asked_by}
 use Rattle.asm_text.specs.Source.{assembled}
 use Rattle.asm_text.specs.declared.fault.AsmFault.{AsmFault}
 use Rattle.ihex_loader.specs.Flash.{Image}
@@ -10,6 +10,8 @@ use Rattle.ihex_loader.specs.Hex.{hex_of}
 use Rattle.scenario_file.specs.Scenario.{ScenarioParts, scenario_in}
 use Rattle.scenario_file.specs.declared.fault.ScenarioFault.{ScenarioFault}
 use Rattle.node_runner.specs.Scenario.{ScenarioOf}
+use Rattle.run_reports.specs.Profiles.{profiles_text}
+use Rattle.run_reports.specs.Frames.{frames_text}
 use Rattle.plain_commands.specs.Listing.{listing}
 use Rattle.plain_commands.specs.Network.{lone_node, network_of, size_line, trace_of}
 use Rattle.plain_commands.specs.Sample.{sample_line}
@@ -24,6 +26,10 @@ use Rattle.plain_commands.specs.declared.trouble.SourceCause.TheVariants as sour
 pub data Job : Type 0 where
   -- the trace of this network
   TraceJob : (network : ScenarioOf) → Job
+  -- the profile of each of its nodes
+  MonitorJob : (network : ScenarioOf) → Job
+  -- the frames that its nodes send
+  SniffJob : (network : ScenarioOf) → Job
   -- the size of this network
   SizeJob : (network : ScenarioOf) → Job
   -- the listing of this image
@@ -36,6 +42,8 @@ pub data Job : Type 0 where
 -- what a job writes to `out`
 unfoldable pub output : Job → List ℕ
 output (TraceJob network) = trace_of network
+output (MonitorJob network) = profiles_text network
+output (SniffJob network) = frames_text network
 output (SizeJob network) = size_line network
 output (DisasmJob flash) = listing flash
 output (AsmJob words) = hex_of words
@@ -100,6 +108,8 @@ unfoldable pub plan_of : Asked → Plan
 plan_of (Node file cycles) = image_plan file (λ flash. Give (TraceJob (lone_node flash cycles)))
 plan_of (Run file) = network_plan file (λ network. Give (TraceJob network))
 plan_of (RunPlain file) = network_plan file (λ network. Give (TraceJob network))
+plan_of (Monitor file) = network_plan file (λ network. Give (MonitorJob network))
+plan_of (Sniff file) = network_plan file (λ network. Give (SniffJob network))
 plan_of (Check file) = network_plan file (λ network. Give (SizeJob network))
 plan_of (Disasm file) = image_plan file (λ flash. Give (DisasmJob flash))
 plan_of (Asm file) = source_plan file (λ words. Give (AsmJob words))

@@ -14,6 +14,7 @@ mod status;
 mod task;
 mod top;
 mod trouble;
+mod watching;
 mod words;
 
 pub use reading::prepare;

@@ -65,6 +65,14 @@ fn read_task<'w, S: Store, E: Sink>(
             Ok(network) => Ok(Task::PlainTrace(network)),
             Err(status) => Err(status),
         },
+        Order::Monitor { file } => match read_network(alloc, file, store, err) {
+            Ok(network) => Ok(Task::Profiles(network)),
+            Err(status) => Err(status),
+        },
+        Order::Sniff { file } => match read_network(alloc, file, store, err) {
+            Ok(network) => Ok(Task::Frames(network)),
+            Err(status) => Err(status),
+        },
         Order::Check { file } => match read_network(alloc, file, store, err) {
             Ok(network) => Ok(Task::Size(network)),
             Err(status) => Err(status),

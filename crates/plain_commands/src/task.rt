@@ -7,6 +7,7 @@ use crate::network::{write_size, write_trace};
 use crate::program::write_program;
 use crate::sample::write_sample;
 use crate::trouble::Trouble;
+use crate::watching::{write_frames, write_profiles};
 use ihex_loader::Flash;
 use node_runner::Scenario;
 use sim_io::Sink;
@@ -18,6 +19,10 @@ pub enum Task {
     Trace(Scenario),
     /// The same, on one thread.
     PlainTrace(Scenario),
+    /// To write the profile of each node of this network.
+    Profiles(Scenario),
+    /// To write the frames that the nodes of this network send.
+    Frames(Scenario),
     /// To write how large this network is.
     Size(Scenario),
     /// To write the listing of this image.
@@ -36,6 +41,8 @@ pub fn do_task<'n, O: Sink>(alloc: Global, task: Task, out: &mut O) -> Result<()
     match task {
         Task::Trace(network) => write_trace(alloc, &network, out),
         Task::PlainTrace(network) => write_trace(alloc, &network, out),
+        Task::Profiles(network) => write_profiles(alloc, &network, out),
+        Task::Frames(network) => write_frames(alloc, &network, out),
         Task::Size(network) => write_size(&network, out),
         Task::Listing(flash) => write_listing(&flash, out),
         Task::Program(words) => write_program(alloc, words.as_slice(), out),

@@ -19,6 +19,8 @@ use std::alloc::Global;
 /// | `node FILE CYCLES` | the trace of one node that runs the image in FILE, with no links and no input, over CYCLES cycles; instructions are traced in the first 20,000 |
 /// | `run FILE` | the trace of the network of the scenario in FILE, in the single global order of cycles |
 /// | `run --plain FILE` | the same, on one thread |
+/// | `monitor FILE` | on what each node of that network spent each cycle of the window, and its charge; it is run up to the window's end |
+/// | `sniff FILE` | the frames that each node of that network sends |
 /// | `check FILE` | how many nodes, links and cycles the network of the scenario in FILE has; it is not run |
 /// | `disasm FILE` | the address and the text of each instruction of the image in FILE, a line each |
 /// | `asm FILE` | the program of the source in assembly in FILE, as an image in Intel HEX |

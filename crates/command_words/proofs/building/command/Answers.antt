@@ -17,7 +17,8 @@ loop-form-preserved c = record {
 
 subs : List App
 subs =
-    node_app ∷ run_app ∷ one_word_app (codes "make") (codes "number") ∷ one_word_app (codes "check") (codes "file") ∷ one_word_app (codes "disasm") (codes "file")
+    node_app ∷ run_app ∷ one_word_app (codes "make") (codes "number") ∷ one_word_app (codes "monitor") (codes "file") ∷ one_word_app (codes "sniff") (codes "file")
+    ∷ one_word_app (codes "check") (codes "file") ∷ one_word_app (codes "disasm") (codes "file")
     ∷ one_word_app (codes "asm") (codes "file") ∷ []
 
 pub returns : goal.returns

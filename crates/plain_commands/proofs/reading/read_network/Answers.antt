@@ -1,6 +1,7 @@
-use Rattle.std.proofs.Common.{List, refl, ◌∙◌}
+use Rattle.std.proofs.Common.{◌≤◌, ◌-◌, List, ℕ, refl, sym, subst, ap, ◌∙◌}
 use Rattle.ihex_loader.specs.Flash.{Image}
 use Rattle.scenario_file.specs.Shown.{parts}
+use Rattle.node_runner.specs.Scenario.{ScenarioOf}
 use Rattle.plain_commands.specs.Plan.{Plan, images_plan}
 use Rattle.plain_commands.specs.Reading.{Reached}
 use Rattle.plain_commands.specs.Ends.{reads}
@@ -36,4 +37,5 @@ returns-in-Ok-read_images-clause-ok g c =
       reached = λ job. network_reached _ _ c.args.file.now job (parts c.in-Ok.text) c.in-Ok-read_images.images.items _ c.in-Ok.ensures.held c.in-Ok.ensures.read.1 more c.new.ensures;
       same = c.in-Ok-read_images.ensures.read.0 ∙ c.in-Ok.ensures.read.0;
       silent = refl;
+      narrow = subst (λ (n : ScenarioOf). n.to - n.from ≤ 20000) (sym c.new.ensures) c.in-Ok.ensures.lawful.narrow;
     }

@@ -1,9 +1,9 @@
 use Rattle.std.proofs.Common.{refl, sym, ap}
 use Rattle.node_runner.specs.Scenario.{ScenarioOf}
 use Rattle.plain_commands.specs.Network.{lone_node}
-use Rattle.plain_commands.specs.Plan.{Give, Job, TraceJob, SizeJob, DisasmJob, AsmJob, SampleJob, plan_of}
+use Rattle.plain_commands.specs.Plan.{Give, Job, TraceJob, MonitorJob, SniffJob, SizeJob, DisasmJob, AsmJob, SampleJob, plan_of}
 use Rattle.plain_commands.specs.Reading.{Here}
-use Rattle.plain_commands.proofs.Networks.{traces, traces_plain, tells_size}
+use Rattle.plain_commands.proofs.Networks.{traces, traces_plain, profiles, gives_frames, tells_size}
 use Rattle.plain_commands.proofs.Endings.{ended_stopped, ready}
 use Rattle.plain_commands.proofs.reading.read_task.Goals as goal
 
@@ -25,11 +25,27 @@ returns-in-Err-read_network-clause-read g c = λ out. rw c.in-RunPlain.is (c.in-
 
 pub returns-in-Ok-read_network-2-clause-read : goal.returns-in-Ok-read_network-2-clause-read
 unfolding plan_of
-returns-in-Ok-read_network-2-clause-read g c = rw c.in-Check.is (tells_size _ _ _ _ _ _ _ c.in-Ok-read_network-2.ensures.ok)
+returns-in-Ok-read_network-2-clause-read g c = rw c.in-Monitor.is (profiles _ _ _ _ _ _ _ c.in-Ok-read_network-2.ensures.ok)
 
 pub returns-in-Err-read_network-2-clause-read : goal.returns-in-Err-read_network-2-clause-read
 unfolding plan_of
-returns-in-Err-read_network-2-clause-read g c = λ out. rw c.in-Check.is (c.in-Err-read_network-2.ensures.err SizeJob out)
+returns-in-Err-read_network-2-clause-read g c = λ out. rw c.in-Monitor.is (c.in-Err-read_network-2.ensures.err MonitorJob out)
+
+pub returns-in-Ok-read_network-3-clause-read : goal.returns-in-Ok-read_network-3-clause-read
+unfolding plan_of
+returns-in-Ok-read_network-3-clause-read g c = rw c.in-Sniff.is (gives_frames _ _ _ _ _ _ _ c.in-Ok-read_network-3.ensures.ok)
+
+pub returns-in-Err-read_network-3-clause-read : goal.returns-in-Err-read_network-3-clause-read
+unfolding plan_of
+returns-in-Err-read_network-3-clause-read g c = λ out. rw c.in-Sniff.is (c.in-Err-read_network-3.ensures.err SniffJob out)
+
+pub returns-in-Ok-read_network-4-clause-read : goal.returns-in-Ok-read_network-4-clause-read
+unfolding plan_of
+returns-in-Ok-read_network-4-clause-read g c = rw c.in-Check.is (tells_size _ _ _ _ _ _ _ c.in-Ok-read_network-4.ensures.ok)
+
+pub returns-in-Err-read_network-4-clause-read : goal.returns-in-Err-read_network-4-clause-read
+unfolding plan_of
+returns-in-Err-read_network-4-clause-read g c = λ out. rw c.in-Check.is (c.in-Err-read_network-4.ensures.err SizeJob out)
 
 pub returns-in-Ok-lone_node-clause-read : goal.returns-in-Ok-lone_node-clause-read
 unfolding plan_of

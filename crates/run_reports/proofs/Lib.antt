@@ -1,0 +1,5 @@
+pub mod Steps
+pub mod Given
+pub mod Cycles
+pub mod Runs
+pub mod Feeding
