@@ -8,6 +8,7 @@ use Rattle.avr_decoder.specs.Class.{class_of}
 use Rattle.avr_decoder.specs.declared.op.Class.{Class}
 use Rattle.avr_decoder.specs.declared.op.Class.TheVariants as class
 use Rattle.avr_decoder.specs.declared.op.Op.{Op}
+use Rattle.avr_decoder.specs.declared.op.Op.TheVariants as op
 use Rattle.bus_step.specs.FlowTable.{is_flow}
 use Rattle.bus_step.specs.MemoryTable.{is_memory}
 use Rattle.bus_step.proofs.FlowTakes.{flow_takes}
@@ -16,6 +17,7 @@ use Rattle.data_space.specs.declared.bus.Done.{Done}
 use Rattle.data_space.specs.declared.cpu.Cpu.{Cpu}
 use Rattle.data_space.specs.Sequence.{Outcome}
 use Rattle.node_core.specs.declared.bus.NodeBus.{NodeBus}
+use Rattle.node_core.specs.Apart.{is_apart}
 use Rattle.node_core.specs.Bus.{bus_get, bus_put}
 use Rattle.node_core.specs.Execute.{executed, executed_by}
 use Rattle.node_core.proofs.Takes.{arith_takes}
@@ -37,6 +39,12 @@ memory_class class.Arith e = absurd (false≢true e)
 memory_class class.Flow e = absurd (false≢true e)
 memory_class class.Memory e = refl
 memory_class (class.Halting cause) e = absurd (false≢true e)
+
+-- neither SLEEP nor RETI works on registers and flags alone
+pub arith_apart : (o : Op) → is_arith (class_of o) ≡ true → is_apart o ≡ false
+arith_apart op.Sleep e = absurd (false≢true e)
+arith_apart op.Reti e = absurd (false≢true e)
+arith_apart _ e = refl
 
 abbrev pub Takes : Result Done StopCause → Type 0
 Takes r = IfOk r (λ d. 1 ≤ d.cycles)

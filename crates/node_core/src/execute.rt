@@ -26,7 +26,7 @@ pub fn execute(op: &Op, flash: &Flash, cpu: &mut Cpu, bus: &mut NodeBus) -> Resu
 
 // So an instruction that does not work on registers and flags alone.
 #[inline(always)]
-fn execute_on_bus(
+pub fn execute_on_bus(
     op: &Op,
     flash: &Flash,
     cpu: &mut Cpu,

@@ -12,6 +12,7 @@ mod node;
 mod rests;
 mod row;
 mod rows;
+mod sprint;
 mod stride;
 
 pub use bus::NodeBus;

@@ -70,7 +70,7 @@ fn is_other(mode: Sleep) -> bool
 
 // Whether an instruction is owed before the next interrupt is entered. SEI and RETI leave I set, so without it none is.
 #[inline(always)]
-fn owes(op: &Op, before: u8, after: u8) -> bool
+pub fn owes(op: &Op, before: u8, after: u8) -> bool
     requires { is_sei op.now ≡ true → 128 ≤ after }
     ensures { result ≡ owes op.now before after }
 {
@@ -147,7 +147,8 @@ pub struct Machine {
 
 impl Machine {
     // A stop of the instruction at an address.
-    fn halt(&mut self, cycle: u64, pc: u16, cause: StopCause)
+    #[inline(never)]
+    pub fn halt(&mut self, cycle: u64, pc: u16, cause: StopCause)
         requires room { vec_len self.old.rows < vec_capacity self.old.rows }
         ensures state { shown self.new ≡ record (shown self.old) { stop = Some cause } }
         ensures rows { self.new.rows.items ≡ self.old.rows.items ++ row cycle (shown self.old) (kind.Stop pc cause) }
@@ -188,7 +189,7 @@ impl Machine {
     // What is left of the first cycle of an instruction that did not stop, by whether another is owed. The answer is that of
     // `instruct`.
     #[inline(always)]
-    fn end(&mut self, cycle: u64, pc: u16, owed: bool, done: Done) -> u8
+    pub fn end(&mut self, cycle: u64, pc: u16, owed: bool, done: Done) -> u8
         requires going { self.old.stop ≡ None }
         requires awake { self.old.asleep ≡ false }
         requires few { self.old.count ≤ 2 ^ 41 }
@@ -289,7 +290,7 @@ impl Machine {
 
     // The processor's part of a cycle in which it neither waits nor sleeps: how many cycles its instruction or its entry
     // takes, or 0 where the node stopped, executed SLEEP, or has a row more.
-    #[inline(always)]
+    #[inline(never)]
     pub fn act(&mut self, cycle: u64) -> u8
         requires few { self.old.count ≤ 2 ^ 41 }
         requires now { self.old.bus.board.clock ≡ cycle }
