@@ -1,8 +1,11 @@
 -- The table of the instructions on registers (AVR Instruction Set Manual, the operation, flags and cycles of each):
 -- the operands of its row in the shape of instruction that it has. A flag number and a bit number are taken modulo 8.
-use Rattle.std.specs.Prelude.{ℕ, ◌%◌, true, false, bit_and, bit_or, bit_xor, slice_index, nat_le}
+use Rattle.std.specs.Prelude.{ℕ, ◌%◌, Bool, true, false, if◌then◌else◌, bit_and, bit_or, bit_xor, slice_index, nat_le}
 use Rattle.avr_decoder.specs.declared.op.Op.{Op}
 use Rattle.avr_decoder.specs.declared.op.Op.TheVariants as op
+use Rattle.avr_decoder.specs.Class.{class_of}
+use Rattle.avr_decoder.specs.declared.op.Class.{Class}
+use Rattle.avr_decoder.specs.declared.op.Class.TheVariants.{Arith}
 use Rattle.arith_step.specs.declared.products.MulKind.TheVariants as kind
 use Rattle.arith_step.specs.Bytes.{complemented, negated, incremented, decremented, shifted}
 use Rattle.arith_step.specs.Words.{added_word, subtracted_word}
@@ -70,9 +73,14 @@ arith_cycles (op.Fmuls d r) = 2
 arith_cycles (op.Fmulsu d r) = 2
 arith_cycles _ = 1
 
--- registers and flags after an instruction, and the cycles that it takes
-abbrev pub applied : Op → Cpu → Cpu × ℕ
-applied instruction cpu = (effect instruction cpu, arith_cycles instruction)
+-- whether an instruction of this class works on registers and flags alone
+abbrev pub is_arith : Class → Bool
+is_arith Arith = true
+is_arith _ = false
+
+-- registers and flags after an instruction, and the cycles that it takes; 0 of one that is not executed here
+abbrev pub applied_if : Op → Cpu → Cpu × ℕ
+applied_if instruction cpu = if is_arith (class_of instruction) then (effect instruction cpu, arith_cycles instruction) else (cpu, 0)
 
 abbrev pub arith_done : Op → Done
 arith_done instruction = done (arith_cycles instruction)

@@ -1,8 +1,8 @@
 // One instruction on registers.
-ghost use Rattle.std.specs.Prelude.{◌≡◌};
+ghost use Rattle.std.specs.Prelude.{◌≡◌, true, false, is_some, IfSome};
 ghost use Rattle.avr_decoder.specs.Class.{class_of};
 ghost use Rattle.avr_decoder.specs.declared.op.Class.TheVariants.{Arith};
-ghost use Rattle.arith_step.specs.Table.{applied, arith_cpu, arith_done};
+ghost use Rattle.arith_step.specs.Table.{applied_if, arith_cpu, arith_done, is_arith};
 
 use crate::shapes::{
     add, compare, compare_with_carry, copy, copy_pair, load_bit, multiply, put_bits, put_byte,
@@ -24,19 +24,36 @@ pub fn exec(op: Op, cpu: &mut Cpu) -> Done
     ensures core { cpu.new ≡ arith_cpu op cpu.old }
     ensures done { result ≡ arith_done op }
 {
-    let cycles = apply(op, cpu);
-    cpu.advance(1);
-    Done {
-        cycles,
-        sleep: false,
+    match exec_if(op, cpu) {
+        Some(done) => done,
+        None => unreachable!(),
     }
 }
 
-#[inline]
+/// The same of any instruction: one that does not work on registers and flags alone is `None`, and changes nothing.
+#[inline(always)]
+pub fn exec_if(op: Op, cpu: &mut Cpu) -> Option<Done>
+    ensures which { is_some result ≡ is_arith (class_of op) }
+    ensures done { IfSome result (λ done. done ≡ arith_done op) }
+    ensures core { is_arith (class_of op) ≡ true → cpu.new ≡ arith_cpu op cpu.old }
+    ensures same { is_arith (class_of op) ≡ false → cpu.new ≡ cpu.old }
+{
+    let cycles = apply(op, cpu);
+    if cycles == 0 {
+        return None;
+    }
+    cpu.advance(1);
+    Some(Done {
+        cycles,
+        sleep: false,
+    })
+}
+
+// What it does to registers and flags, and its cycles: 0 of one that is not executed here.
+#[inline(always)]
 #[tactic(auto, unfolding(crate::specs::Table::effect))]
 fn apply(op: Op, cpu: &mut Cpu) -> u8
-    requires { class_of op ≡ Arith }
-    ensures { (cpu.new, result) ≡ applied op cpu.old }
+    ensures { (cpu.new, result) ≡ applied_if op cpu.old }
 {
     match op {
         Op::Add { d, r } => add(d, cpu.reg(r), false, cpu),
@@ -77,6 +94,6 @@ fn apply(op: Op, cpu: &mut Cpu) -> u8
         Op::Bld { d, b } => load_bit(d, b % 8, cpu),
         Op::Bst { d, b } => store_bit(d, b % 8, cpu),
         Op::Nop | Op::Wdr => 1,
-        _ => unreachable!(),
+        _ => 0,
     }
 }

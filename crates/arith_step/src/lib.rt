@@ -14,7 +14,7 @@ mod sums;
 mod words;
 
 pub use differences::{com, dec, neg, sub};
-pub use execute::exec;
+pub use execute::{exec, exec_if};
 pub use products::{MulKind, mul};
 pub use shifts::{asr, lsr, ror};
 pub use sums::{add, inc, logic};

@@ -1,4 +1,4 @@
 pub mod FlowKeeps
-mod FlowTakes
+pub mod FlowTakes
 pub mod MemoryKeeps
-mod MemoryTakes
+pub mod MemoryTakes

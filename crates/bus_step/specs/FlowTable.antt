@@ -1,7 +1,9 @@
 -- The table of the instructions of the program's flow (AVR Instruction Set Manual, the operation and cycles of each):
 -- the operands of its row in the shape of instruction that it has. A flag number and a bit number are taken modulo 8.
-use Rattle.std.specs.Prelude.{ℕ, ◌%◌, ◌==◌, true, false, List, Result, slice_index}
+use Rattle.std.specs.Prelude.{ℕ, ◌%◌, ◌==◌, Bool, true, false, List, Result, slice_index}
 use Rattle.avr_base.specs.declared.stop.StopCause.{StopCause}
+use Rattle.avr_decoder.specs.declared.op.Class.{Class}
+use Rattle.avr_decoder.specs.declared.op.Class.TheVariants.{Flow}
 use Rattle.avr_decoder.specs.declared.op.Op.{Op}
 use Rattle.avr_decoder.specs.declared.op.Op.TheVariants as op
 use Rattle.avr_decoder.specs.Words.{words_of}
@@ -29,3 +31,8 @@ flow_effect get put flash op.Ret cpu bus = returns get cpu bus
 flow_effect get put flash op.Reti cpu bus = returns_enabling get cpu bus
 flow_effect get put flash op.Sleep cpu bus = ends (record { cycles = 1; sleep = true }, advanced 1 cpu) bus
 flow_effect get put flash _ cpu bus = ends (done 1, cpu) bus  -- no other instruction is executed here
+
+-- whether an instruction of this class is executed here
+abbrev pub is_flow : Class → Bool
+is_flow Flow = true
+is_flow _ = false

@@ -1,7 +1,9 @@
 -- The table of the instructions on memory (AVR Instruction Set Manual, the operation, words and cycles of each): the
 -- operands of its row in the shape of instruction that it has. A bit number is taken modulo 8.
-use Rattle.std.specs.Prelude.{ℕ, ◌+◌, ◌%◌, true, false, List, Result, slice_index}
+use Rattle.std.specs.Prelude.{ℕ, ◌+◌, ◌%◌, Bool, true, false, List, Result, slice_index}
 use Rattle.avr_base.specs.declared.stop.StopCause.{StopCause}
+use Rattle.avr_decoder.specs.declared.op.Class.{Class}
+use Rattle.avr_decoder.specs.declared.op.Class.TheVariants.{Memory}
 use Rattle.avr_decoder.specs.declared.op.Op.{Op}
 use Rattle.avr_decoder.specs.declared.op.Op.TheVariants as op
 use Rattle.avr_decoder.specs.Words.{words_of}
@@ -55,3 +57,8 @@ memory_effect get put flash op.ElpmR0 cpu bus = ends 1 3 (loads_extended flash 0
 memory_effect get put flash (op.ElpmZ d) cpu bus = ends 1 3 (loads_extended flash d cpu) bus
 memory_effect get put flash (op.ElpmZInc d) cpu bus = ends 1 3 (loads_extended_post_increment flash d cpu) bus
 memory_effect get put flash _ cpu bus = ends 0 1 cpu bus  -- no other instruction is executed here
+
+-- whether an instruction of this class is executed here
+abbrev pub is_memory : Class → Bool
+is_memory Memory = true
+is_memory _ = false

@@ -1,8 +1,8 @@
 // One instruction of the program's flow.
-ghost use Rattle.std.specs.Prelude.{◌≡◌, ◌≤◌, IfOk};
+ghost use Rattle.std.specs.Prelude.{◌≡◌, ◌≤◌, is_some, IfOk, IfSome, IfNone};
 ghost use Rattle.avr_decoder.specs.Class.{class_of};
 ghost use Rattle.avr_decoder.specs.declared.op.Class.TheVariants.{Flow};
-ghost use Rattle.bus_step.specs.FlowTable.{flow_effect};
+ghost use Rattle.bus_step.specs.FlowTable.{flow_effect, is_flow};
 
 use crate::calls::{call, call_at_z, call_near, ret, reti, z};
 use crate::jumps::{bit, branch, jump, relative_to, skip, skip_by_io, sleep};
@@ -34,33 +34,43 @@ pub fn exec_flow<B: Bus>(
     // so the cycles can be counted down
     ensures takes { IfOk result (λ d. 1 ≤ d.cycles) }
 {
-    execute(op, flash, cpu, bus)
+    match exec_flow_if(op, flash, cpu, bus) {
+        Some(result) => result,
+        None => unreachable!(),
+    }
 }
 
-// The same, with all that an instruction leaves in one clause: so each arm is proved once, not three times.
-#[inline]
+/// The same of any instruction: one that is not of the program's flow is `None`, and changes nothing.
+#[inline(always)]
 #[tactic(auto, unfolding(crate::specs::FlowTable::flow_effect))]
-fn execute<B: Bus>(op: Op, flash: &Flash, cpu: &mut Cpu, bus: &mut B) -> Result<Done, StopCause>
-    requires { class_of op ≡ Flow }
-    ensures { record { result = result; cpu = cpu.new; bus = bus.new } ≡ flow_effect B.get_gives B.put_gives flash.now.bytes op cpu.old bus.old }
+pub fn exec_flow_if<B: Bus>(
+    op: Op,
+    flash: &Flash,
+    cpu: &mut Cpu,
+    bus: &mut B,
+) -> Option<Result<Done, StopCause>>
+    ensures which { is_some result ≡ is_flow (class_of op) }
+    // all that an instruction leaves in one clause: so each arm is proved once, not three times
+    ensures some { IfSome result (λ r. record { result = r; cpu = cpu.new; bus = bus.new } ≡ flow_effect B.get_gives B.put_gives flash.now.bytes op cpu.old bus.old) }
+    ensures none { IfNone result ((cpu.new ≡ cpu.old) × (bus.new ≡ bus.old)) }
 {
     match op {
-        Op::Jmp { k } => Ok(jump(3, k, cpu)),
-        Op::Rjmp { k } => Ok(jump(2, relative_to(k, cpu), cpu)),
-        Op::Ijmp => Ok(jump(2, z(cpu), cpu)),
-        Op::Brbs { s, k } => Ok(branch(bit(true, s % 8, cpu.sreg.bits), k, cpu)),
-        Op::Brbc { s, k } => Ok(branch(bit(false, s % 8, cpu.sreg.bits), k, cpu)),
-        Op::Cpse { d, r } => Ok(skip(cpu.reg(d) == cpu.reg(r), flash, cpu)),
-        Op::Sbrs { r, b } => Ok(skip(bit(true, b % 8, cpu.reg(r)), flash, cpu)),
-        Op::Sbrc { r, b } => Ok(skip(bit(false, b % 8, cpu.reg(r)), flash, cpu)),
-        Op::Sbis { a, b } => skip_by_io(a, b % 8, true, flash, cpu, bus),
-        Op::Sbic { a, b } => skip_by_io(a, b % 8, false, flash, cpu, bus),
-        Op::Call { k } => call(k, cpu, bus),
-        Op::Rcall { k } => call_near(k, cpu, bus),
-        Op::Icall => call_at_z(cpu, bus),
-        Op::Ret => ret(cpu, bus),
-        Op::Reti => reti(cpu, bus),
-        Op::Sleep => Ok(sleep(cpu)),
-        _ => unreachable!(),
+        Op::Jmp { k } => Some(Ok(jump(3, k, cpu))),
+        Op::Rjmp { k } => Some(Ok(jump(2, relative_to(k, cpu), cpu))),
+        Op::Ijmp => Some(Ok(jump(2, z(cpu), cpu))),
+        Op::Brbs { s, k } => Some(Ok(branch(bit(true, s % 8, cpu.sreg.bits), k, cpu))),
+        Op::Brbc { s, k } => Some(Ok(branch(bit(false, s % 8, cpu.sreg.bits), k, cpu))),
+        Op::Cpse { d, r } => Some(Ok(skip(cpu.reg(d) == cpu.reg(r), flash, cpu))),
+        Op::Sbrs { r, b } => Some(Ok(skip(bit(true, b % 8, cpu.reg(r)), flash, cpu))),
+        Op::Sbrc { r, b } => Some(Ok(skip(bit(false, b % 8, cpu.reg(r)), flash, cpu))),
+        Op::Sbis { a, b } => Some(skip_by_io(a, b % 8, true, flash, cpu, bus)),
+        Op::Sbic { a, b } => Some(skip_by_io(a, b % 8, false, flash, cpu, bus)),
+        Op::Call { k } => Some(call(k, cpu, bus)),
+        Op::Rcall { k } => Some(call_near(k, cpu, bus)),
+        Op::Icall => Some(call_at_z(cpu, bus)),
+        Op::Ret => Some(ret(cpu, bus)),
+        Op::Reti => Some(reti(cpu, bus)),
+        Op::Sleep => Some(Ok(sleep(cpu))),
+        _ => None,
     }
 }

@@ -9,5 +9,5 @@ mod flow;
 mod jumps;
 mod memory;
 
-pub use flow::exec_flow;
-pub use memory::exec_memory;
+pub use flow::{exec_flow, exec_flow_if};
+pub use memory::{exec_memory, exec_memory_if};

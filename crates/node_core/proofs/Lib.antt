@@ -8,6 +8,8 @@ pub mod Strides
 pub mod Untouched
 pub mod Clocks
 pub mod Sei
-pub mod Halting
 pub mod Acts
 pub mod Ran
+pub mod Executes
+pub mod Steps
+pub mod Sprints

@@ -26,17 +26,6 @@ use Rattle.node_core.specs.Interrupts.{due, entry}
 use Rattle.node_core.specs.Midway.{IsActed}
 use Rattle.node_core.specs.Shown.{shown}
 use Rattle.node_core.specs.State.{NodeState}
-use Rattle.node_core.proofs.Halting.{is_no_flow, no_sleep}
-
--- SEI and RETI do not access memory
-abbrev is_memory : Class → Bool
-is_memory class.Memory = true
-is_memory _ = false
-
-no_sei : (o : Op) → is_memory (class_of o) ≡ true → is_sei o ≡ false
-no_sei (op.Bset s) e = absurd (false≢true e)
-no_sei op.Reti e = absurd (false≢true e)
-no_sei _ e = refl
 
 skip : {A : Type 0} (b : Bool) (p q : A) → b ≡ false → q ≡ cond b p q
 skip b p q e = sym (ap (λ (x : Bool). cond x p q) e)
@@ -86,13 +75,6 @@ module _ (t wait : ℕ) (v : Vector) (m : Machine) (now : m.bus.board.clock ≡ 
   unfolding entered_rows
   let_in_rows l r is =
       ap (λ (x : Result (Unit {0}) StopCause). l ++ entry_rows t v (shown m) x) (sym is) ∙ ap (λ (x : Access (Unit {0}) NodeBus). l ++ entry_rows t v (shown m) x.result) here
-
--- an instruction on memory, and one on registers, by its class
-pub no_flow_runs : (s : NodeState) (o : Op) (k : Class) → class_of o ≡ k → is_no_flow k ≡ true → is_refused s o ≡ false
-no_flow_runs s o k e no_flow = ap (λ (b : Bool). b && is_other (sleep_mode s.bus.board)) (no_sleep o (ap is_no_flow e ∙ no_flow))
-
-pub memory_owes : (o : Op) (before after : ℕ) → class_of o ≡ class.Memory → (nat_lt before 128 && nat_le 128 after) ≡ owes o before after
-memory_owes o before after e = sym (ap (λ (b : Bool). b || (nat_lt before 128 && nat_le 128 after)) (no_sei o (ap is_memory e)))
 
 taken : {A : Type 0} (b : Bool) (p q : A) → b ≡ true → p ≡ cond b p q
 taken b p q e = sym (ap (λ (x : Bool). cond x p q) e)

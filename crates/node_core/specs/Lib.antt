@@ -6,4 +6,5 @@ pub mod Cycle
 pub mod Shown
 pub mod Inside
 pub mod Reached
+pub mod Apart
 pub mod Midway

@@ -1,13 +1,15 @@
 -- A run of a node that stands in the middle of a cycle: of that cycle the processor's part is done, the devices' is not. What
 -- that part did, and what the cycles did in which the node only rested.
-use Rattle.std.specs.Prelude.{◌≡◌, ◌<◌, ◌+◌, ℕ, None, false, is_some, List, [], ◌++◌, vec_len, vec_capacity}
+use Rattle.std.specs.Prelude.{◌≡◌, ◌<◌, ◌≤◌, ◌+◌, ◌-◌, ◌^◌, ℕ, Bool, None, true, false, is_some, List, [], ◌++◌, vec_len, vec_capacity}
 use Rattle.node_core.specs.declared.row.Row.{Row}
 use Rattle.world_core.specs.NodeRun.{AllQuiet, Timed, Comes, passed, passed_rows}
 use Rattle.node_core.specs.declared.machine.Machine.{Machine}
+use Rattle.node_core.specs.declared.sprint.Step.{Step}
+use Rattle.node_core.specs.declared.sprint.Step.TheVariants.{Other, Plain, Ended}
 use Rattle.node_core.specs.Inside.{IsGoing}
 use Rattle.node_core.specs.Shown.{shown}
 use Rattle.node_core.specs.State.{NodeState}
-use Rattle.node_core.specs.Cycle.{cpu_cycle, cpu_rows, node_kind}
+use Rattle.node_core.specs.Cycle.{cpu_cycle, cpu_rows, instructed, instructed_rows, node_kind}
 
 -- from v on the node came through quiet cycles to the beginning of cycle c, ran there, and is now at u with rows k
 pub record IsMidway (v : Timed NodeState Row) (c : ℕ) (u : NodeState) (k : List Row) : Type 0 where
@@ -37,3 +39,41 @@ pub record IsRested (t n : ℕ) (old new : Machine) : Type 0 where
   pub stop : new.stop ≡ None
   pub count : new.count ≡ old.count
   pub clock : new.bus.board.clock ≡ t + n
+
+-- an instruction of n cycles was executed whole in its first one, t, and told nothing; that it then waits is not kept
+pub record IsStepped (t n : ℕ) (old new : Machine) : Type 0 where
+  pub some : 0 < n
+  pub state : (let u : NodeState = record (shown new) { wait = n - 1 } in u) ≡ instructed t (shown old)
+  pub told : instructed_rows t (shown old) ≡ []
+  pub same : new.rows ≡ old.rows
+  pub going : new.stop ≡ None
+  pub awake : new.asleep ≡ false
+  pub free : new.wait ≡ 0
+  pub owed : new.owed ≡ false
+  pub to : new.to ≡ old.to
+  pub script : new.script ≡ old.script
+  pub count : new.count ≡ old.count + 1
+  pub clock : new.bus.board.clock ≡ old.bus.board.clock
+
+-- what a step of a sprint did in cycle t
+abbrev pub IsStep : ℕ → Step → Machine → Machine → Type 0
+IsStep t Other old new = new ≡ old
+IsStep t (Plain n) old new = IsStepped t n old new
+IsStep t Ended old new = IsActed 0 (instructed t (shown old)) (instructed_rows t (shown old)) old new
+
+-- from cycle t on it executed instruction after instruction, and came to the beginning of cycle c, or, where it is inside, to
+-- the middle of it
+pub record IsSprinted (t c : ℕ) (inside : Bool) (old new : Machine) : Type 0 where
+  pub comes : inside ≡ false → Comes node_kind (record { cycle = t; asking = false; state = shown old; rows = old.rows.items }) c (shown new) new.rows.items
+  pub midway : inside ≡ true → IsMidway (record { cycle = t; asking = false; state = shown old; rows = old.rows.items }) c (shown new) new.rows.items
+  pub same : inside ≡ false → new.rows ≡ old.rows
+  pub len : vec_len new.rows ≤ vec_len old.rows + 1
+  pub room : vec_capacity new.rows ≡ vec_capacity old.rows
+  pub script : inside ≡ false → new.script ≡ old.script
+  pub going : inside ≡ false → new.stop ≡ None
+  pub awake : inside ≡ false → new.asleep ≡ false
+  pub free : inside ≡ false → new.wait ≡ 0
+  pub clock : new.bus.board.clock ≡ c
+  pub few : inside ≡ false → new.count ≤ 2 ^ 40 + c
+  pub one_more : new.count ≤ 2 ^ 40 + c + 1
+  pub from : t ≤ c

@@ -4,6 +4,7 @@
 #![tactic(auto)]
 
 mod bus;
+mod execute;
 mod interrupts;
 mod law;
 mod machine;
@@ -11,6 +12,7 @@ mod node;
 mod rests;
 mod row;
 mod rows;
+mod sprint;
 mod stride;
 
 pub use bus::NodeBus;

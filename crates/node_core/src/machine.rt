@@ -12,15 +12,16 @@ ghost use Rattle.serial_ports.specs.Script.{script_byte};
 ghost use Rattle.board_io.specs.Board.{sleep_mode};
 ghost use Rattle.board_io.specs.Lines.{lines_of};
 ghost use Rattle.ihex_loader.specs.Flash.{word_at};
-ghost use Rattle.avr_base.specs.Lines.{pending_of};
+ghost use Rattle.avr_base.specs.Lines.{due_of, pending_of};
 
+use crate::execute::execute;
 use crate::interrupts::enter;
 use crate::rows::{is_within, put_row, tell, tell_instruction, unless_told};
 use crate::{Kind, NodeBus, Row};
 use avr_base::{Sreg, StopCause, Vector};
-use avr_decoder::{Class, Op};
+use avr_decoder::Op;
 use avr_program::Program;
-use board_io::Sleep;
+use board_io::{LaggingBoard, Sleep};
 use data_space::{Cpu, Done};
 use serial_ports::Script;
 use world_core::Heard;
@@ -36,26 +37,6 @@ fn is_set_interrupts(op: &Op) -> bool
     match op {
         Op::Bset { s } => *s == 7,
         Op::Reti => true,
-        _ => false,
-    }
-}
-
-// Whether a flag is I. Few instructions name a flag: it stands by itself, so that the test before it stays a jump.
-#[inline(never)]
-fn is_enable(flag: u8) -> bool
-    ensures { result ≡ (flag == 7) }
-{
-    flag == 7
-}
-
-// SEI, of the instructions on registers: one comparison, where a choice among several instructions is a table of jumps.
-#[inline(always)]
-fn is_enabling(op: &Op) -> bool
-    requires { class_of op.now ≡ class.Arith }
-    ensures { result ≡ is_sei op.now }
-{
-    match op {
-        Op::Bset { s } => is_enable(*s),
         _ => false,
     }
 }
@@ -87,17 +68,9 @@ fn is_other(mode: Sleep) -> bool
     }
 }
 
-// Whether an instruction turned the flag I on, by SREG before it and after it.
-#[inline(always)]
-fn turns_on(before: u8, after: u8) -> bool
-    ensures { result ≡ (nat_lt before 128 && nat_le 128 after) }
-{
-    before < 128 && after >= 128
-}
-
 // Whether an instruction is owed before the next interrupt is entered. SEI and RETI leave I set, so without it none is.
 #[inline(always)]
-fn owes(op: &Op, before: u8, after: u8) -> bool
+pub fn owes(op: &Op, before: u8, after: u8) -> bool
     requires { is_sei op.now ≡ true → 128 ≤ after }
     ensures { result ≡ owes op.now before after }
 {
@@ -105,19 +78,6 @@ fn owes(op: &Op, before: u8, after: u8) -> bool
         return false;
     }
     before < 128 || is_set_interrupts(op)
-}
-
-// So an instruction on registers.
-#[inline(always)]
-fn owes_after_compute(op: &Op, before: u8, after: u8) -> bool
-    requires class { class_of op.now ≡ class.Arith }
-    requires on { is_sei op.now ≡ true → 128 ≤ after }
-    ensures { result ≡ owes op.now before after }
-{
-    if after < 128 {
-        return false;
-    }
-    before < 128 || is_enabling(op)
 }
 
 // What the radio does in a cycle, by whether it samples the air and what it sends.
@@ -130,6 +90,30 @@ fn in_the_air(asks: bool, sent: Option<u8>) -> OnAir
     match sent {
         Some(byte) => OnAir::Sent { byte },
         None => OnAir::Quiet,
+    }
+}
+
+// The interrupt that waits to be let in.
+#[inline]
+fn pending(board: &LaggingBoard) -> Option<Vector>
+    ensures { result ≡ pending_of (lines_of board.now) }
+{
+    let lines = board.lines();
+    if lines.bits == 0 {
+        return None;
+    }
+    avr_base::pending(lines)
+}
+
+// The interrupt that is due, by SREG and the board.
+#[inline(always)]
+fn due(sreg: Sreg, board: &LaggingBoard) -> Option<Vector>
+    ensures { result ≡ due_of sreg.bits (lines_of board.now) }
+{
+    if sreg.has(Sreg::I) {
+        pending(board)
+    } else {
+        None
     }
 }
 
@@ -163,7 +147,8 @@ pub struct Machine {
 
 impl Machine {
     // A stop of the instruction at an address.
-    fn halt(&mut self, cycle: u64, pc: u16, cause: StopCause)
+    #[inline(never)]
+    pub fn halt(&mut self, cycle: u64, pc: u16, cause: StopCause)
         requires room { vec_len self.old.rows < vec_capacity self.old.rows }
         ensures state { shown self.new ≡ record (shown self.old) { stop = Some cause } }
         ensures rows { self.new.rows.items ≡ self.old.rows.items ++ row cycle (shown self.old) (kind.Stop pc cause) }
@@ -204,7 +189,7 @@ impl Machine {
     // What is left of the first cycle of an instruction that did not stop, by whether another is owed. The answer is that of
     // `instruct`.
     #[inline(always)]
-    fn end(&mut self, cycle: u64, pc: u16, owed: bool, done: Done) -> u8
+    pub fn end(&mut self, cycle: u64, pc: u16, owed: bool, done: Done) -> u8
         requires going { self.old.stop ≡ None }
         requires awake { self.old.asleep ≡ false }
         requires few { self.old.count ≤ 2 ^ 41 }
@@ -226,87 +211,12 @@ impl Machine {
         done.cycles
     }
 
-    // The first cycle of an instruction on registers and flags. The answer is that of `instruct`.
-    #[inline(always)]
-    fn instruct_registers(&mut self, cycle: u64, op: &Op) -> u8
-        requires fetched { op.now ≡ op_now (shown self.old) }
-        requires class { class_of op.now ≡ class.Arith }
-        requires going { self.old.stop ≡ None }
-        requires awake { self.old.asleep ≡ false }
-        requires few { self.old.count ≤ 2 ^ 41 }
-        requires now { self.old.bus.board.clock ≡ cycle }
-        requires room { vec_len self.old.rows < vec_capacity self.old.rows }
-        ensures { IsActed result (instructed cycle (shown self.old)) (instructed_rows cycle (shown self.old)) self.old self.new }
-    {
-        let pc = self.cpu.pc;
-        let before = self.cpu.sreg.bits;
-        let done = arith_step::exec(*op, &mut self.cpu);
-        let owed = owes_after_compute(op, before, self.cpu.sreg.bits);
-        self.end(cycle, pc, owed, done)
-    }
-
     // Whether an instruction is SLEEP in a mode other than idle.
     #[inline(always)]
     fn refuses(&self, op: &Op) -> bool
         ensures { result ≡ is_refused (shown self.now) op.now }
     {
         is_sleep(op) && is_other(self.bus.board.sleep_mode())
-    }
-
-    // The first cycle of an instruction of the program's flow. The answer is that of `instruct`.
-    #[inline(always)]
-    fn instruct_flow(&mut self, cycle: u64, op: &Op) -> u8
-        requires fetched { op.now ≡ op_now (shown self.old) }
-        requires class { class_of op.now ≡ class.Flow }
-        requires going { self.old.stop ≡ None }
-        requires awake { self.old.asleep ≡ false }
-        requires few { self.old.count ≤ 2 ^ 41 }
-        requires now { self.old.bus.board.clock ≡ cycle }
-        requires room { vec_len self.old.rows < vec_capacity self.old.rows }
-        ensures { IsActed result (instructed cycle (shown self.old)) (instructed_rows cycle (shown self.old)) self.old self.new }
-    {
-        let pc = self.cpu.pc;
-        if self.refuses(op) {
-            self.halt(cycle, pc, StopCause::SleepMode);
-            return 0;
-        }
-        let before = self.cpu.sreg.bits;
-        match bus_step::exec_flow(*op, self.program.flash(), &mut self.cpu, &mut self.bus) {
-            Ok(done) => {
-                let owed = owes(op, before, self.cpu.sreg.bits);
-                self.end(cycle, pc, owed, done)
-            }
-            Err(cause) => {
-                self.halt(cycle, pc, cause);
-                0
-            }
-        }
-    }
-
-    // The first cycle of an instruction on memory. The answer is that of `instruct`.
-    #[inline(always)]
-    fn instruct_memory(&mut self, cycle: u64, op: &Op) -> u8
-        requires fetched { op.now ≡ op_now (shown self.old) }
-        requires class { class_of op.now ≡ class.Memory }
-        requires going { self.old.stop ≡ None }
-        requires awake { self.old.asleep ≡ false }
-        requires few { self.old.count ≤ 2 ^ 41 }
-        requires now { self.old.bus.board.clock ≡ cycle }
-        requires room { vec_len self.old.rows < vec_capacity self.old.rows }
-        ensures { IsActed result (instructed cycle (shown self.old)) (instructed_rows cycle (shown self.old)) self.old self.new }
-    {
-        let pc = self.cpu.pc;
-        let before = self.cpu.sreg.bits;
-        match bus_step::exec_memory(*op, self.program.flash(), &mut self.cpu, &mut self.bus) {
-            Ok(done) => {
-                let owed = turns_on(before, self.cpu.sreg.bits);
-                self.end(cycle, pc, owed, done)
-            }
-            Err(cause) => {
-                self.halt(cycle, pc, cause);
-                0
-            }
-        }
     }
 
     // The first cycle of an instruction: how many it takes, or 0 where the node stopped, executed SLEEP, or has a row
@@ -320,13 +230,20 @@ impl Machine {
         requires room { vec_len self.old.rows < vec_capacity self.old.rows }
         ensures { IsActed result (instructed cycle (shown self.old)) (instructed_rows cycle (shown self.old)) self.old self.new }
     {
-        let op = self.program.op(self.cpu.pc);
-        match op.class() {
-            Class::Arith => self.instruct_registers(cycle, &op),
-            Class::Flow => self.instruct_flow(cycle, &op),
-            Class::Memory => self.instruct_memory(cycle, &op),
-            Class::Halting(cause) => {
-                self.halt(cycle, self.cpu.pc, cause);
+        let pc = self.cpu.pc;
+        let op = self.program.op(pc);
+        if self.refuses(&op) {
+            self.halt(cycle, pc, StopCause::SleepMode);
+            return 0;
+        }
+        let before = self.cpu.sreg.bits;
+        match execute(&op, self.program.flash(), &mut self.cpu, &mut self.bus) {
+            Ok(done) => {
+                let owed = owes(&op, before, self.cpu.sreg.bits);
+                self.end(cycle, pc, owed, done)
+            }
+            Err(cause) => {
+                self.halt(cycle, pc, cause);
                 0
             }
         }
@@ -363,33 +280,17 @@ impl Machine {
         }
     }
 
-    // The interrupt that waits to be let in.
-    #[inline]
-    fn pending(&self) -> Option<Vector>
-        ensures { result ≡ pending_of (lines_of (shown self.now).bus.board) }
-    {
-        let lines = self.bus.board.lines();
-        if lines.bits == 0 {
-            return None;
-        }
-        avr_base::pending(lines)
-    }
-
     // The interrupt that is due.
     #[inline(always)]
     pub fn due(&self) -> Option<Vector>
         ensures { result ≡ due (shown self.now) }
     {
-        if self.cpu.sreg.has(Sreg::I) {
-            self.pending()
-        } else {
-            None
-        }
+        due(self.cpu.sreg, &self.bus.board)
     }
 
     // The processor's part of a cycle in which it neither waits nor sleeps: how many cycles its instruction or its entry
     // takes, or 0 where the node stopped, executed SLEEP, or has a row more.
-    #[inline(always)]
+    #[inline(never)]
     pub fn act(&mut self, cycle: u64) -> u8
         requires few { self.old.count ≤ 2 ^ 41 }
         requires now { self.old.bus.board.clock ≡ cycle }

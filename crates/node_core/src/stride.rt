@@ -1,13 +1,35 @@
 // Whole instructions of a node up to the next event of its devices.
 ghost use Rattle.std.specs.Prelude.{◌≡◌, ◌≤◌, ◌<◌, ◌+◌, ◌-◌, ◌^◌, ℕ, None, true, false, vec_len, vec_capacity};
-ghost use Rattle.node_core.specs.Inside.{IsGoing, IsPassed};
+ghost use Rattle.node_core.specs.Inside.{IsCalm, IsGoing, IsPassed};
 ghost use Rattle.node_core.specs.Midway.{IsMidway};
+ghost use Rattle.board_io.specs.Cycle.{timers_leap};
+ghost use Rattle.node_core.specs.Bus.{with_board};
 ghost use Rattle.node_core.specs.Shown.{shown};
 ghost use Rattle.serial_ports.specs.Script.{script_byte};
 
 use crate::machine::Machine;
 
 impl Machine {
+    // The devices' part of the cycle `cycle` and of the others of an instruction of `taken` cycles that began in it, if they
+    // end by `end`, up to which no byte arrives, and the devices end nothing in them: whether it was so.
+    #[inline(always)]
+    pub fn passes_whole(&mut self, cycle: u64, end: u64, taken: u8) -> bool
+        requires now { self.old.bus.board.clock ≡ cycle }
+        requires early { cycle ≤ 2 ^ 40 }
+        requires none { (i : ℕ) → cycle + i < end → script_byte self.old.script (cycle + i) ≡ None }
+        ensures calm { result ≡ true → IsCalm cycle taken (shown self.old) }
+        ensures state { result ≡ true → shown self.new ≡ record (shown self.old) { bus = with_board (shown self.old).bus (timers_leap cycle taken (shown self.old).bus.board) } }
+        ensures same { result ≡ false → self.new ≡ self.old }
+        ensures others { self.new ≡ record self.old { bus = self.new.bus } }
+        ensures clock { result ≡ true → self.new.bus.board.clock ≡ cycle + taken }
+        ensures within { result ≡ true → cycle + taken ≤ end }
+    {
+        if cycle + u64::from(taken) > end {
+            return false;
+        }
+        self.bus.board.passes(cycle, taken)
+    }
+
     // The devices' part of the cycle `cycle`, in which an instruction begins that takes `taken` cycles, and its other cycles,
     // if they end by `end`, up to which no byte arrives, and the devices end nothing in them: whether it was so. Not where
     // `taken` is 0.
@@ -23,10 +45,7 @@ impl Machine {
         ensures clock { result ≡ true → self.new.bus.board.clock ≡ cycle + taken }
         ensures within { result ≡ true → cycle + taken ≤ end }
     {
-        if taken == 0 || cycle + u64::from(taken) > end {
-            return false;
-        }
-        if !self.bus.board.passes(cycle, taken) {
+        if taken == 0 || !self.passes_whole(cycle, end, taken) {
             return false;
         }
         self.wait = 0;
@@ -55,6 +74,11 @@ impl Machine {
         let end = cycle + self.script.quiet(cycle, most - 1);
         let mut at = cycle;
         loop {
+            let sprinted = self.sprint(at, end);
+            at = sprinted.at;
+            if sprinted.inside {
+                return at - cycle;
+            }
             let taken = self.act(at);
             if !self.finish_instruction(at, end, taken) {
                 return at - cycle;

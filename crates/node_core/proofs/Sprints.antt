@@ -1,0 +1,161 @@
+-- A sprint: what holds of it at the beginning of a cycle, and how a step takes it on or ends it.
+use Rattle.std.proofs.Common.{◌≡◌, ℕ, ◌+◌, ◌-◌, ◌<◌, ◌≤◌, ◌^◌, ◌++◌, Bool, true, false, Option, Some, None, List, is_some, refl, sym, subst, ap, ◌∙◌, arith}
+use Rattle.std.proofs.lemmas.Bool.{false≢true}
+use Rattle.std.specs.Prelude.{vec_len, vec_capacity}
+use Rattle.avr_base.specs.Lines.{due_of}
+use Rattle.board_io.specs.Cycle.{timers_leap}
+use Rattle.board_io.specs.Lines.{lines_of}
+use Rattle.board_io.proofs.Lags.{lines_clock}
+use Rattle.world_core.specs.NodeRun.{Comes, Timed}
+use Rattle.world_core.proofs.QuietCycles.{comes_none}
+use Rattle.node_core.specs.declared.bus.NodeBus.{NodeBus}
+use Rattle.node_core.specs.declared.machine.Machine.{Machine}
+use Rattle.node_core.specs.declared.row.Row.{Row}
+use Rattle.node_core.specs.Bus.{with_board}
+use Rattle.node_core.specs.Cycle.{instructed, instructed_rows, node_kind}
+use Rattle.node_core.specs.Inside.{IsCalm}
+use Rattle.node_core.specs.Interrupts.{due}
+use Rattle.node_core.specs.Midway.{IsActed, IsMidway, IsSprinted, IsStepped}
+use Rattle.node_core.specs.Shown.{shown}
+use Rattle.node_core.specs.State.{NodeState}
+use Rattle.node_core.proofs.Acts.{one_more, one_row}
+use Rattle.node_core.proofs.Ran.{goes_on}
+use Rattle.node_core.proofs.Steps.{began, ended, went}
+
+pub none_of : {A : Type 0} (o : Option A) → is_some o ≡ false → o ≡ None
+none_of None e = refl
+none_of (Some a) e = absurd (false≢true (sym e))
+
+pub none_due : (m : Machine) → due_of m.cpu.sreg.bits (lines_of m.bus.board) ≡ None → due (shown m) ≡ None
+none_due m none = ap (due_of m.cpu.sreg.bits) (lines_clock 0 m.bus.board) ∙ none
+
+pub record IsSprinting (t at : ℕ) (old m : Machine) : Type 0 where
+  pub from : t ≤ at
+  pub comes : Comes node_kind (record { cycle = t; asking = false; state = shown old; rows = old.rows.items }) at (shown m) m.rows.items
+  pub going : m.stop ≡ None
+  pub free : m.wait ≡ 0
+  pub awake : m.asleep ≡ false
+  pub owed : m.owed ≡ false
+  pub behind : m.to ≤ at
+  pub clock : m.bus.board.clock ≡ at
+  pub script : m.script ≡ old.script
+  pub count : m.count ≤ 2 ^ 40 + at
+  pub rows : m.rows ≡ old.rows
+
+-- none at all
+pub stands : (t : ℕ) (m : Machine) → m.stop ≡ None → m.wait ≡ 0 → m.asleep ≡ false → m.bus.board.clock ≡ t → m.count ≤ 2 ^ 40 + t → IsSprinted t t false m m
+stands t m going free awake clock count = record {
+  comes = λ e. comes_none node_kind (let v : Timed NodeState Row = record { cycle = t; asking = false; state = shown m; rows = m.rows.items } in v);
+  midway = λ e. absurd (false≢true e);
+  same = λ e. refl;
+  len = omega arith;
+  room = refl;
+  script = λ e. refl;
+  going = λ e. going;
+  awake = λ e. awake;
+  free = λ e. free;
+  clock = clock;
+  few = λ e. count;
+  one_more = omega (arith, count);
+  from = omega arith;
+}
+
+module _ (t at : ℕ) (old m : Machine) (h : IsSprinting t at old m) where
+  abbrev v : Timed NodeState Row
+  v = record { cycle = t; asking = false; state = shown old; rows = old.rows.items }
+
+  pub stays : IsSprinted t at false old m
+  stays =
+      let count = h.count in
+      let len : vec_len m.rows ≡ vec_len old.rows = ap (λ x. vec_len x) h.rows in
+      record {
+        comes = λ e. h.comes;
+        midway = λ e. absurd (false≢true e);
+        same = λ e. h.rows;
+        len = omega (arith, len);
+        room = ap (λ x. vec_capacity x) h.rows;
+        script = λ e. h.script;
+        going = λ e. h.going;
+        awake = λ e. h.awake;
+        free = λ e. h.free;
+        clock = h.clock;
+        few = λ e. count;
+        one_more = omega (arith, count);
+        from = h.from;
+      }
+
+  module _ (new : Machine) (none : due (shown m) ≡ None) where
+    pub ends : IsActed 0 (instructed at (shown m)) (instructed_rows at (shown m)) m new → IsSprinted t at true old new
+    ends a =
+        let on = goes_on at (shown m) h.free h.awake none in
+        let few = one_row at (shown m) m.rows.items new.rows.items (a.rows ∙ ap (λ (l : List Row). m.rows.items ++ l) on.1) in
+        let more = one_more at (shown m) (shown new) (a.state ∙ on.0) in
+        let count = h.count in
+        let len : vec_len m.rows ≡ vec_len old.rows = ap (λ x. vec_len x) h.rows in
+        record {
+          comes = λ e. absurd (false≢true (sym e));
+          midway = λ e. ended v at 0 m new m.rows.items h.comes h.going h.free h.awake none a refl;
+          same = λ e. absurd (false≢true (sym e));
+          len = omega (arith, few, len);
+          room = a.room ∙ ap (λ x. vec_capacity x) h.rows;
+          script = λ e. absurd (false≢true (sym e));
+          going = λ e. absurd (false≢true (sym e));
+          awake = λ e. absurd (false≢true (sym e));
+          free = λ e. absurd (false≢true (sym e));
+          clock = a.clock ∙ h.clock;
+          few = λ e. absurd (false≢true (sym e));
+          one_more = omega (arith, more, count);
+          from = h.from;
+        }
+
+  module _ (n : ℕ) (w : Machine) (none : due (shown m) ≡ None) (p : IsStepped at n m w) where
+    pub breaks : IsSprinted t at true old (let x : Machine = record w { wait = n - 1 } in x)
+    breaks =
+        let rows : w.rows.items ≡ m.rows.items = ap (λ x. x.items) p.same in
+        let u : NodeState = record (shown w) { wait = n - 1 } in
+        let mid : IsMidway v at u m.rows.items = began v at n m w m.rows.items h.comes h.going h.free h.awake none p in
+        let count = h.count in
+        let more = p.count in
+        let len : vec_len w.rows ≡ vec_len old.rows = ap (λ x. vec_len x) (p.same ∙ h.rows) in
+        record {
+          comes = λ e. absurd (false≢true (sym e));
+          midway = λ e. subst (IsMidway v at u) (sym rows) mid;
+          same = λ e. absurd (false≢true (sym e));
+          len = omega (arith, len);
+          room = ap (λ x. vec_capacity x) (p.same ∙ h.rows);
+          script = λ e. absurd (false≢true (sym e));
+          going = λ e. absurd (false≢true (sym e));
+          awake = λ e. absurd (false≢true (sym e));
+          free = λ e. absurd (false≢true (sym e));
+          clock = p.clock ∙ h.clock;
+          few = λ e. absurd (false≢true (sym e));
+          one_more = omega (arith, more, count);
+          from = h.from;
+        }
+
+    pub goes : (bus : NodeBus) → IsCalm at n (shown w)
+        → (let x : Machine = record w { bus = bus } in shown x) ≡ (let s : NodeState = record (shown w) { bus = with_board (shown w).bus (timers_leap at n (shown w).bus.board) } in s)
+        → bus.board.clock ≡ at + n → IsSprinting t (at + n) old (let x : Machine = record w { bus = bus } in x)
+    goes bus calm state clock =
+        let rows : w.rows.items ≡ m.rows.items = ap (λ x. x.items) p.same in
+        let some = p.some in
+        let count = h.count in
+        let more = p.count in
+        let behind = h.behind in
+        let to = p.to in
+        let from = h.from in
+        let x : Machine = record w { bus = bus } in
+        let there = went v at n m w m.rows.items h.comes h.going h.free h.awake none p calm in
+        record {
+          from = omega (arith, from);
+          comes = subst (Comes node_kind v (at + n) (shown x)) (sym rows) (subst (λ (s : NodeState). Comes node_kind v (at + n) s m.rows.items) (sym state) there);
+          going = p.going;
+          free = p.free;
+          awake = p.awake;
+          owed = p.owed;
+          behind = omega (arith, behind, to);
+          clock = clock;
+          script = p.script ∙ h.script;
+          count = omega (arith, count, more, some);
+          rows = p.same ∙ h.rows;
+        }

@@ -1,0 +1,137 @@
+-- A step of a sprint: the processor's part of its cycle, of an instruction that goes on.
+use Rattle.std.proofs.Common.{◌≡◌, ℕ, ◌+◌, ◌-◌, ◌<◌, ◌≤◌, ◌&&◌, ◌++◌, nat_le, nat_lt, Bool, true, false, cond, Option, Some, None, List, [], is_some, append-nil, refl, sym, subst, ap, ◌∙◌, arith}
+use Rattle.std.proofs.lemmas.Bool.{false≢true}
+use Rattle.std.proofs.lemmas.Bool.Decides.{nat_tests}
+use Rattle.std.specs.Prelude.{Ok}
+use Rattle.avr_decoder.specs.declared.op.Op.{Op}
+use Rattle.avr_decoder.specs.declared.op.Op.TheVariants as op
+use Rattle.board_io.specs.Board.{sleep_mode}
+use Rattle.board_io.specs.Cycle.{timers_leap}
+use Rattle.data_space.specs.declared.bus.Done.{Done}
+use Rattle.data_space.specs.declared.cpu.Cpu.{Cpu}
+use Rattle.data_space.specs.Sequence.{Outcome}
+use Rattle.world_core.specs.NodeRun.{Comes, Timed, passed_rows}
+use Rattle.world_core.proofs.QuietCycles.{comes_step}
+use Rattle.node_core.specs.declared.bus.NodeBus.{NodeBus}
+use Rattle.node_core.specs.declared.machine.Machine.{Machine}
+use Rattle.node_core.specs.declared.row.Row.{Row}
+use Rattle.node_core.specs.declared.row.Kind.TheVariants as kind
+use Rattle.node_core.specs.Apart.{is_apart}
+use Rattle.node_core.specs.Bus.{bus_at, with_board}
+use Rattle.node_core.specs.Cycle.{first_word, instructed, instructed_rows, is_idle, is_other, is_refused, is_sleep, node_kind, op_now, owes, row, second_word}
+use Rattle.node_core.specs.Execute.{executed}
+use Rattle.node_core.specs.Inside.{IsCalm}
+use Rattle.node_core.specs.Interrupts.{due}
+use Rattle.node_core.specs.Midway.{IsActed, IsMidway, IsStepped}
+use Rattle.node_core.specs.Shown.{shown}
+use Rattle.node_core.specs.State.{NodeState}
+use Rattle.node_core.proofs.Clocks.{executed_clock}
+use Rattle.node_core.proofs.Ran.{goes_on, ran, ran_rows}
+use Rattle.node_core.proofs.Strides.{passed_there}
+
+awake_of : (o : Op) → is_apart o ≡ false → is_sleep o ≡ false
+awake_of op.Sleep e = absurd (false≢true (sym e))
+awake_of _ e = refl
+
+pub runs_on : (s : NodeState) (o : Op) → is_apart o ≡ false → is_refused s o ≡ false
+runs_on s o e = ap (λ (b : Bool). b && is_other (sleep_mode s.bus.board)) (awake_of o e)
+
+and_false : (b c : Bool) → c ≡ false → (b && c) ≡ false
+and_false true c e = e
+and_false false c e = refl
+
+-- behind the window, of an instruction that owes none and does not sleep
+module _ (t : ℕ) (m : Machine) (o : Op) (fetched : o ≡ op_now (shown m)) (apart : is_apart o ≡ false) (now : m.bus.board.clock ≡ t) (behind : m.to ≤ t)
+    (a : Outcome NodeBus) (flash : List ℕ) (kept : flash ≡ m.program.bytes) (done : a ≡ executed flash o m.cpu m.bus) (d : Done) (ok : a.result ≡ Ok d) where
+  abbrev s : NodeState
+  s = shown m
+
+  pub stepped_state : owes o m.cpu.sreg.bits a.cpu.sreg.bits ≡ false → d.sleep ≡ false → m.owed ≡ false → m.asleep ≡ false
+      → (let u : NodeState = record (shown m) { cpu = a.cpu; bus = bus_at 0 a.bus; wait = d.cycles - 1; count = m.count + 1 } in u) ≡ instructed t (shown m)
+  stepped_state none wakes owed awake =
+      (λ i. let u : NodeState = record s {
+        cpu = a.cpu;
+        bus = bus_at 0 a.bus;
+        wait = d.cycles - 1;
+        owed = (owed ∙ sym none) i;
+        asleep = (awake ∙ sym (ap (λ (b : Bool). b && is_idle (sleep_mode a.bus.board)) wakes)) i;
+        count = m.count + 1;
+      } in u)
+      ∙ ran t m o fetched (runs_on s o apart) now a flash kept done (Ok d) ok
+
+  pub stepped_rows : instructed_rows t (shown m) ≡ []
+  stepped_rows =
+      let window : (nat_le m.from t && nat_lt t m.to) ≡ false = and_false _ _ (let b : nat_lt t m.to ≡ false = grind (arith, nat_tests) in b) in
+      sym (ran_rows t m o fetched (runs_on s o apart) now a flash kept done [] (Ok d) ok)
+      ∙ ap (λ (b : Bool). cond b (row t s (kind.Instr s.cpu.pc (first_word s) (second_word s))) []) window
+
+  pub gone : owes o m.cpu.sreg.bits a.cpu.sreg.bits ≡ false → d.sleep ≡ false → 1 ≤ d.cycles → m.owed ≡ false → m.asleep ≡ false → m.stop ≡ None → m.wait ≡ 0
+      → IsStepped t d.cycles m (let x : Machine = record m { cpu = a.cpu; bus = a.bus; count = m.count + 1 } in x)
+  gone none wakes some owed awake going free = record {
+    some = some;
+    state = stepped_state none wakes owed awake;
+    told = stepped_rows;
+    same = refl;
+    going = going;
+    awake = awake;
+    free = free;
+    owed = owed;
+    to = refl;
+    script = refl;
+    count = refl;
+    clock = ap (λ (x : Outcome NodeBus). x.bus.board.clock) done ∙ executed_clock flash o m.cpu m.bus;
+  }
+
+-- ---- a run that came to such a cycle
+module _ (v : Timed NodeState Row) (t n : ℕ) (m new : Machine) (k : List Row) (first : Comes node_kind v t (shown m) k) (going : m.stop ≡ None)
+    (free : m.wait ≡ 0) (awake : m.asleep ≡ false) (none : due (shown m) ≡ None) where
+  -- it ended in it
+  pub ended : IsActed 0 (instructed t (shown m)) (instructed_rows t (shown m)) m new → m.rows.items ≡ k → IsMidway v t (shown new) new.rows.items
+  ended h same =
+      let on = goes_on t (shown m) free awake none in
+      record {
+        state = shown m;
+        rows = k;
+        comes = first;
+        going = ap is_some going;
+        part = h.state ∙ on.0;
+        told = h.rows ∙ (λ i. same i ++ on.1 i);
+      }
+
+  -- it goes on
+  pub began : IsStepped t n m new → IsMidway v t (let u : NodeState = record (shown new) { wait = n - 1 } in u) k
+  began h =
+      let on = goes_on t (shown m) free awake none in
+      record {
+        state = shown m;
+        rows = k;
+        comes = first;
+        going = ap is_some going;
+        part = h.state ∙ on.0;
+        told = sym (append-nil k) ∙ ap (λ (l : List Row). k ++ l) (sym h.told ∙ on.1);
+      }
+
+  pub went : (h : IsStepped t n m new) → IsCalm t n (shown new) →
+      Comes node_kind v (t + n) (let w : NodeState = record (shown new) { bus = with_board (shown new).bus (timers_leap t n (shown new).bus.board) } in w) k
+  went h calm =
+      let begun : NodeState = record (shown new) { wait = n - 1 } in
+      let w : NodeState = record (shown new) { bus = with_board (shown new).bus (timers_leap t n (shown new).bus.board) } in
+      let some = h.some in
+      passed_there v t n begun w k (began h) record {
+        going = h.going;
+        calm = record { ends = calm.ends; none = calm.none };
+        wait = omega (arith, some);
+        after = (λ i. let x : NodeState = record w { wait = h.free i } in x);
+      }
+
+-- a run that came to where another begins
+pub comes_on : (v : Timed NodeState Row) (at c : ℕ) (s u : NodeState) (l k : List Row) → Comes node_kind v at s l
+    → Comes node_kind (record { cycle = at; asking = false; state = s; rows = l }) c u k → Comes node_kind v c u k
+comes_on v at c s u l k first h =
+    let n : ℕ = c - at in
+    let later = h.later in
+    let there : at + n ≡ c = omega arith in
+    let all = comes_step node_kind v at n s l first h.quiet in
+    subst (λ (t : ℕ). Comes node_kind v t u k) there
+    (subst (λ (x : List Row). Comes node_kind v (at + n) u x) (sym h.rows)
+    (subst (λ (x : NodeState). Comes node_kind v (at + n) x (l ++ passed_rows node_kind at n s)) (sym h.state) all))

@@ -1,0 +1,125 @@
+// Instructions of a node, one behind another, while nothing is due.
+ghost use Rattle.std.specs.Prelude.{◌≡◌, ◌≤◌, ◌<◌, ◌+◌, ◌^◌, ℕ, None, false, vec_len, vec_capacity};
+ghost use Rattle.node_core.specs.Apart.{is_apart};
+ghost use Rattle.node_core.specs.Cycle.{op_now};
+ghost use Rattle.node_core.specs.Shown.{shown};
+ghost use Rattle.node_core.specs.Midway.{IsSprinted, IsStep};
+ghost use Rattle.serial_ports.specs.Script.{script_byte};
+
+use crate::execute::execute_on_bus;
+use crate::machine::{Machine, owes};
+use avr_decoder::Op;
+
+/// Where a sprint ended: at the beginning of the cycle `at`, or in the middle of it, of which the processor's part is done.
+#[derive(Clone, Copy)]
+pub struct Sprinted {
+    pub at: u64,
+    pub inside: bool,
+}
+
+/// What a step of a sprint did.
+#[derive(Clone, Copy)]
+pub enum Step {
+    /// Nothing: the instruction is not for a sprint.
+    Other,
+    /// It executed an instruction of so many cycles.
+    Plain { taken: u8 },
+    /// The processor's part of the cycle, in which the node stopped, or turned interrupts on.
+    Ended,
+}
+
+// SLEEP and RETI.
+#[inline(always)]
+fn is_apart(op: &Op) -> bool
+    ensures { result ≡ is_apart op.now }
+{
+    match op {
+        Op::Sleep | Op::Reti => true,
+        _ => false,
+    }
+}
+
+impl Machine {
+    // The first cycle of an instruction behind the window, where nothing is due and none is owed. Where it goes on, only
+    // its effect and its count are written.
+    #[inline(always)]
+    fn step(&mut self, op: &Op, cycle: u64) -> Step
+        requires fetched { op.now ≡ op_now (shown self.old) }
+        requires going { self.old.stop ≡ None }
+        requires awake { self.old.asleep ≡ false }
+        requires free { self.old.wait ≡ 0 }
+        requires owed { self.old.owed ≡ false }
+        requires few { self.old.count ≤ 2 ^ 41 }
+        requires now { self.old.bus.board.clock ≡ cycle }
+        requires behind { self.old.to ≤ cycle }
+        requires room { vec_len self.old.rows < vec_capacity self.old.rows }
+        ensures { IsStep cycle result self.old self.new }
+    {
+        let pc = self.cpu.pc;
+        let before = self.cpu.sreg.bits;
+        if let Some(done) = arith_step::exec_if(*op, &mut self.cpu) {
+            let owed = owes(op, before, self.cpu.sreg.bits);
+            if owed {
+                self.end(cycle, pc, owed, done);
+                return Step::Ended;
+            }
+            self.count += 1;
+            return Step::Plain { taken: done.cycles };
+        }
+        if is_apart(op) {
+            return Step::Other;
+        }
+        match execute_on_bus(op, self.program.flash(), &mut self.cpu, &mut self.bus) {
+            Ok(done) => {
+                let owed = owes(op, before, self.cpu.sreg.bits);
+                if owed || done.sleep {
+                    self.end(cycle, pc, owed, done);
+                    return Step::Ended;
+                }
+                self.count += 1;
+                Step::Plain { taken: done.cycles }
+            }
+            Err(cause) => {
+                self.halt(cycle, pc, cause);
+                Step::Ended
+            }
+        }
+    }
+
+    /// Executes instructions from `cycle` on, behind the window and up to `end`, below which no byte arrives, while no
+    /// interrupt is due and the devices end nothing.
+    #[inline(always)]
+    pub fn sprint(&mut self, cycle: u64, end: u64) -> Sprinted
+        requires going { self.old.stop ≡ None }
+        requires free { self.old.wait ≡ 0 }
+        requires awake { self.old.asleep ≡ false }
+        requires now { self.old.bus.board.clock ≡ cycle }
+        requires few { self.old.count ≤ 2 ^ 40 + cycle }
+        requires early { end ≤ 2 ^ 40 }
+        requires within { cycle ≤ end }
+        requires none { (i : ℕ) → cycle + i < end → script_byte self.old.script (cycle + i) ≡ None }
+        requires room { vec_len self.old.rows < vec_capacity self.old.rows }
+        ensures sprinted { IsSprinted cycle result.at result.inside self.old self.new }
+        ensures within { result.at ≤ end }
+    {
+        let mut at = cycle;
+        if cycle < self.to || self.owed {
+            return Sprinted { at, inside: false };
+        }
+        while self.due().is_none() {
+            let op = self.program.op(self.cpu.pc);
+            match self.step(&op, at) {
+                Step::Other => return Sprinted { at, inside: false },
+                Step::Ended => return Sprinted { at, inside: true },
+                Step::Plain { taken } => {
+                    if !self.passes_whole(at, end, taken) {
+                        self.wait = taken - 1;
+                        return Sprinted { at, inside: true };
+                    }
+                    at += u64::from(taken);
+                }
+            }
+        }
+        Sprinted { at, inside: false }
+    }
+}
