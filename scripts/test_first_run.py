@@ -156,7 +156,7 @@ class FirstRun(unittest.TestCase):
         status, out, err = self.ended("bad")
         self.assertEqual((status, out), (2, ""))
         self.assertTrue(err.startswith("avrora: bad command line\nUsage: "))
-        self.assertEqual(err.count("bad command line"), 1)
+        self.assertEqual(err.splitlines().count("avrora: bad command line"), 1)
 
     def test_what_stands_below_it_on_a_terminal(self):
         try:
