@@ -153,16 +153,23 @@ class FirstRun(unittest.TestCase):
     def test_what_stands_below_the_line(self):
         self.ended("run")
         self.assertEqual(self.ended("refused"), (5, "", "avrora: a.hex: image refused: NoEnd\n"))
-        ours, theirs = pty.openpty()
+        status, out, err = self.ended("bad")
+        self.assertEqual((status, out), (2, ""))
+        self.assertTrue(err.startswith("avrora: bad command line\nUsage: "))
+        self.assertEqual(err.splitlines().count("avrora: bad command line"), 1)
+
+    def test_what_stands_below_it_on_a_terminal(self):
+        try:
+            ours, theirs = pty.openpty()
+        except OSError as it:
+            self.skipTest(f"no terminal is to be had here: {it}")
+        self.ended("run")
         self.assertEqual(self.start("refused", stdout=subprocess.DEVNULL, stderr=theirs).wait(timeout=60), 5)
         os.close(theirs)
         said = os.read(ours, 10000).decode().splitlines()
         os.close(ours)
         self.assertEqual(said[0], "avrora: a.hex: image refused: NoEnd")
         self.assertEqual(said[1], "(NoEnd: no line is faulty and none has type 01; docs/FORMATS.md)")
-        status, out, err = self.ended("bad")
-        self.assertEqual((status, out), (2, ""))
-        self.assertTrue(err.startswith("avrora: bad command line\nUsage: "))
 
 
 if __name__ == "__main__":
