@@ -1,5 +1,6 @@
 pub mod Table
 pub mod Board
+pub mod Kept
 pub mod Registers
 pub mod Lines
 pub mod Cycle

@@ -7,3 +7,5 @@ pub mod Shown
 pub mod Inside
 pub mod Reached
 pub mod Midway
+pub mod Numbers
+pub mod Restored
