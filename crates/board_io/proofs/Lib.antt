@@ -7,3 +7,4 @@ pub mod Halted
 pub mod Enabled
 pub mod Lags
 pub mod Apart
+pub mod Saved

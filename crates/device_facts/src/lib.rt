@@ -8,6 +8,7 @@ mod board;
 mod clocks;
 mod numbers;
 mod radio;
+mod saved;
 mod serial;
 mod timers;
 mod transfers;

@@ -3,6 +3,7 @@ ghost use Rattle.std.specs.Prelude.{◌≤◌, ◌^◌};
 
 use crate::answers::Answer;
 use crate::numbers::{byte, cycle, short};
+use crate::saved::saved_radio;
 use serial_ports::{Moved, Radio};
 use world_core::Heard;
 
@@ -44,6 +45,6 @@ pub fn do_radio(radio: &mut Radio, words: &[&str]) -> Option<Answer> {
         }
         [at, "selected", b] => Some(moved(radio, cycle(at)?, true, byte(b)?)),
         [at, "released", b] => Some(moved(radio, cycle(at)?, false, byte(b)?)),
-        _ => None,
+        words => saved_radio(radio, words),
     }
 }

@@ -11,3 +11,4 @@ pub mod Sei
 pub mod Halting
 pub mod Acts
 pub mod Ran
+pub mod Saved

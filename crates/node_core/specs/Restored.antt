@@ -1,41 +1,60 @@
--- A node that is restored from its numbers, its kept I/O bytes and its SRAM, and when it is refused.
-use Rattle.std.specs.Prelude.{◌≡◌, ℕ, ◌-◌, ◌<◌, ◌≤◌, not, List, Option, None, Some}
-use Rattle.std.specs.List.{position}
-use Rattle.board_io.specs.Kept.{io_fits, kept_of}
-use Rattle.device_clocks.specs.declared.prescaler.Prescaler.TheVariants.{Own, Shared}
+-- A node that is restored from its numbers, the I/O bytes that its board keeps and its SRAM, and when it is refused.
+use Rattle.std.specs.Prelude.{◌≡◌, ℕ, ◌-◌, ◌^◌, ◌≤◌, ◌<◌, List, length, None, Some, take, slice_index, ◌==◌}
+use Rattle.board_io.specs.Kept.{first_refused}
+use Rattle.board_io.specs.Saved as board
+use Rattle.data_space.specs.declared.cpu.Cpu.{Cpu}
+use Rattle.device_clocks.specs.Numbers.{part}
 use Rattle.serial_ports.specs.Script.{ScriptBytes}
 use Rattle.node_core.specs.Numbers.{first_outside, numbers_of}
 use Rattle.node_core.specs.State.{NodeState}
 use Rattle.node_core.specs.declared.restore.RestoreFault.{RestoreFault}
 use Rattle.node_core.specs.declared.restore.RestoreFault.TheVariants.{Number, Io, NoMemory}
 
--- the place of the first I/O byte that the board cannot keep where it stands; the byte at 0x20 has place 0
-abbrev pub first_refused : List ℕ → Option ℕ
-first_refused io = position not (io_fits io)
+-- what the bounds of the core's numbers say
+pub record IsCore (n : List ℕ) : Type 0 where
+  pub bytes : (k : ℕ) → k < 33 → slice_index n k ≤ 255  -- r0 to r31, SREG
+  pub sp : slice_index n 33 ≤ 65535
+  pub pc : slice_index n 34 ≤ 65535
+  pub rampz : slice_index n 35 ≤ 1
+  pub wait : slice_index n 36 ≤ 7
+  pub owed : slice_index n 37 ≤ 1
+  pub asleep : slice_index n 38 ≤ 1
+  pub stop : slice_index n 39 ≤ 26
+  pub count : slice_index n 40 ≤ 2 ^ 40
 
--- when a node that has reached a cycle is refused so: for its first number outside its bound, else for its first byte
--- that cannot stand there. For want of memory only one is that has neither
+-- the registers of the core by their numbers
+abbrev pub cpu_of : List ℕ → Cpu
+cpu_of n = record {
+  r = take 32 n;
+  sreg = record { bits = slice_index n 32 };
+  sp = slice_index n 33;
+  pc = slice_index n 34;
+  rampz = slice_index n 35 == 1;
+}
+
+-- nothing of it is refused: of a node that has reached this cycle each number is within its bound, and each byte can stand
+-- at its address
+pub record IsSound (cycle : ℕ) (n io : List ℕ) : Type 0 where
+  pub numbers : first_outside cycle n ≡ None
+  pub bytes : first_refused io ≡ None
+
+-- when it is refused so: for its first number outside its bound, else for its first byte that cannot stand at its address.
+-- For want of memory only what is sound is
 abbrev pub IsRefused : ℕ → List ℕ → List ℕ → RestoreFault → Type 0
 IsRefused cycle n io (Number place) = first_outside cycle n ≡ Some place
 IsRefused cycle n io (Io at) = (first_outside cycle n ≡ None) × (0x20 ≤ at) × (first_refused io ≡ Some (at - 0x20))
-IsRefused cycle n io NoMemory = (first_outside cycle n ≡ None) × (first_refused io ≡ None)
+IsRefused cycle n io NoMemory = IsSound cycle n io
 
--- the state of a node that was given so, with these numbers, I/O bytes and SRAM. The clock select of a timer has three
--- bits, so that its control byte tells it
+-- the state of a node of this number, with this program memory, script, window and byte time, that has these numbers, I/O
+-- bytes and SRAM. Between two cycles its board shows no clock
 pub record IsRestored (number : ℕ) (flash : List ℕ) (script : ScriptBytes) (from to byte_time : ℕ) (n io sram : List ℕ) (s : NodeState) : Type 0 where
   pub number : s.number ≡ number
   pub flash : s.flash ≡ flash
   pub script : s.script ≡ script
   pub from : s.from ≡ from
   pub to : s.to ≡ to
+  pub registers : length s.cpu.r ≡ 32
   pub numbers : numbers_of s ≡ n
-  pub kept : s.bus.board.kept ≡ kept_of io
-  pub sram : s.bus.sram ≡ sram
+  pub board : board.IsRestored byte_time (part 41 67 n) io s.bus.board
   pub clock : s.bus.board.clock ≡ 0
-  pub own : s.bus.board.t0.prescaler ≡ Own
-  pub shared : s.bus.board.t2.prescaler ≡ Shared
-  pub select0 : s.bus.board.t0.select < 8
-  pub select1 : s.bus.board.t1.select < 8
-  pub select2 : s.bus.board.t2.select < 8
-  pub select3 : s.bus.board.t3.select < 8
-  pub byte_time : s.bus.board.radio.byte_time ≡ byte_time
+  pub sram : s.bus.sram ≡ sram
