@@ -113,8 +113,16 @@ impl Board {
         ensures { result ≡ fits ends_from numbers.now }
     {
         let mut all = [false; 67];
-        put_part(&mut all, 0, &Timer8::fits(Prescaler::Own, &part(numbers, 0)));
-        put_part(&mut all, 6, &Timer8::fits(Prescaler::Shared, &part(numbers, 6)));
+        put_part(
+            &mut all,
+            0,
+            &Timer8::fits(Prescaler::Own, &part(numbers, 0)),
+        );
+        put_part(
+            &mut all,
+            6,
+            &Timer8::fits(Prescaler::Shared, &part(numbers, 6)),
+        );
         put_part(&mut all, 12, &Timer16::fits(&part(numbers, 12)));
         put_part(&mut all, 25, &Timer16::fits(&part(numbers, 25)));
         put_part(&mut all, 38, &Usart::fits(ends_from, &part(numbers, 38)));

@@ -137,6 +137,10 @@ fn fits(cycle: u64, numbers: &[u64; 108]) -> [bool; 108]
 {
     let mut all = [false; 108];
     put_part(&mut all, 0, &core_fits(numbers));
-    put_part(&mut all, 41, &Board::fits(ends_from(cycle, numbers), &part(numbers, 41)));
+    put_part(
+        &mut all,
+        41,
+        &Board::fits(ends_from(cycle, numbers), &part(numbers, 41)),
+    );
     all
 }

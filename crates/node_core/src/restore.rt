@@ -145,7 +145,9 @@ impl Node {
             return Err(RestoreFault::Number { place });
         }
         if let Some(place) = first_refused(io) {
-            return Err(RestoreFault::Io { at: 0x20 + place as u16 });
+            return Err(RestoreFault::Io {
+                at: 0x20 + place as u16,
+            });
         }
         let ends_from = ends_from(cycle, numbers);
         let Some(board) = Board::restore(byte_time, cycle, ends_from, &part(numbers, 41), io) else {
@@ -164,7 +166,10 @@ impl Node {
                 from: window.0,
                 to: window.1,
                 cpu: cpu_of(numbers),
-                bus: NodeBus { sram, board: LaggingBoard::restored(board) },
+                bus: NodeBus {
+                    sram,
+                    board: LaggingBoard::restored(board),
+                },
                 wait: numbers[36] as u8,
                 owed: numbers[37] == 1,
                 asleep: numbers[38] == 1,
