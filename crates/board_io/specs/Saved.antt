@@ -43,4 +43,4 @@ pub record IsRestored (byte_time : ℕ) (n io : List ℕ) (b : Board) : Type 0 w
   pub select1 : b.t1.select < 8
   pub select2 : b.t2.select < 8
   pub select3 : b.t3.select < 8
-  pub byte_time : b.radio.byte_time ≡ byte_time
+  pub gap : b.radio.byte_time ≡ byte_time

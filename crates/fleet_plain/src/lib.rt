@@ -5,5 +5,6 @@
 mod fleet;
 mod gather;
 mod plain;
+mod sends;
 
 pub use plain::{PlainRun, run_plain};

@@ -13,7 +13,7 @@ use Rattle.avr_base.specs.declared.stop.StopCause.{StopCause}
 use Rattle.avr_base.specs.declared.stop.StopCause.TheVariants as stop
 use Rattle.board_io.specs.Saved as board
 use Rattle.board_io.specs.declared.board.Board.{Board}
-use Rattle.board_io.proofs.Saved.{all, one-board}
+use Rattle.board_io.proofs.OneBoard.{all, one-board}
 use Rattle.data_space.specs.declared.cpu.Cpu.{Cpu}
 use Rattle.device_clocks.specs.Bits.{bit}
 use Rattle.device_clocks.specs.Numbers.{part}

@@ -1,5 +1,5 @@
 -- A node that is restored from its numbers, the I/O bytes that its board keeps and its SRAM, and when it is refused.
-use Rattle.std.specs.Prelude.{◌≡◌, ℕ, ◌-◌, ◌^◌, ◌≤◌, ◌<◌, List, length, None, Some, take, slice_index, ◌==◌}
+use Rattle.std.specs.Prelude.{◌≡◌, ◌⊎◌, ℕ, ◌+◌, ◌^◌, ◌≤◌, ◌<◌, List, length, Option, None, Some, take, slice_index, ◌==◌}
 use Rattle.board_io.specs.Kept.{first_refused}
 use Rattle.board_io.specs.Saved as board
 use Rattle.data_space.specs.declared.cpu.Cpu.{Cpu}
@@ -32,29 +32,30 @@ cpu_of n = record {
   rampz = slice_index n 35 == 1;
 }
 
--- nothing of it is refused: of a node that has reached this cycle each number is within its bound, and each byte can stand
--- at its address
-pub record IsSound (cycle : ℕ) (n io : List ℕ) : Type 0 where
-  pub numbers : first_outside cycle n ≡ None
-  pub bytes : first_refused io ≡ None
+-- why a node is refused that has reached a cycle: for its first number outside its bound, else for its first byte that cannot
+-- be the one at its address
+abbrev pub fault_by : Option ℕ → Option ℕ → Option RestoreFault
+fault_by (Some place) refused = Some (Number place)
+fault_by None (Some k) = Some (Io (0x20 + k))
+fault_by None None = None
 
--- when it is refused so: for its first number outside its bound, else for its first byte that cannot stand at its address.
--- For want of memory only what is sound is
+abbrev pub fault_of : ℕ → List ℕ → List ℕ → Option RestoreFault
+fault_of cycle n io = fault_by (first_outside cycle n) (first_refused io)
+
+-- it is refused so. For want of memory only one is that has no fault
 abbrev pub IsRefused : ℕ → List ℕ → List ℕ → RestoreFault → Type 0
-IsRefused cycle n io (Number place) = first_outside cycle n ≡ Some place
-IsRefused cycle n io (Io at) = (first_outside cycle n ≡ None) × (0x20 ≤ at) × (first_refused io ≡ Some (at - 0x20))
-IsRefused cycle n io NoMemory = IsSound cycle n io
+IsRefused cycle n io fault = (fault_of cycle n io ≡ Some fault) ⊎ ((fault ≡ NoMemory) × (fault_of cycle n io ≡ None))
 
--- the state of a node of this number, with this program memory, script, window and byte time, that has these numbers, I/O
--- bytes and SRAM. Between two cycles its board shows no clock
-pub record IsRestored (number : ℕ) (flash : List ℕ) (script : ScriptBytes) (from to byte_time : ℕ) (n io sram : List ℕ) (s : NodeState) : Type 0 where
-  pub number : s.number ≡ number
-  pub flash : s.flash ≡ flash
-  pub script : s.script ≡ script
-  pub from : s.from ≡ from
-  pub to : s.to ≡ to
+-- the state of node k with this program memory, these bytes that arrive, the window from one cycle on and below another, and
+-- this byte time, that has these numbers, I/O bytes and SRAM. Between two cycles its board shows no clock
+pub record IsRestored (k : ℕ) (image : List ℕ) (arrivals : ScriptBytes) (first last byte_time : ℕ) (n io bytes : List ℕ) (s : NodeState) : Type 0 where
+  pub number : s.number ≡ k
+  pub flash : s.flash ≡ image
+  pub script : s.script ≡ arrivals
+  pub from : s.from ≡ first
+  pub to : s.to ≡ last
   pub registers : length s.cpu.r ≡ 32
   pub numbers : numbers_of s ≡ n
   pub board : board.IsRestored byte_time (part 41 67 n) io s.bus.board
   pub clock : s.bus.board.clock ≡ 0
-  pub sram : s.bus.sram ≡ sram
+  pub sram : s.bus.sram ≡ bytes

@@ -1,9 +1,9 @@
 // A node of its numbers, its kept I/O bytes and its SRAM.
-ghost use Rattle.std.specs.Prelude.{◌≡◌, ◌≤◌, ◌^◌, [], false, IfOk, IfErr, length, take};
+ghost use Rattle.std.specs.Prelude.{◌≡◌, ◌≤◌, ◌^◌, [], false, None, IfOk, IfErr, OnOk, length, take};
 ghost use Rattle.board_io.specs.Saved as board;
 ghost use Rattle.device_clocks.specs.Numbers.{part};
 ghost use Rattle.node_core.specs.Numbers.{stop_number};
-ghost use Rattle.node_core.specs.Restored.{cpu_of, IsCore, IsRefused, IsRestored, IsSound};
+ghost use Rattle.node_core.specs.Restored.{cpu_of, fault_of, IsCore, IsRefused, IsRestored};
 ghost use Rattle.node_core.specs.Shown.{shown};
 ghost use Rattle.node_core.specs.State.{NodeState};
 
@@ -113,6 +113,20 @@ fn cpu_of(numbers: &[u64; 108]) -> Cpu
 }
 
 impl Node {
+    /// Why [`Node::restore`] refuses these `numbers` and 224 bytes `io` at the cycle `cycle`, whatever memory there is.
+    pub fn fault(cycle: u64, numbers: &[u64; 108], io: &[u8]) -> Option<RestoreFault>
+        requires { length io.now ≡ 224 }
+        ensures { result ≡ fault_of cycle numbers.now io.now }
+    {
+        if let Some(place) = Node::first_outside(cycle, numbers) {
+            return Some(RestoreFault::Number { place });
+        }
+        let place = first_refused(io)?;
+        Some(RestoreFault::Io {
+            at: 0x20 + place as u16,
+        })
+    }
+
     /// The node that has these `numbers`, in the order of [`Node::numbers`], these 224 bytes `io` that its board keeps, from
     /// data address 0x20 on, and these 4,096 bytes `sram`, with no rows, at the cycle `cycle`, at most 2^40. Its number,
     /// program, script, window and byte time are as for [`Node::new`]. A number outside its bound is refused, the first of
@@ -136,18 +150,13 @@ impl Node {
         requires io { length io.now ≡ 224 }
         requires sram { length sram.now ≡ 4096 }
         ensures refused { IfErr result (λ fault. IsRefused cycle numbers.now io.now fault) }
-        ensures sound { IfOk result (λ _. IsSound cycle numbers.now io.now) }
+        ensures sound { OnOk result (fault_of cycle numbers.now io.now ≡ None) }
         ensures node { IfOk result (λ node. node ≡ record { cycle = cycle; asking = false; state = node.state; rows = [] }) }
         ensures state { IfOk result (λ node. IsRestored number program.bytes script window.0 window.1 byte_time numbers.now io.now sram.now node.state) }
         ensures one { (s : NodeState) → IsRestored number program.bytes script window.0 window.1 byte_time numbers.now io.now sram.now s → IfOk result (λ node. node.state ≡ s) }
     {
-        if let Some(place) = Node::first_outside(cycle, numbers) {
-            return Err(RestoreFault::Number { place });
-        }
-        if let Some(place) = first_refused(io) {
-            return Err(RestoreFault::Io {
-                at: 0x20 + place as u16,
-            });
+        if let Some(fault) = Node::fault(cycle, numbers, io) {
+            return Err(fault);
         }
         let ends_from = ends_from(cycle, numbers);
         let Some(board) = Board::restore(byte_time, cycle, ends_from, &part(numbers, 41), io) else {

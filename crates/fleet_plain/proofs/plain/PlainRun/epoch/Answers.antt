@@ -22,4 +22,5 @@ invariant_of-self-2 c =
       limit = c.self.invariant.limit;
       within = omega arith;
       rests = (λ q. subst (λ (s : ScenarioOf). IsResting s c.min-end.result c.rows_to.new.runners.items c.rows_to.new.log) same c.in_ok-rows.ensures.rests);
+      sends = (λ q. sends-now c);
     }

@@ -36,6 +36,26 @@ joined n len =
     let f = ap (λ xs. xs ++ part 62 5 n) e ∙ sym (take-add 62 5 n) in
     f ∙ take_all 67 n (omega arith)
 
+-- a list into which seven parts were put, one after another
+pub seven_put :
+    {X : Type 0} (a b c d e f g n1 n2 n3 n4 n5 n6 n7 : List X)
+    → take 6 n1 ≡ a
+    → take 12 n2 ≡ take 6 n1 ++ b
+    → take 25 n3 ≡ take 12 n2 ++ c
+    → take 38 n4 ≡ take 25 n3 ++ d
+    → take 52 n5 ≡ take 38 n4 ++ e
+    → take 62 n6 ≡ take 52 n5 ++ f
+    → take 67 n7 ≡ take 62 n6 ++ g
+    → length n7 ≡ 67
+    → n7 ≡ a ++ b ++ c ++ d ++ e ++ f ++ g
+seven_put a b c d e f g n1 n2 n3 n4 n5 n6 n7 p q r s t u v len =
+    let ab = q ∙ ap (λ xs. xs ++ b) p in
+    let abc = r ∙ ap (λ xs. xs ++ c) ab in
+    let abcd = s ∙ ap (λ xs. xs ++ d) abc in
+    let to_e = t ∙ ap (λ xs. xs ++ e) abcd in
+    let to_f = u ∙ ap (λ xs. xs ++ f) to_e in
+    sym (take_all 67 n7 (omega arith)) ∙ v ∙ ap (λ xs. xs ++ g) to_f
+
 -- the devices of a board have these numbers
 pub record Has (n : List ℕ) (b : Board) : Type 0 where
   pub t0 : timer8.numbers_of b.t0 ≡ part 0 6 n
@@ -100,6 +120,52 @@ fits-parts t n =
     let to_f = list_all-append (λ fit. fit) (a ++ b ++ c ++ d ++ e) f ∙ ap (λ x. x && all f) to_e in
     list_all-append (λ fit. fit) (a ++ b ++ c ++ d ++ e ++ f) g ∙ ap (λ x. x && all g) to_f
 
+both : (a b : Bool) → a ≡ true → b ≡ true → (a && b) ≡ true
+both true b e f = f
+both false b e f = e
+
+-- where one device's are not, so is the whole
+left : (a b : Bool) → a ≡ false → (a && b) ≡ false
+left true b e = absurd (false≢true (sym e))
+left false b e = refl
+
+right : (a b : Bool) → b ≡ false → (a && b) ≡ false
+right true b e = e
+right false b e = refl
+
+module _ (t : ℕ) (n : List ℕ) where
+  pub all_in :
+      timer8.are_numbers Own (part 0 6 n) ≡ true
+      → timer8.are_numbers Shared (part 6 6 n) ≡ true
+      → timer16.are_numbers (part 12 13 n) ≡ true
+      → timer16.are_numbers (part 25 13 n) ≡ true
+      → usart.are_numbers t (part 38 14 n) ≡ true
+      → spi.are_numbers t (part 52 10 n) ≡ true
+      → radio.are_numbers (part 62 5 n) ≡ true
+      → all (fits t n) ≡ true
+  all_in a b c d e f g = fits-parts t n ∙ both _ _ (both _ _ (both _ _ (both _ _ (both _ _ (both _ _ a b) c) d) e) f) g
+
+  pub out_t0 : timer8.are_numbers Own (part 0 6 n) ≡ false → all (fits t n) ≡ false
+  out_t0 e = fits-parts t n ∙ left _ _ (left _ _ (left _ _ (left _ _ (left _ _ (left _ _ e)))))
+
+  pub out_t2 : timer8.are_numbers Shared (part 6 6 n) ≡ false → all (fits t n) ≡ false
+  out_t2 e = fits-parts t n ∙ left _ _ (left _ _ (left _ _ (left _ _ (left _ _ (right _ _ e)))))
+
+  pub out_t1 : timer16.are_numbers (part 12 13 n) ≡ false → all (fits t n) ≡ false
+  out_t1 e = fits-parts t n ∙ left _ _ (left _ _ (left _ _ (left _ _ (right _ _ e))))
+
+  pub out_t3 : timer16.are_numbers (part 25 13 n) ≡ false → all (fits t n) ≡ false
+  out_t3 e = fits-parts t n ∙ left _ _ (left _ _ (left _ _ (right _ _ e)))
+
+  pub out_usart : usart.are_numbers t (part 38 14 n) ≡ false → all (fits t n) ≡ false
+  out_usart e = fits-parts t n ∙ left _ _ (left _ _ (right _ _ e))
+
+  pub out_spi : spi.are_numbers t (part 52 10 n) ≡ false → all (fits t n) ≡ false
+  out_spi e = fits-parts t n ∙ left _ _ (right _ _ e)
+
+  pub out_radio : radio.are_numbers (part 62 5 n) ≡ false → all (fits t n) ≡ false
+  out_radio e = fits-parts t n ∙ right _ _ e
+
 -- ---- the one board
 
 pub same-timer8 : (p : Prescaler) (n : List ℕ) (a b : Timer8) → timer8.HasNumbers p n a → timer8.HasNumbers p n b → a ≡ b
@@ -127,8 +193,8 @@ one-board byte_time t n io a b fit h k clock =
     let t3 = same-timer16 (part 25 13 n) a.t3 b.t3 thirds.1 (record { select = h.select3; numbers = i.t3 }) (record { select = k.select3; numbers = j.t3 }) in
     let usart = sym (one-usart (part 38 14 n) a.usart i.usart) ∙ one-usart (part 38 14 n) b.usart j.usart in
     let spi = sym (one-spi (part 52 10 n) a.spi i.spi) ∙ one-spi (part 52 10 n) b.spi j.spi in
-    let has : radio.HasNumbers byte_time (part 62 5 n) a.radio = record { gap = h.byte_time; numbers = i.radio } in
-    let has_b : radio.HasNumbers byte_time (part 62 5 n) b.radio = record { gap = k.byte_time; numbers = j.radio } in
+    let has : radio.HasNumbers byte_time (part 62 5 n) a.radio = record { gap = h.gap; numbers = i.radio } in
+    let has_b : radio.HasNumbers byte_time (part 62 5 n) b.radio = record { gap = k.gap; numbers = j.radio } in
     let radio = sym (one-radio byte_time (part 62 5 n) a.radio last.1 has) ∙ one-radio byte_time (part 62 5 n) b.radio last.1 has_b in
     let kept = h.kept ∙ sym k.kept in
     let left : Board = record { clock = a.clock; kept = a.kept; t0 = a.t0; t1 = a.t1; t2 = a.t2; t3 = a.t3; usart = a.usart; spi = a.spi; radio = a.radio } in
