@@ -8,6 +8,7 @@ use Rattle.std.proofs.lemmas.List.Folds.{list_all-append, list_all-map}
 use Rattle.std.proofs.lemmas.List.Sums.{AllPass-from_list_all}
 use Rattle.std.proofs.lemmas.List.Elements.{All-get_or}
 use Rattle.std.proofs.lemmas.Bool.{and_parts, leb-true}
+use Rattle.std.proofs.lemmas.Option.{none-some}
 use Rattle.avr_base.specs.Causes.{cause_number}
 use Rattle.avr_base.specs.declared.stop.StopCause.{StopCause}
 use Rattle.avr_base.specs.declared.stop.StopCause.TheVariants as stop
@@ -20,7 +21,7 @@ use Rattle.device_clocks.specs.Numbers.{part}
 use Rattle.device_clocks.proofs.Places.{bit-flag, flag-bit, by-places, from_places, none_outside, same-list}
 use Rattle.serial_ports.specs.Script.{ScriptBytes}
 use Rattle.node_core.specs.Numbers.{core_fits, core_tail, ends_from, first_outside, fits, numbers_of, stop_number}
-use Rattle.node_core.specs.Restored.{cpu_of, IsCore, IsRestored}
+use Rattle.node_core.specs.Restored.{cpu_of, fault_by, IsCore, IsRestored}
 use Rattle.node_core.specs.State.{NodeState}
 use Rattle.node_core.specs.declared.bus.NodeBus.{NodeBus}
 
@@ -274,3 +275,46 @@ tail-made n s len w cpu wait owed asleep stop count =
     let flags = same-list flag (same-list sleep last) in
     let made = same-list sreg (same-list sp (same-list pc (same-list rampz (same-list wait flags)))) in
     made ∙ nine n len
+
+-- a state whose parts are read from the numbers
+pub record Made (n : List ℕ) (s : NodeState) : Type 0 where
+  pub cpu : s.cpu ≡ cpu_of n
+  pub wait : s.wait ≡ slice_index n 36
+  pub owed : s.owed ≡ (slice_index n 37 == 1)
+  pub asleep : s.asleep ≡ (slice_index n 38 == 1)
+  pub stop : stop_number s.stop ≡ slice_index n 39
+  pub count : s.count ≡ slice_index n 40
+
+-- has them
+pub made-numbers : (n : List ℕ) (s : NodeState) → length n ≡ 108 → IsCore n → Made n s → board.numbers_of s.bus.board ≡ part 41 67 n → numbers_of s ≡ n
+made-numbers n s len w m b =
+    numbers-has n s len
+    (record {
+      registers = ap (λ (cpu : Cpu). cpu.r) m.cpu;
+      tail = tail-made n s len w m.cpu m.wait m.owed m.asleep m.stop m.count;
+      board = b;
+    })
+
+pub registers-32 : (n : List ℕ) (s : NodeState) → length n ≡ 108 → Made n s → length s.cpu.r ≡ 32
+registers-32 n s len m = ap (λ (cpu : Cpu). length cpu.r) m.cpu ∙ omega (arith, length-take 32 n)
+
+-- a board at another clock
+pub clocked : (byte_time t : ℕ) (n io : List ℕ) (b : Board) → board.IsRestored byte_time n io b → board.IsRestored byte_time n io (record b { clock = t })
+clocked byte_time t n io b h = record {
+  numbers = h.numbers;
+  kept = h.kept;
+  own = h.own;
+  shared = h.shared;
+  select0 = h.select0;
+  select1 = h.select1;
+  select2 = h.select2;
+  select3 = h.select3;
+  gap = h.gap;
+}
+
+-- ---- a node without a fault
+
+pub no-fault : (a b : Option ℕ) → fault_by a b ≡ None → a ≡ None
+no-fault None b e = refl
+no-fault (Some place) None e = absurd (none-some _ (sym e))
+no-fault (Some place) (Some k) e = absurd (none-some _ (sym e))
