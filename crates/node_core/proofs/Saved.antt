@@ -1,9 +1,9 @@
 -- The numbers of a node: what their bounds say, the state that they make, and that it is the only one.
-use Rattle.std.proofs.Common.{◌≡◌, ◌≤◌, ◌<◌, ◌+◌, ◌^◌, ℕ, Bool, true, false, ◌&&◌, refl, sym, ◌∙◌, ap, arith, List, [], ◌∷◌, ◌++◌, length, take, drop, slice_index, ◌==◌, nat_le, if◌then◌else◌, Option, None, Some, is_none}
+use Rattle.std.proofs.Common.{◌≡◌, ◌≤◌, ◌<◌, ◌+◌, ◌^◌, ℕ, Bool, true, false, ◌&&◌, refl, sym, ◌∙◌, ap, arith, List, [], ◌∷◌, ◌++◌, length, take, drop, slice_index, slice_set, ◌==◌, nat_le, if◌then◌else◌, Option, None, Some, is_none}
 use Rattle.std.specs.Prelude.{map, not}
 use Rattle.std.specs.List.{list_all, position}
 use Rattle.std.proofs.Math.Seq.{take-add}
-use Rattle.std.proofs.lemmas.List.{append_assoc, drop-drop, drop_at, get_or-drop, get_or-take, length-drop, length-take, take_all, take_at}
+use Rattle.std.proofs.lemmas.List.{append_assoc, drop-drop, drop_at, get_or-drop, get_or-take, length-drop, length-take, map_push, take_all, take_at, take_more, take_more_set}
 use Rattle.std.proofs.lemmas.List.Folds.{list_all-append, list_all-map}
 use Rattle.std.proofs.lemmas.List.Sums.{AllPass-from_list_all}
 use Rattle.std.proofs.lemmas.List.Elements.{All-get_or}
@@ -38,7 +38,7 @@ both-fit cycle n e =
 pub board-fits : (cycle : ℕ) (n : List ℕ) → first_outside cycle n ≡ None → all (board.fits (ends_from cycle n) (part 41 67 n)) ≡ true
 board-fits cycle n e = (both-fit cycle n e).1
 
-tail-fits : List ℕ → List Bool
+abbrev tail-fits : List ℕ → List Bool
 tail-fits n =
     nat_le (slice_index n 33) 65535
     ∷ nat_le (slice_index n 34) 65535
@@ -116,7 +116,7 @@ cause_of n =
     else None
 
 cause-again : (o : Option StopCause) → cause_of (stop_number o) ≡ o
-unfolding cause_number
+unfolding cause_number cause_of
 cause-again None = refl
 cause-again (Some stop.ReservedOpcode) = refl
 cause-again (Some stop.UndefinedOperands) = refl
@@ -150,6 +150,24 @@ same-stop a b e = sym (cause-again a) ∙ ap cause_of e ∙ cause-again b
 
 same-flag : (a b : Bool) → bit a 1 ≡ bit b 1 → a ≡ b
 same-flag a b e = sym (flag-bit a) ∙ ap (λ n. n == 1) e ∙ flag-bit b
+
+-- ---- lists that are copied, and lists into which parts were put
+
+-- one element more of a list is copied
+pub copied : (xs ys : List ℕ) (i x : ℕ) → i < length xs → i < length ys → x ≡ slice_index ys i → take i xs ≡ take i ys → take (i + 1) (slice_set xs i x) ≡ take (i + 1) ys
+copied xs ys i x a b e same = take_more_set xs i x a ∙ (λ j. same j ++ e j ∷ []) ∙ sym (take_more ys i 0 b)
+
+-- one byte more is tested
+pub tested :
+    (fits : List Bool) (ys : List ℕ) (i : ℕ) → i < length fits → i < length ys → take i fits ≡ map (λ byte. nat_le byte 255) (take i ys)
+    → take (i + 1) (slice_set fits i (nat_le (slice_index ys i) 255)) ≡ map (λ byte. nat_le byte 255) (take (i + 1) ys)
+tested fits ys i a b same =
+    take_more_set fits i (nat_le (slice_index ys i) 255) a ∙ ap (λ xs. xs ++ nat_le (slice_index ys i) 255 ∷ []) same
+    ∙ sym (map_push (λ byte. nat_le byte 255) (take i ys) (slice_index ys i)) ∙ ap (map (λ byte. nat_le byte 255)) (sym (take_more ys i 0 b))
+
+-- a part is put behind what stands at the front
+pub then_put : {X : Type 0} (i j : ℕ) (front part n1 n2 : List X) → take i n1 ≡ front → take j n2 ≡ take i n1 ++ part → length n2 ≡ j → n2 ≡ front ++ part
+then_put i j front part n1 n2 first second len = sym (take_all j n2 (omega arith)) ∙ second ∙ ap (λ xs. xs ++ part) first
 
 -- ---- a list of 108 numbers by its parts
 

@@ -36,6 +36,7 @@ pub enum RestoreFault {
 }
 
 // The cause of a number up to 26, and none of 0.
+#[tactic(auto, unfolding(avr_base::specs::Causes::cause_number))]
 fn stop_of(number: u64) -> Option<StopCause>
     requires { number ≤ 26 }
     ensures { stop_number result ≡ number }
