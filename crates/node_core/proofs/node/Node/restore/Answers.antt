@@ -1,13 +1,12 @@
-use Rattle.std.proofs.Common.{◌≡◌, ◌+◌, ◌∙◌, ap, arith, false, is_some, length, refl, subst, sym}
+use Rattle.std.proofs.Common.{◌≡◌, ◌+◌, ◌∙◌, ap, arith, false, is_some, refl, slice_index, ◌==◌, subst, sym}
 use Rattle.std.proofs.lemmas.Bool.{false≢true}
-use Rattle.std.proofs.lemmas.List.{length-take}
 use Rattle.board_io.specs.Saved as board
 use Rattle.board_io.specs.declared.board.Board.{Board}
 use Rattle.board_io.proofs.OneBoard.{all}
-use Rattle.data_space.specs.declared.cpu.Cpu.{Cpu}
 use Rattle.device_clocks.specs.Numbers.{part}
 use Rattle.node_core.specs.Numbers.{ends_from}
-use Rattle.node_core.proofs.Saved.{board-fits, clocked, core-within, made-numbers, no-fault, one-state}
+use Rattle.node_core.specs.State.{NodeState}
+use Rattle.node_core.proofs.Saved.{board-fits, clocked, core-within, made-numbers, no-fault, one-state, registers-32, Made}
 use Rattle.node_core.proofs.node.Node.restore.Goals as goal
 
 pub unreachable-requires : goal.unreachable-requires
@@ -53,6 +52,21 @@ returns-clause-state c =
     subst (λ p. board.IsRestored c.args.byte_time p c.args.io.now c.in-Some-restore.board) c.part.ensures c.in-Some-restore.ensures.some in
     let lags : board.IsRestored c.args.byte_time (part 41 67 n) c.args.io.now c.restored.result =
     subst (λ b. board.IsRestored c.args.byte_time (part 41 67 n) c.args.io.now b) (sym c.restored.ensures) saved in
+    let s : NodeState = record {
+      number = c.args.number;
+      flash = c.args.program.bytes;
+      script = c.args.script;
+      from = c.args.window.0;
+      to = c.args.window.1;
+      cpu = c.cpu_of.result;
+      bus = record { sram = c.in-Ok.sram; board = record c.restored.result { clock = 0 } };
+      wait = slice_index n 36;
+      owed = slice_index n 37 == 1;
+      asleep = slice_index n 38 == 1;
+      stop = c.stop_of.result;
+      count = slice_index n 40;
+    } in
+    let made : Made n s = record { cpu = c.cpu_of.ensures; wait = refl; owed = refl; asleep = refl; stop = c.stop_of.ensures; count = refl } in
     let here = clocked c.args.byte_time 0 (part 41 67 n) c.args.io.now c.restored.result lags in
     record {
       number = refl;
@@ -60,8 +74,8 @@ returns-clause-state c =
       script = refl;
       from = refl;
       to = refl;
-      registers = ap (λ (cpu : Cpu). length cpu.r) c.cpu_of.ensures ∙ omega (arith, length-take 32 n);
-      numbers = made-numbers n _ c.told-numbers w (record { cpu = c.cpu_of.ensures; wait = refl; owed = refl; asleep = refl; stop = c.stop_of.ensures; count = refl }) here.numbers;
+      registers = registers-32 n s c.told-numbers made;
+      numbers = made-numbers n s c.told-numbers w made here.numbers;
       board = here;
       clock = refl;
       sram = c.in-Ok.ensures;
