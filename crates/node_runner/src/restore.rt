@@ -41,6 +41,17 @@ impl Scenario {
             return Err(RestoreFault::NoMemory);
         };
         let window = self.window();
-        Node::restore(alloc, node, program, script, window, topo.byte_time(), cycle, numbers, io, sram)
+        Node::restore(
+            alloc,
+            node,
+            program,
+            script,
+            window,
+            topo.byte_time(),
+            cycle,
+            numbers,
+            io,
+            sram,
+        )
     }
 }
