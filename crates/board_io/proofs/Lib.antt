@@ -7,3 +7,5 @@ pub mod Halted
 pub mod Enabled
 pub mod Lags
 pub mod Apart
+pub mod OneBoard
+pub mod Refused

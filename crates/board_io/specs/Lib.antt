@@ -1,5 +1,7 @@
 pub mod Table
 pub mod Board
+pub mod Kept
+pub mod Saved
 pub mod Registers
 pub mod Lines
 pub mod Cycle

@@ -12,8 +12,10 @@ mod lines;
 mod passing;
 mod registers;
 mod rules;
+mod saved;
 
 pub use board::{Board, Sleep};
 pub use clock::Clock;
 pub use cycle::Begun;
 pub use lagging::LaggingBoard;
+pub use saved::first_refused;

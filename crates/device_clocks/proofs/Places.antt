@@ -1,5 +1,7 @@
 -- Numbers by which a device is saved: lists of known length, flags, and bytes of bits.
-use Rattle.std.proofs.Common.{◌≡◌, ◌≤◌, ◌+◌, ℕ, zero, suc, Bool, true, false, refl, sym, ◌∙◌, ap, arith, List, [], ◌∷◌, length, slice_index, ◌==◌}
+use Rattle.std.proofs.Common.{◌≡◌, ◌≤◌, ◌+◌, ℕ, zero, suc, Bool, true, false, not, refl, sym, ◌∙◌, ap, arith, List, [], ◌∷◌, length, slice_index, ◌==◌, nat_lt, is_none, cond, Some, None, inl, inr}
+use Rattle.std.specs.List.{list_all, position, position_or_len}
+use Rattle.std.proofs.lemmas.Bool.{cases_lt, false≢true, le-ltb, lt-ltb}
 use Rattle.device_clocks.specs.Bits.{bit}
 
 -- ---- a list by its places
@@ -38,3 +40,27 @@ bit-flag (suc (suc n)) h = absurd (omega arith)
 
 pub same-list : {x y : ℕ} {xs ys : List ℕ} → x ≡ y → xs ≡ ys → (x ∷ xs) ≡ (y ∷ ys)
 same-list first rest = cc
+
+-- ---- a test for each number
+
+lt-step : (p l : ℕ) → nat_lt (1 + p) (suc l) ≡ nat_lt p l
+lt-step p l =
+    elim (cases_lt p l) [
+      | inl below ↦ lt-ltb (1 + p) (suc l) (omega arith) ∙ sym (lt-ltb p l below)
+      | inr top ↦ le-ltb (1 + p) (suc l) (omega arith) ∙ sym (le-ltb p l top)
+    ]
+
+fails-before : (fits : List Bool) → nat_lt (position_or_len not fits) (length fits) ≡ not (list_all (λ fit. fit) fits)
+fails-before [] = refl
+fails-before (true ∷ fits) = lt-step _ _ ∙ fails-before fits
+fails-before (false ∷ fits) = lt-ltb _ _ (omega arith)
+
+none-by : (b c : Bool) (x : ℕ) → b ≡ not c → is_none (cond b (Some x) None) ≡ c
+none-by true true x h = absurd (false≢true (sym h))
+none-by true false x h = refl
+none-by false true x h = refl
+none-by false false x h = absurd (false≢true h)
+
+-- no test fails where all hold
+pub none_outside : (fits : List Bool) → is_none (position not fits) ≡ list_all (λ fit. fit) fits
+none_outside fits = none-by _ _ (position_or_len not fits) (fails-before fits)

@@ -5,7 +5,7 @@ use Rattle.avr_base.proofs.Computed.{all_from, all_from-at}
 use Rattle.device_clocks.specs.Bits.{any_bit, bit}
 use Rattle.device_clocks.specs.Mode.{mode_of, number_of}
 use Rattle.device_clocks.specs.Registers16.{control_b}
-use Rattle.device_clocks.specs.Numbers16.{HasNumbers, are_numbers, are_registers, control_mode, is_control, numbers_of}
+use Rattle.device_clocks.specs.Numbers16.{HasNumbers, are_numbers, control_mode, fits, is_control, numbers_of}
 use Rattle.device_clocks.specs.declared.mode.Mode16.{Mode16}
 use Rattle.device_clocks.specs.declared.mode.Mode16.TheVariants.{Normal, ClearAtCompare, ClearAtIcr}
 use Rattle.device_clocks.specs.declared.timer16.Timer16.{Timer16}
@@ -134,6 +134,7 @@ mode-again ClearAtIcr = refl
 -- ---- the bounds
 
 pub record Within (n : List ℕ) : Type 0 where
+  pub control : is_some (control_mode (slice_index n 0)) ≡ true
   pub count : slice_index n 1 ≤ 65535
   pub compare_a : slice_index n 2 ≤ 65535
   pub compare_b : slice_index n 3 ≤ 65535
@@ -147,38 +148,42 @@ pub record Within (n : List ℕ) : Type 0 where
   pub comp_c : slice_index n 11 ≤ 1
   pub icf : slice_index n 12 ≤ 1
 
-pub within : (n : List ℕ) → true ≡ are_registers n → Within n
-unfolding are_registers
+pub within : (n : List ℕ) → true ≡ are_numbers n → Within n
+unfolding fits
 within n h =
-    let l = and_parts _ _ (sym h) in
-    let k = and_parts _ _ l.0 in
-    let j = and_parts _ _ k.0 in
-    let i = and_parts _ _ j.0 in
-    let g = and_parts _ _ i.0 in
-    let f = and_parts _ _ g.0 in
-    let e = and_parts _ _ f.0 in
-    let d = and_parts _ _ e.0 in
-    let c = and_parts _ _ d.0 in
-    let b = and_parts _ _ c.0 in
-    let a = and_parts _ _ b.0 in
+    let a = and_parts _ _ (sym h) in
+    let b = and_parts _ _ a.1 in
+    let c = and_parts _ _ b.1 in
+    let d = and_parts _ _ c.1 in
+    let e = and_parts _ _ d.1 in
+    let f = and_parts _ _ e.1 in
+    let g = and_parts _ _ f.1 in
+    let i = and_parts _ _ g.1 in
+    let j = and_parts _ _ i.1 in
+    let k = and_parts _ _ j.1 in
+    let l = and_parts _ _ k.1 in
+    let m = and_parts _ _ l.1 in
+    let o = and_parts _ _ m.1 in
     record {
-      count = leb-true _ _ a.0;
-      compare_a = leb-true _ _ a.1;
-      compare_b = leb-true _ _ b.1;
-      compare_c = leb-true _ _ c.1;
-      icr = leb-true _ _ d.1;
-      temp = leb-true _ _ e.1;
-      blocked = leb-true _ _ f.1;
-      over = leb-true _ _ g.1;
-      comp_a = leb-true _ _ i.1;
-      comp_b = leb-true _ _ j.1;
-      comp_c = leb-true _ _ k.1;
-      icf = leb-true _ _ l.1;
+      control = a.0;
+      count = leb-true _ _ b.0;
+      compare_a = leb-true _ _ c.0;
+      compare_b = leb-true _ _ d.0;
+      compare_c = leb-true _ _ e.0;
+      icr = leb-true _ _ f.0;
+      temp = leb-true _ _ g.0;
+      blocked = leb-true _ _ i.0;
+      over = leb-true _ _ j.0;
+      comp_a = leb-true _ _ k.0;
+      comp_b = leb-true _ _ l.0;
+      comp_c = leb-true _ _ m.0;
+      icf = leb-true _ _ o.0;
     }
 
-pub are-within : (n : List ℕ) → Within n → are_registers n ≡ true
-unfolding are_registers
+pub are-within : (n : List ℕ) → Within n → are_numbers n ≡ true
+unfolding fits
 are-within n w =
+    let control = w.control in
     let count = le-leb _ _ w.count in
     let compare_a = le-leb _ _ w.compare_a in
     let compare_b = le-leb _ _ w.compare_b in
@@ -191,7 +196,7 @@ are-within n w =
     let comp_b = le-leb _ _ w.comp_b in
     let comp_c = le-leb _ _ w.comp_c in
     let icf = le-leb _ _ w.icf in
-    rw (count, compare_a, compare_b, compare_c, icr, temp, blocked, over, comp_a, comp_b, comp_c, icf) refl
+    rw (control, count, compare_a, compare_b, compare_c, icr, temp, blocked, over, comp_a, comp_b, comp_c, icf) refl
 
 -- a timer's registers are words and a byte
 pub record IsPlain (tm : Timer16) : Type 0 where
@@ -207,6 +212,7 @@ pub numbers-within : (tm : Timer16) → tm.select ≤ 5 → IsPlain tm → are_n
 numbers-within tm select plain =
     let mode = has-mode tm.noise_canceler tm.rising_edge tm.mode tm.select select in
     let w : Within (numbers_of tm) = record {
+      control = mode;
       count = plain.count;
       compare_a = plain.compare_a;
       compare_b = plain.compare_b;
@@ -220,8 +226,7 @@ numbers-within tm select plain =
       comp_c = bit-most tm.flags.comp_c;
       icf = bit-most tm.flags.icr;
     } in
-    let registers = are-within (numbers_of tm) w in
-    rw (mode, registers) refl
+    are-within (numbers_of tm) w
 
 -- ---- the timer that has the numbers
 
@@ -247,7 +252,7 @@ timer_of mode n = record {
   };
 }
 
-pub has-numbers : (mode : Mode16) (n : List ℕ) → length n ≡ 13 → control_mode (slice_index n 0) ≡ Some mode → true ≡ are_registers n → HasNumbers n (timer_of mode n)
+pub has-numbers : (mode : Mode16) (n : List ℕ) → length n ≡ 13 → control_mode (slice_index n 0) ≡ Some mode → true ≡ are_numbers n → HasNumbers n (timer_of mode n)
 has-numbers mode n len m h =
     let w = within n h in
     let places = by-places n 13 len in
@@ -278,3 +283,18 @@ one-timer mode n tm m h =
     let whole : timer_of tm.mode (numbers_of tm) ≡ tm =
     rw (r.noise_canceler, r.rising_edge, r.select, blocked, over, comp_a, comp_b, comp_c, icf) refl in
     ap (λ mode. timer_of mode n) same_mode ∙ ap (timer_of tm.mode) (sym numbers) ∙ whole
+
+-- by its mode, where it has one
+abbrev pub timer_by : Option Mode16 → List ℕ → Timer16
+timer_by None n = timer_of Normal n
+timer_by (Some mode) n = timer_of mode n
+
+one-by : (n : List ℕ) (tm : Timer16) (o : Option Mode16) → control_mode (slice_index n 0) ≡ o → is_some o ≡ true → HasNumbers n tm → timer_by o n ≡ tm
+one-by n tm None e some h = absurd (false≢true some)
+one-by n tm (Some mode) e some h = one-timer mode n tm e h
+
+-- the timer that has numbers within their bounds
+pub one-within : (n : List ℕ) (tm : Timer16) → are_numbers n ≡ true → HasNumbers n tm → timer_by (control_mode (slice_index n 0)) n ≡ tm
+one-within n tm fit h =
+    let w = within n (sym fit) in
+    one-by n tm (control_mode (slice_index n 0)) refl w.control h

@@ -4,7 +4,7 @@ use Rattle.std.proofs.lemmas.Bool.{and_parts, leb-true, le-leb, eqb-true}
 use Rattle.avr_base.proofs.Computed.{all_from, all_from-at}
 use Rattle.device_clocks.specs.Bits.{any_bit, bit}
 use Rattle.device_clocks.specs.Prescaler.{is_pin}
-use Rattle.device_clocks.specs.Numbers8.{HasNumbers, are_numbers, is_select, numbers_of}
+use Rattle.device_clocks.specs.Numbers8.{HasNumbers, are_numbers, fits, is_select, numbers_of}
 use Rattle.device_clocks.specs.declared.prescaler.Prescaler.{Prescaler}
 use Rattle.device_clocks.specs.declared.timer8.Timer8.{Timer8}
 use Rattle.device_clocks.proofs.Places.{by-places, bit-flag, flag-bit, bit-most}
@@ -59,26 +59,27 @@ pub record Within (p : Prescaler) (n : List ℕ) : Type 0 where
   pub comp_a : slice_index n 5 ≤ 1
 
 pub within : (p : Prescaler) (n : List ℕ) → true ≡ are_numbers p n → Within p n
-unfolding are_numbers
+unfolding fits
 within p n h =
-    let f = and_parts _ _ (sym h) in
-    let e = and_parts _ _ f.0 in
-    let d = and_parts _ _ e.0 in
-    let c = and_parts _ _ d.0 in
-    let b = and_parts _ _ c.0 in
-    let a = and_parts _ _ b.0 in
+    let a = and_parts _ _ (sym h) in
+    let b = and_parts _ _ a.1 in
+    let c = and_parts _ _ b.1 in
+    let d = and_parts _ _ c.1 in
+    let e = and_parts _ _ d.1 in
+    let f = and_parts _ _ e.1 in
+    let control = and_parts _ _ a.0 in
     record {
-      control = leb-true _ _ a.0;
-      pin = not-true _ a.1;
-      count = leb-true _ _ b.1;
-      compare = leb-true _ _ c.1;
-      blocked = leb-true _ _ d.1;
-      over = leb-true _ _ e.1;
-      comp_a = leb-true _ _ f.1;
+      control = leb-true _ _ control.0;
+      pin = not-true _ control.1;
+      count = leb-true _ _ b.0;
+      compare = leb-true _ _ c.0;
+      blocked = leb-true _ _ d.0;
+      over = leb-true _ _ e.0;
+      comp_a = leb-true _ _ f.0;
     }
 
 pub are-within : (p : Prescaler) (n : List ℕ) → Within p n → are_numbers p n ≡ true
-unfolding are_numbers
+unfolding fits
 are-within p n w =
     let control = le-leb _ _ w.control in
     let pin = w.pin in

@@ -4,6 +4,7 @@ pub mod Counter
 pub mod First
 pub mod Flags
 pub mod Mode
+pub mod Numbers
 pub mod Numbers16
 pub mod Numbers8
 pub mod Prescaler

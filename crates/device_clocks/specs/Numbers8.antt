@@ -1,6 +1,7 @@
 -- The six numbers of an 8-bit timer, by which it is saved and restored: TCCR, TCNT, OCR, whether the next clock is
 -- blocked, TOV and OCF.
 use Rattle.std.specs.Prelude.{◌≡◌, ◌<◌, ℕ, ◌%◌, nat_le, nat_lt, ◌&&◌, not, Bool, List, [], ◌∷◌, slice_index}
+use Rattle.std.specs.List.{list_all}
 use Rattle.device_clocks.specs.Bits.{bit}
 use Rattle.device_clocks.specs.Prescaler.{is_pin}
 use Rattle.device_clocks.specs.Registers8.{get_of}
@@ -18,15 +19,21 @@ numbers_of tm =
     ∷ bit tm.comp_a 1
     ∷ []
 
--- whether each number is within its bound: a control byte that a write accepts, as it reads; two bytes; three flags
-unfoldable pub are_numbers : Prescaler → List ℕ → Bool
-are_numbers p n =
-    nat_le (slice_index n 0) 15 && not (is_pin p (slice_index n 0 % 8))
-    && nat_le (slice_index n 1) 255
-    && nat_le (slice_index n 2) 255
-    && nat_le (slice_index n 3) 1
-    && nat_le (slice_index n 4) 1
-    && nat_le (slice_index n 5) 1
+-- a test for each number, whether it is within its bound: a control byte that a write accepts, as it reads; two bytes;
+-- three flags
+unfoldable pub fits : Prescaler → List ℕ → List Bool
+fits p n =
+    (nat_le (slice_index n 0) 15 && not (is_pin p (slice_index n 0 % 8)))
+    ∷ nat_le (slice_index n 1) 255
+    ∷ nat_le (slice_index n 2) 255
+    ∷ nat_le (slice_index n 3) 1
+    ∷ nat_le (slice_index n 4) 1
+    ∷ nat_le (slice_index n 5) 1
+    ∷ []
+
+-- whether each is
+abbrev pub are_numbers : Prescaler → List ℕ → Bool
+are_numbers p n = list_all (λ fit. fit) (fits p n)
 
 -- whether a clock select is one that a timer can have
 abbrev pub is_select : Prescaler → ℕ → Bool

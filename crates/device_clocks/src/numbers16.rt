@@ -1,11 +1,11 @@
 // The numbers of a timer, by which it is saved and restored.
 ghost use Rattle.std.specs.Prelude.{◌≡◌, ◌≤◌, true, Some, IfSome, is_some};
-ghost use Rattle.device_clocks.specs.Numbers16.{are_registers, control_mode};
+ghost use Rattle.device_clocks.specs.Numbers16.{are_numbers, control_mode};
 
-use crate::{Mode16, Prescaler, Timer16, TimerFlags};
+use crate::{Mode16, Prescaler, Timer16, TimerFlags, all_fit};
 
 impl Timer16 {
-    ghost use Rattle.device_clocks.specs.Numbers16.{HasNumbers, are_numbers, numbers_of};
+    ghost use Rattle.device_clocks.specs.Numbers16.{HasNumbers, fits, numbers_of};
 
     /// Its numbers: TCCRB, TCNT, OCRA, OCRB, OCRC, ICR, TEMP, then as 0 or 1 whether the next clock is blocked, TOV,
     /// OCFA, OCFB, OCFC and ICF. Where its clock select is at most 5, `from_numbers` makes the same timer of them.
@@ -30,9 +30,45 @@ impl Timer16 {
         ]
     }
 
-    /// The timer that has these `numbers`, in the order of `numbers`. `None` exactly where one of them breaks its bound:
-    /// TCCRB is a byte that `put` accepts, as it reads, TEMP is a byte, the five before it have sixteen bits, and the
-    /// others are 0 or 1.
+    /// A test for each of these `numbers`, whether it is within its bound: TCCRB is a byte that `put` accepts, as it reads,
+    /// TEMP is a byte, the five before it have sixteen bits, and the others are 0 or 1.
+    #[tactic(auto, unfolding(crate::specs::Numbers16::fits))]
+    pub fn fits(numbers: &[u64; 13]) -> [bool; 13]
+        ensures { result ≡ fits numbers.now }
+    {
+        let [
+            control,
+            count,
+            compare_a,
+            compare_b,
+            compare_c,
+            icr,
+            temp,
+            blocked,
+            over,
+            comp_a,
+            comp_b,
+            comp_c,
+            icf,
+        ] = *numbers;
+        [
+            control_mode(control).is_some(),
+            count <= 65535,
+            compare_a <= 65535,
+            compare_b <= 65535,
+            compare_c <= 65535,
+            icr <= 65535,
+            temp <= 255,
+            blocked <= 1,
+            over <= 1,
+            comp_a <= 1,
+            comp_b <= 1,
+            comp_c <= 1,
+            icf <= 1,
+        ]
+    }
+
+    /// The timer that has these `numbers`, in the order of `numbers`. `None` exactly where one of them breaks its bound.
     pub fn from_numbers(numbers: &[u64; 13]) -> Option<Timer16>
         ensures none { is_some result ≡ are_numbers numbers.now }
         ensures some { IfSome result (λ tm. HasNumbers numbers.now tm) }
@@ -53,10 +89,10 @@ impl Timer16 {
             comp_c,
             icf,
         ] = *numbers;
-        let mode = control_mode(control)?;
-        if !are_registers(numbers) {
+        if !are_numbers(numbers) {
             return None;
         }
+        let mode = control_mode(control)?;
         Some(Timer16 {
             mode,
             select: (control % 8) as u8,
@@ -92,27 +128,9 @@ fn control_mode(control: u64) -> Option<Mode16>
     }
 }
 
-// Whether the numbers after the first are within their bounds.
-#[tactic(auto, unfolding(crate::specs::Numbers16::are_registers))]
-fn are_registers(numbers: &[u64; 13]) -> bool
-    ensures { result ≡ are_registers numbers.now }
+// Whether each number of a timer is within its bound.
+fn are_numbers(numbers: &[u64; 13]) -> bool
+    ensures { result ≡ are_numbers numbers.now }
 {
-    let [
-        _,
-        count,
-        compare_a,
-        compare_b,
-        compare_c,
-        icr,
-        temp,
-        blocked,
-        over,
-        comp_a,
-        comp_b,
-        comp_c,
-        icf,
-    ] = *numbers;
-    let compares = compare_a <= 65535 && compare_b <= 65535 && compare_c <= 65535;
-    let flags = over <= 1 && comp_a <= 1 && comp_b <= 1 && comp_c <= 1 && icf <= 1;
-    count <= 65535 && compares && icr <= 65535 && temp <= 255 && blocked <= 1 && flags
+    all_fit(&Timer16::fits(numbers))
 }

@@ -2,10 +2,10 @@
 ghost use Rattle.std.specs.Prelude.{◌≡◌, true, Some, IfSome, is_some};
 ghost use Rattle.device_clocks.specs.Numbers8.{are_numbers};
 
-use crate::{Prescaler, Reg8, Timer8, any_bit};
+use crate::{Prescaler, Reg8, Timer8, all_fit, any_bit};
 
 impl Timer8 {
-    ghost use Rattle.device_clocks.specs.Numbers8.{HasNumbers, are_numbers, is_select, numbers_of};
+    ghost use Rattle.device_clocks.specs.Numbers8.{HasNumbers, fits, is_select, numbers_of};
 
     /// Its numbers: TCCR, TCNT, OCR, then as 0 or 1 whether the next clock is blocked, TOV and OCF. Where its clock
     /// select is one that its prescaler has, `from_numbers` makes the same timer of them.
@@ -23,8 +23,24 @@ impl Timer8 {
         ]
     }
 
-    /// The timer that has these `numbers`, in the order of `numbers`. `None` exactly where one of them breaks its bound:
-    /// TCCR is a byte that `put` accepts, as it reads, TCNT and OCR are bytes, and the others are 0 or 1.
+    /// A test for each of these `numbers`, whether it is within its bound for a timer of this prescaler. TCCR is a byte that
+    /// `put` accepts, as it reads, TCNT and OCR are bytes, and the others are 0 or 1.
+    #[tactic(auto, unfolding(crate::specs::Numbers8::fits))]
+    pub fn fits(prescaler: Prescaler, numbers: &[u64; 6]) -> [bool; 6]
+        ensures { result ≡ fits prescaler numbers.now }
+    {
+        let [control, count, compare, blocked, over, comp_a] = *numbers;
+        [
+            control <= 15 && !prescaler.is_pin((control % 8) as u8),
+            count <= 255,
+            compare <= 255,
+            blocked <= 1,
+            over <= 1,
+            comp_a <= 1,
+        ]
+    }
+
+    /// The timer that has these `numbers`, in the order of `numbers`. `None` exactly where one of them breaks its bound.
     pub fn from_numbers(prescaler: Prescaler, numbers: &[u64; 6]) -> Option<Timer8>
         ensures none { is_some result ≡ are_numbers prescaler numbers.now }
         ensures some { IfSome result (λ tm. HasNumbers prescaler numbers.now tm) }
@@ -48,14 +64,8 @@ impl Timer8 {
 }
 
 // Whether each number of a timer is within its bound.
-#[tactic(auto, unfolding(crate::specs::Numbers8::are_numbers))]
 fn are_numbers(prescaler: Prescaler, numbers: &[u64; 6]) -> bool
     ensures { result ≡ are_numbers prescaler numbers.now }
 {
-    let [control, count, compare, blocked, over, comp_a] = *numbers;
-    let registers = control <= 15
-        && !prescaler.is_pin((control % 8) as u8)
-        && count <= 255
-        && compare <= 255;
-    registers && blocked <= 1 && over <= 1 && comp_a <= 1
+    all_fit(&Timer8::fits(prescaler, numbers))
 }

@@ -9,6 +9,7 @@ mod clocks;
 mod lagging;
 mod numbers;
 mod radio;
+mod saved;
 mod serial;
 mod timers;
 mod transfers;

@@ -3,6 +3,7 @@ ghost use Rattle.std.specs.Prelude.{◌≤◌, ◌^◌};
 
 use crate::answers::Answer;
 use crate::numbers::{byte, cycle, short};
+use crate::saved::saved_radio;
 use serial_ports::{Moved, Radio};
 use world_core::Heard;
 
@@ -57,6 +58,6 @@ pub fn do_radio(radio: &mut Radio, words: &[&str]) -> Option<Answer> {
             Some(moved(radio, cycle(at)?, true, byte(b)?, heard))
         }
         [at, "released", b] => Some(moved(radio, cycle(at)?, false, byte(b)?, HEARD)),
-        _ => None,
+        words => saved_radio(radio, words),
     }
 }

@@ -1,6 +1,7 @@
 // What is done to USART0, and what a script brings.
 use crate::answers::Answer;
 use crate::numbers::{byte, cycle, long, short};
+use crate::saved::saved_usart;
 use serial_ports::{Script, Usart, UsartReg};
 use std::alloc::Global;
 
@@ -54,7 +55,7 @@ pub fn do_usart(port: &mut Usart, words: &[&str]) -> Option<Answer> {
         }
         ["line", name] => line(port, name),
         ["fresh"] => Some(Answer::Truth(*port == Usart::new())),
-        _ => None,
+        words => saved_usart(port, words),
     }
 }
 

@@ -1,6 +1,7 @@
 // What is done to a timer.
 use crate::answers::Answer;
 use crate::numbers::{byte, cycle};
+use crate::saved::{saved_timer8, saved_timer16};
 use device_clocks::{Chan, Prescaler, Reg8, Reg16, Timer8, Timer16, TimerFlags};
 
 fn flag(name: &str) -> Option<TimerFlags> {
@@ -69,7 +70,7 @@ pub fn do_timer8(timer: &mut Timer8, words: &[&str]) -> Option<Answer> {
             timer.clear(flag(name)?);
             Some(Answer::Done)
         }
-        _ => None,
+        words => saved_timer8(timer, words),
     }
 }
 
@@ -120,6 +121,6 @@ pub fn do_timer16(timer: &mut Timer16, words: &[&str]) -> Option<Answer> {
             timer.clear(flag(name)?);
             Some(Answer::Done)
         }
-        _ => None,
+        words => saved_timer16(timer, words),
     }
 }

@@ -1,6 +1,7 @@
 // What is done to the SPI.
 use crate::answers::Answer;
 use crate::numbers::{byte, cycle};
+use crate::saved::saved_spi;
 use serial_ports::{Spi, SpiReg};
 
 fn reg(name: &str) -> Option<SpiReg> {
@@ -42,6 +43,6 @@ pub fn do_spi(port: &mut Spi, words: &[&str]) -> Option<Answer> {
         ["sending"] => Some(Answer::perhaps_byte(port.sending())),
         ["end", miso] => Some(end(port, byte(miso)?)),
         ["enter"] => Some(enter(port)),
-        _ => None,
+        words => saved_spi(port, words),
     }
 }

@@ -6,5 +6,6 @@
 mod fleet;
 mod gather;
 mod plain;
+mod sends;
 
 pub use plain::{PlainRun, run_plain};

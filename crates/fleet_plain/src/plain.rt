@@ -1,21 +1,24 @@
 // A run in epochs, and the whole run.
-ghost use Rattle.std.specs.Prelude.{◌≡◌, ◌<◌, ◌≤◌, ◌+◌, ◌++◌, ◌==◌, min, true, false, IfOk, OnOk};
+ghost use Rattle.std.specs.Prelude.{◌≡◌, ◌<◌, ◌≤◌, ◌+◌, ◌++◌, ◌==◌, ℕ, length, min, true, false, IfOk, OnOk};
 ghost use Rattle.world_core.specs.Kept.{kept_room_of};
 ghost use Rattle.world_core.specs.Order.{run_rows};
 ghost use Rattle.node_runner.specs.Scenario.{fleet_of, IsScenario};
-ghost use Rattle.node_runner.specs.Flight.{epoch};
+ghost use Rattle.node_runner.specs.Flight.{epoch, place_at};
 ghost use Rattle.node_runner.specs.Run.{rows_upto};
+ghost use Rattle.fleet_plain.specs.Kept.{HasCome, kept_at};
 ghost use Rattle.fleet_plain.specs.Run.{IsResting};
+ghost use Rattle.node_runner.specs.Place.{Place};
 
 use crate::fleet::run_to;
 use crate::gather::{ends_at, gather, start};
+use crate::sends::ordered;
 use avr_base::NoMemory;
 use node_core::Row;
 use node_runner::{Runner, Scenario, sort};
 use std::alloc::Global;
 use std::marker::Model;
 use std::snapshot::Snapshot;
-use world_core::{EPOCH, SendLog, Topo};
+use world_core::{EPOCH, Send, SendLog, Topo};
 
 // Room for the sends of an epoch, and those before it that can still be heard.
 fn room_for(topo: &Topo) -> usize
@@ -62,6 +65,8 @@ pub struct PlainRun {
     failed: bool,
     runners: Vec<Runner>,
     log: SendLog,
+    // those of the log in order of cycle, then node
+    sends: Vec<Send>,
 }
 
 // By hand, so that an exit that lets go of a run has one call to prove.
@@ -75,6 +80,7 @@ impl Drop for PlainRun {
             failed: _,
             runners: _,
             log: _,
+            sends: _,
         } = self;
     }
 }
@@ -87,7 +93,7 @@ impl Model for PlainRun {
 
     ghost view = { λ r. record { scenario = r.scenario.value; floor = r.floor; failed = r.failed } };
 
-    ghost invariant = { λ r. IsRun record { scenario = r.scenario.value; floor = r.floor; failed = r.failed } r.limit r.runners.items r.log };
+    ghost invariant = { λ r. IsRun record { scenario = r.scenario.value; floor = r.floor; failed = r.failed } r.limit r.runners.items r.log r.sends.items };
 }
 
 impl PlainRun {
@@ -109,6 +115,7 @@ impl PlainRun {
             failed: false,
             runners,
             log,
+            sends: Vec::new(alloc),
         })
     }
 
@@ -126,6 +133,25 @@ impl PlainRun {
         ensures { result ≡ self.now.floor }
     {
         self.floor
+    }
+
+    /// A runner of each node, in order of number: each has come to the cycle of `floor`, or stopped before. Not after
+    /// `NoMemory`.
+    pub fn runners(&self) -> &[Runner]
+        requires sound { self.now.failed ≡ false }
+        ensures count { length result.now ≡ self.now.scenario.topo.nodes }
+        ensures come { (k : ℕ) (d : Place) → k < self.now.scenario.topo.nodes → HasCome self.now.scenario self.now.floor k (place_at result.now k d) }
+    {
+        &self.runners
+    }
+
+    /// The sends that can still be heard in the cycle of `floor` or later, in order of cycle, then node. Not after
+    /// `NoMemory`.
+    pub fn sends(&self) -> &[Send]
+        requires { self.now.failed ≡ false }
+        ensures { result.now ≡ kept_at self.now.scenario self.now.floor }
+    {
+        &self.sends
     }
 
     /// The rows of the next epoch, cycle by cycle and in a cycle node by node, with the last row of each node after the last
@@ -148,6 +174,7 @@ impl PlainRun {
             self.floor,
             end,
         )?;
+        self.sends = ordered(self.alloc, self.log.sends())?;
         self.floor = end;
         self.failed = false;
         Ok(rows)

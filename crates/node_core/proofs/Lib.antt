@@ -13,3 +13,4 @@ pub mod Ran
 pub mod Executes
 pub mod Steps
 pub mod Sprints
+pub mod Saved

@@ -8,3 +8,5 @@ pub mod Inside
 pub mod Reached
 pub mod Apart
 pub mod Midway
+pub mod Numbers
+pub mod Restored

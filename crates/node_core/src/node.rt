@@ -35,9 +35,9 @@ pub enum Reached {
 /// One node: its processor, its memories, and the rows that it made. A contract sees the cycle that it has reached,
 /// whether it is in the middle of a cycle that samples the air, its state, and its rows.
 pub struct Node {
-    cycle: u64,
-    asking: bool,
-    machine: Machine,
+    pub(crate) cycle: u64,
+    pub(crate) asking: bool,
+    pub(crate) machine: Machine,
 }
 
 // By hand, so that an exit that lets go of one, here and in the crates above, has one call to prove.

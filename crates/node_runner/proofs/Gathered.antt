@@ -40,10 +40,10 @@ module _ {X : Type 0} where
 tie_is : (a b : ℕ) → (not (is_lt (nat_cmp a b)) && not (is_lt (nat_cmp b a))) ≡ (b == a)
 tie_is a b = grind (arith, nat_tests)
 
-pub agree_from : (xs ys : List Row) → IsStableByKey (λ r. r.cycle) nat_cmp xs ys → Agree (λ r. r.cycle) ys xs
-agree_from xs ys s z =
-    sym (filter_agree (ties (λ (x y : Row). is_lt (nat_cmp x.cycle y.cycle)) z) (λ (r : Row). r.cycle == z.cycle) (λ r. tie_is z.cycle r.cycle) ys)
-    ∙ s z ∙ filter_agree (ties (λ (x y : Row). is_lt (nat_cmp x.cycle y.cycle)) z) (λ (r : Row). r.cycle == z.cycle) (λ r. tie_is z.cycle r.cycle) xs
+pub agree_by : {X : Type 0} (key : X → ℕ) (xs ys : List X) → IsStableByKey key nat_cmp xs ys → Agree key ys xs
+agree_by {X} key xs ys s z =
+    sym (filter_agree (ties (λ (x y : X). is_lt (nat_cmp (key x) (key y))) z) (λ (r : X). key r == key z) (λ r. tie_is (key z) (key r)) ys)
+    ∙ s z ∙ filter_agree (ties (λ (x y : X). is_lt (nat_cmp (key x) (key y))) z) (λ (r : X). key r == key z) (λ r. tie_is (key z) (key r)) xs
 
 begun_of : Place → List Row
 begun_of p = node_kind.begun_rows p.cycle (node_at (fleet_of p.scenario) p.number p.cycle)
@@ -89,7 +89,7 @@ module _ (sc : ScenarioOf) (since end : ℕ) (ps : List Place) (ok : IsScenario 
   gathered d ys up stable =
       let same : flat_map rows_of ps ≡ each_below sc.topo.nodes (λ k. rows_between f k since end) =
       all_flat rows_of (λ k. rows_between f k since end) ps d (λ k h. node_rows k d (omega arith)) ∙ ap (λ (n : ℕ). each_below n (λ k. rows_between f k since end)) count in
-      rows_merged f (sound sc ok) since end ys (omega arith) begun up (subst (Agree (λ (r : Row). r.cycle) ys) same (agree_from (flat_map rows_of ps) ys stable))
+      rows_merged f (sound sc ok) since end ys (omega arith) begun up (subst (Agree (λ (r : Row). r.cycle) ys) same (agree_by (λ r. r.cycle) (flat_map rows_of ps) ys stable))
 
   -- the last row of each
   end_at : (k : ℕ) (d : Place) → k < sc.topo.nodes → end ≡ sc.topo.limit → end_row_of (place_at ps k d) ≡ end_row sc.topo.limit (node_at f k sc.topo.limit)

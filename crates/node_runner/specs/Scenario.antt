@@ -4,6 +4,7 @@ use Rattle.world_core.specs.Topology.{Topology, IsTopology}
 use Rattle.ihex_loader.specs.Flash.{Image}
 use Rattle.serial_ports.specs.Script.{ScriptBytes}
 use Rattle.node_core.specs.declared.row.Row.{Row}
+use Rattle.node_core.specs.Restored.{IsRestored}
 use Rattle.node_core.specs.State.{NodeState, reset}
 use Rattle.node_core.specs.Cycle.{node_kind}
 use Rattle.world_core.specs.Order.{Fleet}
@@ -46,3 +47,7 @@ fleet_of s = record {
   begins = λ k. reset k (image_at s k).bytes (script_at s k) s.from s.to s.topo.byte_time;
   sent = [];
 }
+
+-- the state of node k of the scenario that has these numbers, I/O bytes and SRAM
+abbrev pub IsRestoredIn : ScenarioOf → ℕ → List ℕ → List ℕ → List ℕ → NodeState → Type 0
+IsRestoredIn s k n io sram u = IsRestored k (image_at s k).bytes (script_at s k) s.from s.to s.topo.byte_time n io sram u

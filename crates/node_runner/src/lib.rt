@@ -9,6 +9,7 @@
 
 mod law;
 mod order;
+mod restore;
 mod runner;
 mod scenario;
 

@@ -155,6 +155,15 @@ impl Runner {
         self.number
     }
 
+    /// The node itself: no sample unanswered, its state is that of the global order at the beginning of its cycle.
+    pub fn node(&self) -> &Node
+        ensures cycle { result.now.cycle ≡ self.now.cycle }
+        ensures asking { result.now.asking ≡ self.now.asking }
+        ensures state { self.now.asking ≡ false → result.now.state ≡ state_at self.now }
+    {
+        &self.node
+    }
+
     /// Whether it waits for an answer.
     pub fn asking(&self) -> bool
         ensures { result ≡ self.now.asking }

@@ -3,7 +3,7 @@ use Rattle.std.proofs.Common.{◌≡◌, ◌≤◌, ℕ, zero, suc, true, refl, 
 use Rattle.std.proofs.lemmas.Bool.{and_parts, leb-true}
 use Rattle.device_clocks.proofs.Places.{by-places, same-list}
 use Rattle.serial_ports.specs.Numbers.{owned}
-use Rattle.serial_ports.specs.RadioNumbers.{HasNumbers, are_numbers, heard_in, numbers_of, state_number, state_of}
+use Rattle.serial_ports.specs.RadioNumbers.{HasNumbers, are_numbers, fits, heard_in, numbers_of, state_number, state_of}
 use Rattle.serial_ports.specs.declared.radio.Radio.{Radio}
 use Rattle.serial_ports.specs.declared.radio.RadioState.{RadioState}
 use Rattle.serial_ports.specs.declared.radio.RadioState.TheVariants.{Idle, ToSend, ToSample, Status, Byte, Age}
@@ -49,13 +49,13 @@ pub record Within (n : List ℕ) : Type 0 where
   pub age : slice_index n 3 ≤ owned (nat_le 2 (slice_index n 0)) 255
 
 pub within : (n : List ℕ) → are_numbers n ≡ true → Within n
-unfolding are_numbers
+unfolding fits
 within n h =
-    let d = and_parts _ _ h in
-    let c = and_parts _ _ d.0 in
-    let b = and_parts _ _ c.0 in
-    let a = and_parts _ _ b.0 in
-    record { state = leb-true _ _ a.0; status = leb-true _ _ a.1; byte = leb-true _ _ b.1; age = leb-true _ _ c.1 }
+    let a = and_parts _ _ h in
+    let b = and_parts _ _ a.1 in
+    let c = and_parts _ _ b.1 in
+    let d = and_parts _ _ c.1 in
+    record { state = leb-true _ _ a.0; status = leb-true _ _ b.0; byte = leb-true _ _ c.0; age = leb-true _ _ d.0 }
 
 -- ---- the radio that has the numbers
 

@@ -5,7 +5,7 @@ use Rattle.device_clocks.specs.Bits.{any_bit}
 use Rattle.device_clocks.proofs.Places.{by-places, bit-flag, flag-bit, same-list}
 use Rattle.serial_ports.specs.Numbers.{is_end_number, owned, transmission_of}
 use Rattle.serial_ports.proofs.Absent.{owned-most, runs-again, transmission-again}
-use Rattle.serial_ports.specs.SpiNumbers.{are_numbers, numbers_of}
+use Rattle.serial_ports.specs.SpiNumbers.{are_numbers, fits, numbers_of}
 use Rattle.serial_ports.specs.declared.spi.Spi.{Spi}
 
 -- ---- the bounds of the interface
@@ -23,29 +23,29 @@ pub record Within (t : ℕ) (n : List ℕ) : Type 0 where
   pub noted_wcol : slice_index n 9 ≤ 1
 
 pub within : (t : ℕ) (n : List ℕ) → true ≡ are_numbers t n → Within t n
-unfolding are_numbers
+unfolding fits
 within t n h =
-    let j = and_parts _ _ (sym h) in
-    let i = and_parts _ _ j.0 in
-    let g = and_parts _ _ i.0 in
-    let f = and_parts _ _ g.0 in
-    let e = and_parts _ _ f.0 in
-    let d = and_parts _ _ e.0 in
-    let c = and_parts _ _ d.0 in
-    let b = and_parts _ _ c.0 in
-    let a = and_parts _ _ b.0 in
-    let k = and_parts _ _ a.0 in
+    let a = and_parts _ _ (sym h) in
+    let b = and_parts _ _ a.1 in
+    let c = and_parts _ _ b.1 in
+    let d = and_parts _ _ c.1 in
+    let e = and_parts _ _ d.1 in
+    let f = and_parts _ _ e.1 in
+    let g = and_parts _ _ f.1 in
+    let i = and_parts _ _ g.1 in
+    let j = and_parts _ _ i.1 in
+    let k = and_parts _ _ j.1 in
     record {
-      control = leb-true _ _ k.0;
-      double = leb-true _ _ a.1;
-      register = leb-true _ _ b.1;
-      runs = owned-most (any_bit (slice_index n 0) 0x40) _ _ (leb-true _ _ c.1);
-      ends = d.1;
-      byte = leb-true _ _ e.1;
-      spif = leb-true _ _ f.1;
-      wcol = leb-true _ _ g.1;
-      noted_spif = leb-true _ _ i.1;
-      noted_wcol = leb-true _ _ j.1;
+      control = leb-true _ _ (and_parts _ _ a.0).0;
+      double = leb-true _ _ b.0;
+      register = leb-true _ _ c.0;
+      runs = owned-most (any_bit (slice_index n 0) 0x40) _ _ (leb-true _ _ d.0);
+      ends = e.0;
+      byte = leb-true _ _ f.0;
+      spif = leb-true _ _ g.0;
+      wcol = leb-true _ _ i.0;
+      noted_spif = leb-true _ _ j.0;
+      noted_wcol = leb-true _ _ k.0;
     }
 
 -- ---- the interface that has the numbers

@@ -5,7 +5,7 @@ use Rattle.device_clocks.specs.Bits.{bit}
 use Rattle.device_clocks.specs.declared.transmission.Transmission.{Transmission}
 use Rattle.device_clocks.proofs.Places.{by-places, bit-flag, flag-bit, same-list}
 use Rattle.serial_ports.specs.Numbers.{is_end_number, owned, transmission_of}
-use Rattle.serial_ports.specs.UsartNumbers.{are_registers, are_sent, first_number, inbox_of, numbers_of, received, second_number, waiting_number, waiting_of}
+use Rattle.serial_ports.specs.UsartNumbers.{are_numbers, first_number, fits, inbox_of, numbers_of, received, second_number, waiting_number, waiting_of}
 use Rattle.serial_ports.specs.declared.inbox.Inbox.{Inbox}
 use Rattle.serial_ports.specs.declared.inbox.Inbox.TheVariants.{Empty, One, Two}
 use Rattle.serial_ports.specs.declared.usart.Usart.{Usart}
@@ -44,7 +44,7 @@ waits-again (suc (suc n)) b h most = absurd (omega arith)
 
 -- ---- the bounds
 
-pub record Registers (n : List ℕ) : Type 0 where
+pub record Within (t : ℕ) (n : List ℕ) : Type 0 where
   pub double : slice_index n 0 ≤ 1
   pub control_b : slice_index n 1 ≤ 255
   pub control_c : slice_index n 2 ≤ 15
@@ -54,51 +54,44 @@ pub record Registers (n : List ℕ) : Type 0 where
   pub count : slice_index n 6 ≤ 2
   pub first : slice_index n 7 ≤ owned (nat_le 1 (slice_index n 6)) 255
   pub second : slice_index n 8 ≤ owned (nat_le 2 (slice_index n 6)) 255
-
-pub registers : (n : List ℕ) → are_registers n ≡ true → Registers n
-unfolding are_registers
-registers n h =
-    let g = and_parts _ _ h in
-    let f = and_parts _ _ g.0 in
-    let e = and_parts _ _ f.0 in
-    let d = and_parts _ _ e.0 in
-    let c = and_parts _ _ d.0 in
-    let b = and_parts _ _ c.0 in
-    let a = and_parts _ _ b.0 in
-    let z = and_parts _ _ a.0 in
-    let y = and_parts _ _ z.1 in
-    record {
-      double = leb-true _ _ z.0;
-      control_b = leb-true _ _ y.0;
-      control_c = leb-true _ _ a.1;
-      baud = leb-true _ _ b.1;
-      txc = leb-true _ _ c.1;
-      dor = leb-true _ _ d.1;
-      count = leb-true _ _ e.1;
-      first = leb-true _ _ f.1;
-      second = leb-true _ _ g.1;
-    }
-
-pub record Sent (t : ℕ) (n : List ℕ) : Type 0 where
   pub runs : slice_index n 9 ≤ 1
   pub ends : is_end_number t (slice_index n 9 == 1) (slice_index n 10) ≡ true
   pub byte : slice_index n 11 ≤ owned (slice_index n 9 == 1) 255
   pub waits : slice_index n 12 ≤ 1
   pub next : slice_index n 13 ≤ owned (slice_index n 12 == 1) 255
 
-pub sent : (t : ℕ) (n : List ℕ) → are_sent t n ≡ true → Sent t n
-unfolding are_sent
-sent t n h =
-    let d = and_parts _ _ h in
-    let c = and_parts _ _ d.0 in
-    let b = and_parts _ _ c.0 in
-    let a = and_parts _ _ b.0 in
+pub within : (t : ℕ) (n : List ℕ) → are_numbers t n ≡ true → Within t n
+unfolding fits
+within t n h =
+    let a = and_parts _ _ h in
+    let b = and_parts _ _ a.1 in
+    let c = and_parts _ _ b.1 in
+    let d = and_parts _ _ c.1 in
+    let e = and_parts _ _ d.1 in
+    let f = and_parts _ _ e.1 in
+    let g = and_parts _ _ f.1 in
+    let i = and_parts _ _ g.1 in
+    let j = and_parts _ _ i.1 in
+    let k = and_parts _ _ j.1 in
+    let l = and_parts _ _ k.1 in
+    let m = and_parts _ _ l.1 in
+    let o = and_parts _ _ m.1 in
+    let p = and_parts _ _ o.1 in
     record {
-      runs = leb-true _ _ a.0;
-      ends = a.1;
-      byte = leb-true _ _ b.1;
-      waits = owned-most (slice_index n 9 == 1) _ 1 (leb-true _ _ c.1);
-      next = leb-true _ _ d.1;
+      double = leb-true _ _ a.0;
+      control_b = leb-true _ _ (and_parts _ _ b.0).0;
+      control_c = leb-true _ _ c.0;
+      baud = leb-true _ _ d.0;
+      txc = leb-true _ _ e.0;
+      dor = leb-true _ _ f.0;
+      count = leb-true _ _ g.0;
+      first = leb-true _ _ i.0;
+      second = leb-true _ _ j.0;
+      runs = leb-true _ _ k.0;
+      ends = l.0;
+      byte = leb-true _ _ m.0;
+      waits = owned-most (slice_index n 9 == 1) _ 1 (leb-true _ _ o.0);
+      next = leb-true _ _ p.0;
     }
 
 -- ---- the port that has the numbers
@@ -116,19 +109,18 @@ usart_of n = record {
   waiting = waiting_of (slice_index n 12 == 1) (slice_index n 13);
 }
 
-pub has-numbers : (t : ℕ) (n : List ℕ) → length n ≡ 14 → are_registers n ≡ true → are_sent t n ≡ true → numbers_of (usart_of n) ≡ n
-has-numbers t n len r s =
-    let w = registers n r in
-    let v = sent t n s in
-    let h = holds-again (slice_index n 6) (slice_index n 7) (slice_index n 8) w.count w.first w.second in
-    let f = runs-again t (slice_index n 9) (slice_index n 10) (slice_index n 11) v.runs v.ends v.byte in
-    let b = waits-again (slice_index n 12) (slice_index n 13) v.waits v.next in
+pub has-numbers : (t : ℕ) (n : List ℕ) → length n ≡ 14 → are_numbers t n ≡ true → numbers_of (usart_of n) ≡ n
+has-numbers t n len h =
+    let w = within t n h in
+    let i = holds-again (slice_index n 6) (slice_index n 7) (slice_index n 8) w.count w.first w.second in
+    let f = runs-again t (slice_index n 9) (slice_index n 10) (slice_index n 11) w.runs w.ends w.byte in
+    let b = waits-again (slice_index n 12) (slice_index n 13) w.waits w.next in
     let double = bit-flag (slice_index n 0) w.double in
     let txc = bit-flag (slice_index n 4) w.txc in
     let dor = bit-flag (slice_index n 5) w.dor in
     let waiting = same-list b.waits (same-list b.byte refl) in
     let frame = same-list f.runs (same-list f.ends (same-list f.byte waiting)) in
-    let inbox = same-list h.count (same-list h.first (same-list h.second frame)) in
+    let inbox = same-list i.count (same-list i.first (same-list i.second frame)) in
     let flags = same-list txc (same-list dor inbox) in
     same-list double (same-list refl (same-list refl (same-list refl flags))) ∙ by-places n 14 len
 

@@ -1,6 +1,7 @@
 -- The five numbers of the radio: its state (0 idle, 1 waits for the byte to send, 2 to 4 with three, two and one answers
 -- left), the status, the byte and the age of what was heard, and the first cycle in which it may send again.
-use Rattle.std.specs.Prelude.{◌≡◌, ℕ, ◌^◌, ◌==◌, if◌then◌else◌, nat_le, ◌&&◌, Bool, List, [], ◌∷◌, slice_index}
+use Rattle.std.specs.Prelude.{◌≡◌, ℕ, ◌^◌, ◌==◌, if◌then◌else◌, nat_le, Bool, List, [], ◌∷◌, slice_index}
+use Rattle.std.specs.List.{list_all}
 use Rattle.serial_ports.specs.Numbers.{owned}
 use Rattle.serial_ports.specs.declared.radio.Radio.{Radio}
 use Rattle.serial_ports.specs.declared.radio.RadioState.{RadioState}
@@ -36,14 +37,19 @@ numbers_of r =
     ∷ r.free
     ∷ []
 
--- whether each number is within its bound: without a sample nothing was heard
-unfoldable pub are_numbers : List ℕ → Bool
-are_numbers n =
+-- a test for each number, whether it is within its bound: without a sample nothing was heard
+unfoldable pub fits : List ℕ → List Bool
+fits n =
     nat_le (slice_index n 0) 4
-    && nat_le (slice_index n 1) (owned (nat_le 2 (slice_index n 0)) 2)
-    && nat_le (slice_index n 2) (owned (nat_le 2 (slice_index n 0)) 255)
-    && nat_le (slice_index n 3) (owned (nat_le 2 (slice_index n 0)) 255)
-    && nat_le (slice_index n 4) (2 ^ 41)
+    ∷ nat_le (slice_index n 1) (owned (nat_le 2 (slice_index n 0)) 2)
+    ∷ nat_le (slice_index n 2) (owned (nat_le 2 (slice_index n 0)) 255)
+    ∷ nat_le (slice_index n 3) (owned (nat_le 2 (slice_index n 0)) 255)
+    ∷ nat_le (slice_index n 4) (2 ^ 41)
+    ∷ []
+
+-- whether each is
+abbrev pub are_numbers : List ℕ → Bool
+are_numbers n = list_all (λ fit. fit) (fits n)
 
 -- a radio of a byte time that has these numbers
 pub record HasNumbers (byte_time : ℕ) (n : List ℕ) (r : Radio) : Type 0 where

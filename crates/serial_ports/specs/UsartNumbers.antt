@@ -1,6 +1,7 @@
 -- The fourteen numbers of the port: U2X, UCSR0B, UCSR0C, UBRR0, TXC, DOR, how many bytes were received, the first and the
 -- second, whether a frame runs, its end and its byte, whether a byte waits, and that byte.
 use Rattle.std.specs.Prelude.{ℕ, ◌==◌, nat_le, ◌&&◌, not, if◌then◌else◌, Bool, Option, None, Some, is_some, List, [], ◌∷◌, slice_index}
+use Rattle.std.specs.List.{list_all}
 use Rattle.device_clocks.specs.Bits.{any_bit, bit}
 use Rattle.serial_ports.specs.Numbers.{byte_number, end_number, is_end_number, owned}
 use Rattle.serial_ports.specs.declared.inbox.Inbox.{Inbox}
@@ -50,28 +51,26 @@ numbers_of u =
     ∷ waiting_number u.waiting
     ∷ []
 
--- whether the numbers of registers and of the receive buffer are within their bounds: UCSR0B as it reads, with bits 2 and
--- 1 clear; the four low bits of UCSR0C; twelve bits of UBRR0; at most two bytes
-unfoldable pub are_registers : List ℕ → Bool
-are_registers n =
+-- a test for each number, whether it is within its bound, of a port before cycle t: UCSR0B as it reads, with bits 2 and 1
+-- clear; the four low bits of UCSR0C; twelve bits of UBRR0; at most two bytes; a byte waits only where a frame runs
+unfoldable pub fits : ℕ → List ℕ → List Bool
+fits t n =
     nat_le (slice_index n 0) 1
-    && (nat_le (slice_index n 1) 255 && not (any_bit (slice_index n 1) 0x06))
-    && nat_le (slice_index n 2) 15
-    && nat_le (slice_index n 3) 4095
-    && nat_le (slice_index n 4) 1
-    && nat_le (slice_index n 5) 1
-    && nat_le (slice_index n 6) 2
-    && nat_le (slice_index n 7) (owned (nat_le 1 (slice_index n 6)) 255)
-    && nat_le (slice_index n 8) (owned (nat_le 2 (slice_index n 6)) 255)
+    ∷ (nat_le (slice_index n 1) 255 && not (any_bit (slice_index n 1) 0x06))
+    ∷ nat_le (slice_index n 2) 15
+    ∷ nat_le (slice_index n 3) 4095
+    ∷ nat_le (slice_index n 4) 1
+    ∷ nat_le (slice_index n 5) 1
+    ∷ nat_le (slice_index n 6) 2
+    ∷ nat_le (slice_index n 7) (owned (nat_le 1 (slice_index n 6)) 255)
+    ∷ nat_le (slice_index n 8) (owned (nat_le 2 (slice_index n 6)) 255)
+    ∷ nat_le (slice_index n 9) 1
+    ∷ is_end_number t (slice_index n 9 == 1) (slice_index n 10)
+    ∷ nat_le (slice_index n 11) (owned (slice_index n 9 == 1) 255)
+    ∷ nat_le (slice_index n 12) (owned (slice_index n 9 == 1) 1)
+    ∷ nat_le (slice_index n 13) (owned (slice_index n 12 == 1) 255)
+    ∷ []
 
--- whether those of what is sent are, of a port before cycle t: a byte waits only where a frame runs
-unfoldable pub are_sent : ℕ → List ℕ → Bool
-are_sent t n =
-    nat_le (slice_index n 9) 1
-    && is_end_number t (slice_index n 9 == 1) (slice_index n 10)
-    && nat_le (slice_index n 11) (owned (slice_index n 9 == 1) 255)
-    && nat_le (slice_index n 12) (owned (slice_index n 9 == 1) 1)
-    && nat_le (slice_index n 13) (owned (slice_index n 12 == 1) 255)
-
+-- whether each is
 abbrev pub are_numbers : ℕ → List ℕ → Bool
-are_numbers t n = are_registers n && are_sent t n
+are_numbers t n = list_all (λ fit. fit) (fits t n)

@@ -4,10 +4,11 @@ ghost use Rattle.serial_ports.specs.RadioNumbers.{are_numbers, heard_in, state_n
 
 use crate::numbers::owned;
 use crate::{Radio, RadioState};
+use device_clocks::all_fit;
 use world_core::Heard;
 
 impl Radio {
-    ghost use Rattle.serial_ports.specs.RadioNumbers.{HasNumbers, numbers_of};
+    ghost use Rattle.serial_ports.specs.RadioNumbers.{HasNumbers, fits, numbers_of};
 
     /// Its numbers: its state (0 idle, 1 waits for the byte to send, 2 to 4 with three, two and one answers left), the
     /// status, the byte and the age of what was heard, 0 where nothing is to be answered, and the first cycle in which it
@@ -25,9 +26,25 @@ impl Radio {
         ]
     }
 
+    /// A test for each of these `numbers`, whether it is within its bound: the state is at most 4, the status at most 2, byte
+    /// and age are bytes, all three are 0 in the states 0 and 1, and the cycle is at most 2^41.
+    #[tactic(auto, unfolding(crate::specs::RadioNumbers::fits))]
+    pub fn fits(numbers: &[u64; 5]) -> [bool; 5]
+        ensures { result ≡ fits numbers.now }
+    {
+        let [state, status, byte, age, free] = *numbers;
+        let answers = state >= 2;
+        [
+            state <= 4,
+            status <= owned(answers, 2),
+            byte <= owned(answers, 255),
+            age <= owned(answers, 255),
+            free <= 1 << 41,
+        ]
+    }
+
     /// The radio that has these `numbers`, in the order of `numbers`, and whose bytes are on the air for `byte_time`
-    /// cycles, at most 4,096. `None` exactly where one of the numbers breaks its bound: the state is at most 4, the status
-    /// at most 2, byte and age are bytes, all three are 0 in the states 0 and 1, and the cycle is at most 2^41.
+    /// cycles, at most 4,096. `None` exactly where one of the numbers breaks its bound.
     pub fn from_numbers(byte_time: u64, numbers: &[u64; 5]) -> Option<Radio>
         requires { byte_time ≤ 4096 }
         ensures none { is_some result ≡ are_numbers numbers.now }
@@ -96,14 +113,8 @@ fn state_of(number: u64, heard: Heard) -> RadioState
 }
 
 // Whether each number is within its bound.
-#[tactic(auto, unfolding(crate::specs::RadioNumbers::are_numbers))]
 fn are_numbers(numbers: &[u64; 5]) -> bool
     ensures { result ≡ are_numbers numbers.now }
 {
-    let [state, status, byte, age, free] = *numbers;
-    let answers = state >= 2;
-    let heard = status <= owned(answers, 2)
-        && byte <= owned(answers, 255)
-        && age <= owned(answers, 255);
-    state <= 4 && heard && free <= 1 << 41
+    all_fit(&Radio::fits(numbers))
 }

@@ -4,9 +4,10 @@ ghost use Rattle.serial_ports.specs.SpiNumbers.{are_numbers};
 
 use crate::Spi;
 use crate::numbers::{byte_number, end_number, is_end_number, owned, transmission_of};
+use device_clocks::all_fit;
 
 impl Spi {
-    ghost use Rattle.serial_ports.specs.SpiNumbers.{numbers_of};
+    ghost use Rattle.serial_ports.specs.SpiNumbers.{fits, numbers_of};
 
     /// Its numbers: SPCR, SPI2X, the byte that SPDR reads, whether a transfer runs, its end in cycles and its byte, SPIF,
     /// WCOL, and whether SPIF and WCOL are noted. Flags are 0 or 1; without a transfer its end and its byte are 0.
@@ -27,9 +28,42 @@ impl Spi {
         ]
     }
 
+    /// A test for each of these `numbers`, whether it is within its bound for an interface before the cycle `cycle`: SPCR is
+    /// a byte that `put` accepts, a transfer runs only with SPE, and ends from `cycle` to 2^41.
+    #[tactic(auto, unfolding(crate::specs::SpiNumbers::fits))]
+    pub fn fits(cycle: u64, numbers: &[u64; 10]) -> [bool; 10]
+        ensures { result ≡ fits cycle numbers.now }
+    {
+        let [
+            control,
+            double,
+            data,
+            runs,
+            ends,
+            byte,
+            spif,
+            wcol,
+            noted_spif,
+            noted_wcol,
+        ] = *numbers;
+        let enabled = control & 0x40 != 0;
+        let slave = enabled && control & 0x10 == 0;
+        [
+            control <= 255 && !slave,
+            double <= 1,
+            data <= 255,
+            runs <= owned(enabled, 1),
+            is_end_number(cycle, runs == 1, ends),
+            byte <= owned(runs == 1, 255),
+            spif <= 1,
+            wcol <= 1,
+            noted_spif <= 1,
+            noted_wcol <= 1,
+        ]
+    }
+
     /// The interface that has these `numbers`, in the order of `numbers`, before the cycle `cycle`. `None` exactly where
-    /// one of them breaks its bound: SPCR is a byte that `put` accepts, a transfer runs only with SPE, and ends from
-    /// `cycle` to 2^41.
+    /// one of them breaks its bound.
     pub fn from_numbers(cycle: u64, numbers: &[u64; 10]) -> Option<Spi>
         ensures none { is_some result ≡ are_numbers cycle numbers.now }
         ensures some { IfSome result (λ s. numbers_of s ≡ numbers.now) }
@@ -64,27 +98,8 @@ impl Spi {
 }
 
 // Whether each number is within its bound.
-#[tactic(auto, unfolding(crate::specs::SpiNumbers::are_numbers))]
 fn are_numbers(cycle: u64, numbers: &[u64; 10]) -> bool
     ensures { result ≡ are_numbers cycle numbers.now }
 {
-    let [
-        control,
-        double,
-        data,
-        runs,
-        ends,
-        byte,
-        spif,
-        wcol,
-        noted_spif,
-        noted_wcol,
-    ] = *numbers;
-    let enabled = control & 0x40 != 0;
-    let slave = enabled && control & 0x10 == 0;
-    let registers = control <= 255 && !slave && double <= 1 && data <= 255;
-    let transfer = runs <= owned(enabled, 1)
-        && is_end_number(cycle, runs == 1, ends)
-        && byte <= owned(runs == 1, 255);
-    registers && transfer && spif <= 1 && wcol <= 1 && noted_spif <= 1 && noted_wcol <= 1
+    all_fit(&Spi::fits(cycle, numbers))
 }

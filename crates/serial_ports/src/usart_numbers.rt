@@ -1,12 +1,13 @@
 // The numbers of the port, by which it is saved and restored.
 ghost use Rattle.std.specs.Prelude.{◌≡◌, true, Some, IfSome, is_some};
-ghost use Rattle.serial_ports.specs.UsartNumbers.{are_registers, are_sent, first_number, inbox_of, received, second_number, waiting_number, waiting_of};
+ghost use Rattle.serial_ports.specs.UsartNumbers.{are_numbers, first_number, inbox_of, received, second_number, waiting_number, waiting_of};
 
 use crate::numbers::{byte_number, end_number, is_end_number, owned, transmission_of};
 use crate::{Inbox, Usart};
+use device_clocks::all_fit;
 
 impl Usart {
-    ghost use Rattle.serial_ports.specs.UsartNumbers.{are_numbers, numbers_of};
+    ghost use Rattle.serial_ports.specs.UsartNumbers.{fits, numbers_of};
 
     /// Its numbers: U2X, UCSR0B, UCSR0C, UBRR0, TXC, DOR, how many bytes were received, the first and the second of them,
     /// whether a frame runs, its end in cycles and its byte, whether a byte waits, and that byte. Flags are 0 or 1; what
@@ -32,15 +33,55 @@ impl Usart {
         ]
     }
 
+    /// A test for each of these `numbers`, whether it is within its bound for a port before the cycle `cycle`: UCSR0B is a
+    /// byte as it reads, UCSR0C has four bits and UBRR0 twelve, at most two bytes were received, a frame ends from `cycle`
+    /// to 2^41, and a byte waits only where a frame runs.
+    #[tactic(auto, unfolding(crate::specs::UsartNumbers::fits))]
+    pub fn fits(cycle: u64, numbers: &[u64; 14]) -> [bool; 14]
+        ensures { result ≡ fits cycle numbers.now }
+    {
+        let [
+            double,
+            control_b,
+            control_c,
+            baud,
+            txc,
+            dor,
+            received,
+            first,
+            second,
+            runs,
+            ends,
+            byte,
+            waits,
+            next,
+        ] = *numbers;
+        [
+            double <= 1,
+            control_b <= 255 && control_b & 0x06 == 0,
+            control_c <= 15,
+            baud <= 4095,
+            txc <= 1,
+            dor <= 1,
+            received <= 2,
+            first <= owned(received >= 1, 255),
+            second <= owned(received >= 2, 255),
+            runs <= 1,
+            is_end_number(cycle, runs == 1, ends),
+            byte <= owned(runs == 1, 255),
+            waits <= owned(runs == 1, 1),
+            next <= owned(waits == 1, 255),
+        ]
+    }
+
     /// The port that has these `numbers`, in the order of `numbers`, before the cycle `cycle`. `None` exactly where one
-    /// of them breaks its bound: UCSR0B is a byte as it reads, UCSR0C has four bits and UBRR0 twelve, at most two bytes
-    /// were received, a frame ends from `cycle` to 2^41, and a byte waits only where a frame runs.
+    /// of them breaks its bound.
     pub fn from_numbers(cycle: u64, numbers: &[u64; 14]) -> Option<Usart>
         ensures none { is_some result ≡ are_numbers cycle numbers.now }
         ensures some { IfSome result (λ u. numbers_of u ≡ numbers.now) }
         ensures one { (u : Usart) → numbers_of u ≡ numbers.now → are_numbers cycle numbers.now ≡ true → result ≡ Some u }
     {
-        if !are_registers(numbers) || !are_sent(cycle, numbers) {
+        if !are_numbers(cycle, numbers) {
             return None;
         }
         let [
@@ -137,36 +178,9 @@ fn waiting_of(waits: bool, byte: u8) -> Option<u8>
     if waits { Some(byte) } else { None }
 }
 
-// Whether the numbers of registers and of the receive buffer are within their bounds.
-#[tactic(auto, unfolding(crate::specs::UsartNumbers::are_registers))]
-fn are_registers(numbers: &[u64; 14]) -> bool
-    ensures { result ≡ are_registers numbers.now }
+// Whether each number is within its bound.
+fn are_numbers(cycle: u64, numbers: &[u64; 14]) -> bool
+    ensures { result ≡ are_numbers cycle numbers.now }
 {
-    let [
-        double,
-        control_b,
-        control_c,
-        baud,
-        txc,
-        dor,
-        received,
-        first,
-        second,
-        ..
-    ] = *numbers;
-    let control = control_b <= 255 && control_b & 0x06 == 0 && control_c <= 15;
-    let inbox = received <= 2
-        && first <= owned(received >= 1, 255)
-        && second <= owned(received >= 2, 255);
-    double <= 1 && control && baud <= 4095 && txc <= 1 && dor <= 1 && inbox
-}
-
-// Whether those of what is sent are.
-#[tactic(auto, unfolding(crate::specs::UsartNumbers::are_sent))]
-fn are_sent(cycle: u64, numbers: &[u64; 14]) -> bool
-    ensures { result ≡ are_sent cycle numbers.now }
-{
-    let [.., runs, ends, byte, waits, next] = *numbers;
-    let frame = runs <= 1 && is_end_number(cycle, runs == 1, ends) && byte <= owned(runs == 1, 255);
-    frame && waits <= owned(runs == 1, 1) && next <= owned(waits == 1, 255)
+    all_fit(&Usart::fits(cycle, numbers))
 }

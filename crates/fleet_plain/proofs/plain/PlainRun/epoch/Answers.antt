@@ -1,7 +1,10 @@
-use Rattle.std.proofs.Common.{◌≡◌, ◌+◌, false, min, sym, subst, ap, ◌∙◌, arith}
-use Rattle.node_runner.specs.Scenario.{ScenarioOf}
-use Rattle.node_runner.specs.Run.{RunAt}
+use Rattle.std.proofs.Common.{◌≡◌, ℕ, ◌+◌, ◌++◌, ◌≤◌, List, false, min, sym, subst, ap, ◌∙◌, arith}
+use Rattle.world_core.specs.declared.air.Send.{Send}
+use Rattle.node_runner.specs.Scenario.{ScenarioOf, IsScenario, fleet_of}
+use Rattle.node_runner.specs.Run.{RunAt, rows_upto}
+use Rattle.fleet_plain.specs.Kept.{AreOrdered, kept_at}
 use Rattle.fleet_plain.specs.Run.{IsResting}
+use Rattle.fleet_plain.proofs.KeptSends.{kept_sends}
 use Rattle.fleet_plain.proofs.plain.PlainRun.epoch.Goals as goal
 
 pub rows_to-requires-clause-rests : goal.rows_to-requires-clause-rests
@@ -17,9 +20,14 @@ invariant_of-self-2 c =
     let same : c.args.scenario.now ≡ i.scenario.value = c.requires.same ∙ ap (λ (r : RunAt). r.scenario) (sym c.self.view_is) in
     let below = c.self.invariant.within in
     let e : c.min-end.result ≡ min (i.floor + 262144) i.limit = c.min-end.ensures in
+    let last = c.self.invariant.limit in
+    let limit = ap (λ (s : ScenarioOf). s.topo.limit) same in
+    let ordered : AreOrdered c.rows_to.new.log.sends c.in_ok-ordered.field-0.items = subst (λ (l : List Send). AreOrdered l c.in_ok-ordered.field-0.items) c.sends.ensures c.in_ok-ordered.ensures in
+    let sends = kept_sends c.args.scenario.now c.min-end.result c.rows_to.new.runners.items c.rows_to.new.log (subst IsScenario (sym same) c.self.invariant.scenario) (omega arith) c.in_ok-rows.ensures.rests c.in_ok-ordered.field-0.items ordered in
     record {
       scenario = c.self.invariant.scenario;
       limit = c.self.invariant.limit;
       within = omega arith;
       rests = (λ q. subst (λ (s : ScenarioOf). IsResting s c.min-end.result c.rows_to.new.runners.items c.rows_to.new.log) same c.in_ok-rows.ensures.rests);
+      sends = (λ q. subst (λ (s : ScenarioOf). c.in_ok-ordered.field-0.items ≡ kept_at s c.min-end.result) same sends);
     }

@@ -5,6 +5,7 @@ use Rattle.world_core.specs.Kept.{kept_room_of}
 use Rattle.node_runner.specs.Scenario.{ScenarioOf}
 use Rattle.fleet_plain.specs.Run.{IsRun}
 use Rattle.fleet_plain.proofs.Gathered.{first_flight, start_still}
+use Rattle.fleet_plain.proofs.KeptSends.{no_kept_yet}
 use Rattle.fleet_plain.proofs.plain.PlainRun.new.Goals as goal
 
 pub invariant_of-result : goal.invariant_of-result
@@ -13,7 +14,7 @@ invariant_of-result c =
     let ps = c.in_ok-runners.runners.items in
     let log : LogFacts = c.in-Ok.log in
     let log_is : log ≡ log_of [] (kept_room_of sc.topo 262144) = c.in-Ok.ensures ∙ ap (log_of []) (c.room_for.ensures ∙ ap (λ (t : Topology). kept_room_of t 262144) c.lawful_topo-topo.ensures.value) in
-    subst (λ (s : ScenarioOf). IsRun record { scenario = s; floor = 0; failed = false } c.limit.result ps log) (sym c.of.ensures)
+    subst (λ (s : ScenarioOf). IsRun record { scenario = s; floor = 0; failed = false } c.limit.result ps log []) (sym c.of.ensures)
     (record {
       scenario = c.lawful_topo-topo.ensures.sound;
       limit = c.limit.ensures.value ∙ ap (λ (t : Topology). t.limit) c.lawful_topo-topo.ensures.value;
@@ -23,4 +24,5 @@ invariant_of-result c =
         still = start_still sc ps c.in_ok-runners.ensures;
         room = (let r = ap (λ (l : LogFacts). l.room) log_is in omega arith);
       });
+      sends = (λ e. sym (no_kept_yet sc c.lawful_topo-topo.ensures.sound));
     })

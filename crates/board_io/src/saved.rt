@@ -1,0 +1,222 @@
+// What a board is saved and restored by.
+ghost use Rattle.std.specs.Prelude.{◌≡◌, ◌≤◌, ◌+◌, ◌^◌, None, Some, IfSome, is_some, length, option_map};
+ghost use Rattle.std.specs.List.{list_all, position};
+ghost use Rattle.board_io.specs.Kept.{first_refused, is_io, is_kept, kept_bits, kept_of};
+
+use crate::rules::{Rule, rule_at};
+use crate::{Board, Clock, LaggingBoard};
+use avr_base::IO_START;
+use device_clocks::{Prescaler, Timer8, Timer16, first_outside, part, put_part};
+use serial_ports::{Radio, Spi, Usart};
+
+impl Rule {
+    // Whether the board keeps the byte of the register.
+    fn is_kept(self) -> bool
+        ensures { result ≡ is_kept self }
+    {
+        match self {
+            Rule::Kept { .. } | Rule::Guarded { .. } | Rule::ResetFlags | Rule::CpuControl => true,
+            Rule::Reserved
+            | Rule::Pin { .. }
+            | Rule::WatchdogControl
+            | Rule::TimerFlags
+            | Rule::ExtendedTimerFlags
+            | Rule::Timer0 { .. }
+            | Rule::Timer1 { .. }
+            | Rule::Timer2 { .. }
+            | Rule::Timer3 { .. }
+            | Rule::Usart0 { .. }
+            | Rule::Spi { .. } => false,
+        }
+    }
+
+    // The bits that a kept byte can have.
+    fn kept_bits(self) -> u8
+        ensures { result ≡ kept_bits self }
+    {
+        match self {
+            Rule::Kept { mask } => mask,
+            Rule::Guarded { bits, mask, .. } => mask & (255 - bits),
+            Rule::ResetFlags => 0x81,
+            Rule::CpuControl => 0x7C,
+            Rule::Reserved
+            | Rule::Pin { .. }
+            | Rule::WatchdogControl
+            | Rule::TimerFlags
+            | Rule::ExtendedTimerFlags
+            | Rule::Timer0 { .. }
+            | Rule::Timer1 { .. }
+            | Rule::Timer2 { .. }
+            | Rule::Timer3 { .. }
+            | Rule::Usart0 { .. }
+            | Rule::Spi { .. } => 0,
+        }
+    }
+}
+
+// Whether a byte can be the one that the board keeps at a data address.
+#[tactic(auto, unfolding(crate::specs::Kept::is_io))]
+fn is_io(at: u8, byte: u8) -> bool
+    ensures { result ≡ is_io at byte }
+{
+    byte & rule_at(at).kept_bits() == byte
+}
+
+/// The place of the first of the 224 bytes that cannot be the one that the board keeps at its address: the place 0 is data
+/// address 0x20. A bit is to be 0 where no register is kept, where a write of 1 is refused, and where it is never kept.
+pub fn first_refused(io: &[u8]) -> Option<usize>
+    requires { length io.now ≡ 224 }
+    ensures { result ≡ first_refused io.now }
+{
+    for place in 0..224 {
+        if !is_io(0x20 + place as u8, io[place]) {
+            return Some(place);
+        }
+    }
+    None
+}
+
+// What a board keeps whose bytes from data address 0x20 on these are.
+fn kept_of(io: &[u8]) -> [u8; 256]
+    requires { length io.now ≡ 224 }
+    ensures { result ≡ kept_of io.now }
+{
+    let mut kept = [0; 256];
+    kept[0x20..].copy_from_slice(io);
+    kept
+}
+
+impl Board {
+    ghost use Rattle.board_io.specs.Kept.{io_at};
+    ghost use Rattle.board_io.specs.Saved.{IsRestored, fits, numbers_of};
+
+    /// The numbers of its devices: those of timers 0, 2, 1 and 3, of USART0, of the serial peripheral interface and of the
+    /// radio, each in the order of its `numbers`.
+    pub fn numbers(&self) -> [u64; 67]
+        ensures { result ≡ numbers_of self.now }
+    {
+        let mut all = [0; 67];
+        put_part(&mut all, 0, &self.t0.numbers());
+        put_part(&mut all, 6, &self.t2.numbers());
+        put_part(&mut all, 12, &self.t1.numbers());
+        put_part(&mut all, 25, &self.t3.numbers());
+        put_part(&mut all, 38, &self.usart.numbers());
+        put_part(&mut all, 52, &self.spi.numbers());
+        put_part(&mut all, 62, &self.radio.numbers());
+        all
+    }
+
+    /// A test for each of these `numbers`, whether it is within its bound, where a frame and a transfer end at the cycle
+    /// `ends_from` or later.
+    #[tactic(auto, unfolding(crate::specs::Saved::fits))]
+    pub fn fits(ends_from: u64, numbers: &[u64; 67]) -> [bool; 67]
+        ensures { result ≡ fits ends_from numbers.now }
+    {
+        let mut all = [false; 67];
+        put_part(
+            &mut all,
+            0,
+            &Timer8::fits(Prescaler::Own, &part(numbers, 0)),
+        );
+        put_part(
+            &mut all,
+            6,
+            &Timer8::fits(Prescaler::Shared, &part(numbers, 6)),
+        );
+        put_part(&mut all, 12, &Timer16::fits(&part(numbers, 12)));
+        put_part(&mut all, 25, &Timer16::fits(&part(numbers, 25)));
+        put_part(&mut all, 38, &Usart::fits(ends_from, &part(numbers, 38)));
+        put_part(&mut all, 52, &Spi::fits(ends_from, &part(numbers, 52)));
+        put_part(&mut all, 62, &Radio::fits(&part(numbers, 62)));
+        all
+    }
+
+    /// The byte that it keeps itself at the data address `at`, 0 where it keeps none.
+    pub fn io(&self, at: u8) -> u8
+        ensures { result ≡ io_at at self.now }
+    {
+        if rule_at(at).is_kept() {
+            self.kept[usize::from(at)]
+        } else {
+            0
+        }
+    }
+
+    /// The board of these numbers and of the 224 bytes `io` that it keeps itself, from data address 0x20 on, before the
+    /// cycle `cycle`, with the byte time of its radio in cycles, at most 4,096. `None` exactly where `fits` has a test that
+    /// failed.
+    pub fn restore(
+        byte_time: u64,
+        cycle: u64,
+        ends_from: u64,
+        numbers: &[u64; 67],
+        io: &[u8],
+    ) -> Option<Board>
+        requires byte_time { byte_time ≤ 4096 }
+        requires cycle { cycle ≤ 2 ^ 41 }
+        requires io { length io.now ≡ 224 }
+        ensures none { is_some result ≡ list_all (λ fit. fit) (fits ends_from numbers.now) }
+        ensures some { IfSome result (λ b. IsRestored byte_time numbers.now io.now b) }
+        ensures clock { IfSome result (λ b. b.clock ≡ cycle) }
+    {
+        Some(Board {
+            clock: Clock::new(cycle),
+            kept: kept_of(io),
+            t0: Timer8::from_numbers(Prescaler::Own, &part(numbers, 0))?,
+            t2: Timer8::from_numbers(Prescaler::Shared, &part(numbers, 6))?,
+            t1: Timer16::from_numbers(&part(numbers, 12))?,
+            t3: Timer16::from_numbers(&part(numbers, 25))?,
+            usart: Usart::from_numbers(ends_from, &part(numbers, 38))?,
+            spi: Spi::from_numbers(ends_from, &part(numbers, 52))?,
+            radio: Radio::from_numbers(byte_time, &part(numbers, 62))?,
+        })
+    }
+}
+
+impl LaggingBoard {
+    ghost use Rattle.board_io.specs.Kept.{io_at};
+    ghost use Rattle.board_io.specs.Saved.{numbers_of};
+
+    /// A board as it stands, whose clock is at most 2^40.
+    pub fn restored(board: Board) -> LaggingBoard
+        requires { board.clock ≤ 2 ^ 40 }
+        ensures { result ≡ board }
+    {
+        let ahead = board.ahead();
+        LaggingBoard { board, ahead }
+    }
+
+    // The board of its clock's cycle.
+    fn caught_up(&self) -> Board
+        ensures { result ≡ self.now }
+    {
+        let mut board = Board {
+            clock: self.board.clock,
+            kept: self.board.kept,
+            t0: self.board.t0,
+            t1: self.board.t1,
+            t2: self.board.t2,
+            t3: self.board.t3,
+            usart: self.board.usart,
+            spi: self.board.spi,
+            radio: self.board.radio,
+        };
+        board.catch_up(self.ahead.settled);
+        board
+    }
+
+    /// The numbers of its devices, as [`Board::numbers`] gives them.
+    pub fn numbers(&self) -> [u64; 67]
+        ensures { result ≡ numbers_of self.now }
+    {
+        self.caught_up().numbers()
+    }
+
+    /// The byte that it keeps itself at the data address `at`, 0 where it keeps none.
+    #[tactic(auto, unfolding(crate::specs::Cycle::timers_leap))]
+    pub fn io(&self, at: u8) -> u8
+        ensures { result ≡ io_at at self.now }
+    {
+        self.board.io(at)
+    }
+}

@@ -1,0 +1,86 @@
+use Rattle.std.proofs.Common.{◌≡◌, ◌+◌, ◌∙◌, ap, arith, false, is_some, refl, slice_index, ◌==◌, subst, sym}
+use Rattle.std.proofs.lemmas.Bool.{false≢true}
+use Rattle.board_io.specs.Saved as board
+use Rattle.board_io.specs.declared.board.Board.{Board}
+use Rattle.board_io.proofs.OneBoard.{all}
+use Rattle.device_clocks.specs.Numbers.{part}
+use Rattle.node_core.specs.Numbers.{ends_from}
+use Rattle.node_core.specs.State.{NodeState}
+use Rattle.node_core.proofs.Saved.{board-fits, clocked, core-within, made-numbers, no-fault, one-state, registers-32, Made}
+use Rattle.node_core.proofs.node.Node.restore.Goals as goal
+
+pub unreachable-requires : goal.unreachable-requires
+unreachable-requires c =
+    let fit = board-fits c.args.cycle c.args.numbers.now (no-fault _ _ (sym c.fault.ensures ∙ c.in_default.is)) in
+    let same : all (board.fits c.ends_from-ends_from.result c.part.result) ≡ all (board.fits (ends_from c.args.cycle c.args.numbers.now) (part 41 67 c.args.numbers.now)) =
+    λ i. all (board.fits (c.ends_from-ends_from.ensures i) (c.part.ensures i)) in
+    false≢true (ap is_some (sym c.in_default-restore.is) ∙ c.restore.ensures.none ∙ same ∙ fit)
+
+pub cpu_of-requires : goal.cpu_of-requires
+cpu_of-requires c = core-within c.args.cycle c.args.numbers.now c.told-numbers (no-fault _ _ (sym c.fault.ensures ∙ c.in_default.is))
+
+pub overflow_cast-result : goal.overflow_cast-result
+overflow_cast-result c =
+    let w = core-within c.args.cycle c.args.numbers.now c.told-numbers (no-fault _ _ (sym c.fault.ensures ∙ c.in_default.is)) in
+    let wait = w.wait in
+    omega arith
+
+pub stop_of-requires : goal.stop_of-requires
+stop_of-requires c =
+    let w = core-within c.args.cycle c.args.numbers.now c.told-numbers (no-fault _ _ (sym c.fault.ensures ∙ c.in_default.is)) in
+    w.stop
+
+pub invariant_of-result : goal.invariant_of-result
+invariant_of-result c =
+    let w = core-within c.args.cycle c.args.numbers.now c.told-numbers (no-fault _ _ (sym c.fault.ensures ∙ c.in_default.is)) in
+    let count = w.count in
+    let clock = ap (λ (b : Board). b.clock) c.restored.ensures ∙ c.in-Some-restore.ensures.clock in
+    record {
+      few = omega arith;
+      clock = λ going. omega arith;
+      early = λ e. absurd (false≢true e);
+      room = λ e. absurd (false≢true e);
+      waits = λ e. absurd (false≢true e);
+    }
+
+pub returns-clause-state : goal.returns-clause-state
+returns-clause-state c =
+    let n = c.args.numbers.now in
+    let fit = no-fault _ _ (sym c.fault.ensures ∙ c.in_default.is) in
+    let w = core-within c.args.cycle n c.told-numbers fit in
+    let saved : board.IsRestored c.args.byte_time (part 41 67 n) c.args.io.now c.in-Some-restore.board =
+    subst (λ p. board.IsRestored c.args.byte_time p c.args.io.now c.in-Some-restore.board) c.part.ensures c.in-Some-restore.ensures.some in
+    let lags : board.IsRestored c.args.byte_time (part 41 67 n) c.args.io.now c.restored.result =
+    subst (λ b. board.IsRestored c.args.byte_time (part 41 67 n) c.args.io.now b) (sym c.restored.ensures) saved in
+    let s : NodeState = record {
+      number = c.args.number;
+      flash = c.args.program.bytes;
+      script = c.args.script;
+      from = c.args.window.0;
+      to = c.args.window.1;
+      cpu = c.cpu_of.result;
+      bus = record { sram = c.in-Ok.sram; board = record c.restored.result { clock = 0 } };
+      wait = slice_index n 36;
+      owed = slice_index n 37 == 1;
+      asleep = slice_index n 38 == 1;
+      stop = c.stop_of.result;
+      count = slice_index n 40;
+    } in
+    let made : Made n s = record { cpu = c.cpu_of.ensures; wait = refl; owed = refl; asleep = refl; stop = c.stop_of.ensures; count = refl } in
+    let here = clocked c.args.byte_time 0 (part 41 67 n) c.args.io.now c.restored.result lags in
+    record {
+      number = refl;
+      flash = refl;
+      script = refl;
+      from = refl;
+      to = refl;
+      registers = registers-32 n s c.told-numbers made;
+      numbers = made-numbers n s c.told-numbers w made here.numbers;
+      board = here;
+      clock = refl;
+      sram = c.in-Ok.ensures;
+    }
+
+pub returns-clause-one : goal.returns-clause-one
+returns-clause-one c = λ s h.
+    one-state c.args.cycle _ _ _ _ _ _ _ _ _ _ s (no-fault _ _ (sym c.fault.ensures ∙ c.in_default.is)) (returns-clause-state c) h

@@ -1,0 +1,192 @@
+// A node of its numbers, its kept I/O bytes and its SRAM.
+ghost use Rattle.std.specs.Prelude.{◌≡◌, ◌≤◌, ◌^◌, [], false, None, IfOk, IfErr, OnOk, length, take};
+ghost use Rattle.board_io.specs.Saved as board;
+ghost use Rattle.device_clocks.specs.Numbers.{part};
+ghost use Rattle.node_core.specs.Numbers.{stop_number};
+ghost use Rattle.node_core.specs.Restored.{cpu_of, fault_of, IsCore, IsRefused, IsRestored};
+ghost use Rattle.node_core.specs.Shown.{shown};
+ghost use Rattle.node_core.specs.State.{NodeState};
+
+use crate::machine::Machine;
+use crate::numbers::ends_from;
+use crate::{Node, NodeBus};
+use avr_base::{NoMemory, Sreg, StopCause};
+use avr_program::Program;
+use board_io::{Board, LaggingBoard, first_refused};
+use data_space::{Cpu, Sram};
+use device_clocks::part;
+use serial_ports::Script;
+use std::alloc::Global;
+
+/// Why a node is not restored.
+#[derive(Clone, Copy, PartialEq, Eq, Debug)]
+pub enum RestoreFault {
+    /// A number is outside its bound, the first of them at this place, 0 to 107.
+    Number {
+        /// The place.
+        place: u8,
+    },
+    /// An I/O byte is one that its register can never have, the first of them at this data address, 0x20 to 0xFF.
+    Io {
+        /// The address.
+        at: u16,
+    },
+    /// There was no memory.
+    NoMemory,
+}
+
+// The cause of a number up to 26, and none of 0.
+#[tactic(auto, unfolding(avr_base::specs::Causes::cause_number))]
+fn stop_of(number: u64) -> Option<StopCause>
+    requires { number ≤ 26 }
+    ensures { stop_number result ≡ number }
+{
+    let cause = match number {
+        0 => return None,
+        1 => StopCause::ReservedOpcode,
+        2 => StopCause::UndefinedOperands,
+        3 => StopCause::Spm,
+        4 => StopCause::BreakOp,
+        5 => StopCause::SleepMode,
+        6 => StopCause::PwmMode,
+        7 => StopCause::ExternalTimerClock,
+        8 => StopCause::CompareOutput,
+        9 => StopCause::ForcedCompare,
+        10 => StopCause::InputCapture,
+        11 => StopCause::Prescaler,
+        12 => StopCause::UsartMode,
+        13 => StopCause::SpiSlave,
+        14 => StopCause::ExternalMemory,
+        15 => StopCause::Watchdog,
+        16 => StopCause::Eeprom,
+        17 => StopCause::Adc,
+        18 => StopCause::Comparator,
+        19 => StopCause::Twi,
+        20 => StopCause::ExternalInterrupt,
+        21 => StopCause::ClockDivision,
+        22 => StopCause::AsyncTimer,
+        23 => StopCause::MovedVectors,
+        24 => StopCause::Usart1,
+        25 => StopCause::ReservedAddress,
+        _ => StopCause::PastMemory,
+    };
+    Some(cause)
+}
+
+// The general registers of their numbers.
+fn registers_of(numbers: &[u64; 108]) -> [u8; 32]
+    requires { IsCore numbers.now }
+    ensures { result ≡ take 32 numbers.now }
+{
+    let mut r = [0; 32];
+    for d in 0..32 {
+        r[d] = numbers[d] as u8;
+    }
+    r
+}
+
+// An SRAM of 4,096 bytes.
+fn filled(alloc: Global, bytes: &[u8]) -> Result<Sram, NoMemory>
+    requires { length bytes.now ≡ 4096 }
+    ensures { IfOk result (λ sram. sram ≡ bytes.now) }
+{
+    let mut sram = Sram::new(alloc)?;
+    for k in 0..4096 {
+        sram.put(0x0100 + k as u16, bytes[k]);
+    }
+    Ok(sram)
+}
+
+// The core of its numbers.
+fn cpu_of(numbers: &[u64; 108]) -> Cpu
+    requires { IsCore numbers.now }
+    ensures { result ≡ cpu_of numbers.now }
+{
+    Cpu {
+        r: registers_of(numbers),
+        sreg: Sreg {
+            bits: numbers[32] as u8,
+        },
+        sp: numbers[33] as u16,
+        pc: numbers[34] as u16,
+        rampz: numbers[35] == 1,
+    }
+}
+
+impl Node {
+    /// Why [`Node::restore`] refuses these `numbers` and 224 bytes `io` at the cycle `cycle`, whatever memory there is.
+    pub fn fault(cycle: u64, numbers: &[u64; 108], io: &[u8]) -> Option<RestoreFault>
+        requires { length io.now ≡ 224 }
+        ensures { result ≡ fault_of cycle numbers.now io.now }
+    {
+        if let Some(place) = Node::first_outside(cycle, numbers) {
+            return Some(RestoreFault::Number { place });
+        }
+        let place = first_refused(io)?;
+        Some(RestoreFault::Io {
+            at: 0x20 + place as u16,
+        })
+    }
+
+    /// The node that has these `numbers`, in the order of [`Node::numbers`], these 224 bytes `io` that its board keeps, from
+    /// data address 0x20 on, and these 4,096 bytes `sram`, with no rows, at the cycle `cycle`, at most 2^40. Its number,
+    /// program, script, window and byte time are as for [`Node::new`]. A number outside its bound is refused, the first of
+    /// them first; then a byte that its register can never have.
+    pub fn restore(
+        alloc: Global,
+        number: u8,
+        program: Program,
+        script: Script,
+        window: (u64, u64),
+        byte_time: u64,
+        cycle: u64,
+        numbers: &[u64; 108],
+        io: &[u8],
+        sram: &[u8],
+    ) -> Result<Node, RestoreFault>
+        requires window { window.0 ≤ window.1 }
+        requires least { 256 ≤ byte_time }
+        requires most { byte_time ≤ 4096 }
+        requires cycle { cycle ≤ 2 ^ 40 }
+        requires io { length io.now ≡ 224 }
+        requires sram { length sram.now ≡ 4096 }
+        ensures refused { IfErr result (λ fault. IsRefused cycle numbers.now io.now fault) }
+        ensures sound { OnOk result (fault_of cycle numbers.now io.now ≡ None) }
+        ensures node { IfOk result (λ node. node ≡ record { cycle = cycle; asking = false; state = node.state; rows = [] }) }
+        ensures state { IfOk result (λ node. IsRestored number program.bytes script window.0 window.1 byte_time numbers.now io.now sram.now node.state) }
+        ensures one { (s : NodeState) → IsRestored number program.bytes script window.0 window.1 byte_time numbers.now io.now sram.now s → IfOk result (λ node. node.state ≡ s) }
+    {
+        if let Some(fault) = Node::fault(cycle, numbers, io) {
+            return Err(fault);
+        }
+        let ends_from = ends_from(cycle, numbers);
+        let Some(board) = Board::restore(byte_time, cycle, ends_from, &part(numbers, 41), io) else {
+            unreachable!();
+        };
+        let Ok(sram) = filled(alloc, sram) else {
+            return Err(RestoreFault::NoMemory);
+        };
+        Ok(Node {
+            cycle,
+            asking: false,
+            machine: Machine {
+                number,
+                program,
+                script,
+                from: window.0,
+                to: window.1,
+                cpu: cpu_of(numbers),
+                bus: NodeBus {
+                    sram,
+                    board: LaggingBoard::restored(board),
+                },
+                wait: numbers[36] as u8,
+                owed: numbers[37] == 1,
+                asleep: numbers[38] == 1,
+                stop: stop_of(numbers[39]),
+                count: numbers[40],
+                rows: Vec::new(alloc),
+            },
+        })
+    }
+}

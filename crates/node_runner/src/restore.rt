@@ -1,0 +1,57 @@
+// A node of a scenario, restored.
+ghost use Rattle.std.specs.Prelude.{◌≡◌, ◌<◌, ◌≤◌, ◌^◌, [], false, None, IfOk, IfErr, OnOk, length};
+ghost use Rattle.node_core.specs.Restored.{IsRefused, fault_of};
+ghost use Rattle.node_core.specs.State.{NodeState};
+ghost use Rattle.node_runner.specs.Scenario.{IsRestoredIn};
+
+use crate::Scenario;
+use node_core::{Node, RestoreFault};
+use std::alloc::Global;
+
+impl Scenario {
+    /// Node `node` of the scenario, below the number of its nodes, of what was saved of it, by [`Node::restore`]: with its
+    /// number, its program and the bytes that arrive at it, and the scenario's window and byte time.
+    pub fn restore(
+        &self,
+        alloc: Global,
+        node: u8,
+        cycle: u64,
+        numbers: &[u64; 108],
+        io: &[u8],
+        sram: &[u8],
+    ) -> Result<Node, RestoreFault>
+        requires node { node < self.now.topo.nodes }
+        requires cycle { cycle ≤ 2 ^ 40 }
+        requires io { length io.now ≡ 224 }
+        requires sram { length sram.now ≡ 4096 }
+        ensures refused { IfErr result (λ fault. IsRefused cycle numbers.now io.now fault) }
+        ensures sound { OnOk result (fault_of cycle numbers.now io.now ≡ None) }
+        ensures node { IfOk result (λ n. n ≡ record { cycle = cycle; asking = false; state = n.state; rows = [] }) }
+        ensures state { IfOk result (λ n. IsRestoredIn self.now node numbers.now io.now sram.now n.state) }
+        ensures one { (s : NodeState) → IsRestoredIn self.now node numbers.now io.now sram.now s → IfOk result (λ n. n.state ≡ s) }
+    {
+        if let Some(fault) = Node::fault(cycle, numbers, io) {
+            return Err(fault);
+        }
+        let topo = self.lawful_topo();
+        let Ok(program) = self.program(node).share() else {
+            return Err(RestoreFault::NoMemory);
+        };
+        let Ok(script) = self.script(node).copy() else {
+            return Err(RestoreFault::NoMemory);
+        };
+        let window = self.window();
+        Node::restore(
+            alloc,
+            node,
+            program,
+            script,
+            window,
+            topo.byte_time(),
+            cycle,
+            numbers,
+            io,
+            sram,
+        )
+    }
+}
