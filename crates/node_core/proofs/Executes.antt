@@ -1,5 +1,5 @@
 -- The effect of an instruction, by its class: one that ends takes a cycle or more.
-use Rattle.std.proofs.Common.{◌≡◌, ◌≤◌, ℕ, Bool, true, false, List, refl, sym, subst}
+use Rattle.std.proofs.Common.{◌≡◌, ◌≤◌, ℕ, true, false, List, refl, sym, subst}
 use Rattle.std.proofs.lemmas.Bool.{false≢true}
 use Rattle.std.specs.Prelude.{Result, IfOk}
 use Rattle.avr_base.specs.declared.stop.StopCause.{StopCause}

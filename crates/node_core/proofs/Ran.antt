@@ -1,16 +1,13 @@
 -- What the processor's part of a cycle leaves, by what an instruction does to the core and the data space, and what an entry does.
-use Rattle.std.proofs.Common.{◌≡◌, ℕ, ◌&&◌, ◌||◌, ◌++◌, nat_le, nat_lt, Bool, true, false, cond, Option, Some, None, List, refl, sym, ap, ◌∙◌}
-use Rattle.std.proofs.lemmas.Bool.{false≢true}
+use Rattle.std.proofs.Common.{◌≡◌, ℕ, ◌++◌, nat_lt, Bool, true, false, cond, Option, Some, None, List, sym, ap, ◌∙◌}
 use Rattle.std.specs.Prelude.{Result}
 use Rattle.avr_base.specs.declared.stop.StopCause.{StopCause}
 use Rattle.avr_base.specs.declared.stop.StopCause.TheVariants as stop
 use Rattle.avr_decoder.specs.Class.{class_of}
 use Rattle.avr_decoder.specs.declared.op.Class.{Class}
-use Rattle.avr_decoder.specs.declared.op.Class.TheVariants as class
 use Rattle.avr_decoder.specs.declared.op.Op.{Op}
-use Rattle.avr_decoder.specs.declared.op.Op.TheVariants as op
 use Rattle.avr_base.specs.declared.interrupts.Vector.{Vector}
-use Rattle.board_io.specs.Board.{clock_at, sleep_mode}
+use Rattle.board_io.specs.Board.{clock_at}
 use Rattle.data_space.specs.declared.bus.Done.{Done}
 use Rattle.data_space.specs.declared.cpu.Cpu.{Cpu}
 use Rattle.data_space.specs.Sequence.{Outcome}
@@ -20,7 +17,7 @@ use Rattle.node_core.specs.declared.row.Row.{Row}
 use Rattle.node_core.specs.declared.bus.NodeBus.{NodeBus}
 use Rattle.node_core.specs.declared.machine.Machine.{Machine}
 use Rattle.node_core.specs.Bus.{bus_at, with_board}
-use Rattle.node_core.specs.Cycle.{acted, acted_rows, after_entry, after_instruction, cpu_cycle, cpu_rows, entered, entered_rows, entry_rows, instructed, instructed_rows, instruction_rows, is_other, is_refused, is_sei, op_now, owes, row}
+use Rattle.node_core.specs.Cycle.{acted, acted_rows, after_entry, after_instruction, cpu_cycle, cpu_rows, entered, entered_rows, entry_rows, instructed, instructed_rows, instruction_rows, is_refused, op_now, row}
 use Rattle.node_core.specs.Execute.{executed, executed_by}
 use Rattle.node_core.specs.Interrupts.{due, entry}
 use Rattle.node_core.specs.Midway.{IsActed}

@@ -1,5 +1,5 @@
 -- A step of a sprint: the processor's part of its cycle, of an instruction that goes on.
-use Rattle.std.proofs.Common.{◌≡◌, ℕ, ◌+◌, ◌-◌, ◌<◌, ◌≤◌, ◌&&◌, ◌++◌, nat_le, nat_lt, Bool, true, false, cond, Option, Some, None, List, [], is_some, append-nil, refl, sym, subst, ap, ◌∙◌, arith}
+use Rattle.std.proofs.Common.{◌≡◌, ℕ, ◌+◌, ◌-◌, ◌≤◌, ◌&&◌, ◌++◌, nat_le, nat_lt, Bool, true, false, cond, None, List, [], is_some, append-nil, refl, sym, subst, ap, ◌∙◌, arith}
 use Rattle.std.proofs.lemmas.Bool.{false≢true}
 use Rattle.std.proofs.lemmas.Bool.Decides.{nat_tests}
 use Rattle.std.specs.Prelude.{Ok}
@@ -8,7 +8,6 @@ use Rattle.avr_decoder.specs.declared.op.Op.TheVariants as op
 use Rattle.board_io.specs.Board.{sleep_mode}
 use Rattle.board_io.specs.Cycle.{timers_leap}
 use Rattle.data_space.specs.declared.bus.Done.{Done}
-use Rattle.data_space.specs.declared.cpu.Cpu.{Cpu}
 use Rattle.data_space.specs.Sequence.{Outcome}
 use Rattle.world_core.specs.NodeRun.{Comes, Timed, passed_rows}
 use Rattle.world_core.proofs.QuietCycles.{comes_step}

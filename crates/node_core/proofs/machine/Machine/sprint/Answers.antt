@@ -1,4 +1,4 @@
-use Rattle.std.proofs.Common.{◌≡◌, ℕ, ◌+◌, ◌-◌, ◌<◌, ◌≤◌, ◌^◌, None, true, false, refl, sym, subst, ap, ◌∙◌, arith}
+use Rattle.std.proofs.Common.{◌≡◌, ℕ, ◌+◌, ◌-◌, ◌≤◌, ◌^◌, None, true, false, refl, sym, subst, ap, ◌∙◌, arith}
 use Rattle.serial_ports.specs.Script.{ScriptBytes, script_byte}
 use Rattle.world_core.specs.NodeRun.{Timed}
 use Rattle.world_core.proofs.QuietCycles.{comes_none}
