@@ -138,7 +138,7 @@ impl PlainRun {
     /// A runner of each node, in order of number: each has come to the cycle of `floor`, or stopped before. Not after
     /// `NoMemory`.
     pub fn runners(&self) -> &[Runner]
-        requires sound { self.now.failed ≡ false }
+        requires { self.now.failed ≡ false }
         ensures count { length result.now ≡ self.now.scenario.topo.nodes }
         ensures come { (k : ℕ) (d : Place) → k < self.now.scenario.topo.nodes → HasCome self.now.scenario self.now.floor k (place_at result.now k d) }
     {
