@@ -174,7 +174,8 @@ impl PlainRun {
             self.floor,
             end,
         )?;
-        self.sends = ordered(self.alloc, self.log.sends())?;
+        let kept = ordered(self.alloc, self.log.sends())?;
+        self.sends = kept;
         self.floor = end;
         self.failed = false;
         Ok(rows)

@@ -22,12 +22,12 @@ invariant_of-self-2 c =
     let e : c.min-end.result ≡ min (i.floor + 262144) i.limit = c.min-end.ensures in
     let last = c.self.invariant.limit in
     let limit = ap (λ (s : ScenarioOf). s.topo.limit) same in
-    let ordered : AreOrdered c.rows_to.new.log.sends c.in_ok-ordered.field-0.items = subst (λ (l : List Send). AreOrdered l c.in_ok-ordered.field-0.items) c.sends.ensures c.in_ok-ordered.ensures in
-    let sends = kept_sends c.args.scenario.now c.min-end.result c.rows_to.new.runners.items c.rows_to.new.log (subst IsScenario (sym same) c.self.invariant.scenario) (omega arith) c.in_ok-rows.ensures.rests c.in_ok-ordered.field-0.items ordered in
+    let ordered : AreOrdered c.rows_to.new.log.sends c.in_ok-kept.kept.items = subst (λ (l : List Send). AreOrdered l c.in_ok-kept.kept.items) c.sends.ensures c.in_ok-kept.ensures in
+    let sends = kept_sends c.args.scenario.now c.min-end.result c.rows_to.new.runners.items c.rows_to.new.log (subst IsScenario (sym same) c.self.invariant.scenario) (omega arith) c.in_ok-rows.ensures.rests c.in_ok-kept.kept.items ordered in
     record {
       scenario = c.self.invariant.scenario;
       limit = c.self.invariant.limit;
       within = omega arith;
       rests = (λ q. subst (λ (s : ScenarioOf). IsResting s c.min-end.result c.rows_to.new.runners.items c.rows_to.new.log) same c.in_ok-rows.ensures.rests);
-      sends = (λ q. subst (λ (s : ScenarioOf). c.in_ok-ordered.field-0.items ≡ kept_at s c.min-end.result) same sends);
+      sends = (λ q. subst (λ (s : ScenarioOf). c.in_ok-kept.kept.items ≡ kept_at s c.min-end.result) same sends);
     }

@@ -14,7 +14,7 @@ invariant_of-result c =
     let ps = c.in_ok-runners.runners.items in
     let log : LogFacts = c.in-Ok.log in
     let log_is : log ≡ log_of [] (kept_room_of sc.topo 262144) = c.in-Ok.ensures ∙ ap (log_of []) (c.room_for.ensures ∙ ap (λ (t : Topology). kept_room_of t 262144) c.lawful_topo-topo.ensures.value) in
-    subst (λ (s : ScenarioOf). IsRun record { scenario = s; floor = 0; failed = false } c.limit.result ps log []) (sym c.of.ensures)
+    subst (λ (s : ScenarioOf). IsRun record { scenario = s; floor = 0; failed = false } c.limit.result ps log c.new-2.result.items) (sym c.of.ensures)
     (record {
       scenario = c.lawful_topo-topo.ensures.sound;
       limit = c.limit.ensures.value ∙ ap (λ (t : Topology). t.limit) c.lawful_topo-topo.ensures.value;
@@ -24,5 +24,5 @@ invariant_of-result c =
         still = start_still sc ps c.in_ok-runners.ensures;
         room = (let r = ap (λ (l : LogFacts). l.room) log_is in omega arith);
       });
-      sends = (λ e. sym (no_kept_yet sc c.lawful_topo-topo.ensures.sound));
+      sends = (λ e. c.new-2.ensures.items ∙ sym (no_kept_yet sc c.lawful_topo-topo.ensures.sound));
     })
