@@ -14,7 +14,7 @@ use Rattle.node_monitors.specs.Account.{rows_that, at_word, at_vector, bytes_sen
 use Rattle.node_monitors.specs.Owner.{owned, owns, is_asleep, is_stopped, is_instr, is_executing, is_entry, is_entering, is_sent}
 use Rattle.node_monitors.specs.Spent.{unused, more}
 use Rattle.node_monitors.specs.Sums.{Sums, newly_owned, is_within, executing, executed, vectored, halted, told, took_kind, took}
-use Rattle.node_monitors.specs.Taken.{unowned, IsTaken, IsInFlash}
+use Rattle.node_monitors.specs.Taken.{unowned, IsTaken, IsWithin}
 use Rattle.node_monitors.proofs.Counts.{bit, between}
 use Rattle.node_monitors.proofs.Owners.{unowned-low, unowned-high, gets, owned-step, owned-other, gets-none, gets-all, gets-own, gets-rest}
 use Rattle.node_monitors.proofs.Tables.{table-same, table-set, table-at, table-length, cycles-set, quiet-set}
@@ -69,9 +69,9 @@ still : (r : Row) (rows : List Row) (s : Sums) (x : ℕ) → owns s.node r ≡ f
     ((w : ℕ) → (eqb r.node s.node && is_entry w r.kind) ≡ false) → x ≡ bytes_sent s.node s.window (r ∷ rows) → IsTaken rows s → IsTaken (r ∷ rows) (record s { sent = x })
 still r rows s x out instr entry sent h = record {
   free = h.free ∙ sym (unowned_other s.node s.window r rows out);
-  at = h.at ∙ table-same 65536 (at_word s.node s.window rows) (at_word s.node s.window (r ∷ rows))
+  at = h.at ∙ table-same s.words (at_word s.node s.window rows) (at_word s.node s.window (r ∷ rows))
       (λ w. sym (at_same s.node s.window r rows w (instr w) (owned-other (is_executing w) s.node s.window r rows out)));
-  entered = h.entered ∙ table-same 65536 (at_vector s.node s.window rows) (at_vector s.node s.window (r ∷ rows))
+  entered = h.entered ∙ table-same s.words (at_vector s.node s.window rows) (at_vector s.node s.window (r ∷ rows))
       (λ w. sym (vector_same s.node s.window r rows w (entry w) (owned-other (is_entering w) s.node s.window r rows out)));
   asleep = h.asleep ∙ sym (owned-other is_asleep s.node s.window r rows out);
   stopped = h.stopped ∙ sym (owned-other is_stopped s.node s.window r rows out);
@@ -144,13 +144,13 @@ exec_most false first free t = omega arith
 more_is : (word n : ℕ) (x : Spent) (a b : ℕ) → x.word ≡ word → a ≡ x.count + 1 → b ≡ x.cycles + n → ◌≡◌ {A = Spent} (record { word = word; count = a; cycles = b }) (more n x)
 more_is word n x a b e f g = cc
 
-executed-taken : (r : Row) (rows : List Row) (s : Sums) (pc word next : ℕ) → pc < 65536 → eqb r.node s.node ≡ true → r.kind ≡ Instr pc word next → IsTaken rows s →
+executed-taken : (r : Row) (rows : List Row) (s : Sums) (pc word next : ℕ) → pc < s.words → eqb r.node s.node ≡ true → r.kind ≡ Instr pc word next → IsTaken rows s →
     IsTaken (r ∷ rows) (executed r.cycle pc word s)
 executed-taken r rows s pc word next within mine e h =
     let own : owns s.node r ≡ true = rw (mine, e) refl in
-    let long : pc < length s.at = omega (arith, ap length h.at, table-length 65536 (at_word s.node s.window rows)) in
+    let long : pc < length s.at = omega (arith, ap length h.at, table-length s.words (at_word s.node s.window rows)) in
     let slot : get_or s.at pc (unused pc) ≡ at_word s.node s.window rows pc =
-    ap (λ slots. get_or slots pc (unused pc)) h.at ∙ table-at 65536 (at_word s.node s.window rows) pc (unused pc) within in
+    ap (λ slots. get_or slots pc (unused pc)) h.at ∙ table-at s.words (at_word s.node s.window rows) pc (unused pc) within in
     let gain : gets (is_executing pc) s.window s.free r ≡ executing r.cycle word s = exec_gets (eqb word 0x9588) r rows s pc word next refl e h in
     let same : eqb pc pc ≡ true = eq-eqb pc pc refl in
     let rows_now : rows_that (is_instr pc) s.node (r ∷ rows) ≡ rows_that (is_instr pc) s.node rows + 1 =
@@ -165,11 +165,11 @@ executed-taken r rows s pc word next within mine e h =
       free = ap (λ free. min (max r.cycle s.window.0) free) h.free ∙ sym (unowned_own s.node s.window r rows own);
       at = ap (λ x. set s.at pc (more (executing r.cycle word s) x)) slot
           ∙ ap (λ slots. set slots pc (more (executing r.cycle word s) (at_word s.node s.window rows pc))) h.at
-          ∙ sym (table-set 65536 (at_word s.node s.window rows) (at_word s.node s.window (r ∷ rows)) pc (more (executing r.cycle word s) (at_word s.node s.window rows pc)) within
+          ∙ sym (table-set s.words (at_word s.node s.window rows) (at_word s.node s.window (r ∷ rows)) pc (more (executing r.cycle word s) (at_word s.node s.window rows pc)) within
           (λ w ne. let other : eqb pc w ≡ false = ne_eqb pc w (λ q. ne (sym q)) in
           at_same s.node s.window r rows w (rw (mine, e, other) refl) (owned_none (is_executing w) r rows s own (λ c. exec_is r pc word next w c e ∙ rw other refl) h))
           here);
-      entered = h.entered ∙ table-same 65536 (at_vector s.node s.window rows) (at_vector s.node s.window (r ∷ rows))
+      entered = h.entered ∙ table-same s.words (at_vector s.node s.window rows) (at_vector s.node s.window (r ∷ rows))
           (λ w. sym (vector_same s.node s.window r rows w (rw (mine, e) refl) (owned_none (is_entering w) r rows s own (λ c. rw e refl) h)));
       asleep = ap (λ n. n + (newly_owned r.cycle s - executing r.cycle word s)) h.asleep
           ∙ sym (owned_more is_asleep r rows s own h ∙ ap (λ n. owned is_asleep s.node s.window rows + n) (sleep_gets (eqb word 0x9588) r rows s pc word next refl e h));
@@ -188,13 +188,13 @@ owned_all : (test : ℕ → Row → Bool) (r : Row) (rows : List Row) (s : Sums)
     owned test s.node s.window (r ∷ rows) ≡ owned test s.node s.window rows + newly_owned r.cycle s
 owned_all test r rows s own all h = omega (arith, owned_more test r rows s own h, gets-all test s.window s.free r (low rows s h) (high rows s h) all)
 
-vectored-taken : (r : Row) (rows : List Row) (s : Sums) (vector back : ℕ) → vector < 65536 → eqb r.node s.node ≡ true → r.kind ≡ Enter vector back → IsTaken rows s →
+vectored-taken : (r : Row) (rows : List Row) (s : Sums) (vector back : ℕ) → vector < s.words → eqb r.node s.node ≡ true → r.kind ≡ Enter vector back → IsTaken rows s →
     IsTaken (r ∷ rows) (vectored r.cycle vector s)
 vectored-taken r rows s vector back within mine e h =
     let own : owns s.node r ≡ true = rw (mine, e) refl in
-    let long : vector < length s.entered = omega (arith, ap length h.entered, table-length 65536 (at_vector s.node s.window rows)) in
+    let long : vector < length s.entered = omega (arith, ap length h.entered, table-length s.words (at_vector s.node s.window rows)) in
     let slot : get_or s.entered vector (unused vector) ≡ at_vector s.node s.window rows vector =
-    ap (λ slots. get_or slots vector (unused vector)) h.entered ∙ table-at 65536 (at_vector s.node s.window rows) vector (unused vector) within in
+    ap (λ slots. get_or slots vector (unused vector)) h.entered ∙ table-at s.words (at_vector s.node s.window rows) vector (unused vector) within in
     let same : eqb vector vector ≡ true = eq-eqb vector vector refl in
     let rows_now : rows_that (is_entry vector) s.node (r ∷ rows) ≡ rows_that (is_entry vector) s.node rows + 1 =
     rows_more (is_entry vector) s.node r rows ∙ rw (mine, e, same) (omega arith) in
@@ -206,11 +206,11 @@ vectored-taken r rows s vector back within mine e h =
     ∙ ap (more (newly_owned r.cycle s)) (sym (vector_is s.node s.window rows vector)) in
     record {
       free = ap (λ free. min (max r.cycle s.window.0) free) h.free ∙ sym (unowned_own s.node s.window r rows own);
-      at = h.at ∙ table-same 65536 (at_word s.node s.window rows) (at_word s.node s.window (r ∷ rows))
+      at = h.at ∙ table-same s.words (at_word s.node s.window rows) (at_word s.node s.window (r ∷ rows))
           (λ w. sym (at_same s.node s.window r rows w (rw (mine, e) refl) (owned_none (is_executing w) r rows s own (λ c. rw e refl) h)));
       entered = ap (λ x. set s.entered vector (more (newly_owned r.cycle s) x)) slot
           ∙ ap (λ slots. set slots vector (more (newly_owned r.cycle s) (at_vector s.node s.window rows vector))) h.entered
-          ∙ sym (table-set 65536 (at_vector s.node s.window rows) (at_vector s.node s.window (r ∷ rows)) vector (more (newly_owned r.cycle s) (at_vector s.node s.window rows vector)) within
+          ∙ sym (table-set s.words (at_vector s.node s.window rows) (at_vector s.node s.window (r ∷ rows)) vector (more (newly_owned r.cycle s) (at_vector s.node s.window rows vector)) within
           (λ w ne. let other : eqb vector w ≡ false = ne_eqb vector w (λ q. ne (sym q)) in
           vector_same s.node s.window r rows w (rw (mine, e, other) refl) (owned_none (is_entering w) r rows s own (λ c. rw e other) h))
           here);
@@ -231,9 +231,9 @@ halted-taken r rows s pc cause mine e h =
     let own : owns s.node r ≡ true = rw (mine, e) refl in
     record {
       free = ap (λ free. min (max r.cycle s.window.0) free) h.free ∙ sym (unowned_own s.node s.window r rows own);
-      at = h.at ∙ table-same 65536 (at_word s.node s.window rows) (at_word s.node s.window (r ∷ rows))
+      at = h.at ∙ table-same s.words (at_word s.node s.window rows) (at_word s.node s.window (r ∷ rows))
           (λ w. sym (at_same s.node s.window r rows w (rw (mine, e) refl) (owned_none (is_executing w) r rows s own (λ c. rw e refl) h)));
-      entered = h.entered ∙ table-same 65536 (at_vector s.node s.window rows) (at_vector s.node s.window (r ∷ rows))
+      entered = h.entered ∙ table-same s.words (at_vector s.node s.window rows) (at_vector s.node s.window (r ∷ rows))
           (λ w. sym (vector_same s.node s.window r rows w (rw (mine, e) refl) (owned_none (is_entering w) r rows s own (λ c. rw e refl) h)));
       asleep = h.asleep ∙ sym (owned_none is_asleep r rows s own (λ c. rw e refl) h);
       stopped = omega (arith, h.stopped, owned_all is_stopped r rows s own (λ c. rw e refl) h);
@@ -262,7 +262,7 @@ told-taken r rows s byte mine e h =
     (let now : bytes_sent s.node s.window (r ∷ rows) ≡ bit (is_within r.cycle s) + bytes_sent s.node s.window rows = sent_more s.node s.window r rows ∙ rw (mine, e) refl in
     omega (arith, h.sent, now)) h
 
-mine-taken : (k : Kind) (r : Row) (rows : List Row) (s : Sums) → IsInFlash k → eqb r.node s.node ≡ true → r.kind ≡ k → IsTaken rows s →
+mine-taken : (k : Kind) (r : Row) (rows : List Row) (s : Sums) → IsWithin s.words k → eqb r.node s.node ≡ true → r.kind ≡ k → IsTaken rows s →
     IsTaken (r ∷ rows) (took_kind r.cycle k s)
 mine-taken (Instr pc word next) r rows s within mine e h = executed-taken r rows s pc word next within mine e h
 mine-taken (Enter vector back) r rows s within mine e h = vectored-taken r rows s vector back within mine e h
@@ -272,9 +272,9 @@ mine-taken (Serial byte) r rows s within mine e h = silent-taken r rows s (rw (m
 mine-taken (Heard heard) r rows s within mine e h = silent-taken r rows s (rw (mine, e) refl) (λ w. rw (mine, e) refl) (λ w. rw (mine, e) refl) (rw (mine, e) refl) h
 mine-taken (End state instructions) r rows s within mine e h = silent-taken r rows s (rw (mine, e) refl) (λ w. rw (mine, e) refl) (λ w. rw (mine, e) refl) (rw (mine, e) refl) h
 
-pub took-taken : (r : Row) (rows : List Row) (s : Sums) → (r.node ≡ s.node → IsInFlash r.kind) → IsTaken rows s → IsTaken (r ∷ rows) (took r s)
+pub took-taken : (r : Row) (rows : List Row) (s : Sums) → IsWithin s.words r.kind → IsTaken rows s → IsTaken (r ∷ rows) (took r s)
 took-taken r rows s within h = both (eqb r.node s.node) refl
   where
     both : (b : Bool) → eqb r.node s.node ≡ b → IsTaken (r ∷ rows) (cond b (took_kind r.cycle r.kind s) s)
-    both true e = mine-taken r.kind r rows s (within (eqb-true r.node s.node e)) e refl h
+    both true e = mine-taken r.kind r rows s within e refl h
     both false e = silent-taken r rows s (rw e refl) (λ w. rw e refl) (λ w. rw e refl) (rw e refl) h

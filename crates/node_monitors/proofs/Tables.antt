@@ -1,10 +1,10 @@
 -- Tables of the words of flash.
-use Rattle.std.proofs.Common.{◌≡◌, ◌≢◌, ℕ, suc, ◌+◌, ◌<◌, ◌++◌, List, [], ◌∷◌, Bool, true, false, cond, length, get_or, arith, refl, sym, ap, ◌∙◌, inl, inr, ◌⊎◌}
+use Rattle.std.proofs.Common.{◌≡◌, ◌≢◌, ℕ, zero, suc, ◌+◌, ◌-◌, ◌<◌, ◌≤◌, nat_lt, append-nil, ◌++◌, List, [], ◌∷◌, Bool, true, false, cond, length, get_or, arith, refl, sym, ap, ◌∙◌, inl, inr, ◌⊎◌}
 use Rattle.std.proofs.Math.ListN.{set}
 use Rattle.std.specs.List.{filter, sum_by, All}
 use Rattle.std.proofs.lemmas.Bool.{cases_eq, ltb-false}
 use Rattle.std.proofs.lemmas.List.{ext_get_or, get_or-set_same, get_or-set_other, length-set}
-use Rattle.std.proofs.lemmas.List.Elements.{All-set}
+use Rattle.std.proofs.lemmas.List.Elements.{All-set, filter-append}
 use Rattle.std.proofs.lemmas.List.FromFn.{map-range_with_len_more, length-map-range_with_len, get_or-map-range_with_len}
 use Rattle.std.proofs.lemmas.List.Sums.{sum_by-cons, sum_by-set}
 use Rattle.node_monitors.specs.declared.spent.Spent.{Spent}
@@ -68,3 +68,19 @@ cycles-used (s ∷ slots) h =
     used false e rest =
         let none : s.count ≡ 0 = omega (arith, ltb-false 0 s.count e) in
         omega (arith, sum_by-cons (λ s. s.cycles) s slots, h 0 s (omega arith) none)
+
+-- words without rows are not used
+used_more : (n words : ℕ) (said : ℕ → Spent) → ((w : ℕ) → words ≤ w → (said w).count ≡ 0) → filter is_used (table (words + n) said) ≡ filter is_used (table words said)
+used_more zero words said none = let e : words + 0 ≡ words = omega arith in ap (λ k. filter is_used (table k said)) e
+used_more (suc n) words said none =
+    let e : words + suc n ≡ words + n + 1 = omega arith in
+    let zero' : (said (words + n)).count ≡ 0 = none (words + n) (omega arith) in
+    let last : filter is_used (said (words + n) ∷ []) ≡ [] = ap (λ (k : ℕ). cond (nat_lt 0 k) (said (words + n) ∷ []) []) zero' in
+    ap (λ k. filter is_used (table k said)) e ∙ ap (filter is_used) (table-more (words + n) said)
+    ∙ filter-append is_used (table (words + n) said) (said (words + n) ∷ [])
+    ∙ (λ i. used_more n words said none i ++ last i) ∙ append-nil (filter is_used (table words said))
+
+pub used-whole : (words all : ℕ) (said : ℕ → Spent) → words ≤ all → ((w : ℕ) → words ≤ w → (said w).count ≡ 0) → filter is_used (table words said) ≡ filter is_used (table all said)
+used-whole words all said le none =
+    let e : words + (all - words) ≡ all = omega arith in
+    sym (used_more (all - words) words said none) ∙ ap (λ k. filter is_used (table k said)) e

@@ -9,9 +9,11 @@ use Rattle.node_monitors.specs.Spent.{more, table, unused}
 pub record Sums : Type 0 where
   pub node : ℕ
   pub window : ℕ × ℕ
+  -- how many words the tables have: more than each instruction and vector of the rows
+  pub words : ℕ
   -- the cycles of the window below this one have no owner yet
   pub free : ℕ
-  -- what was spent at each word of flash, and at each vector
+  -- what was spent at each of these words, and at each vector
   pub at : List Spent
   pub entered : List Spent
   -- the cycles of both tables
@@ -22,13 +24,14 @@ pub record Sums : Type 0 where
   pub sent : ℕ
 
 -- of no rows
-abbrev pub no_rows : ℕ → ℕ × ℕ → Sums
-no_rows node window = record {
+abbrev pub no_rows : ℕ → ℕ × ℕ → ℕ → Sums
+no_rows node window words = record {
   node = node;
   window = window;
+  words = words;
   free = max window.0 window.1;
-  at = table 65536 unused;
-  entered = table 65536 unused;
+  at = table words unused;
+  entered = table words unused;
   awake = 0;
   asleep = 0;
   stopped = 0;

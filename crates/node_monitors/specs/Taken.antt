@@ -22,8 +22,8 @@ IsQuiet s = s.count ≡ 0 → s.cycles ≡ 0
 -- these rows were taken
 pub record IsTaken (rows : List Row) (s : Sums) : Type 0 where
   pub free : s.free ≡ unowned s.node s.window rows
-  pub at : s.at ≡ table 65536 (at_word s.node s.window rows)
-  pub entered : s.entered ≡ table 65536 (at_vector s.node s.window rows)
+  pub at : s.at ≡ table s.words (at_word s.node s.window rows)
+  pub entered : s.entered ≡ table s.words (at_vector s.node s.window rows)
   pub asleep : s.asleep ≡ owned is_asleep s.node s.window rows
   pub stopped : s.stopped ≡ owned is_stopped s.node s.window rows
   pub sent : s.sent ≡ bytes_sent s.node s.window rows
@@ -36,15 +36,15 @@ pub record IsTaken (rows : List Row) (s : Sums) : Type 0 where
 pub record HasRoom (s : Sums) : Type 0 where
   pub cycles : (s.free - s.window.0) + s.awake + s.asleep + s.stopped < 2 ^ 64
   pub sent : s.sent + 1 < 2 ^ 64
-  pub at : length s.at ≡ 65536
-  pub entered : length s.entered ≡ 65536
+  pub at : length s.at ≡ s.words
+  pub entered : length s.entered ≡ s.words
   pub count_at : All (λ x. x.count + 1 < 2 ^ 64) s.at
   pub count_entered : All (λ x. x.count + 1 < 2 ^ 64) s.entered
   pub cycles_at : All (λ x. x.cycles ≤ s.awake) s.at
   pub cycles_entered : All (λ x. x.cycles ≤ s.awake) s.entered
 
--- the word of a row is one of flash
-abbrev pub IsInFlash : Kind → Type 0
-IsInFlash (Instr pc word next) = pc < 65536
-IsInFlash (Enter vector back) = vector < 65536
-IsInFlash _ = Unit {0}
+-- the instruction or the vector of a row is one of so many words
+abbrev pub IsWithin : ℕ → Kind → Type 0
+IsWithin words (Instr pc word next) = pc < words
+IsWithin words (Enter vector back) = vector < words
+IsWithin words _ = Unit {0}

@@ -1,11 +1,11 @@
 // The sums over the rows of a node, taken from the last one back.
 ghost use Rattle.std.specs.Prelude.{◌≡◌, ◌+◌, ◌-◌, ◌*◌, ◌^◌, ◌<◌, ◌≤◌, IfOk};
-ghost use Rattle.std.specs.List.{filter};
+ghost use Rattle.std.specs.List.{All, filter};
 ghost use Rattle.node_monitors.specs.Spent.{is_used};
 ghost use Rattle.node_monitors.specs.Sums.{executed, executing, halted, is_free, is_within, newly_owned, no_rows, since, told, took, vectored};
-ghost use Rattle.node_monitors.specs.Taken.{HasRoom, IsInFlash, IsTaken};
+ghost use Rattle.node_monitors.specs.Taken.{HasRoom, IsTaken, IsWithin};
 
-use crate::spent::{Spent, WORDS, add, unused_table, used};
+use crate::spent::{Spent, add, unused_table, used};
 use node_core::{Kind, Row};
 use std::alloc::{AllocError, Global};
 use std::marker::Model;
@@ -13,14 +13,40 @@ use std::marker::Model;
 // The opcode word of SLEEP.
 const SLEEP: u16 = 0x9588;
 
+// One more than the word of an instruction or a vector, and 0 of any other row.
+fn words_to(kind: Kind) -> usize
+    ensures within { IsWithin result kind }
+    ensures most { result ≤ 65536 }
+{
+    match kind {
+        Kind::Instr { pc, .. } => usize::from(pc) + 1,
+        Kind::Enter { vector, .. } => usize::from(vector) + 1,
+        _ => 0,
+    }
+}
+
+// How many words of flash the rows speak of: one more than their highest.
+fn words_of(rows: &[Row]) -> usize
+    ensures within { All (λ r. IsWithin result r.kind) rows.now }
+    ensures most { result ≤ 65536 }
+{
+    let mut words = 0;
+    for row in rows {
+        words = words_to(row.kind).max(words);
+    }
+    words
+}
+
 /// The sums over the rows that were taken.
 #[derive(Drop)]
 pub struct Ledger {
     node: u8,
     window: (u64, u64),
+    // How many words the tables have.
+    words: usize,
     // The cycles of the window below this one have no owner yet.
     free: u64,
-    // What was spent at each word of flash, and at each vector.
+    // What was spent at each of these words, and at each vector.
     at: Vec<Spent>,
     entered: Vec<Spent>,
     // The cycles of both tables.
@@ -36,20 +62,22 @@ impl Model for Ledger {
 
     ghost Value = { Sums };
 
-    ghost view = { λ l. record { node = l.node; window = l.window; free = l.free; at = l.at.items; entered = l.entered.items; awake = l.awake; asleep = l.asleep; stopped = l.stopped; sent = l.sent } };
+    ghost view = { λ l. record { node = l.node; window = l.window; words = l.words; free = l.free; at = l.at.items; entered = l.entered.items; awake = l.awake; asleep = l.asleep; stopped = l.stopped; sent = l.sent } };
 }
 
 impl Ledger {
     // No row was taken.
-    fn new(alloc: Global, node: u8, window: (u64, u64)) -> Result<Ledger, AllocError>
-        ensures empty { IfOk result (λ l. l ≡ no_rows node window) }
+    fn new(alloc: Global, node: u8, window: (u64, u64), words: usize) -> Result<Ledger, AllocError>
+        requires { words ≤ 65536 }
+        ensures empty { IfOk result (λ l. l ≡ no_rows node window words) }
         ensures narrow { window.1 < 2 ^ 64 }
     {
-        let at = unused_table(alloc, WORDS)?;
-        let entered = unused_table(alloc, WORDS)?;
+        let at = unused_table(alloc, words)?;
+        let entered = unused_table(alloc, words)?;
         Ok(Ledger {
             node,
             window,
+            words,
             free: window.0.max(window.1),
             at,
             entered,
@@ -105,9 +133,9 @@ impl Ledger {
     }
     // An instruction was executed.
     fn execute(&mut self, cycle: u64, pc: u16, word: u16)
-        requires { HasRoom self.old }
-        ensures after { self.new ≡ executed cycle pc word self.old }
-        ensures flash { pc < 65536 }
+        requires room { HasRoom self.old }
+        requires within { pc < self.old.words }
+        ensures { self.new ≡ executed cycle pc word self.old }
     {
         let executed = self.executing(cycle, word);
         let owned = self.own(cycle);
@@ -118,9 +146,9 @@ impl Ledger {
 
     // An interrupt was entered.
     fn enter(&mut self, cycle: u64, vector: u16)
-        requires { HasRoom self.old }
-        ensures after { self.new ≡ vectored cycle vector self.old }
-        ensures flash { vector < 65536 }
+        requires room { HasRoom self.old }
+        requires within { vector < self.old.words }
+        ensures { self.new ≡ vectored cycle vector self.old }
     {
         let owned = self.own(cycle);
         add(&mut self.entered, vector, owned);
@@ -148,9 +176,9 @@ impl Ledger {
 
     // Takes the row before those that were taken; rows of other nodes and of other kinds are passed over.
     fn take(&mut self, row: &Row)
-        requires { HasRoom self.old }
-        ensures after { self.new ≡ took row.now self.old }
-        ensures flash { row.now.node ≡ self.old.node → IsInFlash row.now.kind }
+        requires room { HasRoom self.old }
+        requires within { IsWithin self.old.words row.now.kind }
+        ensures { self.new ≡ took row.now self.old }
     {
         if row.node == self.node {
             match row.kind {
@@ -173,8 +201,11 @@ impl Ledger {
         ensures node { IfOk result (λ l. l.node ≡ node) }
         ensures window { IfOk result (λ l. l.window ≡ window) }
         ensures taken { IfOk result (IsTaken rows.now) }
+        ensures within { IfOk result (λ l. All (λ r. IsWithin l.words r.kind) rows.now) }
+        ensures words { IfOk result (λ l. l.words ≤ 65536) }
     {
-        let mut ledger = Ledger::new(alloc, node, window)?;
+        let words = words_of(rows);
+        let mut ledger = Ledger::new(alloc, node, window, words)?;
         for place in (0..rows.len()).rev() {
             ledger.take(&rows[place]);
         }

@@ -5,9 +5,6 @@ ghost use Rattle.node_monitors.specs.Spent.{is_used, more, table, unused};
 
 use std::alloc::{AllocError, Global};
 
-/// How many words flash has.
-pub const WORDS: usize = 65_536;
-
 /// What was spent at one word of flash.
 #[derive(Clone, Copy)]
 pub struct Spent {
@@ -21,7 +18,7 @@ pub struct Spent {
 
 /// A table of the words below `words`, at none of which anything was spent.
 pub fn unused_table(alloc: Global, words: usize) -> Result<Vec<Spent>, AllocError>
-    requires { words ≤ WORDS }
+    requires { words ≤ 65536 }
     ensures { IfOk result (λ v. v.items ≡ table words unused) }
 {
     let mut slots = Vec::with_capacity(alloc, words)?;

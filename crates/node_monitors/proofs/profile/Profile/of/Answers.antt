@@ -7,7 +7,8 @@ charge-requires c =
 
 pub returns-clause-account : goal.returns-clause-account
 returns-clause-account c =
-    taken-account c.args.node c.args.window c.args.rows.now c.in_ok-ledger.ledger _ c.in_ok-ledger.ensures.node c.in_ok-ledger.ensures.window c.in_ok-ledger.ensures.taken
+    taken-account c.args.node c.args.window c.args.rows.now c.in_ok-ledger.ledger _ c.in_ok-ledger.ensures.node c.in_ok-ledger.ensures.window
+    (record { most = c.in_ok-ledger.ensures.words; within = c.in_ok-ledger.ensures.within }) c.in_ok-ledger.ensures.taken
     (record {
       lead = c.lead.ensures;
       at = c.in_ok-at.ensures;
