@@ -6,6 +6,7 @@
     bench/network/watch.py compare PROGRAM [COUNT [FIRST]]
                                                compares `PROGRAM monitor FILE` and `PROGRAM sniff FILE` over COUNT drawn networks
                                                (100), from number FIRST (0) on, and as many whose nodes send drawn bytes
+    bench/network/watch.py image               writes an image that sends frames of four bytes without end
     bench/network/watch.py examples PROGRAM    compares `PROGRAM monitor FILE` of every example with what the rows of
                                                `PROGRAM run --plain FILE` come to
 
@@ -92,18 +93,18 @@ def frame_lines(sends, nodes):
 # ---- networks whose nodes send drawn bytes
 
 
-def sender(listed):
-    """An image that sends these bytes by the radio, some 1,100 cycles apart, and then sleeps without an interrupt: it stands still."""
+def sender(listed, forever=False):
+    """An image that sends these bytes by the radio, some 1,100 cycles apart, and then stands still, or begins again."""
     words = [ldi(16, 0x10), out(SPH, 16), ldi(16, 0xFF), out(SPL, 16), ldi(16, 1), out(DDRB, 16), ldi(16, 0x50), out(SPCR, 16)]
     calls = []
     for byte in listed:
         calls += [ldi(16, 1), "exchange", ldi(16, byte), "exchange", "wait"]
-    end = len(words) + len(calls)
+    first, end = len(words), len(words) + len(calls)
     exchange, wait = end + 1, end + 6
     for place, it in enumerate(calls):
         at = len(words)
         words.append(word("rcall", k=(exchange if it == "exchange" else wait) - at - 1) if isinstance(it, str) else it)
-    words.append(word("rjmp", k=-1))
+    words.append(word("rjmp", k=first - end - 1 if forever else -1))
     words += [out(SPDR, 16), word("sbis", A=SPSR, b=7), word("rjmp", k=-2), word("in_", d=16, A=SPDR), word("ret")]
     return words + [ldi(20, 250), word("nop"), word("dec", d=20), word("brbc", s=1, k=-3), word("ret")]
 
@@ -317,6 +318,9 @@ def main():
         sys.exit(0)
     if len(words) in (2, 3, 4) and words[0] == "compare":
         sys.exit(compare(str(Path(words[1]).resolve()), int((words[2:3] or [100])[0]), int((words[3:4] or [0])[0])))
+    if words == ["image"]:
+        sys.stdout.write(hex_text(sender([0xAA, 0xAA, 0x7E, 4, 1, 2, 3, 4], forever=True)))
+        sys.exit(0)
     if len(words) == 2 and words[0] == "examples":
         sys.exit(examples(str(Path(words[1]).resolve())))
     sys.exit(__doc__)

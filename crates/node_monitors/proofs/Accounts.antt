@@ -1,5 +1,5 @@
 -- The account of the rows that matter is that of all rows.
-use Rattle.std.proofs.Common.{◌≡◌, ℕ, ◌+◌, ◌-◌, ◌<◌, ◌≤◌, Bool, true, false, ◌&&◌, ◌||◌, ◌==◌, not, nat_le, nat_lt, cond, get_or, Option, Some, None, List, [], ◌∷◌, arith, refl, sym, ap, ◌∙◌}
+use Rattle.std.proofs.Common.{◌≡◌, ℕ, ◌+◌, ◌-◌, ◌<◌, ◌≤◌, Bool, true, false, ◌&&◌, ◌||◌, ◌==◌, nat_le, nat_lt, cond, get_or, Option, Some, None, List, [], ◌∷◌, arith, refl, sym, ap, ◌∙◌}
 use Rattle.std.specs.List.{All, count_by, filter}
 use Rattle.std.specs.Option.{option_or, is_none}
 use Rattle.std.proofs.lemmas.Bool.Decides.{nat_tests}
@@ -10,7 +10,7 @@ use Rattle.node_core.specs.declared.row.Kind.{Kind}
 use Rattle.node_core.specs.declared.row.Kind.TheVariants.{Instr, Enter, Serial, Sent, Heard, Stop, End}
 use Rattle.node_monitors.specs.declared.spent.Spent.{Spent}
 use Rattle.node_monitors.specs.Account.{lead, rows_that, at_word, at_vector, bytes_sent, charge, account, spent}
-use Rattle.node_monitors.specs.Owner.{owner, owned, owns, passes, takes_over, cycles_of, is_sent, is_asleep, is_stopped, is_instr, is_entry, is_executing, is_entering}
+use Rattle.node_monitors.specs.Owner.{owner, owned, owns, passes, takes_over, is_sent, is_asleep, is_stopped, is_instr, is_entry, is_executing, is_entering}
 use Rattle.node_monitors.specs.Matters.{matters, is_traced, IsBelow}
 use Rattle.node_monitors.proofs.Counts.{bit, count-same}
 use Rattle.node_monitors.proofs.Tables.{table-same}

@@ -1,5 +1,5 @@
 -- The rows of one cycle of a node: few, and those that are traced lie in the window.
-use Rattle.std.proofs.Common.{◌≡◌, ℕ, ◌+◌, ◌<◌, ◌≤◌, ◌&&◌, nat_le, nat_lt, Bool, true, false, cond, Option, Some, None, is_some, List, [], ◌∷◌, ◌++◌, length, length-append, refl, subst, ap, arith}
+use Rattle.std.proofs.Common.{◌≡◌, ℕ, ◌+◌, ◌<◌, ◌≤◌, ◌&&◌, nat_le, nat_lt, Bool, true, false, cond, Option, Some, None, is_some, List, [], ◌∷◌, ◌++◌, length, length-append, refl, arith}
 use Rattle.std.specs.Prelude.{Result, Ok, Err}
 use Rattle.std.specs.List.{All}
 use Rattle.std.proofs.lemmas.Bool.Decides.{nat_tests}
@@ -19,7 +19,6 @@ use Rattle.node_core.specs.Interrupts.{due, entry}
 use Rattle.node_core.specs.Cycle.{acted_rows, asks_in, begun_in, begun_rows, cpu_cycle, cpu_rows, device_rows, entered_rows, entry_rows, finished_rows, instructed_rows, instruction_rows, is_refused, node_kind, op_now, row, row_within, sent_rows, serial_rows}
 use Rattle.node_core.proofs.Acts.{one_row}
 use Rattle.node_monitors.specs.Matters.{is_traced, IsBelow}
-use Rattle.run_reports.proofs.Given.{Same, cpu_same}
 
 -- ---- how many
 

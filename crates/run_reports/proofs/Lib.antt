@@ -1,4 +1,3 @@
-pub mod Steps
 pub mod Given
 pub mod Cycles
 pub mod Runs

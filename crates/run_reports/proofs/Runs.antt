@@ -1,13 +1,12 @@
 -- The rows of a run that count in a profile: those of the cycles below the window's end, however far the run goes on.
 use Rattle.std.proofs.Common.{◌≡◌, ◌≢◌, ℕ, zero, suc, ◌+◌, ◌-◌, ◌*◌, ◌^◌, ◌<◌, ◌≤◌, ◌&&◌, ◌||◌, ◌==◌, ◌⊎◌, inl, inr, nat_le, nat_lt, Bool, true, false, cond, List, [], ◌∷◌, ◌++◌, length, length-append, refl, sym, subst, ap, ◌∙◌, arith, append-nil}
-use Rattle.std.specs.List.{All, count_by, filter}
+use Rattle.std.specs.List.{All, filter}
 use Rattle.std.proofs.lemmas.Bool.Decides.{nat_tests}
 use Rattle.std.proofs.lemmas.List.Elements.{filter-append, All-append, All-cons, All-nil}
 use Rattle.std.proofs.lemmas.List.Sums.{count_by-le-length, length-filter}
 use native.Mathlib.Decide.{ℕ_discrete}
 use Rattle.world_core.specs.Each.{each_below}
 use Rattle.world_core.specs.Order.{Fleet, world_at, world_after, hears, node_at, rows_in, end_rows, run_rows}
-use Rattle.world_core.specs.Sound.{IsSound}
 use Rattle.world_core.proofs.Each.{filter_none, All_each, each_same}
 use Rattle.world_core.proofs.OrderRows.{rows_from, rows_bear}
 use Rattle.node_core.specs.declared.row.Row.{Row}
@@ -17,7 +16,6 @@ use Rattle.node_runner.specs.Run.{rows_upto}
 use Rattle.node_runner.proofs.Epoch.{first_rows}
 use Rattle.node_runner.proofs.Sound.{sound}
 use Rattle.node_monitors.specs.Account.{Account, bytes_sent, account}
-use Rattle.node_monitors.specs.Owner.{takes_over, is_sent}
 use Rattle.node_monitors.specs.Matters.{matters, IsBelow}
 use Rattle.node_monitors.proofs.Rooms.{sent-most}
 use Rattle.node_monitors.proofs.Accounts.{account_that_matters, account_of_own}

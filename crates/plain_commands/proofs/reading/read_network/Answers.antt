@@ -1,4 +1,4 @@
-use Rattle.std.proofs.Common.{◌≤◌, ◌-◌, List, ℕ, refl, sym, subst, ap, ◌∙◌}
+use Rattle.std.proofs.Common.{◌≤◌, ◌-◌, List, refl, sym, subst, ◌∙◌}
 use Rattle.ihex_loader.specs.Flash.{Image}
 use Rattle.scenario_file.specs.Shown.{parts}
 use Rattle.node_runner.specs.Scenario.{ScenarioOf}

@@ -1,8 +1,5 @@
-use Rattle.std.proofs.Common.{◌≡◌, ◌≤◌, ◌<◌, ◌+◌, suc, ℕ, List, add-one, sym, ap, ◌∙◌, arith}
-use Rattle.std.specs.List.{filter}
-use Rattle.node_core.specs.declared.row.Row.{Row}
-use Rattle.world_core.specs.Each.{each_below}
-use Rattle.run_reports.specs.Profiles.{is_between, profile_at}
+use Rattle.std.proofs.Common.{add-one, ◌∙◌, arith}
+use Rattle.run_reports.specs.Profiles.{is_between}
 use Rattle.run_reports.proofs.Runs.{charge_fits, profile_more}
 use Rattle.run_reports.proofs.profiles.put_group.Goals as goal
 
