@@ -15,8 +15,8 @@ cp "$top/crates/command_facts/data/two.trace" "$work"
 cd "$work" || exit 2
 failed=0
 
-# The two nodes of the case file faults.txt.
-awk '/^file /{ name = $2 } /^\|/ && (name == "a.hex" || name == "b.hex" || name == "two.toml") { print substr($0, 2) > name }' \
+# The two nodes of the case file faults.txt, and what it has for `monitor` and `sniff`.
+awk '/^file /{ name = $2 } /^\|/ && name ~ /^((a|b|loop|frame)\.hex|(two|node|frames)\.toml|node\.profile|frames\.lines)$/ { print substr($0, 2) > name }' \
     "$top/crates/command_facts/data/faults.txt"
 
 tell() {
@@ -162,4 +162,6 @@ refuse "run of two nodes" two.trace run two.toml
 refuse "run --plain of two nodes" two.trace run --plain two.toml
 echo "make 0: 8 nodes, 1000000 cycles, 14706 sent, 1 quiet, 29407 heard, 0 clashes" >make.line
 refuse "make 0" make.line make 0
+refuse "monitor of a node" node.profile monitor node.toml
+refuse "sniff of a node" frames.lines sniff frames.toml
 exit $failed
