@@ -1,5 +1,5 @@
 -- The sends that a run's rows tell are those of its air.
-use Rattle.std.proofs.Common.{◌≡◌, ℕ, zero, suc, ◌+◌, ◌-◌, nat_lt, ◌&&◌, nat_le, Bool, true, false, cond, Option, Some, None, is_some, List, [], ◌∷◌, ◌++◌, refl, sym, ap, ◌∙◌, append-nil}
+use Rattle.std.proofs.Common.{◌≡◌, ℕ, zero, suc, ◌+◌, ◌-◌, nat_lt, ◌&&◌, nat_le, Bool, true, false, cond, Option, Some, None, is_some, List, [], ◌∷◌, ◌++◌, refl, ap, ◌∙◌, append-nil}
 use Rattle.std.specs.Prelude.{Result, Ok, Err}
 use Rattle.std.proofs.lemmas.List.Elements.{filter_map-append}
 use Rattle.avr_base.specs.declared.stop.StopCause.{StopCause}
@@ -17,7 +17,7 @@ use Rattle.node_core.specs.Bus.{bus_at}
 use Rattle.node_core.specs.State.{NodeState}
 use Rattle.node_core.specs.Execute.{executed}
 use Rattle.node_core.specs.Interrupts.{due, entry}
-use Rattle.node_core.specs.Cycle.{acted_rows, asks_in, begun_in, begun_rows, cpu_cycle, cpu_rows, device_rows, entered_rows, entry_rows, finished_rows, instructed_rows, instruction_rows, is_refused, node_kind, op_now, row, sends_after, sends_in, sent_rows, serial_rows}
+use Rattle.node_core.specs.Cycle.{acted_rows, asks_in, begun_in, begun_rows, cpu_cycle, cpu_rows, device_rows, entered_rows, entry_rows, finished_rows, instructed_rows, instruction_rows, is_refused, node_kind, op_now, sends_after, sends_in, sent_rows, serial_rows}
 use Rattle.node_runner.specs.Scenario.{ScenarioOf, fleet_of}
 use Rattle.run_reports.specs.Frames.{send_told, sends_told}
 use Rattle.run_reports.proofs.Given.{cpu_same, given_after}
