@@ -3,10 +3,9 @@ use Rattle.std.proofs.Common.{◌≡◌, ℕ, zero, suc, List, [], ◌∷◌, �
 use Rattle.std.specs.List.{flat_map}
 use Rattle.std.proofs.lemmas.Grind.{flat_map-append}
 use Rattle.std.proofs.lemmas.List.{map-append}
-use Rattle.std.proofs.lemmas.List.Elements.{filter_map-append}
 use Rattle.world_core.specs.declared.air.Send.{Send}
 use Rattle.world_core.specs.Each.{each_below}
-use Rattle.world_core.specs.Order.{run_rows}
+use Rattle.world_core.specs.Order.{facts_of, run_rows}
 use Rattle.world_core.specs.Sends.{sends_of}
 use Rattle.world_core.proofs.Each.{each_same}
 use Rattle.node_core.specs.declared.row.Row.{Row}
@@ -16,9 +15,10 @@ use Rattle.node_runner.proofs.Epoch.{first_rows}
 use Rattle.air_sniffer.specs.Frames.{frames}
 use Rattle.air_sniffer.specs.Sniffed.{IsFed}
 use Rattle.air_sniffer.proofs.Cuts as cuts
-use Rattle.run_reports.specs.Frames.{frame_line, frames_text, send_told, sends_told}
+use Rattle.run_reports.specs.Frames.{frame_line, frames_text, sends_told}
 use Rattle.run_reports.specs.Sniffing.{Watch, fed_all, fed_more, of_each, unfed, watch_text}
 use Rattle.run_reports.proofs.Runs.{rows_whole}
+use Rattle.run_reports.proofs.Told.{told_both, told_none, told_run}
 
 watch_is : (all : List Send) (w : Watch) → IsFed w.sniffer all w.gave → w ≡ fed_all all w.sniffer.node
 watch_is all w h = λ i. record { sniffer = record { node = w.sniffer.node; held = h.held i }; gave = h.frames i }
@@ -38,14 +38,6 @@ map_each f (suc n) w = map-append f (of_each n w) (w n ∷ []) ∙ ap (λ (l : L
 
 each_is : (nodes : ℕ) (v w : ℕ → Watch) → ((k : ℕ) → v k ≡ w k) → of_each nodes v ≡ of_each nodes w
 each_is nodes v w same = each_same nodes (λ k. v k ∷ []) (λ k. w k ∷ []) (λ k lt. ap (λ (x : Watch). x ∷ []) (same k))
-
-told_none : sends_told [] ≡ []
-unfolding sends_told
-told_none = refl
-
-told_both : (before rows : List Row) → sends_told (before ++ rows) ≡ sends_told before ++ sends_told rows
-unfolding sends_told
-told_both before rows = filter_map-append send_told before rows
 
 -- before the first epoch
 pub fed_first : (sc : ScenarioOf) (c : ℕ) (all : List Watch) → IsScenario sc → c ≡ 0 → all ≡ of_each sc.topo.nodes unfed → all ≡ of_each sc.topo.nodes (fed_all (sends_told (rows_upto (fleet_of sc) c)))
@@ -78,4 +70,5 @@ lines_each all (suc n) =
 -- the lines of all nodes are those of the run
 pub text_whole : (sc : ScenarioOf) (all : List Watch) (text : List ℕ) → all ≡ of_each sc.topo.nodes (fed_all (sends_told (run_rows (fleet_of sc)))) → text ≡ flat_map watch_text all → text ≡ frames_text sc
 unfolding frames_text
-text_whole sc all text is so = so ∙ ap (flat_map watch_text) is ∙ lines_each (sends_told (run_rows (fleet_of sc))) sc.topo.nodes
+text_whole sc all text is so =
+    so ∙ ap (flat_map watch_text) (is ∙ ap (λ (l : List Send). of_each sc.topo.nodes (fed_all l)) (told_run sc)) ∙ lines_each (facts_of (fleet_of sc)).sends sc.topo.nodes

@@ -1,4 +1,5 @@
 pub mod Given
 pub mod Cycles
 pub mod Runs
+pub mod Told
 pub mod Feeding

@@ -4,7 +4,7 @@ use Rattle.std.specs.List.{filter_map, flat_map}
 use Rattle.sim_io.specs.Digits.{hex2}
 use Rattle.world_core.specs.declared.air.Send.{Send}
 use Rattle.world_core.specs.Each.{each_below}
-use Rattle.world_core.specs.Order.{run_rows}
+use Rattle.world_core.specs.Order.{facts_of}
 use Rattle.world_core.specs.Sends.{sends_of}
 use Rattle.node_core.specs.declared.row.Row.{Row}
 use Rattle.node_core.specs.declared.row.Kind.{Kind}
@@ -33,6 +33,6 @@ send_told r = send_by r.node r.cycle r.kind
 unfoldable pub sends_told : List Row → List Send
 sends_told rows = filter_map send_told rows
 
--- the frames of each node, over all sends of the run, node after node
+-- the frames of each node, over all sends of the run, node after node. (The rows of the run tell these sends: `sends_law`.)
 unfoldable pub frames_text : ScenarioOf → List ℕ
-frames_text network = each_below network.topo.nodes (λ k. flat_map frame_line (frames (sends_of k (sends_told (run_rows (fleet_of network))))))
+frames_text network = each_below network.topo.nodes (λ k. flat_map frame_line (frames (sends_of k (facts_of (fleet_of network)).sends)))

@@ -4,11 +4,13 @@
 #![tactic(auto)]
 
 mod frame_lines;
+mod law;
 mod profile_lines;
 mod profile_rows;
 mod profiles;
 mod sniffing;
 mod sniffs;
 
+pub use law::sends_law;
 pub use profiles::profiles_text;
 pub use sniffs::frames_text;
