@@ -1,7 +1,7 @@
 #!/usr/bin/env python3
-"""Writes data/registers.txt, data/selects.txt and data/lagging.txt of crates/command_facts: what every I/O register reads after a
-write, or why the write stops; when each timer has its events behind each of its clock selects; and accesses to the board as a
-node runs it, between stretches of cycles.
+"""Writes data/registers.txt, data/selects.txt and data/lagging.txt of crates/command_facts: what every I/O register reads after
+a write, or why the write stops; when each timer has its events behind each of its clock selects; and accesses to the board as
+a node runs it, between stretches of cycles.
 
     python3 bench/device_cases.py crates/command_facts
 
@@ -42,10 +42,10 @@ LAGGING = """\
 # Source: the rules of docs/MACHINE.md, as bench/machine.py has them, which does every cycle of every timer; bench/device_cases.py
 # draws the accesses and writes this file.
 #
-# lagging new: at reset, in cycle 0. put ADDRESS BYTE, get ADDRESS: a register, in the cycle that was reached. to CYCLE: the cycles
-# below that one, as a node passes them; no further than one in which USART0 sends a byte (gives the cycle and the byte), the radio
-# sends one (`sends BYTE`) or samples the air (asks: it hears status 1, byte 42, age 3). lines: the interrupt lines, line n at
-# bit n; enter WORD: the interrupt of that vector is served.
+# lagging new: at reset, in cycle 0. put ADDRESS BYTE, get ADDRESS: a register, in the cycle that was reached. to CYCLE: the
+# cycles below that one, as a node passes them; no further than one in which USART0 sends a byte (gives the cycle and the byte),
+# the radio sends one (`sends BYTE`) or samples the air (asks: it hears status 1, byte 42, age 3). lines: the interrupt lines,
+# line n at bit n; enter WORD: the interrupt of that vector is served.
 """
 
 
@@ -139,14 +139,18 @@ MASKS = {0x57: [0xDF, 0x9B, 0x45, 0], 0x7D: [0x1F, 0x1B, 0x15, 0], 0x56: [0xFF, 
 PARTS = [
     MASKS | {0x53: [1, 9, 2, 10, 3, 11, 15, 0], 0x51: range(40), 0x52: range(256)},
     MASKS | {0x45: [1, 9, 2, 10, 3, 11, 13, 0], 0x43: range(40), 0x44: range(256)},
-    MASKS | {0x4E: [1, 9, 25, 2, 10, 26], 0x4A: range(60), 0x48: range(60), 0x78: range(60), 0x4D: [0, 0xFF], 0x4C: range(256), 0x46: range(60)},
-    MASKS | {0x8A: [1, 9, 25, 2, 10, 26], 0x86: range(60), 0x84: range(60), 0x82: range(60), 0x89: [0, 0xFF], 0x88: range(256), 0x80: range(60)},
+    MASKS | {0x4E: [1, 9, 25, 2, 10, 26], 0x4A: range(60), 0x48: range(60), 0x78: range(60), 0x46: range(60)}
+    | {0x4D: [0, 0xFF], 0x4C: range(256)},
+    MASKS | {0x8A: [1, 9, 25, 2, 10, 26], 0x86: range(60), 0x84: range(60), 0x82: range(60), 0x80: range(60)}
+    | {0x89: [0, 0xFF], 0x88: range(256)},
     {0x2A: [0x08, 0x28, 0x48, 0x68], 0x29: range(3), 0x2B: [0, 2, 0x40, 0x42], 0x95: [0, 2, 6, 8], 0x2C: range(256)},
     {0x2D: [0x50, 0xD0, 0xD0, 0xD1], 0x2E: [0, 1], 0x2F: [1, 2, 0x5A], 0x38: [0, 0, 0, 1]},
 ]
 # What is written first: a timer runs, USART0 sends, the radio is selected.
-FIRST = [[(0x57, 0xDF), (0x53, 9), (0x51, 30)], [(0x57, 0xDF), (0x45, 2)], [(0x57, 0xDF), (0x4E, 9), (0x4A, 50)],
-         [(0x7D, 0x1F), (0x8A, 1), (0x89, 0xFF), (0x88, 0x80)], [(0x2A, 0x48), (0x2C, 0x7E)], [(0x2D, 0xD0), (0x37, 1), (0x2F, 1)]]
+FIRST = [
+    [(0x57, 0xDF), (0x53, 9), (0x51, 30)], [(0x57, 0xDF), (0x45, 2)], [(0x57, 0xDF), (0x4E, 9), (0x4A, 50)],
+    [(0x7D, 0x1F), (0x8A, 1), (0x89, 0xFF), (0x88, 0x80)], [(0x2A, 0x48), (0x2C, 0x7E)], [(0x2D, 0xD0), (0x37, 1), (0x2F, 1)],
+]
 # The registers whose byte is written most.
 DATA = {4: 0x2C, 5: 0x2F}
 READ = [0x52, 0x44, 0x4C, 0x4D, 0x88, 0x89, 0x56, 0x7C, 0x2B, 0x2E, 0x2F, 0x51, 0x4A, 0x46, 0x80]
@@ -216,7 +220,8 @@ def lagging():
 
 def main():
     folder = Path(sys.argv[1]) / "data"
-    for name, head, lines in (("registers.txt", REGISTERS, registers()), ("selects.txt", SELECTS, selects()), ("lagging.txt", LAGGING, lagging())):
+    files = ("registers.txt", REGISTERS, registers()), ("selects.txt", SELECTS, selects()), ("lagging.txt", LAGGING, lagging())
+    for name, head, lines in files:
         (folder / name).write_text(head + "\n".join(lines) + "\n")
         count = sum(1 for line in lines if line and not line.startswith("#"))
         print(f"{name}: {count} lines")

@@ -1,7 +1,8 @@
 """The machine of docs/MACHINE.md once more, written plainly and slowly, one cycle after another.
 
-The scripts that write stored cases (bench/instruction_cases.py, device_cases.py, node_cases.py) take their expected values from
-it. It shares nothing with the crates: instructions come from a table of patterns, flags from their arithmetic meaning, and no cycle is leapt over.
+The scripts that write stored cases (instruction_cases.py, device_cases.py, node_cases.py beside it) take their expected values
+from it. It shares nothing with the crates: instructions come from a table of patterns, flags from their arithmetic meaning, and
+no cycle is leapt over.
 """
 import functools
 import re

@@ -84,6 +84,7 @@ impl NodeBoard {
         Answer::Done
     }
 
+    #[tactic(auto, using(board_io::proofs::Radio::entered_clock))]
     fn enter(&mut self, word: u16) {
         self.board.entered(Vector { word });
     }

@@ -1,11 +1,10 @@
 -- The links of a ring.
-use Rattle.std.proofs.Common.{◌≡◌, ◌≢◌, ◌↔◌, ℕ, zero, ◌+◌, ◌%◌, ◌<◌, ◌≤◌, ◌==◌, ◌⊎◌, inl, inr, Bool, true, false, if◌then◌else◌, List, [], length, map, take, get_or, refl, sym, ap, subst, ◌∙◌, arith, length-take, min, lit≤, eqb-true, eq-eqb}
+use Rattle.std.proofs.Common.{◌≡◌, ◌≢◌, ◌↔◌, ℕ, ◌+◌, ◌%◌, ◌<◌, ◌≤◌, ◌==◌, ◌⊎◌, inl, inr, Bool, true, false, if◌then◌else◌, List, [], length, map, take, get_or, refl, sym, ap, subst, ◌∙◌, arith, length-take, min, lit≤, eqb-true, eq-eqb}
 use Rattle.std.proofs.Math.Nat.{mod_self, mod-eq_of_lt, eq-or-lt_of_le}
 use Rattle.std.proofs.lemmas.List.FromFn.{length-map-range_with_len, get_or-map-range_with_len}
 use Rattle.std.proofs.lemmas.List.{get_or-take}
 use Rattle.std.specs.List.{Contains, range_with_len}
 use Rattle.world_core.specs.declared.air.Link.{Link}
-use Rattle.world_core.specs.FirstFault.{AllKeep}
 use Rattle.world_core.specs.Topology.{HasRanges, IsNewLink, IsTopology, is_linked}
 use Rattle.world_core.proofs.Links.{contains_from, any_from}
 use Rattle.sample_maker.specs.Network.{IsNext, link_from, ring_links, ring_topology}

@@ -2,7 +2,6 @@
 use Rattle.std.specs.Prelude.{ℕ, ◌==◌, Bool, true, false, List}
 use Rattle.std.specs.List.{count_by}
 use Rattle.node_core.specs.declared.row.Row.{Row}
-use Rattle.node_core.specs.declared.row.Kind.{Kind}
 use Rattle.node_core.specs.declared.row.Kind.TheVariants as kind
 use Rattle.sample_maker.specs.declared.counts.Counts.{Counts}
 

@@ -1,6 +1,6 @@
 -- The sample of a number: a network in a ring, each node of which sends and samples the air without end. Own to this
 -- simulator.
-use Rattle.std.specs.Prelude.{ℕ, ◌+◌, ◌*◌, ◌%◌, List, map}
+use Rattle.std.specs.Prelude.{ℕ, ◌+◌, ◌*◌, ◌%◌, map}
 use Rattle.std.specs.List.{range_with_len}
 use Rattle.ihex_loader.specs.Flash.{Image, image_of_words}
 use Rattle.scenario_file.specs.Scenario.{no_script}

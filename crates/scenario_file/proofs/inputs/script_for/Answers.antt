@@ -1,4 +1,4 @@
-use Rattle.std.proofs.Common.{◌≡◌, ◌==◌, ℕ, true, false, arith, ap, subst, ◌∙◌, sym, get_or, map, List, IfOk}
+use Rattle.std.proofs.Common.{◌≡◌, ◌==◌, ℕ, true, false, arith, ap, subst, ◌∙◌, sym, get_or, map, IfOk}
 use Rattle.std.proofs.lemmas.Bool.Decides.{nat_tests}
 use Rattle.toml.specs.View.{view}
 use Rattle.scenario_file.specs.Document.{on_table}
