@@ -13,6 +13,7 @@ digits_of d ds h = go (eqb d 48) refl h
     nothing : (xs : List ℕ) → eqb (length xs) 0 ≡ true → xs ≡ []
     nothing [] e = refl
     nothing (x ∷ xs) e = absurd (omega (arith, eqb-true (length (x ∷ xs)) 0 e))
+
     go : (b : Bool) → eqb d 48 ≡ b → cond b (eqb (length ds) 0) (list_all is_digit (d ∷ ds)) ≡ true → list_all is_digit (d ∷ ds) ≡ true
     go true e k = rw (eqb-true d 48 e, nothing ds k) refl
     go false e k = k

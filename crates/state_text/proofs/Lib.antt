@@ -1,6 +1,8 @@
 pub mod Digits
+pub mod Again
 pub mod Found
 pub mod HexBytes
+pub mod Laws
 pub mod Loops
 pub mod Numerals
 pub mod Pieces

@@ -5,7 +5,6 @@ ghost use Rattle.state_text.specs.Parts.{pieces_of};
 
 use crate::cuts::cut;
 use crate::fault::StateFault;
-
 use std::marker::Model;
 
 /// The lines of a text that were not taken yet. A contract sees them as a `Place`.

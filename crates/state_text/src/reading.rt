@@ -84,7 +84,12 @@ fn sram(alloc: Global, node: u8, lines: &mut Lines<'_>) -> Result<Vec<u8>, State
 }
 
 #[tactic(auto, unfolding(crate::specs::Reading::bytes_at))]
-fn io<B: Bounds>(alloc: Global, bounds: &B, node: u8, lines: &mut Lines<'_>) -> Result<Vec<u8>, StateFault>
+fn io<B: Bounds>(
+    alloc: Global,
+    bounds: &B,
+    node: u8,
+    lines: &mut Lines<'_>,
+) -> Result<Vec<u8>, StateFault>
     ensures { Gives (λ bytes. (bytes.items, lines.new)) result (bytes_at (B.readable bounds.now) (codes "io") node 224 lines.old) }
 {
     let number = lines.number();
@@ -297,7 +302,12 @@ fn sends(
 
 // The state of a text, or the fault of its first faulty line.
 #[tactic(auto, unfolding(crate::specs::Reading::state_of))]
-fn state<B: Bounds>(alloc: Global, topo: &Topo, bounds: &B, bytes: &[u8]) -> Result<StateParts, StateFault>
+fn state<B: Bounds>(
+    alloc: Global,
+    topo: &Topo,
+    bounds: &B,
+    bytes: &[u8],
+) -> Result<StateParts, StateFault>
     ensures { Gives (λ state. state) result (state_of (rules topo.now (B.within bounds.now) (B.readable bounds.now)) bytes.now) }
 {
     let mut lines = Lines::of(bytes);
@@ -313,7 +323,12 @@ fn state<B: Bounds>(alloc: Global, topo: &Topo, bounds: &B, bytes: &[u8]) -> Res
 }
 
 /// The state of a text, or the fault of its first faulty line.
-pub fn read<B: Bounds>(alloc: Global, topo: &Topo, bounds: &B, bytes: &[u8]) -> Result<StateParts, StateFault>
+pub fn read<B: Bounds>(
+    alloc: Global,
+    topo: &Topo,
+    bounds: &B,
+    bytes: &[u8],
+) -> Result<StateParts, StateFault>
     // what is read is what would be written
     ensures found { IfOk result (λ state. IsState (rules topo.now (B.within bounds.now) (B.readable bounds.now)) state × (bytes.now ≡ state_text state)) }
     // what is written is read as what was written
