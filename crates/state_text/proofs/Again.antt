@@ -1,22 +1,20 @@
 -- What is written is read as what was written.
-use Rattle.std.proofs.Common.{◌≡◌, ℕ, zero, suc, ◌+◌, ◌<◌, ◌≤◌, ◌^◌, Bool, true, false, cond, eqb, ltb, ◌&&◌, List, [], ◌∷◌, ◌++◌, length, map, take, drop, codes, decimal, Option, Some, None, Result, Ok, Err, refl, sym, ap, subst, ◌∙◌, append_assoc, arith}
-use Rattle.std.specs.List.{list_all, flat_map, AllByRecursion}
-use Rattle.std.specs.Prelude.{slice_index}
+use Rattle.std.proofs.Common.{◌≡◌, ℕ, zero, suc, ◌+◌, ◌<◌, ◌≤◌, ◌^◌, Bool, true, false, eqb, ltb, List, [], ◌∷◌, ◌++◌, length, map, take, drop, codes, decimal, Option, Some, None, Ok, refl, sym, ap, ◌∙◌, append_assoc, arith}
+use Rattle.std.specs.List.{AllByRecursion}
 use Rattle.std.specs.Str.{bytes_eq}
 use Rattle.std.proofs.Math.Seq.{take-add}
-use Rattle.std.proofs.lemmas.Bool.{and_parts, and_from, ltb-true, eq-eqb}
-use Rattle.std.proofs.lemmas.List.{length-append, length-take, length-drop, take-append-drop}
+use Rattle.std.proofs.lemmas.Bool.{and_parts, ltb-true, eq-eqb}
+use Rattle.std.proofs.lemmas.List.{length-take, length-drop, take-append-drop}
 use Rattle.std.proofs.lemmas.Slice.Eq.{bytes_eq-Decides}
 use Rattle.hex.specs.Hex.{encode_upper}
 use Rattle.world_core.specs.declared.air.Send.{Send}
-use Rattle.world_core.specs.Topology.{Topology, IsTopology, reach}
-use Rattle.state_text.specs.declared.fault.StateFault.{StateFault}
-use Rattle.state_text.specs.Parts.{is_decimal, value, parts_of, line_of, ended, pieces_of}
+use Rattle.world_core.specs.Topology.{Topology, IsTopology}
+use Rattle.state_text.specs.Parts.{parts_of, line_of, pieces_of}
 use Rattle.state_text.specs.Text.{NodeOf, StateOf, numbers_line, bytes_line, node_lines, nodes_lines, send_line, cycle_line, title, tail_lines, state_lines, state_text}
 use Rattle.state_text.specs.Bounds.{Rules, HasNode, IsState, is_cut, is_kept, follows, kept_behind, are_sends}
-use Rattle.state_text.specs.Reading.{◌>>=◌, Place, place, line_in, next_line, fits_word, behind_word, behind_node, numbers_behind, only_bytes, bytes_in, title_at, cycle_at, numbers_at, bytes_at, node_at, nodes_at, three_of, send, if_kept, some_or_out, send_in, send_of, over, sends_in, state_of, one_number}
-use Rattle.state_text.proofs.Loops.{after_line, sends_are}
-use Rattle.state_text.proofs.Visible.{IsAbove, AreBytes, above_lower, hex_above, parts_again, line_above, pieces_again}
+use Rattle.state_text.specs.Reading.{◌>>=◌, place, next_line, behind_word, behind_node, numbers_behind, only_bytes, title_at, cycle_at, numbers_at, bytes_at, node_at, nodes_at, send_in, send_of, sends_in, state_of}
+use Rattle.state_text.proofs.Loops.{sends_are}
+use Rattle.state_text.proofs.Visible.{IsAbove, AreBytes, hex_above, parts_again, line_above, pieces_again}
 use Rattle.state_text.proofs.Numerals.{AreWide, decimal_again, decimal_above, decimals_again}
 use Rattle.state_text.proofs.HexBytes.{bytes_again}
 

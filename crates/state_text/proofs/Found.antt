@@ -1,6 +1,6 @@
 -- What is read is what would be written.
-use Rattle.std.proofs.Common.{◌≡◌, ℕ, zero, suc, ◌+◌, ◌<◌, ◌≤◌, ◌^◌, Bool, true, false, cond, eqb, ltb, ◌&&◌, List, [], ◌∷◌, ◌++◌, length, map, take, drop, codes, decimal, Option, Some, None, Result, Ok, Err, refl, sym, ap, subst, ◌∙◌, append_assoc, arith}
-use Rattle.std.specs.List.{list_all, flat_map, AllByRecursion, join_with_byte}
+use Rattle.std.proofs.Common.{◌≡◌, ℕ, zero, suc, ◌+◌, ◌<◌, ◌^◌, Bool, true, false, cond, ltb, ◌&&◌, List, [], ◌∷◌, ◌++◌, length, map, take, drop, codes, decimal, Option, Some, None, Ok, refl, sym, ap, subst, ◌∙◌, append_assoc, arith}
+use Rattle.std.specs.List.{AllByRecursion, join_with_byte}
 use Rattle.std.specs.Prelude.{slice_index}
 use Rattle.std.specs.Str.{bytes_eq}
 use Rattle.std.proofs.lemmas.Bool.{and_parts, and_from, ltb-true}
@@ -9,12 +9,11 @@ use Rattle.std.proofs.lemmas.List.Splits.{join_with_byte-slice_split}
 use Rattle.std.proofs.lemmas.Slice.Eq.{bytes_eq-Decides}
 use Rattle.hex.specs.Hex.{encode_upper}
 use Rattle.world_core.specs.declared.air.Send.{Send}
-use Rattle.world_core.specs.Topology.{Topology, IsTopology, reach}
-use Rattle.state_text.specs.declared.fault.StateFault.{StateFault}
-use Rattle.state_text.specs.Parts.{is_decimal, value, parts_of, line_of, ended, pieces_of}
+use Rattle.world_core.specs.Topology.{Topology, IsTopology}
+use Rattle.state_text.specs.Parts.{is_decimal, value, parts_of, line_of, pieces_of}
 use Rattle.state_text.specs.Text.{NodeOf, StateOf, numbers_line, bytes_line, node_lines, nodes_lines, send_line, cycle_line, title, tail_lines, state_lines, state_text}
 use Rattle.state_text.specs.Bounds.{Rules, HasNode, IsState, is_cut, is_kept, follows, kept_behind, are_sends}
-use Rattle.state_text.specs.Reading.{◌>>=◌, Place, place, line_in, next_line, no_form, formed, bounded, behind_word, behind_node, numbers_behind, only_bytes, bytes_in, title_at, cycle_at, numbers_at, bytes_at, node_at, nodes_at, three_of, send, if_kept, some_or_out, send_in, send_of, over, sends_in, state_of, one_number}
+use Rattle.state_text.specs.Reading.{◌>>=◌, Place, place, line_in, next_line, no_form, behind_word, behind_node, numbers_behind, only_bytes, bytes_in, title_at, cycle_at, numbers_at, bytes_at, node_at, nodes_at, three_of, send, if_kept, some_or_out, send_in, send_of, over, sends_in, state_of, one_number}
 use Rattle.state_text.proofs.Taken.{bind_ok, ok_is, formed_ok, bounded_ok, numbers_taken}
 use Rattle.state_text.proofs.Visible.{AreBytes, joined}
 use Rattle.state_text.proofs.Numerals.{AreWide, decimal_of, decimals_of}

@@ -1,4 +1,4 @@
-use Rattle.std.proofs.Common.{◌++◌, sym, ap, ◌∙◌, arith}
+use Rattle.std.proofs.Common.{◌++◌, arith}
 use Rattle.std.proofs.lemmas.Result.{err_from_is_err_and}
 use Rattle.state_text.proofs.Loops.{fails_on, node_fails, one_node, nodes_done}
 use Rattle.state_text.proofs.reading.nodes.Goals as goal

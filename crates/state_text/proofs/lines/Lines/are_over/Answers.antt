@@ -1,4 +1,4 @@
-use Rattle.std.proofs.Common.{◌≡◌, ap, sym, ◌∙◌}
+use Rattle.std.proofs.Common.{ap, sym, ◌∙◌}
 use Rattle.state_text.specs.Reading.{Place}
 use Rattle.state_text.proofs.Pieces.{none_left, left_none}
 use Rattle.state_text.proofs.lines.Lines.are_over.Goals as goal
