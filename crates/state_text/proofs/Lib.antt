@@ -1,0 +1,10 @@
+pub mod Digits
+pub mod Again
+pub mod Found
+pub mod HexBytes
+pub mod Laws
+pub mod Loops
+pub mod Numerals
+pub mod Pieces
+pub mod Taken
+pub mod Visible
