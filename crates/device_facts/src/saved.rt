@@ -16,12 +16,6 @@ fn all<const N: usize>(words: &[&str]) -> Option<[u64; N]> {
     Some(numbers)
 }
 
-// Whether these are the numbers that a device has.
-fn are<const N: usize>(has: [u64; N], words: &[&str]) -> Option<Answer> {
-    let numbers: [u64; N] = all(words)?;
-    Some(Answer::Truth(has == numbers))
-}
-
 // Takes the device that numbers make, where they make one.
 fn taken<T: Copy>(device: &mut T, made: Option<T>) -> Answer {
     match made {
@@ -59,7 +53,7 @@ pub fn saved_timer8(timer: &mut Timer8, words: &[&str]) -> Option<Answer> {
         ["outside", which, numbers @ ..] => {
             Some(outside(&Timer8::fits(prescaler(which)?, &all(numbers)?)))
         }
-        ["numbers", numbers @ ..] => are(timer.numbers(), numbers),
+        ["numbers", numbers @ ..] => Some(Answer::Truth(timer.numbers() == all(numbers)?)),
         _ => None,
     }
 }
@@ -69,7 +63,7 @@ pub fn saved_timer16(timer: &mut Timer16, words: &[&str]) -> Option<Answer> {
     match words {
         ["restore", numbers @ ..] => Some(taken(timer, Timer16::from_numbers(&all(numbers)?))),
         ["outside", numbers @ ..] => Some(outside(&Timer16::fits(&all(numbers)?))),
-        ["numbers", numbers @ ..] => are(timer.numbers(), numbers),
+        ["numbers", numbers @ ..] => Some(Answer::Truth(timer.numbers() == all(numbers)?)),
         _ => None,
     }
 }
@@ -82,7 +76,7 @@ pub fn saved_usart(port: &mut Usart, words: &[&str]) -> Option<Answer> {
             Some(taken(port, made))
         }
         ["outside", at, numbers @ ..] => Some(outside(&Usart::fits(cycle(at)?, &all(numbers)?))),
-        ["numbers", numbers @ ..] => are(port.numbers(), numbers),
+        ["numbers", numbers @ ..] => Some(Answer::Truth(port.numbers() == all(numbers)?)),
         _ => None,
     }
 }
@@ -95,7 +89,7 @@ pub fn saved_spi(port: &mut Spi, words: &[&str]) -> Option<Answer> {
             Some(taken(port, made))
         }
         ["outside", at, numbers @ ..] => Some(outside(&Spi::fits(cycle(at)?, &all(numbers)?))),
-        ["numbers", numbers @ ..] => are(port.numbers(), numbers),
+        ["numbers", numbers @ ..] => Some(Answer::Truth(port.numbers() == all(numbers)?)),
         _ => None,
     }
 }
@@ -116,7 +110,7 @@ pub fn saved_radio(radio: &mut Radio, words: &[&str]) -> Option<Answer> {
             Some(taken(radio, made))
         }
         ["outside", numbers @ ..] => Some(outside(&Radio::fits(&all(numbers)?))),
-        ["numbers", numbers @ ..] => are(radio.numbers(), numbers),
+        ["numbers", numbers @ ..] => Some(Answer::Truth(radio.numbers() == all(numbers)?)),
         _ => None,
     }
 }
