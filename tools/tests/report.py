@@ -88,7 +88,7 @@ def members(group):
 
 def results(names):
     """What came of each module, in the order in which they end."""
-    lanes = len(os.sched_getaffinity(0))
+    lanes = 2 * len(os.sched_getaffinity(0))  # most wait, for processes or for their turn
     waiting, running = list(names), []
     with tempfile.TemporaryDirectory() as folder:
         try:
