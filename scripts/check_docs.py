@@ -65,7 +65,7 @@ PATH_END = re.compile(r"\.(py|sh|rt|antt|md|toml|hex|c|h|s|S|txt|edit|cases|svg|
 @functools.lru_cache(maxsize=None)
 def tracked():
     """The paths of all files of the repository, those that are not committed yet too."""
-    said = subprocess.run(["git", "ls-files", "-co", "--exclude-standard"], cwd=TOP, capture_output=True, text=True, check=True).stdout
+    said = subprocess.run(["git", "ls-files", "-co", "--exclude-standard"], cwd=TOP, stdin=subprocess.DEVNULL, capture_output=True, text=True, check=True).stdout
     return [it for it in said.split("\n") if it and (TOP / it).is_file()]
 
 
@@ -217,7 +217,7 @@ def missing(command):
         parts = [it for it in piece.split() if not re.fullmatch(r"\w+=\S*", it)]
         if not parts or "/" in parts[0] or not re.fullmatch(r"[\w.+-]+", parts[0]):
             continue
-        found = subprocess.run(["bash", "-c", f"type {parts[0]}"], capture_output=True, check=False)
+        found = subprocess.run(["bash", "-c", f"type {parts[0]}"], stdin=subprocess.DEVNULL, capture_output=True, check=False)
         if found.returncode != 0:
             return parts[0]
     return None
@@ -265,6 +265,15 @@ def run_commands(path, text, program):
                 yield "\n".join([f"{where}: {command}", "  is to print first", *(f"    {it}" for it in wanted), "  and printed", *(f"    {it}" for it in lines[: len(wanted) + 2])])
 
 
+def why_no_files():
+    """Why git does not tell which files the repository has, if it does not."""
+    try:
+        asked = subprocess.run(["git", "ls-files", "README.md"], cwd=TOP, stdin=subprocess.DEVNULL, capture_output=True, text=True, check=False)
+    except OSError:
+        return "git is not installed"
+    return f"git does not tell the files: {asked.stderr.strip()}" if asked.returncode else None
+
+
 def main():
     parser = argparse.ArgumentParser(description=__doc__, formatter_class=argparse.RawDescriptionHelpFormatter)
     parser.add_argument("--run", nargs="?", const=str(TOP / "crates/avrora_program/out/rlib/avrora_program"), metavar="PROGRAM", help="run the commands too")
@@ -273,6 +282,9 @@ def main():
     program = given.run
     if program and not os.access(program, os.X_OK):
         parser.error(f"there is no program {program}; ./avrora builds it")
+    if cause := why_no_files():
+        print(f"check_docs: skipped: {cause}")
+        return 0
     if given.counts:
         for path, text in documents().items():
             (TOP / path).write_text(COUNT.sub(right_count, text), encoding="utf-8")

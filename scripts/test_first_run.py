@@ -4,6 +4,8 @@ prove, what a signal ends, and what stands below the program's line on a termina
 
     scripts/test_first_run.py
 """
+import contextlib
+import io
 import os
 import pty
 import shutil
@@ -16,6 +18,12 @@ import unittest
 from pathlib import Path
 
 TOP = Path(__file__).resolve().parent.parent
+
+# Seconds that nothing takes but what hangs: a busy machine is no failure.
+LONG = 600
+
+# What `./avrora` is a script for.
+NEEDS = ("bash", "awk", "python3")
 
 # It takes FAKE_SECONDS for a crate, in a copy of itself, and proves all but the crate FAKE_FAULT.
 RATTLE = """#!/usr/bin/env bash
@@ -39,7 +47,7 @@ case $1 in
     refused) echo 'avrora: a.hex: image refused: NoEnd' >&2; exit 5 ;;
     selflink) echo 'avrora: a.toml: scenario refused: SelfLink' >&2; exit 4 ;;
     bad) echo 'avrora: bad command line' >&2; exit 2 ;;
-    long) exec -a "$0-long" sleep 60 ;;
+    long) exec -a "$0-long" sleep 3600 ;;
     *) echo "$* in ${PWD##*/}"; cat ;;
 esac
 END
@@ -52,6 +60,8 @@ CRATES = "low:\nmiddle: low\navrora_program: middle\n"
 class FirstRun(unittest.TestCase):
     def setUp(self):
         self.place = tempfile.TemporaryDirectory()
+        self.addCleanup(self.place.cleanup)
+        self.addCleanup(self.end_all)
         self.top = Path(self.place.name).resolve() / "repository"
         kit = self.top.parent / "kit"
         for path, text in {"bin/rt": "#!/bin/sh\necho a kit\n", "bin/rattle": RATTLE, "bin/rattle-link": LINK, "KIT-ID": "a kit\n"}.items():
@@ -62,10 +72,17 @@ class FirstRun(unittest.TestCase):
         (self.top / "docs").mkdir()
         for path in ("avrora", "prove.py", "docs/FORMATS.md"):
             shutil.copy2(TOP / path, self.top / path)
-        self.environment = {**os.environ, "PATH": f"{kit / 'bin'}:{os.environ['PATH']}"}
+        self.environment = {**os.environ, "PATH": f"{kit / 'bin'}:{os.environ.get('PATH', os.defpath)}"}
+        self.started = []
 
-    def tearDown(self):
-        self.place.cleanup()
+    def end_all(self):
+        """Ends what a test that failed left behind."""
+        for run in self.started:
+            run.kill()
+            run.communicate()
+        for pid, _ in self.left():
+            with contextlib.suppress(ProcessLookupError):
+                os.kill(int(pid), signal.SIGKILL)
 
     @staticmethod
     def write(path, text):
@@ -76,12 +93,14 @@ class FirstRun(unittest.TestCase):
     def start(self, *words, **more):
         environment = {**self.environment, **more.pop("fake", {})}
         given = {"stdin": subprocess.DEVNULL, "stdout": subprocess.PIPE, "stderr": subprocess.PIPE, "text": True, **more}
-        return subprocess.Popen([str(self.top / "avrora"), *words], cwd=self.top, env=environment, **given)
+        run = subprocess.Popen([str(self.top / "avrora"), *words], cwd=self.top, env=environment, **given)
+        self.started.append(run)
+        return run
 
     def ended(self, *words, given=None, **fake):
         more = {"stdin": subprocess.PIPE} if given is not None else {}
         run = self.start(*words, fake=fake, **more)
-        out, err = run.communicate(given, timeout=60)
+        out, err = run.communicate(given, timeout=LONG)
         return run.returncode, out, err
 
     def left(self):
@@ -97,7 +116,8 @@ class FirstRun(unittest.TestCase):
         return found
 
     def until(self, holds):
-        for _ in range(600):
+        end = time.monotonic() + LONG
+        while time.monotonic() < end:
             if holds():
                 return
             time.sleep(0.05)
@@ -135,10 +155,10 @@ class FirstRun(unittest.TestCase):
 
     def test_signals_end_the_checks(self):
         for number in (signal.SIGTERM, signal.SIGINT, signal.SIGHUP):
-            run = self.start("run", fake={"FAKE_SECONDS": "60"})
+            run = self.start("run", fake={"FAKE_SECONDS": "3600"})
             self.until(lambda: any("rattle-copy" in it for _, it in self.left()))
             run.send_signal(number)
-            run.communicate(timeout=60)
+            run.communicate(timeout=LONG)
             self.assertEqual(run.returncode, 128 + number)
             self.until(lambda: not self.left())
 
@@ -147,7 +167,7 @@ class FirstRun(unittest.TestCase):
         run = self.start("long")
         self.until(lambda: any("-long" in it for _, it in self.left()))
         run.terminate()
-        run.communicate(timeout=60)
+        run.communicate(timeout=LONG)
         self.assertEqual(run.returncode, 143)
         self.until(lambda: not self.left())
 
@@ -165,16 +185,39 @@ class FirstRun(unittest.TestCase):
         except OSError as it:
             self.skipTest(f"no terminal is to be had here: {it}")
         self.ended("run")
-        self.assertEqual(self.start("refused", stdout=subprocess.DEVNULL, stderr=theirs).wait(timeout=60), 5)
-        self.assertEqual(self.start("selflink", stdout=subprocess.DEVNULL, stderr=theirs).wait(timeout=60), 4)
+        self.assertEqual(self.start("refused", stdout=subprocess.DEVNULL, stderr=theirs).wait(timeout=LONG), 5)
+        self.assertEqual(self.start("selflink", stdout=subprocess.DEVNULL, stderr=theirs).wait(timeout=LONG), 4)
         os.close(theirs)
-        said = os.read(ours, 10000).decode().splitlines()
-        os.close(ours)
+        with open(ours, "rb", buffering=0) as terminal:
+            said = read_to_end(terminal).decode().splitlines()
         self.assertEqual(said[0], "avrora: a.hex: image refused: NoEnd")
         self.assertEqual(said[1], "(NoEnd: no line is faulty and none has type 01; docs/FORMATS.md)")
         self.assertEqual(said[2], "avrora: a.toml: scenario refused: SelfLink")
         self.assertEqual(said[3], "(SelfLink: a link from a node to itself; docs/FORMATS.md; tools/why FILE says where)")
 
 
+def read_to_end(terminal):
+    """All that was written to a terminal which nobody writes to any more. What it hands over at once may be a part of it."""
+    said = b""
+    with contextlib.suppress(OSError):  # the end of a terminal
+        while part := terminal.read(10000):
+            said += part
+    return said
+
+
+def main():
+    if lacks := [it for it in NEEDS if not shutil.which(it)]:
+        print(f"test_first_run: skipped all tests: {', '.join(lacks)} is not installed")
+        return 0
+    result = unittest.TextTestRunner(stream=io.StringIO(), verbosity=0).run(unittest.defaultTestLoader.loadTestsFromTestCase(FirstRun))
+    for test, text in result.errors + result.failures:
+        print(f"test_first_run: {test}\n{text}", file=sys.stderr)
+    for test, cause in result.skipped:
+        print(f"test_first_run: skipped {test.id()}: {cause}")
+    well = result.wasSuccessful()
+    print(f"test_first_run: {'every test is met' if well else 'a test is not met'}")
+    return int(not well)
+
+
 if __name__ == "__main__":
-    sys.exit(not unittest.main(exit=False).result.wasSuccessful())
+    sys.exit(main())

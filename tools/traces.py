@@ -258,13 +258,19 @@ def add_simulator(parser):
 
 
 @contextlib.contextmanager
-def whole_file(path):
-    """A file to write text to, which becomes `path` only once all is written."""
+def whole_file(path, binary=False, lasting=True):
+    """A file to write to, which becomes `path` only once all is written.
+
+    A `lasting` one is on the disk then, so that the name has all its content also where the machine loses its power.
+    """
     folder = os.path.dirname(os.path.abspath(path))
     handle, name = tempfile.mkstemp(dir=folder, prefix=f".{os.path.basename(path)}.")
     try:
-        with open(handle, "w", encoding="utf-8") as file:
+        with open(handle, "wb") if binary else open(handle, "w", encoding="utf-8") as file:
             yield file
+            if lasting:
+                file.flush()
+                os.fsync(file.fileno())
         mask = os.umask(0)
         os.umask(mask)
         os.chmod(name, 0o666 & ~mask)
@@ -275,10 +281,10 @@ def whole_file(path):
         raise
 
 
-def write_whole(path, text):
-    """Writes `text` to `path`, whole or not at all; to the standard output where `path` is `-`."""
+def write_whole(path, content, lasting=True):
+    """Writes a text, or bytes, to `path`, whole or not at all; a text to the standard output where `path` is `-`."""
     if path == "-":
-        sys.stdout.write(text)
+        sys.stdout.write(content)
         return
-    with whole_file(path) as file:
-        file.write(text)
+    with whole_file(path, isinstance(content, bytes), lasting) as file:
+        file.write(content)

@@ -1,17 +1,25 @@
 """What the tests share: where things are, and running a tool as a user does."""
 import contextlib
-import importlib.util
+import importlib
 import os
 import shutil
+import signal
+import socket
 import subprocess
 import sys
 import tempfile
+import time
 import unittest
 
 TESTS = os.path.dirname(os.path.realpath(__file__))
 TOOLS = os.path.dirname(TESTS)
 TOP = os.path.dirname(TOOLS)
 DATA = f"{TESTS}/data"
+
+# Seconds that nothing takes but what hangs: a busy machine is no failure.
+LONG = 600
+
+LOOPBACK = "127.0.0.1"
 
 sys.path.append(TOOLS)
 sys.dont_write_bytecode = True
@@ -25,7 +33,7 @@ def run_tool(name, *words, stdin="", env=None):
         capture_output=True,
         check=False,
         env={**os.environ, **(env or {})},
-        timeout=120,
+        timeout=LONG,
     )
     return done.returncode, done.stdout.decode(), done.stderr.decode()
 
@@ -45,10 +53,42 @@ def data(name):
         return file.read()
 
 
+def end_group(process):
+    """Ends a process that was started as the first of a group, and the rest of the group."""
+    with contextlib.suppress(ProcessLookupError):
+        os.killpg(process.pid, signal.SIGKILL)
+    process.wait()
+
+
+def wait_for(condition):
+    """Waits until the condition gives what is true, and returns that."""
+    end = time.monotonic() + LONG
+    while not (found := condition()):
+        if time.monotonic() > end:
+            raise TimeoutError(f"not in {LONG} s")
+        time.sleep(0.05)
+    return found
+
+
 def needs_module(module, package):
-    """Skips a test where Python's `module` is missing, and names Debian's package."""
-    return unittest.skipUnless(importlib.util.find_spec(module), f"needs {module} (Debian's {package})")
+    """Skips a test where Python's `module` cannot be imported, and names Debian's package."""
+    try:
+        importlib.import_module(module)
+    except Exception:  # also where a part of what it needs is not there, or broken
+        return unittest.skip(f"needs {module} (Debian's {package})")
+    return lambda test: test
 
 
 def needs_program(program, package):
     return unittest.skipUnless(shutil.which(program), f"needs {program} (Debian's {package})")
+
+
+def has_loopback():
+    try:
+        with socket.create_server((LOOPBACK, 0)) as server, socket.create_connection(server.getsockname(), LONG):
+            return True
+    except OSError:
+        return False
+
+
+needs_loopback = unittest.skipUnless(has_loopback(), f"needs a network that has {LOOPBACK}")

@@ -1,111 +1,17 @@
-"""campaign: the file, runs by processes and by dask, workers that die, campaigns that are cut."""
-import contextlib
-import glob
-import json
+"""campaign: the file, runs by processes of this machine, campaigns that are cut."""
 import os
 import signal
-import socket
 import subprocess
 import sys
-import tempfile
-import time
 import tomllib
 import unittest
 import xml.etree.ElementTree
 
-from support import TOOLS, needs_module, run_tool
+from campaign_runs import CAMPAIGN, CASE, SCENARIO, Outcomes, folder, hidden_dask, let_go, run_campaign, starts
+from support import LONG, TOOLS, needs_module, run_tool, wait_for
 
 import campaigns
 from traces import BadInput
-
-# Stands for the simulator. What it does is told by the latency of the scenario, so that a campaign can vary it: 1 the
-# scenario is refused, 2 it hangs, 3 it fails the first time, 4 it always fails, else node 0 sends a byte. It notes
-# each start.
-SIMULATOR = f"""#!{sys.executable} -IS
-import os, sys, time
-text = open(sys.argv[2]).read()
-latency = int(text.split("latency = ")[1].split()[0])
-log = os.environ["CAMPAIGN_LOG"]
-before = open(log).read().split() if os.path.exists(log) else []
-with open(log, "a") as file:
-    file.write(f"{{latency}}\\n")
-time.sleep(float(os.environ.get("CAMPAIGN_SLEEP", 0)))
-if latency == 1:
-    sys.exit(sys.stderr.write(f"avrora: {{sys.argv[2]}}: scenario refused: OutOfRange\\n") and 4)
-if latency == 2:
-    time.sleep(60)
-if latency == 4 or latency == 3 and "3" not in before:
-    sys.exit(6)
-print(f"{{latency}} 0 sent AA\\n{{latency + 9}} 1 heard 1 AA 0\\n5000 0 end 10 running\\n5000 1 end 10 running")
-"""
-
-SCENARIO = """version = 3
-cycles = 5_000
-latency = 100
-[[node]]
-image = "a.hex"
-[[node]]
-image = "a.hex"
-[[link]]
-from = 0
-to = 1
-[[input]]
-node = 1
-at = 500
-hex = "01"
-"""
-
-CASE = "* 0 sent AA\nwithin 20..29: never * 0 sent *\n"
-
-CAMPAIGN = """attempts = 2
-timeout = 1
-[[run]]
-scenario = "net.toml"
-expect = "net.expect"
-[run.vary]
-latency = [1, 3, 4, 20, 30]
-"""
-
-
-@contextlib.contextmanager
-def folder(campaign=CAMPAIGN, case=CASE, scenario=SCENARIO):
-    """A folder with a campaign, its scenario, case and image, and a simulator."""
-    with tempfile.TemporaryDirectory() as path:
-        texts = {
-            "c.toml": campaign,
-            "net.toml": scenario,
-            "net.expect": case,
-            "a.hex": ":00000001FF\n",
-            "avrora": SIMULATOR,
-        }
-        for name, text in texts.items():
-            with open(f"{path}/{name}", "w", encoding="utf-8") as file:
-                file.write(text)
-        os.chmod(f"{path}/avrora", 0o755)
-        yield path
-
-
-def run_campaign(path, *words, without_dask=True, **env):
-    """Runs the campaign c.toml; its status, output and errors, and the rows of the summary by name."""
-    env = {"CAMPAIGN_LOG": f"{path}/log", "AVRORA": f"{path}/avrora", **env}
-    if without_dask:
-        os.makedirs(f"{path}/hidden", exist_ok=True)
-        with open(f"{path}/hidden/distributed.py", "w", encoding="utf-8") as file:
-            file.write("raise ImportError\n")
-        env["PYTHONPATH"] = f"{path}/hidden"
-    status, out, errors = run_tool("campaign", *words, f"{path}/c.toml", env=env)
-    rows = {}
-    if os.path.exists(f"{path}/c.results/summary.jsonl"):
-        with open(f"{path}/c.results/summary.jsonl", encoding="utf-8") as file:
-            lines = [json.loads(line) for line in file]
-        rows = {row["name"]: row for row in lines}
-        assert len(rows) == len(lines), "a run stands twice in the summary"
-    return status, out, errors, rows
-
-
-def starts(path):
-    with open(f"{path}/log", encoding="utf-8") as file:
-        return file.read().split()
 
 
 class TheFile(unittest.TestCase):
@@ -247,39 +153,6 @@ stagger = [0, 30]
         self.assert_refused(f'{run}expect = "net.expect"\n', "net.expect, line 1", case="1 0 nonsense *\n")
 
 
-class Outcomes:
-    """What comes of five runs, whoever runs them."""
-
-    without_dask = True
-
-    def test_outcomes_and_attempts(self):
-        with folder() as path:
-            status, out, errors, rows = run_campaign(path, "--processes", "2", without_dask=self.without_dask)
-            self.assertEqual(status, 1, errors)
-            found = {name: (row["outcome"], row["attempts"]) for name, row in rows.items()}
-            self.assertEqual(
-                found,
-                {
-                    "net latency=1": ("refused", 1),
-                    "net latency=3": ("passed", 2),
-                    "net latency=4": ("broken", 2),
-                    "net latency=20": ("failed", 1),
-                    "net latency=30": ("passed", 1),
-                },
-            )
-            self.assertEqual(sorted(starts(path)), sorted("1 3 3 4 4 20 30".split()))
-            self.assertEqual(rows["net latency=1"]["message"], "avrora: scenario.toml: scenario refused: OutOfRange")
-            self.assertEqual(rows["net latency=4"]["message"], "status 6: ")
-            self.assertIn("net.expect, line 2", rows["net latency=20"]["message"])
-            self.assertEqual(
-                rows["net latency=30"]["counts"], {"sent": 1, "heard": 1, "clashes": 0, "serial": 0, "stops": 0}
-            )
-            self.assertEqual(rows["net latency=30"]["parameters"], {"latency": 30})
-            self.assertIn("c: 5 runs, 2 passed, 1 failed, 1 refused, 1 broken", out)
-            names = [os.path.basename(name) for name in glob.glob(f"{path}/c.results/runs/*.toml")]
-            self.assertEqual(sorted(names), [f"net,latency={latency}.toml" for latency in (1, 20, 4)])
-
-
 class WithoutDask(Outcomes, unittest.TestCase):
     """By processes of this machine."""
 
@@ -312,15 +185,20 @@ class WithoutDask(Outcomes, unittest.TestCase):
             self.assertEqual((status, rows["net latency=20"]["outcome"]), (1, "passed"), errors)
             self.assertNotIn("already", errors)
 
-    def test_time_and_traces(self):
-        campaign = CAMPAIGN.replace("[1, 3, 4, 20, 30]", "[2, 20]").replace(
-            "attempts = 2", 'attempts = 1\ntraces = "failed"'
-        )
+    def test_time(self):
+        campaign = CAMPAIGN.replace("[1, 3, 4, 20, 30]", "[2]").replace("attempts = 2", "attempts = 1\ntimeout = 1")
         with folder(campaign) as path:
             status, _, errors, rows = run_campaign(path)
             self.assertEqual(status, 1, errors)
             self.assertEqual(rows["net latency=2"]["message"], "took more than 1 s")
-            self.assertEqual(os.listdir(f"{path}/c.results/runs").count("net,latency=20.trace.gz"), 1)
+
+    def test_traces(self):
+        campaign = CAMPAIGN.replace("[1, 3, 4, 20, 30]", "[20, 30]").replace("attempts = 2", 'traces = "failed"')
+        with folder(campaign) as path:
+            status, _, errors, _ = run_campaign(path)
+            self.assertEqual(status, 1, errors)
+            names = os.listdir(f"{path}/c.results/runs")
+            self.assertEqual([name for name in names if name.endswith(".gz")], ["net,latency=20.trace.gz"])
             status, out, errors = run_tool(
                 "expect", "--trace", f"{path}/c.results/runs/net,latency=20.trace.gz", f"{path}/net.expect"
             )
@@ -345,16 +223,14 @@ class WithoutDask(Outcomes, unittest.TestCase):
 
     def test_two_at_once(self):
         with folder() as path:
-            env = {**os.environ, "CAMPAIGN_LOG": f"{path}/log", "CAMPAIGN_SLEEP": "2", "PYTHONPATH": f"{path}/hidden"}
+            env = {**os.environ, "CAMPAIGN_LOG": f"{path}/log", "CAMPAIGN_HELD": "0", **hidden_dask(path)}
             words = [sys.executable, f"{TOOLS}/campaign", "--avrora", f"{path}/avrora", f"{path}/c.toml"]
-            os.makedirs(f"{path}/hidden")
-            with open(f"{path}/hidden/distributed.py", "w", encoding="utf-8") as file:
-                file.write("raise ImportError\n")
             first = subprocess.Popen(words, env=env, stdout=subprocess.DEVNULL, stderr=subprocess.DEVNULL)
             wait_for(lambda: os.path.exists(f"{path}/log"))
             status, _, errors, _ = run_campaign(path)
             first.send_signal(signal.SIGINT)
-            self.assertEqual(first.wait(20), 130)
+            let_go(path)
+            self.assertEqual(first.wait(LONG), 130)
             self.assertEqual(status, 2)
             self.assertIn("another campaign is at work", errors)
 
@@ -373,121 +249,6 @@ class WithoutDask(Outcomes, unittest.TestCase):
             run_campaign(path)
             suite = xml.etree.ElementTree.parse(f"{path}/c.results/junit.xml").getroot().find("testsuite")
             self.assertEqual((suite.get("tests"), suite.get("failures"), suite.get("errors")), ("5", "2", "1"))
-
-
-def wait_for(condition, seconds=30):
-    end = time.monotonic() + seconds
-    while not condition():
-        if time.monotonic() > end:
-            raise TimeoutError
-        time.sleep(0.05)
-
-
-@needs_module("distributed", "python3-distributed")
-class OnDask(Outcomes, unittest.TestCase):
-    """By the workers of a scheduler that campaign starts for itself."""
-
-    without_dask = False
-
-    def test_no_scheduler(self):
-        with folder() as path, socket.socket() as free:
-            free.bind(("127.0.0.1", 0))  # and nobody listens
-            address = f"tcp://127.0.0.1:{free.getsockname()[1]}"
-            env = {"DASK_DISTRIBUTED__COMM__TIMEOUTS__CONNECT": "1s"}
-            status, _, errors, _ = run_campaign(path, "--scheduler", address, without_dask=False, **env)
-            self.assertEqual(status, 2)
-            self.assertIn(f"no scheduler of dask answers at {address}", errors)
-
-
-@needs_module("distributed", "python3-distributed")
-class OnACluster(unittest.TestCase):
-    """A scheduler and three workers, each a process of its own that knows nothing of this repository."""
-
-    RUNS = 60
-
-    def setUp(self):
-        self.processes = []
-        self.stack = contextlib.ExitStack()
-        campaign = CAMPAIGN.replace("[1, 3, 4, 20, 30]", f"{{ from = 100, to = {99 + self.RUNS} }}")
-        self.path = self.stack.enter_context(folder(campaign))
-        self.env = {name: value for name, value in os.environ.items() if name != "PYTHONPATH"}
-        self.env |= {
-            "CAMPAIGN_LOG": f"{self.path}/log",
-            "CAMPAIGN_SLEEP": "0.05",
-            "DASK_DISTRIBUTED__COMM__TIMEOUTS__CONNECT": "3s",
-        }
-        self.start(
-            "distributed.cli.dask_scheduler",
-            "--port",
-            "0",
-            "--scheduler-file",
-            f"{self.path}/scheduler.json",
-            "--no-dashboard",
-        )
-        wait_for(lambda: os.path.exists(f"{self.path}/scheduler.json"))
-        self.workers = []
-        for number in range(3):
-            words = [
-                "--scheduler-file",
-                f"{self.path}/scheduler.json",
-                "--nthreads",
-                "1",
-                "--no-nanny",
-                "--no-dashboard",
-                "--local-directory",
-                f"{self.path}/worker{number}",
-            ]
-            self.workers.append(self.start("distributed.cli.dask_worker", *words))
-        with open(f"{self.path}/scheduler.json", encoding="utf-8") as file:
-            self.address = json.load(file)["address"]
-
-    def tearDown(self):
-        for process in self.processes:
-            process.kill()
-            process.wait()
-        self.stack.close()
-
-    def start(self, module, *words):
-        words = [sys.executable, "-m", module, "--host", "127.0.0.1", *words]
-        process = subprocess.Popen(
-            words, cwd=self.path, env=self.env, stdout=subprocess.DEVNULL, stderr=subprocess.DEVNULL
-        )
-        self.processes.append(process)
-        return process
-
-    def results(self):
-        return len(glob.glob(f"{self.path}/c.results/runs/*.json"))
-
-    def test_a_worker_is_killed(self):
-        words = [
-            sys.executable,
-            f"{TOOLS}/campaign",
-            "--avrora",
-            f"{self.path}/avrora",
-            "--scheduler",
-            self.address,
-            f"{self.path}/c.toml",
-        ]
-        campaign = subprocess.Popen(words, env=self.env, stdout=subprocess.PIPE, stderr=subprocess.STDOUT, text=True)
-        self.processes.append(campaign)
-        wait_for(lambda: self.results() >= 10)
-        self.workers[0].kill()
-        at_kill = self.results()
-        out, _ = campaign.communicate(timeout=60)
-        self.assertLess(at_kill, self.RUNS - 10, "the worker was not killed in the middle")
-        self.assertEqual(campaign.returncode, 0, out)
-        with open(f"{self.path}/c.results/summary.jsonl", encoding="utf-8") as file:
-            rows = [json.loads(line) for line in file]
-        self.assertEqual(
-            [row["name"] for row in rows], [f"net latency={latency}" for latency in range(100, 100 + self.RUNS)]
-        )
-        self.assertEqual({row["outcome"] for row in rows}, {"passed"})
-        self.assertEqual(self.results(), self.RUNS)
-        # What the killed worker had under way was run again, and nothing else.
-        self.assertLessEqual(len(starts(self.path)), self.RUNS + 3)
-        self.assertEqual(
-            {row["parameters"]["latency"] for row in rows}, {int(latency) for latency in starts(self.path)}
-        )
 
 
 if __name__ == "__main__":

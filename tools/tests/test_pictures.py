@@ -1,12 +1,16 @@
 """Timelines and waves."""
+import contextlib
 import json
+import os
 import re
 import subprocess
 import tempfile
 import unittest
 import xml.etree.ElementTree as tree
 
-from support import DATA, data, needs_program, run_tool, scratch
+from support import DATA, LONG, data, end_group, needs_program, run_tool, scratch
+
+BROWSER = 60  # seconds for chromium, which does not end on each machine
 
 SVG = "{http://www.w3.org/2000/svg}"
 
@@ -119,15 +123,23 @@ document.body.innerHTML = `<pre>${tip.textContent}|${shown.length}|${Math.round(
                 "--dump-dom",
                 f"file://{page}",
             ]
-            try:
-                done = subprocess.run(words, capture_output=True, timeout=40, check=False)
-            except subprocess.TimeoutExpired:
-                self.skipTest("chromium did not end in 40 s")
-        if done.returncode:
-            self.skipTest(f"chromium ended with status {done.returncode}")
-        self.assertIn(
-            "15,506  CLASH of node 2's 01 of 15,051, node 5's 01 of 15,046|2|5266|true|", done.stdout.decode()
-        )
+            status, dump = self.ended(words, {**os.environ, "HOME": profile})
+        if status:
+            said = f"ended with status {status}" if status > 0 else f"did not end in {BROWSER} s"
+            self.skipTest(f"chromium {said}")
+        self.assertIn("15,506  CLASH of node 2's 01 of 15,051, node 5's 01 of 15,046|2|5266|true|", dump)
+
+    def ended(self, words, env):
+        """The status and the output of a command; all that it started is gone then."""
+        with tempfile.TemporaryFile() as said:
+            browser = subprocess.Popen(
+                words, env=env, stdin=subprocess.DEVNULL, stdout=said, stderr=subprocess.DEVNULL, start_new_session=True
+            )
+            with contextlib.suppress(subprocess.TimeoutExpired):
+                browser.wait(BROWSER)
+            end_group(browser)
+            said.seek(0)
+            return browser.returncode, said.read().decode()
 
 
 class Picture(unittest.TestCase):
@@ -249,12 +261,14 @@ class Waves(unittest.TestCase):
         self.assertIn("name them (-n)", err)
 
     @needs_program("vcd2fst", "gtkwave")
+    @needs_program("fst2vcd", "gtkwave")
     def test_read_by_another_program(self):
         """GTKWave's own converter reads the dump, and writes the same changes back."""
         dump = run_tool("vcd", "-s", f"{DATA}/flood.toml", stdin=data("flood.trace"))[1]
         with scratch("flood.vcd", dump) as path:
-            subprocess.run(["vcd2fst", path, f"{path}.fst"], check=True, capture_output=True)
-            back = subprocess.run(["fst2vcd", "-f", f"{path}.fst"], check=True, capture_output=True).stdout.decode()
+            limits = {"check": True, "capture_output": True, "timeout": LONG}
+            subprocess.run(["vcd2fst", path, f"{path}.fst"], **limits)
+            back = subprocess.run(["fst2vcd", "-f", f"{path}.fst"], **limits).stdout.decode()
         self.assertEqual(self.settled(back), self.settled(dump))
 
     def settled(self, dump):

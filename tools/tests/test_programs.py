@@ -1,10 +1,12 @@
 """Functions and source lines of addresses, and where cycles went. relay.elf is examples/relay.c as avr-gcc 5.4
 compiles it with -Os -gdwarf-2; what is expected of it was read in its listing by avr-objdump -dl."""
+import collections
 import random
 import unittest
 
 from support import DATA, data, needs_module, run_tool, scratch
 import programs
+import traces
 from traces import BadInput
 
 ELF = f"{DATA}/relay.elf"
@@ -151,6 +153,27 @@ WINDOW = """\
 """
 
 
+def drawn_rows(draw):
+    """Rows of a node as (cycle, kind and rest), up to about cycle 100."""
+    rows, cycle, stopped = [], 0, False
+    while cycle < 100 and not stopped:
+        kind = draw.choice(["instr 0001 nop", "instr 0002 sleep", "enter 0024 0001", "stop 0003 x"])
+        stopped = kind[0] == "s"
+        rows.append((cycle, kind))
+        cycle += draw.choice([1, 2, 9, 30])
+    return rows
+
+
+def owner_of(rows, now):
+    """On what a node spends the cycle `now`."""
+    cycle, kind = max((row for row in rows if row[0] <= now), default=(now, ""))
+    if not kind:
+        return "unknown"
+    if kind[0] == "s":
+        return "stopped"
+    return "asleep" if kind.endswith("sleep") and cycle < now else "busy"
+
+
 class Profile(unittest.TestCase):
     def profile(self, *words, trace=WINDOW):
         status, out, err = run_tool("profile", *words, stdin=trace)
@@ -194,26 +217,20 @@ class Profile(unittest.TestCase):
     def test_drawn_rows(self):
         """Against the rule, asked of each cycle: its owner is the node's last row up to it."""
         draw = random.Random(1)
-        for _ in range(30):
-            rows, cycle, stopped = [], 0, False
-            while cycle < 100 and not stopped:
-                kind = draw.choice(["instr 0001 nop", "instr 0002 sleep", "enter 0024 0001", "stop 0003 x"])
-                stopped = kind[0] == "s"
-                rows.append((cycle, kind))
-                cycle += draw.choice([1, 2, 9, 30])
+        for _ in range(3):
             first = draw.randrange(120)
             end = first + draw.randrange(1, 60)
-            counts = {"busy": 0, "asleep": 0, "stopped": 0, "unknown": 0}
-            rows = [row for row in rows if first <= row[0] < end or row[1][0] == "s"]  # as a trace has them
-            for now in range(first, end):
-                owner = max((row for row in rows if row[0] <= now), default=None)
-                asleep = owner and owner[1].endswith("sleep") and owner[0] < now
-                kind = "unknown" if not owner else "stopped" if owner[1][0] == "s" else "asleep" if asleep else "busy"
-                counts[kind] += 1
-            trace = "".join(f"{cycle} 0 {kind}\n" for cycle, kind in rows) + "500 0 end 1 running\n"
-            charge = 8 * counts["busy"] + counts["asleep"]
-            expected = ["0", *map(str, counts.values()), str(charge)]
-            self.assertEqual(self.profile("--window", f"{first}..{end}", trace=trace)[1], expected)
+            trace, expected = [], []
+            for node in range(traces.MAX_NODES):
+                # as a trace has them: of the window, and each stop
+                rows = [row for row in drawn_rows(draw) if first <= row[0] < end or row[1][0] == "s"]
+                counts = collections.Counter(owner_of(rows, now) for now in range(first, end))
+                kinds = [counts[kind] for kind in ("busy", "asleep", "stopped", "unknown")]
+                trace += [(cycle, node, kind) for cycle, kind in rows] + [(500, node, "end 1 running")]
+                expected.append([str(number) for number in (node, *kinds, 8 * counts["busy"] + counts["asleep"])])
+            text = "".join(f"{cycle} {node} {kind}\n" for cycle, node, kind in sorted(trace))
+            said = self.profile("--window", f"{first}..{end}", trace=text)
+            self.assertEqual(said[1 : 1 + traces.MAX_NODES], expected)
 
     # What a monitor writes of the same window.
     MONITOR = (

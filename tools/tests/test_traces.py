@@ -144,6 +144,7 @@ class Ends(unittest.TestCase):
                 _, err = tool.communicate(long)
                 self.assertEqual((tool.returncode, err), (-signal.SIGPIPE, b""))  # as cat ends
 
+    @unittest.skipUnless(os.path.exists("/dev/full"), "needs /dev/full")
     def test_full_device(self):
         with open("/dev/full", "wb") as full:
             done = subprocess.run(

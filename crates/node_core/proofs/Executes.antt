@@ -17,8 +17,8 @@ use Rattle.data_space.specs.declared.bus.Done.{Done}
 use Rattle.data_space.specs.declared.cpu.Cpu.{Cpu}
 use Rattle.data_space.specs.Sequence.{Outcome}
 use Rattle.node_core.specs.declared.bus.NodeBus.{NodeBus}
-use Rattle.node_core.specs.Apart.{is_apart}
 use Rattle.node_core.specs.Bus.{bus_get, bus_put}
+use Rattle.node_core.specs.Cycle.{is_sleep}
 use Rattle.node_core.specs.Execute.{executed, executed_by}
 use Rattle.node_core.proofs.Takes.{arith_takes}
 
@@ -40,11 +40,10 @@ memory_class class.Flow e = absurd (false≢true e)
 memory_class class.Memory e = refl
 memory_class (class.Halting cause) e = absurd (false≢true e)
 
--- neither SLEEP nor RETI works on registers and flags alone
-pub arith_apart : (o : Op) → is_arith (class_of o) ≡ true → is_apart o ≡ false
-arith_apart op.Sleep e = absurd (false≢true e)
-arith_apart op.Reti e = absurd (false≢true e)
-arith_apart _ e = refl
+-- SLEEP does not work on registers and flags alone
+pub arith_awake : (o : Op) → is_arith (class_of o) ≡ true → is_sleep o ≡ false
+arith_awake op.Sleep e = absurd (false≢true e)
+arith_awake _ e = refl
 
 abbrev pub Takes : Result Done StopCause → Type 0
 Takes r = IfOk r (λ d. 1 ≤ d.cycles)

@@ -4,6 +4,7 @@ pub mod Runs
 pub mod Idling
 pub mod Steady
 pub mod Takes
+pub mod Wakes
 pub mod Strides
 pub mod Untouched
 pub mod Clocks

@@ -35,7 +35,6 @@ pub record IsSprinting (t at : ℕ) (old m : Machine) : Type 0 where
   pub going : m.stop ≡ None
   pub free : m.wait ≡ 0
   pub awake : m.asleep ≡ false
-  pub owed : m.owed ≡ false
   pub behind : m.to ≤ at
   pub clock : m.bus.board.clock ≡ at
   pub script : m.script ≡ old.script
@@ -152,7 +151,6 @@ module _ (t at : ℕ) (old m : Machine) (h : IsSprinting t at old m) where
           going = p.going;
           free = p.free;
           awake = p.awake;
-          owed = p.owed;
           behind = omega (arith, behind, to);
           clock = clock;
           script = p.script ∙ h.script;

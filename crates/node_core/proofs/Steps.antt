@@ -1,10 +1,8 @@
 -- A step of a sprint: the processor's part of its cycle, of an instruction that goes on.
 use Rattle.std.proofs.Common.{◌≡◌, ℕ, ◌+◌, ◌-◌, ◌≤◌, ◌&&◌, ◌++◌, nat_le, nat_lt, Bool, true, false, cond, None, List, [], is_some, append-nil, refl, sym, subst, ap, ◌∙◌, arith}
-use Rattle.std.proofs.lemmas.Bool.{false≢true}
 use Rattle.std.proofs.lemmas.Bool.Decides.{nat_tests}
 use Rattle.std.specs.Prelude.{Ok}
 use Rattle.avr_decoder.specs.declared.op.Op.{Op}
-use Rattle.avr_decoder.specs.declared.op.Op.TheVariants as op
 use Rattle.board_io.specs.Board.{sleep_mode}
 use Rattle.board_io.specs.Cycle.{timers_leap}
 use Rattle.data_space.specs.declared.bus.Done.{Done}
@@ -15,7 +13,6 @@ use Rattle.node_core.specs.declared.bus.NodeBus.{NodeBus}
 use Rattle.node_core.specs.declared.machine.Machine.{Machine}
 use Rattle.node_core.specs.declared.row.Row.{Row}
 use Rattle.node_core.specs.declared.row.Kind.TheVariants as kind
-use Rattle.node_core.specs.Apart.{is_apart}
 use Rattle.node_core.specs.Bus.{bus_at, with_board}
 use Rattle.node_core.specs.Cycle.{first_word, instructed, instructed_rows, is_idle, is_other, is_refused, is_sleep, node_kind, op_now, owes, row, second_word}
 use Rattle.node_core.specs.Execute.{executed}
@@ -28,53 +25,48 @@ use Rattle.node_core.proofs.Clocks.{executed_clock}
 use Rattle.node_core.proofs.Ran.{goes_on, ran, ran_rows}
 use Rattle.node_core.proofs.Strides.{passed_there}
 
-awake_of : (o : Op) → is_apart o ≡ false → is_sleep o ≡ false
-awake_of op.Sleep e = absurd (false≢true (sym e))
-awake_of _ e = refl
-
-pub runs_on : (s : NodeState) (o : Op) → is_apart o ≡ false → is_refused s o ≡ false
-runs_on s o e = ap (λ (b : Bool). b && is_other (sleep_mode s.bus.board)) (awake_of o e)
+pub runs_on : (s : NodeState) (o : Op) → is_sleep o ≡ false → is_refused s o ≡ false
+runs_on s o e = ap (λ (b : Bool). b && is_other (sleep_mode s.bus.board)) e
 
 and_false : (b c : Bool) → c ≡ false → (b && c) ≡ false
 and_false true c e = e
 and_false false c e = refl
 
--- behind the window, of an instruction that owes none and does not sleep
-module _ (t : ℕ) (m : Machine) (o : Op) (fetched : o ≡ op_now (shown m)) (apart : is_apart o ≡ false) (now : m.bus.board.clock ≡ t) (behind : m.to ≤ t)
+-- behind the window, of an instruction that does not sleep
+module _ (t : ℕ) (m : Machine) (o : Op) (fetched : o ≡ op_now (shown m)) (runs : is_refused (shown m) o ≡ false) (now : m.bus.board.clock ≡ t) (behind : m.to ≤ t)
     (a : Outcome NodeBus) (flash : List ℕ) (kept : flash ≡ m.program.bytes) (done : a ≡ executed flash o m.cpu m.bus) (d : Done) (ok : a.result ≡ Ok d) where
   abbrev s : NodeState
   s = shown m
 
-  pub stepped_state : owes o m.cpu.sreg.bits a.cpu.sreg.bits ≡ false → d.sleep ≡ false → m.owed ≡ false → m.asleep ≡ false
-      → (let u : NodeState = record (shown m) { cpu = a.cpu; bus = bus_at 0 a.bus; wait = d.cycles - 1; count = m.count + 1 } in u) ≡ instructed t (shown m)
-  stepped_state none wakes owed awake =
+  pub stepped_state : (b : Bool) → b ≡ owes o m.cpu.sreg.bits a.cpu.sreg.bits → d.sleep ≡ false → m.asleep ≡ false
+      → (let u : NodeState = record (shown m) { cpu = a.cpu; bus = bus_at 0 a.bus; wait = d.cycles - 1; owed = b; count = m.count + 1 } in u) ≡ instructed t (shown m)
+  stepped_state b owed wakes awake =
       (λ i. let u : NodeState = record s {
         cpu = a.cpu;
         bus = bus_at 0 a.bus;
         wait = d.cycles - 1;
-        owed = (owed ∙ sym none) i;
+        owed = owed i;
         asleep = (awake ∙ sym (ap (λ (b : Bool). b && is_idle (sleep_mode a.bus.board)) wakes)) i;
         count = m.count + 1;
       } in u)
-      ∙ ran t m o fetched (runs_on s o apart) now a flash kept done (Ok d) ok
+      ∙ ran t m o fetched runs now a flash kept done (Ok d) ok
 
   pub stepped_rows : instructed_rows t (shown m) ≡ []
   stepped_rows =
       let window : (nat_le m.from t && nat_lt t m.to) ≡ false = and_false _ _ (let b : nat_lt t m.to ≡ false = grind (arith, nat_tests) in b) in
-      sym (ran_rows t m o fetched (runs_on s o apart) now a flash kept done [] (Ok d) ok)
+      sym (ran_rows t m o fetched runs now a flash kept done [] (Ok d) ok)
       ∙ ap (λ (b : Bool). cond b (row t s (kind.Instr s.cpu.pc (first_word s) (second_word s))) []) window
 
-  pub gone : owes o m.cpu.sreg.bits a.cpu.sreg.bits ≡ false → d.sleep ≡ false → 1 ≤ d.cycles → m.owed ≡ false → m.asleep ≡ false → m.stop ≡ None → m.wait ≡ 0
-      → IsStepped t d.cycles m (let x : Machine = record m { cpu = a.cpu; bus = a.bus; count = m.count + 1 } in x)
-  gone none wakes some owed awake going free = record {
+  pub gone : (b : Bool) → b ≡ owes o m.cpu.sreg.bits a.cpu.sreg.bits → d.sleep ≡ false → 1 ≤ d.cycles → m.asleep ≡ false → m.stop ≡ None → m.wait ≡ 0
+      → IsStepped t d.cycles m (let x : Machine = record m { cpu = a.cpu; bus = a.bus; owed = b; count = m.count + 1 } in x)
+  gone b owed wakes some awake going free = record {
     some = some;
-    state = stepped_state none wakes owed awake;
+    state = stepped_state b owed wakes awake;
     told = stepped_rows;
     same = refl;
     going = going;
     awake = awake;
     free = free;
-    owed = owed;
     to = refl;
     script = refl;
     count = refl;

@@ -6,7 +6,6 @@ pub mod Cycle
 pub mod Shown
 pub mod Inside
 pub mod Reached
-pub mod Apart
 pub mod Midway
 pub mod Numbers
 pub mod Restored

@@ -5,7 +5,7 @@ use Rattle.node_core.specs.declared.row.Row.{Row}
 use Rattle.world_core.specs.NodeRun.{AllQuiet, Timed, Comes, passed, passed_rows}
 use Rattle.node_core.specs.declared.machine.Machine.{Machine}
 use Rattle.node_core.specs.declared.sprint.Step.{Step}
-use Rattle.node_core.specs.declared.sprint.Step.TheVariants.{Other, Plain, Ended}
+use Rattle.node_core.specs.declared.sprint.Step.TheVariants.{Plain, Ended}
 use Rattle.node_core.specs.Inside.{IsGoing}
 use Rattle.node_core.specs.Shown.{shown}
 use Rattle.node_core.specs.State.{NodeState}
@@ -49,7 +49,6 @@ pub record IsStepped (t n : ℕ) (old new : Machine) : Type 0 where
   pub going : new.stop ≡ None
   pub awake : new.asleep ≡ false
   pub free : new.wait ≡ 0
-  pub owed : new.owed ≡ false
   pub to : new.to ≡ old.to
   pub script : new.script ≡ old.script
   pub count : new.count ≡ old.count + 1
@@ -57,7 +56,6 @@ pub record IsStepped (t n : ℕ) (old new : Machine) : Type 0 where
 
 -- what a step of a sprint did in cycle t
 abbrev pub IsStep : ℕ → Step → Machine → Machine → Type 0
-IsStep t Other old new = new ≡ old
 IsStep t (Plain n) old new = IsStepped t n old new
 IsStep t Ended old new = IsActed 0 (instructed t (shown old)) (instructed_rows t (shown old)) old new
 

@@ -41,7 +41,8 @@ fn is_set_interrupts(op: &Op) -> bool
     }
 }
 
-fn is_sleep(op: &Op) -> bool
+#[inline(always)]
+pub fn is_sleep(op: &Op) -> bool
     ensures { result ≡ is_sleep op.now }
 {
     match op {
@@ -213,7 +214,7 @@ impl Machine {
 
     // Whether an instruction is SLEEP in a mode other than idle.
     #[inline(always)]
-    fn refuses(&self, op: &Op) -> bool
+    pub fn refuses(&self, op: &Op) -> bool
         ensures { result ≡ is_refused (shown self.now) op.now }
     {
         is_sleep(op) && is_other(self.bus.board.sleep_mode())

@@ -1,13 +1,13 @@
 // Instructions of a node, one behind another, while nothing is due.
 ghost use Rattle.std.specs.Prelude.{◌≡◌, ◌≤◌, ◌<◌, ◌+◌, ◌^◌, ℕ, None, false, vec_len, vec_capacity};
-ghost use Rattle.node_core.specs.Apart.{is_apart};
 ghost use Rattle.node_core.specs.Cycle.{op_now};
 ghost use Rattle.node_core.specs.Shown.{shown};
 ghost use Rattle.node_core.specs.Midway.{IsSprinted, IsStep};
 ghost use Rattle.serial_ports.specs.Script.{script_byte};
 
 use crate::execute::execute_on_bus;
-use crate::machine::{Machine, owes};
+use crate::machine::{Machine, is_sleep, owes};
+use avr_base::StopCause;
 use avr_decoder::Op;
 
 /// Where a sprint ended: at the beginning of the cycle `at`, or in the middle of it, of which the processor's part is done.
@@ -20,35 +20,21 @@ pub struct Sprinted {
 /// What a step of a sprint did.
 #[derive(Clone, Copy)]
 pub enum Step {
-    /// Nothing: the instruction is not for a sprint.
-    Other,
     /// It executed an instruction of so many cycles.
     Plain { taken: u8 },
-    /// The processor's part of the cycle, in which the node stopped, or turned interrupts on.
+    /// The processor's part of the cycle, in which the node stopped, or executed SLEEP.
     Ended,
 }
 
-// SLEEP and RETI.
-#[inline(always)]
-fn is_apart(op: &Op) -> bool
-    ensures { result ≡ is_apart op.now }
-{
-    match op {
-        Op::Sleep | Op::Reti => true,
-        _ => false,
-    }
-}
-
 impl Machine {
-    // The first cycle of an instruction behind the window, where nothing is due and none is owed. Where it goes on, only
-    // its effect and its count are written.
+    // The first cycle of an instruction behind the window, where nothing is due. Where it goes on, only its effect, its
+    // count and whether it owes another are written.
     #[inline(always)]
     fn step(&mut self, op: &Op, cycle: u64) -> Step
         requires fetched { op.now ≡ op_now (shown self.old) }
         requires going { self.old.stop ≡ None }
         requires awake { self.old.asleep ≡ false }
         requires free { self.old.wait ≡ 0 }
-        requires owed { self.old.owed ≡ false }
         requires few { self.old.count ≤ 2 ^ 41 }
         requires now { self.old.bus.board.clock ≡ cycle }
         requires behind { self.old.to ≤ cycle }
@@ -59,23 +45,22 @@ impl Machine {
         let before = self.cpu.sreg.bits;
         if let Some(done) = arith_step::exec_if(*op, &mut self.cpu) {
             let owed = owes(op, before, self.cpu.sreg.bits);
-            if owed {
-                self.end(cycle, pc, owed, done);
-                return Step::Ended;
-            }
+            self.owed = owed;
             self.count += 1;
             return Step::Plain { taken: done.cycles };
         }
-        if is_apart(op) {
-            return Step::Other;
+        if self.refuses(op) {
+            self.halt(cycle, pc, StopCause::SleepMode);
+            return Step::Ended;
         }
         match execute_on_bus(op, self.program.flash(), &mut self.cpu, &mut self.bus) {
             Ok(done) => {
                 let owed = owes(op, before, self.cpu.sreg.bits);
-                if owed || done.sleep {
+                if is_sleep(op) {
                     self.end(cycle, pc, owed, done);
                     return Step::Ended;
                 }
+                self.owed = owed;
                 self.count += 1;
                 Step::Plain { taken: done.cycles }
             }
@@ -103,13 +88,12 @@ impl Machine {
         ensures within { result.at ≤ end }
     {
         let mut at = cycle;
-        if cycle < self.to || self.owed {
+        if cycle < self.to {
             return Sprinted { at, inside: false };
         }
         while self.due().is_none() {
             let op = self.program.op(self.cpu.pc);
             match self.step(&op, at) {
-                Step::Other => return Sprinted { at, inside: false },
                 Step::Ended => return Sprinted { at, inside: true },
                 Step::Plain { taken } => {
                     if !self.passes_whole(at, end, taken) {

@@ -12,8 +12,8 @@ use Rattle.node_core.specs.Midway.{IsSprinted}
 use Rattle.node_core.proofs.Sprints.{IsSprinting, breaks, ends, goes, none_of, stands}
 use Rattle.node_core.proofs.machine.Machine.sprint.Goals as goal
 
-begins : (t : ℕ) (m : Machine) → m.stop ≡ None → m.wait ≡ 0 → m.asleep ≡ false → m.owed ≡ false → m.to ≤ t → m.bus.board.clock ≡ t → m.count ≤ 2 ^ 40 + t → IsSprinting t t m m
-begins t m going free awake owed behind clock count =
+begins : (t : ℕ) (m : Machine) → m.stop ≡ None → m.wait ≡ 0 → m.asleep ≡ false → m.to ≤ t → m.bus.board.clock ≡ t → m.count ≤ 2 ^ 40 + t → IsSprinting t t m m
+begins t m going free awake behind clock count =
     let v : Timed NodeState Row = record { cycle = t; asking = false; state = shown m; rows = m.rows.items } in
     record {
       from = omega arith;
@@ -21,7 +21,6 @@ begins t m going free awake owed behind clock count =
       going = going;
       free = free;
       awake = awake;
-      owed = owed;
       behind = behind;
       clock = clock;
       script = refl;
@@ -37,7 +36,7 @@ returns-then-cycle-self-clause-sprinted c =
 pub loop-self-init : goal.loop-self-init
 loop-self-init c =
     let r = c.requires in
-    record { within = r.within; runs = begins c.args.cycle c.args.self.now r.going r.free r.awake c.if-self.false (omega (arith, c.if-cycle-self.false)) r.now r.few }
+    record { within = r.within; runs = begins c.args.cycle c.args.self.now r.going r.free r.awake (omega (arith, c.if-cycle-self.false)) r.now r.few }
 
 pub returns-in-Ended-clause-sprinted : goal.returns-in-Ended-clause-sprinted
 returns-in-Ended-clause-sprinted c =
