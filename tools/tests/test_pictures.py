@@ -8,7 +8,7 @@ import tempfile
 import unittest
 import xml.etree.ElementTree as tree
 
-from support import DATA, LONG, data, end_group, needs_program, run_tool, scratch
+from support import DATA, LONG, data, needs_program, run_tool, scratch
 
 BROWSER = 60  # seconds for chromium, which does not end on each machine
 
@@ -130,14 +130,15 @@ document.body.innerHTML = `<pre>${tip.textContent}|${shown.length}|${Math.round(
         self.assertIn("15,506  CLASH of node 2's 01 of 15,051, node 5's 01 of 15,046|2|5266|true|", dump)
 
     def ended(self, words, env):
-        """The status and the output of a command; all that it started is gone then."""
+        """The status and the output of a command; below 0 where it did not end in time."""
         with tempfile.TemporaryFile() as said:
             browser = subprocess.Popen(
-                words, env=env, stdin=subprocess.DEVNULL, stdout=said, stderr=subprocess.DEVNULL, start_new_session=True
+                words, env=env, stdin=subprocess.DEVNULL, stdout=said, stderr=subprocess.DEVNULL
             )
             with contextlib.suppress(subprocess.TimeoutExpired):
                 browser.wait(BROWSER)
-            end_group(browser)
+            browser.kill()
+            browser.wait()
             said.seek(0)
             return browser.returncode, said.read().decode()
 
