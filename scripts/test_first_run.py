@@ -38,13 +38,14 @@ echo 'logic=proved functions=1'
 : >"$out"
 """
 
-# The program that it links: it writes its words and its folder, or refuses an image, or its words.
+# The program that it links: it writes its words and its folder, or refuses an image, a scenario, or its words.
 LINK = """#!/usr/bin/env bash
 while (($#)); do [[ $1 == -o ]] && out=$2; shift; done
 cat >"$out" <<'END'
 #!/usr/bin/env bash
 case $1 in
     refused) echo 'avrora: a.hex: image refused: NoEnd' >&2; exit 5 ;;
+    selflink) echo 'avrora: a.toml: scenario refused: SelfLink' >&2; exit 4 ;;
     bad) echo 'avrora: bad command line' >&2; exit 2 ;;
     long) exec -a "$0-long" sleep 3600 ;;
     *) echo "$* in ${PWD##*/}"; cat ;;
@@ -185,11 +186,14 @@ class FirstRun(unittest.TestCase):
             self.skipTest(f"no terminal is to be had here: {it}")
         self.ended("run")
         self.assertEqual(self.start("refused", stdout=subprocess.DEVNULL, stderr=theirs).wait(timeout=LONG), 5)
+        self.assertEqual(self.start("selflink", stdout=subprocess.DEVNULL, stderr=theirs).wait(timeout=LONG), 4)
         os.close(theirs)
         with open(ours, "rb", buffering=0) as terminal:
             said = read_to_end(terminal).decode().splitlines()
         self.assertEqual(said[0], "avrora: a.hex: image refused: NoEnd")
         self.assertEqual(said[1], "(NoEnd: no line is faulty and none has type 01; docs/FORMATS.md)")
+        self.assertEqual(said[2], "avrora: a.toml: scenario refused: SelfLink")
+        self.assertEqual(said[3], "(SelfLink: a link from a node to itself; docs/FORMATS.md; tools/why FILE says where)")
 
 
 def read_to_end(terminal):
