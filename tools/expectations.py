@@ -348,7 +348,8 @@ class Writes:
         if not self.found:
             text = (
                 f"{self.case.path}, line {self.text.line}: node {self.text.node} did not write"
-                f"{within(self.text.span)}:\n- {printed(self.text.text)}\nwhat it wrote ends with:\n+ {printed(self.last)}"
+                f"{within(self.text.span)}:\n- {printed(self.text.text)}\n"
+                f"what it wrote ends with:\n+ {printed(self.last)}"
             )
             raise Failure(lambda place: text)
 
