@@ -69,6 +69,22 @@ class Page(unittest.TestCase):
             [(1, [], [15506]), (2, [15051], [])],
         )
 
+    def test_nothing_to_draw(self):
+        for words, why in (
+            (["--from", "900", "--to", "100"], "the end is not behind the beginning"),
+            (["--from", "90000"], "the trace ends in cycle 89999, before --from 90000"),
+        ):
+            status, out, err = run_tool("timeline", *words, f"{DATA}/relay.trace")
+            self.assertEqual((status, out), (2, ""))
+            self.assertIn(why, err)
+
+    def test_window_of_a_part(self):
+        """A trace that ends before the scenario's limit of 90,000 has a window of its own."""
+        trace = "3140 0 instr 0010 sleep\n3150 0 end 10 asleep\n"
+        page = run_tool("timeline", "-s", f"{DATA}/relay.toml", stdin=trace)[1]
+        drawn = data_of(page)
+        self.assertEqual((drawn["window"], drawn["nodes"][0]["asleep"]), ([3_140, 3_150], [3_141, 9]))
+
     def test_sleep_and_stop(self):
         trace = (
             "10 0 instr 0010 sleep\n30 0 enter 001E 0011\n38 0 instr 001E nop\n39 0 instr 001F sleep\n"
