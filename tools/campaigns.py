@@ -6,6 +6,7 @@ import collections
 import copy
 import functools
 import hashlib
+import inspect
 import itertools
 import json
 import os
@@ -14,6 +15,7 @@ import tomllib
 
 import expectations
 import networks
+import scenarios
 import traces
 from traces import BadInput
 
@@ -34,6 +36,7 @@ SETTINGS = {
     "traces": Setting("none", str, lambda value: value in ("none", "failed", "all"), "none, failed or all"),
 }
 RUN_KEYS = {"name", "scenario", "network", "expect", "vary"}
+NETWORK_KEYS = set(inspect.signature(networks.scenario).parameters)
 
 MAX_RUNS = 1_000_000
 NODE_WINDOW = 20_000  # cycles, of `avrora node`
@@ -44,7 +47,7 @@ def read(path):
     """The campaign in the file `path`. Raises BadInput with what is wrong, and where."""
     table = toml(path)
     folder = os.path.dirname(os.path.abspath(path))
-    unknown(path, table, SETTINGS.keys() | {"run"})
+    unknown(path, table.keys(), SETTINGS.keys() | {"run"})
     settings = {key: setting_of(path, table, key) for key in SETTINGS}
     name = settings["name"] or stem(path)
     if not isinstance(table.get("run"), list) or not all(isinstance(run, dict) for run in table["run"]):
@@ -71,8 +74,8 @@ def toml(path):
         raise BadInput(f"{path}: no TOML: {fault}") from None
 
 
-def unknown(place, table, keys):
-    for key in table.keys() - keys:
+def unknown(place, found, keys):
+    for key in sorted(found - keys):
         raise BadInput(f"{place}: the key {key} is unknown; there are {', '.join(sorted(keys))}")
 
 
@@ -107,7 +110,7 @@ class Files:
 
 def runs_of(place, table, folder, files):
     """The runs of one [[run]]: of each scenario one, or one for each combination of varied values."""
-    unknown(place, table, RUN_KEYS)
+    unknown(place, table.keys(), RUN_KEYS)
     cases = [case_of(place, path, folder, files) for path in words(place, table, "expect")]
     axes = [[(key, value) for value in values_of(place, key, values)] for key, values in vary_of(place, table).items()]
     for origin in origins_of(place, table, folder, cases):
@@ -218,9 +221,15 @@ def varied(scenario, place, parameters):
     for key, value in parameters.items():
         parts = key.split(".")
         targets = [network] if len(parts) == 1 else tables_of(place, network, key, parts)
+        unknown(place, {parts[-1]}, known_keys(parts))
         for target in targets:
             target[parts[-1]] = value
     return network
+
+
+def known_keys(parts):
+    """The keys that a scenario may have where a key to vary stands."""
+    return set(scenarios.TOP_KEYS if len(parts) == 1 else scenarios.TABLE_KEYS[parts[0]])
 
 
 def tables_of(place, network, key, parts):
@@ -244,6 +253,7 @@ def made(network, place, parameters):
     if not isinstance(network, dict):
         raise BadInput(f"{place}: network is a table: shape, images, and the options of mknet")
     options = {**network, **parameters}
+    unknown(place, options.keys(), NETWORK_KEYS)
     shape, images = options.pop("shape", None), options.pop("images", None)
     images = [images] if isinstance(images, str) else images
     if (
@@ -262,18 +272,9 @@ def made(network, place, parameters):
             int(node) if node.isdigit() else node: digits for node, digits in options["inputs"].items()
         }
     try:
-        return tomllib.loads(networks.scenario(shape, counted(images), **options))
+        return tomllib.loads(networks.scenario(shape, networks.counted(images), **options))
     except (TypeError, ValueError, BadInput) as fault:
         raise BadInput(f"{place}: {fault}") from None
-
-
-def counted(images):
-    """A list of images, without counts."""
-    found = []
-    for image in images:
-        name, star, count = image.rpartition("*")
-        found += [name] * int(count) if star and count.isdigit() else [image]
-    return found
 
 
 def spans_of(place, spans):

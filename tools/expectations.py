@@ -348,7 +348,8 @@ class Writes:
         if not self.found:
             text = (
                 f"{self.case.path}, line {self.text.line}: node {self.text.node} did not write"
-                f"{within(self.text.span)}:\n- {printed(self.text.text)}\nbut, at the end:\n+ {printed(self.last)}"
+                f"{within(self.text.span)}:\n- {printed(self.text.text)}\n"
+                f"what it wrote ends with:\n+ {printed(self.last)}"
             )
             raise Failure(lambda place: text)
 
@@ -416,7 +417,8 @@ class SavedTrace:
 def check(case, lines, save=False, name="the trace", ended=None):
     """Whether a trace, an iterable of lines as bytes, meets the case: the first failure, or none. With `save` golden
     traces are written anew, whatever they were, unless another expectation is not met. `ended` is called behind the
-    last line; it may raise Unmet. Raises BadInput where the lines are no whole trace."""
+    last line with whether a row came; it may raise Unmet and BadInput. Raises BadInput where the lines are no whole
+    trace."""
     looked = itertools.count()
     try:
         with contextlib.ExitStack() as stack:
@@ -429,14 +431,17 @@ def check(case, lines, save=False, name="the trace", ended=None):
 
 def whole_trace(lines, name, ended):
     """The rows of a trace whose maker ended well. How it ended goes before what its lines lack."""
+    came = False
     try:
-        yield from traces.parse(lines, name, whole=True)
+        for row in traces.parse(lines, name, whole=True):
+            came = True
+            yield row
     except BadInput:
         if ended and next(iter(lines), None) is None:
-            ended()
+            ended(came)
         raise
     if ended:
-        ended()
+        ended(came)
 
 
 def watch(case, rows, save, stack, looked):
@@ -492,7 +497,8 @@ def watchers_of(case, save, stack):
 
 def run_case(case, avrora, save=False):
     """Makes the trace of the case, by the simulator `avrora` in the case's folder, and checks it as it comes. A run
-    that ends with another status than 0 is a failure. Raises BadInput where the case names no source or no trace."""
+    that ends with another status than 0 is a failure. Raises BadInput where the case names no source or no trace, and
+    where such a run wrote no row: a scenario that is not there, or refused."""
     if case.source is None:
         raise BadInput(f"{case.path}: no run, node or trace says where the rows come from")
     if case.source[0] == "trace":
@@ -513,11 +519,11 @@ def run_case(case, avrora, save=False):
 def checked_run(case, process, errors, save):
     words = f"avrora {' '.join(case.source)}"
 
-    def ended():
-        """Raises Unmet where the run ended otherwise than well."""
+    def ended(came):
+        """Raises Unmet where the run ended otherwise than well, BadInput where no row of a trace `came` of it."""
         if process.wait():
             errors.seek(0)
             said = errors.read().decode(errors="replace").strip()
-            raise Unmet(f"{case.path}: {words}: status {process.returncode}: {said}")
+            raise (Unmet if came else BadInput)(f"{case.path}: {words}: status {process.returncode}: {said}")
 
     return check(case, traces.lines_of(process.stdout), save, words, ended)

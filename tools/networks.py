@@ -6,6 +6,11 @@ import re
 import scenarios
 from traces import BadInput
 
+# What a scenario has where nothing else is said, in cycles. The start-up code of a program has cleared memory and
+# enabled the receiver by AT; STAGGER, a prime, is no multiple of what programs wait; BYTE_TIME is that of a scenario.
+CYCLES, LATENCY, BYTE_TIME = 2_000_000, 300, scenarios.DEFAULT_TIME
+AT, STAGGER, EVERY = 2_000, 977, 7_680
+
 # The shapes, in words.
 SHAPES = """line: each node is linked with the next, ring: the last one with the first too, grid:WIDTH: with those
 beside, above and below, torus:WIDTH: the same without edges, star: node 0 with all others, full: all with all,
@@ -74,18 +79,18 @@ def scenario(
     shape,
     images,
     *,
-    cycles=2_000_000,
-    latency=300,
-    byte_time=1_024,
+    cycles=CYCLES,
+    latency=LATENCY,
+    byte_time=BYTE_TIME,
     window=(0, 0),
     seed=0,
     link_latency=None,
-    at=500,
-    stagger=0,
+    at=AT,
+    stagger=STAGGER,
     spans=None,
     numbers=True,
     inputs=None,
-    every=7_680,
+    every=EVERY,
 ):
     """The text of a scenario of version 3: `images` are the names of the nodes' images, in order; all links go both
     ways.
@@ -127,6 +132,20 @@ def scenario(
     text = "\n".join(out) + "\n"
     scenarios.Scenario.of_text(text, "the network")
     return text
+
+
+def counted(words):
+    """The names of images that IMAGE*COUNT stands for. Raises BadInput where a word has no IMAGE, or no COUNT of 1 or
+    more."""
+    images = []
+    for word in words:
+        name, star, count = word.rpartition("*")
+        if not star or not count.isdecimal():
+            name, count = word, 1
+        if not name.strip("*") or int(count) == 0:
+            raise BadInput(f"{word or 'nothing'} is no IMAGE and no IMAGE*COUNT, where COUNT is 1 or more")
+        images += [name] * int(count)
+    return images
 
 
 def quoted(text):

@@ -64,7 +64,7 @@ class Picture:
                 f'<line class="grid" x1="{x}" x2="{x}" y1="{TOP - 6}" y2="{self.height - BOTTOM + 4}"/>'
                 f'<text x="{x}" y="{TOP - 12}" text-anchor="middle">{label}</text>'
             )
-        first, end = self.drawing.scenario.window if self.drawing.scenario else (0, 0)
+        first, end = self.drawing.window
         if end > self.drawing.first and first < min(end, self.drawing.end):
             width = max(2, self.x(end) - self.x(first))
             self.out.append(

@@ -115,9 +115,14 @@ class ProcessPool:
         shutil.rmtree(self.folder, ignore_errors=True)
 
 
-def pool(address, processes, files, name):
-    """The pool for a campaign; `address` is that of a scheduler, or None for this machine."""
+def pool(address, processes, files, name, count):
+    """The pool for a campaign of `count` runs; `address` is that of a scheduler, or None for this machine.
+
+    Dask takes seconds to start. Where each run has a process of its own at once there is nothing for it to share out.
+    """
     processes = processes or len(os.sched_getaffinity(0))
+    if not address and count <= processes:
+        return ProcessPool(count, files)
     try:
         import distributed  # noqa: F401
     except ImportError:

@@ -52,6 +52,18 @@ class Scenario:
             for table in document.get("link", [])
         ]
 
+    def window_of(self, traced, ended):
+        """The window of a trace: `traced` has the cycles of its first and its last instruction or entry row, and
+        `ended` is the cycle of its end rows; each is None where there is no such row.
+
+        A trace of another run of the scenario, as tools/window makes one, does not end at the scenario's limit, or has
+        such rows outside of the scenario's window. Its window goes from the first of them to its end.
+        """
+        first, end = self.window
+        if ended in (None, self.cycles) and (not traced or first <= traced[0] and traced[1] < end):
+            return self.window
+        return (traced[0], ended or self.cycles) if traced else (0, 0)
+
     @classmethod
     def load(cls, name):
         """The scenario in the file `name`. Raises BadInput with the simulator's cause and the place of the fault."""

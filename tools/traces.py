@@ -57,8 +57,10 @@ def parse(lines, name, whole=False):
     """The rows of `lines`, an iterable of lines as bytes; `name` stands in messages.
 
     Raises BadInput at the first line that is no row, where cycles fall, and where there is no row at all. A last line
-    without its LF was cut off: it is refused where the trace must be `whole`, else left out with a warning.
+    without its LF was cut off: it is refused where the trace must be `whole`, else left out with a warning. A whole
+    trace has an end row of each of its nodes.
     """
+    open_nodes = set()
     last = -1
     number = 0
     for number, line in enumerate(lines, 1):
@@ -79,9 +81,13 @@ def parse(lines, name, whole=False):
         if cycle < last:
             raise BadInput(f"{name}, line {number}: cycle {cycle} stands behind cycle {last}: no trace")
         last = cycle
-        yield Row(cycle, int(node), kind, rest[:-1])
+        row = Row(cycle, int(node), kind, rest[:-1])
+        (open_nodes.discard if kind == "end" else open_nodes.add)(row.node)
+        yield row
     if number == 0:
         raise BadInput(f"{name}: an empty trace")
+    if whole and open_nodes:
+        raise BadInput(f"{name}: no end row of node {min(open_nodes)}: the trace is cut off, or a part of one")
 
 
 def rows(name, whole=False, prints=False):

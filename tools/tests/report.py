@@ -1,7 +1,8 @@
 """Runs all tests of this folder, modules side by side, and says in a few lines what came of them: each skip and its
 cause, each failure.
 
-Each module is run by a process of its own that leads a group; what it leaves behind is ended with the group.
+Each module is run by a process of its own that leads a group; what it leaves behind is ended with the group. So no test
+starts a group or a session.
 """
 import contextlib
 import glob
@@ -53,10 +54,9 @@ class Module:
     def result(self):
         """How many tests there were, their failures, their skips, and the processes that they left behind."""
         left = [] if self.process.poll() is None else self.left()
-        support.end_group(self.process)
         self.said.seek(0)
         said = self.said.read().decode(errors="replace")
-        self.said.close()
+        self.close()
         try:  # the file is whole where the process ended well
             if self.process.returncode:
                 raise ValueError(f"status {self.process.returncode}")
@@ -64,6 +64,13 @@ class Module:
                 return *json.load(file), left
         except (OSError, ValueError) as fault:
             return 0, [f"{self.name}: its tests did not come to their end: {fault}\n{said}"], [], left
+
+    def close(self):
+        """Ends the group."""
+        with contextlib.suppress(ProcessLookupError):
+            os.killpg(self.process.pid, signal.SIGKILL)
+        self.process.wait()
+        self.said.close()
 
     def left(self):
         """The processes of the group that do not end by themselves."""
@@ -101,7 +108,7 @@ def results(names):
                     yield module.name, module.result()
         finally:
             for module in running:
-                support.end_group(module.process)
+                module.close()
 
 
 def end(number, _frame):

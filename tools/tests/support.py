@@ -3,7 +3,6 @@ import contextlib
 import importlib
 import os
 import shutil
-import signal
 import socket
 import subprocess
 import sys
@@ -51,13 +50,6 @@ def scratch(name, content=""):
 def data(name):
     with open(f"{DATA}/{name}", encoding="utf-8") as file:
         return file.read()
-
-
-def end_group(process):
-    """Ends a process that was started as the first of a group, and the rest of the group."""
-    with contextlib.suppress(ProcessLookupError):
-        os.killpg(process.pid, signal.SIGKILL)
-    process.wait()
 
 
 def wait_for(condition):

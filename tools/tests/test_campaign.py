@@ -73,7 +73,7 @@ stagger = [0, 30]
             [(link["from"], link["to"]) for link in first["link"]], [(0, 1), (1, 0), (0, 2), (2, 0), (1, 2), (2, 1)]
         )
         self.assertEqual([link.get("open") for link in first["link"]], [[[5, 9]]] + [None] * 5)
-        self.assertEqual([(it["at"], it["hex"]) for it in second["input"]], [(500, "00"), (530, "01"), (560, "02FF")])
+        self.assertEqual([(it["at"], it["hex"]) for it in second["input"]], [(2_000, "00"), (2_030, "01"), (2_060, "02FF")])
         self.assertEqual(first["link"], second["link"])
         self.assertNotEqual(first["link"], third["link"])
 
@@ -145,7 +145,9 @@ stagger = [0, 30]
         self.assert_refused(f"{run}{run}", "two runs have the name net")
         network = '[[run]]\n[run.network]\nshape = "ring"\n'
         self.assert_refused(network, "a network has a shape, and images")
-        self.assert_refused(f'{network}images = "a.hex"\ncycle = 5\n', "cycle")
+        self.assert_refused(f'{network}images = "a.hex"\ncycle = 5\n', "the key cycle is unknown; there are at, ")
+        self.assert_refused(f"{run}vary = {{ latncy = [3] }}\n", "the key latncy is unknown; there are byte_time, ")
+        self.assert_refused(f'{run}vary = {{ "link.0-1.at" = [3] }}\n', "the key at is unknown; there are from, ")
         self.assert_refused(f'{network}images = "a.hex*3"\nspans = {{ "0:1" = 5 }}\n', "spans is a table such as")
         self.assert_refused(network.replace("ring", "wheel") + 'images = "a.hex"\n', "wheel is no shape")
         self.assert_refused('[[run]]\nscenario = "gone.toml"\n', "cannot read")
@@ -170,7 +172,7 @@ class WithoutDask(Outcomes, unittest.TestCase):
 
     def test_it_says_what_is_missing(self):
         with folder() as path:
-            _, _, errors, _ = run_campaign(path)
+            _, _, errors, _ = run_campaign(path, "--processes", "2")
             self.assertIn("python3-distributed", errors)
             status, _, errors, _ = run_campaign(path, "--anew", "--scheduler", "tcp://127.0.0.1:9")
             self.assertEqual(status, 2)

@@ -9,7 +9,7 @@ import sys
 import unittest
 
 from campaign_runs import CAMPAIGN, Outcomes, folder, let_go, run_campaign, starts
-from support import LOOPBACK, TOOLS, end_group, needs_loopback, needs_module, wait_for
+from support import LOOPBACK, TOOLS, needs_loopback, needs_module, wait_for
 
 
 @needs_module("distributed", "python3-distributed")
@@ -49,9 +49,10 @@ class OnACluster(unittest.TestCase):
         self.workers = [self.start_worker(f"{self.path}/worker{number}") for number in range(3)]
 
     def start(self, words, **more):
-        """Starts a process, which is ended with the test, and what it started with it."""
-        process = subprocess.Popen(words, env=self.env, start_new_session=True, **more)
-        self.stack.callback(end_group, process)
+        """Starts a process, which is ended with the test. The runs that wait end with the folder."""
+        process = subprocess.Popen(words, env=self.env, **more)
+        self.stack.callback(process.wait)
+        self.stack.callback(process.kill)
         return process
 
     def start_dask(self, what, *words):

@@ -105,7 +105,7 @@ class Met(unittest.TestCase):
 
     def test_text(self):
         self.met(r'text 1 "\x72e"', "text 1 're' # a comment, and 'quotes'")
-        self.unmet('text 1 "er"', says="line 1: node 1 did not write:\n- 'er'\nbut, at the end:\n+ 're'")
+        self.unmet('text 1 "er"', says="line 1: node 1 did not write:\n- 'er'\nwhat it wrote ends with:\n+ 're'")
         self.met('text 0 "#"', trace="1 0 serial 23\n2 0 end 1 running\n")
 
     def test_only(self):
@@ -236,7 +236,7 @@ class Command(unittest.TestCase):
         self.assertEqual(
             out,
             f"TAP version 13\n1..2\nok 1 - {good} # 260 rows, 2 expectations\nnot ok 2 - {bad}\n  ---\n  message: |\n"
-            f"    {bad}, line 1: node 4 did not write:\n    - 'yes'\n    but, at the end:\n    + 'relay'\n  ...\n",
+            f"    {bad}, line 1: node 4 did not write:\n    - 'yes'\n    what it wrote ends with:\n    + 'relay'\n  ...\n",
         )
 
     def test_run(self):
@@ -247,7 +247,7 @@ class Command(unittest.TestCase):
             self.assertEqual(run_tool("expect", case, env={"AVRORA": avrora})[0], 0)
             os.unlink(f"{os.path.dirname(case)}/net")
             status, out, _ = run_tool("expect", "--avrora", avrora, case)
-        self.assertEqual(status, 1)
+        self.assertEqual(status, 2)
         self.assertIn("avrora run net: status 4: avrora: no.toml: scenario refused: NoNodes", out)
 
     def test_a_run_that_fails_late(self):
@@ -272,7 +272,9 @@ class Command(unittest.TestCase):
 
     def test_what_is_no_trace(self):
         with scratch("a.expect", "text 4 'relay'\n") as case:
-            for trace, why in (("", "an empty trace"), ("hello\n", "no row"), (data("relay.trace")[:-5], "cut off")):
+            whole = data("relay.trace")
+            cut = whole[: whole.index("90000 0 end")]
+            for trace, why in (("", "an empty trace"), ("hello\n", "no row"), (whole[:-5], "cut off"), (cut, "no end row")):
                 status, out, _ = run_tool("expect", "--trace", "-", case, stdin=trace)
                 self.assertEqual(status, 2)
                 self.assertIn("not ok 1", out)

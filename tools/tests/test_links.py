@@ -124,8 +124,14 @@ class Links(unittest.TestCase):
         self.assertIn("the trace has node 5, and the scenario 5 nodes: not its trace", err)
 
     def test_rows_without_their_end(self):
-        out = self.links(TRACE.replace("20000 2 end 1 running\n", ""))[1]
-        self.assertIn("the trace has no end row of each node: it is cut off, or a part", out)
+        status, out, err = self.links(TRACE.replace("20000 2 end 1 running\n", ""))
+        self.assertEqual((status, out), (2, ""))
+        self.assertIn("no end row of node 2: the trace is cut off, or a part of one", err)
+
+    def test_a_scenario_of_more_nodes(self):
+        status, out, err = self.links("20000 0 end 1 running\n20000 1 end 1 running\n")
+        self.assertEqual((status, out), (2, ""))
+        self.assertIn("no end row of node 2, which the scenario has: not its trace, or cut off", err)
 
     def test_cut_off(self):
         status, _, err = self.links(TRACE[:-3])

@@ -72,6 +72,19 @@ class Texts(unittest.TestCase):
             },
         )
 
+    def test_what_is_not_said(self):
+        """Nodes learn their numbers behind the start-up code and one by one; a byte is as long as in a scenario."""
+        document = tomllib.loads(networks.scenario("star", ["packet.hex"] * 3))
+        self.assertEqual([script["at"] for script in document["input"]], [2_000, 2_977, 3_954])
+        self.assertEqual(document["byte_time"], 3_072)
+        self.assertEqual(run_tool("mknet", "star", "packet.hex*3")[1], networks.scenario("star", ["packet.hex"] * 3))
+
+    def test_counted_images(self):
+        self.assertEqual(networks.counted(["a*2", "b", "c*d.hex"]), ["a", "a", "b", "c*d.hex"])
+        for word in ("*3", "*", "a*0", ""):
+            with self.subTest(word), self.assertRaisesRegex(BadInput, "is no IMAGE"):
+                networks.counted(["a", word])
+
     def test_refused(self):
         for change, why in (
             (dict(cycles=0), "OutOfRange.*cycles"),
@@ -113,6 +126,7 @@ class Texts(unittest.TestCase):
             (["cube", "a"], "cube is no shape"),
             (["line", "a", "--open", "0-1"], "no FROM-TO"),
             (["line", "a*70"], "TooManyNodes"),
+            (["line", "*3"], "*3 is no IMAGE"),
             (["line", "a", "--link-latency", "9..3"], "the lower number"),
         ):
             status, out, err = run_tool("mknet", *words)

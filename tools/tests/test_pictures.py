@@ -8,7 +8,7 @@ import tempfile
 import unittest
 import xml.etree.ElementTree as tree
 
-from support import DATA, LONG, data, end_group, needs_program, run_tool, scratch
+from support import DATA, LONG, data, needs_program, run_tool, scratch
 
 BROWSER = 60  # seconds for chromium, which does not end on each machine
 
@@ -68,6 +68,22 @@ class Page(unittest.TestCase):
             [(node["node"], cycles(node["sent"], 2), cycles(node["clash"], 3)) for node in drawn["nodes"]],
             [(1, [], [15506]), (2, [15051], [])],
         )
+
+    def test_nothing_to_draw(self):
+        for words, why in (
+            (["--from", "900", "--to", "100"], "the end is not behind the beginning"),
+            (["--from", "90000"], "the trace ends in cycle 89999, before --from 90000"),
+        ):
+            status, out, err = run_tool("timeline", *words, f"{DATA}/relay.trace")
+            self.assertEqual((status, out), (2, ""))
+            self.assertIn(why, err)
+
+    def test_window_of_a_part(self):
+        """A trace that ends before the scenario's limit of 90,000 has a window of its own."""
+        trace = "3140 0 instr 0010 sleep\n3150 0 end 10 asleep\n"
+        page = run_tool("timeline", "-s", f"{DATA}/relay.toml", stdin=trace)[1]
+        drawn = data_of(page)
+        self.assertEqual((drawn["window"], drawn["nodes"][0]["asleep"]), ([3_140, 3_150], [3_141, 9]))
 
     def test_sleep_and_stop(self):
         trace = (
@@ -130,14 +146,15 @@ document.body.innerHTML = `<pre>${tip.textContent}|${shown.length}|${Math.round(
         self.assertIn("15,506  CLASH of node 2's 01 of 15,051, node 5's 01 of 15,046|2|5266|true|", dump)
 
     def ended(self, words, env):
-        """The status and the output of a command; all that it started is gone then."""
+        """The status and the output of a command; below 0 where it did not end in time."""
         with tempfile.TemporaryFile() as said:
             browser = subprocess.Popen(
-                words, env=env, stdin=subprocess.DEVNULL, stdout=said, stderr=subprocess.DEVNULL, start_new_session=True
+                words, env=env, stdin=subprocess.DEVNULL, stdout=said, stderr=subprocess.DEVNULL
             )
             with contextlib.suppress(subprocess.TimeoutExpired):
                 browser.wait(BROWSER)
-            end_group(browser)
+            browser.kill()
+            browser.wait()
             said.seek(0)
             return browser.returncode, said.read().decode()
 

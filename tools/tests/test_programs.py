@@ -204,6 +204,30 @@ class Profile(unittest.TestCase):
         # from the first instruction row to the last: 110 to 129
         self.assertEqual(self.profile()[1], "0 10 9 0 0 601".split())
 
+    # The same rows as a whole trace, and as tools/window makes them of a run of 1,000 cycles.
+    SCENARIO = 'cycles = 1_000\nwindow = [{}, {}]\nnode = [{{image = "a"}}]\n'
+    WHOLE, PART = WINDOW + "1000 0 end 3 stopped\n", WINDOW + "160 0 end 3 stopped\n"
+
+    def of_scenario(self, first, end, trace):
+        with scratch("net.toml", self.SCENARIO.format(first, end)) as scenario:
+            return self.profile("-s", scenario, trace=trace)[1]
+
+    def test_window_of_the_scenario(self):
+        self.assertEqual(self.of_scenario(100, 140, self.WHOLE), "0 13 9 8 10 625".split())
+
+    def test_another_window_than_the_scenario_s(self):
+        """It goes from the first instruction row to the end rows: 110 to 160, with the byte sent at 150."""
+        for first, end in ((50, 400), (0, 0), (120, 125)):
+            with self.subTest(first):
+                self.assertEqual(self.of_scenario(first, end, self.PART), "0 13 9 28 0 1,137".split())
+
+    def test_no_further_than_the_trace(self):
+        self.assertEqual(self.profile("--window", "100..200", trace=self.PART)[1], "0 13 9 28 10 1,137".split())
+
+    def test_no_such_node(self):
+        status, _, err = run_tool("profile", "-n", "9", stdin=WINDOW)
+        self.assertEqual((status, err), (2, "profile: the trace has no row of these nodes\n"))
+
     def test_asleep_to_the_end(self):
         trace = "".join(WINDOW.splitlines(keepends=True)[:3])
         self.assertEqual(self.profile("--window", "100..140", trace=trace)[1], "0 2 28 0 10 44".split())
@@ -247,9 +271,11 @@ class Profile(unittest.TestCase):
             self.assertEqual((status, err), (2, "profile: standard input, line 9: no line of a monitor\n"))
 
     def test_no_instructions(self):
-        status, _, err = run_tool("profile", stdin="5 0 sent 41\n")
-        self.assertEqual(status, 2)
-        self.assertIn("no instruction is traced: run the scenario with a window", err)
+        """In a trace, and in what a monitor writes of a scenario without a window."""
+        for lines in ("5 0 sent 41\n", "0 lead 0\n0 asleep 0\n0 stopped 0\n0 charge 0\n"):
+            status, out, err = run_tool("profile", stdin=lines)
+            self.assertEqual((status, out), (2, ""))
+            self.assertIn("no instruction is traced: run the scenario with a window", err)
 
     @pyelftools
     def test_relay(self):

@@ -85,6 +85,14 @@ class Rows(unittest.TestCase):
         self.assertEqual((status, out), (0, "           5  0 | A\n"))
         self.assertEqual(err, f"console: {path}, line 2: cut off, and left out\n")
 
+    def test_cut_off_behind_a_line(self):
+        """A whole trace has an end row of each node that has a row."""
+        text = "5 0 sent 7F\n6 1 sent 7F\n9 0 end 1 running\n"
+        self.assertEqual(len(parsed(text)), 3)
+        with self.assertRaisesRegex(BadInput, "t: no end row of node 1: the trace is cut off, or a part of one"):
+            parsed(text, whole=True)
+        self.assertEqual(len(parsed(f"{text}9 1 end 1 running\n", whole=True)), 4)
+
     def test_stored_traces(self):
         self.assertEqual(len(parsed(data("relay.trace"))), 260)
         self.assertEqual(len(parsed(data("flood.trace"))), 644)

@@ -1,0 +1,78 @@
+"""campaign: what it starts, how it is ended, and what it says of a scenario that is refused."""
+import importlib.machinery
+import importlib.util
+import os
+import signal
+import subprocess
+import sys
+import unittest
+
+from campaign_runs import folder, hidden_dask, let_go
+from support import LONG, TOOLS, TOP, wait_for
+
+import campaigns
+import pools
+import runs
+
+
+def script():
+    """The module of the script campaign."""
+    loader = importlib.machinery.SourceFileLoader("campaign", f"{TOOLS}/campaign")
+    module = importlib.util.module_from_spec(importlib.util.spec_from_loader("campaign", loader))
+    loader.exec_module(module)
+    return module
+
+
+class Start(unittest.TestCase):
+    def test_few_runs_go_without_dask(self):
+        """As many as there are processes: each has one at once, whether dask is there or not."""
+        pool = pools.pool(None, 4, {runs.PROGRAM: b""}, "name", 4)
+        self.addCleanup(pool.close)
+        self.assertIsInstance(pool, pools.ProcessPool)
+
+    def test_it_is_built_where_avrora_is(self):
+        """What ./avrora has proved and built is taken, and not built anew."""
+        room = script().BUILT
+        with open(f"{TOP}/avrora", encoding="utf-8") as file:
+            words = file.read()
+        self.assertIn(f"\nroom=$top/{room}\n", words)
+        self.assertIn('run python3 "$top/prove.py" avrora_program "$room"', words)
+
+
+class End(unittest.TestCase):
+    def test_terminated(self):
+        """SIGTERM ends it as ^C does, and nothing is left that Python warns of."""
+        with folder() as path:
+            env = {**os.environ, "CAMPAIGN_LOG": f"{path}/log", "CAMPAIGN_HELD": "0", **hidden_dask(path)}
+            words = [sys.executable, f"{TOOLS}/campaign", "--avrora", f"{path}/avrora", f"{path}/c.toml"]
+            campaign = subprocess.Popen(words, env=env, stdout=subprocess.DEVNULL, stderr=subprocess.PIPE)
+            wait_for(lambda: os.path.exists(f"{path}/log"))
+            campaign.send_signal(signal.SIGTERM)
+            let_go(path)
+            errors = campaign.communicate(timeout=LONG)[1].decode()
+        self.assertEqual(campaign.returncode, 130, errors)
+        self.assertIn("the same command goes on from there", errors)
+        self.assertNotIn("leaked", errors)
+
+
+class Refused(unittest.TestCase):
+    def test_where_the_fault_is(self):
+        """In the file that is kept of the run."""
+        text = '[[run]]\nscenario = "net.toml"\n[run.vary]\nbyte_time = [100]\n'
+        with folder(text) as path:
+            (run,) = campaigns.read(f"{path}/c.toml").runs
+        line = run.scenario.splitlines().index("byte_time = 100") + 1
+        result = script().explained(run, runs.answer(runs.REFUSED, "avrora: scenario refused: OutOfRange"))
+        self.assertEqual(
+            result["message"].splitlines(),
+            [
+                "avrora: scenario refused: OutOfRange",
+                f"runs/net,byte_time=100.toml: OutOfRange, line {line}, byte_time: 100 is not 256 to 4,096",
+            ],
+        )
+        good = runs.answer(runs.PASSED)
+        self.assertEqual(script().explained(run, good), good)
+
+
+if __name__ == "__main__":
+    unittest.main()
