@@ -38,10 +38,17 @@ class DaskPool:
     LEAST_ROOM = 8  # jobs that wait at the scheduler for workers to come
 
     def __init__(self, address, processes, files, name):
+        self.cluster = None
+        try:
+            self.start(address, processes, files, name)
+        except BaseException:  # also ^C, which waits while workers start
+            self.close()
+            raise
+
+    def start(self, address, processes, files, name):
         import distributed
 
         logging.getLogger("distributed").setLevel(logging.CRITICAL)
-        self.cluster = None
         if address is None:
             self.local = tempfile.mkdtemp(prefix="campaign-")
             with interrupts_kept():

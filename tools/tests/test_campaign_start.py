@@ -41,10 +41,11 @@ class Start(unittest.TestCase):
 
 class End(unittest.TestCase):
     def test_terminated(self):
-        """SIGTERM ends it as ^C does, and nothing is left that Python warns of."""
+        """SIGTERM ends it as ^C does, also where that is ignored, and nothing is left that Python warns of."""
         with folder() as path:
             env = {**os.environ, "CAMPAIGN_LOG": f"{path}/log", "CAMPAIGN_HELD": "0", **hidden_dask(path)}
             words = [sys.executable, f"{TOOLS}/campaign", "--avrora", f"{path}/avrora", f"{path}/c.toml"]
+            words = ["/bin/sh", "-c", 'trap "" INT; exec "$@"', "sh", *words]
             campaign = subprocess.Popen(words, env=env, stdout=subprocess.DEVNULL, stderr=subprocess.PIPE)
             wait_for(lambda: os.path.exists(f"{path}/log"))
             campaign.send_signal(signal.SIGTERM)
