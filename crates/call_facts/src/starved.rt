@@ -16,7 +16,9 @@ impl Store for Starved {
     ghost failed = { λ s. [] };
 
     fn read(&mut self, alloc: Global, name: &str, most: usize) -> Result<Vec<u8>, ReadFault> {
-        let _ = (alloc, name, most);
+        let _ = alloc;
+        let _ = name;
+        let _ = most;
         Err(ReadFault::NoMemory)
     }
 }
