@@ -25,6 +25,7 @@ sys.path.append(str(Path(__file__).resolve().parent.parent))
 
 from draw import DDRB, SPCR, SPDR, SPH, SPL, SPSR, drawn, hex_text, ldi, out, word
 from network import Folder, open_network
+from samples import fnv
 from stored_parts import put_part
 
 TOP = Path(__file__).resolve().parent.parent.parent
@@ -235,7 +236,7 @@ class Cases:
         for name, texts in (("out", lines), ("err", [error] if error else [])):
             text = "".join(t + "\n" for t in texts)
             self.expected.append(f"{name}: {len(text)} bytes, {len(texts)} lines")
-            shown = texts if len(texts) <= 20 else texts[:2] + texts[-2:]
+            shown = texts if len(texts) <= 20 else [*texts[:2], f".. {len(text)} bytes {fnv(text.encode())}", *texts[-2:]]
             self.expected += [f"| {t}" for t in shown]
 
     def ran(self, command, name):
