@@ -14,8 +14,8 @@ use Rattle.board_io.specs.Lagging.{IsAhead, caught_up, is_no_mask, reads_apart, 
 use Rattle.board_io.specs.Lines.{lines_of}
 use Rattle.board_io.specs.Registers.{IsGot, IsPut, get_by, put_by}
 use Rattle.board_io.proofs.Radio.{get_by_clock, put_by_clock}
-use Rattle.device_clocks.specs.Bits.{any_bit}
-use Rattle.device_clocks.specs.Clock.{cycles}
+use Rattle.device_base.specs.Bits.{any_bit}
+use Rattle.device_base.specs.Cycles.{cycles}
 use Rattle.avr_base.specs.declared.interrupts.Lines.{Lines}
 use Rattle.serial_ports.specs.declared.spi_registers.SpiReg.TheVariants as spi
 use Rattle.device_clocks.specs.declared.registers16.Reg16.TheVariants as reg16

@@ -3,7 +3,7 @@ use Rattle.std.proofs.Common.{◌≡◌, ℕ, ◌+◌, Bool, true, false, refl, 
 use Rattle.board_io.specs.declared.board.Board.{Board}
 use Rattle.board_io.specs.Board.{kept_at}
 use Rattle.board_io.specs.Lines.{extended_timer_lines, line, timer_lines}
-use Rattle.device_clocks.specs.Bits.{any_bit}
+use Rattle.device_base.specs.Bits.{any_bit}
 
 off : (n : ℕ) (flag enabled : Bool) → enabled ≡ false → line n flag enabled ≡ 0
 unfolding line

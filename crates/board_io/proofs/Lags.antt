@@ -11,8 +11,8 @@ use Rattle.world_core.specs.declared.air.Heard.{Heard}
 use Rattle.board_io.specs.Lagging.{IsAhead, IsIdle, caught_up}
 use Rattle.board_io.specs.Lines.{lines_of}
 use Rattle.board_io.proofs.Leaps.{leap_quiet, leap_zero}
-use Rattle.device_clocks.proofs.Cycles.{cycles-add}
-use Rattle.device_clocks.specs.Transmission.{ended_byte}
+use Rattle.device_base.proofs.Cycles.{cycles-add}
+use Rattle.serial_ports.specs.Transmission.{ended_byte}
 use Rattle.avr_base.specs.declared.interrupts.Lines.{Lines}
 use Rattle.device_clocks.specs.Timer16 as timer16
 use Rattle.device_clocks.specs.Timer8 as timer8

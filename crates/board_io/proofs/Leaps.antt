@@ -5,9 +5,9 @@ use Rattle.board_io.specs.declared.board.Board.{Board}
 use Rattle.board_io.specs.Cycle.{board_asks, board_begun, board_quiet, board_sends, board_serial, moved, moved_by, timers_cycle, timers_leap, usart_cycle, with_moved}
 use Rattle.serial_ports.specs.declared.radio.Moved.{Moved}
 use Rattle.serial_ports.specs.declared.radio.Radio.{Radio}
-use Rattle.device_clocks.specs.Clock.{cycles}
-use Rattle.device_clocks.specs.declared.transmission.Transmission.{Transmission}
-use Rattle.device_clocks.specs.Transmission.{ended_byte, is_end}
+use Rattle.device_base.specs.Cycles.{cycles}
+use Rattle.serial_ports.specs.declared.transmission.Transmission.{Transmission}
+use Rattle.serial_ports.specs.Transmission.{ended_byte, is_end}
 use Rattle.serial_ports.specs.Spi as spi
 use Rattle.serial_ports.specs.declared.usart.Usart.{Usart}
 use Rattle.serial_ports.specs.Usart as usart

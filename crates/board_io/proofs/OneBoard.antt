@@ -8,7 +8,7 @@ use Rattle.std.proofs.lemmas.Bool.{and_parts, false≢true}
 use Rattle.board_io.specs.declared.board.Board.{Board}
 use Rattle.board_io.specs.Kept.{kept_of}
 use Rattle.board_io.specs.Saved.{IsRestored, fits, numbers_of}
-use Rattle.device_clocks.specs.Numbers.{part}
+use Rattle.device_base.specs.Numbers.{part}
 use Rattle.device_clocks.specs.Numbers8 as timer8
 use Rattle.device_clocks.specs.Numbers16 as timer16
 use Rattle.device_clocks.specs.declared.prescaler.Prescaler.{Prescaler}

@@ -16,8 +16,8 @@ use Rattle.serial_ports.specs.declared.radio.Moved.{Moved}
 use Rattle.serial_ports.specs.declared.radio.Moved.TheVariants.{Answer, Send, Ask}
 use Rattle.serial_ports.specs.declared.radio.Radio.{Radio}
 use Rattle.serial_ports.specs.Radio.{radio_transfer}
-use Rattle.device_clocks.specs.Bits.{any_bit}
-use Rattle.device_clocks.specs.Transmission.{ended_byte}
+use Rattle.device_base.specs.Bits.{any_bit}
+use Rattle.serial_ports.specs.Transmission.{ended_byte}
 use Rattle.serial_ports.specs.declared.spi.Spi.{Spi as SpiPort}
 use Rattle.serial_ports.specs.SpiRegisters as spi
 use Rattle.device_clocks.specs.declared.timer16.Timer16.{Timer16}

@@ -5,11 +5,11 @@ use Rattle.board_io.specs.declared.board.Board.{Board}
 use Rattle.board_io.specs.Cycle.{board_quiet, timers_leap}
 use Rattle.board_io.specs.Lines.{lines_of}
 use Rattle.board_io.specs.Passing.{is_at}
-use Rattle.device_clocks.specs.Clock.{cycles}
+use Rattle.device_base.specs.Cycles.{cycles}
 use Rattle.device_clocks.specs.declared.flags.TimerFlags.{TimerFlags}
 use Rattle.device_clocks.specs.First.{First}
-use Rattle.device_clocks.specs.declared.transmission.Transmission.{Transmission}
-use Rattle.device_clocks.specs.Transmission.{end_of, is_end}
+use Rattle.serial_ports.specs.declared.transmission.Transmission.{Transmission}
+use Rattle.serial_ports.specs.Transmission.{end_of, is_end}
 use Rattle.device_clocks.proofs.Clocks16 as clocks16
 use Rattle.device_clocks.specs.declared.timer16.Timer16.{Timer16}
 use Rattle.device_clocks.specs.Timer16 as timer16

@@ -1,7 +1,7 @@
 -- A byte that arrives leaves the frame that runs alone.
 use Rattle.std.proofs.Common.{◌≡◌, ℕ, if◌then◌else◌, Bool, true, false, refl, ap}
-use Rattle.device_clocks.specs.Bits.{any_bit}
-use Rattle.device_clocks.specs.Transmission.{ended_byte}
+use Rattle.device_base.specs.Bits.{any_bit}
+use Rattle.serial_ports.specs.Transmission.{ended_byte}
 use Rattle.serial_ports.specs.declared.inbox.Inbox.{Inbox}
 use Rattle.serial_ports.specs.declared.inbox.Inbox.TheVariants.{Empty, One, Two}
 use Rattle.serial_ports.specs.declared.usart.Usart.{Usart}

@@ -7,7 +7,7 @@ use Rattle.board_io.specs.declared.board.Sleep.{Sleep}
 use Rattle.board_io.specs.declared.board.Sleep.TheVariants.{Off, Idle, Other}
 use Rattle.board_io.specs.Table.{start_of}
 use Rattle.serial_ports.specs.Radio.{reset_radio}
-use Rattle.device_clocks.specs.Bits.{any_bit}
+use Rattle.device_base.specs.Bits.{any_bit}
 use Rattle.device_clocks.specs.declared.prescaler.Prescaler.TheVariants.{Own, Shared}
 use Rattle.serial_ports.specs.Spi.{reset_spi}
 use Rattle.device_clocks.specs.Timer16 as timer16

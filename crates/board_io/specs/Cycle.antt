@@ -8,8 +8,8 @@ use Rattle.serial_ports.specs.declared.radio.Moved.{Moved}
 use Rattle.serial_ports.specs.declared.radio.Moved.TheVariants.{Answer, Send, Ask}
 use Rattle.serial_ports.specs.declared.radio.Radio.{Radio}
 use Rattle.serial_ports.specs.Radio.{radio_transfer, radio_answered}
-use Rattle.device_clocks.specs.Clock.{cycles}
-use Rattle.device_clocks.specs.Transmission.{ended_byte}
+use Rattle.device_base.specs.Cycles.{cycles}
+use Rattle.serial_ports.specs.Transmission.{ended_byte}
 use Rattle.serial_ports.specs.Spi as spi
 use Rattle.device_clocks.specs.Timer16 as timer16
 use Rattle.device_clocks.specs.Timer8 as timer8

@@ -3,7 +3,7 @@
 use Rattle.std.specs.Prelude.{ℕ, ◌+◌, ◌^◌, ◌==◌, ◌&&◌, ◌||◌, if◌then◌else◌, Bool, true, false}
 use Rattle.board_io.specs.declared.board.Board.{Board}
 use Rattle.board_io.specs.Board.{kept_at}
-use Rattle.device_clocks.specs.Bits.{any_bit}
+use Rattle.device_base.specs.Bits.{any_bit}
 use Rattle.device_clocks.specs.declared.flags.TimerFlags.{TimerFlags}
 use Rattle.avr_base.specs.declared.interrupts.Lines.{Lines}
 use Rattle.serial_ports.specs.Spi.{asks_interrupt}

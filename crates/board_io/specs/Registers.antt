@@ -8,7 +8,7 @@ use Rattle.board_io.specs.declared.rules.Rule.{Rule}
 use Rattle.board_io.specs.declared.rules.Rule.TheVariants.{Reserved, Pin, Kept, Guarded, WatchdogControl, ResetFlags, CpuControl, TimerFlags, ExtendedTimerFlags, Timer0, Timer1, Timer2, Timer3, Usart0, Spi}
 use Rattle.board_io.specs.Board.{kept_at, with_kept}
 use Rattle.board_io.specs.Table.{rule_of}
-use Rattle.device_clocks.specs.Bits.{any_bit, bit}
+use Rattle.device_base.specs.Bits.{any_bit, bit}
 use Rattle.device_clocks.specs.declared.flags.TimerFlags.{TimerFlags as Flags}
 use Rattle.serial_ports.specs.declared.spi.Spi.{Spi as SpiPort}
 use Rattle.serial_ports.specs.SpiRegisters as spi

@@ -5,8 +5,8 @@ ghost use Rattle.device_clocks.specs.Timer16 as timer16;
 ghost use Rattle.device_clocks.specs.Timer8 as timer8;
 
 use crate::Board;
-use device_clocks::{Timer8, Timer16, ended_byte};
-use serial_ports::Moved;
+use device_clocks::{Timer8, Timer16};
+use serial_ports::{Moved, ended_byte};
 use world_core::Heard;
 
 /// What the devices did in a cycle.

@@ -4,7 +4,8 @@ ghost use Rattle.board_io.specs.Lines.{line, served_flag};
 
 use crate::Board;
 use avr_base::{Lines, Vector};
-use device_clocks::{TimerFlags, any_bit};
+use device_base::any_bit;
+use device_clocks::TimerFlags;
 
 const TIMSK: usize = 0x57;
 

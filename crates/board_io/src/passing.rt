@@ -1,6 +1,6 @@
 // Many cycles of the devices at once.
 ghost use Rattle.std.specs.Prelude.{◌≡◌, ◌≤◌, ◌<◌, ◌+◌, ◌-◌, ◌^◌, ℕ, true, false};
-ghost use Rattle.device_clocks.specs.Clock.{cycles};
+ghost use Rattle.device_base.specs.Cycles.{cycles};
 ghost use Rattle.device_clocks.specs.Timer8 as timer8;
 ghost use Rattle.device_clocks.specs.Timer16 as timer16;
 ghost use Rattle.board_io.specs.Passing.{is_at};

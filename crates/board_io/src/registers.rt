@@ -5,7 +5,8 @@ use crate::Board;
 use crate::rules::{Rule, rule_at};
 use avr_base::StopCause;
 use data_space::Bus;
-use device_clocks::{TimerFlags, any_bit, bit};
+use device_base::{any_bit, bit};
+use device_clocks::TimerFlags;
 
 impl Board {
     ghost use Rattle.board_io.specs.Board.{kept_at, with_kept};

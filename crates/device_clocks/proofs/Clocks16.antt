@@ -1,6 +1,7 @@
 -- Many cycles of a 16-bit timer are those of its counter.
 use Rattle.std.proofs.Common.{◌≡◌, ℕ, zero, suc, ◌+◌, ◌<◌, Bool, true, false, cond, refl, sym, ap, ◌∙◌}
-use Rattle.device_clocks.specs.Clock.{clocked, clocks_of, cycles, many}
+use Rattle.device_base.specs.Cycles.{cycles}
+use Rattle.device_clocks.specs.Clock.{clocked, clocks_of, many}
 use Rattle.device_clocks.specs.Prescaler.{divider_of}
 use Rattle.device_clocks.specs.declared.prescaler.Prescaler.TheVariants.{Shared}
 use Rattle.device_clocks.specs.declared.timer_counter.TimerCounter.{TimerCounter}

@@ -4,7 +4,8 @@ use Rattle.std.proofs.lemmas.Nat.{div-mul-add, mod-mul-add, div_below, le-div}
 use Rattle.std.proofs.lemmas.Bool.{lt-ltb, cond_both}
 use Rattle.std.proofs.lemmas.Bool.Decides.{nat_tests}
 use Rattle.std.proofs.Math.Nat.{div-mul-le_self}
-use Rattle.device_clocks.specs.Clock.{clocked, many, cycles, prescaled, sets_at}
+use Rattle.device_base.specs.Cycles.{cycles}
+use Rattle.device_clocks.specs.Clock.{clocked, many, prescaled, sets_at}
 use Rattle.device_clocks.specs.First.{First}
 use Rattle.device_clocks.proofs.First.{first-shift, first-same}
 use Rattle.device_clocks.proofs.Path.{Turns, Goes, next}
@@ -34,15 +35,6 @@ first-next f sets x u w none is first =
     (first-same (λ k. sets (many f k u)) (λ k. sets (many f (suc k) x)) (Some w) (λ k. ap sets (ap (many f k) is ∙ sym (many-first f k x))) first)
 
 -- ---- many cycles
--- n cycles, and then m more
-pub cycles-add : {A : Type 0} (step : ℕ → A → A) (t n m : ℕ) (x : A) → cycles step t (n + m) x ≡ cycles step (t + n) m (cycles step t n x)
-unfolding cycles
-cycles-add step t n zero x = rw add-zero refl
-cycles-add step t n (suc m) x =
-    let e : n + suc m ≡ suc (n + m) = omega arith in
-    let k : t + (n + m) ≡ t + n + m = omega arith in
-    rw (e, k) (ap (step (t + n + m)) (cycles-add step t n m x))
-
 quotient-later : (d t n : ℕ) → 0 < d → t / d ≤ (t + n) / d
 quotient-later d t n positive = le-div (t / d) (t + n) d positive (omega (arith, div-mul-le_self t d))
 

@@ -4,7 +4,6 @@ pub mod Clocks8
 pub mod Cycles
 pub mod First
 pub mod Path
-pub mod Places
 pub mod Saved16
 pub mod Saved8
 pub mod Timers

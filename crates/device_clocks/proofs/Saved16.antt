@@ -2,14 +2,14 @@
 use Rattle.std.proofs.Common.{◌≡◌, ◌≤◌, ◌<◌, ◌*◌, ◌/◌, ◌%◌, ℕ, Bool, true, false, not, ◌&&◌, if◌then◌else◌, refl, sym, ◌∙◌, ap, arith, List, length, slice_index, ◌==◌, bit_or, Option, None, Some, is_some}
 use Rattle.std.proofs.lemmas.Bool.{and_parts, leb-true, le-leb, eqb-true, false≢true}
 use Rattle.avr_base.proofs.Computed.{all_from, all_from-at}
-use Rattle.device_clocks.specs.Bits.{any_bit, bit}
+use Rattle.device_base.specs.Bits.{any_bit, bit}
 use Rattle.device_clocks.specs.Mode.{mode_of, number_of}
 use Rattle.device_clocks.specs.Registers16.{control_b}
 use Rattle.device_clocks.specs.Numbers16.{HasNumbers, are_numbers, control_mode, fits, is_control, numbers_of}
 use Rattle.device_clocks.specs.declared.mode.Mode16.{Mode16}
 use Rattle.device_clocks.specs.declared.mode.Mode16.TheVariants.{Normal, ClearAtCompare, ClearAtIcr}
 use Rattle.device_clocks.specs.declared.timer16.Timer16.{Timer16}
-use Rattle.device_clocks.proofs.Places.{by-places, bit-flag, flag-bit, bit-most}
+use Rattle.device_base.proofs.Places.{by-places, bit-flag, flag-bit, bit-most}
 
 -- ---- TCCRB
 

@@ -2,12 +2,12 @@
 use Rattle.std.proofs.Common.{◌≡◌, ◌≤◌, ◌<◌, ◌%◌, ℕ, Bool, true, false, not, ◌&&◌, refl, sym, ◌∙◌, ap, arith, List, length, slice_index, nat_le, ◌==◌, bit_or}
 use Rattle.std.proofs.lemmas.Bool.{and_parts, leb-true, le-leb, eqb-true}
 use Rattle.avr_base.proofs.Computed.{all_from, all_from-at}
-use Rattle.device_clocks.specs.Bits.{any_bit, bit}
+use Rattle.device_base.specs.Bits.{any_bit, bit}
 use Rattle.device_clocks.specs.Prescaler.{is_pin}
 use Rattle.device_clocks.specs.Numbers8.{HasNumbers, are_numbers, fits, is_select, numbers_of}
 use Rattle.device_clocks.specs.declared.prescaler.Prescaler.{Prescaler}
 use Rattle.device_clocks.specs.declared.timer8.Timer8.{Timer8}
-use Rattle.device_clocks.proofs.Places.{by-places, bit-flag, flag-bit, bit-most}
+use Rattle.device_base.proofs.Places.{by-places, bit-flag, flag-bit, bit-most}
 
 -- ---- the control byte
 

@@ -1,7 +1,8 @@
 -- Many clocks of a timer's counter: the state after them, and the first that sets a flag.
 use Rattle.std.proofs.Common.{◌≡◌, ℕ, zero, suc, ◌+◌, ◌-◌, ◌/◌, ◌<◌, ◌≤◌, ◌==◌, cond, ◌⊎◌, inl, inr, nat_lt, if◌then◌else◌, Bool, true, false, ◌||◌, Option, Some, None, IfSome, IsSome, is_some, refl, sym, ap, ◌∙◌, arith}
 use Rattle.std.proofs.lemmas.Bool.{cases_lt, eq-eqb, lt-ltb, ne_eqb}
-use Rattle.device_clocks.specs.Clock.{clocks_of, many, cycles}
+use Rattle.device_base.specs.Cycles.{cycles}
+use Rattle.device_clocks.specs.Clock.{clocks_of, many}
 use Rattle.device_clocks.specs.Counter.{path}
 use Rattle.device_clocks.specs.First.{First, earlier_of, is_before, seen}
 use Rattle.device_clocks.proofs.Cycles.{cycles-clocks, cycles-halted, kept-until, many-zero}

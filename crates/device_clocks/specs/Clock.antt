@@ -1,6 +1,7 @@
 -- Clocks behind a prescaler (ATmega128 datasheet, "Timer/Counter3, Timer/Counter2, and Timer/Counter1 Prescalers"):
--- the cycles that have one, and what happens in many clocks and in many cycles.
+-- the cycles that have one, and what happens in many clocks.
 use Rattle.std.specs.Prelude.{ℕ, zero, suc, ◌+◌, ◌-◌, ◌/◌, ◌%◌, ◌==◌, nat_lt, ◌&&◌, if◌then◌else◌, Bool}
+use Rattle.device_base.specs.Cycles.{cycles}
 
 -- whether a prescaler that divides by d has its clock in cycle t: it counts from 0 in cycle 0, so its clocks end the
 -- cycles d - 1, 2d - 1, ..; 0 stands for one that is halted
@@ -19,11 +20,6 @@ prescaled divider clock t x = if clocked (divider x) t then clock x else x
 unfoldable pub many : {A : Type 0} → (A → A) → ℕ → A → A
 many f zero x = x
 many f (suc k) x = f (many f k x)
-
--- the n cycles from cycle t on
-unfoldable pub cycles : {A : Type 0} → (ℕ → A → A) → ℕ → ℕ → A → A
-cycles step t zero x = x
-cycles step t (suc n) x = step (t + n) (cycles step t n x)
 
 -- whether cycle t + n has a clock that sets a flag, of what stands at x when cycle t begins
 unfoldable pub sets_at : {A : Type 0} → (A → ℕ) → (A → A) → (A → Bool) → ℕ → A → ℕ → Bool

@@ -1,10 +1,8 @@
-pub mod Bits
 pub mod Clock
 pub mod Counter
 pub mod First
 pub mod Flags
 pub mod Mode
-pub mod Numbers
 pub mod Numbers16
 pub mod Numbers8
 pub mod Prescaler
@@ -13,4 +11,3 @@ pub mod Registers8
 pub mod Timer
 pub mod Timer16
 pub mod Timer8
-pub mod Transmission

@@ -2,7 +2,7 @@
 -- TEMP, whether the next clock is blocked, TOV, OCFA, OCFB, OCFC and ICF. TCCRA reads 0 in each mode.
 use Rattle.std.specs.Prelude.{◌≡◌, ◌<◌, ℕ, ◌*◌, ◌/◌, ◌%◌, nat_le, ◌&&◌, not, if◌then◌else◌, Bool, Option, None, is_some, List, [], ◌∷◌, slice_index}
 use Rattle.std.specs.List.{list_all}
-use Rattle.device_clocks.specs.Bits.{any_bit, bit}
+use Rattle.device_base.specs.Bits.{any_bit, bit}
 use Rattle.device_clocks.specs.Mode.{mode_of}
 use Rattle.device_clocks.specs.Prescaler.{is_pin}
 use Rattle.device_clocks.specs.Registers16.{control_b}

@@ -2,7 +2,7 @@
 -- blocked, TOV and OCF.
 use Rattle.std.specs.Prelude.{◌≡◌, ◌<◌, ℕ, ◌%◌, nat_le, nat_lt, ◌&&◌, not, Bool, List, [], ◌∷◌, slice_index}
 use Rattle.std.specs.List.{list_all}
-use Rattle.device_clocks.specs.Bits.{bit}
+use Rattle.device_base.specs.Bits.{bit}
 use Rattle.device_clocks.specs.Prescaler.{is_pin}
 use Rattle.device_clocks.specs.Registers8.{get_of}
 use Rattle.device_clocks.specs.declared.prescaler.Prescaler.{Prescaler}

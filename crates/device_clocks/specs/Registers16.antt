@@ -3,7 +3,7 @@
 use Rattle.std.specs.Prelude.{ℕ, ◌+◌, ◌*◌, ◌/◌, ◌%◌, if◌then◌else◌, true, Option, Some, None, Result, Ok, Err, bit_or}
 use Rattle.avr_base.specs.declared.stop.StopCause.{StopCause}
 use Rattle.avr_base.specs.declared.stop.StopCause.TheVariants as stop
-use Rattle.device_clocks.specs.Bits.{any_bit, bit}
+use Rattle.device_base.specs.Bits.{any_bit, bit}
 use Rattle.device_clocks.specs.declared.prescaler.Prescaler.TheVariants.{Shared}
 use Rattle.device_clocks.specs.Prescaler.{is_pin}
 use Rattle.device_clocks.specs.declared.mode.Mode16.{Mode16}

@@ -2,7 +2,7 @@
 use Rattle.std.specs.Prelude.{ℕ, ◌%◌, if◌then◌else◌, true, Result, Ok, Err, bit_or}
 use Rattle.avr_base.specs.declared.stop.StopCause.{StopCause}
 use Rattle.avr_base.specs.declared.stop.StopCause.TheVariants as stop
-use Rattle.device_clocks.specs.Bits.{any_bit, bit}
+use Rattle.device_base.specs.Bits.{any_bit, bit}
 use Rattle.device_clocks.specs.Prescaler.{is_pin}
 use Rattle.device_clocks.specs.declared.registers8.Reg8.{Reg8}
 use Rattle.device_clocks.specs.declared.registers8.Reg8.TheVariants.{Control, Count, Compare}

@@ -4,13 +4,11 @@
 //! their flags. A timer moves as its counter does, cycle by cycle, or over many cycles at once.
 #![tactic(auto)]
 
-mod bits;
 mod clock;
 mod counter;
 mod event;
 mod flags;
 mod mode;
-mod numbers;
 mod numbers16;
 mod numbers8;
 mod prescaler;
@@ -19,19 +17,15 @@ mod registers8;
 mod timer16;
 mod timer8;
 mod timer_counter;
-mod transmission;
 
-pub use bits::{any_bit, bit};
 pub use clock::{clocks_in, cycle_of_clock, has_clock};
 pub use counter::{clocks_until, count_after, stepped};
 pub use event::{earlier, flag_after};
 pub use flags::TimerFlags;
 pub use mode::Mode16;
-pub use numbers::{all_fit, first_outside, part, put_part};
 pub use prescaler::Prescaler;
 pub use registers8::Reg8;
 pub use registers16::{Chan, Reg16};
 pub use timer_counter::TimerCounter;
 pub use timer8::Timer8;
 pub use timer16::Timer16;
-pub use transmission::{Transmission, byte_of, end_of, ended_byte, is_end};

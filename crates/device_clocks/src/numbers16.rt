@@ -2,7 +2,8 @@
 ghost use Rattle.std.specs.Prelude.{◌≡◌, ◌≤◌, true, Some, IfSome, is_some};
 ghost use Rattle.device_clocks.specs.Numbers16.{are_numbers, control_mode};
 
-use crate::{Mode16, Prescaler, Timer16, TimerFlags, all_fit};
+use crate::{Mode16, Prescaler, Timer16, TimerFlags};
+use device_base::all_fit;
 
 impl Timer16 {
     ghost use Rattle.device_clocks.specs.Numbers16.{HasNumbers, fits, numbers_of};

@@ -2,7 +2,8 @@
 ghost use Rattle.std.specs.Prelude.{◌≡◌, true, Some, IfSome, is_some};
 ghost use Rattle.device_clocks.specs.Numbers8.{are_numbers};
 
-use crate::{Prescaler, Reg8, Timer8, all_fit, any_bit};
+use crate::{Prescaler, Reg8, Timer8};
+use device_base::{all_fit, any_bit};
 
 impl Timer8 {
     ghost use Rattle.device_clocks.specs.Numbers8.{HasNumbers, fits, is_select, numbers_of};

@@ -1,8 +1,9 @@
 // The registers of a timer.
 ghost use Rattle.std.specs.Prelude.{◌≡◌, ◌/◌, ◌%◌, Ok, Err, OnOk, OnErr, IfErr};
 
-use crate::{Mode16, Prescaler, Timer16, any_bit, bit};
+use crate::{Mode16, Prescaler, Timer16};
 use avr_base::StopCause;
+use device_base::{any_bit, bit};
 
 /// The channel of a compare value.
 #[derive(Clone, Copy)]

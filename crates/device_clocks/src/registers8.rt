@@ -1,8 +1,9 @@
 // The registers of a timer.
 ghost use Rattle.std.specs.Prelude.{◌≡◌, Ok, Err, OnOk, OnErr, IfErr};
 
-use crate::{Timer8, any_bit, bit};
+use crate::Timer8;
 use avr_base::StopCause;
+use device_base::{any_bit, bit};
 
 /// The registers of a timer (ATmega128 datasheet, "8-bit Timer/Counter Register Description").
 #[derive(Clone, Copy)]

@@ -1,6 +1,7 @@
 // The timer, cycle by cycle and in leaps.
 ghost use Rattle.std.specs.Prelude.{◌≡◌, ◌≤◌, ◌<◌, ◌+◌, ◌-◌, ◌^◌, ◌↔◌, None, Some, IfSome};
-ghost use Rattle.device_clocks.specs.Clock.{cycles, many};
+ghost use Rattle.device_base.specs.Cycles.{cycles};
+ghost use Rattle.device_clocks.specs.Clock.{many};
 ghost use Rattle.device_clocks.specs.First.{First};
 ghost use Rattle.device_clocks.specs.Timer as counter;
 

@@ -2,9 +2,9 @@
 use crate::answers::Answer;
 use crate::numbers::{byte, cycle, long, perhaps, short};
 use avr_base::{Lines, Vector, pending};
+use device_base::any_bit;
 use device_clocks::{
-    any_bit, clocks_in, clocks_until, count_after, cycle_of_clock, earlier, flag_after, has_clock,
-    stepped,
+    clocks_in, clocks_until, count_after, cycle_of_clock, earlier, flag_after, has_clock, stepped,
 };
 
 // The maximum, the top and the count of a counter.

@@ -21,9 +21,9 @@ use Rattle.serial_ports.specs.declared.radio.Moved.TheVariants.{Answer, Send, As
 use Rattle.serial_ports.specs.declared.radio.Radio.{Radio}
 use Rattle.serial_ports.specs.Radio.{radio_transfer}
 use Rattle.avr_base.proofs.Computed.{all_from, all_from-at}
-use Rattle.device_clocks.specs.Bits.{any_bit}
+use Rattle.device_base.specs.Bits.{any_bit}
 use Rattle.device_clocks.specs.declared.prescaler.Prescaler.TheVariants.{Own, Shared}
-use Rattle.device_clocks.specs.Transmission.{ended_byte}
+use Rattle.serial_ports.specs.Transmission.{ended_byte}
 use Rattle.device_clocks.specs.declared.flags.TimerFlags.{TimerFlags}
 use Rattle.serial_ports.specs.declared.spi.Spi.{Spi}
 use Rattle.device_clocks.specs.declared.timer8.Timer8.{Timer8}

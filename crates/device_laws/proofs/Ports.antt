@@ -12,8 +12,8 @@ use Rattle.serial_ports.specs.declared.radio.Radio.{Radio}
 use Rattle.serial_ports.specs.declared.radio.RadioState.{RadioState}
 use Rattle.serial_ports.specs.declared.radio.RadioState.TheVariants.{Idle, ToSend, ToSample, Status, Byte, Age}
 use Rattle.serial_ports.specs.Radio.{in_state, radio_transfer, selected_transfer}
-use Rattle.device_clocks.specs.Bits.{any_bit}
-use Rattle.device_clocks.specs.declared.transmission.Transmission.{Transmission}
+use Rattle.device_base.specs.Bits.{any_bit}
+use Rattle.serial_ports.specs.declared.transmission.Transmission.{Transmission}
 use Rattle.serial_ports.specs.declared.spi_registers.SpiReg.{SpiReg}
 use Rattle.serial_ports.specs.declared.spi_registers.SpiReg.TheVariants as spireg
 use Rattle.serial_ports.specs.declared.spi.Spi.{Spi}

@@ -4,8 +4,8 @@ use Rattle.std.proofs.lemmas.Bool.Decides.{nat_tests}
 use Rattle.avr_base.specs.declared.stop.StopCause.{StopCause}
 use Rattle.avr_base.specs.declared.stop.StopCause.TheVariants as stop
 use Rattle.device_clocks.specs.declared.flags.TimerFlags.{TimerFlags}
-use Rattle.device_clocks.specs.Bits.{any_bit}
-use Rattle.device_clocks.specs.Clock.{cycles}
+use Rattle.device_base.specs.Bits.{any_bit}
+use Rattle.device_base.specs.Cycles.{cycles}
 use Rattle.device_clocks.specs.declared.prescaler.Prescaler.{Prescaler}
 use Rattle.device_clocks.specs.declared.prescaler.Prescaler.TheVariants.{Shared}
 use Rattle.device_clocks.specs.Prescaler.{is_pin}

@@ -7,7 +7,7 @@ use Rattle.board_io.specs.declared.rules.Rule.TheVariants.{Kept, Guarded, ResetF
 use Rattle.board_io.specs.Board.{kept_at}
 use Rattle.board_io.specs.Table.{rule_of}
 use Rattle.serial_ports.specs.declared.radio.Radio.{Radio}
-use Rattle.device_clocks.specs.Bits.{any_bit}
+use Rattle.device_base.specs.Bits.{any_bit}
 use Rattle.device_clocks.specs.declared.prescaler.Prescaler.{Prescaler}
 use Rattle.device_clocks.specs.declared.prescaler.Prescaler.TheVariants.{Own, Shared}
 use Rattle.device_clocks.specs.Prescaler.{is_pin}

@@ -16,9 +16,9 @@ use Rattle.board_io.specs.Saved as board
 use Rattle.board_io.specs.declared.board.Board.{Board}
 use Rattle.board_io.proofs.OneBoard.{all, one-board}
 use Rattle.data_space.specs.declared.cpu.Cpu.{Cpu}
-use Rattle.device_clocks.specs.Bits.{bit}
-use Rattle.device_clocks.specs.Numbers.{part}
-use Rattle.device_clocks.proofs.Places.{bit-flag, flag-bit, by-places, from_places, none_outside, same-list}
+use Rattle.device_base.specs.Bits.{bit}
+use Rattle.device_base.specs.Numbers.{part}
+use Rattle.device_base.proofs.Places.{bit-flag, flag-bit, by-places, from_places, none_outside, same-list}
 use Rattle.serial_ports.specs.Script.{ScriptBytes}
 use Rattle.node_core.specs.Numbers.{core_fits, core_tail, ends_from, first_outside, fits, numbers_of, stop_number}
 use Rattle.node_core.specs.Restored.{cpu_of, fault_by, IsCore, IsRestored}

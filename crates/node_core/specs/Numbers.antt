@@ -7,8 +7,8 @@ use Rattle.std.specs.List.{position}
 use Rattle.avr_base.specs.Causes.{cause_number}
 use Rattle.avr_base.specs.declared.stop.StopCause.{StopCause}
 use Rattle.board_io.specs.Saved as board
-use Rattle.device_clocks.specs.Bits.{bit}
-use Rattle.device_clocks.specs.Numbers.{part}
+use Rattle.device_base.specs.Bits.{bit}
+use Rattle.device_base.specs.Numbers.{part}
 use Rattle.node_core.specs.State.{NodeState}
 
 abbrev pub stop_number : Option StopCause → ℕ

@@ -3,7 +3,7 @@ use Rattle.std.specs.Prelude.{◌≡◌, ◌⊎◌, ℕ, ◌+◌, ◌^◌, ◌�
 use Rattle.board_io.specs.Kept.{first_refused}
 use Rattle.board_io.specs.Saved as board
 use Rattle.data_space.specs.declared.cpu.Cpu.{Cpu}
-use Rattle.device_clocks.specs.Numbers.{part}
+use Rattle.device_base.specs.Numbers.{part}
 use Rattle.serial_ports.specs.Script.{ScriptBytes}
 use Rattle.node_core.specs.Numbers.{first_outside, numbers_of}
 use Rattle.node_core.specs.State.{NodeState}

@@ -7,7 +7,7 @@ use crate::Node;
 use crate::machine::Machine;
 use avr_base::StopCause;
 use board_io::Board;
-use device_clocks::{first_outside, part, put_part};
+use device_base::{first_outside, part, put_part};
 
 // The place of the stop cause's number.
 const STOP: usize = 39;

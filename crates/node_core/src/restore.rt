@@ -1,7 +1,7 @@
 // A node of its numbers, its kept I/O bytes and its SRAM.
 ghost use Rattle.std.specs.Prelude.{◌≡◌, ◌≤◌, ◌^◌, [], false, None, IfOk, IfErr, OnOk, length, take};
 ghost use Rattle.board_io.specs.Saved as board;
-ghost use Rattle.device_clocks.specs.Numbers.{part};
+ghost use Rattle.device_base.specs.Numbers.{part};
 ghost use Rattle.node_core.specs.Numbers.{stop_number};
 ghost use Rattle.node_core.specs.Restored.{cpu_of, fault_of, IsCore, IsRefused, IsRestored};
 ghost use Rattle.node_core.specs.Shown.{shown};
@@ -14,7 +14,7 @@ use avr_base::{NoMemory, Sreg, StopCause};
 use avr_program::Program;
 use board_io::{Board, LaggingBoard, first_refused};
 use data_space::{Cpu, Sram};
-use device_clocks::part;
+use device_base::part;
 use serial_ports::Script;
 use std::alloc::Global;
 

@@ -1,8 +1,8 @@
 -- Numbers of what may be absent: a transmission is again that of its numbers.
 use Rattle.std.proofs.Common.{◌≡◌, ◌≤◌, ℕ, zero, suc, Bool, true, false, refl, sym, arith, ◌==◌, Option, None, Some, is_some}
 use Rattle.std.proofs.lemmas.Bool.{eqb-true}
-use Rattle.device_clocks.specs.Bits.{bit}
-use Rattle.device_clocks.specs.declared.transmission.Transmission.{Transmission}
+use Rattle.device_base.specs.Bits.{bit}
+use Rattle.serial_ports.specs.declared.transmission.Transmission.{Transmission}
 use Rattle.serial_ports.specs.Numbers.{byte_number, end_number, is_end_number, owned, transmission_of}
 
 -- ---- a transmission

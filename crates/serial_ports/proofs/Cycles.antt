@@ -1,9 +1,9 @@
 -- Cycles in which no frame ends.
 use Rattle.std.proofs.Common.{◌≡◌, ℕ, zero, suc, ◌+◌, ◌<◌, ◌≤◌, Option, Some, None, false, refl, ap, ◌∙◌, arith}
 use Rattle.std.proofs.lemmas.Bool.{ne_eqb}
-use Rattle.device_clocks.specs.Clock.{cycles}
-use Rattle.device_clocks.specs.declared.transmission.Transmission.{Transmission}
-use Rattle.device_clocks.specs.Transmission.{end_of, is_end}
+use Rattle.device_base.specs.Cycles.{cycles}
+use Rattle.serial_ports.specs.declared.transmission.Transmission.{Transmission}
+use Rattle.serial_ports.specs.Transmission.{end_of, is_end}
 use Rattle.serial_ports.specs.Usart.{ends_at, usart_cycle}
 use Rattle.serial_ports.specs.declared.usart.Usart.{Usart}
 

@@ -1,7 +1,7 @@
 -- Cycles in which no transfer ends.
 use Rattle.std.proofs.Common.{◌≡◌, ℕ, zero, suc, ◌+◌, ◌<◌, false, refl, ap, ◌∙◌, arith}
 use Rattle.std.proofs.lemmas.Bool.{cond-false}
-use Rattle.device_clocks.specs.Clock.{cycles}
+use Rattle.device_base.specs.Cycles.{cycles}
 use Rattle.serial_ports.specs.Spi.{ends_at, spi_cycle, spi_finished}
 use Rattle.serial_ports.specs.declared.spi.Spi.{Spi}
 

@@ -1,7 +1,7 @@
 -- The numbers of the radio: what their bounds say, and the one radio that has them.
 use Rattle.std.proofs.Common.{◌≡◌, ◌≤◌, ℕ, zero, suc, true, refl, sym, ◌∙◌, ap, arith, List, length, slice_index, nat_le}
 use Rattle.std.proofs.lemmas.Bool.{and_parts, leb-true}
-use Rattle.device_clocks.proofs.Places.{by-places, same-list}
+use Rattle.device_base.proofs.Places.{by-places, same-list}
 use Rattle.serial_ports.specs.Numbers.{owned}
 use Rattle.serial_ports.specs.RadioNumbers.{HasNumbers, are_numbers, fits, heard_in, numbers_of, state_number, state_of}
 use Rattle.serial_ports.specs.declared.radio.Radio.{Radio}

@@ -1,8 +1,8 @@
 -- The numbers of the interface: what their bounds say, and the one interface that has them.
 use Rattle.std.proofs.Common.{◌≡◌, ◌≤◌, ℕ, true, refl, sym, ◌∙◌, ap, List, length, slice_index, ◌==◌}
 use Rattle.std.proofs.lemmas.Bool.{and_parts, leb-true}
-use Rattle.device_clocks.specs.Bits.{any_bit}
-use Rattle.device_clocks.proofs.Places.{by-places, bit-flag, flag-bit, same-list}
+use Rattle.device_base.specs.Bits.{any_bit}
+use Rattle.device_base.proofs.Places.{by-places, bit-flag, flag-bit, same-list}
 use Rattle.serial_ports.specs.Numbers.{is_end_number, owned, transmission_of}
 use Rattle.serial_ports.proofs.Absent.{owned-most, runs-again, transmission-again}
 use Rattle.serial_ports.specs.SpiNumbers.{are_numbers, fits, numbers_of}

@@ -1,9 +1,9 @@
 -- The numbers of the port: what their bounds say, and the one port that has them.
 use Rattle.std.proofs.Common.{◌≡◌, ◌≤◌, ℕ, zero, suc, true, refl, sym, ◌∙◌, ap, arith, List, length, slice_index, nat_le, ◌==◌, Option, None, Some, is_some}
 use Rattle.std.proofs.lemmas.Bool.{and_parts, leb-true}
-use Rattle.device_clocks.specs.Bits.{bit}
-use Rattle.device_clocks.specs.declared.transmission.Transmission.{Transmission}
-use Rattle.device_clocks.proofs.Places.{by-places, bit-flag, flag-bit, same-list}
+use Rattle.device_base.specs.Bits.{bit}
+use Rattle.serial_ports.specs.declared.transmission.Transmission.{Transmission}
+use Rattle.device_base.proofs.Places.{by-places, bit-flag, flag-bit, same-list}
 use Rattle.serial_ports.specs.Numbers.{is_end_number, owned, transmission_of}
 use Rattle.serial_ports.specs.UsartNumbers.{are_numbers, first_number, fits, inbox_of, numbers_of, received, second_number, waiting_number, waiting_of}
 use Rattle.serial_ports.specs.declared.inbox.Inbox.{Inbox}

@@ -1,6 +1,7 @@
 pub mod Radio
 pub mod SpiRegisters
 pub mod Spi
+pub mod Transmission
 pub mod Usart
 pub mod UsartRegisters
 pub mod Script

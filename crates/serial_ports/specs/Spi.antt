@@ -1,8 +1,8 @@
 -- The serial peripheral interface as a master, cycle by cycle (ATmega128 datasheet, "Serial Peripheral Interface - SPI"
 -- and "SPI Status Register - SPSR"). The cycle of a transfer's end is this simulator's own choice.
 use Rattle.std.specs.Prelude.{ℕ, ◌*◌, ◌/◌, ◌%◌, ◌==◌, ◌&&◌, if◌then◌else◌, Bool, true, false, None}
-use Rattle.device_clocks.specs.Bits.{any_bit}
-use Rattle.device_clocks.specs.Transmission.{is_end}
+use Rattle.device_base.specs.Bits.{any_bit}
+use Rattle.serial_ports.specs.Transmission.{is_end}
 use Rattle.serial_ports.specs.declared.spi.Spi.{Spi}
 
 abbrev pub reset_spi : Spi

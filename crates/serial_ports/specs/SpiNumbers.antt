@@ -2,7 +2,7 @@
 -- WCOL, and which of these two are noted.
 use Rattle.std.specs.Prelude.{ℕ, ◌==◌, nat_le, ◌&&◌, not, Bool, is_some, List, [], ◌∷◌, slice_index}
 use Rattle.std.specs.List.{list_all}
-use Rattle.device_clocks.specs.Bits.{any_bit, bit}
+use Rattle.device_base.specs.Bits.{any_bit, bit}
 use Rattle.serial_ports.specs.Numbers.{byte_number, end_number, is_end_number, owned}
 use Rattle.serial_ports.specs.declared.spi.Spi.{Spi}
 

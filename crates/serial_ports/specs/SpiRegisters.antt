@@ -3,7 +3,7 @@
 use Rattle.std.specs.Prelude.{ℕ, ◌+◌, ◌&&◌, not, if◌then◌else◌, true, false, Some, None, is_some, Result, Ok, Err}
 use Rattle.avr_base.specs.declared.stop.StopCause.{StopCause}
 use Rattle.avr_base.specs.declared.stop.StopCause.TheVariants as stop
-use Rattle.device_clocks.specs.Bits.{any_bit, bit}
+use Rattle.device_base.specs.Bits.{any_bit, bit}
 use Rattle.serial_ports.specs.declared.spi_registers.SpiReg.{SpiReg}
 use Rattle.serial_ports.specs.declared.spi_registers.SpiReg.TheVariants.{Control, Status, Spdr}
 use Rattle.serial_ports.specs.declared.spi.Spi.{Spi}

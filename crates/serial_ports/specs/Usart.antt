@@ -1,8 +1,8 @@
 -- USART0 as an asynchronous port, cycle by cycle (ATmega128 datasheet, "USART": frame formats, transmitter, receiver
 -- buffer). The cycles in which a frame begins and ends are this simulator's own choice.
 use Rattle.std.specs.Prelude.{ℕ, ◌+◌, ◌*◌, ◌/◌, ◌%◌, ◌^◌, ◌&&◌, not, if◌then◌else◌, Bool, true, false, Option, Some, None, is_some}
-use Rattle.device_clocks.specs.Bits.{any_bit}
-use Rattle.device_clocks.specs.Transmission.{ended_byte, is_end}
+use Rattle.device_base.specs.Bits.{any_bit}
+use Rattle.serial_ports.specs.Transmission.{ended_byte, is_end}
 use Rattle.serial_ports.specs.declared.inbox.Inbox.{Inbox}
 use Rattle.serial_ports.specs.declared.inbox.Inbox.TheVariants.{Empty, One, Two}
 use Rattle.serial_ports.specs.declared.usart.Usart.{Usart}

@@ -2,7 +2,7 @@
 -- second, whether a frame runs, its end and its byte, whether a byte waits, and that byte.
 use Rattle.std.specs.Prelude.{ℕ, ◌==◌, nat_le, ◌&&◌, not, if◌then◌else◌, Bool, Option, None, Some, is_some, List, [], ◌∷◌, slice_index}
 use Rattle.std.specs.List.{list_all}
-use Rattle.device_clocks.specs.Bits.{any_bit, bit}
+use Rattle.device_base.specs.Bits.{any_bit, bit}
 use Rattle.serial_ports.specs.Numbers.{byte_number, end_number, is_end_number, owned}
 use Rattle.serial_ports.specs.declared.inbox.Inbox.{Inbox}
 use Rattle.serial_ports.specs.declared.inbox.Inbox.TheVariants.{Empty, One, Two}

@@ -2,7 +2,7 @@
 use Rattle.std.specs.Prelude.{ℕ, ◌+◌, ◌*◌, ◌/◌, ◌%◌, ◌&&◌, not, if◌then◌else◌, false, Some, is_some, Result, Ok, Err, bit_and}
 use Rattle.avr_base.specs.declared.stop.StopCause.{StopCause}
 use Rattle.avr_base.specs.declared.stop.StopCause.TheVariants as stop
-use Rattle.device_clocks.specs.Bits.{any_bit, bit}
+use Rattle.device_base.specs.Bits.{any_bit, bit}
 use Rattle.serial_ports.specs.declared.inbox.Inbox.{Inbox}
 use Rattle.serial_ports.specs.declared.inbox.Inbox.TheVariants.{Empty, One, Two}
 use Rattle.serial_ports.specs.declared.usart_registers.UsartReg.{UsartReg}

@@ -2,7 +2,7 @@
 ghost use Rattle.std.specs.Prelude.{◌≡◌};
 ghost use Rattle.serial_ports.specs.Numbers.{byte_number, end_number, is_end_number, owned, transmission_of};
 
-use device_clocks::Transmission;
+use crate::Transmission;
 
 // The bound of a number, 0 where its owner is not there.
 #[inline]

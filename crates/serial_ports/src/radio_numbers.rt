@@ -4,7 +4,7 @@ ghost use Rattle.serial_ports.specs.RadioNumbers.{are_numbers, heard_in, state_n
 
 use crate::numbers::owned;
 use crate::{Radio, RadioState};
-use device_clocks::all_fit;
+use device_base::all_fit;
 use world_core::Heard;
 
 impl Radio {

@@ -1,8 +1,9 @@
 // The interface, cycle by cycle and over many cycles at once.
 ghost use Rattle.std.specs.Prelude.{◌≡◌, ◌≤◌, ◌<◌, ◌+◌, ◌%◌, ◌^◌, ℕ, false, true, is_some, Some};
-ghost use Rattle.device_clocks.specs.Clock.{cycles};
+ghost use Rattle.device_base.specs.Cycles.{cycles};
 
-use device_clocks::{Transmission, any_bit, byte_of, end_of, is_end};
+use crate::transmission::{Transmission, byte_of, end_of, is_end};
+use device_base::any_bit;
 
 /// The serial peripheral interface as a master (ATmega128 datasheet, "Serial Peripheral Interface - SPI").
 #[derive(Clone, Copy)]
@@ -26,7 +27,7 @@ pub struct Spi {
 }
 
 impl Spi {
-    ghost use Rattle.device_clocks.specs.Transmission.{byte_of, end_of};
+    ghost use Rattle.serial_ports.specs.Transmission.{byte_of, end_of};
     ghost use Rattle.serial_ports.specs.Spi.{asks_interrupt, ends_at, prescale, reset_spi, spi_cycle, spi_finished, transfer_cycles};
 
     /// The interface after reset: disabled, with all registers and flags 0 and no transfer.

@@ -4,7 +4,7 @@ ghost use Rattle.serial_ports.specs.SpiNumbers.{are_numbers};
 
 use crate::Spi;
 use crate::numbers::{byte_number, end_number, is_end_number, owned, transmission_of};
-use device_clocks::all_fit;
+use device_base::all_fit;
 
 impl Spi {
     ghost use Rattle.serial_ports.specs.SpiNumbers.{fits, numbers_of};

@@ -1,9 +1,9 @@
 // The registers of the interface.
 ghost use Rattle.std.specs.Prelude.{◌≡◌, ◌≤◌, ◌^◌, Ok, Err, OnOk, OnErr, IfErr};
 
-use crate::Spi;
+use crate::{Spi, Transmission};
 use avr_base::StopCause;
-use device_clocks::{Transmission, any_bit, bit};
+use device_base::{any_bit, bit};
 
 /// The registers of the serial peripheral interface (ATmega128 datasheet, "SPI Control Register - SPCR", "SPI Status
 /// Register - SPSR", "SPI Data Register - SPDR").

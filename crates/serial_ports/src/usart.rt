@@ -1,9 +1,10 @@
 // The port, cycle by cycle and in leaps.
 ghost use Rattle.std.specs.Prelude.{◌≡◌, ◌≤◌, ◌<◌, ◌+◌, ◌^◌, ◌↔◌, ℕ, true, false, None};
-ghost use Rattle.device_clocks.specs.Clock.{cycles};
+ghost use Rattle.device_base.specs.Cycles.{cycles};
 
 use crate::Inbox;
-use device_clocks::{Transmission, any_bit, end_of, is_end};
+use crate::transmission::{Transmission, end_of, is_end};
+use device_base::any_bit;
 
 /// USART0 as an asynchronous port (ATmega128 datasheet, "USART"). The cycles in which a frame begins and ends are this
 /// simulator's own choice: it begins in the cycle of the write of UDR0, or in the one that ends the frame before it.
@@ -41,7 +42,7 @@ pub struct UsartLines {
 }
 
 impl Usart {
-    ghost use Rattle.device_clocks.specs.Transmission.{end_of};
+    ghost use Rattle.serial_ports.specs.Transmission.{end_of};
     ghost use Rattle.serial_ports.specs.Usart.{arrived, bit_cycles, buffered, cut, data_bits, ends_at, frame_cycles, frame_ended, lines_of, next_frame, reset_usart, started, usart_cycle};
 
     /// The port after reset: eight data bits and one stop bit, nothing enabled, and all buffers empty.

@@ -4,7 +4,7 @@ ghost use Rattle.serial_ports.specs.UsartNumbers.{are_numbers, first_number, inb
 
 use crate::numbers::{byte_number, end_number, is_end_number, owned, transmission_of};
 use crate::{Inbox, Usart};
-use device_clocks::all_fit;
+use device_base::all_fit;
 
 impl Usart {
     ghost use Rattle.serial_ports.specs.UsartNumbers.{fits, numbers_of};

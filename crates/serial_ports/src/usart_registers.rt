@@ -3,7 +3,7 @@ ghost use Rattle.std.specs.Prelude.{◌≡◌, ◌≤◌, ◌^◌, false, Ok, Er
 
 use crate::{Inbox, Usart};
 use avr_base::StopCause;
-use device_clocks::{any_bit, bit};
+use device_base::{any_bit, bit};
 
 /// The registers of USART0 (ATmega128 datasheet, "USART Register Description").
 #[derive(Clone, Copy)]

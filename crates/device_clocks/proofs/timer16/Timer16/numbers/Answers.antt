@@ -1,7 +1,7 @@
 use Rattle.std.proofs.Common.{rules, ◌≡◌, ◌∙◌, ap, refl, arith}
-use Rattle.device_clocks.specs.Bits.{bit}
+use Rattle.device_base.specs.Bits.{bit}
 use Rattle.device_clocks.specs.Numbers16.{are_numbers}
-use Rattle.device_clocks.proofs.Places.{same-list}
+use Rattle.device_base.proofs.Places.{same-list}
 use Rattle.device_clocks.proofs.Saved16.{IsPlain, numbers-within}
 use Rattle.device_clocks.proofs.timer16.Timer16.numbers.Goals as goal
 

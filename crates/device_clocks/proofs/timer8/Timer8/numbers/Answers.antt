@@ -1,7 +1,7 @@
 use Rattle.std.proofs.Common.{rules, ◌≡◌, ◌∙◌, ap, refl, arith}
-use Rattle.device_clocks.specs.Bits.{bit}
+use Rattle.device_base.specs.Bits.{bit}
 use Rattle.device_clocks.specs.Numbers8.{are_numbers}
-use Rattle.device_clocks.proofs.Places.{same-list}
+use Rattle.device_base.proofs.Places.{same-list}
 use Rattle.device_clocks.proofs.Saved8.{numbers-within}
 use Rattle.device_clocks.proofs.timer8.Timer8.numbers.Goals as goal
 

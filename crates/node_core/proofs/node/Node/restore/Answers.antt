@@ -3,7 +3,7 @@ use Rattle.std.proofs.lemmas.Bool.{false≢true}
 use Rattle.board_io.specs.Saved as board
 use Rattle.board_io.specs.declared.board.Board.{Board}
 use Rattle.board_io.proofs.OneBoard.{all}
-use Rattle.device_clocks.specs.Numbers.{part}
+use Rattle.device_base.specs.Numbers.{part}
 use Rattle.node_core.specs.Numbers.{ends_from}
 use Rattle.node_core.specs.State.{NodeState}
 use Rattle.node_core.proofs.Saved.{board-fits, clocked, core-within, made-numbers, no-fault, one-state, registers-32, Made}

@@ -2,7 +2,7 @@
 use Rattle.std.proofs.Common.{◌≡◌, ◌≤◌, ◌+◌, ℕ, zero, suc, Bool, true, false, not, refl, sym, ◌∙◌, ap, arith, List, [], ◌∷◌, length, slice_index, ◌==◌, nat_lt, is_none, cond, Some, None, inl, inr}
 use Rattle.std.specs.List.{list_all, position, position_or_len}
 use Rattle.std.proofs.lemmas.Bool.{cases_lt, false≢true, le-ltb, lt-ltb}
-use Rattle.device_clocks.specs.Bits.{bit}
+use Rattle.device_base.specs.Bits.{bit}
 
 -- ---- a list by its places
 

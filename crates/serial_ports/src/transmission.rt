@@ -1,6 +1,6 @@
 // A byte that is shifted out.
 ghost use Rattle.std.specs.Prelude.{◌≡◌, true, is_some, IfSome};
-ghost use Rattle.device_clocks.specs.Transmission.{byte_of, end_of, ended_byte, is_end};
+ghost use Rattle.serial_ports.specs.Transmission.{byte_of, end_of, ended_byte, is_end};
 
 /// A byte that is shifted out: a frame of USART0, or a transfer of the serial peripheral interface.
 #[derive(Clone, Copy, PartialEq, Eq)]

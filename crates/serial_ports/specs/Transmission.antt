@@ -1,6 +1,6 @@
 -- A byte that is shifted out, and the cycle in which it ends.
 use Rattle.std.specs.Prelude.{ℕ, ◌==◌, if◌then◌else◌, Bool, false, Option, Some, None}
-use Rattle.device_clocks.specs.declared.transmission.Transmission.{Transmission}
+use Rattle.serial_ports.specs.declared.transmission.Transmission.{Transmission}
 
 -- whether the one that runs ends in cycle t
 abbrev pub is_end : Option Transmission → ℕ → Bool

@@ -1,6 +1,6 @@
 // Bits of a register.
 ghost use Rattle.std.specs.Prelude.{◌≡◌, ◌≤◌};
-ghost use Rattle.device_clocks.specs.Bits.{any_bit, bit};
+ghost use Rattle.device_base.specs.Bits.{any_bit, bit};
 
 /// Whether a byte has a bit of a mask set.
 #[inline]

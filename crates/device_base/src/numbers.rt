@@ -2,7 +2,7 @@
 // several devices' lists.
 ghost use Rattle.std.specs.Prelude.{◌≡◌, ◌≤◌, ◌+◌, ◌++◌, not, length, take};
 ghost use Rattle.std.specs.List.{list_all, position};
-ghost use Rattle.device_clocks.specs.Numbers.{part};
+ghost use Rattle.device_base.specs.Numbers.{part};
 
 /// Whether each number is within its bound, by the test of each.
 pub fn all_fit(fits: &[bool]) -> bool

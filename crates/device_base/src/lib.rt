@@ -1,0 +1,9 @@
+//! What the devices of the ATmega128 share: bits of their registers, and lists of numbers by which a device is saved and
+//! restored. Its definitions say also what many cycles of a device are.
+#![tactic(auto)]
+
+mod bits;
+mod numbers;
+
+pub use bits::{any_bit, bit};
+pub use numbers::{all_fit, first_outside, part, put_part};
