@@ -10,17 +10,17 @@ use Rattle.board_io.specs.declared.rules.Rule.{Rule}
 use Rattle.board_io.specs.declared.rules.Rule.TheVariants.{Reserved, Pin, Kept, Guarded, WatchdogControl, ResetFlags, CpuControl, TimerFlags, ExtendedTimerFlags, Timer0, Timer1, Timer2, Timer3, Usart0, Spi}
 use Rattle.board_io.specs.Board.{kept_at, with_kept}
 use Rattle.board_io.specs.Cycle.{board_quiet, timers_leap}
-use Rattle.board_io.specs.Lagging.{IsAhead, caught_up, is_no_mask, reads_apart, reads_timer, writes_apart}
+use Rattle.board_io.specs.Lagging.{IsAhead, caught_up, is_no_mask, is_plain_read, is_timer_read, is_plain_write}
 use Rattle.board_io.specs.Lines.{lines_of}
 use Rattle.board_io.specs.Registers.{IsGot, IsPut, get_by, put_by}
 use Rattle.board_io.proofs.Radio.{get_by_clock, put_by_clock}
 use Rattle.device_base.specs.Bits.{any_bit}
-use Rattle.device_base.specs.Cycles.{cycles}
+use Rattle.avr_timers.specs.Clock.{cycles}
 use Rattle.avr_base.specs.declared.interrupts.Lines.{Lines}
 use Rattle.serial_ports.specs.declared.spi_registers.SpiReg.TheVariants as spi
-use Rattle.device_clocks.specs.declared.registers16.Reg16.TheVariants as reg16
-use Rattle.device_clocks.specs.declared.timer16.Timer16.{Timer16}
-use Rattle.device_clocks.specs.Timer16 as timer16
+use Rattle.avr_timers.specs.declared.registers16.Reg16.TheVariants as reg16
+use Rattle.avr_timers.specs.declared.timer16.Timer16.{Timer16}
+use Rattle.avr_timers.specs.Timer16 as timer16
 use Rattle.serial_ports.specs.declared.usart_registers.UsartReg.TheVariants as usart
 
 abbrev with_temp : ℕ → Timer16 → Timer16
@@ -56,7 +56,7 @@ GotApart b s n (Err cause) late = late ≡ Err cause
 false_true : false ≡ true → ⊥
 false_true e = cc
 
-got_apart : (rule : Rule) (b : Board) (at s n : ℕ) → reads_apart rule ≡ true → GotApart b s n (get_by rule b at) (get_by rule (timers_leap s n b) at)
+got_apart : (rule : Rule) (b : Board) (at s n : ℕ) → is_plain_read rule ≡ true → GotApart b s n (get_by rule b at) (get_by rule (timers_leap s n b) at)
 unfolding timers_leap board_quiet lines_of
 got_apart Reserved b at s n e = refl
 got_apart (Pin port) b at s n e = (refl, itself b)
@@ -102,7 +102,7 @@ abbrev LikeGot : Board → Result (ℕ × Board) StopCause → Type 0
 LikeGot b (Ok p) = IsLike b p.1
 LikeGot b (Err cause) = Unit {0}
 
-timer_like : (rule : Rule) (b : Board) (at : ℕ) → reads_timer rule ≡ true → LikeGot b (get_by rule b at)
+timer_like : (rule : Rule) (b : Board) (at : ℕ) → is_timer_read rule ≡ true → LikeGot b (get_by rule b at)
 timer_like Reserved b at e = absurd (false_true e)
 timer_like (Pin port) b at e = absurd (false_true e)
 timer_like (Kept mask) b at e = absurd (false_true e)
@@ -123,11 +123,11 @@ timer_like (Timer3 _) b at e = itself b
 timer_like (Usart0 reg) b at e = absurd (false_true e)
 timer_like (Spi reg) b at e = absurd (false_true e)
 
-pub timer_ahead : (rule : Rule) (b c : Board) (at : ℕ) (a : Ahead) (r : Result ℕ StopCause) → reads_timer rule ≡ true → IsGot (get_by rule b at) b r c → IsAhead a b → IsAhead a c
+pub timer_ahead : (rule : Rule) (b c : Board) (at : ℕ) (a : Ahead) (r : Result ℕ StopCause) → is_timer_read rule ≡ true → IsGot (get_by rule b at) b r c → IsAhead a b → IsAhead a c
 timer_ahead rule b c at a (Ok x) e h k = like_ahead a b c (subst (LikeGot b) h (timer_like rule b at e)) k
 timer_ahead rule b c at a (Err cause) e h k = subst (IsAhead a) (sym h.1) k
 
-module _ (rule : Rule) (b : Board) (at s : ℕ) (e : reads_apart rule ≡ true) where
+module _ (rule : Rule) (b : Board) (at s : ℕ) (e : is_plain_read rule ≡ true) where
   got : (g : Result (ℕ × Board) StopCause) → get_by rule b at ≡ g → GotApart b s (b.clock - s) g (get_by rule (caught_up s b) at)
   got g h = subst (λ r. GotApart b s (b.clock - s) r (get_by rule (caught_up s b) at)) h (got_apart rule b at s (b.clock - s) e)
 
@@ -179,7 +179,7 @@ kept_apart : (b : Board) (at y s n : ℕ) → is_no_mask at ≡ true → PutApar
 unfolding timers_leap
 kept_apart b at y s n e = (refl, like_kept at y b e)
 
-put_apart : (rule : Rule) (b : Board) (at x s n : ℕ) → writes_apart rule at ≡ true → PutApart b s n (put_by rule b at x) (put_by rule (timers_leap s n b) at x)
+put_apart : (rule : Rule) (b : Board) (at x s n : ℕ) → is_plain_write rule at ≡ true → PutApart b s n (put_by rule b at x) (put_by rule (timers_leap s n b) at x)
 unfolding timers_leap
 put_apart Reserved b at x s n e = refl
 put_apart (Pin port) b at x s n e = (refl, itself b)
@@ -198,7 +198,7 @@ put_apart (Timer3 reg) b at x s n e = absurd (false_true e)
 put_apart (Usart0 reg) b at x s n e = absurd (false_true e)
 put_apart (Spi reg) b at x s n e = absurd (false_true e)
 
-module _ (rule : Rule) (b : Board) (at x s : ℕ) (e : writes_apart rule at ≡ true) where
+module _ (rule : Rule) (b : Board) (at x s : ℕ) (e : is_plain_write rule at ≡ true) where
   done : (g : Result Board StopCause) → put_by rule b at x ≡ g → PutApart b s (b.clock - s) g (put_by rule (caught_up s b) at x)
   done g h = subst (λ r. PutApart b s (b.clock - s) r (put_by rule (caught_up s b) at x)) h (put_apart rule b at x s (b.clock - s) e)
 

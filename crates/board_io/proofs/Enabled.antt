@@ -15,11 +15,11 @@ none byte mask e zero = ap (λ (x : ℕ). any_bit x mask) e ∙ zero
 
 pub no_timer_lines : (b : Board) → kept_at 0x57 b ≡ 0 → timer_lines b ≡ 0
 no_timer_lines b e =
-    λ i. off 9 b.t2.comp_a _ (none _ 0x80 e refl) i + off 10 b.t2.over _ (none _ 0x40 e refl) i + off 12 b.t1.flags.comp_a _ (none _ 0x10 e refl) i
-    + off 13 b.t1.flags.comp_b _ (none _ 0x08 e refl) i + off 14 b.t1.flags.over _ (none _ 0x04 e refl) i + off 15 b.t0.comp_a _ (none _ 0x02 e refl) i
-    + off 16 b.t0.over _ (none _ 0x01 e refl) i
+    λ i. off 9 b.t2.ocf_a _ (none _ 0x80 e refl) i + off 10 b.t2.tov _ (none _ 0x40 e refl) i + off 12 b.t1.flags.ocf_a _ (none _ 0x10 e refl) i
+    + off 13 b.t1.flags.ocf_b _ (none _ 0x08 e refl) i + off 14 b.t1.flags.tov _ (none _ 0x04 e refl) i + off 15 b.t0.ocf_a _ (none _ 0x02 e refl) i
+    + off 16 b.t0.tov _ (none _ 0x01 e refl) i
 
 pub no_extended_timer_lines : (b : Board) → kept_at 0x7D b ≡ 0 → extended_timer_lines b ≡ 0
 no_extended_timer_lines b e =
-    λ i. off 24 b.t1.flags.comp_c _ (none _ 0x01 e refl) i + off 26 b.t3.flags.comp_a _ (none _ 0x10 e refl) i
-    + off 27 b.t3.flags.comp_b _ (none _ 0x08 e refl) i + off 28 b.t3.flags.comp_c _ (none _ 0x02 e refl) i + off 29 b.t3.flags.over _ (none _ 0x04 e refl) i
+    λ i. off 24 b.t1.flags.ocf_c _ (none _ 0x01 e refl) i + off 26 b.t3.flags.ocf_a _ (none _ 0x10 e refl) i
+    + off 27 b.t3.flags.ocf_b _ (none _ 0x08 e refl) i + off 28 b.t3.flags.ocf_c _ (none _ 0x02 e refl) i + off 29 b.t3.flags.tov _ (none _ 0x04 e refl) i

@@ -11,11 +11,11 @@ use Rattle.world_core.specs.declared.air.Heard.{Heard}
 use Rattle.board_io.specs.Lagging.{IsAhead, IsIdle, caught_up}
 use Rattle.board_io.specs.Lines.{lines_of}
 use Rattle.board_io.proofs.Leaps.{leap_quiet, leap_zero}
-use Rattle.device_base.proofs.Cycles.{cycles-add}
+use Rattle.avr_timers.proofs.Cycles.{cycles-add}
 use Rattle.serial_ports.specs.Transmission.{ended_byte}
 use Rattle.avr_base.specs.declared.interrupts.Lines.{Lines}
-use Rattle.device_clocks.specs.Timer16 as timer16
-use Rattle.device_clocks.specs.Timer8 as timer8
+use Rattle.avr_timers.specs.Timer16 as timer16
+use Rattle.avr_timers.specs.Timer8 as timer8
 
 -- ---- leaps
 -- they add up
@@ -56,7 +56,7 @@ moved_by_clock u t None b = refl
 moved_by_clock u t (Some byte) b = refl
 
 moved_same : (u t : ℕ) (b : Board) → moved t (clock_at u b) ≡ moved t b
-moved_same u t b = moved_by_clock u t (ended_byte b.spi.transfer t) b
+moved_same u t b = moved_by_clock u t (ended_byte b.spi.shift_register t) b
 
 moved_clock : (m : Option (Moved × Radio)) (u : ℕ) (b : Board) → with_moved m (clock_at u b) ≡ clock_at u (with_moved m b)
 moved_clock None u b = refl

@@ -5,7 +5,7 @@ use Rattle.board_io.specs.declared.board.Board.{Board}
 use Rattle.board_io.specs.Cycle.{board_asks, board_begun, board_quiet, board_sends, board_serial, moved, moved_by, timers_cycle, timers_leap, usart_cycle, with_moved}
 use Rattle.serial_ports.specs.declared.radio.Moved.{Moved}
 use Rattle.serial_ports.specs.declared.radio.Radio.{Radio}
-use Rattle.device_base.specs.Cycles.{cycles}
+use Rattle.avr_timers.specs.Clock.{cycles}
 use Rattle.serial_ports.specs.declared.transmission.Transmission.{Transmission}
 use Rattle.serial_ports.specs.Transmission.{ended_byte, is_end}
 use Rattle.serial_ports.specs.Spi as spi
@@ -50,7 +50,7 @@ none_ended None t e = refl
 none_ended (Some f) t e = rw e refl
 
 none_moved : (t : ℕ) (b : Board) → board_quiet t b ≡ true → moved t b ≡ None
-none_moved t b e = ap (λ (o : Option ℕ). moved_by t o b) (none_ended b.spi.transfer t (no_transfer t b e))
+none_moved t b e = ap (λ (o : Option ℕ). moved_by t o b) (none_ended b.spi.shift_register t (no_transfer t b e))
 
 frame_goes_on : (t : ℕ) (u : Usart) → usart.ends_at t u ≡ false → usart.usart_cycle t u ≡ u
 unfolding usart.usart_cycle
@@ -68,7 +68,7 @@ begun_quiet t b e =
 -- and has no frame, sends nothing and asks nothing
 pub serial_quiet : (t : ℕ) (b : Board) → board_quiet t b ≡ true → board_serial t b ≡ None
 unfolding board_serial usart.frame_ended
-serial_quiet t b e = none_ended b.usart.frame t (no_frame t b e)
+serial_quiet t b e = none_ended b.usart.shift_register t (no_frame t b e)
 
 pub sends_quiet : (t : ℕ) (b : Board) → board_quiet t b ≡ true → board_sends t b ≡ None
 unfolding board_sends

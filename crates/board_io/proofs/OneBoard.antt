@@ -9,20 +9,20 @@ use Rattle.board_io.specs.declared.board.Board.{Board}
 use Rattle.board_io.specs.Kept.{kept_of}
 use Rattle.board_io.specs.Saved.{IsRestored, fits, numbers_of}
 use Rattle.device_base.specs.Numbers.{part}
-use Rattle.device_clocks.specs.Numbers8 as timer8
-use Rattle.device_clocks.specs.Numbers16 as timer16
-use Rattle.device_clocks.specs.declared.prescaler.Prescaler.{Prescaler}
-use Rattle.device_clocks.specs.declared.prescaler.Prescaler.TheVariants.{Own, Shared}
-use Rattle.device_clocks.specs.declared.timer8.Timer8.{Timer8}
-use Rattle.device_clocks.specs.declared.timer16.Timer16.{Timer16}
-use Rattle.device_clocks.proofs.Saved8 as saved8
-use Rattle.device_clocks.proofs.Saved16 as saved16
+use Rattle.avr_timers.specs.Numbers8 as timer8
+use Rattle.avr_timers.specs.Numbers16 as timer16
+use Rattle.avr_timers.specs.declared.prescaler.Prescaler.{Prescaler}
+use Rattle.avr_timers.specs.declared.prescaler.Prescaler.TheVariants.{Own, Shared}
+use Rattle.avr_timers.specs.declared.timer8.Timer8.{Timer8}
+use Rattle.avr_timers.specs.declared.timer16.Timer16.{Timer16}
+use Rattle.avr_timers.proofs.Saved8 as saved8
+use Rattle.avr_timers.proofs.Saved16 as saved16
 use Rattle.serial_ports.specs.UsartNumbers as usart
 use Rattle.serial_ports.specs.SpiNumbers as spi
 use Rattle.serial_ports.specs.RadioNumbers as radio
-use Rattle.serial_ports.proofs.SavedUsart.{one-usart}
-use Rattle.serial_ports.proofs.SavedSpi.{one-spi}
-use Rattle.serial_ports.proofs.SavedRadio.{one-radio}
+use Rattle.serial_ports.proofs.UsartSaved.{one-usart}
+use Rattle.serial_ports.proofs.SpiSaved.{one-spi}
+use Rattle.serial_ports.proofs.RadioSaved.{one-radio}
 
 -- ---- a list of 67 numbers by the devices' parts
 

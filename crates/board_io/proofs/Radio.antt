@@ -11,7 +11,7 @@ use Rattle.board_io.specs.Cycle.{board_answered, board_asks, board_begun, board_
 use Rattle.board_io.specs.Lines.{entered_of}
 use Rattle.board_io.specs.Registers.{get_by, io_get, io_put, put_by, with_spi, with_t0, with_t1, with_t2, with_t3, with_usart}
 use Rattle.board_io.specs.Table.{rule_of}
-use Rattle.serial_ports.proofs.Laws.{transfer_free, transfer_gap, transfer_sends}
+use Rattle.serial_ports.proofs.RadioLaws.{transfer_free, transfer_gap, transfer_sends}
 use Rattle.serial_ports.specs.declared.radio.Moved.{Moved}
 use Rattle.serial_ports.specs.declared.radio.Moved.TheVariants.{Answer, Send, Ask}
 use Rattle.serial_ports.specs.declared.radio.Radio.{Radio}
@@ -20,10 +20,10 @@ use Rattle.device_base.specs.Bits.{any_bit}
 use Rattle.serial_ports.specs.Transmission.{ended_byte}
 use Rattle.serial_ports.specs.declared.spi.Spi.{Spi as SpiPort}
 use Rattle.serial_ports.specs.SpiRegisters as spi
-use Rattle.device_clocks.specs.declared.timer16.Timer16.{Timer16}
-use Rattle.device_clocks.specs.Registers16 as reg16
-use Rattle.device_clocks.specs.declared.timer8.Timer8.{Timer8}
-use Rattle.device_clocks.specs.Registers8 as reg8
+use Rattle.avr_timers.specs.declared.timer16.Timer16.{Timer16}
+use Rattle.avr_timers.specs.Registers16 as reg16
+use Rattle.avr_timers.specs.declared.timer8.Timer8.{Timer8}
+use Rattle.avr_timers.specs.Registers8 as reg8
 use Rattle.serial_ports.specs.declared.usart.Usart.{Usart}
 use Rattle.serial_ports.specs.UsartRegisters as usart
 use Rattle.world_core.specs.declared.air.Heard.{Heard}
@@ -64,17 +64,17 @@ sends_by t x (Some y) b c e =
 -- the byte time stays
 pub begun_gap : (t : ℕ) (a : Option ℕ) (b : Board) → (board_begun t a b).radio.byte_time ≡ b.radio.byte_time
 unfolding board_begun
-begun_gap t a b = gap_by t (ended_byte b.spi.transfer t) b (usart_cycle t a (timers_cycle t b)) refl
+begun_gap t a b = gap_by t (ended_byte b.spi.shift_register t) b (usart_cycle t a (timers_cycle t b)) refl
 
 -- the cycle from which on the radio may send never falls
 pub begun_free : (t : ℕ) (a : Option ℕ) (b : Board) → b.radio.free ≤ (board_begun t a b).radio.free
 unfolding board_begun
-begun_free t a b = free_by t (ended_byte b.spi.transfer t) b (usart_cycle t a (timers_cycle t b)) refl
+begun_free t a b = free_by t (ended_byte b.spi.shift_register t) b (usart_cycle t a (timers_cycle t b)) refl
 
 -- a byte is sent only from that cycle on, and moves it to the end of the byte
 pub sends_free : (t x : ℕ) (a : Option ℕ) (b : Board) → board_sends t b ≡ Some x → (b.radio.free ≤ t) × (t + b.radio.byte_time ≡ (board_begun t a b).radio.free)
 unfolding board_begun board_sends
-sends_free t x a b e = sends_by t x (ended_byte b.spi.transfer t) b (usart_cycle t a (timers_cycle t b)) e
+sends_free t x a b e = sends_by t x (ended_byte b.spi.shift_register t) b (usart_cycle t a (timers_cycle t b)) e
 
 ask_apart : (m : Moved) → is_ask m ≡ true → sent_by m ≡ None
 ask_apart (Answer miso) e = refl

@@ -5,28 +5,28 @@ use Rattle.board_io.specs.declared.board.Board.{Board}
 use Rattle.board_io.specs.Cycle.{board_quiet, timers_leap}
 use Rattle.board_io.specs.Lines.{lines_of}
 use Rattle.board_io.specs.Passing.{is_at}
-use Rattle.device_base.specs.Cycles.{cycles}
-use Rattle.device_clocks.specs.declared.flags.TimerFlags.{TimerFlags}
-use Rattle.device_clocks.specs.First.{First}
+use Rattle.avr_timers.specs.Clock.{cycles}
+use Rattle.avr_timers.specs.declared.flags.TimerFlags.{TimerFlags}
+use Rattle.avr_timers.specs.First.{First}
 use Rattle.serial_ports.specs.declared.transmission.Transmission.{Transmission}
 use Rattle.serial_ports.specs.Transmission.{end_of, is_end}
-use Rattle.device_clocks.proofs.Clocks16 as clocks16
-use Rattle.device_clocks.specs.declared.timer16.Timer16.{Timer16}
-use Rattle.device_clocks.specs.Timer16 as timer16
-use Rattle.device_clocks.proofs.Clocks8 as clocks8
-use Rattle.device_clocks.specs.declared.timer8.Timer8.{Timer8}
-use Rattle.device_clocks.specs.Timer8 as timer8
+use Rattle.avr_timers.proofs.Clocks16 as clocks16
+use Rattle.avr_timers.specs.declared.timer16.Timer16.{Timer16}
+use Rattle.avr_timers.specs.Timer16 as timer16
+use Rattle.avr_timers.proofs.Clocks8 as clocks8
+use Rattle.avr_timers.specs.declared.timer8.Timer8.{Timer8}
+use Rattle.avr_timers.specs.Timer8 as timer8
 
 -- ---- ends
 end_at : (o : Option Transmission) (t : ℕ) → is_at (end_of o) t ≡ is_end o t
 end_at None t = refl
 end_at (Some f) t = refl
 
-pub quiet_at : (t : ℕ) (b : Board) → is_at (end_of b.usart.frame) t ≡ false → is_at (end_of b.spi.transfer) t ≡ false → board_quiet t b ≡ true
+pub quiet_at : (t : ℕ) (b : Board) → is_at (end_of b.usart.shift_register) t ≡ false → is_at (end_of b.spi.shift_register) t ≡ false → board_quiet t b ≡ true
 unfolding board_quiet
 quiet_at t b e f =
-    let u = sym (end_at b.usart.frame t) ∙ e in
-    let s = sym (end_at b.spi.transfer t) ∙ f in
+    let u = sym (end_at b.usart.shift_register t) ∙ e in
+    let s = sym (end_at b.spi.shift_register t) ∙ f in
     rw (u, s) refl
 
 -- ---- flags
@@ -54,10 +54,10 @@ lines_by : (b : Board) (t0 t2 : Timer8) (t1 t3 : Timer16) → timer8.flags_of t0
     → lines_of (let c : Board = record b { t0 = t0; t1 = t1; t2 = t2; t3 = t3 } in c) ≡ lines_of b
 unfolding lines_of
 lines_by b t0 t2 t1 t3 e0 e1 e2 e3 =
-    let over0 : t0.over ≡ b.t0.over = ap (λ (f : TimerFlags). f.over) e0 in
-    let comp0 : t0.comp_a ≡ b.t0.comp_a = ap (λ (f : TimerFlags). f.comp_a) e0 in
-    let over2 : t2.over ≡ b.t2.over = ap (λ (f : TimerFlags). f.over) e2 in
-    let comp2 : t2.comp_a ≡ b.t2.comp_a = ap (λ (f : TimerFlags). f.comp_a) e2 in
+    let over0 : t0.tov ≡ b.t0.tov = ap (λ (f : TimerFlags). f.tov) e0 in
+    let comp0 : t0.ocf_a ≡ b.t0.ocf_a = ap (λ (f : TimerFlags). f.ocf_a) e0 in
+    let over2 : t2.tov ≡ b.t2.tov = ap (λ (f : TimerFlags). f.tov) e2 in
+    let comp2 : t2.ocf_a ≡ b.t2.ocf_a = ap (λ (f : TimerFlags). f.ocf_a) e2 in
     rw (over0, comp0, over2, comp2, e1, e3) refl
 
 pub lines_same : (t n : ℕ) (b : Board)
@@ -69,13 +69,13 @@ lines_same t n b e0 e1 e2 e3 =
     lines_by b (cycles timer8.timer_cycle t n b.t0) (cycles timer8.timer_cycle t n b.t2) (cycles timer16.timer_cycle t n b.t1) (cycles timer16.timer_cycle t n b.t3) e0 e1 e2 e3
 
 -- the last of the cycles that are told, where they are not all, ends something or sets a flag
-pub loud_at : (t : ℕ) (b : Board) → is_at (end_of b.usart.frame) t ≡ true → board_quiet t b ≡ false
+pub loud_at : (t : ℕ) (b : Board) → is_at (end_of b.usart.shift_register) t ≡ true → board_quiet t b ≡ false
 unfolding board_quiet
-loud_at t b e = let u = sym (end_at b.usart.frame t) ∙ e in rw u refl
+loud_at t b e = let u = sym (end_at b.usart.shift_register t) ∙ e in rw u refl
 
-pub loud_too : (t : ℕ) (b : Board) → is_at (end_of b.spi.transfer) t ≡ true → board_quiet t b ≡ false
+pub loud_too : (t : ℕ) (b : Board) → is_at (end_of b.spi.shift_register) t ≡ true → board_quiet t b ≡ false
 unfolding board_quiet
-loud_too t b e = let s = sym (end_at b.spi.transfer t) ∙ e in rw s (neither (not (is_end b.usart.frame t)))
+loud_too t b e = let s = sym (end_at b.spi.shift_register t) ∙ e in rw s (neither (not (is_end b.usart.shift_register t)))
   where
     neither : (c : Bool) → (c && false) ≡ false
     neither true = refl

@@ -8,10 +8,10 @@ use Rattle.board_io.specs.declared.board.Sleep.TheVariants.{Off, Idle, Other}
 use Rattle.board_io.specs.Table.{start_of}
 use Rattle.serial_ports.specs.Radio.{reset_radio}
 use Rattle.device_base.specs.Bits.{any_bit}
-use Rattle.device_clocks.specs.declared.prescaler.Prescaler.TheVariants.{Own, Shared}
+use Rattle.avr_timers.specs.declared.prescaler.Prescaler.TheVariants.{Own, Shared}
 use Rattle.serial_ports.specs.Spi.{reset_spi}
-use Rattle.device_clocks.specs.Timer16 as timer16
-use Rattle.device_clocks.specs.Timer8 as timer8
+use Rattle.avr_timers.specs.Timer16 as timer16
+use Rattle.avr_timers.specs.Timer8 as timer8
 use Rattle.serial_ports.specs.Usart.{reset_usart}
 
 abbrev pub reset_board : ℕ → Board

@@ -8,11 +8,11 @@ use Rattle.serial_ports.specs.declared.radio.Moved.{Moved}
 use Rattle.serial_ports.specs.declared.radio.Moved.TheVariants.{Answer, Send, Ask}
 use Rattle.serial_ports.specs.declared.radio.Radio.{Radio}
 use Rattle.serial_ports.specs.Radio.{radio_transfer, radio_answered}
-use Rattle.device_base.specs.Cycles.{cycles}
+use Rattle.avr_timers.specs.Clock.{cycles}
 use Rattle.serial_ports.specs.Transmission.{ended_byte}
 use Rattle.serial_ports.specs.Spi as spi
-use Rattle.device_clocks.specs.Timer16 as timer16
-use Rattle.device_clocks.specs.Timer8 as timer8
+use Rattle.avr_timers.specs.Timer16 as timer16
+use Rattle.avr_timers.specs.Timer8 as timer8
 use Rattle.serial_ports.specs.declared.usart.Usart.{Usart}
 use Rattle.serial_ports.specs.Usart as usart
 use Rattle.world_core.specs.declared.air.Heard.{Heard}
@@ -48,7 +48,7 @@ moved_by t None b = None
 moved_by t (Some byte) b = Some (radio_transfer t (selected b) byte b.radio)
 
 abbrev pub moved : ℕ → Board → Option (Moved × Radio)
-moved t b = moved_by t (ended_byte b.spi.transfer t) b
+moved t b = moved_by t (ended_byte b.spi.shift_register t) b
 
 -- the end of a transfer whose answer is known; a sample waits for what it hears
 abbrev pub transfer_end : Moved → Radio → Board → Board

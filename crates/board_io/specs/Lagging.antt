@@ -43,59 +43,59 @@ is_spdr spi.Status = false
 is_spdr spi.Spdr = true
 
 -- whether a read by a rule looks at no timer, and leaves the lines and what may end
-abbrev pub reads_apart : Rule → Bool
-reads_apart Reserved = true
-reads_apart (Pin port) = true
-reads_apart (Kept mask) = true
-reads_apart (Guarded bits cause mask) = true
-reads_apart WatchdogControl = true
-reads_apart ResetFlags = true
-reads_apart CpuControl = true
-reads_apart TimerFlags = false
-reads_apart ExtendedTimerFlags = false
-reads_apart (Timer0 reg) = false
-reads_apart (Timer1 reg) = false
-reads_apart (Timer2 reg) = false
-reads_apart (Timer3 reg) = false
-reads_apart (Usart0 reg) = not (is_udr reg)
-reads_apart (Spi reg) = not (is_spdr reg)
+abbrev pub is_plain_read : Rule → Bool
+is_plain_read Reserved = true
+is_plain_read (Pin port) = true
+is_plain_read (Kept mask) = true
+is_plain_read (Guarded bits cause mask) = true
+is_plain_read WatchdogControl = true
+is_plain_read ResetFlags = true
+is_plain_read CpuControl = true
+is_plain_read TimerFlags = false
+is_plain_read ExtendedTimerFlags = false
+is_plain_read (Timer0 reg) = false
+is_plain_read (Timer1 reg) = false
+is_plain_read (Timer2 reg) = false
+is_plain_read (Timer3 reg) = false
+is_plain_read (Usart0 reg) = not (is_udr reg)
+is_plain_read (Spi reg) = not (is_spdr reg)
 
 -- whether a read by a rule looks at a timer
-abbrev pub reads_timer : Rule → Bool
-reads_timer Reserved = false
-reads_timer (Pin port) = false
-reads_timer (Kept mask) = false
-reads_timer (Guarded bits cause mask) = false
-reads_timer WatchdogControl = false
-reads_timer ResetFlags = false
-reads_timer CpuControl = false
-reads_timer TimerFlags = true
-reads_timer ExtendedTimerFlags = true
-reads_timer (Timer0 reg) = true
-reads_timer (Timer1 reg) = true
-reads_timer (Timer2 reg) = true
-reads_timer (Timer3 reg) = true
-reads_timer (Usart0 reg) = false
-reads_timer (Spi reg) = false
+abbrev pub is_timer_read : Rule → Bool
+is_timer_read Reserved = false
+is_timer_read (Pin port) = false
+is_timer_read (Kept mask) = false
+is_timer_read (Guarded bits cause mask) = false
+is_timer_read WatchdogControl = false
+is_timer_read ResetFlags = false
+is_timer_read CpuControl = false
+is_timer_read TimerFlags = true
+is_timer_read ExtendedTimerFlags = true
+is_timer_read (Timer0 reg) = true
+is_timer_read (Timer1 reg) = true
+is_timer_read (Timer2 reg) = true
+is_timer_read (Timer3 reg) = true
+is_timer_read (Usart0 reg) = false
+is_timer_read (Spi reg) = false
 
 -- neither TIMSK nor ETIMSK, which enable the timers' lines
 abbrev pub is_no_mask : ℕ → Bool
 is_no_mask at = not (at == 0x57) && not (at == 0x7D)
 
 -- so a write of the register at an address
-abbrev pub writes_apart : Rule → ℕ → Bool
-writes_apart Reserved at = true
-writes_apart (Pin port) at = true
-writes_apart (Kept mask) at = is_no_mask at
-writes_apart (Guarded bits cause mask) at = is_no_mask at
-writes_apart WatchdogControl at = true
-writes_apart ResetFlags at = is_no_mask at
-writes_apart CpuControl at = is_no_mask at
-writes_apart TimerFlags at = false
-writes_apart ExtendedTimerFlags at = false
-writes_apart (Timer0 reg) at = false
-writes_apart (Timer1 reg) at = false
-writes_apart (Timer2 reg) at = false
-writes_apart (Timer3 reg) at = false
-writes_apart (Usart0 reg) at = false
-writes_apart (Spi reg) at = false
+abbrev pub is_plain_write : Rule → ℕ → Bool
+is_plain_write Reserved at = true
+is_plain_write (Pin port) at = true
+is_plain_write (Kept mask) at = is_no_mask at
+is_plain_write (Guarded bits cause mask) at = is_no_mask at
+is_plain_write WatchdogControl at = true
+is_plain_write ResetFlags at = is_no_mask at
+is_plain_write CpuControl at = is_no_mask at
+is_plain_write TimerFlags at = false
+is_plain_write ExtendedTimerFlags at = false
+is_plain_write (Timer0 reg) at = false
+is_plain_write (Timer1 reg) at = false
+is_plain_write (Timer2 reg) at = false
+is_plain_write (Timer3 reg) at = false
+is_plain_write (Usart0 reg) at = false
+is_plain_write (Spi reg) at = false

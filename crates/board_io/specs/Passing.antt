@@ -1,8 +1,8 @@
 -- What the cycles of a board are asked for: whether the end of something comes in one, and whether a timer sets a flag.
 use Rattle.std.specs.Prelude.{ℕ, ◌==◌, ◌||◌, Bool, false, Option, Some, None}
 use Rattle.board_io.specs.declared.board.Board.{Board}
-use Rattle.device_clocks.specs.Timer16 as timer16
-use Rattle.device_clocks.specs.Timer8 as timer8
+use Rattle.avr_timers.specs.Timer16 as timer16
+use Rattle.avr_timers.specs.Timer8 as timer8
 
 abbrev pub is_at : Option ℕ → ℕ → Bool
 is_at None t = false

@@ -9,42 +9,42 @@ use Rattle.board_io.specs.declared.rules.Rule.TheVariants.{Reserved, Pin, Kept, 
 use Rattle.board_io.specs.Board.{kept_at, with_kept}
 use Rattle.board_io.specs.Table.{rule_of}
 use Rattle.device_base.specs.Bits.{any_bit, bit}
-use Rattle.device_clocks.specs.declared.flags.TimerFlags.{TimerFlags as Flags}
+use Rattle.avr_timers.specs.declared.flags.TimerFlags.{TimerFlags as Flags}
 use Rattle.serial_ports.specs.declared.spi.Spi.{Spi as SpiPort}
 use Rattle.serial_ports.specs.SpiRegisters as spi
-use Rattle.device_clocks.specs.declared.timer16.Timer16.{Timer16}
-use Rattle.device_clocks.specs.Registers16 as reg16
-use Rattle.device_clocks.specs.Timer16 as timer16
-use Rattle.device_clocks.specs.declared.timer8.Timer8.{Timer8}
-use Rattle.device_clocks.specs.Registers8 as reg8
-use Rattle.device_clocks.specs.Timer8 as timer8
+use Rattle.avr_timers.specs.declared.timer16.Timer16.{Timer16}
+use Rattle.avr_timers.specs.Registers16 as reg16
+use Rattle.avr_timers.specs.Timer16 as timer16
+use Rattle.avr_timers.specs.declared.timer8.Timer8.{Timer8}
+use Rattle.avr_timers.specs.Registers8 as reg8
+use Rattle.avr_timers.specs.Timer8 as timer8
 use Rattle.serial_ports.specs.declared.usart.Usart.{Usart}
 use Rattle.serial_ports.specs.UsartRegisters as usart
 
 -- TIFR: OCF2 7, TOV2 6, ICF1 5, OCF1A 4, OCF1B 3, TOV1 2, OCF0 1, TOV0 0
 abbrev pub timer_flags : Board → ℕ
 timer_flags b =
-    bit b.t2.comp_a 0x80 + bit b.t2.over 0x40 + bit b.t1.flags.icr 0x20 + bit b.t1.flags.comp_a 0x10
-    + bit b.t1.flags.comp_b 0x08 + bit b.t1.flags.over 0x04 + bit b.t0.comp_a 0x02 + bit b.t0.over 0x01
+    bit b.t2.ocf_a 0x80 + bit b.t2.tov 0x40 + bit b.t1.flags.icf 0x20 + bit b.t1.flags.ocf_a 0x10
+    + bit b.t1.flags.ocf_b 0x08 + bit b.t1.flags.tov 0x04 + bit b.t0.ocf_a 0x02 + bit b.t0.tov 0x01
 
 -- ETIFR: ICF3 5, OCF3A 4, OCF3B 3, TOV3 2, OCF3C 1, OCF1C 0
 abbrev pub extended_timer_flags : Board → ℕ
 extended_timer_flags b =
-    bit b.t3.flags.icr 0x20 + bit b.t3.flags.comp_a 0x10 + bit b.t3.flags.comp_b 0x08 + bit b.t3.flags.over 0x04
-    + bit b.t3.flags.comp_c 0x02 + bit b.t1.flags.comp_c 0x01
+    bit b.t3.flags.icf 0x20 + bit b.t3.flags.ocf_a 0x10 + bit b.t3.flags.ocf_b 0x08 + bit b.t3.flags.tov 0x04
+    + bit b.t3.flags.ocf_c 0x02 + bit b.t1.flags.ocf_c 0x01
 
 -- a write of TIFR or ETIFR clears the flags whose bits are written 1
 abbrev pub flags_cleared : ℕ → Board → Board
 flags_cleared x b =
-    let f0 : Flags = record { over = any_bit x 0x01; comp_a = any_bit x 0x02; comp_b = false; comp_c = false; icr = false } in
-    let f1 : Flags = record { over = any_bit x 0x04; comp_a = any_bit x 0x10; comp_b = any_bit x 0x08; comp_c = false; icr = any_bit x 0x20 } in
-    let f2 : Flags = record { over = any_bit x 0x40; comp_a = any_bit x 0x80; comp_b = false; comp_c = false; icr = false } in
+    let f0 : Flags = record { tov = any_bit x 0x01; ocf_a = any_bit x 0x02; ocf_b = false; ocf_c = false; icf = false } in
+    let f1 : Flags = record { tov = any_bit x 0x04; ocf_a = any_bit x 0x10; ocf_b = any_bit x 0x08; ocf_c = false; icf = any_bit x 0x20 } in
+    let f2 : Flags = record { tov = any_bit x 0x40; ocf_a = any_bit x 0x80; ocf_b = false; ocf_c = false; icf = false } in
     record b { t0 = timer8.cleared b.t0 f0; t1 = timer16.cleared b.t1 f1; t2 = timer8.cleared b.t2 f2 }
 
 abbrev pub extended_flags_cleared : ℕ → Board → Board
 extended_flags_cleared x b =
-    let f1 : Flags = record { over = false; comp_a = false; comp_b = false; comp_c = any_bit x 0x01; icr = false } in
-    let f3 : Flags = record { over = any_bit x 0x04; comp_a = any_bit x 0x10; comp_b = any_bit x 0x08; comp_c = any_bit x 0x02; icr = any_bit x 0x20 } in
+    let f1 : Flags = record { tov = false; ocf_a = false; ocf_b = false; ocf_c = any_bit x 0x01; icf = false } in
+    let f3 : Flags = record { tov = any_bit x 0x04; ocf_a = any_bit x 0x10; ocf_b = any_bit x 0x08; ocf_c = any_bit x 0x02; icf = any_bit x 0x20 } in
     record b { t1 = timer16.cleared b.t1 f1; t3 = timer16.cleared b.t3 f3 }
 
 -- a read, by the rule of its register: the byte and the board after it. A pin reads the register of its port, as by its

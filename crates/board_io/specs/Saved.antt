@@ -4,9 +4,9 @@ use Rattle.std.specs.Prelude.{◌≡◌, ℕ, ◌<◌, Bool, List, ◌++◌}
 use Rattle.board_io.specs.declared.board.Board.{Board}
 use Rattle.board_io.specs.Kept.{kept_of}
 use Rattle.device_base.specs.Numbers.{part}
-use Rattle.device_clocks.specs.Numbers8 as timer8
-use Rattle.device_clocks.specs.Numbers16 as timer16
-use Rattle.device_clocks.specs.declared.prescaler.Prescaler.TheVariants.{Own, Shared}
+use Rattle.avr_timers.specs.Numbers8 as timer8
+use Rattle.avr_timers.specs.Numbers16 as timer16
+use Rattle.avr_timers.specs.declared.prescaler.Prescaler.TheVariants.{Own, Shared}
 use Rattle.serial_ports.specs.UsartNumbers as usart
 use Rattle.serial_ports.specs.SpiNumbers as spi
 use Rattle.serial_ports.specs.RadioNumbers as radio

@@ -7,9 +7,9 @@ use Rattle.avr_base.specs.declared.stop.StopCause.TheVariants as stop
 use Rattle.board_io.specs.declared.rules.Rule.{Rule}
 use Rattle.board_io.specs.declared.rules.Rule.TheVariants.{Reserved, Pin, Kept, Guarded, WatchdogControl, ResetFlags, CpuControl, TimerFlags, ExtendedTimerFlags, Timer0, Timer1, Timer2, Timer3, Usart0, Spi}
 use Rattle.serial_ports.specs.declared.spi_registers.SpiReg.TheVariants as spi
-use Rattle.device_clocks.specs.declared.registers16.Chan.TheVariants.{A, B, C}
-use Rattle.device_clocks.specs.declared.registers16.Reg16.TheVariants as reg16
-use Rattle.device_clocks.specs.declared.registers8.Reg8.TheVariants as reg8
+use Rattle.avr_timers.specs.declared.registers16.Chan.TheVariants.{A, B, C}
+use Rattle.avr_timers.specs.declared.registers16.Reg16.TheVariants as reg16
+use Rattle.avr_timers.specs.declared.registers8.Reg8.TheVariants as reg8
 use Rattle.serial_ports.specs.declared.usart_registers.UsartReg.TheVariants as usart
 
 -- the addresses of some registers, and their rule

@@ -4,8 +4,8 @@ ghost use Rattle.std.specs.List.{range_with_len};
 ghost use Rattle.board_io.specs.Table.{start_of};
 
 use crate::Clock;
+use avr_timers::{Prescaler, Timer8, Timer16};
 use device_base::any_bit;
-use device_clocks::{Prescaler, Timer8, Timer16};
 use serial_ports::{Radio, Spi, Usart};
 
 const DDRB: usize = 0x37;

@@ -1,11 +1,11 @@
 // One cycle of the devices.
 ghost use Rattle.std.specs.Prelude.{◌≡◌, ◌≤◌, ◌^◌, true, is_some};
 ghost use Rattle.serial_ports.specs.Usart.{frame_ended};
-ghost use Rattle.device_clocks.specs.Timer16 as timer16;
-ghost use Rattle.device_clocks.specs.Timer8 as timer8;
+ghost use Rattle.avr_timers.specs.Timer16 as timer16;
+ghost use Rattle.avr_timers.specs.Timer8 as timer8;
 
 use crate::Board;
-use device_clocks::{Timer8, Timer16};
+use avr_timers::{Timer8, Timer16};
 use serial_ports::{Moved, ended_byte};
 use world_core::Heard;
 
@@ -84,10 +84,10 @@ impl Board {
 
     // The end of a transfer, by what the radio, which has it already, makes of its byte.
     fn end_transfer(&mut self, moved: Moved, serial: Option<u8>) -> Begun
-        requires { is_some self.old.spi.transfer ≡ true }
+        requires { is_some self.old.spi.shift_register ≡ true }
         ensures state { self.new ≡ transfer_end moved self.old.radio self.old }
         ensures begun { result ≡ record { serial = serial; sent = sent_by moved; asks = is_ask moved } }
-        ensures waits { result.asks ≡ true → is_some self.new.spi.transfer ≡ true }
+        ensures waits { result.asks ≡ true → is_some self.new.spi.shift_register ≡ true }
     {
         match moved {
             Moved::Answer(miso) => {
@@ -119,9 +119,9 @@ impl Board {
         requires { cycle ≤ 2 ^ 41 }
         ensures state { self.new ≡ with_moved (moved cycle self.old) self.old }
         ensures begun { result ≡ record { serial = serial; sent = sends (moved cycle self.old); asks = samples (moved cycle self.old) } }
-        ensures waits { result.asks ≡ true → is_some self.new.spi.transfer ≡ true }
+        ensures waits { result.asks ≡ true → is_some self.new.spi.shift_register ≡ true }
     {
-        match ended_byte(self.spi.transfer, cycle) {
+        match ended_byte(self.spi.shift_register, cycle) {
             None => Begun {
                 serial,
                 sent: None,
@@ -145,7 +145,7 @@ impl Board {
         ensures serial { result.serial ≡ board_serial cycle self.old }
         ensures sent { result.sent ≡ board_sends cycle self.old }
         ensures asks { result.asks ≡ board_asks cycle self.old }
-        ensures waits { result.asks ≡ true → is_some self.new.spi.transfer ≡ true }
+        ensures waits { result.asks ≡ true → is_some self.new.spi.shift_register ≡ true }
     {
         self.tick_timers(cycle);
         let serial = self.tick_usart(cycle, arrival);
@@ -155,7 +155,7 @@ impl Board {
     /// The rest of a cycle that samples, with what is heard: the transfer that sampled ends, and answers 0.
     #[tactic(auto, unfolding(crate::specs::Cycle::board_answered))]
     pub fn answer(&mut self, h: Heard)
-        requires { is_some self.old.spi.transfer ≡ true }
+        requires { is_some self.old.spi.shift_register ≡ true }
         ensures { self.new ≡ board_answered h self.old }
     {
         let miso = self.radio.answer(h);

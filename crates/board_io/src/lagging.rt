@@ -96,7 +96,7 @@ impl LaggingBoard {
 
     // The devices' part of a cycle in which something may end.
     #[inline(never)]
-    fn turn(&mut self, cycle: u64, arrival: Option<u8>) -> Begun
+    fn begin_caught_up(&mut self, cycle: u64, arrival: Option<u8>) -> Begun
         requires now { self.old.clock ≡ cycle }
         requires early { cycle < 2 ^ 40 }
         ensures state { unclocked self.new ≡ board_begun cycle arrival (unclocked self.old) }
@@ -104,7 +104,7 @@ impl LaggingBoard {
         ensures serial { result.serial ≡ board_serial cycle (unclocked self.old) }
         ensures sent { result.sent ≡ board_sends cycle (unclocked self.old) }
         ensures asks { result.asks ≡ board_asks cycle (unclocked self.old) }
-        ensures waits { result.asks ≡ true → is_some self.new.spi.transfer ≡ true }
+        ensures waits { result.asks ≡ true → is_some self.new.spi.shift_register ≡ true }
     {
         self.board.catch_up(self.ahead.settled);
         let begun = self.board.begin(cycle, arrival);
@@ -124,17 +124,17 @@ impl LaggingBoard {
         ensures serial { result.serial ≡ board_serial cycle (unclocked self.old) }
         ensures sent { result.sent ≡ board_sends cycle (unclocked self.old) }
         ensures asks { result.asks ≡ board_asks cycle (unclocked self.old) }
-        ensures waits { result.asks ≡ true → is_some self.new.spi.transfer ≡ true }
+        ensures waits { result.asks ≡ true → is_some self.new.spi.shift_register ≡ true }
     {
         if arrival.is_none() && self.passes(cycle, 1) {
             return Begun::NOTHING;
         }
-        self.turn(cycle, arrival)
+        self.begin_caught_up(cycle, arrival)
     }
 
     /// The rest of a cycle that samples, with what is heard: the transfer that sampled ends, and answers 0.
     pub fn answer(&mut self, h: Heard)
-        requires { is_some self.old.spi.transfer ≡ true }
+        requires { is_some self.old.spi.shift_register ≡ true }
         ensures state { unclocked self.new ≡ board_answered h (unclocked self.old) }
         ensures clock { self.new.clock ≡ self.old.clock }
     {

@@ -1,6 +1,6 @@
 // The I/O registers of a board that lags.
 ghost use Rattle.std.specs.Prelude.{◌≡◌, true};
-ghost use Rattle.board_io.specs.Lagging.{is_spdr, is_udr, reads_apart, reads_timer, writes_apart};
+ghost use Rattle.board_io.specs.Lagging.{is_spdr, is_udr, is_plain_read, is_timer_read, is_plain_write};
 
 use crate::LaggingBoard;
 use crate::rules::{Rule, rule_at};
@@ -38,8 +38,8 @@ fn is_spdr(reg: SpiReg) -> bool
 
 // Whether a read by a rule looks at no timer, and leaves the lines and what may end.
 #[inline]
-fn reads_apart(rule: Rule) -> bool
-    ensures { result ≡ reads_apart rule }
+fn is_plain_read(rule: Rule) -> bool
+    ensures { result ≡ is_plain_read rule }
 {
     match rule {
         Rule::Reserved
@@ -62,8 +62,8 @@ fn reads_apart(rule: Rule) -> bool
 
 // Whether a read by a rule looks at a timer. It leaves the lines, and what may end.
 #[inline]
-fn reads_timer(rule: Rule) -> bool
-    ensures { result ≡ reads_timer rule }
+fn is_timer_read(rule: Rule) -> bool
+    ensures { result ≡ is_timer_read rule }
 {
     match rule {
         Rule::TimerFlags
@@ -86,8 +86,8 @@ fn reads_timer(rule: Rule) -> bool
 
 // So a write of the register at an address.
 #[inline]
-fn writes_apart(rule: Rule, at: u8) -> bool
-    ensures { result ≡ writes_apart rule at }
+fn is_plain_write(rule: Rule, at: u8) -> bool
+    ensures { result ≡ is_plain_write rule at }
 {
     match rule {
         Rule::Reserved | Rule::Pin { .. } | Rule::WatchdogControl => true,
@@ -110,8 +110,8 @@ impl LaggingBoard {
 
     // A read that looks at no timer.
     #[inline]
-    fn get_apart(&mut self, rule: Rule, at: u8) -> Result<u8, StopCause>
-        requires { reads_apart rule ≡ true }
+    fn get_plain(&mut self, rule: Rule, at: u8) -> Result<u8, StopCause>
+        requires { is_plain_read rule ≡ true }
         ensures { IsGot (get_by rule self.old at) self.old result self.new }
     {
         self.board.get_by(rule, at)
@@ -120,7 +120,7 @@ impl LaggingBoard {
     // A read that looks at a timer.
     #[inline(never)]
     fn get_timer(&mut self, rule: Rule, at: u8) -> Result<u8, StopCause>
-        requires { reads_timer rule ≡ true }
+        requires { is_timer_read rule ≡ true }
         ensures { IsGot (get_by rule self.old at) self.old result self.new }
     {
         self.board.catch_up(self.ahead.settled);
@@ -130,8 +130,8 @@ impl LaggingBoard {
 
     // A write that looks at no timer.
     #[inline]
-    fn put_apart(&mut self, rule: Rule, at: u8, x: u8) -> Result<(), StopCause>
-        requires { writes_apart rule at ≡ true }
+    fn put_plain(&mut self, rule: Rule, at: u8, x: u8) -> Result<(), StopCause>
+        requires { is_plain_write rule at ≡ true }
         ensures { IsPut (put_by rule self.old at x) self.old result self.new }
     {
         self.board.put_by(rule, at, x)
@@ -139,7 +139,7 @@ impl LaggingBoard {
 
     // A read of what may move.
     #[inline(never)]
-    fn get_moving(&mut self, rule: Rule, at: u8) -> Result<u8, StopCause>
+    fn get_and_look_ahead(&mut self, rule: Rule, at: u8) -> Result<u8, StopCause>
         ensures { IsGot (get_by rule self.old at) self.old result self.new }
     {
         self.board.catch_up(self.ahead.settled);
@@ -150,7 +150,7 @@ impl LaggingBoard {
 
     // A write of what may move.
     #[inline(never)]
-    fn put_moving(&mut self, rule: Rule, at: u8, x: u8) -> Result<(), StopCause>
+    fn put_and_look_ahead(&mut self, rule: Rule, at: u8, x: u8) -> Result<(), StopCause>
         ensures { IsPut (put_by rule self.old at x) self.old result self.new }
     {
         self.board.catch_up(self.ahead.settled);
@@ -174,13 +174,13 @@ impl Bus for LaggingBoard {
         }
         let low = at as u8;
         let rule = rule_at(low);
-        if reads_apart(rule) {
-            return self.get_apart(rule, low);
+        if is_plain_read(rule) {
+            return self.get_plain(rule, low);
         }
-        if reads_timer(rule) {
+        if is_timer_read(rule) {
             return self.get_timer(rule, low);
         }
-        self.get_moving(rule, low)
+        self.get_and_look_ahead(rule, low)
     }
 
     #[tactic(auto, unfolding(crate::specs::Registers::io_put))]
@@ -190,9 +190,9 @@ impl Bus for LaggingBoard {
         }
         let low = at as u8;
         let rule = rule_at(low);
-        if writes_apart(rule, low) {
-            return self.put_apart(rule, low, b);
+        if is_plain_write(rule, low) {
+            return self.put_plain(rule, low, b);
         }
-        self.put_moving(rule, low, b)
+        self.put_and_look_ahead(rule, low, b)
     }
 }

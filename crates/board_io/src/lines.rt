@@ -4,8 +4,8 @@ ghost use Rattle.board_io.specs.Lines.{line, served_flag};
 
 use crate::Board;
 use avr_base::{Lines, Vector};
+use avr_timers::TimerFlags;
 use device_base::any_bit;
-use device_clocks::TimerFlags;
 
 const TIMSK: usize = 0x57;
 
@@ -13,35 +13,35 @@ const ETIMSK: usize = 0x7D;
 
 // Each flag by itself.
 const OVER: TimerFlags = TimerFlags {
-    over: true,
-    comp_a: false,
-    comp_b: false,
-    comp_c: false,
-    icr: false,
+    tov: true,
+    ocf_a: false,
+    ocf_b: false,
+    ocf_c: false,
+    icf: false,
 };
 
 const COMP_A: TimerFlags = TimerFlags {
-    over: false,
-    comp_a: true,
-    comp_b: false,
-    comp_c: false,
-    icr: false,
+    tov: false,
+    ocf_a: true,
+    ocf_b: false,
+    ocf_c: false,
+    icf: false,
 };
 
 const COMP_B: TimerFlags = TimerFlags {
-    over: false,
-    comp_a: false,
-    comp_b: true,
-    comp_c: false,
-    icr: false,
+    tov: false,
+    ocf_a: false,
+    ocf_b: true,
+    ocf_c: false,
+    icf: false,
 };
 
 const COMP_C: TimerFlags = TimerFlags {
-    over: false,
-    comp_a: false,
-    comp_b: false,
-    comp_c: true,
-    icr: false,
+    tov: false,
+    ocf_a: false,
+    ocf_b: false,
+    ocf_c: true,
+    icf: false,
 };
 
 // Line n of a source: its flag, and whether its interrupt is enabled.
@@ -80,13 +80,13 @@ impl Board {
         if enabled == 0 {
             return 0;
         }
-        line(9, self.t2.comp_a, any_bit(enabled, 0x80))
-            + line(10, self.t2.over, any_bit(enabled, 0x40))
-            + line(12, self.t1.flags.comp_a, any_bit(enabled, 0x10))
-            + line(13, self.t1.flags.comp_b, any_bit(enabled, 0x08))
-            + line(14, self.t1.flags.over, any_bit(enabled, 0x04))
-            + line(15, self.t0.comp_a, any_bit(enabled, 0x02))
-            + line(16, self.t0.over, any_bit(enabled, 0x01))
+        line(9, self.t2.ocf_a, any_bit(enabled, 0x80))
+            + line(10, self.t2.tov, any_bit(enabled, 0x40))
+            + line(12, self.t1.flags.ocf_a, any_bit(enabled, 0x10))
+            + line(13, self.t1.flags.ocf_b, any_bit(enabled, 0x08))
+            + line(14, self.t1.flags.tov, any_bit(enabled, 0x04))
+            + line(15, self.t0.ocf_a, any_bit(enabled, 0x02))
+            + line(16, self.t0.tov, any_bit(enabled, 0x01))
     }
 
     // The lines of ETIMSK. In most firmware none is enabled.
@@ -99,11 +99,11 @@ impl Board {
         if enabled == 0 {
             return 0;
         }
-        line(24, self.t1.flags.comp_c, any_bit(enabled, 0x01))
-            + line(26, self.t3.flags.comp_a, any_bit(enabled, 0x10))
-            + line(27, self.t3.flags.comp_b, any_bit(enabled, 0x08))
-            + line(28, self.t3.flags.comp_c, any_bit(enabled, 0x02))
-            + line(29, self.t3.flags.over, any_bit(enabled, 0x04))
+        line(24, self.t1.flags.ocf_c, any_bit(enabled, 0x01))
+            + line(26, self.t3.flags.ocf_a, any_bit(enabled, 0x10))
+            + line(27, self.t3.flags.ocf_b, any_bit(enabled, 0x08))
+            + line(28, self.t3.flags.ocf_c, any_bit(enabled, 0x02))
+            + line(29, self.t3.flags.tov, any_bit(enabled, 0x04))
     }
 
     // The lines of the serial peripheral interface and of USART0.

@@ -1,12 +1,12 @@
 // Many cycles of the devices at once.
 ghost use Rattle.std.specs.Prelude.{◌≡◌, ◌≤◌, ◌<◌, ◌+◌, ◌-◌, ◌^◌, ℕ, true, false};
-ghost use Rattle.device_base.specs.Cycles.{cycles};
-ghost use Rattle.device_clocks.specs.Timer8 as timer8;
-ghost use Rattle.device_clocks.specs.Timer16 as timer16;
+ghost use Rattle.avr_timers.specs.Clock.{cycles};
+ghost use Rattle.avr_timers.specs.Timer8 as timer8;
+ghost use Rattle.avr_timers.specs.Timer16 as timer16;
 ghost use Rattle.board_io.specs.Passing.{is_at};
 
 use crate::Board;
-use device_clocks::{Timer8, Timer16};
+use avr_timers::{Timer8, Timer16};
 
 // For how many cycles from `cycle` on, of at most `most`, the end of something does not come.
 fn cycles_before(end: Option<u64>, cycle: u64, most: u64) -> u64

@@ -4,9 +4,9 @@ ghost use Rattle.std.specs.Prelude.{◌≡◌};
 use crate::Board;
 use crate::rules::{Rule, rule_at};
 use avr_base::StopCause;
+use avr_timers::TimerFlags;
 use data_space::Bus;
 use device_base::{any_bit, bit};
-use device_clocks::TimerFlags;
 
 impl Board {
     ghost use Rattle.board_io.specs.Board.{kept_at, with_kept};
@@ -16,26 +16,26 @@ impl Board {
     fn timer_flags(&self) -> u8
         ensures { result ≡ timer_flags self.now }
     {
-        bit(self.t2.comp_a, 0x80)
-            + bit(self.t2.over, 0x40)
-            + bit(self.t1.flags.icr, 0x20)
-            + bit(self.t1.flags.comp_a, 0x10)
-            + bit(self.t1.flags.comp_b, 0x08)
-            + bit(self.t1.flags.over, 0x04)
-            + bit(self.t0.comp_a, 0x02)
-            + bit(self.t0.over, 0x01)
+        bit(self.t2.ocf_a, 0x80)
+            + bit(self.t2.tov, 0x40)
+            + bit(self.t1.flags.icf, 0x20)
+            + bit(self.t1.flags.ocf_a, 0x10)
+            + bit(self.t1.flags.ocf_b, 0x08)
+            + bit(self.t1.flags.tov, 0x04)
+            + bit(self.t0.ocf_a, 0x02)
+            + bit(self.t0.tov, 0x01)
     }
 
     // ETIFR as it reads.
     fn extended_timer_flags(&self) -> u8
         ensures { result ≡ extended_timer_flags self.now }
     {
-        bit(self.t3.flags.icr, 0x20)
-            + bit(self.t3.flags.comp_a, 0x10)
-            + bit(self.t3.flags.comp_b, 0x08)
-            + bit(self.t3.flags.over, 0x04)
-            + bit(self.t3.flags.comp_c, 0x02)
-            + bit(self.t1.flags.comp_c, 0x01)
+        bit(self.t3.flags.icf, 0x20)
+            + bit(self.t3.flags.ocf_a, 0x10)
+            + bit(self.t3.flags.ocf_b, 0x08)
+            + bit(self.t3.flags.tov, 0x04)
+            + bit(self.t3.flags.ocf_c, 0x02)
+            + bit(self.t1.flags.ocf_c, 0x01)
     }
 
     // A write of TIFR.
@@ -43,25 +43,25 @@ impl Board {
         ensures { self.new ≡ flags_cleared x self.old }
     {
         self.t0.clear(TimerFlags {
-            over: any_bit(x, 0x01),
-            comp_a: any_bit(x, 0x02),
-            comp_b: false,
-            comp_c: false,
-            icr: false,
+            tov: any_bit(x, 0x01),
+            ocf_a: any_bit(x, 0x02),
+            ocf_b: false,
+            ocf_c: false,
+            icf: false,
         });
         self.t1.clear(TimerFlags {
-            over: any_bit(x, 0x04),
-            comp_a: any_bit(x, 0x10),
-            comp_b: any_bit(x, 0x08),
-            comp_c: false,
-            icr: any_bit(x, 0x20),
+            tov: any_bit(x, 0x04),
+            ocf_a: any_bit(x, 0x10),
+            ocf_b: any_bit(x, 0x08),
+            ocf_c: false,
+            icf: any_bit(x, 0x20),
         });
         self.t2.clear(TimerFlags {
-            over: any_bit(x, 0x40),
-            comp_a: any_bit(x, 0x80),
-            comp_b: false,
-            comp_c: false,
-            icr: false,
+            tov: any_bit(x, 0x40),
+            ocf_a: any_bit(x, 0x80),
+            ocf_b: false,
+            ocf_c: false,
+            icf: false,
         });
     }
 
@@ -70,18 +70,18 @@ impl Board {
         ensures { self.new ≡ extended_flags_cleared x self.old }
     {
         self.t1.clear(TimerFlags {
-            over: false,
-            comp_a: false,
-            comp_b: false,
-            comp_c: any_bit(x, 0x01),
-            icr: false,
+            tov: false,
+            ocf_a: false,
+            ocf_b: false,
+            ocf_c: any_bit(x, 0x01),
+            icf: false,
         });
         self.t3.clear(TimerFlags {
-            over: any_bit(x, 0x04),
-            comp_a: any_bit(x, 0x10),
-            comp_b: any_bit(x, 0x08),
-            comp_c: any_bit(x, 0x02),
-            icr: any_bit(x, 0x20),
+            tov: any_bit(x, 0x04),
+            ocf_a: any_bit(x, 0x10),
+            ocf_b: any_bit(x, 0x08),
+            ocf_c: any_bit(x, 0x02),
+            icf: any_bit(x, 0x20),
         });
     }
 

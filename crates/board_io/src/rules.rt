@@ -3,7 +3,7 @@ ghost use Rattle.std.specs.Prelude.{◌≡◌, slice_index_or};
 ghost use Rattle.board_io.specs.Table.{rule_of};
 
 use avr_base::StopCause;
-use device_clocks::{Chan, Reg8, Reg16};
+use avr_timers::{Chan, Reg8, Reg16};
 use serial_ports::{SpiReg, UsartReg};
 
 /// How a read and a write of an I/O register go (ATmega128 datasheet, the register descriptions).

@@ -6,8 +6,8 @@ ghost use Rattle.board_io.specs.Kept.{first_refused, is_io, is_kept, kept_bits, 
 use crate::rules::{Rule, rule_at};
 use crate::{Board, Clock, LaggingBoard};
 use avr_base::IO_START;
+use avr_timers::{Prescaler, Timer8, Timer16};
 use device_base::{first_outside, part, put_part};
-use device_clocks::{Prescaler, Timer8, Timer16};
 use serial_ports::{Radio, Spi, Usart};
 
 impl Rule {

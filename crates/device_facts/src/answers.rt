@@ -1,7 +1,7 @@
 // What a device answers, and its text.
 use avr_base::StopCause;
+use avr_timers::TimerFlags;
 use board_io::Sleep;
-use device_clocks::TimerFlags;
 use std::alloc::{AllocError, Global};
 
 /// An answer.
@@ -65,11 +65,11 @@ impl Answer {
 
 // The names of the flags that are set, each behind a blank.
 fn flags_text(alloc: Global, flags: TimerFlags) -> Result<String, AllocError> {
-    let over = if flags.over { " over" } else { "" };
-    let a = if flags.comp_a { " a" } else { "" };
-    let b = if flags.comp_b { " b" } else { "" };
-    let c = if flags.comp_c { " c" } else { "" };
-    let icr = if flags.icr { " icr" } else { "" };
+    let over = if flags.tov { " over" } else { "" };
+    let a = if flags.ocf_a { " a" } else { "" };
+    let b = if flags.ocf_b { " b" } else { "" };
+    let c = if flags.ocf_c { " c" } else { "" };
+    let icr = if flags.icf { " icr" } else { "" };
     format!(in alloc; "flags{over}{a}{b}{c}{icr}")
 }
 

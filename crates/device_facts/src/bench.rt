@@ -7,7 +7,7 @@ use crate::radio::do_radio;
 use crate::serial::{do_script, do_usart};
 use crate::timers::{do_timer8, do_timer16};
 use crate::transfers::do_spi;
-use device_clocks::{Prescaler, Timer8, Timer16};
+use avr_timers::{Prescaler, Timer8, Timer16};
 use serial_ports::{Radio, Spi, Usart};
 use std::alloc::{AllocError, Global};
 

@@ -4,10 +4,10 @@ ghost use Rattle.std.specs.Prelude.{◌≤◌, ◌^◌};
 use crate::answers::Answer;
 use crate::numbers::{address, byte, cycle};
 use avr_base::Vector;
+use avr_timers::TimerFlags;
 use board_io::Board;
 use data_space::{Bus, Cpu, load, store};
-use device_clocks::TimerFlags;
-use serial_ports::Inbox;
+use serial_ports::ReceiveBuffer;
 use world_core::Heard;
 
 /// A sample hears one byte.
@@ -18,11 +18,11 @@ pub const HEARD: Heard = Heard {
 };
 
 const ALL: TimerFlags = TimerFlags {
-    over: true,
-    comp_a: true,
-    comp_b: true,
-    comp_c: true,
-    icr: true,
+    tov: true,
+    ocf_a: true,
+    ocf_b: true,
+    ocf_c: true,
+    icf: true,
 };
 
 /// A core after reset, for its own registers, and the board.
@@ -45,15 +45,15 @@ impl CoreAndBoard {
     fn flagged() -> Self {
         let mut devices = CoreAndBoard::new();
         let board = &mut devices.board;
-        board.t0.over = true;
-        board.t0.comp_a = true;
+        board.t0.tov = true;
+        board.t0.ocf_a = true;
         board.t1.flags = ALL;
-        board.t2.over = true;
-        board.t2.comp_a = true;
+        board.t2.tov = true;
+        board.t2.ocf_a = true;
         board.t3.flags = ALL;
         board.spi.spif = true;
         board.usart.txc = true;
-        board.usart.inbox = Inbox::One { first: 0x41 };
+        board.usart.receive_buffer = ReceiveBuffer::One { first: 0x41 };
         devices
     }
 

@@ -2,10 +2,10 @@
 use crate::answers::Answer;
 use crate::numbers::{byte, cycle, long, perhaps, short};
 use avr_base::{Lines, Vector, pending};
-use device_base::any_bit;
-use device_clocks::{
+use avr_timers::{
     clocks_in, clocks_until, count_after, cycle_of_clock, earlier, flag_after, has_clock, stepped,
 };
+use device_base::any_bit;
 
 // The maximum, the top and the count of a counter.
 fn counter(max: &str, top: &str, count: &str) -> Option<(u16, u16, u16)> {

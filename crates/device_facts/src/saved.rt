@@ -1,8 +1,8 @@
 // Devices of numbers, and the numbers of a device.
 use crate::answers::Answer;
 use crate::numbers::{cycle, long, short};
+use avr_timers::{Prescaler, Timer8, Timer16};
 use device_base::first_outside;
-use device_clocks::{Prescaler, Timer8, Timer16};
 use serial_ports::{Radio, Spi, Usart};
 
 // As many decimal numbers as the device has.

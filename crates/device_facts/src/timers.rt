@@ -2,25 +2,25 @@
 use crate::answers::Answer;
 use crate::numbers::{byte, cycle};
 use crate::saved::{saved_timer8, saved_timer16};
-use device_clocks::{Chan, Prescaler, Reg8, Reg16, Timer8, Timer16, TimerFlags};
+use avr_timers::{Chan, Prescaler, Reg8, Reg16, Timer8, Timer16, TimerFlags};
 
 fn flag(name: &str) -> Option<TimerFlags> {
     let none = TimerFlags::NONE;
     match name {
-        "over" => Some(TimerFlags { over: true, ..none }),
+        "over" => Some(TimerFlags { tov: true, ..none }),
         "a" => Some(TimerFlags {
-            comp_a: true,
+            ocf_a: true,
             ..none
         }),
         "b" => Some(TimerFlags {
-            comp_b: true,
+            ocf_b: true,
             ..none
         }),
         "c" => Some(TimerFlags {
-            comp_c: true,
+            ocf_c: true,
             ..none
         }),
-        "icr" => Some(TimerFlags { icr: true, ..none }),
+        "icr" => Some(TimerFlags { icf: true, ..none }),
         _ => None,
     }
 }

@@ -22,14 +22,14 @@ use Rattle.serial_ports.specs.declared.radio.Radio.{Radio}
 use Rattle.serial_ports.specs.Radio.{radio_transfer}
 use Rattle.avr_base.proofs.Computed.{all_from, all_from-at}
 use Rattle.device_base.specs.Bits.{any_bit}
-use Rattle.device_clocks.specs.declared.prescaler.Prescaler.TheVariants.{Own, Shared}
+use Rattle.avr_timers.specs.declared.prescaler.Prescaler.TheVariants.{Own, Shared}
 use Rattle.serial_ports.specs.Transmission.{ended_byte}
-use Rattle.device_clocks.specs.declared.flags.TimerFlags.{TimerFlags}
+use Rattle.avr_timers.specs.declared.flags.TimerFlags.{TimerFlags}
 use Rattle.serial_ports.specs.declared.spi.Spi.{Spi}
-use Rattle.device_clocks.specs.declared.timer8.Timer8.{Timer8}
-use Rattle.device_clocks.specs.Timer8 as timer8
-use Rattle.device_clocks.specs.declared.timer16.Timer16.{Timer16}
-use Rattle.device_clocks.specs.Timer16 as timer16
+use Rattle.avr_timers.specs.declared.timer8.Timer8.{Timer8}
+use Rattle.avr_timers.specs.Timer8 as timer8
+use Rattle.avr_timers.specs.declared.timer16.Timer16.{Timer16}
+use Rattle.avr_timers.specs.Timer16 as timer16
 use Rattle.serial_ports.specs.declared.usart.Usart.{Usart}
 use Rattle.world_core.specs.declared.air.Heard.{Heard}
 use Rattle.device_laws.specs.States.{IsBoard, IsKept, IsRadio, IsSpi, IsTimer16, IsTimer8, IsUsart, IsWithin}
@@ -119,7 +119,7 @@ begun_kept t arrival b h =
     let timed : Board = timers_cycle t b in
     let k : IsBoard timed = timers_kept t b h in
     let u : Usart = received arrival timed.usart in
-    moved_kept t (ended_byte b.spi.transfer t) b (usart_cycle t arrival timed) h.radio
+    moved_kept t (ended_byte b.spi.shift_register t) b (usart_cycle t arrival timed) h.radio
     (set_usart timed k _ (usart_cycle_kept t u (received_kept arrival timed.usart k.usart)))
 
 pub answered_kept : (x : Heard) (b : Board) → IsBoard b → IsBoard (board_answered x b)
@@ -273,20 +273,20 @@ entered_kept word b h =
     let t1 : (f : TimerFlags) → IsBoard (record b { t1 = timer16.cleared b.t1 f }) = λ f. set_t1 b h _ (cleared_16 b.t1 f h.t1) in
     let t2 : (f : TimerFlags) → IsBoard (record b { t2 = timer8.cleared b.t2 f }) = λ f. set_t2 b h _ (cleared_8 Shared b.t2 f h.t2) in
     let t3 : (f : TimerFlags) → IsBoard (record b { t3 = timer16.cleared b.t3 f }) = λ f. set_t3 b h _ (cleared_16 b.t3 f h.t3) in
-    kept_if IsBoard (word == 0x12) _ _ (t2 (record no_flags { comp_a = true }))
-    (kept_if IsBoard (word == 0x14) _ _ (t2 (record no_flags { over = true }))
-    (kept_if IsBoard (word == 0x18) _ _ (t1 (record no_flags { comp_a = true }))
-    (kept_if IsBoard (word == 0x1A) _ _ (t1 (record no_flags { comp_b = true }))
-    (kept_if IsBoard (word == 0x1C) _ _ (t1 (record no_flags { over = true }))
-    (kept_if IsBoard (word == 0x1E) _ _ (t0 (record no_flags { comp_a = true }))
-    (kept_if IsBoard (word == 0x20) _ _ (t0 (record no_flags { over = true }))
+    kept_if IsBoard (word == 0x12) _ _ (t2 (record no_flags { ocf_a = true }))
+    (kept_if IsBoard (word == 0x14) _ _ (t2 (record no_flags { tov = true }))
+    (kept_if IsBoard (word == 0x18) _ _ (t1 (record no_flags { ocf_a = true }))
+    (kept_if IsBoard (word == 0x1A) _ _ (t1 (record no_flags { ocf_b = true }))
+    (kept_if IsBoard (word == 0x1C) _ _ (t1 (record no_flags { tov = true }))
+    (kept_if IsBoard (word == 0x1E) _ _ (t0 (record no_flags { ocf_a = true }))
+    (kept_if IsBoard (word == 0x20) _ _ (t0 (record no_flags { tov = true }))
     (kept_if IsBoard (word == 0x22) _ _ (set_spi b h _ (spif_kept b.spi h.spi))
     (kept_if IsBoard (word == 0x28) _ _ (set_usart b h _ (txc_kept b.usart h.usart))
-    (kept_if IsBoard (word == 0x30) _ _ (t1 (record no_flags { comp_c = true }))
-    (kept_if IsBoard (word == 0x34) _ _ (t3 (record no_flags { comp_a = true }))
-    (kept_if IsBoard (word == 0x36) _ _ (t3 (record no_flags { comp_b = true }))
-    (kept_if IsBoard (word == 0x38) _ _ (t3 (record no_flags { comp_c = true }))
-    (kept_if IsBoard (word == 0x3A) _ b (t3 (record no_flags { over = true })) h)))))))))))))
+    (kept_if IsBoard (word == 0x30) _ _ (t1 (record no_flags { ocf_c = true }))
+    (kept_if IsBoard (word == 0x34) _ _ (t3 (record no_flags { ocf_a = true }))
+    (kept_if IsBoard (word == 0x36) _ _ (t3 (record no_flags { ocf_b = true }))
+    (kept_if IsBoard (word == 0x38) _ _ (t3 (record no_flags { ocf_c = true }))
+    (kept_if IsBoard (word == 0x3A) _ b (t3 (record no_flags { tov = true })) h)))))))))))))
 
 -- after reset
 

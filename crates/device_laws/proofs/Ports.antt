@@ -19,8 +19,8 @@ use Rattle.serial_ports.specs.declared.spi_registers.SpiReg.TheVariants as spire
 use Rattle.serial_ports.specs.declared.spi.Spi.{Spi}
 use Rattle.serial_ports.specs.SpiRegisters as spi_registers
 use Rattle.serial_ports.specs.Spi as spi
-use Rattle.serial_ports.specs.declared.inbox.Inbox.{Inbox}
-use Rattle.serial_ports.specs.declared.inbox.Inbox.TheVariants.{Empty, One, Two}
+use Rattle.serial_ports.specs.declared.usart_receive_buffer.ReceiveBuffer.{ReceiveBuffer}
+use Rattle.serial_ports.specs.declared.usart_receive_buffer.ReceiveBuffer.TheVariants.{Empty, One, Two}
 use Rattle.serial_ports.specs.declared.usart_registers.UsartReg.{UsartReg}
 use Rattle.serial_ports.specs.declared.usart_registers.UsartReg.TheVariants as ureg
 use Rattle.serial_ports.specs.declared.usart.Usart.{Usart}
@@ -56,7 +56,7 @@ started_kept t b u h = record {
 }
 
 -- a byte waits while a frame runs
-waiting_kept : (b : ℕ) (u : Usart) → is_some u.frame ≡ true → IsUsart u → IsUsart (record u { waiting = Some b })
+waiting_kept : (b : ℕ) (u : Usart) → is_some u.shift_register ≡ true → IsUsart u → IsUsart (record u { transmit_buffer = Some b })
 waiting_kept b u runs h = record {
   baud = h.baud;
   control_b = h.control_b;
@@ -66,21 +66,21 @@ waiting_kept b u runs h = record {
   lost = h.lost;
 }
 
-sent_by : (t b : ℕ) (u : Usart) (enabled runs waits : Bool) → is_some u.frame ≡ runs → IsUsart u
-    → IsUsart (if not enabled then u else if not runs then usart.started t b u else if waits then u else record u { waiting = Some b })
+sent_by : (t b : ℕ) (u : Usart) (enabled runs waits : Bool) → is_some u.shift_register ≡ runs → IsUsart u
+    → IsUsart (if not enabled then u else if not runs then usart.started t b u else if waits then u else record u { transmit_buffer = Some b })
 sent_by t b u false runs waits e h = h
 sent_by t b u true false waits e h = started_kept t b u h
 sent_by t b u true true true e h = h
 sent_by t b u true true false e h = waiting_kept b u e h
 
 sent_kept : (t b : ℕ) (u : Usart) → IsUsart u → IsUsart (usart_registers.sent_out t b u)
-sent_kept t b u h = sent_by t b u (any_bit u.control_b 0x08) (is_some u.frame) (is_some u.waiting) refl h
+sent_kept t b u h = sent_by t b u (any_bit u.control_b 0x08) (is_some u.shift_register) (is_some u.transmit_buffer) refl h
 
 same_bit : (b : ℕ) → any_bit (bit_and b 0xF9) 0x10 ≡ any_bit b 0x10
 same_bit b = ap (λ n. not (n == 0)) (and_assoc 0x10 b 0xF9)
 
 control_b_by : (b : ℕ) (u : Usart) (enabled : Bool) → any_bit b 0x10 ≡ enabled → IsUsart u
-    → IsUsart (if enabled then record u { control_b = bit_and b 0xF9 } else record u { control_b = bit_and b 0xF9; inbox = Empty; dor = false })
+    → IsUsart (if enabled then record u { control_b = bit_and b 0xF9 } else record u { control_b = bit_and b 0xF9; receive_buffer = Empty; dor = false })
 control_b_by b u true e h = record {
   baud = h.baud;
   control_b = within b 0xF9;
@@ -126,7 +126,7 @@ put_usart_kept t u u' ureg.BaudL b f h e = subst IsUsart (same_ok _ _ _ refl e) 
 put_usart_kept t u u' ureg.BaudH b f h e = subst IsUsart (same_ok _ _ _ refl e) (baud_kept u (b % 16 * 256 + u.baud % 256) (omega arith) h)
 put_usart_kept t u u' ureg.Udr b f h e = subst IsUsart (same_ok _ _ _ refl e) (sent_kept t b u h)
 
-still_filled : (i : Inbox) → usart.is_filled (usart_registers.without_oldest i) ≡ true → usart.is_filled i ≡ true
+still_filled : (i : ReceiveBuffer) → usart.is_filled (usart_registers.without_oldest i) ≡ true → usart.is_filled i ≡ true
 still_filled Empty e = e
 still_filled (One a) e = refl
 still_filled (Two a b) e = refl
@@ -142,11 +142,11 @@ get_usart_kept u ureg.Udr h = record {
   control_b = h.control_b;
   control_c = h.control_c;
   waits = h.waits;
-  received = λ e. h.received (still_filled u.inbox e);
+  received = λ e. h.received (still_filled u.receive_buffer e);
   lost = λ e. never e;
 }
 
-next_kept : (t : ℕ) (waiting : Option ℕ) (u : Usart) → u.waiting ≡ waiting → IsUsart u → IsUsart (usart.next_frame t waiting u)
+next_kept : (t : ℕ) (waiting : Option ℕ) (u : Usart) → u.transmit_buffer ≡ waiting → IsUsart u → IsUsart (usart.next_frame t waiting u)
 next_kept t None u e h = record {
   baud = h.baud;
   control_b = h.control_b;
@@ -155,7 +155,7 @@ next_kept t None u e h = record {
   received = h.received;
   lost = h.lost;
 }
-next_kept t (Some b) u e h = started_kept t b (record u { waiting = None }) (record {
+next_kept t (Some b) u e h = started_kept t b (record u { transmit_buffer = None }) (record {
   baud = h.baud;
   control_b = h.control_b;
   control_c = h.control_c;
@@ -166,9 +166,9 @@ next_kept t (Some b) u e h = started_kept t b (record u { waiting = None }) (rec
 
 pub usart_cycle_kept : (t : ℕ) (u : Usart) → IsUsart u → IsUsart (usart.usart_cycle t u)
 unfolding usart.usart_cycle
-usart_cycle_kept t u h = kept_if IsUsart (usart.ends_at t u) _ u (next_kept t u.waiting u refl h) h
+usart_cycle_kept t u h = kept_if IsUsart (usart.ends_at t u) _ u (next_kept t u.transmit_buffer u refl h) h
 
-buffered_kept : (i : Inbox) (x : ℕ) (u : Usart) → u.inbox ≡ i → any_bit u.control_b 0x10 ≡ true → IsUsart u → IsUsart (usart.buffered i x u)
+buffered_kept : (i : ReceiveBuffer) (x : ℕ) (u : Usart) → u.receive_buffer ≡ i → any_bit u.control_b 0x10 ≡ true → IsUsart u → IsUsart (usart.buffered i x u)
 buffered_kept Empty x u e on h = record {
   baud = h.baud;
   control_b = h.control_b;
@@ -195,8 +195,8 @@ buffered_kept (Two a b) x u e on h = record {
 }
 
 arrived_by : (b : ℕ) (u : Usart) (on : Bool) → any_bit u.control_b 0x10 ≡ on → IsUsart u
-    → IsUsart (if on then usart.buffered u.inbox (usart.cut u b) u else u)
-arrived_by b u true e h = buffered_kept u.inbox (usart.cut u b) u refl e h
+    → IsUsart (if on then usart.buffered u.receive_buffer (usart.cut u b) u else u)
+arrived_by b u true e h = buffered_kept u.receive_buffer (usart.cut u b) u refl e h
 arrived_by b u false e h = h
 
 pub arrived_kept : (b : ℕ) (u : Usart) → IsUsart u → IsUsart (usart.arrived b u)
@@ -218,20 +218,20 @@ get_spi_kept s spireg.Spdr h = accessed_kept s h
 
 transferred_by : (t b : ℕ) (s : Spi) (on runs : Bool) → any_bit s.control 0x40 ≡ on → IsSpi s
     → IsSpi (if not on then s else if runs then record s { wcol = true }
-    else record s { transfer = Some (record { ends = t + spi.transfer_cycles s; byte = b }) })
+    else record s { shift_register = Some (record { ends = t + spi.transfer_cycles s; byte = b }) })
 transferred_by t b s false runs e h = h
 transferred_by t b s true true e h = record { master = h.master; transfers = h.transfers }
 transferred_by t b s true false e h = record { master = h.master; transfers = λ f. e }
 
 spi_sent_kept : (t b : ℕ) (s : Spi) → IsSpi s → IsSpi (spi_registers.sent_out t b s)
-spi_sent_kept t b s h = transferred_by t b s (any_bit s.control 0x40) (is_some s.transfer) refl h
+spi_sent_kept t b s h = transferred_by t b s (any_bit s.control 0x40) (is_some s.shift_register) refl h
 
 none_left : (on : Bool) (transfer : Option Transmission) → is_some (if on then transfer else None) ≡ true → on ≡ true
 none_left true transfer e = refl
 none_left false transfer e = e
 
 control_spi : (s s' : Spi) (b : ℕ) (on is_master : Bool) → any_bit b 0x40 ≡ on → any_bit b 0x10 ≡ is_master → IsSpi s
-    → (if on && not is_master then Err stop.SpiSlave else Ok (record s { control = b; transfer = if on then s.transfer else None })) ≡ Ok s'
+    → (if on && not is_master then Err stop.SpiSlave else Ok (record s { control = b; shift_register = if on then s.shift_register else None })) ≡ Ok s'
     → IsSpi s'
 control_spi s s' b true false e f h g = absurd (cc)
 control_spi s s' b true true e f h g =

@@ -3,25 +3,25 @@ use Rattle.std.proofs.Common.{◌≡◌, ℕ, zero, suc, ◌+◌, ◌%◌, ◌�
 use Rattle.std.proofs.lemmas.Bool.Decides.{nat_tests}
 use Rattle.avr_base.specs.declared.stop.StopCause.{StopCause}
 use Rattle.avr_base.specs.declared.stop.StopCause.TheVariants as stop
-use Rattle.device_clocks.specs.declared.flags.TimerFlags.{TimerFlags}
+use Rattle.avr_timers.specs.declared.flags.TimerFlags.{TimerFlags}
 use Rattle.device_base.specs.Bits.{any_bit}
-use Rattle.device_base.specs.Cycles.{cycles}
-use Rattle.device_clocks.specs.declared.prescaler.Prescaler.{Prescaler}
-use Rattle.device_clocks.specs.declared.prescaler.Prescaler.TheVariants.{Shared}
-use Rattle.device_clocks.specs.Prescaler.{is_pin}
-use Rattle.device_clocks.specs.declared.registers8.Reg8.{Reg8}
-use Rattle.device_clocks.specs.declared.registers8.Reg8.TheVariants as reg8
-use Rattle.device_clocks.specs.declared.timer8.Timer8.{Timer8}
-use Rattle.device_clocks.specs.Registers8.{put_of as put_8}
-use Rattle.device_clocks.specs.Timer8 as timer8
-use Rattle.device_clocks.specs.declared.mode.Mode16.{Mode16}
-use Rattle.device_clocks.specs.declared.registers16.Reg16.{Reg16}
-use Rattle.device_clocks.specs.declared.registers16.Reg16.TheVariants as reg16
-use Rattle.device_clocks.specs.declared.registers16.Chan.{Chan}
-use Rattle.device_clocks.specs.declared.registers16.Chan.TheVariants as chan
-use Rattle.device_clocks.specs.declared.timer16.Timer16.{Timer16}
-use Rattle.device_clocks.specs.Registers16.{get_of as get_16, put_of as put_16, with_compare, with_control_a, with_control_b}
-use Rattle.device_clocks.specs.Timer16 as timer16
+use Rattle.avr_timers.specs.Clock.{cycles}
+use Rattle.avr_timers.specs.declared.prescaler.Prescaler.{Prescaler}
+use Rattle.avr_timers.specs.declared.prescaler.Prescaler.TheVariants.{Shared}
+use Rattle.avr_timers.specs.Prescaler.{is_pin}
+use Rattle.avr_timers.specs.declared.registers8.Reg8.{Reg8}
+use Rattle.avr_timers.specs.declared.registers8.Reg8.TheVariants as reg8
+use Rattle.avr_timers.specs.declared.timer8.Timer8.{Timer8}
+use Rattle.avr_timers.specs.Registers8.{put_of as put_8}
+use Rattle.avr_timers.specs.Timer8 as timer8
+use Rattle.avr_timers.specs.declared.mode.Mode16.{Mode16}
+use Rattle.avr_timers.specs.declared.registers16.Reg16.{Reg16}
+use Rattle.avr_timers.specs.declared.registers16.Reg16.TheVariants as reg16
+use Rattle.avr_timers.specs.declared.registers16.Chan.{Chan}
+use Rattle.avr_timers.specs.declared.registers16.Chan.TheVariants as chan
+use Rattle.avr_timers.specs.declared.timer16.Timer16.{Timer16}
+use Rattle.avr_timers.specs.Registers16.{get_of as get_16, put_of as put_16, with_compare, with_control_a, with_control_b}
+use Rattle.avr_timers.specs.Timer16 as timer16
 use Rattle.device_laws.specs.States.{IsTimer16, IsTimer8}
 
 -- two results of a write that did not stop

@@ -8,14 +8,14 @@ use Rattle.board_io.specs.Board.{kept_at}
 use Rattle.board_io.specs.Table.{rule_of}
 use Rattle.serial_ports.specs.declared.radio.Radio.{Radio}
 use Rattle.device_base.specs.Bits.{any_bit}
-use Rattle.device_clocks.specs.declared.prescaler.Prescaler.{Prescaler}
-use Rattle.device_clocks.specs.declared.prescaler.Prescaler.TheVariants.{Own, Shared}
-use Rattle.device_clocks.specs.Prescaler.{is_pin}
+use Rattle.avr_timers.specs.declared.prescaler.Prescaler.{Prescaler}
+use Rattle.avr_timers.specs.declared.prescaler.Prescaler.TheVariants.{Own, Shared}
+use Rattle.avr_timers.specs.Prescaler.{is_pin}
 use Rattle.serial_ports.specs.declared.spi.Spi.{Spi}
-use Rattle.device_clocks.specs.declared.timer8.Timer8.{Timer8}
-use Rattle.device_clocks.specs.declared.timer16.Timer16.{Timer16}
-use Rattle.serial_ports.specs.declared.inbox.Inbox.{Inbox}
-use Rattle.serial_ports.specs.declared.inbox.Inbox.TheVariants.{Empty, One, Two}
+use Rattle.avr_timers.specs.declared.timer8.Timer8.{Timer8}
+use Rattle.avr_timers.specs.declared.timer16.Timer16.{Timer16}
+use Rattle.serial_ports.specs.declared.usart_receive_buffer.ReceiveBuffer.{ReceiveBuffer}
+use Rattle.serial_ports.specs.declared.usart_receive_buffer.ReceiveBuffer.TheVariants.{Empty, One, Two}
 use Rattle.serial_ports.specs.declared.usart.Usart.{Usart}
 use Rattle.serial_ports.specs.Usart.{is_filled}
 
@@ -33,7 +33,7 @@ pub record IsTimer8 (prescaler : Prescaler) (tm : Timer8) : Type 0 where
 pub record IsTimer16 (tm : Timer16) : Type 0 where
   pub select : tm.select ≤ 5
 
-abbrev pub is_full : Inbox → Bool
+abbrev pub is_full : ReceiveBuffer → Bool
 is_full Empty = false
 is_full (One a) = false
 is_full (Two a b) = true
@@ -45,15 +45,15 @@ pub record IsUsart (u : Usart) : Type 0 where
   pub control_b : IsWithin 0xF9 u.control_b
   pub control_c : u.control_c < 16
   -- a byte waits only while a frame runs
-  pub waits : is_some u.waiting ≡ true → is_some u.frame ≡ true
+  pub waits : is_some u.transmit_buffer ≡ true → is_some u.shift_register ≡ true
   -- bytes were received only with RXEN, and one was lost only where the buffer is full
-  pub received : is_filled u.inbox ≡ true → any_bit u.control_b 0x10 ≡ true
-  pub lost : u.dor ≡ true → is_full u.inbox ≡ true
+  pub received : is_filled u.receive_buffer ≡ true → any_bit u.control_b 0x10 ≡ true
+  pub lost : u.dor ≡ true → is_full u.receive_buffer ≡ true
 
 pub record IsSpi (s : Spi) : Type 0 where
   -- enabled it is a master, and only enabled it transfers
   pub master : any_bit s.control 0x40 ≡ true → any_bit s.control 0x10 ≡ true
-  pub transfers : is_some s.transfer ≡ true → any_bit s.control 0x40 ≡ true
+  pub transfers : is_some s.shift_register ≡ true → any_bit s.control 0x40 ≡ true
 
 pub record IsRadio (r : Radio) : Type 0 where
   pub byte_time : r.byte_time ≤ 4096

@@ -14,7 +14,7 @@ pub record IsWhole (cycle : ℕ) (asking : Bool) (m : Machine) : Type 0 where
   pub clock : m.stop ≡ None → m.bus.board.clock ≡ cycle + (if asking then 1 else 0)
   pub early : asking ≡ true → cycle < 2 ^ 40
   pub room : asking ≡ true → vec_len m.rows < vec_capacity m.rows
-  pub waits : asking ≡ true → is_some m.bus.board.spi.transfer ≡ true
+  pub waits : asking ≡ true → is_some m.bus.board.spi.shift_register ≡ true
 
 -- what the radio does in a cycle, by whether it samples the air and what it sends
 abbrev pub IsOnAir : Bool → Option ℕ → OnAir → Type 0

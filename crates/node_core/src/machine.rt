@@ -384,7 +384,7 @@ impl Machine {
         ensures state { shown self.new ≡ devices_cycle cycle (shown self.old) }
         ensures rows { self.new.rows.items ≡ self.old.rows.items ++ device_rows cycle (shown self.old) }
         ensures air { IsOnAir (asks_after cycle (shown self.old)) (sends_after cycle (shown self.old)) result }
-        ensures waits { asks_after cycle (shown self.old) ≡ true → is_some self.new.bus.board.spi.transfer ≡ true }
+        ensures waits { asks_after cycle (shown self.old) ≡ true → is_some self.new.bus.board.spi.shift_register ≡ true }
         ensures used { vec_len self.new.rows ≤ vec_len self.old.rows + 2 }
         ensures room { vec_capacity self.new.rows ≡ vec_capacity self.old.rows }
         ensures count { self.new.count ≡ self.old.count }
@@ -407,7 +407,7 @@ impl Machine {
         ensures state { shown self.new ≡ devices_cycle cycle (shown self.old) }
         ensures rows { self.new.rows.items ≡ self.old.rows.items ++ device_rows cycle (shown self.old) }
         ensures air { IsOnAir (asks_after cycle (shown self.old)) (sends_after cycle (shown self.old)) result }
-        ensures waits { asks_after cycle (shown self.old) ≡ true → is_some self.new.bus.board.spi.transfer ≡ true }
+        ensures waits { asks_after cycle (shown self.old) ≡ true → is_some self.new.bus.board.spi.shift_register ≡ true }
         ensures room { vec_len self.new.rows < vec_capacity self.new.rows }
         ensures count { self.new.count ≡ self.old.count }
         ensures stop { self.new.stop ≡ self.old.stop }
@@ -422,7 +422,7 @@ impl Machine {
     // The rest of a cycle that samples the air.
     pub fn finish(&mut self, cycle: u64, heard: Heard)
         requires room { vec_len self.old.rows < vec_capacity self.old.rows }
-        requires waits { is_some self.old.bus.board.spi.transfer ≡ true }
+        requires waits { is_some self.old.bus.board.spi.shift_register ≡ true }
         ensures state { shown self.new ≡ finished_in cycle (shown self.old) heard }
         ensures rows { self.new.rows.items ≡ self.old.rows.items ++ finished_rows cycle (shown self.old) heard }
         ensures count { self.new.count ≡ self.old.count }

@@ -1,8 +1,6 @@
-pub mod Laws
-pub mod Quiet
-pub mod Cycles
-pub mod Arrivals
-pub mod SavedSpi
-pub mod Absent
-pub mod SavedUsart
-pub mod SavedRadio
+pub mod RadioLaws
+pub mod RadioSaved
+pub mod ScriptArrivals
+pub mod SpiSaved
+pub mod TransmissionSaved
+pub mod UsartSaved

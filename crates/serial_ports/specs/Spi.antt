@@ -9,12 +9,12 @@ abbrev pub reset_spi : Spi
 reset_spi = record {
   control = 0;
   double = false;
-  «data» = 0;
+  receive_buffer = 0;
   spif = false;
   wcol = false;
   noted_spif = false;
   noted_wcol = false;
-  transfer = None;
+  shift_register = None;
 }
 
 -- what SPR1:0 of SPCR divide the clock by ("Relationship Between SCK and the Oscillator Frequency")
@@ -31,15 +31,11 @@ transfer_cycles s = 8 * divider s
 
 -- whether a transfer ends in cycle t
 abbrev pub ends_at : ℕ → Spi → Bool
-ends_at t s = is_end s.transfer t
+ends_at t s = is_end s.shift_register t
 
 -- after a transfer that brought the byte x
 abbrev pub spi_finished : ℕ → Spi → Spi
-spi_finished x s = record s { «data» = x; spif = true; transfer = None }
-
--- one cycle, where x is what a transfer that ends in it brings
-abbrev pub spi_cycle : (ℕ → ℕ) → ℕ → Spi → Spi
-spi_cycle x t s = if ends_at t s then spi_finished (x t) s else s
+spi_finished x s = record s { receive_buffer = x; spif = true; shift_register = None }
 
 -- whether it asks for its interrupt: SPIF and SPIE, bit 7 of SPCR
 abbrev pub asks_interrupt : Spi → Bool

@@ -10,10 +10,10 @@ abbrev pub numbers_of : Spi → List ℕ
 numbers_of s =
     s.control
     ∷ bit s.double 1
-    ∷ s.«data»
-    ∷ bit (is_some s.transfer) 1
-    ∷ end_number s.transfer
-    ∷ byte_number s.transfer
+    ∷ s.receive_buffer
+    ∷ bit (is_some s.shift_register) 1
+    ∷ end_number s.shift_register
+    ∷ byte_number s.shift_register
     ∷ bit s.spif 1
     ∷ bit s.wcol 1
     ∷ bit s.noted_spif 1

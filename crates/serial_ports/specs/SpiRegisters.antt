@@ -26,20 +26,20 @@ accessed s = record s {
 abbrev pub get_of : Spi → SpiReg → ℕ × Spi
 get_of s Control = (s.control, s)
 get_of s Status = (status_of s, record s { noted_spif = s.spif; noted_wcol = s.wcol })
-get_of s Spdr = (s.«data», accessed s)
+get_of s Spdr = (s.receive_buffer, accessed s)
 
 -- the byte b to transfer from cycle t on: lost where SPE, bit 6 of SPCR, is clear; a collision while a transfer runs
 abbrev pub sent_out : ℕ → ℕ → Spi → Spi
 sent_out t b s =
     if not (any_bit s.control 0x40) then s
-    else if is_some s.transfer then record s { wcol = true }
-    else record s { transfer = Some (record { ends = t + transfer_cycles s; byte = b }) }
+    else if is_some s.shift_register then record s { wcol = true }
+    else record s { shift_register = Some (record { ends = t + transfer_cycles s; byte = b }) }
 
 -- the port after a write of the byte b in cycle t, or why that stops: SPE without MSTR, bit 4, asks for a slave. A write
 -- that clears SPE abandons the transfer that runs; of SPSR SPI2X alone is written
 abbrev pub put_of : ℕ → Spi → SpiReg → ℕ → Result Spi StopCause
 put_of t s Control b =
     if any_bit b 0x40 && not (any_bit b 0x10) then Err stop.SpiSlave
-    else Ok (record s { control = b; transfer = if any_bit b 0x40 then s.transfer else None })
+    else Ok (record s { control = b; shift_register = if any_bit b 0x40 then s.shift_register else None })
 put_of t s Status b = Ok (record s { double = any_bit b 0x01 })
 put_of t s Spdr b = Ok (sent_out t b (accessed s))

@@ -3,8 +3,8 @@
 use Rattle.std.specs.Prelude.{ℕ, ◌+◌, ◌*◌, ◌/◌, ◌%◌, ◌^◌, ◌&&◌, not, if◌then◌else◌, Bool, true, false, Option, Some, None, is_some}
 use Rattle.device_base.specs.Bits.{any_bit}
 use Rattle.serial_ports.specs.Transmission.{ended_byte, is_end}
-use Rattle.serial_ports.specs.declared.inbox.Inbox.{Inbox}
-use Rattle.serial_ports.specs.declared.inbox.Inbox.TheVariants.{Empty, One, Two}
+use Rattle.serial_ports.specs.declared.usart_receive_buffer.ReceiveBuffer.{ReceiveBuffer}
+use Rattle.serial_ports.specs.declared.usart_receive_buffer.ReceiveBuffer.TheVariants.{Empty, One, Two}
 use Rattle.serial_ports.specs.declared.usart.Usart.{Usart}
 use Rattle.serial_ports.specs.declared.usart.UsartLines.{UsartLines}
 
@@ -17,9 +17,9 @@ reset_usart = record {
   control_c = 0x06;
   txc = false;
   dor = false;
-  inbox = Empty;
-  frame = None;
-  waiting = None;
+  receive_buffer = Empty;
+  shift_register = None;
+  transmit_buffer = None;
 }
 
 -- UCSZ1:0, bits 2 and 1 of UCSR0C, and USBS, bit 3
@@ -43,36 +43,36 @@ cut u b = b % 2 ^ data_bits u
 
 -- a frame with the byte b begins in cycle t; its length and its data bits are those of that cycle
 abbrev pub started : ℕ → ℕ → Usart → Usart
-started t b u = record u { frame = Some (record { ends = t + frame_cycles u; byte = cut u b }) }
+started t b u = record u { shift_register = Some (record { ends = t + frame_cycles u; byte = cut u b }) }
 
 -- whether a frame ends in cycle t
 abbrev pub ends_at : ℕ → Usart → Bool
-ends_at t u = is_end u.frame t
+ends_at t u = is_end u.shift_register t
 
 -- the byte whose frame ends in cycle t
 unfoldable pub frame_ended : ℕ → Usart → Option ℕ
-frame_ended t u = ended_byte u.frame t
+frame_ended t u = ended_byte u.shift_register t
 
 -- after a frame: the byte that waits in the transmit buffer begins its own, and with none TXC is set
 abbrev pub next_frame : ℕ → Option ℕ → Usart → Usart
-next_frame t None u = record u { frame = None; txc = true }
-next_frame t (Some b) u = started t b (record u { waiting = None })
+next_frame t None u = record u { shift_register = None; txc = true }
+next_frame t (Some b) u = started t b (record u { transmit_buffer = None })
 
 -- the transmitter's part of cycle t
 unfoldable pub usart_cycle : ℕ → Usart → Usart
-usart_cycle t u = if ends_at t u then next_frame t u.waiting u else u
+usart_cycle t u = if ends_at t u then next_frame t u.transmit_buffer u else u
 
 -- a byte that was received: the buffer holds two, and a third one is lost by a data overrun
-abbrev pub buffered : Inbox → ℕ → Usart → Usart
-buffered Empty x u = record u { inbox = One x }
-buffered (One a) x u = record u { inbox = Two a x }
+abbrev pub buffered : ReceiveBuffer → ℕ → Usart → Usart
+buffered Empty x u = record u { receive_buffer = One x }
+buffered (One a) x u = record u { receive_buffer = Two a x }
 buffered (Two a b) x u = record u { dor = true }
 
 -- a byte arrives: lost where RXEN, bit 4 of UCSR0B, is clear
 unfoldable pub arrived : ℕ → Usart → Usart
-arrived b u = if any_bit u.control_b 0x10 then buffered u.inbox (cut u b) u else u
+arrived b u = if any_bit u.control_b 0x10 then buffered u.receive_buffer (cut u b) u else u
 
-abbrev pub is_filled : Inbox → Bool
+abbrev pub is_filled : ReceiveBuffer → Bool
 is_filled Empty = false
 is_filled (One a) = true
 is_filled (Two a b) = true
@@ -81,7 +81,7 @@ is_filled (Two a b) = true
 -- says that no byte waits
 abbrev pub lines_of : Usart → UsartLines
 lines_of u = record {
-  rxc = is_filled u.inbox && any_bit u.control_b 0x80;
-  udre = not (is_some u.waiting) && any_bit u.control_b 0x20;
+  rxc = is_filled u.receive_buffer && any_bit u.control_b 0x80;
+  udre = not (is_some u.transmit_buffer) && any_bit u.control_b 0x20;
   txc = u.txc && any_bit u.control_b 0x40;
 }

@@ -4,34 +4,34 @@ use Rattle.std.specs.Prelude.{ℕ, ◌==◌, nat_le, ◌&&◌, not, if◌then◌
 use Rattle.std.specs.List.{list_all}
 use Rattle.device_base.specs.Bits.{any_bit, bit}
 use Rattle.serial_ports.specs.Numbers.{byte_number, end_number, is_end_number, owned}
-use Rattle.serial_ports.specs.declared.inbox.Inbox.{Inbox}
-use Rattle.serial_ports.specs.declared.inbox.Inbox.TheVariants.{Empty, One, Two}
+use Rattle.serial_ports.specs.declared.usart_receive_buffer.ReceiveBuffer.{ReceiveBuffer}
+use Rattle.serial_ports.specs.declared.usart_receive_buffer.ReceiveBuffer.TheVariants.{Empty, One, Two}
 use Rattle.serial_ports.specs.declared.usart.Usart.{Usart}
 
-abbrev pub received : Inbox → ℕ
+abbrev pub received : ReceiveBuffer → ℕ
 received Empty = 0
 received (One a) = 1
 received (Two a b) = 2
 
-abbrev pub first_number : Inbox → ℕ
+abbrev pub first_number : ReceiveBuffer → ℕ
 first_number Empty = 0
 first_number (One a) = a
 first_number (Two a b) = a
 
-abbrev pub second_number : Inbox → ℕ
+abbrev pub second_number : ReceiveBuffer → ℕ
 second_number Empty = 0
 second_number (One a) = 0
 second_number (Two a b) = b
 
-abbrev pub inbox_of : ℕ → ℕ → ℕ → Inbox
-inbox_of received a b = if received == 0 then Empty else if received == 1 then One a else Two a b
+abbrev pub receive_buffer_of : ℕ → ℕ → ℕ → ReceiveBuffer
+receive_buffer_of received a b = if received == 0 then Empty else if received == 1 then One a else Two a b
 
-abbrev pub waiting_number : Option ℕ → ℕ
-waiting_number None = 0
-waiting_number (Some b) = b
+abbrev pub transmit_buffer_number : Option ℕ → ℕ
+transmit_buffer_number None = 0
+transmit_buffer_number (Some b) = b
 
-abbrev pub waiting_of : Bool → ℕ → Option ℕ
-waiting_of waits b = if waits then Some b else None
+abbrev pub transmit_buffer_of : Bool → ℕ → Option ℕ
+transmit_buffer_of waits b = if waits then Some b else None
 
 abbrev pub numbers_of : Usart → List ℕ
 numbers_of u =
@@ -41,14 +41,14 @@ numbers_of u =
     ∷ u.baud
     ∷ bit u.txc 1
     ∷ bit u.dor 1
-    ∷ received u.inbox
-    ∷ first_number u.inbox
-    ∷ second_number u.inbox
-    ∷ bit (is_some u.frame) 1
-    ∷ end_number u.frame
-    ∷ byte_number u.frame
-    ∷ bit (is_some u.waiting) 1
-    ∷ waiting_number u.waiting
+    ∷ received u.receive_buffer
+    ∷ first_number u.receive_buffer
+    ∷ second_number u.receive_buffer
+    ∷ bit (is_some u.shift_register) 1
+    ∷ end_number u.shift_register
+    ∷ byte_number u.shift_register
+    ∷ bit (is_some u.transmit_buffer) 1
+    ∷ transmit_buffer_number u.transmit_buffer
     ∷ []
 
 -- a test for each number, whether it is within its bound, of a port before cycle t: UCSR0B as it reads, with bits 2 and 1

@@ -3,8 +3,8 @@ use Rattle.std.specs.Prelude.{ℕ, ◌+◌, ◌*◌, ◌/◌, ◌%◌, ◌&&◌,
 use Rattle.avr_base.specs.declared.stop.StopCause.{StopCause}
 use Rattle.avr_base.specs.declared.stop.StopCause.TheVariants as stop
 use Rattle.device_base.specs.Bits.{any_bit, bit}
-use Rattle.serial_ports.specs.declared.inbox.Inbox.{Inbox}
-use Rattle.serial_ports.specs.declared.inbox.Inbox.TheVariants.{Empty, One, Two}
+use Rattle.serial_ports.specs.declared.usart_receive_buffer.ReceiveBuffer.{ReceiveBuffer}
+use Rattle.serial_ports.specs.declared.usart_receive_buffer.ReceiveBuffer.TheVariants.{Empty, One, Two}
 use Rattle.serial_ports.specs.declared.usart_registers.UsartReg.{UsartReg}
 use Rattle.serial_ports.specs.declared.usart_registers.UsartReg.TheVariants.{StatusA, ControlB, ControlC, BaudL, BaudH, Udr}
 use Rattle.serial_ports.specs.declared.usart.Usart.{Usart}
@@ -13,15 +13,15 @@ use Rattle.serial_ports.specs.Usart.{is_filled, started}
 -- UCSR0A: RXC 7, TXC 6, UDRE 5, DOR 3, U2X 1; there are no frame and no parity errors
 abbrev pub status_of : Usart → ℕ
 status_of u =
-    bit (is_filled u.inbox) 0x80 + bit u.txc 0x40 + bit (not (is_some u.waiting)) 0x20 + bit u.dor 0x08 + bit u.double 0x02
+    bit (is_filled u.receive_buffer) 0x80 + bit u.txc 0x40 + bit (not (is_some u.transmit_buffer)) 0x20 + bit u.dor 0x08 + bit u.double 0x02
 
 -- the oldest byte of the receive buffer, 0 where there is none
-abbrev pub oldest : Inbox → ℕ
+abbrev pub oldest : ReceiveBuffer → ℕ
 oldest Empty = 0
 oldest (One a) = a
 oldest (Two a b) = a
 
-abbrev pub without_oldest : Inbox → Inbox
+abbrev pub without_oldest : ReceiveBuffer → ReceiveBuffer
 without_oldest Empty = Empty
 without_oldest (One a) = Empty
 without_oldest (Two a b) = One b
@@ -33,22 +33,22 @@ get_of u ControlB = (u.control_b, u)
 get_of u ControlC = (u.control_c, u)
 get_of u BaudL = (u.baud % 256, u)
 get_of u BaudH = (u.baud / 256, u)
-get_of u Udr = (oldest u.inbox, record u { inbox = without_oldest u.inbox; dor = false })
+get_of u Udr = (oldest u.receive_buffer, record u { receive_buffer = without_oldest u.receive_buffer; dor = false })
 
 -- a byte to send from cycle t on: lost where TXEN, bit 3 of UCSR0B, is clear; while a frame runs it waits, and is lost
 -- where another one waits already
 abbrev pub sent_out : ℕ → ℕ → Usart → Usart
 sent_out t b u =
     if not (any_bit u.control_b 0x08) then u
-    else if not (is_some u.frame) then started t b u
-    else if is_some u.waiting then u
-    else record u { waiting = Some b }
+    else if not (is_some u.shift_register) then started t b u
+    else if is_some u.transmit_buffer then u
+    else record u { transmit_buffer = Some b }
 
 -- UCSR0B; without RXEN the receive buffer is emptied
 abbrev pub with_control_b : ℕ → Usart → Usart
 with_control_b b u =
     if any_bit b 0x10 then record u { control_b = bit_and b 0xF9 }
-    else record u { control_b = bit_and b 0xF9; inbox = Empty; dor = false }
+    else record u { control_b = bit_and b 0xF9; receive_buffer = Empty; dor = false }
 
 -- the port after a write of the byte b in cycle t, or why that stops: multi-processor mode (MPCM), nine data bits
 -- (UCSZ2), synchronous mode and parity (UMSEL, UPM) are not there. TXC is cleared by a 1; RXB8 reads 0

@@ -1,11 +1,10 @@
-//! The serial ports of the ATmega128 that are simulated. USART0 as an asynchronous port: frames, transmit and receive buffers
-//! and registers, cycle by cycle or in leaps, and the scripts of bytes that arrive at it. The serial peripheral interface as a
+//! The serial ports of the ATmega128 that are simulated. USART0 as an asynchronous port (`usart`): frames, transmit and receive
+//! buffers and registers, cycle by cycle, and the scripts of bytes that arrive at it (`script`). The serial peripheral interface as a
 //! master, its registers, its flags and the transfer that runs; and the radio of a node behind it, byte by byte: a device that
 //! takes one byte to send, or samples the air and answers what it heard in three bytes. What answers a transfer is told to the
 //! interface from outside, at its end.
 #![tactic(auto)]
 
-mod inbox;
 mod numbers;
 mod radio;
 mod radio_numbers;
@@ -16,13 +15,14 @@ mod spi_registers;
 mod transmission;
 mod usart;
 mod usart_numbers;
+mod usart_receive_buffer;
 mod usart_registers;
 
-pub use inbox::Inbox;
 pub use radio::{Moved, Radio, RadioState};
 pub use script::Script;
 pub use spi::Spi;
 pub use spi_registers::SpiReg;
 pub use transmission::{Transmission, ended_byte};
 pub use usart::{Usart, UsartLines};
+pub use usart_receive_buffer::ReceiveBuffer;
 pub use usart_registers::UsartReg;

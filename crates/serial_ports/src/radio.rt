@@ -72,8 +72,8 @@ impl Radio {
         }
     }
 
-    // Answers a transfer, and makes the byte of the next one what the state says.
-    fn turn(&mut self, state: RadioState, answer: u8) -> Moved
+    // Answers a transfer, and enters the state that says what the byte of the next one is.
+    fn enter(&mut self, state: RadioState, answer: u8) -> Moved
         ensures answered { result ≡ Answer answer }
         ensures turned { self.new ≡ in_state state self.old }
     {
@@ -86,12 +86,12 @@ impl Radio {
         ensures { (result, self.new) ≡ idle_transfer mosi self.old }
     {
         match mosi {
-            1 => self.turn(RadioState::ToSend, 0),
+            1 => self.enter(RadioState::ToSend, 0),
             2 => {
                 self.state = RadioState::ToSample;
                 Moved::Ask
             }
-            _ => self.turn(RadioState::Idle, 0),
+            _ => self.enter(RadioState::Idle, 0),
         }
     }
 
@@ -101,7 +101,7 @@ impl Radio {
         ensures { (result, self.new) ≡ send_transfer cycle byte self.old }
     {
         if cycle < self.free {
-            return self.turn(RadioState::Idle, 1);
+            return self.enter(RadioState::Idle, 1);
         }
         self.free = cycle + u64::from(self.byte_time);
         self.state = RadioState::Idle;
@@ -116,10 +116,10 @@ impl Radio {
         match self.state {
             RadioState::Idle => self.command(mosi),
             RadioState::ToSend => self.send(cycle, mosi),
-            RadioState::ToSample => self.turn(RadioState::Idle, 0),
-            RadioState::Status { heard } => self.turn(RadioState::Byte { heard }, heard.status),
-            RadioState::Byte { heard } => self.turn(RadioState::Age { heard }, heard.byte),
-            RadioState::Age { heard } => self.turn(RadioState::Idle, heard.age),
+            RadioState::ToSample => self.enter(RadioState::Idle, 0),
+            RadioState::Status { heard } => self.enter(RadioState::Byte { heard }, heard.status),
+            RadioState::Byte { heard } => self.enter(RadioState::Age { heard }, heard.byte),
+            RadioState::Age { heard } => self.enter(RadioState::Idle, heard.age),
         }
     }
 
@@ -137,7 +137,7 @@ impl Radio {
         if selected {
             self.selected(cycle, mosi)
         } else {
-            self.turn(RadioState::Idle, 0xFF)
+            self.enter(RadioState::Idle, 0xFF)
         }
     }
 

@@ -1,8 +1,7 @@
-// The interface, cycle by cycle and over many cycles at once.
-ghost use Rattle.std.specs.Prelude.{◌≡◌, ◌≤◌, ◌<◌, ◌+◌, ◌%◌, ◌^◌, ℕ, false, true, is_some, Some};
-ghost use Rattle.device_base.specs.Cycles.{cycles};
+// The interface: its clock, the transfer that runs and its end, and its interrupt.
+ghost use Rattle.std.specs.Prelude.{◌≡◌, ◌≤◌, ◌%◌, true, is_some, Some};
 
-use crate::transmission::{Transmission, byte_of, end_of, is_end};
+use crate::transmission::{Transmission, byte_of, end_of};
 use device_base::any_bit;
 
 /// The serial peripheral interface as a master (ATmega128 datasheet, "Serial Peripheral Interface - SPI").
@@ -12,8 +11,8 @@ pub struct Spi {
     pub control: u8,
     /// SPI2X: whether the speed is doubled.
     pub double: bool,
-    /// What SPDR reads as: the byte that the last transfer brought.
-    pub data: u8,
+    /// The receive buffer: the byte that the last transfer brought, which a read of SPDR gives.
+    pub receive_buffer: u8,
     /// SPIF: whether a transfer ended.
     pub spif: bool,
     /// WCOL: whether SPDR was written while a transfer ran.
@@ -22,13 +21,13 @@ pub struct Spi {
     pub noted_spif: bool,
     /// Whether the last read of SPSR since an access of SPDR saw WCOL set.
     pub noted_wcol: bool,
-    /// The transfer that runs: eight bits out and eight bits in.
-    pub transfer: Option<Transmission>,
+    /// The shift register: the transfer that runs, eight bits out and eight bits in.
+    pub shift_register: Option<Transmission>,
 }
 
 impl Spi {
     ghost use Rattle.serial_ports.specs.Transmission.{byte_of, end_of};
-    ghost use Rattle.serial_ports.specs.Spi.{asks_interrupt, ends_at, prescale, reset_spi, spi_cycle, spi_finished, transfer_cycles};
+    ghost use Rattle.serial_ports.specs.Spi.{asks_interrupt, prescale, reset_spi, spi_finished, transfer_cycles};
 
     /// The interface after reset: disabled, with all registers and flags 0 and no transfer.
     pub fn new() -> Spi
@@ -37,12 +36,12 @@ impl Spi {
         Spi {
             control: 0,
             double: false,
-            data: 0,
+            receive_buffer: 0,
             spif: false,
             wcol: false,
             noted_spif: false,
             noted_wcol: false,
-            transfer: None,
+            shift_register: None,
         }
     }
 
@@ -71,44 +70,30 @@ impl Spi {
 
     /// The cycle in which the transfer that runs ends; `None` exactly where none runs.
     pub fn done_at(&self) -> Option<u64>
-        ensures { result ≡ end_of self.now.transfer }
+        ensures { result ≡ end_of self.now.shift_register }
     {
-        end_of(self.transfer)
+        end_of(self.shift_register)
     }
 
     /// The byte that the transfer that runs brings out; `None` exactly where none runs.
     pub fn sending(&self) -> Option<u8>
-        ensures { result ≡ byte_of self.now.transfer }
+        ensures { result ≡ byte_of self.now.shift_register }
     {
-        byte_of(self.transfer)
+        byte_of(self.shift_register)
     }
-
-    /// Whether the transfer that runs ends in the cycle `cycle`.
-    pub fn ends_at(&self, cycle: u64) -> bool
-        ensures { result ≡ ends_at cycle self.now }
-    {
-        is_end(self.transfer, cycle)
-    }
-
-    /// The `n` cycles from `cycle` on, in none of which a transfer ends: nothing changes.
-    pub fn leap(&mut self, cycle: u64, n: u64)
-        requires room { cycle + n ≤ 2 ^ 41 }
-        requires none { (i : ℕ) → i < n → ends_at (cycle + i) self.old ≡ false }
-        ensures { (x : ℕ → ℕ) → self.new ≡ cycles (spi_cycle x) cycle n self.old }
-    {}
 
     /// Ends the transfer that runs, which brought the byte `miso`: SPDR reads it from now on, and SPIF is set. The result
     /// is the byte that went out.
     pub fn finish(&mut self, miso: u8) -> u8
-        requires { is_some self.old.transfer ≡ true }
-        ensures sent { byte_of self.old.transfer ≡ Some result }
+        requires { is_some self.old.shift_register ≡ true }
+        ensures sent { byte_of self.old.shift_register ≡ Some result }
         ensures ended { self.new ≡ spi_finished miso self.old }
     {
-        match self.transfer {
+        match self.shift_register {
             Some(transfer) => {
-                self.data = miso;
+                self.receive_buffer = miso;
                 self.spif = true;
-                self.transfer = None;
+                self.shift_register = None;
                 transfer.byte
             }
             None => unreachable!(),

@@ -17,10 +17,10 @@ impl Spi {
         [
             u64::from(self.control),
             u64::from(self.double),
-            u64::from(self.data),
-            u64::from(self.transfer.is_some()),
-            end_number(self.transfer),
-            byte_number(self.transfer),
+            u64::from(self.receive_buffer),
+            u64::from(self.shift_register.is_some()),
+            end_number(self.shift_register),
+            byte_number(self.shift_register),
             u64::from(self.spif),
             u64::from(self.wcol),
             u64::from(self.noted_spif),
@@ -37,7 +37,7 @@ impl Spi {
         let [
             control,
             double,
-            data,
+            receive_buffer,
             runs,
             ends,
             byte,
@@ -51,7 +51,7 @@ impl Spi {
         [
             control <= 255 && !slave,
             double <= 1,
-            data <= 255,
+            receive_buffer <= 255,
             runs <= owned(enabled, 1),
             is_end_number(cycle, runs == 1, ends),
             byte <= owned(runs == 1, 255),
@@ -75,7 +75,7 @@ impl Spi {
         let [
             control,
             double,
-            data,
+            receive_buffer,
             runs,
             ends,
             byte,
@@ -87,12 +87,12 @@ impl Spi {
         Some(Spi {
             control: control as u8,
             double: double == 1,
-            data: data as u8,
+            receive_buffer: receive_buffer as u8,
             spif: spif == 1,
             wcol: wcol == 1,
             noted_spif: noted_spif == 1,
             noted_wcol: noted_wcol == 1,
-            transfer: transmission_of(runs == 1, ends, byte as u8),
+            shift_register: transmission_of(runs == 1, ends, byte as u8),
         })
     }
 }

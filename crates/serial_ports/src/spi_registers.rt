@@ -45,11 +45,11 @@ impl Spi {
         if !any_bit(self.control, 0x40) {
             return;
         }
-        if self.transfer.is_some() {
+        if self.shift_register.is_some() {
             self.wcol = true;
             return;
         }
-        self.transfer = Some(Transmission {
+        self.shift_register = Some(Transmission {
             ends: cycle + self.transfer_cycles(),
             byte: b,
         });
@@ -69,7 +69,7 @@ impl Spi {
             }
             SpiReg::Spdr => {
                 self.access();
-                self.data
+                self.receive_buffer
             }
         }
     }
@@ -91,7 +91,7 @@ impl Spi {
                 }
                 self.control = b;
                 if !any_bit(b, 0x40) {
-                    self.transfer = None;
+                    self.shift_register = None;
                 }
             }
             SpiReg::Status => self.double = any_bit(b, 0x01),

@@ -1,6 +1,6 @@
 // A byte that is shifted out.
 ghost use Rattle.std.specs.Prelude.{◌≡◌, true, is_some, IfSome};
-ghost use Rattle.serial_ports.specs.Transmission.{byte_of, end_of, ended_byte, is_end};
+ghost use Rattle.serial_ports.specs.Transmission.{byte_of, end_of, ended_byte};
 
 /// A byte that is shifted out: a frame of USART0, or a transfer of the serial peripheral interface.
 #[derive(Clone, Copy, PartialEq, Eq)]
@@ -9,17 +9,6 @@ pub struct Transmission {
     pub ends: u64,
     /// The byte, as it goes out.
     pub byte: u8,
-}
-
-/// Whether the transmission that runs ends in the cycle `cycle`.
-#[inline]
-pub fn is_end(running: Option<Transmission>, cycle: u64) -> bool
-    ensures { result ≡ is_end running cycle }
-{
-    match running {
-        Some(transmission) => transmission.ends == cycle,
-        None => false,
-    }
 }
 
 /// The cycle in which the transmission that runs ends; `None` exactly where none runs.

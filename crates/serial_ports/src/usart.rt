@@ -1,9 +1,8 @@
-// The port, cycle by cycle and in leaps.
-ghost use Rattle.std.specs.Prelude.{◌≡◌, ◌≤◌, ◌<◌, ◌+◌, ◌^◌, ◌↔◌, ℕ, true, false, None};
-ghost use Rattle.device_base.specs.Cycles.{cycles};
+// The port, cycle by cycle.
+ghost use Rattle.std.specs.Prelude.{◌≡◌, ◌≤◌, ◌^◌, ◌↔◌, false, None};
 
-use crate::Inbox;
-use crate::transmission::{Transmission, end_of, is_end};
+use crate::ReceiveBuffer;
+use crate::transmission::{Transmission, end_of};
 use device_base::any_bit;
 
 /// USART0 as an asynchronous port (ATmega128 datasheet, "USART"). The cycles in which a frame begins and ends are this
@@ -22,12 +21,13 @@ pub struct Usart {
     pub txc: bool,
     /// DOR: a received byte was lost, since the receive buffer was full.
     pub dor: bool,
-    /// The receive buffer.
-    pub inbox: Inbox,
-    /// The frame that is sent, with its byte cut to the data bits.
-    pub frame: Option<Transmission>,
-    /// The byte that waits in the transmit buffer until the frame ends; UDRE is set where there is none.
-    pub waiting: Option<u8>,
+    /// The receive buffer: the bytes that a read of UDR0 gives.
+    pub receive_buffer: ReceiveBuffer,
+    /// The transmit shift register: the frame that is sent, with its byte cut to the data bits.
+    pub shift_register: Option<Transmission>,
+    /// The transmit buffer: the byte written to UDR0 that waits until the shift register is free; UDRE is set where there
+    /// is none.
+    pub transmit_buffer: Option<u8>,
 }
 
 /// The lines of the port's three interrupts: a field is true where its flag is set and its interrupt is enabled.
@@ -56,9 +56,9 @@ impl Usart {
             control_c: 0x06,
             txc: false,
             dor: false,
-            inbox: Inbox::Empty,
-            frame: None,
-            waiting: None,
+            receive_buffer: ReceiveBuffer::Empty,
+            shift_register: None,
+            transmit_buffer: None,
         }
     }
 
@@ -107,7 +107,7 @@ impl Usart {
         requires { cycle ≤ 2 ^ 41 }
         ensures { self.new ≡ started cycle byte self.old }
     {
-        self.frame = Some(Transmission {
+        self.shift_register = Some(Transmission {
             ends: cycle + self.frame_cycles(),
             byte: self.cut(byte),
         });
@@ -115,17 +115,17 @@ impl Usart {
 
     // Puts a byte into the receive buffer, or sets DOR.
     fn buffer(&mut self, byte: u8)
-        ensures { self.new ≡ buffered self.old.inbox byte self.old }
+        ensures { self.new ≡ buffered self.old.receive_buffer byte self.old }
     {
-        match self.inbox {
-            Inbox::Empty => self.inbox = Inbox::One { first: byte },
-            Inbox::One { first } => {
-                self.inbox = Inbox::Two {
+        match self.receive_buffer {
+            ReceiveBuffer::Empty => self.receive_buffer = ReceiveBuffer::One { first: byte },
+            ReceiveBuffer::One { first } => {
+                self.receive_buffer = ReceiveBuffer::Two {
                     first,
                     second: byte,
                 }
             }
-            Inbox::Two { .. } => self.dor = true,
+            ReceiveBuffer::Two { .. } => self.dor = true,
         }
     }
 
@@ -141,18 +141,18 @@ impl Usart {
         }
     }
 
-    // What follows the end of a frame.
-    fn go_on(&mut self, cycle: u64)
+    // What follows the end of a frame: that of the byte in the transmit buffer, or TXC.
+    fn next_frame(&mut self, cycle: u64)
         requires { cycle ≤ 2 ^ 41 }
-        ensures { self.new ≡ next_frame cycle self.old.waiting self.old }
+        ensures { self.new ≡ next_frame cycle self.old.transmit_buffer self.old }
     {
-        match self.waiting {
+        match self.transmit_buffer {
             Some(byte) => {
-                self.waiting = None;
+                self.transmit_buffer = None;
                 self.start(cycle, byte);
             }
             None => {
-                self.frame = None;
+                self.shift_register = None;
                 self.txc = true;
             }
         }
@@ -167,9 +167,9 @@ impl Usart {
         ensures state { self.new ≡ usart_cycle cycle self.old }
         ensures none { (result ≡ None) ↔ (ends_at cycle self.old ≡ false) }
     {
-        match self.frame {
+        match self.shift_register {
             Some(frame) if frame.ends == cycle => {
-                self.go_on(cycle);
+                self.next_frame(cycle);
                 Some(frame.byte)
             }
             _ => None,
@@ -178,32 +178,18 @@ impl Usart {
 
     /// The cycle in which the running frame ends, `None` exactly where none runs.
     pub fn next_event(&self) -> Option<u64>
-        ensures { result ≡ end_of self.now.frame }
+        ensures { result ≡ end_of self.now.shift_register }
     {
-        end_of(self.frame)
+        end_of(self.shift_register)
     }
-
-    /// Whether a frame ends in `cycle`.
-    pub fn ends_at(&self, cycle: u64) -> bool
-        ensures { result ≡ ends_at cycle self.now }
-    {
-        is_end(self.frame, cycle)
-    }
-
-    /// The `n` cycles from `cycle` on at once, in none of which a frame ends: the same as that many ticks.
-    pub fn leap(&mut self, cycle: u64, n: u64)
-        requires early { cycle + n ≤ 2 ^ 41 }
-        requires none { (i : ℕ) → i < n → ends_at (cycle + i) self.old ≡ false }
-        ensures { self.new ≡ cycles usart_cycle cycle n self.old }
-    {}
 
     /// The lines of its three interrupts.
     pub fn lines(&self) -> UsartLines
         ensures { result ≡ lines_of self.now }
     {
         UsartLines {
-            rxc: self.inbox.is_filled() && any_bit(self.control_b, 0x80),
-            udre: self.waiting.is_none() && any_bit(self.control_b, 0x20),
+            rxc: self.receive_buffer.is_filled() && any_bit(self.control_b, 0x80),
+            udre: self.transmit_buffer.is_none() && any_bit(self.control_b, 0x20),
             txc: self.txc && any_bit(self.control_b, 0x40),
         }
     }

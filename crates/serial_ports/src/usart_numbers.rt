@@ -1,9 +1,9 @@
 // The numbers of the port, by which it is saved and restored.
 ghost use Rattle.std.specs.Prelude.{◌≡◌, true, Some, IfSome, is_some};
-ghost use Rattle.serial_ports.specs.UsartNumbers.{are_numbers, first_number, inbox_of, received, second_number, waiting_number, waiting_of};
+ghost use Rattle.serial_ports.specs.UsartNumbers.{are_numbers, first_number, receive_buffer_of, received, second_number, transmit_buffer_number, transmit_buffer_of};
 
 use crate::numbers::{byte_number, end_number, is_end_number, owned, transmission_of};
-use crate::{Inbox, Usart};
+use crate::{ReceiveBuffer, Usart};
 use device_base::all_fit;
 
 impl Usart {
@@ -22,14 +22,14 @@ impl Usart {
             u64::from(self.baud),
             u64::from(self.txc),
             u64::from(self.dor),
-            self.inbox.received(),
-            self.inbox.first_number(),
-            self.inbox.second_number(),
-            u64::from(self.frame.is_some()),
-            end_number(self.frame),
-            byte_number(self.frame),
-            u64::from(self.waiting.is_some()),
-            waiting_number(self.waiting),
+            self.receive_buffer.received(),
+            self.receive_buffer.first_number(),
+            self.receive_buffer.second_number(),
+            u64::from(self.shift_register.is_some()),
+            end_number(self.shift_register),
+            byte_number(self.shift_register),
+            u64::from(self.transmit_buffer.is_some()),
+            transmit_buffer_number(self.transmit_buffer),
         ]
     }
 
@@ -100,9 +100,9 @@ impl Usart {
             waits,
             next,
         ] = *numbers;
-        let inbox = inbox_of(received, first as u8, second as u8);
-        let frame = transmission_of(runs == 1, ends, byte as u8);
-        let waiting = waiting_of(waits == 1, next as u8);
+        let receive_buffer = receive_buffer_of(received, first as u8, second as u8);
+        let shift_register = transmission_of(runs == 1, ends, byte as u8);
+        let transmit_buffer = transmit_buffer_of(waits == 1, next as u8);
         Some(Usart {
             baud: baud as u16,
             double: double == 1,
@@ -110,22 +110,22 @@ impl Usart {
             control_c: control_c as u8,
             txc: txc == 1,
             dor: dor == 1,
-            inbox,
-            frame,
-            waiting,
+            receive_buffer,
+            shift_register,
+            transmit_buffer,
         })
     }
 }
 
-impl Inbox {
+impl ReceiveBuffer {
     // How many bytes it holds.
     fn received(self) -> u64
         ensures { result ≡ received self }
     {
         match self {
-            Inbox::Empty => 0,
-            Inbox::One { .. } => 1,
-            Inbox::Two { .. } => 2,
+            ReceiveBuffer::Empty => 0,
+            ReceiveBuffer::One { .. } => 1,
+            ReceiveBuffer::Two { .. } => 2,
         }
     }
 
@@ -134,8 +134,8 @@ impl Inbox {
         ensures { result ≡ first_number self }
     {
         match self {
-            Inbox::Empty => 0,
-            Inbox::One { first } | Inbox::Two { first, .. } => u64::from(first),
+            ReceiveBuffer::Empty => 0,
+            ReceiveBuffer::One { first } | ReceiveBuffer::Two { first, .. } => u64::from(first),
         }
     }
 
@@ -144,36 +144,36 @@ impl Inbox {
         ensures { result ≡ second_number self }
     {
         match self {
-            Inbox::Empty | Inbox::One { .. } => 0,
-            Inbox::Two { second, .. } => u64::from(second),
+            ReceiveBuffer::Empty | ReceiveBuffer::One { .. } => 0,
+            ReceiveBuffer::Two { second, .. } => u64::from(second),
         }
     }
 }
 
 // The receive buffer of its numbers.
-fn inbox_of(received: u64, first: u8, second: u8) -> Inbox
-    ensures { result ≡ inbox_of received first second }
+fn receive_buffer_of(received: u64, first: u8, second: u8) -> ReceiveBuffer
+    ensures { result ≡ receive_buffer_of received first second }
 {
     match received {
-        0 => Inbox::Empty,
-        1 => Inbox::One { first },
-        _ => Inbox::Two { first, second },
+        0 => ReceiveBuffer::Empty,
+        1 => ReceiveBuffer::One { first },
+        _ => ReceiveBuffer::Two { first, second },
     }
 }
 
 // The byte that waits, 0 where none does.
-fn waiting_number(waiting: Option<u8>) -> u64
-    ensures { result ≡ waiting_number waiting }
+fn transmit_buffer_number(transmit_buffer: Option<u8>) -> u64
+    ensures { result ≡ transmit_buffer_number transmit_buffer }
 {
-    match waiting {
+    match transmit_buffer {
         Some(byte) => u64::from(byte),
         None => 0,
     }
 }
 
 // The byte that waits, of its numbers.
-fn waiting_of(waits: bool, byte: u8) -> Option<u8>
-    ensures { result ≡ waiting_of waits byte }
+fn transmit_buffer_of(waits: bool, byte: u8) -> Option<u8>
+    ensures { result ≡ transmit_buffer_of waits byte }
 {
     if waits { Some(byte) } else { None }
 }

@@ -1,7 +1,7 @@
 // The registers of the port.
 ghost use Rattle.std.specs.Prelude.{◌≡◌, ◌≤◌, ◌^◌, false, Ok, Err, OnOk, OnErr, IfErr};
 
-use crate::{Inbox, Usart};
+use crate::{ReceiveBuffer, Usart};
 use avr_base::StopCause;
 use device_base::{any_bit, bit};
 
@@ -29,20 +29,20 @@ impl Usart {
     fn status(&self) -> u8
         ensures { result ≡ status_of self.now }
     {
-        bit(self.inbox.is_filled(), 0x80)
+        bit(self.receive_buffer.is_filled(), 0x80)
             + bit(self.txc, 0x40)
-            + bit(self.waiting.is_none(), 0x20)
+            + bit(self.transmit_buffer.is_none(), 0x20)
             + bit(self.dor, 0x08)
             + bit(self.double, 0x02)
     }
 
     // Takes the oldest byte that was received, 0 where there is none.
     fn take(&mut self) -> u8
-        ensures byte { result ≡ oldest self.old.inbox }
-        ensures rest { self.new ≡ record self.old { inbox = without_oldest self.old.inbox; dor = false } }
+        ensures byte { result ≡ oldest self.old.receive_buffer }
+        ensures rest { self.new ≡ record self.old { receive_buffer = without_oldest self.old.receive_buffer; dor = false } }
     {
-        let byte = self.inbox.oldest();
-        self.inbox = self.inbox.without_oldest();
+        let byte = self.receive_buffer.oldest();
+        self.receive_buffer = self.receive_buffer.without_oldest();
         self.dor = false;
         byte
     }
@@ -70,10 +70,10 @@ impl Usart {
         if !any_bit(self.control_b, 0x08) {
             return;
         }
-        if self.frame.is_none() {
+        if self.shift_register.is_none() {
             self.start(cycle, byte);
-        } else if self.waiting.is_none() {
-            self.waiting = Some(byte);
+        } else if self.transmit_buffer.is_none() {
+            self.transmit_buffer = Some(byte);
         }
     }
 
@@ -83,7 +83,7 @@ impl Usart {
     {
         self.control_b = b & 0xF9;
         if !any_bit(b, 0x10) {
-            self.inbox = Inbox::Empty;
+            self.receive_buffer = ReceiveBuffer::Empty;
             self.dor = false;
         }
     }

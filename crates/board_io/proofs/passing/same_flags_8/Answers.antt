@@ -1,6 +1,6 @@
 use Rattle.std.proofs.Common.{◌≡◌, ℕ, ◌-◌, true, subst, arith}
 use Rattle.board_io.proofs.Steady.{before_8, halted_8}
-use Rattle.device_clocks.specs.Timer8.{sets_flag_at}
+use Rattle.avr_timers.specs.Timer8.{sets_flag_at}
 use Rattle.board_io.proofs.passing.same_flags_8.Goals as goal
 
 pub returns-in-None-clause-same : goal.returns-in-None-clause-same

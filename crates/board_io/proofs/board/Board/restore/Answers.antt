@@ -1,7 +1,7 @@
 use Rattle.std.proofs.Common.{◌≡◌, ◌∙◌, ap, sym, true, false, Option, Some, None, is_some, Bool}
-use Rattle.device_clocks.specs.Numbers8 as timer8
-use Rattle.device_clocks.specs.Numbers16 as timer16
-use Rattle.device_clocks.specs.declared.prescaler.Prescaler.TheVariants.{Own, Shared}
+use Rattle.avr_timers.specs.Numbers8 as timer8
+use Rattle.avr_timers.specs.Numbers16 as timer16
+use Rattle.avr_timers.specs.declared.prescaler.Prescaler.TheVariants.{Own, Shared}
 use Rattle.serial_ports.specs.UsartNumbers as usart
 use Rattle.serial_ports.specs.SpiNumbers as spi
 use Rattle.serial_ports.specs.RadioNumbers as radio

@@ -1,7 +1,7 @@
 use Rattle.std.proofs.Common.{arith}
 use Rattle.board_io.proofs.Steady.{lines_same, set_by}
-use Rattle.device_clocks.specs.Timer16 as timer16
-use Rattle.device_clocks.specs.Timer8 as timer8
+use Rattle.avr_timers.specs.Timer16 as timer16
+use Rattle.avr_timers.specs.Timer8 as timer8
 use Rattle.board_io.proofs.board.Board.same_lines.Goals as goal
 
 pub returns-clause-same : goal.returns-clause-same

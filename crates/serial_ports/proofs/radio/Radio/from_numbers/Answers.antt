@@ -1,7 +1,7 @@
 use Rattle.std.proofs.Common.{◌∙◌, ap, arith, sym, subst, Some}
 use Rattle.serial_ports.specs.RadioNumbers.{HasNumbers}
-use Rattle.serial_ports.proofs.SavedRadio.{has-numbers, one-radio, radio_of, within}
-use Rattle.serial_ports.proofs.Absent.{owned-most}
+use Rattle.serial_ports.proofs.RadioSaved.{has-numbers, one-radio, radio_of, within}
+use Rattle.serial_ports.proofs.TransmissionSaved.{owned-most}
 use Rattle.serial_ports.proofs.radio.Radio.from_numbers.Goals as goal
 
 pub overflow_cast-heard : goal.overflow_cast-heard

@@ -1,5 +1,5 @@
 use Rattle.std.proofs.Common.{sym, ◌∙◌, refl}
-use Rattle.serial_ports.proofs.Arrivals.{arrives, script-at, script-none}
+use Rattle.serial_ports.proofs.ScriptArrivals.{arrives, script-at, script-none}
 use Rattle.serial_ports.proofs.script.Script.byte_at.Goals as goal
 
 pub returns-in-Some-clause-value : goal.returns-in-Some-clause-value

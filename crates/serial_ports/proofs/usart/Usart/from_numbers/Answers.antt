@@ -1,7 +1,7 @@
 use Rattle.std.proofs.Common.{◌∙◌, ap, arith, sym, Some}
 use Rattle.serial_ports.specs.UsartNumbers.{numbers_of}
-use Rattle.serial_ports.proofs.SavedUsart.{has-numbers, made-is, one-usart, within}
-use Rattle.serial_ports.proofs.Absent.{owned-most}
+use Rattle.serial_ports.proofs.UsartSaved.{has-numbers, made-is, one-usart, within}
+use Rattle.serial_ports.proofs.TransmissionSaved.{owned-most}
 use Rattle.serial_ports.proofs.usart.Usart.from_numbers.Goals as goal
 
 pub overflow_cast-first : goal.overflow_cast-first
@@ -27,10 +27,10 @@ overflow_cast-result-3 c = let w = within c.args.cycle c.args.numbers.now (sym c
 
 pub returns-clause-some : goal.returns-clause-some
 returns-clause-some c =
-    let made = made-is c.args.numbers.now _ _ _ c.inbox_of-inbox.ensures c.transmission_of-frame.ensures c.waiting_of-waiting.ensures in
+    let made = made-is c.args.numbers.now _ _ _ c.receive_buffer_of-receive_buffer.ensures c.transmission_of-shift_register.ensures c.transmit_buffer_of-transmit_buffer.ensures in
     ap numbers_of made ∙ has-numbers c.args.cycle c.args.numbers.now c.told-numbers (sym c.if-not-are_numbers.ensures)
 
 pub returns-clause-one : goal.returns-clause-one
 returns-clause-one c = λ u h fits.
-    let made = made-is c.args.numbers.now _ _ _ c.inbox_of-inbox.ensures c.transmission_of-frame.ensures c.waiting_of-waiting.ensures in
+    let made = made-is c.args.numbers.now _ _ _ c.receive_buffer_of-receive_buffer.ensures c.transmission_of-shift_register.ensures c.transmit_buffer_of-transmit_buffer.ensures in
     ap Some (made ∙ one-usart c.args.numbers.now u h)

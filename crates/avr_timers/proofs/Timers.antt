@@ -1,0 +1,160 @@
+-- Many clocks of a timer's counter: the state after them, and the first that sets a flag.
+use Rattle.std.proofs.Common.{◌≡◌, ℕ, zero, suc, ◌+◌, ◌-◌, ◌/◌, ◌<◌, ◌≤◌, ◌==◌, cond, ◌⊎◌, inl, inr, nat_lt, if◌then◌else◌, Bool, true, false, ◌||◌, Option, Some, None, IfSome, IsSome, is_some, refl, sym, ap, ◌∙◌, arith}
+use Rattle.std.proofs.lemmas.Bool.{cases_lt, eq-eqb, lt-ltb, ne_eqb}
+use Rattle.avr_timers.specs.Clock.{clocks_of, cycles, many}
+use Rattle.avr_timers.specs.Counter.{path}
+use Rattle.avr_timers.specs.First.{First, earlier_of, is_before, seen}
+use Rattle.avr_timers.proofs.Cycles.{cycles-clocks, cycles-halted, kept-until, many-zero}
+use Rattle.avr_timers.proofs.First.{first-same, first-either, seen-first}
+use Rattle.avr_timers.proofs.Calm.{flags_or-none}
+use Rattle.avr_timers.specs.declared.prescaler.Prescaler.{Prescaler}
+use Rattle.avr_timers.specs.declared.prescaler.Prescaler.TheVariants.{Own, Shared}
+use Rattle.avr_timers.specs.declared.timer_counter.TimerCounter.{TimerCounter}
+use Rattle.avr_timers.specs.Prescaler.{divider_of}
+use Rattle.avr_timers.specs.Timer.{clock, counter_cycle, divider, meets, set_flags, sets, sets_flag_at, top, top_of, count_at}
+
+-- whether it stands at a value after k clocks, none blocked
+abbrev pub at : TimerCounter → Option ℕ → ℕ → Bool
+at c value k = meets false (count_at c k) value
+
+-- a counter whose clock is not blocked, after k clocks
+abbrev pub ran : TimerCounter → ℕ → TimerCounter
+ran c k = record c {
+  count = count_at c k;
+  flags = record {
+    tov = seen c.flags.tov (λ i. count_at c i == c.maximum) k;
+    ocf_a = seen c.flags.ocf_a (λ i. count_at c i == c.compare_a) k;
+    ocf_b = seen c.flags.ocf_b (at c c.compare_b) k;
+    ocf_c = seen c.flags.ocf_c (at c c.compare_c) k;
+    icf = seen c.flags.icf (at c c.icr) k;
+  };
+  match_blocked = false;
+}
+
+pub many-clock : (c : TimerCounter) (k : ℕ) → c.match_blocked ≡ false → many clock k c ≡ ran c k
+unfolding many clock path seen count_at
+many-clock c zero e = ap (λ (b : Bool). let u : TimerCounter = record c { match_blocked = b } in u) e
+many-clock c (suc k) e = ap clock (many-clock c k e)
+
+-- a clock leaves the prescaler alone
+pub keeps : (c : TimerCounter) → divider (clock c) ≡ divider c
+unfolding clock
+keeps c = refl
+
+-- what the code computes is `ran`
+pub ran-from : (c : TimerCounter) (k count : ℕ) (x r s t i : Option ℕ) (tov ocf_a ocf_b ocf_c icf : Bool) → c.match_blocked ≡ false
+    → First (λ j. count_at c j == c.maximum) x → First (λ j. count_at c j == c.compare_a) r → First (at c c.compare_b) s → First (at c c.compare_c) t → First (at c c.icr) i
+    → count ≡ count_at c k → tov ≡ (c.flags.tov || is_before x k) → ocf_a ≡ (c.flags.ocf_a || is_before r k) → ocf_b ≡ (c.flags.ocf_b || is_before s k)
+    → ocf_c ≡ (c.flags.ocf_c || is_before t k) → icf ≡ (c.flags.icf || is_before i k)
+    → (let u : TimerCounter = record c { count = count; flags = record { tov = tov; ocf_a = ocf_a; ocf_b = ocf_b; ocf_c = ocf_c; icf = icf } } in u) ≡ many clock k c
+ran-from c k count x r s t i tov ocf_a ocf_b ocf_c icf e fx fr fs ft fi hn hx hr hs ht hi =
+    let sx = seen-first c.flags.tov (λ j. count_at c j == c.maximum) x k fx in
+    let sr = seen-first c.flags.ocf_a (λ j. count_at c j == c.compare_a) r k fr in
+    let ss = seen-first c.flags.ocf_b (at c c.compare_b) s k fs in
+    let st = seen-first c.flags.ocf_c (at c c.compare_c) t k ft in
+    let si = seen-first c.flags.icf (at c c.icr) i k fi in
+    let all = many-clock c k e in
+    cc
+
+-- whether the clock after k clocks, none blocked, sets a flag
+abbrev sets_after : TimerCounter → ℕ → Bool
+sets_after c k = count_at c k == c.maximum || count_at c k == c.compare_a || at c c.compare_b k || at c c.compare_c k || at c c.icr k
+
+-- the first clock that sets a flag, none blocked
+pub first-ran : (c : TimerCounter) (x r s t i : Option ℕ) → c.match_blocked ≡ false
+    → First (λ j. count_at c j == c.maximum) x → First (λ j. count_at c j == c.compare_a) r → First (at c c.compare_b) s → First (at c c.compare_c) t → First (at c c.icr) i
+    → First (λ k. sets (many clock k c)) (earlier_of (earlier_of (earlier_of (earlier_of x r) s) t) i)
+first-ran c x r s t i e fx fr fs ft fi =
+    first-same (sets_after c) (λ k. sets (many clock k c)) (earlier_of (earlier_of (earlier_of (earlier_of x r) s) t) i)
+    (λ k. sym (ap sets (many-clock c k e)))
+    (first-either (λ j. count_at c j == c.maximum || count_at c j == c.compare_a || at c c.compare_b j || at c c.compare_c j) (at c c.icr) (earlier_of (earlier_of (earlier_of x r) s) t) i
+    (first-either (λ j. count_at c j == c.maximum || count_at c j == c.compare_a || at c c.compare_b j) (at c c.compare_c) (earlier_of (earlier_of x r) s) t
+    (first-either (λ j. count_at c j == c.maximum || count_at c j == c.compare_a) (at c c.compare_b) (earlier_of x r) s
+    (first-either (λ j. count_at c j == c.maximum) (λ j. count_at c j == c.compare_a) x r fx fr) fs) ft) fi)
+
+-- one of two events that comes
+either_comes : (sooner : Bool) (v w : ℕ) → IsSome (if sooner then Some v else Some w)
+either_comes true v w = refl
+either_comes false v w = refl
+
+some_first : (a b : Option ℕ) → IsSome a → IsSome (earlier_of a b)
+some_first (Some v) None e = e
+some_first (Some v) (Some w) e = either_comes (nat_lt v w) v w
+some_first None b e = absurd (cc)
+
+some_second : (a b : Option ℕ) → IsSome b → IsSome (earlier_of a b)
+some_second None b e = e
+some_second (Some v) (Some w) e = either_comes (nat_lt v w) v w
+some_second (Some v) None e = absurd (cc)
+
+-- the counter comes to its top, so a flag is set
+comes_by : (icr : Option ℕ) (clears : Bool) (a max : ℕ) (x r s t i : Option ℕ)
+    → (max ≤ top_of icr clears a max → IsSome x) → (a ≤ top_of icr clears a max → IsSome r)
+    → (IfSome icr (λ v. v ≤ top_of icr clears a max) → is_some icr ≡ true → IsSome i)
+    → IsSome (earlier_of (earlier_of (earlier_of (earlier_of x r) s) t) i)
+comes_by (Some v) clears a max x r s t i f g h = some_second _ i (h (omega arith) refl)
+comes_by None true a max x r s t i f g h = some_first _ i (some_first _ t (some_first _ s (some_second x r (g (omega arith)))))
+comes_by None false a max x r s t i f g h = some_first _ i (some_first _ t (some_first _ s (some_first x r (f (omega arith)))))
+
+pub comes : (c : TimerCounter) (x r s t i : Option ℕ) → (c.maximum ≤ top c → IsSome x) → (c.compare_a ≤ top c → IsSome r)
+    → (IfSome c.icr (λ v. v ≤ top c) → is_some c.icr ≡ true → IsSome i) → IsSome (earlier_of (earlier_of (earlier_of (earlier_of x r) s) t) i)
+comes c x r s t i f g h = comes_by c.icr c.clears_at_a c.compare_a c.maximum x r s t i f g h
+
+-- at the maximum the next clock sets a flag, be it blocked or not
+pub sets-last : (c : TimerCounter) → c.count ≡ c.maximum → sets (many clock 0 c) ≡ true
+unfolding many
+sets-last c e = let n = eq-eqb c.count c.maximum e in rw n refl
+
+meets-blocked : (count : ℕ) (value : Option ℕ) → meets true count value ≡ false
+meets-blocked count None = refl
+meets-blocked count (Some v) = refl
+
+-- below it a blocked clock sets none
+pub sets-blocked : (c : TimerCounter) → c.match_blocked ≡ true → (c.count ≡ c.maximum → ⊥) → sets c ≡ false
+sets-blocked c b e =
+    let n : (c.count == c.maximum) ≡ false = ne_eqb c.count c.maximum e in
+    let s = meets-blocked c.count c.compare_b in
+    let t = meets-blocked c.count c.compare_c in
+    let i = meets-blocked c.count c.icr in
+    rw (n, b, s, t, i) refl
+
+pub count_at-from : (c : TimerCounter) (t i r : ℕ) → t ≡ top c → r ≡ path c.maximum t c.count i → r ≡ count_at c i
+unfolding count_at
+count_at-from c t i r e h = h ∙ ap (λ v. path c.maximum v c.count i) e
+
+-- ---- for the timers and the board above
+many-cycles : (d t n : ℕ) (c : TimerCounter) → divider c ≡ d → (0 < d) ⊎ (d ≤ 0) → cycles counter_cycle t n c ≡ many clock (clocks_of d t n) c
+many-cycles d t n c e (inl some) =
+    let on = lt-ltb 0 d some in
+    cycles-clocks divider clock keeps t n d c e some ∙ ap (λ k. many clock k c) (sym (ap (λ b. cond b ((t + n) / d - t / d) 0) on))
+many-cycles d t n c e (inr none) =
+    let zero_d : d ≡ 0 = omega arith in
+    cycles-halted divider clock keeps t n c (e ∙ zero_d) ∙ (sym (many-zero clock c) ∙ ap (λ k. many clock (clocks_of k t n) c) (sym zero_d))
+
+-- many cycles are so many clocks
+pub cycles-many : (t n : ℕ) (c : TimerCounter) → cycles counter_cycle t n c ≡ many clock (clocks_of (divider c) t n) c
+cycles-many t n c = many-cycles (divider c) t n c refl (cases_lt 0 (divider c))
+
+pub cycles-none : (t n k : ℕ) (c : TimerCounter) → k ≡ clocks_of (divider c) t n → k ≡ 0 → cycles counter_cycle t n c ≡ c
+cycles-none t n k c e none = cycles-many t n c ∙ (ap (λ i. many clock i c) (sym e ∙ none) ∙ many-zero clock c)
+
+-- a clock that sets no flag leaves the flags alone
+calm : (c : TimerCounter) → sets c ≡ false → (clock c).flags ≡ c.flags
+unfolding clock
+calm c e = flags_or-none c.flags (set_flags c) e
+
+-- the flags stay until a cycle sets one
+pub flags-until : (t n : ℕ) (c : TimerCounter) → ((i : ℕ) → i < n → sets_flag_at t c i ≡ false) → (cycles counter_cycle t n c).flags ≡ c.flags
+flags-until t n c none = kept-until divider clock keeps (λ (u : TimerCounter). u.flags) sets calm t n c none
+
+halted : (p : Prescaler) → divider_of p 0 ≡ 0
+unfolding divider_of
+halted Own = refl
+halted Shared = refl
+
+pub undivided : (p : Prescaler) (s : ℕ) → s ≡ 0 → divider_of p s ≡ 0
+undivided p s e = ap (divider_of p) e ∙ halted p
+
+-- a halted counter stays as it is
+pub cycles-stopped : (t n : ℕ) (c : TimerCounter) → c.select ≡ 0 → cycles counter_cycle t n c ≡ c
+cycles-stopped t n c e = cycles-halted divider clock keeps t n c (undivided c.prescaler c.select e)
