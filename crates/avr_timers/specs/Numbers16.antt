@@ -1,5 +1,5 @@
--- The thirteen numbers of a 16-bit timer, by which it is saved and restored: TCCRB, TCNT, the three compare values, ICR,
--- TEMP, whether the next compare match is blocked, TOV, OCFA, OCFB, OCFC and ICF. TCCRA reads 0 in each mode.
+-- The thirteen numbers of a 16-bit timer, by which it is saved and restored: TCCRB, TCNT, the three compare values,
+-- ICR, TEMP, whether the next compare match is blocked, TOV, OCFA, OCFB, OCFC and ICF. TCCRA reads 0 in each mode.
 use Rattle.std.specs.Prelude.{◌≡◌, ◌<◌, ℕ, ◌*◌, ◌/◌, ◌%◌, nat_le, ◌&&◌, not, if◌then◌else◌, Bool, Option, None, is_some, List, [], ◌∷◌, slice_index}
 use Rattle.std.specs.List.{list_all}
 use Rattle.device_base.specs.Bits.{any_bit, bit}

@@ -3,8 +3,8 @@ ghost use Rattle.std.specs.Prelude.{◌≡◌, ◌≤◌, ◌==◌, ℕ, IsSome,
 ghost use Rattle.avr_timers.specs.Counter.{path, stepped, wraps_at};
 ghost use Rattle.avr_timers.specs.First.{First};
 
-/// A counter after one clock: 0 after its maximum, and after its `top` unless a write of TCNT blocked the compare match of
-/// this clock; else one more.
+/// A counter after one clock: 0 after its maximum, and after its `top` unless a write of TCNT blocked the compare match
+/// of this clock; else one more.
 #[inline]
 pub fn stepped(max: u16, top: u16, match_blocked: bool, count: u16) -> u16
     requires { count ≤ max }
@@ -31,8 +31,8 @@ fn wraps_at(max: u16, top: u16, count: u16) -> u16
     if count <= top { top } else { max }
 }
 
-/// A counter after so many `clocks`, none of which is blocked. It runs to the value at which it wraps, `top` or from above
-/// it `max`, and from 0 on it is periodic.
+/// A counter after so many `clocks`, none of which is blocked. It runs to the value at which it wraps, `top` or from
+/// above it `max`, and from 0 on it is periodic.
 pub fn count_after(max: u16, top: u16, count: u16, clocks: u64) -> u16
     requires top { top ≤ max }
     requires count { count ≤ max }

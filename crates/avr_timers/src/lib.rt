@@ -1,7 +1,8 @@
-//! The timers of the ATmega128. Prescalers, counters with their compare values, and how many cycles pass until a flag is set,
-//! in closed form; timers 0 and 2 of eight bits (`timer8`), with one compare value, normal and CTC mode; timers 1 and 3 of
-//! sixteen bits (`timer16`), with three compare values, the two modes that clear the counter, and registers with a shared
-//! byte TEMP; and their flags. A timer moves as its counter does, cycle by cycle, or over many cycles at once.
+//! The timers of the ATmega128. Prescalers, counters with their compare values, and how many cycles pass until a flag
+//! is set, in closed form; timers 0 and 2 of eight bits (`timer8`), with one compare value, normal and CTC mode; timers
+//! 1 and 3 of sixteen bits (`timer16`), with three compare values, the two modes that clear the counter, and registers
+//! with a shared byte TEMP; and their flags. A timer moves as its counter does, cycle by cycle, or over many cycles at
+//! once.
 #![tactic(auto)]
 
 mod clock;

@@ -8,8 +8,8 @@ use device_base::all_fit;
 impl Timer16 {
     ghost use Rattle.avr_timers.specs.Numbers16.{HasNumbers, fits, numbers_of};
 
-    /// Its numbers: TCCRB, TCNT, OCRA, OCRB, OCRC, ICR, TEMP, then as 0 or 1 whether the next compare match is
-    /// blocked, TOV, OCFA, OCFB, OCFC and ICF. Where its clock select is at most 5, `from_numbers` makes an equal timer.
+    /// Its numbers: TCCRB, TCNT, OCRA, OCRB, OCRC, ICR, TEMP, then as 0 or 1 whether the next compare match is blocked,
+    /// TOV, OCFA, OCFB, OCFC and ICF. Where its clock select is at most 5, `from_numbers` makes an equal timer.
     pub fn numbers(&self) -> [u64; 13]
         ensures value { result ≡ numbers_of self.now }
         ensures within { self.now.select ≤ 5 → are_numbers result ≡ true }
@@ -31,8 +31,8 @@ impl Timer16 {
         ]
     }
 
-    /// A test for each of these `numbers`, whether it is within its bound: TCCRB is a byte that `put` accepts, as it reads,
-    /// TEMP is a byte, the five before it have sixteen bits, and the others are 0 or 1.
+    /// A test for each of these `numbers`, whether it is within its bound: TCCRB is a byte that `put` accepts, as it
+    /// reads, TEMP is a byte, the five before it have sixteen bits, and the others are 0 or 1.
     #[tactic(auto, unfolding(crate::specs::Numbers16::fits))]
     pub fn fits(numbers: &[u64; 13]) -> [bool; 13]
         ensures { result ≡ fits numbers.now }
@@ -69,7 +69,8 @@ impl Timer16 {
         ]
     }
 
-    /// The timer that has these `numbers`, in the order of `numbers`. `None` exactly where one of them breaks its bound.
+    /// The timer that has these `numbers`, in the order of `numbers`. `None` exactly where one of them breaks its
+    /// bound.
     pub fn from_numbers(numbers: &[u64; 13]) -> Option<Timer16>
         ensures none { is_some result ≡ are_numbers numbers.now }
         ensures some { IfSome result (λ tm. HasNumbers numbers.now tm) }

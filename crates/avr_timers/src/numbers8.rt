@@ -24,8 +24,8 @@ impl Timer8 {
         ]
     }
 
-    /// A test for each of these `numbers`, whether it is within its bound for a timer of this prescaler. TCCR is a byte that
-    /// `put` accepts, as it reads, TCNT and OCR are bytes, and the others are 0 or 1.
+    /// A test for each of these `numbers`, whether it is within its bound for a timer of this prescaler. TCCR is a byte
+    /// that `put` accepts, as it reads, TCNT and OCR are bytes, and the others are 0 or 1.
     #[tactic(auto, unfolding(crate::specs::Numbers8::fits))]
     pub fn fits(prescaler: Prescaler, numbers: &[u64; 6]) -> [bool; 6]
         ensures { result ≡ fits prescaler numbers.now }
@@ -41,7 +41,8 @@ impl Timer8 {
         ]
     }
 
-    /// The timer that has these `numbers`, in the order of `numbers`. `None` exactly where one of them breaks its bound.
+    /// The timer that has these `numbers`, in the order of `numbers`. `None` exactly where one of them breaks its
+    /// bound.
     pub fn from_numbers(prescaler: Prescaler, numbers: &[u64; 6]) -> Option<Timer8>
         ensures none { is_some result ≡ are_numbers prescaler numbers.now }
         ensures some { IfSome result (λ tm. HasNumbers prescaler numbers.now tm) }

@@ -106,9 +106,9 @@ impl Timer16 {
     }
 
     /// Writes the byte `b` to the register `reg`. A write of a high byte fills TEMP, one of a low byte writes both
-    /// bytes; ICR is written only where it is the top, and a write of TCNT blocks the next compare match. It stops, and changes
-    /// nothing, exactly where the byte asks for what is not simulated: a pin driven by a compare match, a mode other
-    /// than 0, 4 and 12, a clock from a pin, a forced compare match.
+    /// bytes; ICR is written only where it is the top, and a write of TCNT blocks the next compare match. It stops, and
+    /// changes nothing, exactly where the byte asks for what is not simulated: a pin driven by a compare match, a mode
+    /// other than 0, 4 and 12, a clock from a pin, a forced compare match.
     pub fn put(&mut self, reg: Reg16, b: u8) -> Result<(), StopCause>
         ensures ok { OnOk result (put_of self.old reg b ≡ Ok self.new) }
         ensures err { IfErr result (λ cause. put_of self.old reg b ≡ Err cause) }

@@ -30,9 +30,9 @@ impl Timer8 {
         }
     }
 
-    /// Writes the byte `b` to the register `reg`. A write of TCNT blocks the next compare match. It stops, and changes nothing,
-    /// exactly where the byte asks for what is not simulated, looked for in this order: a forced compare match, a PWM
-    /// mode, a pin driven by a compare match, a clock from a pin.
+    /// Writes the byte `b` to the register `reg`. A write of TCNT blocks the next compare match. It stops, and changes
+    /// nothing, exactly where the byte asks for what is not simulated, looked for in this order: a forced compare
+    /// match, a PWM mode, a pin driven by a compare match, a clock from a pin.
     pub fn put(&mut self, reg: Reg8, b: u8) -> Result<(), StopCause>
         ensures ok { OnOk result (put_of self.old reg b ≡ Ok self.new) }
         ensures err { IfErr result (λ cause. put_of self.old reg b ≡ Err cause) }

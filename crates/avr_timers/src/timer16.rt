@@ -136,7 +136,7 @@ impl Timer16 {
         self.set_counter(counter);
     }
 
-    // So many clocks.
+    // Clocks its counter so many times.
     #[inline(always)]
     fn clock_times(&mut self, clocks: u64)
         ensures { self.new ≡ with_counter self.old (many counter.clock clocks (counter_of self.old)) }
@@ -146,7 +146,7 @@ impl Timer16 {
         self.set_counter(counter);
     }
 
-    // Many clocks, in a call of its own: inlined, its code would slow the leaps of no clock or one.
+    // Clocks it many times, in a call of its own: inlined, the code would slow the leaps of no clock or one.
     #[inline(never)]
     fn clock_many_times(&mut self, clocks: u64)
         ensures { self.new ≡ with_counter self.old (many counter.clock clocks (counter_of self.old)) }

@@ -142,7 +142,7 @@ impl TimerCounter {
         }
     }
 
-    // So many clocks, none blocked.
+    // Clocks it so many times, none of them blocked.
     #[inline(always)]
     fn run(&mut self, clocks: u64)
         requires free { self.old.match_blocked ≡ false }
@@ -166,7 +166,7 @@ impl TimerCounter {
         };
     }
 
-    /// So many clocks, in a time that does not depend on their number.
+    /// Clocks it so many times, in a time that does not depend on their number.
     #[inline(always)]
     pub fn clock_times(&mut self, clocks: u64)
         requires count { self.old.count ≤ self.old.maximum }

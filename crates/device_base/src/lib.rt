@@ -1,5 +1,5 @@
-//! What the devices of the ATmega128 share: bits of their registers, and lists of numbers by which a device is saved and
-//! restored.
+//! What the devices of the ATmega128 share: bits of their registers, and lists of numbers by which a device is saved
+//! and restored.
 #![tactic(auto)]
 
 mod bits;

@@ -1,5 +1,5 @@
--- Numbers by which a port is saved and restored: what its transmission, its buffers and their bounds are. A number whose
--- owner is absent is 0.
+-- Numbers by which a port is saved and restored: what its transmission, its buffers and their bounds are. A number
+-- whose owner is absent is 0.
 use Rattle.std.specs.Prelude.{ℕ, ◌==◌, ◌^◌, nat_le, ◌&&◌, if◌then◌else◌, Bool, Option, None, Some}
 use Rattle.serial_ports.specs.declared.transmission.Transmission.{Transmission}
 

@@ -28,8 +28,8 @@ send_transfer t b r =
     if nat_le r.free t then (Send b 0, record r { free = t + r.byte_time; state = Idle })
     else (Answer 1, in_state Idle r)
 
--- after a sample three transfers answer its status, its byte and its age, whatever byte they bring; a sample is answered
--- before the next transfer
+-- after a sample three transfers answer its status, its byte and its age, whatever byte they bring; a sample is
+-- answered before the next transfer
 abbrev pub selected_transfer : ℕ → ℕ → RadioState → Radio → Moved × Radio
 selected_transfer t b Idle r = idle_transfer b r
 selected_transfer t b ToSend r = send_transfer t b r

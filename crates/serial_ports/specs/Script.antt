@@ -23,7 +23,8 @@ abbrev pub Arrives : ScriptBytes → ℕ → Option ℕ → Type 0
 Arrives s t (Some b) = (i : ℕ) × (t ≡ s.at + i * s.every) × (slice_get s.bytes i ≡ Some b)
 Arrives s t None = (i : ℕ) → i < length s.bytes → t ≡ s.at + i * s.every → ⊥
 
--- in how many cycles from cycle t on no byte arrives: one does in the cycle after them; none where no byte comes any more
+-- in how many cycles from cycle t on no byte arrives: one does in the cycle after them; none where no byte comes any
+-- more
 abbrev pub IsQuiet : ScriptBytes → ℕ → Option ℕ → Type 0
 IsQuiet s t (Some n) = ((i : ℕ) → i < n → script_byte s (t + i) ≡ None) × (is_some (script_byte s (t + n)) ≡ true)
 IsQuiet s t None = (i : ℕ) → script_byte s (t + i) ≡ None

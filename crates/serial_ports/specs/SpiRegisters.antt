@@ -35,8 +35,8 @@ sent_out t b s =
     else if is_some s.shift_register then record s { wcol = true }
     else record s { shift_register = Some (record { ends = t + transfer_cycles s; byte = b }) }
 
--- the port after a write of the byte b in cycle t, or why that stops: SPE without MSTR, bit 4, asks for a slave. A write
--- that clears SPE abandons the transfer that runs; of SPSR SPI2X alone is written
+-- the port after a write of the byte b in cycle t, or why that stops: SPE without MSTR, bit 4, asks for a slave. A
+-- write that clears SPE abandons the transfer that runs; of SPSR SPI2X alone is written
 abbrev pub put_of : ℕ → Spi → SpiReg → ℕ → Result Spi StopCause
 put_of t s Control b =
     if any_bit b 0x40 && not (any_bit b 0x10) then Err stop.SpiSlave

@@ -1,5 +1,5 @@
--- The fourteen numbers of the port: U2X, UCSR0B, UCSR0C, UBRR0, TXC, DOR, how many bytes were received, the first and the
--- second, whether a frame runs, its end and its byte, whether a byte waits, and that byte.
+-- The fourteen numbers of the port: U2X, UCSR0B, UCSR0C, UBRR0, TXC, DOR, how many bytes were received, the first and
+-- the second, whether a frame runs, its end and its byte, whether a byte waits, and that byte.
 use Rattle.std.specs.Prelude.{ℕ, ◌==◌, nat_le, ◌&&◌, not, if◌then◌else◌, Bool, Option, None, Some, is_some, List, [], ◌∷◌, slice_index}
 use Rattle.std.specs.List.{list_all}
 use Rattle.device_base.specs.Bits.{any_bit, bit}
@@ -51,8 +51,8 @@ numbers_of u =
     ∷ transmit_buffer_number u.transmit_buffer
     ∷ []
 
--- a test for each number, whether it is within its bound, of a port before cycle t: UCSR0B as it reads, with bits 2 and 1
--- clear; the four low bits of UCSR0C; twelve bits of UBRR0; at most two bytes; a byte waits only where a frame runs
+-- a test for each number, whether it is within its bound, of a port before cycle t: UCSR0B as it reads, with bits 2 and
+-- 1 clear; the four low bits of UCSR0C; twelve bits of UBRR0; at most two bytes; a byte waits only where a frame runs
 unfoldable pub fits : ℕ → List ℕ → List Bool
 fits t n =
     nat_le (slice_index n 0) 1

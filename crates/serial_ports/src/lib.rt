@@ -1,8 +1,8 @@
-//! The serial ports of the ATmega128 that are simulated. USART0 as an asynchronous port (`usart`): frames, transmit and receive
-//! buffers and registers, cycle by cycle, and the scripts of bytes that arrive at it (`script`). The serial peripheral interface as a
-//! master, its registers, its flags and the transfer that runs; and the radio of a node behind it, byte by byte: a device that
-//! takes one byte to send, or samples the air and answers what it heard in three bytes. What answers a transfer is told to the
-//! interface from outside, at its end.
+//! The serial ports of the ATmega128 that are simulated. USART0 as an asynchronous port (`usart`): frames, transmit and
+//! receive buffers and registers, cycle by cycle, and the scripts of bytes that arrive at it (`script`). The serial
+//! peripheral interface as a master, its registers, its flags and the transfer that runs; and the radio of a node
+//! behind it, byte by byte: a device that takes one byte to send, or samples the air and answers what it heard in three
+//! bytes. What answers a transfer is told to the interface from outside, at its end.
 #![tactic(auto)]
 
 mod numbers;

@@ -11,8 +11,8 @@ impl Radio {
     ghost use Rattle.serial_ports.specs.RadioNumbers.{HasNumbers, fits, numbers_of};
 
     /// Its numbers: its state (0 idle, 1 waits for the byte to send, 2 to 4 with three, two and one answers left), the
-    /// status, the byte and the age of what was heard, 0 where nothing is to be answered, and the first cycle in which it
-    /// may send again. A radio whose sample is not answered yet has 5 as its state, which `from_numbers` refuses.
+    /// status, the byte and the age of what was heard, 0 where nothing is to be answered, and the first cycle in which
+    /// it may send again. A radio whose sample is not answered yet has 5 as its state, which `from_numbers` refuses.
     pub fn numbers(&self) -> [u64; 5]
         ensures { result ≡ numbers_of self.now }
     {
@@ -26,8 +26,8 @@ impl Radio {
         ]
     }
 
-    /// A test for each of these `numbers`, whether it is within its bound: the state is at most 4, the status at most 2, byte
-    /// and age are bytes, all three are 0 in the states 0 and 1, and the cycle is at most 2^41.
+    /// A test for each of these `numbers`, whether it is within its bound: the state is at most 4, the status at most
+    /// 2, byte and age are bytes, all three are 0 in the states 0 and 1, and the cycle is at most 2^41.
     #[tactic(auto, unfolding(crate::specs::RadioNumbers::fits))]
     pub fn fits(numbers: &[u64; 5]) -> [bool; 5]
         ensures { result ≡ fits numbers.now }

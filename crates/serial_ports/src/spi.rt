@@ -82,8 +82,8 @@ impl Spi {
         byte_of(self.shift_register)
     }
 
-    /// Ends the transfer that runs, which brought the byte `miso`: SPDR reads it from now on, and SPIF is set. The result
-    /// is the byte that went out.
+    /// Ends the transfer that runs, which brought the byte `miso`: SPDR reads it from now on, and SPIF is set. The
+    /// result is the byte that went out.
     pub fn finish(&mut self, miso: u8) -> u8
         requires { is_some self.old.shift_register ≡ true }
         ensures sent { byte_of self.old.shift_register ≡ Some result }

@@ -9,8 +9,9 @@ use device_base::all_fit;
 impl Spi {
     ghost use Rattle.serial_ports.specs.SpiNumbers.{fits, numbers_of};
 
-    /// Its numbers: SPCR, SPI2X, the byte that SPDR reads, whether a transfer runs, its end in cycles and its byte, SPIF,
-    /// WCOL, and whether SPIF and WCOL are noted. Flags are 0 or 1; without a transfer its end and its byte are 0.
+    /// Its numbers: SPCR, SPI2X, the byte that SPDR reads, whether a transfer runs, its end in cycles and its byte,
+    /// SPIF, WCOL, and whether SPIF and WCOL are noted. Flags are 0 or 1; without a transfer its end and its byte are
+    /// 0.
     pub fn numbers(&self) -> [u64; 10]
         ensures { result ≡ numbers_of self.now }
     {
@@ -28,8 +29,8 @@ impl Spi {
         ]
     }
 
-    /// A test for each of these `numbers`, whether it is within its bound for an interface before the cycle `cycle`: SPCR is
-    /// a byte that `put` accepts, a transfer runs only with SPE, and ends from `cycle` to 2^41.
+    /// A test for each of these `numbers`, whether it is within its bound for an interface before the cycle `cycle`:
+    /// SPCR is a byte that `put` accepts, a transfer runs only with SPE, and ends from `cycle` to 2^41.
     #[tactic(auto, unfolding(crate::specs::SpiNumbers::fits))]
     pub fn fits(cycle: u64, numbers: &[u64; 10]) -> [bool; 10]
         ensures { result ≡ fits cycle numbers.now }
@@ -62,8 +63,8 @@ impl Spi {
         ]
     }
 
-    /// The interface that has these `numbers`, in the order of `numbers`, before the cycle `cycle`. `None` exactly where
-    /// one of them breaks its bound.
+    /// The interface that has these `numbers`, in the order of `numbers`, before the cycle `cycle`. `None` exactly
+    /// where one of them breaks its bound.
     pub fn from_numbers(cycle: u64, numbers: &[u64; 10]) -> Option<Spi>
         ensures none { is_some result ≡ are_numbers cycle numbers.now }
         ensures some { IfSome result (λ s. numbers_of s ≡ numbers.now) }

@@ -74,10 +74,10 @@ impl Spi {
         }
     }
 
-    /// Writes the byte `b` to the register `reg` in the cycle `cycle`. A write of SPDR clears the flags that were noted,
-    /// and then starts a transfer where the interface is enabled and free; it is lost where not, with WCOL set where a
-    /// transfer runs. A write of SPCR that disables the interface abandons the transfer that runs. Of SPSR only SPI2X is
-    /// written. It stops, and changes nothing, exactly where SPCR would make the interface a slave.
+    /// Writes the byte `b` to the register `reg` in the cycle `cycle`. A write of SPDR clears the flags that were
+    /// noted, and then starts a transfer where the interface is enabled and free; it is lost where not, with WCOL set
+    /// where a transfer runs. A write of SPCR that disables the interface abandons the transfer that runs. Of SPSR only
+    /// SPI2X is written. It stops, and changes nothing, exactly where SPCR would make the interface a slave.
     pub fn put(&mut self, cycle: u64, reg: SpiReg, b: u8) -> Result<(), StopCause>
         requires { cycle ≤ 2 ^ 41 }
         ensures ok { OnOk result (put_of cycle self.old reg b ≡ Ok self.new) }

@@ -25,8 +25,8 @@ pub struct Usart {
     pub receive_buffer: ReceiveBuffer,
     /// The transmit shift register: the frame that is sent, with its byte cut to the data bits.
     pub shift_register: Option<Transmission>,
-    /// The transmit buffer: the byte written to UDR0 that waits until the shift register is free; UDRE is set where there
-    /// is none.
+    /// The transmit buffer: the byte written to UDR0 that waits until the shift register is free; UDRE is set where
+    /// there is none.
     pub transmit_buffer: Option<u8>,
 }
 
@@ -129,8 +129,8 @@ impl Usart {
         }
     }
 
-    /// A byte arrives from outside, cut to the data bits. It is lost where RXEN is clear; where the receive buffer holds
-    /// two bytes already it is lost and DOR is set.
+    /// A byte arrives from outside, cut to the data bits. It is lost where RXEN is clear; where the receive buffer
+    /// holds two bytes already it is lost and DOR is set.
     #[tactic(auto, unfolding(crate::specs::Usart::arrived))]
     pub fn arrive(&mut self, byte: u8)
         ensures { self.new ≡ arrived byte self.old }
@@ -158,8 +158,8 @@ impl Usart {
         }
     }
 
-    /// One cycle of the transmitter, with the number `cycle`: the byte whose frame ends in it, `None` exactly where none
-    /// ends. The byte that waits then begins its frame; where none waits, TXC is set.
+    /// One cycle of the transmitter, with the number `cycle`: the byte whose frame ends in it, `None` exactly where
+    /// none ends. The byte that waits then begins its frame; where none waits, TXC is set.
     #[tactic(auto, unfolding(crate::specs::Usart::frame_ended, crate::specs::Usart::usart_cycle))]
     pub fn tick(&mut self, cycle: u64) -> Option<u8>
         requires { cycle ≤ 2 ^ 41 }

@@ -9,9 +9,9 @@ use device_base::all_fit;
 impl Usart {
     ghost use Rattle.serial_ports.specs.UsartNumbers.{fits, numbers_of};
 
-    /// Its numbers: U2X, UCSR0B, UCSR0C, UBRR0, TXC, DOR, how many bytes were received, the first and the second of them,
-    /// whether a frame runs, its end in cycles and its byte, whether a byte waits, and that byte. Flags are 0 or 1; what
-    /// is not there is 0.
+    /// Its numbers: U2X, UCSR0B, UCSR0C, UBRR0, TXC, DOR, how many bytes were received, the first and the second of
+    /// them, whether a frame runs, its end in cycles and its byte, whether a byte waits, and that byte. Flags are 0 or
+    /// 1; what is not there is 0.
     pub fn numbers(&self) -> [u64; 14]
         ensures { result ≡ numbers_of self.now }
     {
@@ -33,9 +33,9 @@ impl Usart {
         ]
     }
 
-    /// A test for each of these `numbers`, whether it is within its bound for a port before the cycle `cycle`: UCSR0B is a
-    /// byte as it reads, UCSR0C has four bits and UBRR0 twelve, at most two bytes were received, a frame ends from `cycle`
-    /// to 2^41, and a byte waits only where a frame runs.
+    /// A test for each of these `numbers`, whether it is within its bound for a port before the cycle `cycle`: UCSR0B
+    /// is a byte as it reads, UCSR0C has four bits and UBRR0 twelve, at most two bytes were received, a frame ends from
+    /// `cycle` to 2^41, and a byte waits only where a frame runs.
     #[tactic(auto, unfolding(crate::specs::UsartNumbers::fits))]
     pub fn fits(cycle: u64, numbers: &[u64; 14]) -> [bool; 14]
         ensures { result ≡ fits cycle numbers.now }

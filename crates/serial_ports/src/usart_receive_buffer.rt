@@ -3,8 +3,8 @@ ghost use Rattle.std.specs.Prelude.{◌≡◌};
 ghost use Rattle.serial_ports.specs.UsartRegisters.{oldest, without_oldest};
 ghost use Rattle.serial_ports.specs.Usart.{is_filled};
 
-/// The receive buffer of USART0 (ATmega128 datasheet, "Data Reception - The USART Receiver"): up to two bytes that a read of
-/// UDR0 has not given yet.
+/// The receive buffer of USART0 (ATmega128 datasheet, "Data Reception - The USART Receiver"): up to two bytes that a
+/// read of UDR0 has not given yet.
 #[derive(Clone, Copy, PartialEq, Eq)]
 pub enum ReceiveBuffer {
     /// No byte.

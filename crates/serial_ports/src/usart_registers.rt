@@ -88,10 +88,10 @@ impl Usart {
         }
     }
 
-    /// Writes the byte `b` to the register `reg` in `cycle`, which is at most 2^41. A byte written to UDR0 is sent: with
-    /// TXEN set its frame begins in this cycle, or waits for the end of the one that runs, or is lost where another byte
-    /// waits. It stops, with [`StopCause::UsartMode`] and nothing changed, exactly where the byte asks for multi-processor
-    /// mode, nine data bits, synchronous mode or parity.
+    /// Writes the byte `b` to the register `reg` in `cycle`, which is at most 2^41. A byte written to UDR0 is sent:
+    /// with TXEN set its frame begins in this cycle, or waits for the end of the one that runs, or is lost where
+    /// another byte waits. It stops, with [`StopCause::UsartMode`] and nothing changed, exactly where the byte asks for
+    /// multi-processor mode, nine data bits, synchronous mode or parity.
     pub fn put(&mut self, cycle: u64, reg: UsartReg, b: u8) -> Result<(), StopCause>
         requires { cycle ≤ 2 ^ 41 }
         ensures ok { OnOk result (put_of cycle self.old reg b ≡ Ok self.new) }
