@@ -12,6 +12,7 @@ use Rattle.board_io.specs.Board.{kept_at, with_kept}
 use Rattle.board_io.specs.Cycle.{board_quiet, timers_leap}
 use Rattle.board_io.specs.Lagging.{IsAhead, caught_up, is_no_mask, is_plain_read, is_timer_read, is_plain_write}
 use Rattle.board_io.specs.Lines.{lines_of}
+use Rattle.board_io.specs.Names.{ETIMSK, IVSEL, SRE, TIMSK, WDCE, WDE}
 use Rattle.board_io.specs.Registers.{IsGot, IsPut, get_by, put_by}
 use Rattle.board_io.proofs.Radio.{get_by_clock, put_by_clock}
 use Rattle.device_base.specs.Bits.{any_bit}
@@ -166,9 +167,9 @@ not_at at k e same = false_true (sym (ap (λ (b : Bool). not b) (eq-eqb at k (sy
 like_kept : (at y : ℕ) (b : Board) → is_no_mask at ≡ true → IsLike b (with_kept at y b)
 unfolding timers_leap board_quiet lines_of
 like_kept at y b e =
-    let parts = and_parts (not (at == 0x57)) (not (at == 0x7D)) e in
-    let m : kept_at 0x57 (with_kept at y b) ≡ kept_at 0x57 b = get_or-set_other b.kept at 0x57 y 0 (not_at at 0x57 parts.0) in
-    let x : kept_at 0x7D (with_kept at y b) ≡ kept_at 0x7D b = get_or-set_other b.kept at 0x7D y 0 (not_at at 0x7D parts.1) in
+    let parts = and_parts (not (at == TIMSK)) (not (at == ETIMSK)) e in
+    let m : kept_at TIMSK (with_kept at y b) ≡ kept_at TIMSK b = get_or-set_other b.kept at TIMSK y 0 (not_at at TIMSK parts.0) in
+    let x : kept_at ETIMSK (with_kept at y b) ≡ kept_at ETIMSK b = get_or-set_other b.kept at ETIMSK y 0 (not_at at ETIMSK parts.1) in
     record { clock = refl; quiet = λ t. refl; same = λ t i. rw (m, x) refl }
 
 either : (b : Board) (s n : ℕ) (c : Bool) (p q u w : Result Board StopCause) → PutApart b s n p u → PutApart b s n q w → PutApart b s n (if c then p else q) (if c then u else w)
@@ -185,10 +186,10 @@ put_apart Reserved b at x s n e = refl
 put_apart (Pin port) b at x s n e = (refl, itself b)
 put_apart (Kept mask) b at x s n e = kept_apart b at (bit_and x mask) s n e
 put_apart (Guarded bits cause mask) b at x s n e = either b s n (any_bit x bits) _ _ _ _ refl (kept_apart b at (bit_and x mask) s n e)
-put_apart WatchdogControl b at x s n e = either b s n (any_bit x 0x08 && not (any_bit x 0x10)) _ _ _ _ refl (refl, itself b)
+put_apart WatchdogControl b at x s n e = either b s n (any_bit x WDE && not (any_bit x WDCE)) _ _ _ _ refl (refl, itself b)
 put_apart ResetFlags b at x s n e = kept_apart b at _ s n e
 put_apart CpuControl b at x s n e =
-    either b s n (any_bit x 0x80) _ _ _ _ refl (either b s n (any_bit x 0x02) _ _ _ _ refl (kept_apart b at (bit_and x 0x7C) s n e))
+    either b s n (any_bit x SRE) _ _ _ _ refl (either b s n (any_bit x IVSEL) _ _ _ _ refl (kept_apart b at (bit_and x 0x7C) s n e))
 put_apart TimerFlags b at x s n e = absurd (false_true e)
 put_apart ExtendedTimerFlags b at x s n e = absurd (false_true e)
 put_apart (Timer0 reg) b at x s n e = absurd (false_true e)

@@ -1,12 +1,11 @@
 -- The numbers of a board by its devices, and the one board that has them.
-use Rattle.std.proofs.Common.{◌≡◌, ◌≤◌, ◌<◌, ◌+◌, ℕ, Bool, true, false, ◌&&◌, refl, sym, ◌∙◌, ap, arith, List, ◌++◌, length, take, drop, Option, None, Some, is_some}
+use Rattle.std.proofs.Common.{◌≡◌, ℕ, Bool, true, false, ◌&&◌, refl, sym, ◌∙◌, ap, arith, List, ◌++◌, length, take}
 use Rattle.std.specs.List.{list_all}
 use Rattle.std.proofs.Math.Seq.{take-add}
-use Rattle.std.proofs.lemmas.List.{append_assoc, take_all}
+use Rattle.std.proofs.lemmas.List.{take_all}
 use Rattle.std.proofs.lemmas.List.Folds.{list_all-append}
 use Rattle.std.proofs.lemmas.Bool.{and_parts, false≢true}
 use Rattle.board_io.specs.declared.board.Board.{Board}
-use Rattle.board_io.specs.Kept.{kept_of}
 use Rattle.board_io.specs.Saved.{IsRestored, fits, numbers_of}
 use Rattle.device_base.specs.Numbers.{part}
 use Rattle.avr_timers.specs.Numbers8 as timer8

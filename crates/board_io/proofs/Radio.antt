@@ -9,6 +9,7 @@ use Rattle.board_io.specs.declared.rules.Rule.TheVariants.{Reserved, Pin, Kept, 
 use Rattle.board_io.specs.Board.{clock_at, selected, with_kept}
 use Rattle.board_io.specs.Cycle.{board_answered, board_asks, board_begun, board_sends, is_ask, moved, moved_by, samples, sends, sent_by, timers_cycle, timers_leap, transfer_end, usart_cycle, with_moved}
 use Rattle.board_io.specs.Lines.{entered_of}
+use Rattle.board_io.specs.Names.{IVSEL, SPI_STC, SRE, TIMER0_COMP, TIMER0_OVF, TIMER1_COMPA, TIMER1_COMPB, TIMER1_COMPC, TIMER1_OVF, TIMER2_COMP, TIMER2_OVF, TIMER3_COMPA, TIMER3_COMPB, TIMER3_COMPC, TIMER3_OVF, USART0_TX, WDCE, WDE}
 use Rattle.board_io.specs.Registers.{get_by, io_get, io_put, put_by, with_spi, with_t0, with_t1, with_t2, with_t3, with_usart}
 use Rattle.board_io.specs.Table.{rule_of}
 use Rattle.serial_ports.proofs.RadioLaws.{transfer_free, transfer_gap, transfer_sends}
@@ -188,12 +189,12 @@ put_keeps Reserved b at x = refl
 put_keeps (Pin port) b at x = refl
 put_keeps (Kept mask) b at x = refl
 put_keeps (Guarded bits cause mask) b at x = choice (any_bit x bits) (Err cause) (Ok (with_kept at (bit_and x mask) b)) (aside b) refl refl
-put_keeps WatchdogControl b at x = choice (any_bit x 0x08 && not (any_bit x 0x10)) (Err stop.Watchdog) (Ok b) (aside b) refl refl
+put_keeps WatchdogControl b at x = choice (any_bit x WDE && not (any_bit x WDCE)) (Err stop.Watchdog) (Ok b) (aside b) refl refl
 put_keeps ResetFlags b at x = refl
 put_keeps CpuControl b at x =
     let kept : Result Board StopCause = Ok (with_kept at (bit_and x 0x7C) b) in
-    choice (any_bit x 0x80) (Err stop.ExternalMemory) (if any_bit x 0x02 then Err stop.MovedVectors else kept) (aside b) refl
-    (choice (any_bit x 0x02) (Err stop.MovedVectors) kept (aside b) refl refl)
+    choice (any_bit x SRE) (Err stop.ExternalMemory) (if any_bit x IVSEL then Err stop.MovedVectors else kept) (aside b) refl
+    (choice (any_bit x IVSEL) (Err stop.MovedVectors) kept (aside b) refl refl)
 put_keeps TimerFlags b at x = refl
 put_keeps ExtendedTimerFlags b at x = refl
 put_keeps (Timer0 reg) b at x = t0_aside b (reg8.put_of b.t0 reg x)
@@ -226,11 +227,11 @@ apart_from false x y b e f = f
 entered_aside : (word : ℕ) (b : Board) → aside (entered_of word b) ≡ aside b
 unfolding entered_of
 entered_aside word b =
-    apart_from (word == 0x12) _ _ b refl (apart_from (word == 0x14) _ _ b refl (apart_from (word == 0x18) _ _ b refl
-    (apart_from (word == 0x1A) _ _ b refl (apart_from (word == 0x1C) _ _ b refl (apart_from (word == 0x1E) _ _ b refl
-    (apart_from (word == 0x20) _ _ b refl (apart_from (word == 0x22) _ _ b refl (apart_from (word == 0x28) _ _ b refl
-    (apart_from (word == 0x30) _ _ b refl (apart_from (word == 0x34) _ _ b refl (apart_from (word == 0x36) _ _ b refl
-    (apart_from (word == 0x38) _ _ b refl (apart_from (word == 0x3A) _ _ b refl refl)))))))))))))
+    apart_from (word == TIMER2_COMP) _ _ b refl (apart_from (word == TIMER2_OVF) _ _ b refl (apart_from (word == TIMER1_COMPA) _ _ b refl
+    (apart_from (word == TIMER1_COMPB) _ _ b refl (apart_from (word == TIMER1_OVF) _ _ b refl (apart_from (word == TIMER0_COMP) _ _ b refl
+    (apart_from (word == TIMER0_OVF) _ _ b refl (apart_from (word == SPI_STC) _ _ b refl (apart_from (word == USART0_TX) _ _ b refl
+    (apart_from (word == TIMER1_COMPC) _ _ b refl (apart_from (word == TIMER3_COMPA) _ _ b refl (apart_from (word == TIMER3_COMPB) _ _ b refl
+    (apart_from (word == TIMER3_COMPC) _ _ b refl (apart_from (word == TIMER3_OVF) _ _ b refl refl)))))))))))))
 
 pub entered_radio : (word : ℕ) (b : Board) → (entered_of word b).radio ≡ b.radio
 entered_radio word b = ap (λ (p : Aside). p.0) (entered_aside word b)

@@ -1,5 +1,5 @@
 -- The first byte that cannot be the one at its address, as a loop over the places finds it.
-use Rattle.std.proofs.Common.{◌≡◌, ◌≤◌, ◌<◌, ◌+◌, ℕ, Bool, true, false, refl, sym, ◌∙◌, ap, arith, List, length, get_or, nat_lt, cond, Option, None, Some}
+use Rattle.std.proofs.Common.{◌≡◌, ◌≤◌, ◌<◌, ◌+◌, ℕ, Bool, true, false, ◌∙◌, ap, arith, length, get_or, nat_lt, cond, None, Some}
 use Rattle.std.specs.Prelude.{not}
 use Rattle.std.specs.List.{position, position_or_len, range_with_len}
 use Rattle.std.proofs.lemmas.Bool.{lt-ltb, le-ltb}

@@ -5,6 +5,7 @@ use Rattle.std.specs.List.{range_with_len}
 use Rattle.board_io.specs.declared.board.Board.{Board}
 use Rattle.board_io.specs.declared.board.Sleep.{Sleep}
 use Rattle.board_io.specs.declared.board.Sleep.TheVariants.{Off, Idle, Other}
+use Rattle.board_io.specs.Names.{DDRB, MCUCR, PORTB, SE}
 use Rattle.board_io.specs.Table.{start_of}
 use Rattle.serial_ports.specs.Radio.{reset_radio}
 use Rattle.device_base.specs.Bits.{any_bit}
@@ -42,13 +43,13 @@ clock_at t b = record b { clock = t }
 abbrev pub unclocked : Board → Board
 unclocked b = clock_at 0 b
 
--- whether the radio is selected: bit 0 of port B is an output, in DDRB 0x37, and low, in PORTB 0x38
+-- whether the radio is selected: bit 0 of port B is an output, by DDRB, and low, by PORTB
 abbrev pub selected : Board → Bool
-selected b = any_bit (kept_at 0x37 b) 0x01 && not (any_bit (kept_at 0x38 b) 0x01)
+selected b = any_bit (kept_at DDRB b) 0x01 && not (any_bit (kept_at PORTB b) 0x01)
 
--- what SLEEP would do, by MCUCR 0x55: SE is bit 5, the sleep mode bits 4 to 2, of which 000 is idle
+-- what SLEEP would do, by MCUCR: bits 4 to 2 are the sleep mode, of which 000 is idle
 abbrev pub sleep_mode : Board → Sleep
 sleep_mode b =
-    if not (any_bit (kept_at 0x55 b) 0x20) then Off
-    else if any_bit (kept_at 0x55 b) 0x1C then Other
+    if not (any_bit (kept_at MCUCR b) SE) then Off
+    else if any_bit (kept_at MCUCR b) 0x1C then Other
     else Idle

@@ -1,6 +1,7 @@
--- One cycle of the devices, which follows the processor's part: timers 0 to 3, then USART0 (a byte that arrives, then the
--- transmitter), then the serial peripheral interface with the radio. Where a transfer ends that samples the air, the
--- cycle is split there: the rest follows once it is known what was heard. This order is this simulator's own choice.
+-- One cycle of the devices, which follows the processor's part: timers 0 to 3, then USART0 (a byte that arrives, then
+-- the transmitter), then the serial peripheral interface with the radio. Where a transfer ends that samples the air,
+-- the cycle is split there: the rest follows once it is known what was heard. This order is this simulator's own
+-- choice.
 use Rattle.std.specs.Prelude.{ℕ, ◌&&◌, not, Bool, true, false, Option, Some, None}
 use Rattle.board_io.specs.declared.board.Board.{Board}
 use Rattle.board_io.specs.Board.{selected}

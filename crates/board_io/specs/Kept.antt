@@ -7,6 +7,7 @@ use Rattle.board_io.specs.declared.board.Board.{Board}
 use Rattle.board_io.specs.declared.rules.Rule.{Rule}
 use Rattle.board_io.specs.declared.rules.Rule.TheVariants.{Reserved, Pin, Kept, Guarded, WatchdogControl, ResetFlags, CpuControl, TimerFlags, ExtendedTimerFlags, Timer0, Timer1, Timer2, Timer3, Usart0, Spi}
 use Rattle.board_io.specs.Board.{kept_at}
+use Rattle.board_io.specs.Names.{JTD, PORF}
 use Rattle.board_io.specs.Table.{rule_of}
 
 -- whether the board keeps the byte of a register
@@ -27,15 +28,15 @@ is_kept (Timer3 reg) = false
 is_kept (Usart0 reg) = false
 is_kept (Spi reg) = false
 
--- the bits that a kept byte can have, none where the board keeps none. MCUCSR starts with PORF, bit 0, and its reset
--- flags 4 to 0 can only be cleared; JTD is bit 7. Of MCUCR bits 6 to 2 are kept
+-- the bits that a kept byte can have, none where the board keeps none. MCUCSR starts with PORF, and its reset flags 4
+-- to 0 can only be cleared. Of MCUCR bits 6 to 2 are kept
 abbrev pub kept_bits : Rule → ℕ
 kept_bits Reserved = 0
 kept_bits (Pin port) = 0
 kept_bits (Kept mask) = mask
 kept_bits (Guarded bits cause mask) = bit_and mask (255 - bits)
 kept_bits WatchdogControl = 0
-kept_bits ResetFlags = 0x81
+kept_bits ResetFlags = JTD + PORF
 kept_bits CpuControl = 0x7C
 kept_bits TimerFlags = 0
 kept_bits ExtendedTimerFlags = 0

@@ -1,10 +1,11 @@
--- A board that lags behind its clock: the timers' cycles from `settled` on are still to be made up for, and until `next`
--- nothing of it ends and its interrupt lines stay, so that they can be told without a look at the timers.
+-- A board that lags behind its clock: the timers' cycles from `settled` on are still to be made up for, and until
+-- `next` nothing of it ends and its interrupt lines stay, so that they can be told without a look at the timers.
 use Rattle.std.specs.Prelude.{◌≡◌, ℕ, ◌+◌, ◌-◌, ◌^◌, ◌<◌, ◌≤◌, ◌==◌, ◌&&◌, not, Bool, true, false}
 use Rattle.board_io.specs.declared.board.Board.{Board}
 use Rattle.board_io.specs.declared.ahead.Ahead.{Ahead}
 use Rattle.board_io.specs.Cycle.{board_quiet, timers_leap}
 use Rattle.board_io.specs.Lines.{lines_of}
+use Rattle.board_io.specs.Names.{ETIMSK, TIMSK}
 use Rattle.board_io.specs.declared.rules.Rule.{Rule}
 use Rattle.board_io.specs.declared.rules.Rule.TheVariants.{Reserved, Pin, Kept, Guarded, WatchdogControl, ResetFlags, CpuControl, TimerFlags, ExtendedTimerFlags, Timer0, Timer1, Timer2, Timer3, Usart0, Spi}
 use Rattle.serial_ports.specs.declared.spi_registers.SpiReg.{SpiReg}
@@ -80,9 +81,9 @@ is_timer_read (Spi reg) = false
 
 -- neither TIMSK nor ETIMSK, which enable the timers' lines
 abbrev pub is_no_mask : ℕ → Bool
-is_no_mask at = not (at == 0x57) && not (at == 0x7D)
+is_no_mask at = not (at == TIMSK) && not (at == ETIMSK)
 
--- so a write of the register at an address
+-- whether a write by a rule of the register at an address looks at no timer, and leaves the lines and what may end
 abbrev pub is_plain_write : Rule → ℕ → Bool
 is_plain_write Reserved at = true
 is_plain_write (Pin port) at = true

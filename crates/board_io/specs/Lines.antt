@@ -1,8 +1,9 @@
 -- The interrupt lines and what serving an interrupt clears (ATmega128 datasheet, "Interrupt Vectors in ATmega128",
 -- "TIMSK", "ETIMSK"). Line n has the vector at word address 2n.
-use Rattle.std.specs.Prelude.{ℕ, ◌+◌, ◌^◌, ◌==◌, ◌&&◌, ◌||◌, if◌then◌else◌, Bool, true, false}
+use Rattle.std.specs.Prelude.{ℕ, ◌+◌, ◌/◌, ◌^◌, ◌==◌, ◌&&◌, ◌||◌, if◌then◌else◌, Bool, true, false}
 use Rattle.board_io.specs.declared.board.Board.{Board}
 use Rattle.board_io.specs.Board.{kept_at}
+use Rattle.board_io.specs.Names.{ETIMSK, OCIE0, OCIE1A, OCIE1B, OCIE1C, OCIE2, OCIE3A, OCIE3B, OCIE3C, SPI_STC, TIMER0_COMP, TIMER0_OVF, TIMER1_COMPA, TIMER1_COMPB, TIMER1_COMPC, TIMER1_OVF, TIMER2_COMP, TIMER2_OVF, TIMER3_COMPA, TIMER3_COMPB, TIMER3_COMPC, TIMER3_OVF, TIMSK, TOIE0, TOIE1, TOIE2, TOIE3, USART0_RX, USART0_TX, USART0_UDRE}
 use Rattle.device_base.specs.Bits.{any_bit}
 use Rattle.avr_timers.specs.declared.flags.TimerFlags.{TimerFlags}
 use Rattle.avr_base.specs.declared.interrupts.Lines.{Lines}
@@ -11,41 +12,41 @@ use Rattle.avr_timers.specs.Timer16 as timer16
 use Rattle.avr_timers.specs.Timer8 as timer8
 use Rattle.serial_ports.specs.Usart as usart
 
--- line n of a source: its flag, and the bit that enables it
+-- the line of the vector at a word address, by the flag of its source and the bit that enables it
 unfoldable pub line : ℕ → Bool → Bool → ℕ
-line n flag enabled = if flag && enabled then 2 ^ n else 0
+line word flag enabled = if flag && enabled then 2 ^ (word / 2) else 0
 
--- a bit of TIMSK, 0x57, and of ETIMSK, 0x7D
+-- whether a bit of TIMSK is set, and one of ETIMSK
 abbrev pub timsk : Board → ℕ → Bool
-timsk b mask = any_bit (kept_at 0x57 b) mask
+timsk b mask = any_bit (kept_at TIMSK b) mask
 
 abbrev pub etimsk : Board → ℕ → Bool
-etimsk b mask = any_bit (kept_at 0x7D b) mask
+etimsk b mask = any_bit (kept_at ETIMSK b) mask
 
 abbrev pub timer_lines : Board → ℕ
 timer_lines b =
-    line 9 b.t2.ocf_a (timsk b 0x80)  -- 0x0012, TIMER2 COMP
-    + line 10 b.t2.tov (timsk b 0x40)  -- 0x0014, TIMER2 OVF
-    + line 12 b.t1.flags.ocf_a (timsk b 0x10)  -- 0x0018, TIMER1 COMPA
-    + line 13 b.t1.flags.ocf_b (timsk b 0x08)  -- 0x001A, TIMER1 COMPB
-    + line 14 b.t1.flags.tov (timsk b 0x04)  -- 0x001C, TIMER1 OVF
-    + line 15 b.t0.ocf_a (timsk b 0x02)  -- 0x001E, TIMER0 COMP
-    + line 16 b.t0.tov (timsk b 0x01)  -- 0x0020, TIMER0 OVF
+    line TIMER2_COMP b.t2.ocf_a (timsk b OCIE2)
+    + line TIMER2_OVF b.t2.tov (timsk b TOIE2)
+    + line TIMER1_COMPA b.t1.flags.ocf_a (timsk b OCIE1A)
+    + line TIMER1_COMPB b.t1.flags.ocf_b (timsk b OCIE1B)
+    + line TIMER1_OVF b.t1.flags.tov (timsk b TOIE1)
+    + line TIMER0_COMP b.t0.ocf_a (timsk b OCIE0)
+    + line TIMER0_OVF b.t0.tov (timsk b TOIE0)
 
 abbrev pub extended_timer_lines : Board → ℕ
 extended_timer_lines b =
-    line 24 b.t1.flags.ocf_c (etimsk b 0x01)  -- 0x0030, TIMER1 COMPC
-    + line 26 b.t3.flags.ocf_a (etimsk b 0x10)  -- 0x0034, TIMER3 COMPA
-    + line 27 b.t3.flags.ocf_b (etimsk b 0x08)  -- 0x0036, TIMER3 COMPB
-    + line 28 b.t3.flags.ocf_c (etimsk b 0x02)  -- 0x0038, TIMER3 COMPC
-    + line 29 b.t3.flags.tov (etimsk b 0x04)  -- 0x003A, TIMER3 OVF
+    line TIMER1_COMPC b.t1.flags.ocf_c (etimsk b OCIE1C)
+    + line TIMER3_COMPA b.t3.flags.ocf_a (etimsk b OCIE3A)
+    + line TIMER3_COMPB b.t3.flags.ocf_b (etimsk b OCIE3B)
+    + line TIMER3_COMPC b.t3.flags.ocf_c (etimsk b OCIE3C)
+    + line TIMER3_OVF b.t3.flags.tov (etimsk b TOIE3)
 
 abbrev pub port_lines : Board → ℕ
 port_lines b =
-    line 17 (asks_interrupt b.spi) true  -- 0x0022, SPI STC
-    + line 18 (usart.lines_of b.usart).rxc true  -- 0x0024, USART0 RX
-    + line 19 (usart.lines_of b.usart).udre true  -- 0x0026, USART0 UDRE
-    + line 20 (usart.lines_of b.usart).txc true  -- 0x0028, USART0 TX
+    line SPI_STC (asks_interrupt b.spi) true
+    + line USART0_RX (usart.lines_of b.usart).rxc true
+    + line USART0_UDRE (usart.lines_of b.usart).udre true
+    + line USART0_TX (usart.lines_of b.usart).txc true
 
 unfoldable pub lines_of : Board → Lines
 lines_of b = record { bits = timer_lines b + extended_timer_lines b + port_lines b }
@@ -56,32 +57,32 @@ no_flags = record { tov = false; ocf_a = false; ocf_b = false; ocf_c = false; ic
 -- the flag that the interrupt of a timer's vector, at this word address, clears
 abbrev pub served_flag : ℕ → TimerFlags
 served_flag word =
-    if word == 0x12 || word == 0x18 || word == 0x1E || word == 0x34 then record no_flags { ocf_a = true }
-    else if word == 0x1A || word == 0x36 then record no_flags { ocf_b = true }
-    else if word == 0x30 || word == 0x38 then record no_flags { ocf_c = true }
+    if word == TIMER2_COMP || word == TIMER1_COMPA || word == TIMER0_COMP || word == TIMER3_COMPA then record no_flags { ocf_a = true }
+    else if word == TIMER1_COMPB || word == TIMER3_COMPB then record no_flags { ocf_b = true }
+    else if word == TIMER1_COMPC || word == TIMER3_COMPC then record no_flags { ocf_c = true }
     else record no_flags { tov = true }
 
--- the interrupt of the vector at this word address is served: its flag is cleared, but for RXC and UDRE of USART0, which
--- stand as long as there is a byte to read and room for one to write. First those of the ports and of ETIMSK
+-- the interrupt of the vector at this word address is served: its flag is cleared, but for RXC and UDRE of USART0,
+-- which stand as long as there is a byte to read and room for one to write. First those of the ports and of ETIMSK
 abbrev pub entered_beside : ℕ → Board → Board
 entered_beside word b =
-    if word == 0x22 then record b { spi = record b.spi { spif = false } }
-    else if word == 0x28 then record b { usart = record b.usart { txc = false } }
-    else if word == 0x30 then record b { t1 = timer16.cleared b.t1 (record no_flags { ocf_c = true }) }
-    else if word == 0x34 then record b { t3 = timer16.cleared b.t3 (record no_flags { ocf_a = true }) }
-    else if word == 0x36 then record b { t3 = timer16.cleared b.t3 (record no_flags { ocf_b = true }) }
-    else if word == 0x38 then record b { t3 = timer16.cleared b.t3 (record no_flags { ocf_c = true }) }
-    else if word == 0x3A then record b { t3 = timer16.cleared b.t3 (record no_flags { tov = true }) }
+    if word == SPI_STC then record b { spi = record b.spi { spif = false } }
+    else if word == USART0_TX then record b { usart = record b.usart { txc = false } }
+    else if word == TIMER1_COMPC then record b { t1 = timer16.cleared b.t1 (record no_flags { ocf_c = true }) }
+    else if word == TIMER3_COMPA then record b { t3 = timer16.cleared b.t3 (record no_flags { ocf_a = true }) }
+    else if word == TIMER3_COMPB then record b { t3 = timer16.cleared b.t3 (record no_flags { ocf_b = true }) }
+    else if word == TIMER3_COMPC then record b { t3 = timer16.cleared b.t3 (record no_flags { ocf_c = true }) }
+    else if word == TIMER3_OVF then record b { t3 = timer16.cleared b.t3 (record no_flags { tov = true }) }
     else b
 
 -- and, before them, those of TIMSK
 unfoldable pub entered_of : ℕ → Board → Board
 entered_of word b =
-    if word == 0x12 then record b { t2 = timer8.cleared b.t2 (record no_flags { ocf_a = true }) }
-    else if word == 0x14 then record b { t2 = timer8.cleared b.t2 (record no_flags { tov = true }) }
-    else if word == 0x18 then record b { t1 = timer16.cleared b.t1 (record no_flags { ocf_a = true }) }
-    else if word == 0x1A then record b { t1 = timer16.cleared b.t1 (record no_flags { ocf_b = true }) }
-    else if word == 0x1C then record b { t1 = timer16.cleared b.t1 (record no_flags { tov = true }) }
-    else if word == 0x1E then record b { t0 = timer8.cleared b.t0 (record no_flags { ocf_a = true }) }
-    else if word == 0x20 then record b { t0 = timer8.cleared b.t0 (record no_flags { tov = true }) }
+    if word == TIMER2_COMP then record b { t2 = timer8.cleared b.t2 (record no_flags { ocf_a = true }) }
+    else if word == TIMER2_OVF then record b { t2 = timer8.cleared b.t2 (record no_flags { tov = true }) }
+    else if word == TIMER1_COMPA then record b { t1 = timer16.cleared b.t1 (record no_flags { ocf_a = true }) }
+    else if word == TIMER1_COMPB then record b { t1 = timer16.cleared b.t1 (record no_flags { ocf_b = true }) }
+    else if word == TIMER1_OVF then record b { t1 = timer16.cleared b.t1 (record no_flags { tov = true }) }
+    else if word == TIMER0_COMP then record b { t0 = timer8.cleared b.t0 (record no_flags { ocf_a = true }) }
+    else if word == TIMER0_OVF then record b { t0 = timer8.cleared b.t0 (record no_flags { tov = true }) }
     else entered_beside word b

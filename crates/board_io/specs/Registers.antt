@@ -7,6 +7,7 @@ use Rattle.board_io.specs.declared.board.Board.{Board}
 use Rattle.board_io.specs.declared.rules.Rule.{Rule}
 use Rattle.board_io.specs.declared.rules.Rule.TheVariants.{Reserved, Pin, Kept, Guarded, WatchdogControl, ResetFlags, CpuControl, TimerFlags, ExtendedTimerFlags, Timer0, Timer1, Timer2, Timer3, Usart0, Spi}
 use Rattle.board_io.specs.Board.{kept_at, with_kept}
+use Rattle.board_io.specs.Names.{ICF1, ICF3, IVSEL, JTD, OCF0, OCF1A, OCF1B, OCF1C, OCF2, OCF3A, OCF3B, OCF3C, SRE, TOV0, TOV1, TOV2, TOV3, WDCE, WDE}
 use Rattle.board_io.specs.Table.{rule_of}
 use Rattle.device_base.specs.Bits.{any_bit, bit}
 use Rattle.avr_timers.specs.declared.flags.TimerFlags.{TimerFlags as Flags}
@@ -21,30 +22,30 @@ use Rattle.avr_timers.specs.Timer8 as timer8
 use Rattle.serial_ports.specs.declared.usart.Usart.{Usart}
 use Rattle.serial_ports.specs.UsartRegisters as usart
 
--- TIFR: OCF2 7, TOV2 6, ICF1 5, OCF1A 4, OCF1B 3, TOV1 2, OCF0 1, TOV0 0
+-- TIFR
 abbrev pub timer_flags : Board → ℕ
 timer_flags b =
-    bit b.t2.ocf_a 0x80 + bit b.t2.tov 0x40 + bit b.t1.flags.icf 0x20 + bit b.t1.flags.ocf_a 0x10
-    + bit b.t1.flags.ocf_b 0x08 + bit b.t1.flags.tov 0x04 + bit b.t0.ocf_a 0x02 + bit b.t0.tov 0x01
+    bit b.t2.ocf_a OCF2 + bit b.t2.tov TOV2 + bit b.t1.flags.icf ICF1 + bit b.t1.flags.ocf_a OCF1A
+    + bit b.t1.flags.ocf_b OCF1B + bit b.t1.flags.tov TOV1 + bit b.t0.ocf_a OCF0 + bit b.t0.tov TOV0
 
--- ETIFR: ICF3 5, OCF3A 4, OCF3B 3, TOV3 2, OCF3C 1, OCF1C 0
+-- ETIFR
 abbrev pub extended_timer_flags : Board → ℕ
 extended_timer_flags b =
-    bit b.t3.flags.icf 0x20 + bit b.t3.flags.ocf_a 0x10 + bit b.t3.flags.ocf_b 0x08 + bit b.t3.flags.tov 0x04
-    + bit b.t3.flags.ocf_c 0x02 + bit b.t1.flags.ocf_c 0x01
+    bit b.t3.flags.icf ICF3 + bit b.t3.flags.ocf_a OCF3A + bit b.t3.flags.ocf_b OCF3B + bit b.t3.flags.tov TOV3
+    + bit b.t3.flags.ocf_c OCF3C + bit b.t1.flags.ocf_c OCF1C
 
 -- a write of TIFR or ETIFR clears the flags whose bits are written 1
 abbrev pub flags_cleared : ℕ → Board → Board
 flags_cleared x b =
-    let f0 : Flags = record { tov = any_bit x 0x01; ocf_a = any_bit x 0x02; ocf_b = false; ocf_c = false; icf = false } in
-    let f1 : Flags = record { tov = any_bit x 0x04; ocf_a = any_bit x 0x10; ocf_b = any_bit x 0x08; ocf_c = false; icf = any_bit x 0x20 } in
-    let f2 : Flags = record { tov = any_bit x 0x40; ocf_a = any_bit x 0x80; ocf_b = false; ocf_c = false; icf = false } in
+    let f0 : Flags = record { tov = any_bit x TOV0; ocf_a = any_bit x OCF0; ocf_b = false; ocf_c = false; icf = false } in
+    let f1 : Flags = record { tov = any_bit x TOV1; ocf_a = any_bit x OCF1A; ocf_b = any_bit x OCF1B; ocf_c = false; icf = any_bit x ICF1 } in
+    let f2 : Flags = record { tov = any_bit x TOV2; ocf_a = any_bit x OCF2; ocf_b = false; ocf_c = false; icf = false } in
     record b { t0 = timer8.cleared b.t0 f0; t1 = timer16.cleared b.t1 f1; t2 = timer8.cleared b.t2 f2 }
 
 abbrev pub extended_flags_cleared : ℕ → Board → Board
 extended_flags_cleared x b =
-    let f1 : Flags = record { tov = false; ocf_a = false; ocf_b = false; ocf_c = any_bit x 0x01; icf = false } in
-    let f3 : Flags = record { tov = any_bit x 0x04; ocf_a = any_bit x 0x10; ocf_b = any_bit x 0x08; ocf_c = any_bit x 0x02; icf = any_bit x 0x20 } in
+    let f1 : Flags = record { tov = false; ocf_a = false; ocf_b = false; ocf_c = any_bit x OCF1C; icf = false } in
+    let f3 : Flags = record { tov = any_bit x TOV3; ocf_a = any_bit x OCF3A; ocf_b = any_bit x OCF3B; ocf_c = any_bit x OCF3C; icf = any_bit x ICF3 } in
     record b { t1 = timer16.cleared b.t1 f1; t3 = timer16.cleared b.t3 f3 }
 
 -- a read, by the rule of its register: the byte and the board after it. A pin reads the register of its port, as by its
@@ -96,18 +97,18 @@ abbrev pub with_spi : Board → Result SpiPort StopCause → Result Board StopCa
 with_spi b (Ok s) = Ok (record b { spi = s })
 with_spi b (Err cause) = Err cause
 
--- a write of the byte x, by the rule of its register. WDTCR: WDE 3 without WDCE 4 turns the watchdog on. MCUCSR: JTD 7
--- is kept, the reset flags 4 to 0 are cleared where written 0. MCUCR: SRE 7, IVSEL 1, and bits 6 to 2 are kept
+-- a write of the byte x, by the rule of its register. WDTCR: WDE without WDCE turns the watchdog on. MCUCSR: JTD is
+-- kept, the reset flags 4 to 0 are cleared where written 0. MCUCR: bits 6 to 2 are kept
 abbrev pub put_by : Rule → Board → ℕ → ℕ → Result Board StopCause
 put_by Reserved b at x = Err stop.ReservedAddress
 put_by (Pin port) b at x = Ok b
 put_by (Kept mask) b at x = Ok (with_kept at (bit_and x mask) b)
 put_by (Guarded bits cause mask) b at x = if any_bit x bits then Err cause else Ok (with_kept at (bit_and x mask) b)
-put_by WatchdogControl b at x = if any_bit x 0x08 && not (any_bit x 0x10) then Err stop.Watchdog else Ok b
-put_by ResetFlags b at x = Ok (with_kept at (bit_or (bit_and x 0x80) (bit_and (bit_and (kept_at at b) x) 0x1F)) b)
+put_by WatchdogControl b at x = if any_bit x WDE && not (any_bit x WDCE) then Err stop.Watchdog else Ok b
+put_by ResetFlags b at x = Ok (with_kept at (bit_or (bit_and x JTD) (bit_and (bit_and (kept_at at b) x) 0x1F)) b)
 put_by CpuControl b at x =
-    if any_bit x 0x80 then Err stop.ExternalMemory
-    else if any_bit x 0x02 then Err stop.MovedVectors
+    if any_bit x SRE then Err stop.ExternalMemory
+    else if any_bit x IVSEL then Err stop.MovedVectors
     else Ok (with_kept at (bit_and x 0x7C) b)
 put_by TimerFlags b at x = Ok (flags_cleared x b)
 put_by ExtendedTimerFlags b at x = Ok (extended_flags_cleared x b)

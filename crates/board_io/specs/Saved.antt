@@ -1,5 +1,5 @@
--- What a board is saved and restored by beside its byte time: the 67 numbers of its devices, those of timers 0, 2, 1 and 3,
--- of USART0, of the serial peripheral interface and of the radio, and the bytes that it keeps itself.
+-- What a board is saved and restored by beside its byte time: the 67 numbers of its devices, those of timers 0, 2, 1
+-- and 3, of USART0, of the serial peripheral interface and of the radio, and the bytes that it keeps itself.
 use Rattle.std.specs.Prelude.{◌≡◌, ℕ, ◌<◌, Bool, List, ◌++◌}
 use Rattle.board_io.specs.declared.board.Board.{Board}
 use Rattle.board_io.specs.Kept.{kept_of}
@@ -32,8 +32,8 @@ fits t n =
     ++ spi.fits t (part 52 10 n)
     ++ radio.fits (part 62 5 n)
 
--- a board of this byte time that has these numbers and keeps these bytes. The clock select of a timer has three bits, so
--- that its control byte tells it. The clock of the board is no part of it
+-- a board of this byte time that has these numbers and keeps these bytes. The clock select of a timer has three bits,
+-- so that its control byte tells it. The clock of the board is no part of it
 pub record IsRestored (byte_time : ℕ) (n io : List ℕ) (b : Board) : Type 0 where
   pub numbers : numbers_of b ≡ n
   pub kept : b.kept ≡ kept_of io

@@ -1,11 +1,12 @@
--- The I/O registers in the order of their data addresses, as the datasheet lists them (ATmega128 datasheet, "Register Summary"), each with
--- the rule for reading and writing it. An address without a row is reserved. RAMPZ, SPL, SPH and SREG (0x5B, 0x5D,
--- 0x5E, 0x5F) are the core's own and stand in no row.
-use Rattle.std.specs.Prelude.{ℕ, ◌==◌, if◌then◌else◌, true, false, List, [], ◌∷◌}
+-- The I/O registers in the order of their data addresses, as the datasheet lists them (ATmega128 datasheet, "Register
+-- Summary"), each with its name and the rule for reading and writing it. An address without a row is reserved. RAMPZ,
+-- SPL, SPH and SREG (0x5B, 0x5D, 0x5E, 0x5F) are the core's own and stand in no row.
+use Rattle.std.specs.Prelude.{ℕ, ◌+◌, ◌==◌, if◌then◌else◌, true, false, List, [], ◌∷◌}
 use Rattle.std.specs.List.{list_any}
 use Rattle.avr_base.specs.declared.stop.StopCause.TheVariants as stop
 use Rattle.board_io.specs.declared.rules.Rule.{Rule}
 use Rattle.board_io.specs.declared.rules.Rule.TheVariants.{Reserved, Pin, Kept, Guarded, WatchdogControl, ResetFlags, CpuControl, TimerFlags, ExtendedTimerFlags, Timer0, Timer1, Timer2, Timer3, Usart0, Spi}
+use Rattle.board_io.specs.Names.{ACIC, ACIE, ADEN, ADSC, AS0, EEMWE, EERE, EERIE, EEWE, MCUCSR, PORF, PORTA, PORTB, PORTC, PORTD, PORTE, PORTF, PORTG, PSR0, PSR321, RXEN1, TICIE1, TICIE3, TSM, TWAR, TWDR, TWEN, TWSR, TXEN1, UCSR1A, UCSR1C, XDIVEN}
 use Rattle.serial_ports.specs.declared.spi_registers.SpiReg.TheVariants as spi
 use Rattle.avr_timers.specs.declared.registers16.Chan.TheVariants.{A, B, C}
 use Rattle.avr_timers.specs.declared.registers16.Reg16.TheVariants as reg16
@@ -22,13 +23,13 @@ row ats rule = record { ats = ats; rule = rule }
 
 abbrev pub table : List RegisterRow
 table =
-    row (0x20 ∷ []) (Pin 0x62) ∷  -- PINF
-    row (0x21 ∷ []) (Pin 0x23) ∷  -- PINE
+    row (0x20 ∷ []) (Pin PORTF) ∷  -- PINF
+    row (0x21 ∷ []) (Pin PORTE) ∷  -- PINE
     row (0x22 ∷ 0x23 ∷ []) (Kept 0xFF) ∷  -- DDRE, PORTE
     row (0x24 ∷ 0x25 ∷ []) (Kept 0x00) ∷  -- ADCL, ADCH
-    row (0x26 ∷ []) (Guarded 0xC0 stop.Adc 0xFF) ∷  -- ADCSRA: ADEN, ADSC
+    row (0x26 ∷ []) (Guarded (ADEN + ADSC) stop.Adc 0xFF) ∷  -- ADCSRA
     row (0x27 ∷ []) (Kept 0xFF) ∷  -- ADMUX
-    row (0x28 ∷ []) (Guarded 0x0C stop.Comparator 0xC3) ∷  -- ACSR: ACIE, ACIC
+    row (0x28 ∷ []) (Guarded (ACIE + ACIC) stop.Comparator 0xC3) ∷  -- ACSR
     row (0x29 ∷ []) (Usart0 usart.BaudL) ∷  -- UBRR0L
     row (0x2A ∷ []) (Usart0 usart.ControlB) ∷  -- UCSR0B
     row (0x2B ∷ []) (Usart0 usart.StatusA) ∷  -- UCSR0A
@@ -36,17 +37,17 @@ table =
     row (0x2D ∷ []) (Spi spi.Control) ∷  -- SPCR
     row (0x2E ∷ []) (Spi spi.Status) ∷  -- SPSR
     row (0x2F ∷ []) (Spi spi.Spdr) ∷  -- SPDR
-    row (0x30 ∷ []) (Pin 0x32) ∷  -- PIND
+    row (0x30 ∷ []) (Pin PORTD) ∷  -- PIND
     row (0x31 ∷ 0x32 ∷ []) (Kept 0xFF) ∷  -- DDRD, PORTD
-    row (0x33 ∷ []) (Pin 0x35) ∷  -- PINC
+    row (0x33 ∷ []) (Pin PORTC) ∷  -- PINC
     row (0x34 ∷ 0x35 ∷ []) (Kept 0xFF) ∷  -- DDRC, PORTC
-    row (0x36 ∷ []) (Pin 0x38) ∷  -- PINB
+    row (0x36 ∷ []) (Pin PORTB) ∷  -- PINB
     row (0x37 ∷ 0x38 ∷ []) (Kept 0xFF) ∷  -- DDRB, PORTB
-    row (0x39 ∷ []) (Pin 0x3B) ∷  -- PINA
+    row (0x39 ∷ []) (Pin PORTA) ∷  -- PINA
     row (0x3A ∷ 0x3B ∷ []) (Kept 0xFF) ∷  -- DDRA, PORTA
-    row (0x3C ∷ []) (Guarded 0x0F stop.Eeprom 0x00) ∷  -- EECR
+    row (0x3C ∷ []) (Guarded (EERIE + EEMWE + EEWE + EERE) stop.Eeprom 0x00) ∷  -- EECR
     row (0x3D ∷ 0x3E ∷ 0x3F ∷ []) (Kept 0xFF) ∷  -- EEDR, EEARL, EEARH
-    row (0x40 ∷ []) (Guarded 0x83 stop.Prescaler 0x0C) ∷  -- SFIOR: TSM, PSR0, PSR321
+    row (0x40 ∷ []) (Guarded (TSM + PSR0 + PSR321) stop.Prescaler 0x0C) ∷  -- SFIOR
     row (0x41 ∷ []) WatchdogControl ∷  -- WDTCR
     row (0x42 ∷ []) (Kept 0xFF) ∷  -- OCDR
     row (0x43 ∷ []) (Timer2 reg8.Compare) ∷  -- OCR2
@@ -62,20 +63,20 @@ table =
     row (0x4D ∷ []) (Timer1 reg16.CountH) ∷  -- TCNT1H
     row (0x4E ∷ []) (Timer1 reg16.ControlB) ∷  -- TCCR1B
     row (0x4F ∷ []) (Timer1 reg16.ControlA) ∷  -- TCCR1A
-    row (0x50 ∷ []) (Guarded 0x08 stop.AsyncTimer 0x00) ∷  -- ASSR: AS0
+    row (0x50 ∷ []) (Guarded AS0 stop.AsyncTimer 0x00) ∷  -- ASSR
     row (0x51 ∷ []) (Timer0 reg8.Compare) ∷  -- OCR0
     row (0x52 ∷ []) (Timer0 reg8.Count) ∷  -- TCNT0
     row (0x53 ∷ []) (Timer0 reg8.Control) ∷  -- TCCR0
     row (0x54 ∷ []) ResetFlags ∷  -- MCUCSR
     row (0x55 ∷ []) CpuControl ∷  -- MCUCR
     row (0x56 ∷ []) TimerFlags ∷  -- TIFR
-    row (0x57 ∷ []) (Guarded 0x20 stop.InputCapture 0xFF) ∷  -- TIMSK: TICIE1
+    row (0x57 ∷ []) (Guarded TICIE1 stop.InputCapture 0xFF) ∷  -- TIMSK
     row (0x58 ∷ []) (Kept 0x00) ∷  -- EIFR
     row (0x59 ∷ []) (Guarded 0xFF stop.ExternalInterrupt 0x00) ∷  -- EIMSK
     row (0x5A ∷ []) (Kept 0xFF) ∷  -- EICRB
-    row (0x5C ∷ []) (Guarded 0x80 stop.ClockDivision 0xFF) ∷  -- XDIV: XDIVEN
+    row (0x5C ∷ []) (Guarded XDIVEN stop.ClockDivision 0xFF) ∷  -- XDIV
     row (0x61 ∷ 0x62 ∷ []) (Kept 0xFF) ∷  -- DDRF, PORTF
-    row (0x63 ∷ []) (Pin 0x65) ∷  -- PING
+    row (0x63 ∷ []) (Pin PORTG) ∷  -- PING
     row (0x64 ∷ 0x65 ∷ []) (Kept 0x1F) ∷  -- DDRG, PORTG
     row (0x68 ∷ []) (Kept 0x00) ∷  -- SPMCSR
     row (0x6A ∷ []) (Kept 0xFF) ∷  -- EICRA
@@ -83,12 +84,12 @@ table =
     row (0x6F ∷ []) (Kept 0xFF) ∷  -- OSCCAL
     row (0x70 ∷ []) (Kept 0xFF) ∷  -- TWBR
     row (0x71 ∷ 0x72 ∷ 0x73 ∷ []) (Kept 0xFF) ∷  -- TWSR, TWAR, TWDR
-    row (0x74 ∷ []) (Guarded 0x04 stop.Twi 0xFF) ∷  -- TWCR: TWEN
+    row (0x74 ∷ []) (Guarded TWEN stop.Twi 0xFF) ∷  -- TWCR
     row (0x78 ∷ []) (Timer1 (reg16.CompL C)) ∷  -- OCR1CL
     row (0x79 ∷ []) (Timer1 (reg16.CompH C)) ∷  -- OCR1CH
     row (0x7A ∷ []) (Timer1 reg16.ControlC) ∷  -- TCCR1C
     row (0x7C ∷ []) ExtendedTimerFlags ∷  -- ETIFR
-    row (0x7D ∷ []) (Guarded 0x20 stop.InputCapture 0x3F) ∷  -- ETIMSK: TICIE3
+    row (0x7D ∷ []) (Guarded TICIE3 stop.InputCapture 0x3F) ∷  -- ETIMSK
     row (0x80 ∷ []) (Timer3 reg16.IcrL) ∷  -- ICR3L
     row (0x81 ∷ []) (Timer3 reg16.IcrH) ∷  -- ICR3H
     row (0x82 ∷ []) (Timer3 (reg16.CompL C)) ∷  -- OCR3CL
@@ -105,7 +106,7 @@ table =
     row (0x90 ∷ []) (Usart0 usart.BaudH) ∷  -- UBRR0H
     row (0x95 ∷ []) (Usart0 usart.ControlC) ∷  -- UCSR0C
     row (0x98 ∷ 0x99 ∷ []) (Kept 0xFF) ∷  -- UBRR1H, UBRR1L
-    row (0x9A ∷ []) (Guarded 0x18 stop.Usart1 0xFF) ∷  -- UCSR1B: RXEN1, TXEN1
+    row (0x9A ∷ []) (Guarded (RXEN1 + TXEN1) stop.Usart1 0xFF) ∷  -- UCSR1B
     row (0x9B ∷ []) (Kept 0xFF) ∷  -- UCSR1A
     row (0x9C ∷ []) (Kept 0xFF) ∷  -- UDR1
     row (0x9D ∷ []) (Kept 0xFF) ∷  -- UCSR1C
@@ -122,10 +123,10 @@ rule_of at = first_rule table at
 -- what a kept register holds after reset, 0 but for these ("Initial Value" in the register descriptions)
 unfoldable pub start_of : ℕ → ℕ
 start_of at =
-    if at == 0x54 then 0x01  -- MCUCSR: PORF
-    else if at == 0x71 then 0xF8  -- TWSR
-    else if at == 0x72 then 0xFE  -- TWAR
-    else if at == 0x73 then 0xFF  -- TWDR
-    else if at == 0x9B then 0x20  -- UCSR1A
-    else if at == 0x9D then 0x06  -- UCSR1C
+    if at == MCUCSR then PORF
+    else if at == TWSR then 0xF8
+    else if at == TWAR then 0xFE
+    else if at == TWDR then 0xFF
+    else if at == UCSR1A then 0x20
+    else if at == UCSR1C then 0x06
     else 0

@@ -4,15 +4,16 @@ ghost use Rattle.std.specs.List.{range_with_len};
 ghost use Rattle.board_io.specs.Table.{start_of};
 
 use crate::Clock;
+use crate::names::{DDRB, MCUCR, MCUCSR, PORF, PORTB, SE, TWAR, TWDR, TWSR, UCSR1A, UCSR1C};
 use avr_timers::{Prescaler, Timer8, Timer16};
 use device_base::any_bit;
 use serial_ports::{Radio, Spi, Usart};
 
-const DDRB: usize = 0x37;
+// The bits of MCUCR that choose the sleep mode. Idle has none of them set.
+const SLEEP_MODE: u8 = 0x1C;
 
-const PORTB: usize = 0x38;
-
-const MCUCR: usize = 0x55;
+// The pin of port B that selects the radio.
+const RADIO_PIN: u8 = 0x01;
 
 /// What SLEEP would do (ATmega128 datasheet, "MCU Control Register - MCUCR").
 #[derive(Clone, Copy)]
@@ -61,12 +62,12 @@ fn with_byte(mut kept: [u8; 256], at: u8, byte: u8) -> [u8; 256]
 fn starts() -> [u8; 256]
     ensures { result ≡ map start_of (range_with_len 0 256) }
 {
-    let kept = with_byte([0; 256], 0x54, 0x01);
-    let kept = with_byte(kept, 0x71, 0xF8);
-    let kept = with_byte(kept, 0x72, 0xFE);
-    let kept = with_byte(kept, 0x73, 0xFF);
-    let kept = with_byte(kept, 0x9B, 0x20);
-    with_byte(kept, 0x9D, 0x06)
+    let kept = with_byte([0; 256], MCUCSR, PORF);
+    let kept = with_byte(kept, TWSR, 0xF8);
+    let kept = with_byte(kept, TWAR, 0xFE);
+    let kept = with_byte(kept, TWDR, 0xFF);
+    let kept = with_byte(kept, UCSR1A, 0x20);
+    with_byte(kept, UCSR1C, 0x06)
 }
 
 impl Board {
@@ -98,21 +99,28 @@ impl Board {
         self.clock = Clock::new(cycle);
     }
 
+    /// The byte of a register that no device has, by its data address.
+    pub(crate) fn kept(&self, at: u8) -> u8
+        ensures { result ≡ kept_at at self.now }
+    {
+        self.kept[usize::from(at)]
+    }
+
     /// Whether the radio is selected: bit 0 of port B is an output and low.
     pub fn selected(&self) -> bool
         ensures { result ≡ selected self.now }
     {
-        any_bit(self.kept[DDRB], 0x01) && !any_bit(self.kept[PORTB], 0x01)
+        any_bit(self.kept(DDRB), RADIO_PIN) && !any_bit(self.kept(PORTB), RADIO_PIN)
     }
 
     /// What SLEEP would do.
     pub fn sleep_mode(&self) -> Sleep
         ensures { result ≡ sleep_mode self.now }
     {
-        let control = self.kept[MCUCR];
-        if !any_bit(control, 0x20) {
+        let control = self.kept(MCUCR);
+        if !any_bit(control, SE) {
             Sleep::Off
-        } else if any_bit(control, 0x1C) {
+        } else if any_bit(control, SLEEP_MODE) {
             Sleep::Other
         } else {
             Sleep::Idle

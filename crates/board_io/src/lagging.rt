@@ -76,7 +76,8 @@ impl LaggingBoard {
         n
     }
 
-    /// Passes the `n` cycles from `cycle` on, which is that of its clock, if all of them are such ones.
+    /// Passes the `n` cycles from `cycle` on, which is that of its clock, if no frame and no transfer ends in any of
+    /// them and each begins with the lines of now, as far as what runs now tells: whether it passed them.
     #[inline]
     pub fn passes(&mut self, cycle: u64, n: u8) -> bool
         requires now { self.old.clock ≡ cycle }

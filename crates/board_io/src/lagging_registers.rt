@@ -3,15 +3,13 @@ ghost use Rattle.std.specs.Prelude.{◌≡◌, true};
 ghost use Rattle.board_io.specs.Lagging.{is_spdr, is_udr, is_plain_read, is_timer_read, is_plain_write};
 
 use crate::LaggingBoard;
+use crate::names::{ETIMSK, TIMSK};
 use crate::rules::{Rule, rule_at};
 use avr_base::StopCause;
 use data_space::Bus;
 use serial_ports::{SpiReg, UsartReg};
 
-const TIMSK: u8 = 0x57;
-
-const ETIMSK: u8 = 0x7D;
-
+// Whether a register of USART0 is UDR0. A read of it takes a byte from the receive buffer.
 #[inline]
 fn is_udr(reg: UsartReg) -> bool
     ensures { result ≡ is_udr reg }
@@ -26,6 +24,7 @@ fn is_udr(reg: UsartReg) -> bool
     }
 }
 
+// Whether a register of the serial peripheral interface is SPDR. A read of it can clear SPIF, and its line.
 #[inline]
 fn is_spdr(reg: SpiReg) -> bool
     ensures { result ≡ is_spdr reg }
@@ -43,20 +42,20 @@ fn is_plain_read(rule: Rule) -> bool
 {
     match rule {
         Rule::Reserved
-        | Rule::Pin { .. }
-        | Rule::Kept { .. }
-        | Rule::Guarded { .. }
+        | Rule::Pin(_)
+        | Rule::Kept(_)
+        | Rule::Guarded(..)
         | Rule::WatchdogControl
         | Rule::ResetFlags
         | Rule::CpuControl => true,
         Rule::TimerFlags
         | Rule::ExtendedTimerFlags
-        | Rule::Timer0 { .. }
-        | Rule::Timer1 { .. }
-        | Rule::Timer2 { .. }
-        | Rule::Timer3 { .. } => false,
-        Rule::Usart0 { reg } => !is_udr(reg),
-        Rule::Spi { reg } => !is_spdr(reg),
+        | Rule::Timer0(_)
+        | Rule::Timer1(_)
+        | Rule::Timer2(_)
+        | Rule::Timer3(_) => false,
+        Rule::Usart0(reg) => !is_udr(reg),
+        Rule::Spi(reg) => !is_spdr(reg),
     }
 }
 
@@ -68,40 +67,41 @@ fn is_timer_read(rule: Rule) -> bool
     match rule {
         Rule::TimerFlags
         | Rule::ExtendedTimerFlags
-        | Rule::Timer0 { .. }
-        | Rule::Timer1 { .. }
-        | Rule::Timer2 { .. }
-        | Rule::Timer3 { .. } => true,
+        | Rule::Timer0(_)
+        | Rule::Timer1(_)
+        | Rule::Timer2(_)
+        | Rule::Timer3(_) => true,
         Rule::Reserved
-        | Rule::Pin { .. }
-        | Rule::Kept { .. }
-        | Rule::Guarded { .. }
+        | Rule::Pin(_)
+        | Rule::Kept(_)
+        | Rule::Guarded(..)
         | Rule::WatchdogControl
         | Rule::ResetFlags
         | Rule::CpuControl
-        | Rule::Usart0 { .. }
-        | Rule::Spi { .. } => false,
+        | Rule::Usart0(_)
+        | Rule::Spi(_) => false,
     }
 }
 
-// So a write of the register at an address.
+// Whether a write by a rule of the register at an address looks at no timer, and leaves the lines and what may end.
+// TIMSK and ETIMSK enable the timers' lines.
 #[inline]
 fn is_plain_write(rule: Rule, at: u8) -> bool
     ensures { result ≡ is_plain_write rule at }
 {
     match rule {
-        Rule::Reserved | Rule::Pin { .. } | Rule::WatchdogControl => true,
-        Rule::Kept { .. } | Rule::Guarded { .. } | Rule::ResetFlags | Rule::CpuControl => {
+        Rule::Reserved | Rule::Pin(_) | Rule::WatchdogControl => true,
+        Rule::Kept(_) | Rule::Guarded(..) | Rule::ResetFlags | Rule::CpuControl => {
             at != TIMSK && at != ETIMSK
         }
         Rule::TimerFlags
         | Rule::ExtendedTimerFlags
-        | Rule::Timer0 { .. }
-        | Rule::Timer1 { .. }
-        | Rule::Timer2 { .. }
-        | Rule::Timer3 { .. }
-        | Rule::Usart0 { .. }
-        | Rule::Spi { .. } => false,
+        | Rule::Timer0(_)
+        | Rule::Timer1(_)
+        | Rule::Timer2(_)
+        | Rule::Timer3(_)
+        | Rule::Usart0(_)
+        | Rule::Spi(_) => false,
     }
 }
 

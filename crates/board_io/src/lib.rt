@@ -1,5 +1,6 @@
-//! The board of a node: all I/O registers of the ATmega128 by data address, each with its rule, over the timers, USART0,
-//! the serial peripheral interface and the radio; one cycle of these devices, or many at once; and the interrupt lines.
+//! The board of a node: all I/O registers of the ATmega128 by data address, each with its rule, over the timers,
+//! USART0, the serial peripheral interface and the radio; one cycle of these devices, or many at once; and the
+//! interrupt lines.
 #![tactic(auto)]
 
 mod ahead;
@@ -9,6 +10,7 @@ mod cycle;
 mod lagging;
 mod lagging_registers;
 mod lines;
+mod names;
 mod passing;
 mod registers;
 mod rules;

@@ -3,13 +3,15 @@ ghost use Rattle.std.specs.Prelude.{◌≡◌, ◌≤◌, ◌^◌, true};
 ghost use Rattle.board_io.specs.Lines.{line, served_flag};
 
 use crate::Board;
+use crate::names::{
+    ETIMSK, OCIE0, OCIE1A, OCIE1B, OCIE1C, OCIE2, OCIE3A, OCIE3B, OCIE3C, SPI_STC, TIMER0_COMP,
+    TIMER0_OVF, TIMER1_COMPA, TIMER1_COMPB, TIMER1_COMPC, TIMER1_OVF, TIMER2_COMP, TIMER2_OVF,
+    TIMER3_COMPA, TIMER3_COMPB, TIMER3_COMPC, TIMER3_OVF, TIMSK, TOIE0, TOIE1, TOIE2, TOIE3,
+    USART0_RX, USART0_TX, USART0_UDRE,
+};
 use avr_base::{Lines, Vector};
 use avr_timers::TimerFlags;
 use device_base::any_bit;
-
-const TIMSK: usize = 0x57;
-
-const ETIMSK: usize = 0x7D;
 
 // Each flag by itself.
 const OVER: TimerFlags = TimerFlags {
@@ -44,14 +46,18 @@ const COMP_C: TimerFlags = TimerFlags {
     icf: false,
 };
 
-// Line n of a source: its flag, and whether its interrupt is enabled.
+// The line of the vector at a word address, by the flag of its source and whether its interrupt is enabled.
 #[tactic(auto, unfolding(crate::specs::Lines::line))]
-fn line(n: u32, flag: bool, enabled: bool) -> u64
-    requires { n ≤ 29 }
-    ensures value { result ≡ line n flag enabled }
+fn line(word: u16, flag: bool, enabled: bool) -> u64
+    requires { word ≤ 58 }
+    ensures value { result ≡ line word flag enabled }
     ensures most { result ≤ 2 ^ 29 }
 {
-    if flag && enabled { 1u64 << n } else { 0 }
+    if flag && enabled {
+        1u64 << (word / 2)
+    } else {
+        0
+    }
 }
 
 // The flag of a timer that serving the interrupt of one of its vectors clears.
@@ -60,9 +66,9 @@ fn served_flag(v: Vector) -> TimerFlags
     ensures { result ≡ served_flag v.word }
 {
     match v.word {
-        0x12 | 0x18 | 0x1E | 0x34 => COMP_A,
-        0x1A | 0x36 => COMP_B,
-        0x30 | 0x38 => COMP_C,
+        TIMER2_COMP | TIMER1_COMPA | TIMER0_COMP | TIMER3_COMPA => COMP_A,
+        TIMER1_COMPB | TIMER3_COMPB => COMP_B,
+        TIMER1_COMPC | TIMER3_COMPC => COMP_C,
         _ => OVER,
     }
 }
@@ -76,17 +82,17 @@ impl Board {
         ensures value { result ≡ timer_lines self.now }
         ensures most { result ≤ 2 ^ 32 }
     {
-        let enabled = self.kept[TIMSK];
+        let enabled = self.kept(TIMSK);
         if enabled == 0 {
             return 0;
         }
-        line(9, self.t2.ocf_a, any_bit(enabled, 0x80))
-            + line(10, self.t2.tov, any_bit(enabled, 0x40))
-            + line(12, self.t1.flags.ocf_a, any_bit(enabled, 0x10))
-            + line(13, self.t1.flags.ocf_b, any_bit(enabled, 0x08))
-            + line(14, self.t1.flags.tov, any_bit(enabled, 0x04))
-            + line(15, self.t0.ocf_a, any_bit(enabled, 0x02))
-            + line(16, self.t0.tov, any_bit(enabled, 0x01))
+        line(TIMER2_COMP, self.t2.ocf_a, any_bit(enabled, OCIE2))
+            + line(TIMER2_OVF, self.t2.tov, any_bit(enabled, TOIE2))
+            + line(TIMER1_COMPA, self.t1.flags.ocf_a, any_bit(enabled, OCIE1A))
+            + line(TIMER1_COMPB, self.t1.flags.ocf_b, any_bit(enabled, OCIE1B))
+            + line(TIMER1_OVF, self.t1.flags.tov, any_bit(enabled, TOIE1))
+            + line(TIMER0_COMP, self.t0.ocf_a, any_bit(enabled, OCIE0))
+            + line(TIMER0_OVF, self.t0.tov, any_bit(enabled, TOIE0))
     }
 
     // The lines of ETIMSK. In most firmware none is enabled.
@@ -95,15 +101,15 @@ impl Board {
         ensures value { result ≡ extended_timer_lines self.now }
         ensures most { result ≤ 2 ^ 32 }
     {
-        let enabled = self.kept[ETIMSK];
+        let enabled = self.kept(ETIMSK);
         if enabled == 0 {
             return 0;
         }
-        line(24, self.t1.flags.ocf_c, any_bit(enabled, 0x01))
-            + line(26, self.t3.flags.ocf_a, any_bit(enabled, 0x10))
-            + line(27, self.t3.flags.ocf_b, any_bit(enabled, 0x08))
-            + line(28, self.t3.flags.ocf_c, any_bit(enabled, 0x02))
-            + line(29, self.t3.flags.tov, any_bit(enabled, 0x04))
+        line(TIMER1_COMPC, self.t1.flags.ocf_c, any_bit(enabled, OCIE1C))
+            + line(TIMER3_COMPA, self.t3.flags.ocf_a, any_bit(enabled, OCIE3A))
+            + line(TIMER3_COMPB, self.t3.flags.ocf_b, any_bit(enabled, OCIE3B))
+            + line(TIMER3_COMPC, self.t3.flags.ocf_c, any_bit(enabled, OCIE3C))
+            + line(TIMER3_OVF, self.t3.flags.tov, any_bit(enabled, TOIE3))
     }
 
     // The lines of the serial peripheral interface and of USART0.
@@ -112,10 +118,10 @@ impl Board {
         ensures most { result ≤ 2 ^ 32 }
     {
         let usart = self.usart.lines();
-        line(17, self.spi.line(), true)
-            + line(18, usart.rxc, true)
-            + line(19, usart.udre, true)
-            + line(20, usart.txc, true)
+        line(SPI_STC, self.spi.line(), true)
+            + line(USART0_RX, usart.rxc, true)
+            + line(USART0_UDRE, usart.udre, true)
+            + line(USART0_TX, usart.txc, true)
     }
 
     /// The interrupt lines: bit n is set exactly where the vector at word address 2n has a source whose flag and whose
@@ -136,12 +142,16 @@ impl Board {
         ensures { self.new ≡ entered_of v.word self.old }
     {
         match v.word {
-            0x1E | 0x20 => self.t0.clear(served_flag(v)),
-            0x18 | 0x1A | 0x1C | 0x30 => self.t1.clear(served_flag(v)),
-            0x12 | 0x14 => self.t2.clear(served_flag(v)),
-            0x34 | 0x36 | 0x38 | 0x3A => self.t3.clear(served_flag(v)),
-            0x22 => self.spi.clear(),
-            0x28 => self.usart.clear_txc(),
+            TIMER0_COMP | TIMER0_OVF => self.t0.clear(served_flag(v)),
+            TIMER1_COMPA | TIMER1_COMPB | TIMER1_OVF | TIMER1_COMPC => self
+                .t1
+                .clear(served_flag(v)),
+            TIMER2_COMP | TIMER2_OVF => self.t2.clear(served_flag(v)),
+            TIMER3_COMPA | TIMER3_COMPB | TIMER3_COMPC | TIMER3_OVF => self
+                .t3
+                .clear(served_flag(v)),
+            SPI_STC => self.spi.clear(),
+            USART0_TX => self.usart.clear_txc(),
             _ => {}
         }
     }

@@ -71,7 +71,8 @@ fn same_flags_8(timer: &Timer8, cycle: u64, most: u64) -> u64
     }
 }
 
-// The same of a timer of sixteen bits.
+// For how many cycles from `cycle` on, of at most `most`, each begins with the flags that the timer of sixteen bits has
+// now.
 #[inline(always)]
 #[tactic(auto, using(crate::proofs::Steady::halted_16))]
 fn same_flags_16(timer: &Timer16, cycle: u64, most: u64) -> u64
@@ -122,8 +123,8 @@ impl Board {
         leap_16(&mut self.t3, cycle, n);
     }
 
-    /// For how many cycles from `cycle` on, of at most `most`, each begins with the lines of now, where the timers alone
-    /// move: up to the first cycle in which a timer sets a flag, and with it. At least one.
+    /// For how many cycles from `cycle` on, of at most `most`, each begins with the lines of now, where the timers
+    /// alone move: up to the first cycle in which a timer sets a flag, and with it. At least one.
     pub fn same_lines(&self, cycle: u64, most: u64) -> u64
         requires { cycle ≤ 2 ^ 40 }
         ensures within { result ≤ most }

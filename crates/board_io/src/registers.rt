@@ -2,40 +2,50 @@
 ghost use Rattle.std.specs.Prelude.{◌≡◌};
 
 use crate::Board;
+use crate::names::{
+    ICF1, ICF3, IVSEL, JTD, OCF0, OCF1A, OCF1B, OCF1C, OCF2, OCF3A, OCF3B, OCF3C, SRE, TOV0, TOV1,
+    TOV2, TOV3, WDCE, WDE,
+};
 use crate::rules::{Rule, rule_at};
 use avr_base::StopCause;
 use avr_timers::TimerFlags;
 use data_space::Bus;
 use device_base::{any_bit, bit};
 
+// The reset flags of MCUCSR.
+const RESET_FLAGS: u8 = 0x1F;
+
+/// The bits of MCUCR that are kept: SE, the sleep mode, and SRW10 of the external memory.
+pub(crate) const MCUCR_KEPT: u8 = 0x7C;
+
 impl Board {
-    ghost use Rattle.board_io.specs.Board.{kept_at, with_kept};
+    ghost use Rattle.board_io.specs.Board.{with_kept};
     ghost use Rattle.board_io.specs.Registers.{IsGot, IsPut, extended_flags_cleared, extended_timer_flags, flags_cleared, get_by, put_by, timer_flags};
 
     // TIFR as it reads.
     fn timer_flags(&self) -> u8
         ensures { result ≡ timer_flags self.now }
     {
-        bit(self.t2.ocf_a, 0x80)
-            + bit(self.t2.tov, 0x40)
-            + bit(self.t1.flags.icf, 0x20)
-            + bit(self.t1.flags.ocf_a, 0x10)
-            + bit(self.t1.flags.ocf_b, 0x08)
-            + bit(self.t1.flags.tov, 0x04)
-            + bit(self.t0.ocf_a, 0x02)
-            + bit(self.t0.tov, 0x01)
+        bit(self.t2.ocf_a, OCF2)
+            + bit(self.t2.tov, TOV2)
+            + bit(self.t1.flags.icf, ICF1)
+            + bit(self.t1.flags.ocf_a, OCF1A)
+            + bit(self.t1.flags.ocf_b, OCF1B)
+            + bit(self.t1.flags.tov, TOV1)
+            + bit(self.t0.ocf_a, OCF0)
+            + bit(self.t0.tov, TOV0)
     }
 
     // ETIFR as it reads.
     fn extended_timer_flags(&self) -> u8
         ensures { result ≡ extended_timer_flags self.now }
     {
-        bit(self.t3.flags.icf, 0x20)
-            + bit(self.t3.flags.ocf_a, 0x10)
-            + bit(self.t3.flags.ocf_b, 0x08)
-            + bit(self.t3.flags.tov, 0x04)
-            + bit(self.t3.flags.ocf_c, 0x02)
-            + bit(self.t1.flags.ocf_c, 0x01)
+        bit(self.t3.flags.icf, ICF3)
+            + bit(self.t3.flags.ocf_a, OCF3A)
+            + bit(self.t3.flags.ocf_b, OCF3B)
+            + bit(self.t3.flags.tov, TOV3)
+            + bit(self.t3.flags.ocf_c, OCF3C)
+            + bit(self.t1.flags.ocf_c, OCF1C)
     }
 
     // A write of TIFR.
@@ -43,22 +53,22 @@ impl Board {
         ensures { self.new ≡ flags_cleared x self.old }
     {
         self.t0.clear(TimerFlags {
-            tov: any_bit(x, 0x01),
-            ocf_a: any_bit(x, 0x02),
+            tov: any_bit(x, TOV0),
+            ocf_a: any_bit(x, OCF0),
             ocf_b: false,
             ocf_c: false,
             icf: false,
         });
         self.t1.clear(TimerFlags {
-            tov: any_bit(x, 0x04),
-            ocf_a: any_bit(x, 0x10),
-            ocf_b: any_bit(x, 0x08),
+            tov: any_bit(x, TOV1),
+            ocf_a: any_bit(x, OCF1A),
+            ocf_b: any_bit(x, OCF1B),
             ocf_c: false,
-            icf: any_bit(x, 0x20),
+            icf: any_bit(x, ICF1),
         });
         self.t2.clear(TimerFlags {
-            tov: any_bit(x, 0x40),
-            ocf_a: any_bit(x, 0x80),
+            tov: any_bit(x, TOV2),
+            ocf_a: any_bit(x, OCF2),
             ocf_b: false,
             ocf_c: false,
             icf: false,
@@ -73,23 +83,16 @@ impl Board {
             tov: false,
             ocf_a: false,
             ocf_b: false,
-            ocf_c: any_bit(x, 0x01),
+            ocf_c: any_bit(x, OCF1C),
             icf: false,
         });
         self.t3.clear(TimerFlags {
-            tov: any_bit(x, 0x04),
-            ocf_a: any_bit(x, 0x10),
-            ocf_b: any_bit(x, 0x08),
-            ocf_c: any_bit(x, 0x02),
-            icf: any_bit(x, 0x20),
+            tov: any_bit(x, TOV3),
+            ocf_a: any_bit(x, OCF3A),
+            ocf_b: any_bit(x, OCF3B),
+            ocf_c: any_bit(x, OCF3C),
+            icf: any_bit(x, ICF3),
         });
-    }
-
-    // The byte of a register that no device has.
-    fn kept(&self, at: u8) -> u8
-        ensures { result ≡ kept_at at self.now }
-    {
-        self.kept[usize::from(at)]
     }
 
     /// A read of the register at a data address below 0x0100, by its rule.
@@ -98,19 +101,19 @@ impl Board {
     {
         match rule {
             Rule::Reserved => Err(StopCause::ReservedAddress),
-            Rule::Pin { port } => Ok(self.kept(port)),
-            Rule::Kept { .. } | Rule::Guarded { .. } | Rule::ResetFlags | Rule::CpuControl => {
+            Rule::Pin(port) => Ok(self.kept(port)),
+            Rule::Kept(_) | Rule::Guarded(..) | Rule::ResetFlags | Rule::CpuControl => {
                 Ok(self.kept(at))
             }
             Rule::WatchdogControl => Ok(0),
             Rule::TimerFlags => Ok(self.timer_flags()),
             Rule::ExtendedTimerFlags => Ok(self.extended_timer_flags()),
-            Rule::Timer0 { reg } => Ok(self.t0.get(reg)),
-            Rule::Timer1 { reg } => Ok(self.t1.get(reg)),
-            Rule::Timer2 { reg } => Ok(self.t2.get(reg)),
-            Rule::Timer3 { reg } => Ok(self.t3.get(reg)),
-            Rule::Usart0 { reg } => Ok(self.usart.get(reg)),
-            Rule::Spi { reg } => Ok(self.spi.get(reg)),
+            Rule::Timer0(reg) => Ok(self.t0.get(reg)),
+            Rule::Timer1(reg) => Ok(self.t1.get(reg)),
+            Rule::Timer2(reg) => Ok(self.t2.get(reg)),
+            Rule::Timer3(reg) => Ok(self.t3.get(reg)),
+            Rule::Usart0(reg) => Ok(self.usart.get(reg)),
+            Rule::Spi(reg) => Ok(self.spi.get(reg)),
         }
     }
 
@@ -143,13 +146,13 @@ impl Board {
     fn put_cpu_control(&mut self, at: u8, x: u8) -> Result<(), StopCause>
         ensures { IsPut (put_by Rule.CpuControl self.old at x) self.old result self.new }
     {
-        if any_bit(x, 0x80) {
+        if any_bit(x, SRE) {
             return Err(StopCause::ExternalMemory);
         }
-        if any_bit(x, 0x02) {
+        if any_bit(x, IVSEL) {
             return Err(StopCause::MovedVectors);
         }
-        self.keep(at, x & 0x7C);
+        self.keep(at, x & MCUCR_KEPT);
         Ok(())
     }
 
@@ -159,21 +162,21 @@ impl Board {
     {
         match rule {
             Rule::Reserved => Err(StopCause::ReservedAddress),
-            Rule::Pin { port: _ } => Ok(()),
-            Rule::Kept { mask } => {
+            Rule::Pin(_) => Ok(()),
+            Rule::Kept(mask) => {
                 self.keep(at, x & mask);
                 Ok(())
             }
-            Rule::Guarded { bits, cause, mask } => self.put_guarded(at, x, bits, cause, mask),
+            Rule::Guarded(bits, cause, mask) => self.put_guarded(at, x, bits, cause, mask),
             Rule::WatchdogControl => {
-                if any_bit(x, 0x08) && !any_bit(x, 0x10) {
+                if any_bit(x, WDE) && !any_bit(x, WDCE) {
                     return Err(StopCause::Watchdog);
                 }
                 Ok(())
             }
             Rule::ResetFlags => {
                 let old = self.kept(at);
-                self.keep(at, (x & 0x80) | (old & x & 0x1F));
+                self.keep(at, (x & JTD) | (old & x & RESET_FLAGS));
                 Ok(())
             }
             Rule::CpuControl => self.put_cpu_control(at, x),
@@ -185,12 +188,12 @@ impl Board {
                 self.clear_extended_flags(x);
                 Ok(())
             }
-            Rule::Timer0 { reg } => self.t0.put(reg, x),
-            Rule::Timer1 { reg } => self.t1.put(reg, x),
-            Rule::Timer2 { reg } => self.t2.put(reg, x),
-            Rule::Timer3 { reg } => self.t3.put(reg, x),
-            Rule::Usart0 { reg } => self.usart.put(self.clock.get(), reg, x),
-            Rule::Spi { reg } => self.spi.put(self.clock.get(), reg, x),
+            Rule::Timer0(reg) => self.t0.put(reg, x),
+            Rule::Timer1(reg) => self.t1.put(reg, x),
+            Rule::Timer2(reg) => self.t2.put(reg, x),
+            Rule::Timer3(reg) => self.t3.put(reg, x),
+            Rule::Usart0(reg) => self.usart.put(self.clock.get(), reg, x),
+            Rule::Spi(reg) => self.spi.put(self.clock.get(), reg, x),
         }
     }
 }

@@ -3,9 +3,10 @@ ghost use Rattle.std.specs.Prelude.{◌≡◌, ◌≤◌, ◌+◌, ◌^◌, None
 ghost use Rattle.std.specs.List.{list_all, position};
 ghost use Rattle.board_io.specs.Kept.{first_refused, is_io, is_kept, kept_bits, kept_of};
 
-use crate::rules::{Rule, rule_at};
+use crate::names::{JTD, PORF};
+use crate::registers::MCUCR_KEPT;
+use crate::rules::{FIRST, Rule, rule_at};
 use crate::{Board, Clock, LaggingBoard};
-use avr_base::IO_START;
 use avr_timers::{Prescaler, Timer8, Timer16};
 use device_base::{first_outside, part, put_part};
 use serial_ports::{Radio, Spi, Usart};
@@ -16,18 +17,18 @@ impl Rule {
         ensures { result ≡ is_kept self }
     {
         match self {
-            Rule::Kept { .. } | Rule::Guarded { .. } | Rule::ResetFlags | Rule::CpuControl => true,
+            Rule::Kept(_) | Rule::Guarded(..) | Rule::ResetFlags | Rule::CpuControl => true,
             Rule::Reserved
-            | Rule::Pin { .. }
+            | Rule::Pin(_)
             | Rule::WatchdogControl
             | Rule::TimerFlags
             | Rule::ExtendedTimerFlags
-            | Rule::Timer0 { .. }
-            | Rule::Timer1 { .. }
-            | Rule::Timer2 { .. }
-            | Rule::Timer3 { .. }
-            | Rule::Usart0 { .. }
-            | Rule::Spi { .. } => false,
+            | Rule::Timer0(_)
+            | Rule::Timer1(_)
+            | Rule::Timer2(_)
+            | Rule::Timer3(_)
+            | Rule::Usart0(_)
+            | Rule::Spi(_) => false,
         }
     }
 
@@ -36,21 +37,21 @@ impl Rule {
         ensures { result ≡ kept_bits self }
     {
         match self {
-            Rule::Kept { mask } => mask,
-            Rule::Guarded { bits, mask, .. } => mask & (255 - bits),
-            Rule::ResetFlags => 0x81,
-            Rule::CpuControl => 0x7C,
+            Rule::Kept(mask) => mask,
+            Rule::Guarded(bits, _, mask) => mask & (255 - bits),
+            Rule::ResetFlags => JTD | PORF,
+            Rule::CpuControl => MCUCR_KEPT,
             Rule::Reserved
-            | Rule::Pin { .. }
+            | Rule::Pin(_)
             | Rule::WatchdogControl
             | Rule::TimerFlags
             | Rule::ExtendedTimerFlags
-            | Rule::Timer0 { .. }
-            | Rule::Timer1 { .. }
-            | Rule::Timer2 { .. }
-            | Rule::Timer3 { .. }
-            | Rule::Usart0 { .. }
-            | Rule::Spi { .. } => 0,
+            | Rule::Timer0(_)
+            | Rule::Timer1(_)
+            | Rule::Timer2(_)
+            | Rule::Timer3(_)
+            | Rule::Usart0(_)
+            | Rule::Spi(_) => 0,
         }
     }
 }
@@ -63,14 +64,15 @@ fn is_io(at: u8, byte: u8) -> bool
     byte & rule_at(at).kept_bits() == byte
 }
 
-/// The place of the first of the 224 bytes that cannot be the one that the board keeps at its address: the place 0 is data
-/// address 0x20. A bit is to be 0 where no register is kept, where a write of 1 is refused, and where it is never kept.
+/// The place of the first of the 224 bytes that cannot be the one that the board keeps at its address: the place 0 is
+/// data address 0x20. A bit is to be 0 where no register is kept, where a write of 1 is refused, and where it is never
+/// kept.
 pub fn first_refused(io: &[u8]) -> Option<usize>
     requires { length io.now ≡ 224 }
     ensures { result ≡ first_refused io.now }
 {
     for place in 0..224 {
-        if !is_io(0x20 + place as u8, io[place]) {
+        if !is_io(FIRST + place as u8, io[place]) {
             return Some(place);
         }
     }
@@ -83,7 +85,7 @@ fn kept_of(io: &[u8]) -> [u8; 256]
     ensures { result ≡ kept_of io.now }
 {
     let mut kept = [0; 256];
-    kept[0x20..].copy_from_slice(io);
+    kept[usize::from(FIRST)..].copy_from_slice(io);
     kept
 }
 
@@ -91,8 +93,8 @@ impl Board {
     ghost use Rattle.board_io.specs.Kept.{io_at};
     ghost use Rattle.board_io.specs.Saved.{IsRestored, fits, numbers_of};
 
-    /// The numbers of its devices: those of timers 0, 2, 1 and 3, of USART0, of the serial peripheral interface and of the
-    /// radio, each in the order of its `numbers`.
+    /// The numbers of its devices: those of timers 0, 2, 1 and 3, of USART0, of the serial peripheral interface and of
+    /// the radio, each in the order of its `numbers`.
     pub fn numbers(&self) -> [u64; 67]
         ensures { result ≡ numbers_of self.now }
     {
@@ -107,8 +109,8 @@ impl Board {
         all
     }
 
-    /// A test for each of these `numbers`, whether it is within its bound, where a frame and a transfer end at the cycle
-    /// `ends_from` or later.
+    /// A test for each of these `numbers`, whether it is within its bound, where a frame and a transfer end at the
+    /// cycle `ends_from` or later.
     #[tactic(auto, unfolding(crate::specs::Saved::fits))]
     pub fn fits(ends_from: u64, numbers: &[u64; 67]) -> [bool; 67]
         ensures { result ≡ fits ends_from numbers.now }
@@ -144,8 +146,8 @@ impl Board {
     }
 
     /// The board of these numbers and of the 224 bytes `io` that it keeps itself, from data address 0x20 on, before the
-    /// cycle `cycle`, with the byte time of its radio in cycles, at most 4,096. `None` exactly where `fits` has a test that
-    /// failed.
+    /// cycle `cycle`, with the byte time of its radio in cycles, at most 4,096. `None` exactly where `fits` has a test
+    /// that failed.
     pub fn restore(
         byte_time: u64,
         cycle: u64,

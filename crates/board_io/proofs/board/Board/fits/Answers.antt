@@ -1,4 +1,4 @@
-use Rattle.std.proofs.Common.{◌≡◌, ◌∙◌, ap, ◌++◌, take, refl}
+use Rattle.std.proofs.Common.{◌∙◌, ap, ◌++◌, take}
 use Rattle.board_io.specs.Saved.{fits}
 use Rattle.avr_timers.specs.Numbers8 as timer8
 use Rattle.avr_timers.specs.Numbers16 as timer16

@@ -1,4 +1,4 @@
-use Rattle.std.proofs.Common.{◌≡◌, ◌∙◌, ap, ◌++◌, take, refl}
+use Rattle.std.proofs.Common.{◌∙◌, ap, ◌++◌, take}
 use Rattle.board_io.proofs.OneBoard.{seven_put}
 use Rattle.board_io.proofs.board.Board.numbers.Goals as goal
 
