@@ -1,5 +1,5 @@
 // A board that does its timers' cycles once somebody looks at them.
-ghost use Rattle.std.specs.Prelude.{◌≡◌, ◌≤◌, ◌<◌, ◌+◌, ◌^◌, true, false, is_some};
+ghost use Rattle.std.specs.Prelude.{◌≡◌, ◌≤◌, ◌<◌, ◌+◌, ◌*◌, ◌^◌, true, false, is_some};
 ghost use Rattle.board_io.specs.Lagging.{IsIdle};
 
 use crate::ahead::Ahead;
@@ -74,6 +74,23 @@ impl LaggingBoard {
         let n = most.min(self.ahead.next - clock);
         self.board.clock = Clock::new(clock + n);
         n
+    }
+
+    /// Passes whole rounds of `length` cycles, of at most `most` cycles in all, in none of which a frame or a transfer ends or
+    /// the lines change, as far as what runs now tells: how many rounds.
+    #[inline]
+    pub fn pass_rounds(&mut self, most: u64, length: u8) -> u64
+        requires { 0 < length }
+        ensures within { result * length ≤ most }
+        ensures idle { IsIdle self.old.clock (result * length) (unclocked self.old) }
+        ensures state { unclocked self.new ≡ timers_leap self.old.clock (result * length) (unclocked self.old) }
+        ensures clock { self.new.clock ≡ self.old.clock + result * length }
+    {
+        let clock = self.board.clock.get();
+        let length = u64::from(length);
+        let rounds = most.min(self.ahead.next - clock) / length;
+        self.board.clock = Clock::new(clock + rounds * length);
+        rounds
     }
 
     /// Passes the `n` cycles from `cycle` on, which is that of its clock, if no frame and no transfer ends in any of

@@ -14,4 +14,5 @@ pub mod Ran
 pub mod Executes
 pub mod Steps
 pub mod Sprints
+pub mod Spins
 pub mod Saved

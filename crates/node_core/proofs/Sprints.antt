@@ -20,7 +20,7 @@ use Rattle.node_core.specs.Shown.{shown}
 use Rattle.node_core.specs.State.{NodeState}
 use Rattle.node_core.proofs.Acts.{one_more, one_row}
 use Rattle.node_core.proofs.Ran.{goes_on}
-use Rattle.node_core.proofs.Steps.{began, ended, went}
+use Rattle.node_core.proofs.Steps.{began, comes_on, ended, went}
 
 pub none_of : {A : Type 0} (o : Option A) → is_some o ≡ false → o ≡ None
 none_of None e = refl
@@ -40,6 +40,23 @@ pub record IsSprinting (t at : ℕ) (old m : Machine) : Type 0 where
   pub script : m.script ≡ old.script
   pub count : m.count ≤ 2 ^ 40 + at
   pub rows : m.rows ≡ old.rows
+
+-- at its beginning
+pub begins : (t : ℕ) (m : Machine) → m.stop ≡ None → m.wait ≡ 0 → m.asleep ≡ false → m.to ≤ t → m.bus.board.clock ≡ t → m.count ≤ 2 ^ 40 + t → IsSprinting t t m m
+begins t m going free awake behind clock count =
+    let v : Timed NodeState Row = record { cycle = t; asking = false; state = shown m; rows = m.rows.items } in
+    record {
+      from = omega arith;
+      comes = comes_none node_kind v;
+      going = going;
+      free = free;
+      awake = awake;
+      behind = behind;
+      clock = clock;
+      script = refl;
+      count = count;
+      rows = refl;
+    }
 
 -- none at all
 pub stands : (t : ℕ) (m : Machine) → m.stop ≡ None → m.wait ≡ 0 → m.asleep ≡ false → m.bus.board.clock ≡ t → m.count ≤ 2 ^ 40 + t → IsSprinted t t false m m
@@ -81,6 +98,25 @@ module _ (t at : ℕ) (old m : Machine) (h : IsSprinting t at old m) where
         few = λ e. count;
         one_more = omega (arith, count);
         from = h.from;
+      }
+
+  -- and goes on as another does from there
+  pub joins : (c : ℕ) (x : Machine) → IsSprinted at c false m x → x.to ≡ m.to → IsSprinting t c old x
+  joins c x q to =
+      let from = h.from in
+      let on = q.from in
+      let behind = h.behind in
+      record {
+        from = omega (arith, from, on);
+        comes = comes_on v at c (shown m) (shown x) m.rows.items x.rows.items h.comes (q.comes refl);
+        going = q.going refl;
+        free = q.free refl;
+        awake = q.awake refl;
+        behind = omega (arith, behind, on, to);
+        clock = q.clock;
+        script = q.script refl ∙ h.script;
+        count = q.few refl;
+        rows = q.same refl ∙ h.rows;
       }
 
   module _ (new : Machine) (none : due (shown m) ≡ None) where

@@ -14,6 +14,7 @@ mod restore;
 mod rests;
 mod row;
 mod rows;
+mod spin;
 mod sprint;
 mod stride;
 

@@ -92,7 +92,8 @@ impl Machine {
             return Sprinted { at, inside: false };
         }
         while self.due().is_none() {
-            let op = self.program.op(self.cpu.pc);
+            let pc = self.cpu.pc;
+            let op = self.program.op(pc);
             match self.step(&op, at) {
                 Step::Ended => return Sprinted { at, inside: true },
                 Step::Plain { taken } => {
@@ -101,6 +102,9 @@ impl Machine {
                         return Sprinted { at, inside: true };
                     }
                     at += u64::from(taken);
+                    if self.cpu.pc == pc {
+                        at += self.spin(pc, at, end);
+                    }
                 }
             }
         }

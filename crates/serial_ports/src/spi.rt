@@ -1,5 +1,5 @@
 // The interface: its clock, the transfer that runs and its end, and its interrupt.
-ghost use Rattle.std.specs.Prelude.{◌≡◌, ◌≤◌, ◌%◌, true, is_some, Some};
+ghost use Rattle.std.specs.Prelude.{◌≡◌, ◌≤◌, ◌%◌, false, true, is_some, Some};
 
 use crate::transmission::{Transmission, byte_of, end_of};
 use device_base::any_bit;
