@@ -1,5 +1,5 @@
 -- The array of rules in the code is the table, no address beside it has a row, and the start values.
-use Rattle.std.proofs.Common.{◌≡◌, ℕ, ◌+◌, ◌-◌, ◌==◌, ◌<◌, ◌≤◌, ◌&&◌, nat_le, Bool, true, false, List, [], ◌∷◌, Ok, Err, refl, sym, ap, ◌∙◌, arith, get_or}
+use Rattle.std.proofs.Common.{◌≡◌, ℕ, ◌+◌, ◌-◌, ◌==◌, ◌≤◌, ◌&&◌, nat_le, Bool, true, false, List, [], ◌∷◌, Ok, Err, refl, sym, ap, ◌∙◌, arith, get_or}
 use Rattle.std.specs.Prelude.{IfErr, IfOk, OnErr, Result, map, replicate, slice_set}
 use Rattle.std.specs.List.{list_all, list_any, range_with_len}
 use Rattle.std.proofs.lemmas.Bool.{and_parts, eqb-true, false_from_ne_true, false≢true, leb-true}
@@ -54,16 +54,13 @@ rule_beside at h = rule_none table at h all_within
 pub no_rule : (at : ℕ) → (0x20 ≤ at → at ≤ 0x9F → ⊥) → has_rule at ≡ false
 no_rule at h = false_from_ne_true (has_rule at) (λ e. let p = and_parts (nat_le 0x20 at) (nat_le at 0x9F) e in h (leb-true 0x20 at p.0) (leb-true at 0x9F p.1))
 
-rule_past : (at : ℕ) → 0x100 ≤ at → rule_of at ≡ Reserved
-rule_past at h = rule_beside at (no_rule at (λ low high. omega arith))
-
-pub get_past : (b : Board) (at : ℕ) → 255 < at → io_get b at ≡ Err stop.ReservedAddress
+pub get_beside : (b : Board) (at : ℕ) → has_rule at ≡ false → io_get b at ≡ Err stop.ReservedAddress
 unfolding io_get
-get_past b at h = ap (λ r. get_by r b at) (rule_past at (omega arith))
+get_beside b at h = ap (λ r. get_by r b at) (rule_beside at h)
 
-pub put_past : (b : Board) (at x : ℕ) → 255 < at → io_put b at x ≡ Err stop.ReservedAddress
+pub put_beside : (b : Board) (at x : ℕ) → has_rule at ≡ false → io_put b at x ≡ Err stop.ReservedAddress
 unfolding io_put
-put_past b at x h = ap (λ r. put_by r b at x) (rule_past at (omega arith))
+put_beside b at x h = ap (λ r. put_by r b at x) (rule_beside at h)
 
 -- ---- an access, by the rule that the array has
 module _ (b : Board) (at : ℕ) (rule : Rule) (e : rule ≡ rule_of at) where

@@ -3,7 +3,7 @@ use Rattle.std.proofs.Common.{◌≡◌, ℕ, ◌+◌, ◌-◌, ◌<◌, ◌≤�
 use Rattle.board_io.specs.declared.ahead.Ahead.{Ahead}
 use Rattle.board_io.specs.declared.board.Board.{Board}
 use Rattle.board_io.specs.Board.{clock_at, sleep_mode, unclocked}
-use Rattle.board_io.specs.Cycle.{board_answered, board_asks, board_begun, board_quiet, board_sends, board_serial, moved, moved_by, samples, sends, timers_cycle, timers_leap, transfer_end, usart_cycle, with_moved}
+use Rattle.board_io.specs.Cycle.{air_of, board_air, board_answered, board_begun, board_quiet, board_serial, moved, moved_by, timers_cycle, timers_leap, transfer_end, usart_cycle, with_moved}
 use Rattle.serial_ports.specs.declared.radio.Moved.{Moved}
 use Rattle.serial_ports.specs.declared.radio.Moved.TheVariants.{Answer, Send, Ask}
 use Rattle.serial_ports.specs.declared.radio.Radio.{Radio}
@@ -77,13 +77,9 @@ pub serial_clock : (u t : ℕ) (b : Board) → board_serial t (clock_at u b) ≡
 unfolding board_serial
 serial_clock u t b = refl
 
-pub sends_clock : (u t : ℕ) (b : Board) → board_sends t (clock_at u b) ≡ board_sends t b
-unfolding board_sends
-sends_clock u t b = ap sends (moved_same u t b)
-
-pub asks_clock : (u t : ℕ) (b : Board) → board_asks t (clock_at u b) ≡ board_asks t b
-unfolding board_asks
-asks_clock u t b = ap samples (moved_same u t b)
+pub air_clock : (u t : ℕ) (b : Board) → board_air t (clock_at u b) ≡ board_air t b
+unfolding board_air
+air_clock u t b = ap air_of (moved_same u t b)
 
 pub answered_unclocked : (u : ℕ) (h : Heard) (b : Board) → board_answered h (clock_at u b) ≡ clock_at u (board_answered h b)
 unfolding board_answered

@@ -2,7 +2,8 @@
 use Rattle.std.proofs.Common.{◌≡◌, ℕ, suc, ◌+◌, Bool, true, false, not, Option, Some, None, refl, sym, ap, ◌∙◌, arith}
 use Rattle.std.proofs.lemmas.Bool.{and_parts}
 use Rattle.board_io.specs.declared.board.Board.{Board}
-use Rattle.board_io.specs.Cycle.{board_asks, board_begun, board_quiet, board_sends, board_serial, moved, moved_by, timers_cycle, timers_leap, usart_cycle, with_moved}
+use Rattle.board_io.specs.declared.cycle.OnAir.TheVariants.{Quiet}
+use Rattle.board_io.specs.Cycle.{air_of, board_air, board_asks, board_begun, board_quiet, board_sends, board_serial, is_asks, moved, moved_by, sent_by, timers_cycle, timers_leap, usart_cycle, with_moved}
 use Rattle.serial_ports.specs.declared.radio.Moved.{Moved}
 use Rattle.serial_ports.specs.declared.radio.Radio.{Radio}
 use Rattle.avr_timers.specs.Clock.{cycles}
@@ -70,10 +71,12 @@ pub serial_quiet : (t : ℕ) (b : Board) → board_quiet t b ≡ true → board_
 unfolding board_serial usart.frame_ended
 serial_quiet t b e = none_ended b.usart.shift_register t (no_frame t b e)
 
+pub air_quiet : (t : ℕ) (b : Board) → board_quiet t b ≡ true → board_air t b ≡ Quiet
+unfolding board_air
+air_quiet t b e = ap air_of (none_moved t b e)
+
 pub sends_quiet : (t : ℕ) (b : Board) → board_quiet t b ≡ true → board_sends t b ≡ None
-unfolding board_sends
-sends_quiet t b e = rw (none_moved t b e) refl
+sends_quiet t b e = ap sent_by (air_quiet t b e)
 
 pub asks_quiet : (t : ℕ) (b : Board) → board_quiet t b ≡ true → board_asks t b ≡ false
-unfolding board_asks
-asks_quiet t b e = rw (none_moved t b e) refl
+asks_quiet t b e = ap is_asks (air_quiet t b e)

@@ -7,7 +7,9 @@ use Rattle.board_io.specs.declared.board.Board.{Board}
 use Rattle.board_io.specs.declared.rules.Rule.{Rule}
 use Rattle.board_io.specs.declared.rules.Rule.TheVariants.{Reserved, Pin, Kept, Guarded, WatchdogControl, ResetFlags, CpuControl, TimerFlags, ExtendedTimerFlags, Timer0, Timer1, Timer2, Timer3, Usart0, Spi}
 use Rattle.board_io.specs.Board.{clock_at, selected, with_kept}
-use Rattle.board_io.specs.Cycle.{board_answered, board_asks, board_begun, board_sends, is_ask, moved, moved_by, samples, sends, sent_by, timers_cycle, timers_leap, transfer_end, usart_cycle, with_moved}
+use Rattle.board_io.specs.declared.cycle.OnAir.{OnAir}
+use Rattle.board_io.specs.declared.cycle.OnAir.TheVariants.{Quiet, Sent, Asks}
+use Rattle.board_io.specs.Cycle.{air_by, air_of, board_air, board_answered, board_asks, board_begun, board_sends, is_asks, moved, moved_by, sent_by, timers_cycle, timers_leap, transfer_end, usart_cycle, with_moved}
 use Rattle.board_io.specs.Lines.{entered_of}
 use Rattle.board_io.specs.Names.{IVSEL, SPI_STC, SRE, TIMER0_COMP, TIMER0_OVF, TIMER1_COMPA, TIMER1_COMPB, TIMER1_COMPC, TIMER1_OVF, TIMER2_COMP, TIMER2_OVF, TIMER3_COMPA, TIMER3_COMPB, TIMER3_COMPC, TIMER3_OVF, USART0_TX, WDCE, WDE}
 use Rattle.board_io.specs.Registers.{get_by, io_get, io_put, put_by, with_spi, with_t0, with_t1, with_t2, with_t3, with_usart}
@@ -49,12 +51,12 @@ free_by t (Some x) b c e =
     let g = transfer_free t (selected b) x b.radio in
     omega (arith, f, g)
 
-sent_is : (m : Moved) (x : ℕ) → sent_by m ≡ Some x → (miso : ℕ) × (m ≡ Send x miso)
+sent_is : (m : Moved) (x : ℕ) → sent_by (air_by m) ≡ Some x → (miso : ℕ) × (m ≡ Send x miso)
 sent_is (Answer miso) x e = absurd (cc)
 sent_is (Send byte miso) x e = (miso, cc)
 sent_is Ask x e = absurd (cc)
 
-sends_by : (t x : ℕ) (o : Option ℕ) (b c : Board) → sends (moved_by t o b) ≡ Some x → (b.radio.free ≤ t) × (t + b.radio.byte_time ≡ (with_moved (moved_by t o b) c).radio.free)
+sends_by : (t x : ℕ) (o : Option ℕ) (b c : Board) → sent_by (air_of (moved_by t o b)) ≡ Some x → (b.radio.free ≤ t) × (t + b.radio.byte_time ≡ (with_moved (moved_by t o b) c).radio.free)
 sends_by t x None b c e = absurd (cc)
 sends_by t x (Some y) b c e =
     let m = radio_transfer t (selected b) y b.radio in
@@ -74,22 +76,17 @@ begun_free t a b = free_by t (ended_byte b.spi.shift_register t) b (usart_cycle 
 
 -- a byte is sent only from that cycle on, and moves it to the end of the byte
 pub sends_free : (t x : ℕ) (a : Option ℕ) (b : Board) → board_sends t b ≡ Some x → (b.radio.free ≤ t) × (t + b.radio.byte_time ≡ (board_begun t a b).radio.free)
-unfolding board_begun board_sends
+unfolding board_begun board_air
 sends_free t x a b e = sends_by t x (ended_byte b.spi.shift_register t) b (usart_cycle t a (timers_cycle t b)) e
 
-ask_apart : (m : Moved) → is_ask m ≡ true → sent_by m ≡ None
-ask_apart (Answer miso) e = refl
-ask_apart (Send byte miso) e = absurd (cc)
-ask_apart Ask e = refl
-
-apart_by : (m : Option (Moved × Radio)) → samples m ≡ true → sends m ≡ None
-apart_by None e = refl
-apart_by (Some m) e = ask_apart m.0 e
+apart_by : (air : OnAir) → is_asks air ≡ true → sent_by air ≡ None
+apart_by Quiet e = refl
+apart_by (Sent byte) e = absurd (cc)
+apart_by Asks e = refl
 
 -- a cycle that asks sends nothing
 pub asks_apart : (t : ℕ) (b : Board) → board_asks t b ≡ true → board_sends t b ≡ None
-unfolding board_asks board_sends
-asks_apart t b e = apart_by (moved t b) e
+asks_apart t b e = apart_by (board_air t b) e
 
 -- ---- the rest of a cycle that asks
 pub answered_gap : (h : Heard) (b : Board) → (board_answered h b).radio.byte_time ≡ b.radio.byte_time

@@ -4,6 +4,8 @@
 -- choice.
 use Rattle.std.specs.Prelude.{ℕ, ◌&&◌, not, Bool, true, false, Option, Some, None}
 use Rattle.board_io.specs.declared.board.Board.{Board}
+use Rattle.board_io.specs.declared.cycle.OnAir.{OnAir}
+use Rattle.board_io.specs.declared.cycle.OnAir.TheVariants.{Quiet, Sent, Asks}
 use Rattle.board_io.specs.Board.{selected}
 use Rattle.serial_ports.specs.declared.radio.Moved.{Moved}
 use Rattle.serial_ports.specs.declared.radio.Moved.TheVariants.{Answer, Send, Ask}
@@ -69,30 +71,36 @@ board_begun t arrival b = with_moved (moved t b) (usart_cycle t arrival (timers_
 unfoldable pub board_serial : ℕ → Board → Option ℕ
 board_serial t b = usart.frame_ended t b.usart
 
-abbrev pub is_ask : Moved → Bool
-is_ask (Answer miso) = false
-is_ask (Send byte miso) = false
-is_ask Ask = true
+-- what the radio does on the air, by what a transfer comes to
+abbrev pub air_by : Moved → OnAir
+air_by (Answer miso) = Quiet
+air_by (Send byte miso) = Sent byte
+air_by Ask = Asks
 
-abbrev pub sent_by : Moved → Option ℕ
-sent_by (Answer miso) = None
-sent_by (Send byte miso) = Some byte
-sent_by Ask = None
+abbrev pub air_of : Option (Moved × Radio) → OnAir
+air_of None = Quiet
+air_of (Some m) = air_by m.0
 
-abbrev pub samples : Option (Moved × Radio) → Bool
-samples None = false
-samples (Some m) = is_ask m.0
+-- what it does in cycle t
+unfoldable pub board_air : ℕ → Board → OnAir
+board_air t b = air_of (moved t b)
 
-abbrev pub sends : Option (Moved × Radio) → Option ℕ
-sends None = None
-sends (Some m) = sent_by m.0
+-- whether it samples the air, and the byte that it sends
+abbrev pub is_asks : OnAir → Bool
+is_asks Quiet = false
+is_asks (Sent byte) = false
+is_asks Asks = true
 
--- whether the devices sample the air in cycle t, and the byte that they send in it
-unfoldable pub board_asks : ℕ → Board → Bool
-board_asks t b = samples (moved t b)
+abbrev pub sent_by : OnAir → Option ℕ
+sent_by Quiet = None
+sent_by (Sent byte) = Some byte
+sent_by Asks = None
 
-unfoldable pub board_sends : ℕ → Board → Option ℕ
-board_sends t b = sends (moved t b)
+abbrev pub board_asks : ℕ → Board → Bool
+board_asks t b = is_asks (board_air t b)
+
+abbrev pub board_sends : ℕ → Board → Option ℕ
+board_sends t b = sent_by (board_air t b)
 
 -- the rest of a cycle that samples: the transfer answers 0, and the radio keeps what was heard
 unfoldable pub board_answered : Heard → Board → Board

@@ -9,23 +9,34 @@ use avr_timers::{Timer8, Timer16};
 use serial_ports::{Moved, ended_byte};
 use world_core::Heard;
 
+/// What the radio of a node does on the air in a cycle.
+#[derive(Clone, Copy)]
+pub enum OnAir {
+    /// Nothing.
+    Quiet,
+    /// It sends a byte.
+    Sent {
+        /// What is sent.
+        byte: u8,
+    },
+    /// It samples the air: the cycle waits for what is heard.
+    Asks,
+}
+
 /// What the devices did in a cycle.
 #[derive(Clone, Copy)]
 pub struct Begun {
     /// The byte of the frame of USART0 that ended in it.
     pub serial: Option<u8>,
-    /// The byte that the radio sent in it.
-    pub sent: Option<u8>,
-    /// Whether the radio samples the air in it: the cycle waits for `answer`.
-    pub asks: bool,
+    /// What the radio did.
+    pub air: OnAir,
 }
 
 impl Begun {
     /// Nothing.
     pub const NOTHING: Begun = Begun {
         serial: None,
-        sent: None,
-        asks: false,
+        air: OnAir::Quiet,
     };
 }
 
@@ -54,7 +65,7 @@ fn tick_16(timer: &mut Timer16, cycle: u64)
 }
 
 impl Board {
-    ghost use Rattle.board_io.specs.Cycle.{board_answered, board_asks, board_begun, board_sends, board_serial, is_ask, moved, samples, sends, sent_by, timers_cycle, transfer_end, usart_cycle, with_moved};
+    ghost use Rattle.board_io.specs.Cycle.{air_by, air_of, board_air, board_answered, board_begun, board_serial, is_asks, moved, timers_cycle, transfer_end, usart_cycle, with_moved};
 
     // The timers' part of a cycle.
     fn tick_timers(&mut self, cycle: u64)
@@ -83,54 +94,38 @@ impl Board {
     }
 
     // The end of a transfer, by what the radio, which has it already, makes of its byte.
-    fn end_transfer(&mut self, moved: Moved, serial: Option<u8>) -> Begun
+    fn end_transfer(&mut self, moved: Moved) -> OnAir
         requires { is_some self.old.spi.shift_register ≡ true }
         ensures state { self.new ≡ transfer_end moved self.old.radio self.old }
-        ensures begun { result ≡ record { serial = serial; sent = sent_by moved; asks = is_ask moved } }
-        ensures waits { result.asks ≡ true → is_some self.new.spi.shift_register ≡ true }
+        ensures air { result ≡ air_by moved }
+        ensures waits { is_asks result ≡ true → is_some self.new.spi.shift_register ≡ true }
     {
         match moved {
             Moved::Answer(miso) => {
                 self.spi.finish(miso);
-                Begun {
-                    serial,
-                    sent: None,
-                    asks: false,
-                }
+                OnAir::Quiet
             }
             Moved::Send { byte, miso } => {
                 self.spi.finish(miso);
-                Begun {
-                    serial,
-                    sent: Some(byte),
-                    asks: false,
-                }
+                OnAir::Sent { byte }
             }
-            Moved::Ask => Begun {
-                serial,
-                sent: None,
-                asks: true,
-            },
+            Moved::Ask => OnAir::Asks,
         }
     }
 
     // The part of the serial peripheral interface and the radio, up to a sample.
-    fn exchange(&mut self, cycle: u64, serial: Option<u8>) -> Begun
+    fn exchange(&mut self, cycle: u64) -> OnAir
         requires { cycle ≤ 2 ^ 41 }
         ensures state { self.new ≡ with_moved (moved cycle self.old) self.old }
-        ensures begun { result ≡ record { serial = serial; sent = sends (moved cycle self.old); asks = samples (moved cycle self.old) } }
-        ensures waits { result.asks ≡ true → is_some self.new.spi.shift_register ≡ true }
+        ensures air { result ≡ air_of (moved cycle self.old) }
+        ensures waits { is_asks result ≡ true → is_some self.new.spi.shift_register ≡ true }
     {
         match ended_byte(self.spi.shift_register, cycle) {
-            None => Begun {
-                serial,
-                sent: None,
-                asks: false,
-            },
+            None => OnAir::Quiet,
             Some(byte) => {
                 let selected = self.selected();
                 let moved = self.radio.transfer(cycle, selected, byte);
-                self.end_transfer(moved, serial)
+                self.end_transfer(moved)
             }
         }
     }
@@ -138,18 +133,18 @@ impl Board {
     /// The devices' part of the cycle `cycle`: the timers, then USART0 with the byte that arrives, then the serial
     /// peripheral interface and the radio. Where the radio samples the air the cycle is left there, and `answer`, with
     /// what is heard, does the rest.
-    #[tactic(auto, unfolding(crate::specs::Cycle::board_begun, crate::specs::Cycle::board_serial, crate::specs::Cycle::board_sends, crate::specs::Cycle::board_asks))]
+    #[tactic(auto, unfolding(crate::specs::Cycle::board_begun, crate::specs::Cycle::board_serial, crate::specs::Cycle::board_air))]
     pub fn begin(&mut self, cycle: u64, arrival: Option<u8>) -> Begun
         requires { cycle ≤ 2 ^ 41 }
         ensures state { self.new ≡ board_begun cycle arrival self.old }
         ensures serial { result.serial ≡ board_serial cycle self.old }
-        ensures sent { result.sent ≡ board_sends cycle self.old }
-        ensures asks { result.asks ≡ board_asks cycle self.old }
-        ensures waits { result.asks ≡ true → is_some self.new.spi.shift_register ≡ true }
+        ensures air { result.air ≡ board_air cycle self.old }
+        ensures waits { is_asks result.air ≡ true → is_some self.new.spi.shift_register ≡ true }
     {
         self.tick_timers(cycle);
         let serial = self.tick_usart(cycle, arrival);
-        self.exchange(cycle, serial)
+        let air = self.exchange(cycle);
+        Begun { serial, air }
     }
 
     /// The rest of a cycle that samples, with what is heard: the transfer that sampled ends, and answers 0.

@@ -30,7 +30,7 @@ impl Model for LaggingBoard {
 
 impl LaggingBoard {
     ghost use Rattle.board_io.specs.Board.{reset_board, sleep_mode, unclocked};
-    ghost use Rattle.board_io.specs.Cycle.{board_answered, board_asks, board_begun, board_sends, board_serial, timers_leap};
+    ghost use Rattle.board_io.specs.Cycle.{board_air, board_answered, board_begun, board_serial, is_asks, timers_leap};
     ghost use Rattle.board_io.specs.Lines.{entered_of, lines_of};
 
     /// The board after reset, at cycle 0, with the byte time of its radio in cycles, at most 4,096.
@@ -120,9 +120,8 @@ impl LaggingBoard {
         ensures state { unclocked self.new ≡ board_begun cycle arrival (unclocked self.old) }
         ensures clock { self.new.clock ≡ cycle + 1 }
         ensures serial { result.serial ≡ board_serial cycle (unclocked self.old) }
-        ensures sent { result.sent ≡ board_sends cycle (unclocked self.old) }
-        ensures asks { result.asks ≡ board_asks cycle (unclocked self.old) }
-        ensures waits { result.asks ≡ true → is_some self.new.spi.shift_register ≡ true }
+        ensures air { result.air ≡ board_air cycle (unclocked self.old) }
+        ensures waits { is_asks result.air ≡ true → is_some self.new.spi.shift_register ≡ true }
     {
         self.board.catch_up(self.ahead.settled);
         let begun = self.board.begin(cycle, arrival);
@@ -140,9 +139,8 @@ impl LaggingBoard {
         ensures state { unclocked self.new ≡ board_begun cycle arrival (unclocked self.old) }
         ensures clock { self.new.clock ≡ cycle + 1 }
         ensures serial { result.serial ≡ board_serial cycle (unclocked self.old) }
-        ensures sent { result.sent ≡ board_sends cycle (unclocked self.old) }
-        ensures asks { result.asks ≡ board_asks cycle (unclocked self.old) }
-        ensures waits { result.asks ≡ true → is_some self.new.spi.shift_register ≡ true }
+        ensures air { result.air ≡ board_air cycle (unclocked self.old) }
+        ensures waits { is_asks result.air ≡ true → is_some self.new.spi.shift_register ≡ true }
     {
         if arrival.is_none() && self.passes(cycle, 1) {
             return Begun::NOTHING;

@@ -4,8 +4,8 @@ ghost use Rattle.board_io.specs.Lagging.{is_spdr, is_udr, is_plain_read, is_time
 
 use crate::LaggingBoard;
 use crate::names::{ETIMSK, TIMSK};
-use crate::rules::{Rule, rule_at};
-use avr_base::StopCause;
+use crate::rules::{LAST, Rule, listed_rule};
+use avr_base::{IO_START, StopCause};
 use data_space::Bus;
 use serial_ports::{SpiReg, UsartReg};
 
@@ -169,11 +169,11 @@ impl Bus for LaggingBoard {
 
     #[tactic(auto, unfolding(crate::specs::Registers::io_get))]
     fn get(&mut self, at: u16) -> Result<u8, StopCause> {
-        if at > 0xFF {
+        if at < IO_START || at > LAST {
             return Err(StopCause::ReservedAddress);
         }
         let low = at as u8;
-        let rule = rule_at(low);
+        let rule = listed_rule(at);
         if is_plain_read(rule) {
             return self.get_plain(rule, low);
         }
@@ -185,11 +185,11 @@ impl Bus for LaggingBoard {
 
     #[tactic(auto, unfolding(crate::specs::Registers::io_put))]
     fn put(&mut self, at: u16, b: u8) -> Result<(), StopCause> {
-        if at > 0xFF {
+        if at < IO_START || at > LAST {
             return Err(StopCause::ReservedAddress);
         }
         let low = at as u8;
-        let rule = rule_at(low);
+        let rule = listed_rule(at);
         if is_plain_write(rule, low) {
             return self.put_plain(rule, low, b);
         }

@@ -6,8 +6,8 @@ use crate::names::{
     ICF1, ICF3, IVSEL, JTD, OCF0, OCF1A, OCF1B, OCF1C, OCF2, OCF3A, OCF3B, OCF3C, SRE, TOV0, TOV1,
     TOV2, TOV3, WDCE, WDE,
 };
-use crate::rules::{Rule, rule_at};
-use avr_base::StopCause;
+use crate::rules::{LAST, Rule, listed_rule};
+use avr_base::{IO_START, StopCause};
 use avr_timers::TimerFlags;
 use data_space::Bus;
 use device_base::{any_bit, bit};
@@ -207,19 +207,17 @@ impl Bus for Board {
 
     #[tactic(auto, unfolding(crate::specs::Registers::io_get))]
     fn get(&mut self, at: u16) -> Result<u8, StopCause> {
-        if at > 0xFF {
+        if at < IO_START || at > LAST {
             return Err(StopCause::ReservedAddress);
         }
-        let low = at as u8;
-        self.get_by(rule_at(low), low)
+        self.get_by(listed_rule(at), at as u8)
     }
 
     #[tactic(auto, unfolding(crate::specs::Registers::io_put))]
     fn put(&mut self, at: u16, b: u8) -> Result<(), StopCause> {
-        if at > 0xFF {
+        if at < IO_START || at > LAST {
             return Err(StopCause::ReservedAddress);
         }
-        let low = at as u8;
-        self.put_by(rule_at(low), low, b)
+        self.put_by(listed_rule(at), at as u8, b)
     }
 }

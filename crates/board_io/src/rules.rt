@@ -1,12 +1,12 @@
 // The rules of the I/O registers, by data address.
-ghost use Rattle.std.specs.Prelude.{◌≡◌};
+ghost use Rattle.std.specs.Prelude.{◌≡◌, ◌≤◌};
 ghost use Rattle.board_io.specs.Table.{rule_of};
 
 use crate::names::{
     ACIC, ACIE, ADEN, ADSC, AS0, EEMWE, EERE, EERIE, EEWE, PORTA, PORTB, PORTC, PORTD, PORTE,
     PORTF, PORTG, PSR0, PSR321, RXEN1, TICIE1, TICIE3, TSM, TWEN, TXEN1, XDIVEN,
 };
-use avr_base::StopCause;
+use avr_base::{IO_START, StopCause};
 use avr_timers::{Chan, Reg8, Reg16};
 use serial_ports::{SpiReg, UsartReg};
 
@@ -47,13 +47,10 @@ pub enum Rule {
     Spi(SpiReg),
 }
 
-/// The data address of the first I/O register.
-pub(crate) const FIRST: u8 = 0x20;
+/// The data address of the last rule of the table, whose first is that of `IO_START`. All others are reserved.
+pub(crate) const LAST: u16 = 0x9F;
 
-// The data address of the last rule of the table. Past it all are reserved.
-const LAST: u8 = 0x9F;
-
-// The rules of the data addresses `FIRST` to `LAST`, in the order of docs/MACHINE.md.
+// The rules of the data addresses `IO_START` to `LAST`, in the order of docs/MACHINE.md.
 static RULES: [Rule; 128] = [
     Rule::Pin(PORTF), // 0x20 PINF
     Rule::Pin(PORTE), // 0x21 PINE
@@ -185,12 +182,23 @@ static RULES: [Rule; 128] = [
     Rule::Reserved, // 0x9F
 ];
 
+/// The rule of a data address of the table.
+#[inline]
+pub(crate) fn listed_rule(at: u16) -> Rule
+    requires first { 0x20 ≤ at }
+    requires last { at ≤ 0x9F }
+    ensures { result ≡ rule_of at }
+{
+    RULES[usize::from(at - IO_START)]
+}
+
 /// The rule of a data address below 0x0100.
 pub(crate) fn rule_at(at: u8) -> Rule
     ensures { result ≡ rule_of at }
 {
-    if at < FIRST || at > LAST {
+    let at = u16::from(at);
+    if at < IO_START || at > LAST {
         return Rule::Reserved;
     }
-    RULES[usize::from(at - FIRST)]
+    listed_rule(at)
 }

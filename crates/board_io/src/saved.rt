@@ -5,8 +5,9 @@ ghost use Rattle.board_io.specs.Kept.{first_refused, is_io, is_kept, kept_bits, 
 
 use crate::names::{JTD, PORF};
 use crate::registers::MCUCR_KEPT;
-use crate::rules::{FIRST, Rule, rule_at};
+use crate::rules::{Rule, rule_at};
 use crate::{Board, Clock, LaggingBoard};
+use avr_base::IO_START;
 use avr_timers::{Prescaler, Timer8, Timer16};
 use device_base::{first_outside, part, put_part};
 use serial_ports::{Radio, Spi, Usart};
@@ -72,7 +73,7 @@ pub fn first_refused(io: &[u8]) -> Option<usize>
     ensures { result ≡ first_refused io.now }
 {
     for place in 0..224 {
-        if !is_io(FIRST + place as u8, io[place]) {
+        if !is_io(IO_START as u8 + place as u8, io[place]) {
             return Some(place);
         }
     }
@@ -85,7 +86,7 @@ fn kept_of(io: &[u8]) -> [u8; 256]
     ensures { result ≡ kept_of io.now }
 {
     let mut kept = [0; 256];
-    kept[usize::from(FIRST)..].copy_from_slice(io);
+    kept[usize::from(IO_START)..].copy_from_slice(io);
     kept
 }
 

@@ -5,7 +5,7 @@ use crate::answers::Answer;
 use crate::numbers::{address, byte, cycle};
 use avr_base::Vector;
 use avr_timers::TimerFlags;
-use board_io::Board;
+use board_io::{Board, OnAir};
 use data_space::{Bus, Cpu, load, store};
 use serial_ports::ReceiveBuffer;
 use world_core::Heard;
@@ -70,13 +70,13 @@ impl CoreAndBoard {
         requires { at ≤ 2 ^ 41 }
     {
         let begun = self.board.begin(at, None);
-        if begun.asks {
-            self.board.answer(HEARD);
-            return Answer::Asks;
-        }
-        match begun.sent {
-            Some(b) => Answer::Sends(b),
-            None => Answer::Done,
+        match begun.air {
+            OnAir::Asks => {
+                self.board.answer(HEARD);
+                Answer::Asks
+            }
+            OnAir::Sent { byte } => Answer::Sends(byte),
+            OnAir::Quiet => Answer::Done,
         }
     }
 }

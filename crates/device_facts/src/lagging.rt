@@ -5,7 +5,7 @@ use crate::answers::Answer;
 use crate::board::HEARD;
 use crate::numbers::{address, byte, cycle};
 use avr_base::{StopCause, Vector};
-use board_io::LaggingBoard;
+use board_io::{LaggingBoard, OnAir};
 use data_space::Bus;
 use std::marker::Model;
 
@@ -53,14 +53,14 @@ impl NodeBoard {
         let at = self.cycle;
         let begun = self.board.begin(at, arrival);
         self.cycle = at + 1;
-        if begun.asks {
+        if let OnAir::Asks = begun.air {
             self.board.answer(HEARD);
             return Answer::Asks;
         }
-        match (begun.serial, begun.sent) {
+        match (begun.serial, begun.air) {
             (Some(b), _) => Answer::Came(at, b),
-            (None, Some(b)) => Answer::Sends(b),
-            (None, None) => Answer::Done,
+            (None, OnAir::Sent { byte }) => Answer::Sends(byte),
+            (None, _) => Answer::Done,
         }
     }
 

@@ -1,16 +1,17 @@
 -- A run in the middle of a cycle: how it gets there, how it goes on where the devices end nothing, and how its cycle ends.
-use Rattle.std.proofs.Common.{◌≡◌, ℕ, ◌+◌, ◌-◌, ◌++◌, ◌<◌, Bool, true, false, Option, None, List, is_some, refl, sym, subst, ap, ◌∙◌, arith, append_assoc}
-use Rattle.board_io.specs.Cycle.{board_quiet, timers_leap}
+use Rattle.std.proofs.Common.{◌≡◌, ℕ, ◌+◌, ◌-◌, ◌++◌, ◌<◌, Bool, true, false, Option, None, List, is_some, refl, sym, subst, ap, ◌∙◌, arith, append_assoc, Some, cond}
+use Rattle.board_io.specs.Cycle.{board_air, board_quiet, is_asks, sent_by, timers_leap}
 use Rattle.board_io.proofs.Lags.{leap_add}
 use Rattle.board_io.proofs.Leaps.{leap_quiet}
 use Rattle.node_core.specs.declared.row.Row.{Row}
 use Rattle.serial_ports.specs.Script.{script_byte}
 use Rattle.world_core.specs.NodeRun.{Comes, Timed, passed_rows}
 use Rattle.world_core.proofs.QuietCycles.{comes_step}
-use Rattle.node_core.specs.declared.machine.OnAir.{OnAir}
+use Rattle.board_io.specs.declared.cycle.OnAir.{OnAir}
+use Rattle.board_io.specs.declared.cycle.OnAir.TheVariants.{Quiet, Sent, Asks}
 use Rattle.node_core.specs.Bus.{with_board}
-use Rattle.node_core.specs.Cycle.{asks_after, asks_in, begun_in, begun_rows, cpu_cycle, cpu_rows, device_rows, devices_cycle, node_kind, sends_after, sends_in}
-use Rattle.node_core.specs.Inside.{IsCalm, IsOnAir, IsPassed}
+use Rattle.node_core.specs.Cycle.{air_after, asks_after, asks_in, begun_in, begun_rows, cpu_cycle, cpu_rows, device_rows, devices_cycle, node_kind, sends_after, sends_in}
+use Rattle.node_core.specs.Inside.{IsCalm, IsPassed}
 use Rattle.node_core.specs.Midway.{IsMidway}
 use Rattle.node_core.specs.State.{NodeState}
 use Rattle.node_core.proofs.Cycles.{asks_calm, asks_parts, begun_calm, begun_parts, rows_calm, rows_parts, sends_calm, sends_parts}
@@ -98,6 +99,22 @@ joined v at c s u l k first h =
       told = h.told;
     }
 
+-- ---- what the radio does on the air, by whether it samples and what it sends
+abbrev pub IsOnAir : Bool → Option ℕ → OnAir → Type 0
+IsOnAir asks sends Quiet = (asks ≡ false) × (sends ≡ None)
+IsOnAir asks sends (Sent byte) = (asks ≡ false) × (sends ≡ Some byte)
+IsOnAir asks sends Asks = asks ≡ true
+
+air_told_by : (stopped : Bool) (air : OnAir) → IsOnAir (cond stopped false (is_asks air)) (cond stopped None (sent_by air)) (cond stopped Quiet air)
+air_told_by true air = (refl, refl)
+air_told_by false Quiet = (refl, refl)
+air_told_by false (Sent byte) = (refl, refl)
+air_told_by false Asks = refl
+
+pub air_told : (t : ℕ) (s : NodeState) → IsOnAir (asks_after t s) (sends_after t s) (air_after t s)
+unfolding air_after asks_after sends_after
+air_told t s = air_told_by (is_some s.stop) (board_air t s.bus.board)
+
 -- the end of the cycle
 module _ (v : Timed NodeState Row) (c : ℕ) (u : NodeState) (k : List Row) (h : IsMidway v c u k) where
   pub ended : (w : NodeState) → w ≡ devices_cycle c u → w ≡ begun_in c h.state
@@ -108,8 +125,8 @@ module _ (v : Timed NodeState Row) (c : ℕ) (u : NodeState) (k : List Row) (h :
       e ∙ ((λ i. h.told i ++ device_rows c (h.part i))
       ∙ (append_assoc h.rows (cpu_rows c h.state) (device_rows c (cpu_cycle c h.state)) ∙ ap (λ (l : List Row). h.rows ++ l) (sym (rows_parts c h.state h.going))))
 
-  pub ended_air : (a : OnAir) → IsOnAir (asks_after c u) (sends_after c u) a → IsOnAir (asks_in c h.state) (sends_in c h.state) a
+  pub ended_air : (a : OnAir) → a ≡ air_after c u → IsOnAir (asks_in c h.state) (sends_in c h.state) a
   ended_air a air =
       subst (λ (o : Option ℕ). IsOnAir (asks_in c h.state) o a) (sym (sends_parts c h.state h.going))
       (subst (λ (b : Bool). IsOnAir b (sends_after c (cpu_cycle c h.state)) a) (sym (asks_parts c h.state h.going))
-      (subst (λ (x : NodeState). IsOnAir (asks_after c x) (sends_after c x) a) h.part air))
+      (subst (λ (x : NodeState). IsOnAir (asks_after c x) (sends_after c x) a) h.part (subst (IsOnAir (asks_after c u) (sends_after c u)) (sym air) (air_told c u))))

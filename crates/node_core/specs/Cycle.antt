@@ -10,7 +10,9 @@ use Rattle.avr_decoder.specs.declared.op.Op.{Op}
 use Rattle.avr_decoder.specs.declared.op.Op.TheVariants as op
 use Rattle.avr_decoder.specs.Opcodes.{op_at}
 use Rattle.board_io.specs.Board.{sleep_mode}
-use Rattle.board_io.specs.Cycle.{board_answered, board_asks, board_begun, board_sends, board_serial}
+use Rattle.board_io.specs.Cycle.{board_air, board_answered, board_asks, board_begun, board_sends, board_serial}
+use Rattle.board_io.specs.declared.cycle.OnAir.{OnAir}
+use Rattle.board_io.specs.declared.cycle.OnAir.TheVariants.{Quiet}
 use Rattle.board_io.specs.declared.board.Sleep.{Sleep}
 use Rattle.board_io.specs.declared.board.Sleep.TheVariants.{Off, Idle, Other}
 use Rattle.board_io.specs.Lines.{entered_of}
@@ -162,7 +164,11 @@ abbrev pub sent_rows : ℕ → NodeState → Option ℕ → List Row
 sent_rows t s None = []
 sent_rows t s (Some byte) = row t s (kind.Sent byte)
 
--- whether the devices look at the air, what they send, and the rows of their part, once the processor's part is done
+-- what the radio does on the air once the processor's part is done, whether it samples, what it sends, and the rows of the
+-- devices' part
+unfoldable pub air_after : ℕ → NodeState → OnAir
+air_after t s = if is_some s.stop then Quiet else board_air t s.bus.board
+
 unfoldable pub asks_after : ℕ → NodeState → Bool
 asks_after t s = if is_some s.stop then false else board_asks t s.bus.board
 

@@ -1,8 +1,6 @@
 -- What holds of the inside of a node between two calls: an instruction takes at least a cycle, so its count cannot
 -- wrap; the clock of its board shows the next cycle of the devices; in the middle of a sample there is room for the row of what is heard, and the transfer that samples runs.
 use Rattle.std.specs.Prelude.{◌≡◌, ℕ, ◌+◌, ◌^◌, ◌≤◌, ◌<◌, Bool, true, false, Option, Some, None, is_some, if◌then◌else◌, vec_len, vec_capacity}
-use Rattle.node_core.specs.declared.machine.OnAir.{OnAir}
-use Rattle.node_core.specs.declared.machine.OnAir.TheVariants.{Quiet, Sent, Asks}
 use Rattle.node_core.specs.declared.machine.Machine.{Machine}
 use Rattle.node_core.specs.Bus.{with_board}
 use Rattle.node_core.specs.State.{NodeState}
@@ -15,12 +13,6 @@ pub record IsWhole (cycle : ℕ) (asking : Bool) (m : Machine) : Type 0 where
   pub early : asking ≡ true → cycle < 2 ^ 40
   pub room : asking ≡ true → vec_len m.rows < vec_capacity m.rows
   pub waits : asking ≡ true → is_some m.bus.board.spi.shift_register ≡ true
-
--- what the radio does in a cycle, by whether it samples the air and what it sends
-abbrev pub IsOnAir : Bool → Option ℕ → OnAir → Type 0
-IsOnAir asks sends Quiet = (asks ≡ false) × (sends ≡ None)
-IsOnAir asks sends (Sent byte) = (asks ≡ false) × (sends ≡ Some byte)
-IsOnAir asks sends Asks = asks ≡ true
 
 -- n cycles from cycle t on in which the devices end nothing and no byte arrives, as far as the ends that stand now tell
 pub record IsCalm (t n : ℕ) (s : NodeState) : Type 0 where

@@ -1,15 +1,16 @@
 // The inside of a node, cycle by cycle.
 ghost use Rattle.std.specs.Prelude.{◌≡◌, ◌==◌, ◌<◌, ◌≤◌, ◌+◌, ◌-◌, ◌^◌, ◌%◌, ◌++◌, ◌&&◌, ◌||◌, nat_le, nat_lt, None, Some, true, false, is_some, IfOk, OnOk, OnErr, vec_len, vec_capacity};
-ghost use Rattle.node_core.specs.Cycle.{acted, acted_rows, asks_after, asks_in, begun_in, begun_rows, cpu_cycle, cpu_rows, device_rows, devices_cycle, entered, entered_rows, finished_in, finished_rows, instructed, instructed_rows, is_idle, is_other, is_refused, is_sei, is_sleep, op_now, owes, row, row_within, sends_after, sends_in, sent_rows, serial_rows};
+ghost use Rattle.node_core.specs.Cycle.{acted, acted_rows, air_after, asks_after, asks_in, begun_in, begun_rows, cpu_cycle, cpu_rows, device_rows, devices_cycle, entered, entered_rows, finished_in, finished_rows, instructed, instructed_rows, is_idle, is_other, is_refused, is_sei, is_sleep, op_now, owes, row, row_within, sends_after, sends_in, sent_rows, serial_rows};
 ghost use Rattle.avr_decoder.specs.Class.{class_of};
 ghost use Rattle.avr_decoder.specs.declared.op.Class.TheVariants as class;
 ghost use Rattle.node_core.specs.declared.row.Kind.TheVariants as kind;
-ghost use Rattle.node_core.specs.Inside.{IsOnAir, IsGoing};
+ghost use Rattle.node_core.specs.Inside.{IsGoing};
 ghost use Rattle.node_core.specs.Interrupts.{due};
 ghost use Rattle.node_core.specs.Midway.{IsActed};
 ghost use Rattle.node_core.specs.Shown.{shown};
 ghost use Rattle.serial_ports.specs.Script.{script_byte};
 ghost use Rattle.board_io.specs.Board.{sleep_mode};
+ghost use Rattle.board_io.specs.Cycle.{sent_by};
 ghost use Rattle.board_io.specs.Lines.{lines_of};
 ghost use Rattle.ihex_loader.specs.Flash.{word_at};
 ghost use Rattle.avr_base.specs.Lines.{due_of, pending_of};
@@ -21,7 +22,7 @@ use crate::{Kind, NodeBus, Row};
 use avr_base::{Sreg, StopCause, Vector};
 use avr_decoder::Op;
 use avr_program::Program;
-use board_io::{LaggingBoard, Sleep};
+use board_io::{LaggingBoard, OnAir, Sleep};
 use data_space::{Cpu, Done};
 use serial_ports::Script;
 use world_core::Heard;
@@ -81,19 +82,6 @@ pub fn owes(op: &Op, before: u8, after: u8) -> bool
     before < 128 || is_set_interrupts(op)
 }
 
-// What the radio does in a cycle, by whether it samples the air and what it sends.
-fn in_the_air(asks: bool, sent: Option<u8>) -> OnAir
-    ensures { IsOnAir asks sent result }
-{
-    if asks {
-        return OnAir::Asks;
-    }
-    match sent {
-        Some(byte) => OnAir::Sent { byte },
-        None => OnAir::Quiet,
-    }
-}
-
 // The interrupt that waits to be let in.
 #[inline]
 fn pending(board: &LaggingBoard) -> Option<Vector>
@@ -116,17 +104,6 @@ fn due(sreg: Sreg, board: &LaggingBoard) -> Option<Vector>
     } else {
         None
     }
-}
-
-/// What the radio does in a cycle.
-#[derive(Clone, Copy)]
-pub enum OnAir {
-    /// Nothing.
-    Quiet,
-    /// It sends a byte.
-    Sent { byte: u8 },
-    /// It samples the air.
-    Asks,
 }
 
 #[derive(Drop)]
@@ -359,15 +336,15 @@ impl Machine {
     }
 
     // The row of a byte that was sent.
-    fn put_sent(&mut self, cycle: u64, sent: Option<u8>)
+    fn put_sent(&mut self, cycle: u64, air: OnAir)
         requires room { vec_len self.old.rows < vec_capacity self.old.rows }
         ensures state { shown self.new ≡ shown self.old }
-        ensures rows { self.new.rows.items ≡ self.old.rows.items ++ sent_rows cycle (shown self.old) sent }
+        ensures rows { self.new.rows.items ≡ self.old.rows.items ++ sent_rows cycle (shown self.old) (sent_by air) }
         ensures used { vec_len self.new.rows ≤ vec_len self.old.rows + 1 }
         ensures room { vec_capacity self.new.rows ≡ vec_capacity self.old.rows }
         ensures clock { self.new.bus.board.clock ≡ self.old.bus.board.clock }
     {
-        if let Some(byte) = sent {
+        if let OnAir::Sent { byte } = air {
             let node = self.number;
             let kind = Kind::Sent { byte };
             put_row(&mut self.rows, Row { cycle, node, kind });
@@ -375,7 +352,7 @@ impl Machine {
     }
 
     // The devices' part of a cycle, up to its sample.
-    #[tactic(auto, unfolding(crate::specs::Cycle::devices_cycle, crate::specs::Cycle::device_rows, crate::specs::Cycle::asks_after, crate::specs::Cycle::sends_after))]
+    #[tactic(auto, unfolding(crate::specs::Cycle::devices_cycle, crate::specs::Cycle::device_rows, crate::specs::Cycle::air_after, crate::specs::Cycle::asks_after))]
     fn move_devices(&mut self, cycle: u64) -> OnAir
         requires going { self.old.stop ≡ None }
         requires now { self.old.bus.board.clock ≡ cycle }
@@ -383,7 +360,7 @@ impl Machine {
         requires room { vec_len self.old.rows + 2 ≤ vec_capacity self.old.rows }
         ensures state { shown self.new ≡ devices_cycle cycle (shown self.old) }
         ensures rows { self.new.rows.items ≡ self.old.rows.items ++ device_rows cycle (shown self.old) }
-        ensures air { IsOnAir (asks_after cycle (shown self.old)) (sends_after cycle (shown self.old)) result }
+        ensures air { result ≡ air_after cycle (shown self.old) }
         ensures waits { asks_after cycle (shown self.old) ≡ true → is_some self.new.bus.board.spi.shift_register ≡ true }
         ensures used { vec_len self.new.rows ≤ vec_len self.old.rows + 2 }
         ensures room { vec_capacity self.new.rows ≡ vec_capacity self.old.rows }
@@ -393,20 +370,20 @@ impl Machine {
         let arrival = self.arrival(cycle);
         let begun = self.bus.board.begin(cycle, arrival);
         self.put_serial(cycle, begun.serial);
-        self.put_sent(cycle, begun.sent);
-        in_the_air(begun.asks, begun.sent)
+        self.put_sent(cycle, begun.air);
+        begun.air
     }
 
     /// The devices' part of a cycle up to its sample, which a node that stopped in this cycle does not reach. There is
     /// room for its rows, also for that of the sample.
-    #[tactic(auto, unfolding(crate::specs::Cycle::devices_cycle, crate::specs::Cycle::device_rows, crate::specs::Cycle::asks_after, crate::specs::Cycle::sends_after))]
+    #[tactic(auto, unfolding(crate::specs::Cycle::devices_cycle, crate::specs::Cycle::device_rows, crate::specs::Cycle::air_after, crate::specs::Cycle::asks_after))]
     pub fn conclude(&mut self, cycle: u64) -> OnAir
         requires now { self.old.bus.board.clock ≡ cycle }
         requires early { cycle < 2 ^ 40 }
         requires room { vec_len self.old.rows + 3 ≤ vec_capacity self.old.rows }
         ensures state { shown self.new ≡ devices_cycle cycle (shown self.old) }
         ensures rows { self.new.rows.items ≡ self.old.rows.items ++ device_rows cycle (shown self.old) }
-        ensures air { IsOnAir (asks_after cycle (shown self.old)) (sends_after cycle (shown self.old)) result }
+        ensures air { result ≡ air_after cycle (shown self.old) }
         ensures waits { asks_after cycle (shown self.old) ≡ true → is_some self.new.bus.board.spi.shift_register ≡ true }
         ensures room { vec_len self.new.rows < vec_capacity self.new.rows }
         ensures count { self.new.count ≡ self.old.count }

@@ -5,10 +5,11 @@ ghost use Rattle.node_core.specs.State.{reset};
 ghost use Rattle.node_core.specs.Cycle.{node_kind, end_row};
 ghost use Rattle.node_core.specs.Reached.{IsReached};
 
-use crate::machine::{Machine, OnAir, ROWS_OF_A_CYCLE};
+use crate::machine::{Machine, ROWS_OF_A_CYCLE};
 use crate::{Kind, NodeBus, NodeEnd, Row};
 use avr_base::{NoMemory, StopCause};
 use avr_program::Program;
+use board_io::OnAir;
 use data_space::Cpu;
 use serial_ports::Script;
 use std::alloc::Global;

@@ -4,7 +4,7 @@ use Rattle.board_io.specs.Board.{unclocked}
 use Rattle.board_io.specs.Cycle.{board_begun}
 use Rattle.board_io.specs.declared.board.Board.{Board}
 use Rattle.board_io.proofs.Lags.{quiet_now}
-use Rattle.board_io.proofs.Leaps.{asks_quiet, begun_quiet, sends_quiet, serial_quiet}
+use Rattle.board_io.proofs.Leaps.{air_quiet, begun_quiet, serial_quiet}
 use Rattle.board_io.proofs.lagging.LaggingBoard.begin.Goals as goal
 
 none_is : (a : Option ℕ) → is_some a ≡ false → a ≡ None
@@ -26,10 +26,6 @@ pub returns-then-passes-clause-serial : goal.returns-then-passes-clause-serial
 returns-then-passes-clause-serial c =
     sym (serial_quiet c.args.cycle (unclocked c.args.self.now) (quiet_now c.args.cycle c.args.self.now (c.passes.ensures.idle c.if-passes.true)))
 
-pub returns-then-passes-clause-sent : goal.returns-then-passes-clause-sent
-returns-then-passes-clause-sent c =
-    sym (sends_quiet c.args.cycle (unclocked c.args.self.now) (quiet_now c.args.cycle c.args.self.now (c.passes.ensures.idle c.if-passes.true)))
-
-pub returns-then-passes-clause-asks : goal.returns-then-passes-clause-asks
-returns-then-passes-clause-asks c =
-    sym (asks_quiet c.args.cycle (unclocked c.args.self.now) (quiet_now c.args.cycle c.args.self.now (c.passes.ensures.idle c.if-passes.true)))
+pub returns-then-passes-clause-air : goal.returns-then-passes-clause-air
+returns-then-passes-clause-air c =
+    sym (air_quiet c.args.cycle (unclocked c.args.self.now) (quiet_now c.args.cycle c.args.self.now (c.passes.ensures.idle c.if-passes.true)))

@@ -1,8 +1,8 @@
 use Rattle.std.proofs.Common.{◌+◌, is_some, sym, ap, ◌∙◌}
 use Rattle.board_io.specs.Board.{clock_at, unclocked}
-use Rattle.board_io.specs.Cycle.{board_asks, board_begun, board_sends, board_serial}
+use Rattle.board_io.specs.Cycle.{board_air, board_begun, board_serial}
 use Rattle.board_io.specs.declared.board.Board.{Board}
-use Rattle.board_io.proofs.Lags.{asks_clock, begun_clock, caught_zero, sends_clock, serial_clock}
+use Rattle.board_io.proofs.Lags.{air_clock, begun_clock, caught_zero, serial_clock}
 use Rattle.board_io.proofs.lagging.LaggingBoard.begin_caught_up.Goals as goal
 
 pub returns-clause-state : goal.returns-clause-state
@@ -22,15 +22,10 @@ returns-clause-serial c =
     let t = c.args.cycle in
     c.begin-begun.ensures.serial ∙ (ap (board_serial t) (c.catch_up.ensures ∙ c.self.view_is) ∙ sym (serial_clock 0 t c.args.self.now))
 
-pub returns-clause-sent : goal.returns-clause-sent
-returns-clause-sent c =
+pub returns-clause-air : goal.returns-clause-air
+returns-clause-air c =
     let t = c.args.cycle in
-    c.begin-begun.ensures.sent ∙ (ap (board_sends t) (c.catch_up.ensures ∙ c.self.view_is) ∙ sym (sends_clock 0 t c.args.self.now))
-
-pub returns-clause-asks : goal.returns-clause-asks
-returns-clause-asks c =
-    let t = c.args.cycle in
-    c.begin-begun.ensures.asks ∙ (ap (board_asks t) (c.catch_up.ensures ∙ c.self.view_is) ∙ sym (asks_clock 0 t c.args.self.now))
+    c.begin-begun.ensures.air ∙ (ap (board_air t) (c.catch_up.ensures ∙ c.self.view_is) ∙ sym (air_clock 0 t c.args.self.now))
 
 pub returns-clause-waits : goal.returns-clause-waits
 returns-clause-waits c asks =

@@ -1,38 +1,39 @@
-use Rattle.board_io.proofs.Agree.{get_err, get_ok, get_past, got_same}
+use Rattle.std.proofs.Common.{arith}
+use Rattle.board_io.proofs.Agree.{get_beside, get_err, get_ok, got_same, no_rule}
 use Rattle.board_io.proofs.lagging_registers.LaggingBoardBus.get.Goals as goal
 
-pub returns-then-at-gt255-clause-err : goal.returns-then-at-gt255-clause-err
-returns-then-at-gt255-clause-err c = get_past c.args.self.now c.args.at c.if-at-gt255.true
+pub returns-then-at-lt-IO_START-clause-err : goal.returns-then-at-lt-IO_START-clause-err
+returns-then-at-lt-IO_START-clause-err c = get_beside c.args.self.now c.args.at (no_rule c.args.at (λ low high. omega arith))
 
 pub returns-then-is_plain_read-clause-ok : goal.returns-then-is_plain_read-clause-ok
 returns-then-is_plain_read-clause-ok c =
-    get_ok c.args.self.now c.args.at c.rule_at-rule.result c.rule_at-rule.ensures c.get_plain.result c.get_plain.new.self c.get_plain.ensures
+    get_ok c.args.self.now c.args.at c.listed_rule-rule.result c.listed_rule-rule.ensures c.get_plain.result c.get_plain.new.self c.get_plain.ensures
 
 pub returns-then-is_plain_read-clause-err : goal.returns-then-is_plain_read-clause-err
 returns-then-is_plain_read-clause-err c =
-    get_err c.args.self.now c.args.at c.rule_at-rule.result c.rule_at-rule.ensures c.get_plain.result c.get_plain.new.self c.get_plain.ensures
+    get_err c.args.self.now c.args.at c.listed_rule-rule.result c.listed_rule-rule.ensures c.get_plain.result c.get_plain.new.self c.get_plain.ensures
 
 pub returns-then-is_plain_read-clause-same : goal.returns-then-is_plain_read-clause-same
 returns-then-is_plain_read-clause-same c = got_same _ c.args.self.now c.get_plain.new.self c.get_plain.result c.get_plain.ensures
 
 pub returns-then-is_timer_read-clause-ok : goal.returns-then-is_timer_read-clause-ok
 returns-then-is_timer_read-clause-ok c =
-    get_ok c.args.self.now c.args.at c.rule_at-rule.result c.rule_at-rule.ensures c.get_timer.result c.get_timer.new.self c.get_timer.ensures
+    get_ok c.args.self.now c.args.at c.listed_rule-rule.result c.listed_rule-rule.ensures c.get_timer.result c.get_timer.new.self c.get_timer.ensures
 
 pub returns-then-is_timer_read-clause-err : goal.returns-then-is_timer_read-clause-err
 returns-then-is_timer_read-clause-err c =
-    get_err c.args.self.now c.args.at c.rule_at-rule.result c.rule_at-rule.ensures c.get_timer.result c.get_timer.new.self c.get_timer.ensures
+    get_err c.args.self.now c.args.at c.listed_rule-rule.result c.listed_rule-rule.ensures c.get_timer.result c.get_timer.new.self c.get_timer.ensures
 
 pub returns-then-is_timer_read-clause-same : goal.returns-then-is_timer_read-clause-same
 returns-then-is_timer_read-clause-same c = got_same _ c.args.self.now c.get_timer.new.self c.get_timer.result c.get_timer.ensures
 
 pub returns-clause-ok : goal.returns-clause-ok
 returns-clause-ok c =
-    get_ok c.args.self.now c.args.at c.rule_at-rule.result c.rule_at-rule.ensures c.get_and_look_ahead.result c.get_and_look_ahead.new.self c.get_and_look_ahead.ensures
+    get_ok c.args.self.now c.args.at c.listed_rule-rule.result c.listed_rule-rule.ensures c.get_and_look_ahead.result c.get_and_look_ahead.new.self c.get_and_look_ahead.ensures
 
 pub returns-clause-err : goal.returns-clause-err
 returns-clause-err c =
-    get_err c.args.self.now c.args.at c.rule_at-rule.result c.rule_at-rule.ensures c.get_and_look_ahead.result c.get_and_look_ahead.new.self c.get_and_look_ahead.ensures
+    get_err c.args.self.now c.args.at c.listed_rule-rule.result c.listed_rule-rule.ensures c.get_and_look_ahead.result c.get_and_look_ahead.new.self c.get_and_look_ahead.ensures
 
 pub returns-clause-same : goal.returns-clause-same
 returns-clause-same c = got_same _ c.args.self.now c.get_and_look_ahead.new.self c.get_and_look_ahead.result c.get_and_look_ahead.ensures

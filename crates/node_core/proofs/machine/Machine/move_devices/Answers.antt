@@ -1,7 +1,7 @@
 use Rattle.std.proofs.Common.{◌≡◌, ◌++◌, ℕ, Option, List, false, is_some, append_assoc, sym, ap, ◌∙◌}
 use Rattle.board_io.specs.declared.board.Board.{Board}
 use Rattle.board_io.specs.Board.{unclocked}
-use Rattle.board_io.specs.Cycle.{board_begun}
+use Rattle.board_io.specs.Cycle.{board_begun, sent_by}
 use Rattle.node_core.specs.declared.row.Row.{Row}
 use Rattle.node_core.specs.Bus.{with_board}
 use Rattle.node_core.specs.Cycle.{sent_rows, serial_rows}
@@ -27,9 +27,9 @@ returns-clause-rows c =
     let going : is_some s.stop ≡ false = ap is_some c.requires.going in
     let e = c.begin-begun.ensures in
     let serial : List Row = serial_rows t s c.begin-begun.result.serial in
-    let sent : List Row = sent_rows t s c.begin-begun.result.sent in
+    let sent : List Row = sent_rows t s (sent_by c.begin-begun.result.air) in
     c.put_sent.ensures.rows
-    ∙ ((λ i. c.put_serial.ensures.rows i ++ sent_rows t (c.put_serial.ensures.state i) c.begin-begun.result.sent)
+    ∙ ((λ i. c.put_serial.ensures.rows i ++ sent_rows t (c.put_serial.ensures.state i) (sent_by c.begin-begun.result.air))
     ∙ (append_assoc m.rows.items serial sent
-    ∙ ((λ i. m.rows.items ++ (serial_rows t s (e.serial i) ++ sent_rows t s (e.sent i)))
+    ∙ ((λ i. m.rows.items ++ (serial_rows t s (e.serial i) ++ sent_rows t s (sent_by (e.air i))))
     ∙ ap (λ (l : List Row). m.rows.items ++ l) (sym (devices_tell t s going)))))

@@ -4,11 +4,11 @@ use Rattle.world_core.specs.NodeRun.{Timed, Comes}
 use Rattle.world_core.proofs.QuietCycles.{comes_none, running_next}
 use Rattle.node_core.specs.State.{NodeState}
 use Rattle.node_core.specs.Shown.{shown}
-use Rattle.node_core.specs.Inside.{IsOnAir, IsWhole}
+use Rattle.node_core.specs.Inside.{IsWhole}
 use Rattle.node_core.specs.Midway.{IsMidway}
 use Rattle.node_core.specs.Cycle.{asks_after, asks_in, node_kind, sends_after, sends_in}
 use Rattle.node_core.proofs.Runs.{begun_comes, rested_comes, whole_between}
-use Rattle.node_core.proofs.Strides.{ended, ended_air, ended_rows, joined}
+use Rattle.node_core.proofs.Strides.{IsOnAir, air_told, ended, ended_air, ended_rows, joined}
 use Rattle.node_core.proofs.Steady.{steady}
 use Rattle.node_core.proofs.node.Node.run_until.Goals as goal
 
@@ -167,7 +167,7 @@ invariant_of-self-in-Asks c =
     let b = c.conclude.ensures in
     let t : ℕ = c.loop-self.self-inside.cycle + c.rest.result + c.stride.result in
     let u : NodeState = shown c.stride.new.self in
-    let asks = subst (λ a. IsOnAir (asks_after t u) (sends_after t u) a) c.in-Asks.is b.air in
+    let asks = subst (λ a. IsOnAir (asks_after t u) (sends_after t u) a) (sym b.air ∙ c.in-Asks.is) (air_told t u) in
     record {
       few = omega (arith, b.count, c.stride.ensures.count);
       clock = λ going. b.clock (sym b.stop ∙ going);
