@@ -1,7 +1,7 @@
 //! `avrora`: the program.
 #![tactic(auto)]
 
-use avrora_top::run_program;
+use commands::run_program;
 use std::process::ExitCode;
 
 fn main(rt: HostRuntime) -> ExitCode {

@@ -1,8 +1,8 @@
 // What is written of a call.
 use crate::calling::Outcome;
 use arrayvec::ArrayString;
-use avrora_top::Status;
 use case_files::{Digest, write_line};
+use commands::Status;
 use sim_io::{Sink, SinkFault, put_decimal, write_all};
 
 // Of a text of more lines than this only the first two and the last two are written, and between them a number for all of it.

@@ -1,7 +1,7 @@
 // The call.
 use crate::held::Held;
 use crate::starved::Starved;
-use avrora_top::{avrora, avrora_alone};
+use commands::{avrora, avrora_alone};
 use fleet_threads::OpenGate;
 use memory_io::MemSink;
 use std::alloc::{AllocError, Global};

@@ -1,7 +1,7 @@
 // Traces of whole nodes, one after another: for each line FILE CYCLES of a text file the trace of `node FILE CYCLES`, under a
 // line that names it.
-use avrora_top::{Status, avrora_alone};
 use case_files::{Failed, text_of};
+use commands::{Status, avrora_alone};
 use memory_io::MemSink;
 use sim_io::{DirStore, Sink, SinkFault, write_all};
 use std::alloc::Global;

@@ -4,8 +4,8 @@
 //! exit status.
 #![tactic(auto)]
 
-use avrora_top::run_program;
 use case_files::{Failed, write_line};
+use commands::run_program;
 use sim_io::{Sink, StdSink, write_all};
 use std::env::{self, Env};
 use std::fs::Files;

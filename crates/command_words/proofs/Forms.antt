@@ -3,7 +3,7 @@ use Rattle.std.proofs.Common.{◌≡◌, ℕ, ◌&&◌, if◌then◌else◌, Boo
 use Rattle.std.proofs.lemmas.Bool.{and_parts}
 use Rattle.std.proofs.lemmas.Slice.Eq.{bytes_eq-Decides}
 use Rattle.std.specs.Prelude.{IfSome}
-use Rattle.command_words.specs.declared.order.Order.{Order}
+use Rattle.command_words.specs.declared.command.Command.{Command}
 use Rattle.command_words.specs.Words.{Asked, Node, Run, RunPlain, Monitor, Sniff, Check, Disasm, Asm, Make, as_make, as_node, as_plain_run, asked_by, cycles_of, file_behind, is_file, is_word, or_else, sample_of, shown, IsInLimits}
 use Rattle.command_words.proofs.Numerals.{number_limits}
 
@@ -136,7 +136,7 @@ in_limits _ _ (IsDisasm file f) = tt
 in_limits _ _ (IsAsm file f) = tt
 in_limits _ _ (IsMake number n e) = (number_limits 5 0 65535 number n e).1
 
--- an order that is what the words ask for
-pub order_in_limits : (words : List (List ℕ)) (order : Option Order) → option_map shown order ≡ asked_by words → IfSome order (λ o. IsInLimits (shown o))
-order_in_limits words None e = tt
-order_in_limits words (Some o) e = in_limits words (shown o) (form_of words (shown o) (sym e))
+-- a command that is what the words ask for
+pub command_in_limits : (words : List (List ℕ)) (command : Option Command) → option_map shown command ≡ asked_by words → IfSome command (λ o. IsInLimits (shown o))
+command_in_limits words None e = tt
+command_in_limits words (Some o) e = in_limits words (shown o) (form_of words (shown o) (sym e))

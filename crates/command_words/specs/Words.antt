@@ -4,8 +4,8 @@ use Rattle.std.specs.Char.{is_ascii_digit}
 use Rattle.std.specs.List.{list_all}
 use Rattle.std.specs.Str.Parse.{digits_value}
 use Rattle.std.specs.Cmp.Lexicographic.{pointwise}
-use Rattle.command_words.specs.declared.order.Order.{Order}
-use Rattle.command_words.specs.declared.order.Order.TheVariants as order
+use Rattle.command_words.specs.declared.command.Command.{Command}
+use Rattle.command_words.specs.declared.command.Command.TheVariants as variant
 
 -- what an accepted list of words asks for: a constructor for each form
 pub data Asked : Type 0 where
@@ -29,16 +29,16 @@ pub data Asked : Type 0 where
   Make : (number : ℕ) → Asked
 
 -- the same of the code's value
-abbrev pub shown : Order → Asked
-shown (order.Node file cycles) = Node file.now cycles
-shown (order.Run file) = Run file.now
-shown (order.RunPlain file) = RunPlain file.now
-shown (order.Monitor file) = Monitor file.now
-shown (order.Sniff file) = Sniff file.now
-shown (order.Check file) = Check file.now
-shown (order.Disasm file) = Disasm file.now
-shown (order.Asm file) = Asm file.now
-shown (order.Make number) = Make number
+abbrev pub shown : Command → Asked
+shown (variant.Node file cycles) = Node file.now cycles
+shown (variant.Run file) = Run file.now
+shown (variant.RunPlain file) = RunPlain file.now
+shown (variant.Monitor file) = Monitor file.now
+shown (variant.Sniff file) = Sniff file.now
+shown (variant.Check file) = Check file.now
+shown (variant.Disasm file) = Disasm file.now
+shown (variant.Asm file) = Asm file.now
+shown (variant.Make number) = Make number
 
 abbrev pub is_word : List ℕ → List ℕ → Bool
 is_word name word = pointwise ◌==◌ word name

@@ -1,4 +1,4 @@
-// The command that the words are split by.
+// The parser that the words are split by.
 ghost use Rattle.std.specs.Prelude.{◌≡◌, IfOk, false};
 ghost use Rattle.clap.specs.Words.{app_of, rule_of};
 ghost use Rattle.command_words.specs.Apps.{MakesLeaf, the_app};
@@ -80,7 +80,7 @@ fn subcommand_of<'w>(alloc: Global, form: &Form) -> Result<Command<'w>, AllocErr
 }
 
 /// One subcommand for each word that an accepted list begins with.
-pub fn command<'w>(alloc: Global) -> Result<Command<'w>, AllocError>
+pub fn parser<'w>(alloc: Global) -> Result<Command<'w>, AllocError>
     ensures { IfOk result (λ c. app_of c ≡ the_app) }
 {
     let mut subcommands = Vec::with_capacity(alloc, FORMS.len())?;

@@ -4,10 +4,12 @@
 
 mod accepted;
 mod building;
+mod command;
 mod operands;
-mod order;
 mod reading;
 mod splitting;
+mod words;
 
-pub use order::Order;
+pub use command::Command;
 pub use splitting::read_words;
+pub use words::words_given;

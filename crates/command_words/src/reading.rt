@@ -4,7 +4,7 @@ ghost use Rattle.clap.specs.Words.{found_of, rows_of, subcommand_rows_of};
 ghost use Rattle.command_words.specs.Words.{shown};
 ghost use Rattle.command_words.specs.Split.{asked_in, asked_of, make_in, node_in, read_in, run_in, text_in, watch_in};
 
-use crate::Order;
+use crate::Command;
 use crate::operands::{cycles, sample};
 use clap::ArgMatches;
 
@@ -17,82 +17,82 @@ fn text_at<'w>(matches: &ArgMatches<'w>, id: &str) -> &'w str
     }
 }
 
-fn run_order<'w>(matches: &ArgMatches<'w>) -> Order<'w>
+fn run_command<'w>(matches: &ArgMatches<'w>) -> Command<'w>
     ensures { shown result ≡ run_in (rows_of (found_of matches.now)) }
 {
     let file = text_at(matches, "file");
     if text_at(matches, "plain") == "true" {
-        Order::RunPlain { file }
+        Command::RunPlain { file }
     } else {
-        Order::Run { file }
+        Command::Run { file }
     }
 }
 
 // What a subcommand that simulates nothing asks for.
 #[tactic(auto, unfolding(crate::specs::Split::read_in))]
-fn reading_in<'w>(name: &str, matches: &ArgMatches<'w>) -> Option<Order<'w>>
+fn reading_in<'w>(name: &str, matches: &ArgMatches<'w>) -> Option<Command<'w>>
     ensures { option_map shown result ≡ read_in name.now (rows_of (found_of matches.now)) }
 {
     let file = text_at(matches, "file");
     match name {
-        "check" => Some(Order::Check { file }),
-        "disasm" => Some(Order::Disasm { file }),
-        "asm" => Some(Order::Asm { file }),
+        "check" => Some(Command::Check { file }),
+        "disasm" => Some(Command::Disasm { file }),
+        "asm" => Some(Command::Asm { file }),
         _ => None,
     }
 }
 
 // What a subcommand that watches a run asks for, or one of those that simulate nothing.
 #[tactic(auto, unfolding(crate::specs::Split::watch_in))]
-fn watching_in<'w>(name: &str, matches: &ArgMatches<'w>) -> Option<Order<'w>>
+fn watching_in<'w>(name: &str, matches: &ArgMatches<'w>) -> Option<Command<'w>>
     ensures { option_map shown result ≡ watch_in name.now (rows_of (found_of matches.now)) }
 {
     let file = text_at(matches, "file");
     match name {
-        "monitor" => Some(Order::Monitor { file }),
-        "sniff" => Some(Order::Sniff { file }),
+        "monitor" => Some(Command::Monitor { file }),
+        "sniff" => Some(Command::Sniff { file }),
         _ => reading_in(name, matches),
     }
 }
 
-fn make_order<'w>(matches: &ArgMatches<'w>) -> Option<Order<'w>>
+fn make_command<'w>(matches: &ArgMatches<'w>) -> Option<Command<'w>>
     ensures { option_map shown result ≡ make_in (rows_of (found_of matches.now)) }
 {
     match sample(text_at(matches, "number")) {
-        Some(number) => Some(Order::Make { number }),
+        Some(number) => Some(Command::Make { number }),
         None => None,
     }
 }
 
-fn node_order<'w>(matches: &ArgMatches<'w>) -> Option<Order<'w>>
+fn node_command<'w>(matches: &ArgMatches<'w>) -> Option<Command<'w>>
     ensures { option_map shown result ≡ node_in (rows_of (found_of matches.now)) }
 {
     let file = text_at(matches, "file");
     match cycles(text_at(matches, "cycles")) {
-        Some(cycles) => Some(Order::Node { file, cycles }),
+        Some(cycles) => Some(Command::Node { file, cycles }),
         None => None,
     }
 }
 
 #[tactic(auto, unfolding(crate::specs::Split::asked_in))]
-fn order_in<'w>(name: &str, matches: &ArgMatches<'w>) -> Option<Order<'w>>
+fn command_in<'w>(name: &str, matches: &ArgMatches<'w>) -> Option<Command<'w>>
     ensures { option_map shown result ≡ asked_in name.now (rows_of (found_of matches.now)) }
 {
     match name {
-        "run" => Some(run_order(matches)),
-        "make" => make_order(matches),
-        "node" => node_order(matches),
+        "run" => Some(run_command(matches)),
+        "make" => make_command(matches),
+        "node" => node_command(matches),
         _ => watching_in(name, matches),
     }
 }
 
 /// What the subcommand asks for, with the words behind it.
 #[tactic(auto, unfolding(crate::specs::Split::asked_of))]
-pub fn order_of<'w>(matches: &ArgMatches<'w>) -> Option<Order<'w>>
+pub fn command_of<'w>(matches: &ArgMatches<'w>) -> Option<Command<'w>>
     ensures { option_map shown result ≡ asked_of (subcommand_rows_of matches.now) }
 {
     match matches.subcommand() {
-        Some((name, matches)) => order_in(name, matches),
+        Some((name, matches)) => command_in(name, matches),
         None => None,
     }
 }

@@ -4,10 +4,10 @@ ghost use Rattle.clap.specs.Words.{kind_of, subcommand_of, subcommand_rows_of};
 ghost use Rattle.command_words.specs.Apps.{the_app};
 ghost use Rattle.command_words.specs.Words.{IsInLimits, asked_by, shown};
 
-use crate::Order;
+use crate::Command;
 use crate::accepted::is_accepted;
-use crate::building::command;
-use crate::reading::order_of;
+use crate::building::parser;
+use crate::reading::command_of;
 use clap::error::ErrorKind;
 use clap::{ArgMatches, Error};
 use std::alloc::{AllocError, Global};
@@ -18,24 +18,27 @@ fn matches_of<'w>(alloc: Global, words: &'w [&'w str]) -> Result<ArgMatches<'w>,
     ensures ok { IfOk result (λ m. subcommand_rows_of m ≡ subcommand_of the_app (map (λ w. w.now) words.entry.now)) }
     ensures err { IfErr result (λ e. kind_of e ≡ ErrorKind.OutOfMemory) }
 {
-    match command(alloc) {
-        Ok(command) => command.try_get_matches_from(words),
+    match parser(alloc) {
+        Ok(parser) => parser.try_get_matches_from(words),
         Err(error) => Err(Error::from(error)),
     }
 }
 
 /// What the words after the program's name ask for; `None` exactly where they are not accepted. `Err` only for want of
 /// memory, and only where they are accepted.
-pub fn read_words<'w>(alloc: Global, words: &'w [&'w str]) -> Result<Option<Order<'w>>, AllocError>
-    ensures asked { IfOk result (λ order. option_map shown order ≡ asked_by (map (λ w. w.now) words.entry.now)) }
+pub fn read_words<'w>(
+    alloc: Global,
+    words: &'w [&'w str],
+) -> Result<Option<Command<'w>>, AllocError>
+    ensures asked { IfOk result (λ command. option_map shown command ≡ asked_by (map (λ w. w.now) words.entry.now)) }
     ensures accepted { OnErr result (is_some (asked_by (map (λ w. w.now) words.entry.now)) ≡ true) }
-    ensures limits { IfOk result (λ order. IfSome order (λ o. IsInLimits (shown o))) }
+    ensures limits { IfOk result (λ command. IfSome command (λ c. IsInLimits (shown c))) }
 {
     if !is_accepted(words) {
         return Ok(None);
     }
     match matches_of(alloc, words) {
-        Ok(matches) => Ok(order_of(&matches)),
+        Ok(matches) => Ok(command_of(&matches)),
         Err(_) => Err(AllocError),
     }
 }

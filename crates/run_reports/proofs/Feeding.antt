@@ -56,7 +56,7 @@ fed_next nodes before rows after sends old new all told so more =
 -- the whole run
 pub fed_whole : (sc : ScenarioOf) (c : ℕ) (all : List Watch) → c ≡ sc.topo.limit → all ≡ of_each sc.topo.nodes (fed_all (sends_told (rows_upto (fleet_of sc) c)))
     → all ≡ of_each sc.topo.nodes (fed_all (sends_told (run_rows (fleet_of sc))))
-fed_whole sc c all e so = so ∙ ap (λ (l : List Row). of_each sc.topo.nodes (fed_all (sends_told l))) (rows_whole sc c e)
+fed_whole sc c all e so = so ∙ ap (λ (l : List Row). of_each sc.topo.nodes (fed_all (sends_told l))) (rows_whole (fleet_of sc) c e)
 
 watch_lines : (all : List Send) (node : ℕ) → watch_text (fed_all all node) ≡ flat_map frame_line (frames (sends_of node all))
 watch_lines all node = ap (flat_map frame_line) (cuts.fed_end (fed_all all node).sniffer all (fed_all all node).gave (is_fed all node))

@@ -54,10 +54,9 @@ counted_next window before rows after kept more all so is =
     is ∙ ap (λ (l : List Row). l ++ filter (matters window) rows) so ∙ sym (ap (filter (matters window)) all ∙ filter-append (matters window) before rows)
 
 -- at the limit the rows are those of the whole run
-pub rows_whole : (sc : ScenarioOf) (c : ℕ) → c ≡ sc.topo.limit → rows_upto (fleet_of sc) c ≡ run_rows (fleet_of sc)
-rows_whole sc c e =
-    let f : Fleet NodeState Row = fleet_of sc in
-    ap (λ (b : Bool). (world_at f c).rows ++ cond b (end_rows f) []) (equal c sc.topo.limit e)
+pub rows_whole : (f : Fleet NodeState Row) (c : ℕ) → c ≡ f.topo.limit → rows_upto f c ≡ run_rows f
+rows_whole f c e =
+    ap (λ (b : Bool). (world_at f c).rows ++ cond b (end_rows f) []) (equal c f.topo.limit e)
     ∙ ap (λ (t : ℕ). (world_at f t).rows ++ end_rows f) e
 
 module _ (sc : ScenarioOf) (ok : IsScenario sc) where
@@ -97,7 +96,7 @@ module _ (sc : ScenarioOf) (ok : IsScenario sc) where
 
   counted_case : (c : ℕ) → c ≤ sc.topo.limit → Dec (c ≡ sc.topo.limit) → (c ≡ sc.topo.limit) ⊎ (sc.to ≤ c)
       → filter (matters (window_of sc)) (rows_upto f c) ≡ filter (matters (window_of sc)) (run_rows f)
-  counted_case c le (yes e) over = ap (filter (matters (window_of sc))) (rows_whole sc c e)
+  counted_case c le (yes e) over = ap (filter (matters (window_of sc))) (rows_whole f c e)
   counted_case c le (no d) (inl e) = absurd (d e)
   counted_case c le (no d) (inr h) =
       ap (filter (matters (window_of sc)))

@@ -2,10 +2,12 @@
 ghost use Rattle.std.specs.Prelude.{◌≡◌, ◌≤◌, ◌<◌, ◌-◌, ◌^◌, length, IfOk, OnOk};
 ghost use Rattle.std.specs.List.{filter};
 ghost use Rattle.world_core.specs.Each.{each_below};
-ghost use Rattle.run_reports.specs.Profiles.{is_between, profile_at, profiles_text};
+ghost use Rattle.world_core.specs.Order.{run_rows};
+ghost use Rattle.node_monitors.specs.Matters.{matters};
+ghost use Rattle.node_runner.specs.Scenario.{fleet_of};
+ghost use Rattle.run_reports.specs.Profiles.{is_between, profile_at, profiles_text, window_of};
 
 use crate::profile_lines::put_profile;
-use crate::profile_rows::profile_rows;
 use avr_base::NoMemory;
 use node_core::Row;
 use node_monitors::Profile;
@@ -65,13 +67,13 @@ fn put_all(alloc: Global, nodes: u8, window: (u64, u64), rows: &[Row]) -> Result
     Ok(text)
 }
 
-/// The profile of each node of a network over its window, node after node. The window has at most 20,000 cycles; the run goes
-/// no further than the epoch in which it ends. `Err` only for want of memory.
-pub fn profiles_text(alloc: Global, network: &Scenario) -> Result<Vec<u8>, NoMemory>
-    requires { network.now.to - network.now.from ≤ 20000 }
+/// The profile of each node of a network over its window, of at most 20,000 cycles, node after node. The rows are those of its run
+/// that count in a profile over that window. `Err` only for want of memory.
+pub fn profiles_of(alloc: Global, network: &Scenario, rows: &[Row]) -> Result<Vec<u8>, NoMemory>
+    requires narrow { network.now.to - network.now.from ≤ 20000 }
+    requires rows { rows.now ≡ filter (matters (window_of network.now)) (run_rows (fleet_of network.now)) }
     ensures { IfOk result (λ text. text.items ≡ profiles_text network.now) }
 {
-    let rows = profile_rows(alloc, network)?;
     let nodes = network.lawful_topo().nodes();
-    put_all(alloc, nodes, network.window(), rows.as_slice())
+    put_all(alloc, nodes, network.window(), rows)
 }

@@ -1,14 +1,11 @@
 // The frames of all nodes.
-ghost use Rattle.std.specs.Prelude.{◌≡◌, map, false, IfOk, OnOk};
+ghost use Rattle.std.specs.Prelude.{◌≡◌, map, IfOk, OnOk};
 ghost use Rattle.std.specs.List.{flat_map};
-ghost use Rattle.node_runner.specs.Scenario.{IsScenario, fleet_of};
-ghost use Rattle.run_reports.specs.Frames.{frames_text, send_told, sends_told};
-ghost use Rattle.run_reports.specs.Sniffing.{fed_all, fed_more, of_each, unfed, watch_text};
-ghost use Rattle.world_core.specs.Order.{run_rows};
+ghost use Rattle.run_reports.specs.Frames.{send_told, sends_told};
+ghost use Rattle.run_reports.specs.Sniffing.{fed_more, of_each, unfed, watch_text};
 
 use crate::sniffing::Sniffing;
 use avr_base::NoMemory;
-use fleet_plain::PlainRun;
 use node_core::{Kind, Row};
 use node_runner::Scenario;
 use std::alloc::{AllocError, Global};
@@ -64,28 +61,23 @@ fn feed_all(all: &mut Vec<Sniffing>, sends: &[Send]) -> Result<(), NoMemory>
     Ok(())
 }
 
-// Feeds all sends of a run that has not begun, epoch by epoch.
-fn feed_run(
-    alloc: Global,
-    network: &Scenario,
-    run: &mut PlainRun,
-    all: &mut Vec<Sniffing>,
-) -> Result<(), NoMemory>
-    requires sound { IsScenario network.now }
-    requires first { run.old ≡ record { scenario = network.now; floor = 0; failed = false } }
-    requires unfed { all.old.items ≡ of_each network.now.topo.nodes unfed }
-    ensures { OnOk result (all.new.items ≡ of_each network.now.topo.nodes (fed_all (sends_told (run_rows (fleet_of network.now))))) }
+/// A sniffer of each node of a network, in order of number, to which nothing was fed.
+pub fn sniff_all(alloc: Global, network: &Scenario) -> Result<Vec<Sniffing>, NoMemory>
+    ensures { IfOk result (λ all. all.items ≡ of_each network.now.topo.nodes unfed) }
 {
-    while !run.done() {
-        let rows = run.epoch(network)?;
-        let sends = sends_told(alloc, rows.as_slice())?;
-        feed_all(all, sends.as_slice())?;
-    }
-    Ok(())
+    all_nodes(alloc, network.lawful_topo().nodes())
 }
 
-// The lines of the frames of each.
-fn text_of(alloc: Global, all: Vec<Sniffing>) -> Result<Vec<u8>, NoMemory>
+/// Feeds the sends that these rows tell to each of the sniffers.
+pub fn feed_rows(alloc: Global, rows: &[Row], all: &mut Vec<Sniffing>) -> Result<(), NoMemory>
+    ensures { OnOk result (all.new.items ≡ map (fed_more (sends_told rows.now)) all.old.items) }
+{
+    let sends = sends_told(alloc, rows)?;
+    feed_all(all, sends.as_slice())
+}
+
+/// No more rows come: the lines of the frames of each, node after node.
+pub fn frames_of(alloc: Global, all: Vec<Sniffing>) -> Result<Vec<u8>, NoMemory>
     ensures { IfOk result (λ text. text.items ≡ flat_map watch_text all.items) }
 {
     let mut text = Vec::new(alloc);
@@ -93,15 +85,4 @@ fn text_of(alloc: Global, all: Vec<Sniffing>) -> Result<Vec<u8>, NoMemory>
         sniffing.write(&mut text)?;
     }
     Ok(text)
-}
-
-/// The frames that each node of a network sends, node after node, over its whole run. Of the run so far only frames are kept, and
-/// at most 35 sends of each node. `Err` only for want of memory.
-pub fn frames_text(alloc: Global, network: &Scenario) -> Result<Vec<u8>, NoMemory>
-    ensures { IfOk result (λ text. text.items ≡ frames_text network.now) }
-{
-    let mut run = PlainRun::new(alloc, network)?;
-    let mut all = all_nodes(alloc, network.lawful_topo().nodes())?;
-    feed_run(alloc, network, &mut run, &mut all)?;
-    text_of(alloc, all)
 }

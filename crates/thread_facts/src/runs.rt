@@ -1,8 +1,8 @@
 // The runs that gates look at: one network through `run_threads`, and the same by the words of the command line.
 use arrayvec::ArrayString;
 use avr_program::Program;
-use avrora_top::avrora;
 use case_files::Failed;
+use commands::avrora;
 use fleet_threads::{Gate, run_threads};
 use ihex_loader::{Flash, load};
 use memory_io::MemSink;

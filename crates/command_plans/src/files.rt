@@ -1,0 +1,142 @@
+// Reads the files of a call.
+ghost use Rattle.std.specs.Prelude.{◌≡◌, ◌≤◌, length, IfOk};
+ghost use Rattle.scenario_file.specs.Scenario.{IsScenario};
+ghost use Rattle.scenario_file.specs.Shown.{parts};
+ghost use Rattle.command_plans.specs.Plan.{Give, Read, image_plan, images_plan, scenario_plan, source_plan};
+ghost use Rattle.command_plans.specs.Ends.{reads};
+ghost use Rattle.command_plans.specs.Parts.{ReadAs, refusal_of};
+
+use crate::trouble::{Complaint, ImageCause, ScenarioCause, SourceCause, Trouble};
+use asm_text::{AsmFault, assemble};
+use avr_program::Program;
+use ihex_loader::{Flash, HexFault, load};
+use scenario_file::{ScenarioFault, ScenarioText};
+use sim_io::{Name, ReadFault, Store};
+use std::alloc::Global;
+
+// The most bytes of an image's text.
+const MOST_IMAGE_BYTES: usize = 1_048_576;
+
+// The most bytes of a scenario's text.
+const MOST_SCENARIO_BYTES: usize = 524_288;
+
+// The most bytes of a source's text.
+const MOST_SOURCE_BYTES: usize = 1_048_576;
+
+// The bytes of the file `name`, at most `most`; a longer one is refused as `too_long` says.
+fn read_file<'n, S: Store>(
+    alloc: Global,
+    name: &'n str,
+    most: usize,
+    too_long: Complaint<'n>,
+    store: &mut S,
+) -> Result<Vec<u8>, Trouble<'n>>
+    ensures held { S.held store.new ≡ S.held store.old }
+    ensures read { ReadAs (S.held store.old) (Read name.entry.now most (refusal_of too_long.entry) Give) (λ bytes. bytes.items)
+        (reads (S.faults store.old) (S.failed store.old)) (reads (S.faults store.new) (S.failed store.new)) result }
+{
+    match store.read(alloc, name, most) {
+        Ok(bytes) => Ok(bytes),
+        Err(ReadFault::Failed) => Err(Trouble::ReadFailed(name)),
+        Err(ReadFault::TooLong) => Err(Trouble::Refused(too_long)),
+        Err(ReadFault::NoMemory) => Err(Trouble::NoMemory),
+    }
+}
+
+/// The flash of the image in the file `name`, which has at most 1,048,576 bytes of text.
+pub fn read_image<'n, S: Store>(
+    alloc: Global,
+    name: &'n str,
+    store: &mut S,
+) -> Result<Flash, Trouble<'n>>
+    ensures held { S.held store.new ≡ S.held store.old }
+    ensures read { ReadAs (S.held store.old) (image_plan name.entry.now) (λ flash. flash)
+        (reads (S.faults store.old) (S.failed store.old)) (reads (S.faults store.new) (S.failed store.new)) result }
+{
+    let too_long = Complaint::BadImage(name, ImageCause::TooLong);
+    let read = match read_file(alloc, name, MOST_IMAGE_BYTES, too_long, store) {
+        Ok(bytes) => load(alloc, bytes.as_slice()),
+        Err(trouble) => return Err(trouble),
+    };
+    match read {
+        Ok(flash) => Ok(flash),
+        Err(HexFault::NoMemory) => Err(Trouble::NoMemory),
+        Err(fault) => Err(Trouble::Refused(Complaint::BadImage(name, ImageCause::Faulty(fault)))),
+    }
+}
+
+/// The images in the files of these names, each read and accepted before the next is read. Equal ones are kept once.
+pub fn read_images<'n, S: Store>(
+    alloc: Global,
+    names: &'n [Name],
+    store: &mut S,
+) -> Result<Vec<Program>, Trouble<'n>>
+    ensures held { S.held store.new ≡ S.held store.old }
+    ensures count { IfOk result (λ images. length images.items ≡ length names.entry.now) }
+    ensures read { ReadAs (S.held store.old) (images_plan names.entry.now) (λ images. images.items)
+        (reads (S.faults store.old) (S.failed store.old)) (reads (S.faults store.new) (S.failed store.new)) result }
+{
+    let Ok(mut images) = Vec::with_capacity(alloc, names.len()) else {
+        return Err(Trouble::NoMemory);
+    };
+    for name in names {
+        let flash = match read_image(alloc, name.as_str(), store) {
+            Ok(flash) => flash,
+            Err(trouble) => return Err(trouble),
+        };
+        let Ok(program) = Program::among(alloc, images.as_slice(), flash) else {
+            return Err(Trouble::NoMemory);
+        };
+        images.push_reserved(program);
+    }
+    Ok(images)
+}
+
+/// What the scenario in the file `name` says, which has at most 524,288 bytes of text.
+pub fn read_scenario<'n, S: Store>(
+    alloc: Global,
+    name: &'n str,
+    store: &mut S,
+) -> Result<ScenarioText, Trouble<'n>>
+    ensures held { S.held store.new ≡ S.held store.old }
+    ensures lawful { IfOk result (λ text. IsScenario (parts text)) }
+    ensures read { ReadAs (S.held store.old) (scenario_plan name.entry.now) parts
+        (reads (S.faults store.old) (S.failed store.old)) (reads (S.faults store.new) (S.failed store.new)) result }
+{
+    let too_long = Complaint::BadScenario(name, ScenarioCause::TooLong);
+    let read = match read_file(alloc, name, MOST_SCENARIO_BYTES, too_long, store) {
+        Ok(bytes) => scenario_file::read(alloc, bytes.as_slice()),
+        Err(trouble) => return Err(trouble),
+    };
+    match read {
+        Ok(text) => Ok(text),
+        Err(ScenarioFault::NoMemory) => Err(Trouble::NoMemory),
+        Err(fault) => Err(Trouble::Refused(Complaint::BadScenario(
+            name,
+            ScenarioCause::Faulty(fault),
+        ))),
+    }
+}
+
+/// The words of the program of the source in the file `name`, which has at most 1,048,576 bytes of text.
+pub fn read_source<'n, S: Store>(
+    alloc: Global,
+    name: &'n str,
+    store: &mut S,
+) -> Result<Vec<u16>, Trouble<'n>>
+    ensures held { S.held store.new ≡ S.held store.old }
+    ensures few { IfOk result (λ words. length words.items ≤ 65536) }
+    ensures read { ReadAs (S.held store.old) (source_plan name.entry.now) (λ words. words.items)
+        (reads (S.faults store.old) (S.failed store.old)) (reads (S.faults store.new) (S.failed store.new)) result }
+{
+    let too_long = Complaint::BadSource(name, SourceCause::TooLong);
+    let read = match read_file(alloc, name, MOST_SOURCE_BYTES, too_long, store) {
+        Ok(bytes) => assemble(alloc, bytes.as_slice()),
+        Err(trouble) => return Err(trouble),
+    };
+    match read {
+        Ok(words) => Ok(words),
+        Err(AsmFault::NoMemory) => Err(Trouble::NoMemory),
+        Err(fault) => Err(Trouble::Refused(Complaint::BadSource(name, SourceCause::Faulty(fault)))),
+    }
+}

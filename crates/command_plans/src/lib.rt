@@ -1,0 +1,14 @@
+//! What a call of the program reads, and how it ends, whatever is to be done in between: a plan is what is read in which order, and
+//! what comes of it (`specs/Plan`). Each kind of file is read and accepted here, or is a `Trouble`; a call's end is reported by a
+//! line on the error stream and a `Status`.
+#![tactic(auto)]
+
+mod files;
+mod reports;
+mod status;
+mod trouble;
+
+pub use files::{read_image, read_images, read_scenario, read_source};
+pub use reports::{report, tell};
+pub use status::Status;
+pub use trouble::{Complaint, ImageCause, ScenarioCause, SourceCause, Trouble};

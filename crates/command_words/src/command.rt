@@ -1,0 +1,24 @@
+// What a command line asks for.
+
+/// What an accepted command line asks for. The file's name is the word itself.
+#[derive(Clone, Copy)]
+pub enum Command<'w> {
+    /// `node FILE CYCLES`: simulate one node with this image for so many cycles, 1 to 10,000,000.
+    Node { file: &'w str, cycles: u64 },
+    /// `run FILE`: simulate the network of this scenario.
+    Run { file: &'w str },
+    /// `run --plain FILE`: the same on one thread.
+    RunPlain { file: &'w str },
+    /// `check FILE`: read this scenario and its images, and run nothing.
+    Check { file: &'w str },
+    /// `disasm FILE`: list the instructions of this image.
+    Disasm { file: &'w str },
+    /// `asm FILE`: write the program of this source in assembly as an image.
+    Asm { file: &'w str },
+    /// `monitor FILE`: simulate the network of this scenario, and write on what its nodes spent the window.
+    Monitor { file: &'w str },
+    /// `sniff FILE`: simulate the network of this scenario, and write the frames that its nodes sent.
+    Sniff { file: &'w str },
+    /// `make NUMBER`: simulate the sample network of this number, and count what came out.
+    Make { number: u16 },
+}

@@ -1,0 +1,4 @@
+pub mod Lines
+pub mod Networks
+pub mod Traces
+pub mod Statuses

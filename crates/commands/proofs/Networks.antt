@@ -1,0 +1,57 @@
+-- How the reading of a network ends, and what is left to do then.
+use Rattle.std.proofs.Common.{◌≡◌, ℕ, List, sym, subst}
+use Rattle.ihex_loader.specs.Flash.{Image}
+use Rattle.scenario_file.specs.Scenario.{ScenarioParts}
+use Rattle.node_runner.specs.Scenario.{ScenarioOf}
+use Rattle.command_plans.specs.Plan.{Plan, Give, and_then, images_plan, scenario_plan}
+use Rattle.command_plans.specs.Reading.{Files, Reached}
+use Rattle.command_plans.specs.Ends.{End, Reads, Stream}
+use Rattle.command_plans.specs.Parts.{StopsAt}
+use Rattle.command_plans.proofs.Steps.{both, goes_on, stops_on, stops_moved, stops_behind, reached_moved}
+use Rattle.commands.specs.Network.{network_of}
+use Rattle.commands.specs.Job.{Job}
+use Rattle.commands.specs.Plan.{network_plan}
+use Rattle.commands.specs.Parts.{HasRead, IsShort, Ready, job_at}
+use Rattle.commands.specs.declared.job.Job.{Job as JobValue}
+
+module _ (files files' : Files) (name : List ℕ) where
+  -- what is read behind the scenario
+  abbrev Rest : ScenarioParts → Plan ScenarioOf
+  Rest parts = and_then (images_plan parts.images) (λ images. Give (network_of parts images))
+
+  pub stops_at_scenario : (store store' : Reads) (end : End) → StopsAt files (scenario_plan name) store store' end → StopsAt files (network_plan name) store store' end
+  stops_at_scenario store store' end stops = stops_behind files (scenario_plan name) Rest store store' end stops
+
+  pub stops_at_image : (parts : ScenarioParts) (store mid store' : Reads) (end : End) → files' ≡ files → mid ≡ store
+      → Reached files (scenario_plan name) (Give parts) → StopsAt files' (images_plan parts.images) mid store' end → StopsAt files (network_plan name) store store' end
+  stops_at_image parts store mid store' end e f reached stops =
+      stops_on files (network_plan name) (Rest parts) store store' end (goes_on files (scenario_plan name) parts Rest reached)
+      (stops_behind files (images_plan parts.images) (λ images. Give (network_of parts images)) store store' end
+      (stops_moved files files' (images_plan parts.images) store mid store' end e f stops))
+
+  pub network_reached : (parts : ScenarioParts) (images : List Image) (network : ScenarioOf) → files' ≡ files
+      → Reached files (scenario_plan name) (Give parts) → Reached files' (images_plan parts.images) (Give images)
+      → network ≡ network_of parts images → Reached files (network_plan name) (Give network)
+  network_reached parts images network e reached more same =
+      let made : ScenarioOf = network_of parts images in
+      subst (λ n. Reached files (network_plan name) (Give n)) (sym same)
+      (both files (network_plan name) (Rest parts) (Give made) (goes_on files (scenario_plan name) parts Rest reached)
+      (goes_on files (images_plan parts.images) images (λ it. Give (network_of parts it)) (reached_moved files files' (images_plan parts.images) (Give images) e more)))
+
+-- what is to be done with something that was read
+pub ready : {A : Type 0} (files : Files) (plan : Plan A) (next : A → Job) (got : A) (store store' : Reads) (err err' : Stream) (todo : JobValue)
+    → Reached files plan (Give got) → next got ≡ job_at todo → store' ≡ store → err' ≡ err → IsShort todo
+    → Ready files (and_then plan (λ it. Give (next it))) store store' err err' todo
+ready files plan next got store store' err err' todo reached is same silent short = record {
+  reached = subst (λ (job : Job). Reached files (and_then plan (λ it. Give (next it))) (Give job)) is (goes_on files plan got (λ it. Give (next it)) reached);
+  same = same;
+  silent = silent;
+  short = short;
+}
+
+-- and with the network of a scenario
+pub network_ready : (files : Files) (name : List ℕ) (next : ScenarioOf → Job) (store store' : Reads) (err err' : Stream) (network : ScenarioOf) (todo : JobValue)
+    → HasRead files name store store' err err' network → next network ≡ job_at todo → IsShort todo
+    → Ready files (and_then (network_plan name) (λ it. Give (next it))) store store' err err' todo
+network_ready files name next store store' err err' network todo read is short =
+    ready files (network_plan name) next network store store' err err' todo read.reached is read.same read.silent short

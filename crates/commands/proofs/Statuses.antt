@@ -1,0 +1,237 @@
+-- What each status says of a call.
+use Rattle.std.proofs.Common.{◌≡◌, ◌≢◌, ◌⊎◌, ℕ, List, Option, Some, None, is_some, true, false, Result, Ok, Err, inl, inr, refl, sym, ap, ◌∙◌, subst}
+use Rattle.sim_io.specs.Outside.{Rose}
+use Rattle.command_words.specs.Words.{Asked, Node, Run, RunPlain, Monitor, Sniff, Check, Disasm, Asm, Make, asked_by, shown}
+use Rattle.command_words.specs.declared.command.Command.{Command}
+use Rattle.command_plans.specs.Plan.{Plan, Refuse, BadWords, BadScenario, BadImage, BadSource, image_plan, images_plan, scenario_plan, source_plan}
+use Rattle.command_plans.specs.Reading.{Files, Reached, Here, Verdict, Untold, Refused as RefusedVerdict, Accepted, Says, verdict}
+use Rattle.command_plans.specs.Ends.{Ends, End, Done, OutFailed, NoMemory, ReadFailed, Refused, Reads, Stream, status_due, EndedSaying, EndedUnsaid, HasStatus}
+use Rattle.command_plans.specs.Parts.{Told, Said, Unsaid, Reported, Stopped, Written, end_of}
+use Rattle.command_plans.specs.declared.trouble.Trouble.{Trouble}
+use Rattle.command_plans.specs.declared.trouble.ImageCause.{ImageCause}
+use Rattle.command_plans.specs.declared.trouble.ScenarioCause.{ScenarioCause}
+use Rattle.command_plans.specs.declared.trouble.SourceCause.{SourceCause}
+use Rattle.command_plans.specs.declared.status.Status.{Status}
+use Rattle.command_plans.specs.declared.status.Status.TheVariants as case
+use Rattle.command_plans.proofs.Endings.{KeepsWords, ends_job, ends_stopped, keeps_both, keeps_image, keeps_images, keeps_reached, keeps_scenario, keeps_source, reported_stop}
+use Rattle.commands.specs.Job.{Job, output}
+use Rattle.commands.specs.Plan.{network_plan, plan, plan_for, plan_of}
+use Rattle.commands.specs.TopClause.{TopClause}
+use Rattle.commands.specs.Parts.{JobRead, Prepared, Prepares, Ready, job_at}
+use Rattle.commands.specs.declared.job.Job.{Job as JobValue}
+
+asked_not_none : (o : Option Asked) (asked : Asked) → o ≡ Some asked → o ≡ None → ⊥
+asked_not_none o asked e none = cc
+
+keeps_network : (name : List ℕ) → KeepsWords (network_plan name)
+keeps_network name =
+    keeps_both (scenario_plan name) _ (keeps_scenario name) (λ parts. keeps_both (images_plan parts.images) _ (keeps_images _ parts.images) (λ images. tt))
+
+keeps_plan : (asked : Asked) → KeepsWords (plan_of asked)
+unfolding plan_of
+keeps_plan (Node file cycles) = keeps_both (image_plan file) _ (keeps_image file) (λ flash. tt)
+keeps_plan (Run file) = keeps_both (network_plan file) _ (keeps_network file) (λ network. tt)
+keeps_plan (RunPlain file) = keeps_both (network_plan file) _ (keeps_network file) (λ network. tt)
+keeps_plan (Monitor file) = keeps_both (network_plan file) _ (keeps_network file) (λ network. tt)
+keeps_plan (Sniff file) = keeps_both (network_plan file) _ (keeps_network file) (λ network. tt)
+keeps_plan (Check file) = keeps_both (network_plan file) _ (keeps_network file) (λ network. tt)
+keeps_plan (Disasm file) = keeps_both (image_plan file) _ (keeps_image file) (λ flash. tt)
+keeps_plan (Asm file) = keeps_both (source_plan file) _ (keeps_source file) (λ words. tt)
+keeps_plan (Make number) = tt
+
+-- words are refused only where nothing is asked for
+asked_none : (files : Files) (asked : Option Asked) → Reached files (plan_for asked) (Refuse BadWords) → asked ≡ None
+asked_none files None r = refl
+asked_none files (Some asked) r = absurd (keeps_reached files (plan_of asked) (Refuse BadWords) r (keeps_plan asked) refl)
+
+-- the ends that have this status
+abbrev EndsWith : Status → End → Type 0
+EndsWith case.Done end = end ≡ Done
+EndsWith case.SinkFailed end = end ≡ OutFailed
+EndsWith case.BadWords end = end ≡ Refused BadWords
+EndsWith case.ReadFailed end = (name : List ℕ) × (end ≡ ReadFailed name)
+EndsWith case.BadScenario end = (name : List ℕ) × ((why : ScenarioCause) × (end ≡ Refused (BadScenario name why)))
+EndsWith case.BadImage end = (name : List ℕ) × ((why : ImageCause) × (end ≡ Refused (BadImage name why)))
+EndsWith case.NoMemory end = end ≡ NoMemory
+EndsWith case.BadSource end = (name : List ℕ) × ((why : SourceCause) × (end ≡ Refused (BadSource name why)))
+
+ends_with_due : (end : End) → EndsWith (status_due end) end
+ends_with_due Done = refl
+ends_with_due OutFailed = refl
+ends_with_due NoMemory = refl
+ends_with_due (ReadFailed name) = (name, refl)
+ends_with_due (Refused BadWords) = refl
+ends_with_due (Refused (BadScenario name why)) = (name, (why, refl))
+ends_with_due (Refused (BadImage name why)) = (name, (why, refl))
+ends_with_due (Refused (BadSource name why)) = (name, (why, refl))
+
+ends_with : (x answer : Status) (end : End) → answer ≡ status_due end → answer ≡ x → EndsWith x end
+ends_with x answer end e f = subst (λ s. EndsWith s end) (sym e ∙ f) (ends_with_due end)
+
+has_status : {A : Type 0} (v w : Verdict A) (answer : Status) → Says v w → HasStatus w answer → HasStatus v answer
+has_status Untold w answer s h = tt
+has_status (RefusedVerdict r) w answer s h = subst (λ x. HasStatus x answer) (sym s) h
+has_status (Accepted j) w answer s h = subst (λ x. HasStatus x answer) (sym s) h
+
+-- all was done; or an end was told; or it could not be told
+data How (files : Files) (plan : Plan Job) (store store' : Reads) (out out' err err' : Stream) (answer : Status) : Type 0 where
+  AllDone : Ends output files plan store store' out out' Done → answer ≡ case.Done → err' ≡ err → How files plan store store' out out' err err' answer
+  Saying : (end : End) → end ≢ Done → answer ≡ status_due end → EndedSaying output files plan store store' out out' err err' end → How files plan store store' out out' err err' answer
+  Unsaying : (end : End) → answer ≡ case.SinkFailed → EndedUnsaid output files plan store store' out out' err err' end → How files plan store store' out out' err err' answer
+
+module _ (files : Files) (words : List (List ℕ)) (store store' : Reads) (out out' err err' : Stream) (answer : Status) where
+  abbrev SaidSo : End → Type 0
+  SaidSo end = EndedSaying output files (plan words) store store' out out' err err' end
+
+  abbrev HowNow : Type 0
+  HowNow = How files (plan words) store store' out out' err err' answer
+
+  how_told : (end : End) → end ≢ Done → Ends output files (plan words) store store' out out' end → Told end err err' answer → HowNow
+  how_told end not_done ends (Said s t) = Saying end not_done s (ends, t)
+  how_told end not_done ends (Unsaid s f) = Unsaying end s (not_done, ends, f)
+
+  how_ended : (end : End) → Ends output files (plan words) store store' out out' end → Reported end err err' answer → HowNow
+  how_ended Done ends r = AllDone ends r.0 r.1
+  how_ended OutFailed ends r = how_told OutFailed (λ e. cc) ends r
+  how_ended NoMemory ends r = how_told NoMemory (λ e. cc) ends r
+  how_ended (ReadFailed name) ends r = how_told (ReadFailed name) (λ e. cc) ends r
+  how_ended (Refused refusal) ends r = how_told (Refused refusal) (λ e. cc) ends r
+
+  -- the end that was told, where the status is neither 0 nor 1
+  said : HowNow → (x : Status) → answer ≡ x → x ≢ case.Done → x ≢ case.SinkFailed → (end : End) × EndsWith x end × SaidSo end
+  said (AllDone ends s same) x e no_done no_sink = absurd (no_done (sym e ∙ s))
+  said (Saying end not_done s so) x e no_done no_sink = (end, ends_with x answer end s e, so)
+  said (Unsaying end s un) x e no_done no_sink = absurd (no_sink (sym e ∙ s))
+
+  done_from : HowNow → answer ≡ case.Done → Ends output files (plan words) store store' out out' Done × (err' ≡ err)
+  done_from (AllDone ends s same) e = (ends, same)
+  done_from (Saying end not_done s so) e = absurd (not_done (ends_with case.Done answer end s e))
+  done_from (Unsaying end s un) e = absurd (cc)
+
+  sink_from : HowNow → answer ≡ case.SinkFailed
+      → SaidSo OutFailed ⊎ ((end : End) × EndedUnsaid output files (plan words) store store' out out' err err' end)
+  sink_from (AllDone ends s same) e = absurd (cc)
+  sink_from (Saying end not_done s so) e = inl (subst SaidSo (ends_with case.SinkFailed answer end s e) so)
+  sink_from (Unsaying end s un) e = inr (end, un)
+
+  words_from : HowNow → answer ≡ case.BadWords → (asked_by words ≡ None) × SaidSo (Refused BadWords)
+  words_from h e =
+      let s = said h case.BadWords e (λ f. cc) (λ f. cc) in
+      let so = subst SaidSo s.1 s.2 in
+      (asked_none files (asked_by words) so.0.1.reached, so)
+
+  read_from : HowNow → answer ≡ case.ReadFailed → (name : List ℕ) × SaidSo (ReadFailed name)
+  read_from h e =
+      let s = said h case.ReadFailed e (λ f. cc) (λ f. cc) in
+      (s.1.0, subst SaidSo s.1.1 s.2)
+
+  scenario_from : HowNow → answer ≡ case.BadScenario → (name : List ℕ) × ((why : ScenarioCause) × SaidSo (Refused (BadScenario name why)))
+  scenario_from h e =
+      let s = said h case.BadScenario e (λ f. cc) (λ f. cc) in
+      (s.1.0, (s.1.1.0, subst SaidSo s.1.1.1 s.2))
+
+  image_from : HowNow → answer ≡ case.BadImage → (name : List ℕ) × ((why : ImageCause) × SaidSo (Refused (BadImage name why)))
+  image_from h e =
+      let s = said h case.BadImage e (λ f. cc) (λ f. cc) in
+      (s.1.0, (s.1.1.0, subst SaidSo s.1.1.1 s.2))
+
+  source_from : HowNow → answer ≡ case.BadSource → (name : List ℕ) × ((why : SourceCause) × SaidSo (Refused (BadSource name why)))
+  source_from h e =
+      let s = said h case.BadSource e (λ f. cc) (λ f. cc) in
+      (s.1.0, (s.1.1.0, subst SaidSo s.1.1.1 s.2))
+
+  memory_from : HowNow → answer ≡ case.NoMemory → SaidSo NoMemory
+  memory_from h e =
+      let s = said h case.NoMemory e (λ f. cc) (λ f. cc) in
+      subst SaidSo s.1 s.2
+
+  abbrev Expected : Type 0
+  Expected =
+      HasStatus (verdict files (plan words)) answer
+      ⊎ ((answer ≡ case.NoMemory)
+      ⊎ ((answer ≡ case.SinkFailed) × (Rose out.faults out'.faults ⊎ Rose err.faults err'.faults)))
+
+  expected_end : (end : End) → Ends output files (plan words) store store' out out' end → answer ≡ status_due end → (Rose store.faults store'.faults → ⊥) → Expected
+  expected_end Done h s no_read = inl (has_status _ (Accepted h.1.0) answer h.1.1.verdict_is s)
+  expected_end OutFailed h s no_read = inr (inr (s, inl h.1.2.rose))
+  expected_end NoMemory h s no_read = inr (inl s)
+  expected_end (ReadFailed name) h s no_read = absurd (no_read h.0.rose)
+  expected_end (Refused refusal) h s no_read = inl (has_status _ (RefusedVerdict refusal) answer h.1.verdict_is s)
+
+  expected_from : HowNow → (Rose store.faults store'.faults → ⊥) → Expected
+  expected_from (AllDone ends s same) no_read = expected_end Done ends s no_read
+  expected_from (Saying end not_done s so) no_read = expected_end end so.0 s no_read
+  expected_from (Unsaying end s un) no_read = inr (inr (s, inr un.2.rose))
+
+  words_told : Told (Refused BadWords) err err' answer → (answer ≡ case.BadWords) ⊎ ((answer ≡ case.SinkFailed) × Rose err.faults err'.faults)
+  words_told (Said s t) = inl s
+  words_told (Unsaid s f) = inr (s, f.rose)
+
+  top_clause : (files' : Files) → files' ≡ files → HowNow → (asked_by words ≡ None → Reported (Refused BadWords) err err' answer)
+      → TopClause files files' words store store' out out' err err' answer
+  top_clause files' same how none = record {
+    held = same;
+    done = done_from how;
+    sink_failed = sink_from how;
+    bad_words = words_from how;
+    read_failed = read_from how;
+    bad_scenario = scenario_from how;
+    bad_image = image_from how;
+    no_memory = memory_from how;
+    bad_source = source_from how;
+    words_first = λ e. words_told (none e);
+    complete = expected_from how;
+  }
+
+-- a call that was prepared ends with its job
+pub done_clause : {A : Type 0} (files files' : Files) (words : List (List ℕ)) (store store' : Reads) (out out' err mid err' : Stream) (todo : JobValue) (r : Result A Trouble) (answer : Status)
+    → Prepared files files' words store store' err mid todo → Written (output (job_at todo)) out out' r → Reported (end_of r) mid err' answer
+    → TopClause files files' words store store' out out' err err' answer
+done_clause files files' words store store' out out' err mid err' todo r answer prepared ends reported =
+    top_clause files words store store' out out' err err' answer files' prepared.held
+    (how_ended files words store store' out out' err err' answer (end_of r)
+    (ends_job output files (plan words) (job_at todo) store store' out out' r prepared.ready.reached prepared.ready.same ends)
+    (subst (λ e. Reported (end_of r) e err' answer) prepared.ready.silent reported))
+    (λ none. let bad : false ≡ true = ap is_some (sym none) ∙ prepared.asked in absurd (cc))
+
+-- so does one whose reading stopped
+stopped_clause : (files files' : Files) (words : List (List ℕ)) (store store' : Reads) (err err' : Stream) (answer : Status) → files' ≡ files
+    → Stopped files (plan words) store store' err err' answer → (asked_by words ≡ None → Reported (Refused BadWords) err err' answer) → (out : Stream)
+    → TopClause files files' words store store' out out err err' answer
+stopped_clause files files' words store store' err err' answer same h none out =
+    top_clause files words store store' out out err err' answer files' same
+    (how_ended files words store store' out out err err' answer h.end
+    (ends_stopped output files (plan words) store store' out h.end h.stops)
+    (reported_stop files (plan words) store store' h.end err err' answer h.stops h.told))
+    none
+
+-- words that ask for something are followed by it
+pub asked_prepares : (files files' : Files) (words : List (List ℕ)) (command : Command) (store store' : Reads) (err err' : Stream) (r : Result JobValue Status)
+    → files' ≡ files → Some (shown command) ≡ asked_by words → JobRead files (plan_of (shown command)) store store' err err' r
+    → Prepares files files' words store store' err err' r
+asked_prepares files files' words command store store' err err' (Ok todo) same asked read = record {
+  held = same;
+  asked = ap is_some (sym asked);
+  ready = subst (λ o. Ready files (plan_for o) store store' err err' todo) asked read;
+}
+asked_prepares files files' words command store store' err err' (Err answer) same asked stopped =
+    stopped_clause files files' words store store' err err' answer same
+    (subst (λ o. Stopped files (plan_for o) store store' err err' answer) asked stopped)
+    (λ none. absurd (asked_not_none (asked_by words) (shown command) (sym asked) none))
+
+-- words that ask for nothing are refused
+pub refused_prepares : (files : Files) (words : List (List ℕ)) (store : Reads) (err err' : Stream) (answer : Status)
+    → None ≡ asked_by words → Told (Refused BadWords) err err' answer → (out : Stream) → TopClause files files words store store out out err err' answer
+refused_prepares files words store err err' answer none told =
+    let refused : Reached files (plan_for None) (Refuse BadWords) = Here (Refuse BadWords) in
+    stopped_clause files files words store store err err' answer refl
+    (record { end = Refused BadWords; stops = (refl, subst (λ o. Reached files (plan_for o) (Refuse BadWords)) none refused); told = told })
+    (λ e. told)
+
+-- where memory is short for words that ask for something, nothing is done
+pub short_prepares : (files : Files) (words : List (List ℕ)) (store : Reads) (err err' : Stream) (answer : Status)
+    → is_some (asked_by words) ≡ true → Told NoMemory err err' answer → (out : Stream) → TopClause files files words store store out out err err' answer
+short_prepares files words store err err' answer accepted told =
+    stopped_clause files files words store store err err' answer refl
+    (record { end = NoMemory; stops = refl; told = told })
+    (λ none. let bad : false ≡ true = ap is_some (sym none) ∙ accepted in absurd (cc))

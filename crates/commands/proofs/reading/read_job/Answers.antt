@@ -1,0 +1,96 @@
+use Rattle.std.proofs.Common.{refl, sym, ap}
+use Rattle.node_runner.specs.Scenario.{ScenarioOf}
+use Rattle.command_plans.specs.Plan.{Give, image_plan, source_plan}
+use Rattle.command_plans.specs.Parts.{end_at}
+use Rattle.command_plans.specs.Reading.{Here}
+use Rattle.command_plans.proofs.Steps.{stopped_behind}
+use Rattle.commands.specs.Job.{Job, TraceJob, MonitorJob, SniffJob, SizeJob, DisasmJob, AsmJob, SampleJob}
+use Rattle.commands.specs.Network.{lone_node}
+use Rattle.commands.specs.Plan.{network_plan, plan_of}
+use Rattle.commands.proofs.Networks.{network_ready, ready}
+use Rattle.commands.proofs.reading.read_job.Goals as goal
+
+pub returns-in-Ok-clause-read : goal.returns-in-Ok-clause-read
+unfolding plan_of
+returns-in-Ok-clause-read g c = rw c.in-Run.is (network_ready _ c.in-Run.file.now TraceJob _ _ _ _ _ _ c.in-Ok.ensures.ok refl tt)
+
+pub returns-in-Err-clause-read : goal.returns-in-Err-clause-read
+unfolding plan_of
+returns-in-Err-clause-read g c = rw c.in-Run.is (stopped_behind _ (network_plan c.in-Run.file.now) _ _ _ _ _ _ c.in-Err.ensures.err)
+
+pub returns-in-Ok-read_network-clause-read : goal.returns-in-Ok-read_network-clause-read
+unfolding plan_of
+returns-in-Ok-read_network-clause-read g c = rw c.in-RunPlain.is (network_ready _ c.in-RunPlain.file.now TraceJob _ _ _ _ _ _ c.in-Ok-read_network.ensures.ok refl tt)
+
+pub returns-in-Err-read_network-clause-read : goal.returns-in-Err-read_network-clause-read
+unfolding plan_of
+returns-in-Err-read_network-clause-read g c = rw c.in-RunPlain.is (stopped_behind _ (network_plan c.in-RunPlain.file.now) _ _ _ _ _ _ c.in-Err-read_network.ensures.err)
+
+pub returns-in-Ok-read_network-2-clause-read : goal.returns-in-Ok-read_network-2-clause-read
+unfolding plan_of
+returns-in-Ok-read_network-2-clause-read g c = rw c.in-Monitor.is (network_ready _ c.in-Monitor.file.now MonitorJob _ _ _ _ _ _ c.in-Ok-read_network-2.ensures.ok refl c.in-Ok-read_network-2.ensures.ok.narrow)
+
+pub returns-in-Err-read_network-2-clause-read : goal.returns-in-Err-read_network-2-clause-read
+unfolding plan_of
+returns-in-Err-read_network-2-clause-read g c = rw c.in-Monitor.is (stopped_behind _ (network_plan c.in-Monitor.file.now) _ _ _ _ _ _ c.in-Err-read_network-2.ensures.err)
+
+pub returns-in-Ok-read_network-3-clause-read : goal.returns-in-Ok-read_network-3-clause-read
+unfolding plan_of
+returns-in-Ok-read_network-3-clause-read g c = rw c.in-Sniff.is (network_ready _ c.in-Sniff.file.now SniffJob _ _ _ _ _ _ c.in-Ok-read_network-3.ensures.ok refl tt)
+
+pub returns-in-Err-read_network-3-clause-read : goal.returns-in-Err-read_network-3-clause-read
+unfolding plan_of
+returns-in-Err-read_network-3-clause-read g c = rw c.in-Sniff.is (stopped_behind _ (network_plan c.in-Sniff.file.now) _ _ _ _ _ _ c.in-Err-read_network-3.ensures.err)
+
+pub returns-in-Ok-read_network-4-clause-read : goal.returns-in-Ok-read_network-4-clause-read
+unfolding plan_of
+returns-in-Ok-read_network-4-clause-read g c = rw c.in-Check.is (network_ready _ c.in-Check.file.now SizeJob _ _ _ _ _ _ c.in-Ok-read_network-4.ensures.ok refl tt)
+
+pub returns-in-Err-read_network-4-clause-read : goal.returns-in-Err-read_network-4-clause-read
+unfolding plan_of
+returns-in-Err-read_network-4-clause-read g c = rw c.in-Check.is (stopped_behind _ (network_plan c.in-Check.file.now) _ _ _ _ _ _ c.in-Err-read_network-4.ensures.err)
+
+pub returns-in-Ok-lone_node-clause-read : goal.returns-in-Ok-lone_node-clause-read
+unfolding plan_of
+returns-in-Ok-lone_node-clause-read g c =
+    let read = c.in-Ok-read_image.ensures.read in
+    let work : ScenarioOf → Job = TraceJob in
+    rw c.in-Node.is
+    (ready _ (image_plan c.in-Node.file.now) (λ flash. TraceJob (lone_node flash c.in-Node.cycles)) _ _ _ _ _ _ read.1 (ap work (sym c.in-Ok-lone_node.ensures)) read.0 refl tt)
+
+pub returns-in-Err-read_image-clause-read : goal.returns-in-Err-read_image-clause-read
+unfolding plan_of
+returns-in-Err-read_image-clause-read g c =
+    rw c.in-Node.is
+    (stopped_behind _ (image_plan c.in-Node.file.now) _ _ _ _ _ _
+    (record { end = end_at c.in-Err-read_image.trouble; stops = c.in-Err-read_image.ensures.read; told = c.tell-in-Err-read_image.ensures }))
+
+pub returns-in-Ok-read_image-2-clause-read : goal.returns-in-Ok-read_image-2-clause-read
+unfolding plan_of
+returns-in-Ok-read_image-2-clause-read g c =
+    let read = c.in-Ok-read_image-2.ensures.read in
+    rw c.in-Disasm.is (ready _ (image_plan c.in-Disasm.file.now) DisasmJob _ _ _ _ _ _ read.1 refl read.0 refl tt)
+
+pub returns-in-Err-read_image-2-clause-read : goal.returns-in-Err-read_image-2-clause-read
+unfolding plan_of
+returns-in-Err-read_image-2-clause-read g c =
+    rw c.in-Disasm.is
+    (stopped_behind _ (image_plan c.in-Disasm.file.now) _ _ _ _ _ _
+    (record { end = end_at c.in-Err-read_image-2.trouble; stops = c.in-Err-read_image-2.ensures.read; told = c.tell-in-Err-read_image-2.ensures }))
+
+pub returns-in-Ok-read_source-clause-read : goal.returns-in-Ok-read_source-clause-read
+unfolding plan_of
+returns-in-Ok-read_source-clause-read g c =
+    let read = c.in-Ok-read_source.ensures.read in
+    rw c.in-Asm.is (ready _ (source_plan c.in-Asm.file.now) AsmJob _ _ _ _ _ _ read.1 refl read.0 refl c.in-Ok-read_source.ensures.few)
+
+pub returns-in-Err-read_source-clause-read : goal.returns-in-Err-read_source-clause-read
+unfolding plan_of
+returns-in-Err-read_source-clause-read g c =
+    rw c.in-Asm.is
+    (stopped_behind _ (source_plan c.in-Asm.file.now) _ _ _ _ _ _
+    (record { end = end_at c.in-Err-read_source.trouble; stops = c.in-Err-read_source.ensures.read; told = c.tell-in-Err-read_source.ensures }))
+
+pub returns-in-Make-clause-read : goal.returns-in-Make-clause-read
+unfolding plan_of
+returns-in-Make-clause-read g c = rw c.in-Make.is (record { reached = Here (Give (SampleJob c.in-Make.number)); same = refl; silent = refl; short = tt })

@@ -1,0 +1,37 @@
+-- What a command writes.
+use Rattle.std.specs.Prelude.{ℕ, List}
+use Rattle.ihex_loader.specs.Flash.{Image}
+use Rattle.ihex_loader.specs.Hex.{hex_of}
+use Rattle.node_runner.specs.Scenario.{ScenarioOf}
+use Rattle.run_reports.specs.Profiles.{profiles_text}
+use Rattle.run_reports.specs.Frames.{frames_text}
+use Rattle.commands.specs.Listing.{listing}
+use Rattle.commands.specs.Network.{size_line, trace_of}
+use Rattle.commands.specs.Sample.{sample_line}
+
+-- what a call is to write, once all its files are accepted
+pub data Job : Type 0 where
+  -- the trace of this network
+  TraceJob : (network : ScenarioOf) → Job
+  -- the profile of each of its nodes
+  MonitorJob : (network : ScenarioOf) → Job
+  -- the frames that its nodes send
+  SniffJob : (network : ScenarioOf) → Job
+  -- the size of this network
+  SizeJob : (network : ScenarioOf) → Job
+  -- the listing of this image
+  DisasmJob : (flash : Image) → Job
+  -- the image of a program of these words
+  AsmJob : (words : List ℕ) → Job
+  -- what came out of the sample of this number
+  SampleJob : (number : ℕ) → Job
+
+-- what a job writes to `out`
+unfoldable pub output : Job → List ℕ
+output (TraceJob network) = trace_of network
+output (MonitorJob network) = profiles_text network
+output (SniffJob network) = frames_text network
+output (SizeJob network) = size_line network
+output (DisasmJob flash) = listing flash
+output (AsmJob words) = hex_of words
+output (SampleJob number) = sample_line number

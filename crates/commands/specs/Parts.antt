@@ -1,0 +1,71 @@
+-- What the parts of a call owe to one another: the job that a value of the code stands for, and what is known once it was read.
+-- These are the contracts of functions inside this crate, and no part of what the top clause says.
+use Rattle.std.specs.Prelude.{◌≡◌, ◌≤◌, ◌-◌, ℕ, true, is_some, length, List, Result, Ok, Err}
+use Rattle.node_runner.specs.Scenario.{ScenarioOf}
+use Rattle.command_words.specs.Words.{asked_by}
+use Rattle.command_plans.specs.Plan.{Plan, Give}
+use Rattle.command_plans.specs.Reading.{Files, Reached}
+use Rattle.command_plans.specs.Ends.{Reads, Stream}
+use Rattle.command_plans.specs.Parts.{Stopped}
+use Rattle.command_plans.specs.declared.status.Status.{Status}
+use Rattle.commands.specs.Job.{Job, TraceJob, MonitorJob, SniffJob, SizeJob, DisasmJob, AsmJob, SampleJob}
+use Rattle.commands.specs.Plan.{network_plan, plan}
+use Rattle.commands.specs.TopClause.{TopClause}
+use Rattle.commands.specs.declared.job.Job.{Job as JobValue}
+use Rattle.commands.specs.declared.job.Job.TheVariants as job
+
+-- the window of a scenario's network has at most 20,000 cycles
+abbrev pub IsNarrow : ScenarioOf → Type 0
+IsNarrow network = network.to - network.from ≤ 20000
+
+-- the network of the scenario in this file was read, and nothing was said
+pub record HasRead (files : Files) (name : List ℕ) (store store' : Reads) (err err' : Stream) (network : ScenarioOf) : Type 0 where
+  pub reached : Reached files (network_plan name) (Give network)
+  pub same : store' ≡ store
+  pub silent : err' ≡ err
+  pub narrow : IsNarrow network
+
+-- the job that a value of the code stands for
+abbrev pub job_at : JobValue → Job
+job_at (job.Trace network) = TraceJob network
+job_at (job.PlainTrace network) = TraceJob network
+job_at (job.Profiles network) = MonitorJob network
+job_at (job.Frames network) = SniffJob network
+job_at (job.Size network) = SizeJob network
+job_at (job.Listing flash) = DisasmJob flash
+job_at (job.Program words) = AsmJob words.items
+job_at (job.Sample number) = SampleJob number
+
+-- a program is no longer than the flash, and a window that is watched is narrow
+abbrev pub IsShort : JobValue → Type 0
+IsShort (job.Trace network) = Unit {0}
+IsShort (job.PlainTrace network) = Unit {0}
+IsShort (job.Profiles network) = IsNarrow network
+IsShort (job.Frames network) = Unit {0}
+IsShort (job.Size network) = Unit {0}
+IsShort (job.Listing flash) = Unit {0}
+IsShort (job.Program words) = length words.items ≤ 65536
+IsShort (job.Sample number) = Unit {0}
+
+-- what a plan reads was read, this is left to do, and nothing was said
+pub record Ready (files : Files) (plan : Plan Job) (store store' : Reads) (err err' : Stream) (todo : JobValue) : Type 0 where
+  pub reached : Reached files plan (Give (job_at todo))
+  pub same : store' ≡ store
+  pub silent : err' ≡ err
+  pub short : IsShort todo
+
+-- what a plan reads was read; or that stopped, and was told
+abbrev pub JobRead : Files → Plan Job → Reads → Reads → Stream → Stream → Result JobValue Status → Type 0
+JobRead files plan store store' err err' (Ok todo) = Ready files plan store store' err err' todo
+JobRead files plan store store' err err' (Err answer) = Stopped files plan store store' err err' answer
+
+-- the words ask for something, and what it needs was read
+pub record Prepared (files files' : Files) (words : List (List ℕ)) (store store' : Reads) (err err' : Stream) (todo : JobValue) : Type 0 where
+  pub held : files' ≡ files
+  pub asked : is_some (asked_by words) ≡ true
+  pub ready : Ready files (plan words) store store' err err' todo
+
+-- a call is prepared; or it ended before it wrote any output
+abbrev pub Prepares : Files → Files → List (List ℕ) → Reads → Reads → Stream → Stream → Result JobValue Status → Type 0
+Prepares files files' words store store' err err' (Ok todo) = Prepared files files' words store store' err err' todo
+Prepares files files' words store store' err err' (Err answer) = (out : Stream) → TopClause files files' words store store' out out err err' answer

@@ -1,0 +1,50 @@
+// From the words to a status, on one thread.
+ghost use Rattle.std.specs.Prelude.{◌≡◌, map};
+ghost use Rattle.command_plans.specs.Ends.{reads, stream};
+ghost use Rattle.commands.specs.TopClause.{TopClause};
+
+use crate::job::do_job;
+use crate::reading::prepare;
+use command_plans::{Status, report};
+use sim_io::{Sink, Store};
+use std::alloc::Global;
+
+/// The whole program over a store of files and two streams, on one thread: does what the words after the program's
+/// name ask for, and answers how it ended. Files are read in the order in which the command needs them, each whole, and
+/// `out` is written only when all of them are accepted: a scenario first, then the image of each node in order of number.
+///
+/// | Words | Written to `out` with `Done` |
+/// |---|---|
+/// | `node FILE CYCLES` | the trace of one node that runs the image in FILE, with no links and no input, over CYCLES cycles; instructions are traced in the first 20,000 |
+/// | `run FILE` | the trace of the network of the scenario in FILE, in the single global order of cycles |
+/// | `run --plain FILE` | the same, on one thread |
+/// | `monitor FILE` | on what each node of that network spent each cycle of the window, and its charge; it is run up to the window's end |
+/// | `sniff FILE` | the frames that each node of that network sends |
+/// | `check FILE` | how many nodes, links and cycles the network of the scenario in FILE has; it is not run |
+/// | `disasm FILE` | the address and the text of each instruction of the image in FILE, a line each |
+/// | `asm FILE` | the program of the source in assembly in FILE, as an image in Intel HEX |
+/// | `make NUMBER` | what came out of the sample network of NUMBER: how often its nodes sent, and what they heard |
+///
+/// FILE is a word that is not empty and does not begin with `-`; CYCLES is one to eight digits, 1 to 10,000,000; NUMBER is
+/// one to five, up to 65,535. All other words are `BadWords`. Where the answer is not `Done`, `err` has one line that says
+/// why, or the write of that line failed and the answer is `SinkFailed`. A node that stops is no fault.
+pub fn avrora_alone<'w, S: Store, O: Sink, E: Sink>(
+    alloc: Global,
+    words: &'w [&'w str],
+    store: &mut S,
+    out: &mut O,
+    err: &mut E,
+) -> Status
+    ensures { TopClause (S.held store.old) (S.held store.new) (map (λ w. w.now) words.entry.now)
+        (reads (S.faults store.old) (S.failed store.old)) (reads (S.faults store.new) (S.failed store.new))
+        (stream (O.taken out.old) (O.faults out.old)) (stream (O.taken out.new) (O.faults out.new))
+        (stream (E.taken err.old) (E.faults err.old)) (stream (E.taken err.new) (E.faults err.new)) result }
+{
+    match prepare(alloc, words, store, err) {
+        Ok(job) => {
+            let outcome = do_job(alloc, job, out);
+            report(err, outcome)
+        }
+        Err(status) => status,
+    }
+}

@@ -1,0 +1,55 @@
+// What is left to do once all files of a call are read.
+ghost use Rattle.command_plans.specs.Ends.{stream};
+ghost use Rattle.command_plans.specs.Parts.{Written};
+ghost use Rattle.commands.specs.Job.{output};
+ghost use Rattle.commands.specs.Parts.{IsShort, job_at};
+
+use crate::frames::write_frames;
+use crate::image::write_program;
+use crate::listing::write_listing;
+use crate::network::{write_size, write_trace};
+use crate::profiles::write_profiles;
+use crate::sample::write_sample;
+use command_plans::Trouble;
+use ihex_loader::Flash;
+use node_runner::Scenario;
+use sim_io::Sink;
+use std::alloc::Global;
+
+/// What a call is to do once all its files are read and accepted.
+pub enum Job {
+    /// To write the trace of this network.
+    Trace(Scenario),
+    /// The same, on one thread.
+    PlainTrace(Scenario),
+    /// To write the profile of each node of this network.
+    Profiles(Scenario),
+    /// To write the frames that the nodes of this network send.
+    Frames(Scenario),
+    /// To write how large this network is.
+    Size(Scenario),
+    /// To write the listing of this image.
+    Listing(Flash),
+    /// To write the program of these words as an image.
+    Program(Vec<u16>),
+    /// To write what comes out of the sample of this number.
+    Sample(u16),
+}
+
+/// Does a job on one thread.
+#[tactic(auto, unfolding(crate::specs::Job::output))]
+pub fn do_job<'n, O: Sink>(alloc: Global, job: Job, out: &mut O) -> Result<(), Trouble<'n>>
+    requires { IsShort job }
+    ensures { Written (output (job_at job)) (stream (O.taken out.old) (O.faults out.old)) (stream (O.taken out.new) (O.faults out.new)) result }
+{
+    match job {
+        Job::Trace(network) => write_trace(alloc, &network, out),
+        Job::PlainTrace(network) => write_trace(alloc, &network, out),
+        Job::Profiles(network) => write_profiles(alloc, &network, out),
+        Job::Frames(network) => write_frames(alloc, &network, out),
+        Job::Size(network) => write_size(&network, out),
+        Job::Listing(flash) => write_listing(&flash, out),
+        Job::Program(words) => write_program(alloc, words.as_slice(), out),
+        Job::Sample(number) => write_sample(alloc, number, out),
+    }
+}

@@ -1,0 +1,108 @@
+// Networks, and what is written of them.
+ghost use Rattle.std.specs.Prelude.{◌≡◌, ◌≤◌, ◌++◌, IfOk, false};
+ghost use Rattle.node_runner.specs.Scenario.{IsScenario};
+ghost use Rattle.commands.specs.Network.{lone_node, size_line, trace_of};
+ghost use Rattle.command_plans.specs.Ends.{stream};
+ghost use Rattle.command_plans.specs.Parts.{Written};
+
+use arrayvec::ArrayString;
+use avr_base::NoMemory;
+use avr_program::Program;
+use command_plans::Trouble;
+use fleet_plain::PlainRun;
+use ihex_loader::Flash;
+use node_runner::Scenario;
+use scenario_file::{BYTE_TIME, LATENCY, ScenarioText, no_script};
+use sim_io::{Sink, put_decimal, write_all};
+use std::alloc::Global;
+use world_core::Topo;
+
+// The cycles from 0 on in which the instructions of a lone node are traced.
+const TRACED: u64 = 20_000;
+
+/// The network of one node that hears nobody and at which nothing arrives, over `cycles` cycles, 1 to 10,000,000. `Err` only for
+/// want of memory.
+pub fn lone_node(alloc: Global, flash: Flash, cycles: u64) -> Result<Scenario, NoMemory>
+    requires some { 1 ≤ cycles }
+    requires limit { cycles ≤ 10000000 }
+    ensures { IfOk result (λ network. network ≡ lone_node flash cycles) }
+{
+    let mut images = Vec::with_capacity(alloc, 1)?;
+    images.push_reserved(Program::new(alloc, flash)?);
+    let mut scripts = Vec::with_capacity(alloc, 1)?;
+    scripts.push_reserved(no_script(alloc));
+    let Ok(topo) = Topo::new(1, cycles, LATENCY, BYTE_TIME, Vec::new(alloc)) else {
+        unreachable!();
+    };
+    let text = ScenarioText {
+        topo,
+        images: Vec::new(alloc),
+        scripts,
+        window: (0, cycles.min(TRACED)),
+    };
+    Ok(Scenario::new(text, images))
+}
+
+// Writes the rows of each epoch of a run from its first on, before the next one is run.
+fn write_epochs<'n, O: Sink>(
+    network: &Scenario,
+    run: &mut PlainRun,
+    out: &mut O,
+) -> Result<(), Trouble<'n>>
+    requires sound { IsScenario network.now }
+    requires first { run.old ≡ record { scenario = network.now; floor = 0; failed = false } }
+    ensures { Written (trace_of network.now) (stream (O.taken out.old) (O.faults out.old)) (stream (O.taken out.new) (O.faults out.new)) result }
+{
+    while !run.done() {
+        let Ok(rows) = run.epoch(network) else {
+            return Err(Trouble::NoMemory);
+        };
+        match trace_writer::write(rows.as_slice(), out) {
+            Ok(()) => {}
+            Err(_) => return Err(Trouble::OutFailed),
+        }
+    }
+    Ok(())
+}
+
+/// Runs a network and writes its trace, the rows of each epoch before the next one is run.
+pub fn write_trace<'n, O: Sink>(
+    alloc: Global,
+    network: &Scenario,
+    out: &mut O,
+) -> Result<(), Trouble<'n>>
+    ensures { Written (trace_of network.now) (stream (O.taken out.old) (O.faults out.old)) (stream (O.taken out.new) (O.faults out.new)) result }
+{
+    match PlainRun::new(alloc, network) {
+        Ok(mut run) => write_epochs(network, &mut run, out),
+        Err(_) => Err(Trouble::NoMemory),
+    }
+}
+
+// The line that says how large a network is.
+#[tactic(auto, unfolding(crate::specs::Network::size_line))]
+fn size_line(network: &Scenario) -> ArrayString<128>
+    ensures { result.bytes ≡ size_line network.now }
+{
+    let topo = network.lawful_topo();
+    let mut line = ArrayString::new();
+    line.push_str("ok ");
+    put_decimal(usize::from(topo.nodes()), &mut line);
+    line.push_str(" nodes, ");
+    put_decimal(topo.links().len(), &mut line);
+    line.push_str(" links, ");
+    put_decimal(topo.limit() as usize, &mut line);
+    line.push_str(" cycles\n");
+    line
+}
+
+/// Writes how many nodes, links and cycles a network has.
+pub fn write_size<'n, O: Sink>(network: &Scenario, out: &mut O) -> Result<(), Trouble<'n>>
+    ensures { Written (size_line network.now) (stream (O.taken out.old) (O.faults out.old)) (stream (O.taken out.new) (O.faults out.new)) result }
+{
+    let line = size_line(network);
+    match write_all(out, line.as_str().as_bytes()) {
+        Ok(()) => Ok(()),
+        Err(_) => Err(Trouble::OutFailed),
+    }
+}

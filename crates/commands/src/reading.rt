@@ -1,0 +1,116 @@
+// What is read before a job is done.
+ghost use Rattle.std.specs.Prelude.{◌≡◌, map, IfErr, IfOk};
+ghost use Rattle.command_words.specs.Words.{IsInLimits, shown};
+ghost use Rattle.command_plans.specs.Ends.{reads, stream};
+ghost use Rattle.command_plans.specs.Parts.{Stopped};
+ghost use Rattle.commands.specs.Plan.{network_plan, plan_of};
+ghost use Rattle.commands.specs.Parts.{HasRead, JobRead, Prepares};
+
+use crate::job::Job;
+use crate::network::lone_node;
+use command_plans::{
+    Complaint, Status, Trouble, read_image, read_images, read_scenario, read_source, tell,
+};
+use command_words::{Command, read_words};
+use node_runner::Scenario;
+use sim_io::{Sink, Store};
+use std::alloc::Global;
+
+// The network of the scenario in `file`, with the image of each node. Where it is not to be had, `err` has the line that says why, and
+// the answer is the status of the call: that line may name a file of the scenario's own, so it cannot be written later.
+fn read_network<'w, S: Store, E: Sink>(
+    alloc: Global,
+    file: &'w str,
+    store: &mut S,
+    err: &mut E,
+) -> Result<Scenario, Status>
+    ensures held { S.held store.new ≡ S.held store.old }
+    ensures ok { IfOk result (HasRead (S.held store.old) file.entry.now
+        (reads (S.faults store.old) (S.failed store.old)) (reads (S.faults store.new) (S.failed store.new))
+        (stream (E.taken err.old) (E.faults err.old)) (stream (E.taken err.new) (E.faults err.new))) }
+    ensures err { IfErr result (Stopped (S.held store.old) (network_plan file.entry.now)
+        (reads (S.faults store.old) (S.failed store.old)) (reads (S.faults store.new) (S.failed store.new))
+        (stream (E.taken err.old) (E.faults err.old)) (stream (E.taken err.new) (E.faults err.new))) }
+{
+    let text = match read_scenario(alloc, file, store) {
+        Ok(text) => text,
+        Err(trouble) => return Err(tell(err, trouble)),
+    };
+    match read_images(alloc, text.images.as_slice(), store) {
+        Ok(images) => Ok(Scenario::new(text, images)),
+        Err(trouble) => Err(tell(err, trouble)),
+    }
+}
+
+// Reads what a command needs. Where that is not to be had, `err` has the line that says why, and the answer is the status of the
+// call.
+fn read_job<'w, S: Store, E: Sink>(
+    alloc: Global,
+    command: Command<'w>,
+    store: &mut S,
+    err: &mut E,
+) -> Result<Job, Status>
+    requires { IsInLimits (shown command) }
+    ensures held { S.held store.new ≡ S.held store.old }
+    ensures read { JobRead (S.held store.old) (plan_of (shown command.entry))
+        (reads (S.faults store.old) (S.failed store.old)) (reads (S.faults store.new) (S.failed store.new))
+        (stream (E.taken err.old) (E.faults err.old)) (stream (E.taken err.new) (E.faults err.new)) result }
+{
+    match command {
+        Command::Run { file } => match read_network(alloc, file, store, err) {
+            Ok(network) => Ok(Job::Trace(network)),
+            Err(status) => Err(status),
+        },
+        Command::RunPlain { file } => match read_network(alloc, file, store, err) {
+            Ok(network) => Ok(Job::PlainTrace(network)),
+            Err(status) => Err(status),
+        },
+        Command::Monitor { file } => match read_network(alloc, file, store, err) {
+            Ok(network) => Ok(Job::Profiles(network)),
+            Err(status) => Err(status),
+        },
+        Command::Sniff { file } => match read_network(alloc, file, store, err) {
+            Ok(network) => Ok(Job::Frames(network)),
+            Err(status) => Err(status),
+        },
+        Command::Check { file } => match read_network(alloc, file, store, err) {
+            Ok(network) => Ok(Job::Size(network)),
+            Err(status) => Err(status),
+        },
+        Command::Node { file, cycles } => match read_image(alloc, file, store) {
+            Ok(flash) => match lone_node(alloc, flash, cycles) {
+                Ok(network) => Ok(Job::PlainTrace(network)),
+                Err(_) => Err(tell(err, Trouble::NoMemory)),
+            },
+            Err(trouble) => Err(tell(err, trouble)),
+        },
+        Command::Disasm { file } => match read_image(alloc, file, store) {
+            Ok(flash) => Ok(Job::Listing(flash)),
+            Err(trouble) => Err(tell(err, trouble)),
+        },
+        Command::Asm { file } => match read_source(alloc, file, store) {
+            Ok(words) => Ok(Job::Program(words)),
+            Err(trouble) => Err(tell(err, trouble)),
+        },
+        Command::Make { number } => Ok(Job::Sample(number)),
+    }
+}
+
+/// What the words ask for, with all that it needs read: a scenario first, then the image of each node in order of number. Where
+/// they ask for nothing, or that is not to be had, `err` has the line that says so, and the answer is the status of the call.
+pub fn prepare<'w, S: Store, E: Sink>(
+    alloc: Global,
+    words: &'w [&'w str],
+    store: &mut S,
+    err: &mut E,
+) -> Result<Job, Status>
+    ensures { Prepares (S.held store.old) (S.held store.new) (map (λ w. w.now) words.entry.now)
+        (reads (S.faults store.old) (S.failed store.old)) (reads (S.faults store.new) (S.failed store.new))
+        (stream (E.taken err.old) (E.faults err.old)) (stream (E.taken err.new) (E.faults err.new)) result }
+{
+    match read_words(alloc, words) {
+        Ok(Some(command)) => read_job(alloc, command, store, err),
+        Ok(None) => Err(tell(err, Trouble::Refused(Complaint::BadWords))),
+        Err(_) => Err(tell(err, Trouble::NoMemory)),
+    }
+}

@@ -1,9 +1,0 @@
-use Rattle.plain_commands.specs.Ends.{stream}
-use Rattle.plain_commands.proofs.Statuses.{done_clause}
-use Rattle.plain_commands.proofs.top.avrora_alone.Goals as goal
-
-pub returns-in-Ok : goal.returns-in-Ok
-returns-in-Ok g c = done_clause _ _ _ _ _ _ _ _ _ _ _ c.do_task-outcome.result _ c.in-Ok.ensures c.do_task-outcome.ensures c.report.ensures
-
-pub returns-in-Err : goal.returns-in-Err
-returns-in-Err g c = c.in-Err.ensures (stream (g.O.Sink.taken c.args.out.now) (g.O.Sink.faults c.args.out.now))

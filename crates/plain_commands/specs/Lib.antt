@@ -1,8 +1,0 @@
-pub mod Listing
-pub mod Network
-pub mod Sample
-pub mod Plan
-pub mod Reading
-pub mod Ends
-pub mod TopClause
-pub mod Parts
