@@ -17,7 +17,7 @@ SPEED = Path(__file__).resolve().parent.parent / "docs" / "SPEED.md"
 NODE = re.compile(r"(simavr, )?(\w+): \d+ cycles in (under )?([\d.]+) s, .*, (\d+) KiB at most")
 HOST = re.compile(r"(\w+): (\d+) host instructions an instruction")
 NETWORK = re.compile(r"(.+): \d+ cycles of nodes and (\d+) rows in (under )?([\d.]+) s: ([\d.]+) million cycles and ([\d.]+) .*, (\d+) KiB at most")
-THREADS = re.compile(r"(.+): one thread ([\d.]+) s, a thread a node ([\d.]+) s, ([\d.]+) times as fast, \d+ rows")
+THREADS = re.compile(r"(.+): one thread ([\d.]+) s, a thread a node ([\d.]+) s, ([\d.]+) times as fast, yardstick [\d.]+, part ([\d.]+), .* rows")
 
 
 def span(values, digits, unit=""):
@@ -47,7 +47,7 @@ def network_cells(row):
 
 
 def threads_cells(row):
-    return [span(row["plain"], 2, " s"), span(row["threads"], 2, " s"), span(row["gain"], 1)]
+    return [span(row["plain"], 2, " s"), span(row["threads"], 2, " s"), span(row["gain"], 1), span(row["part"], 2)]
 
 
 # The script of a table, how its cells are made, and how many cells before them say what the row is.
@@ -68,7 +68,7 @@ def read(paths):
             for name, place in (("cycles", 5), ("rows", 6), ("kib", 7)):
                 found["bench/networks.sh"].add(it[1], name, it[place])
         elif it := THREADS.fullmatch(line):
-            for name, place in (("plain", 2), ("threads", 3), ("gain", 4)):
+            for name, place in (("plain", 2), ("threads", 3), ("gain", 4), ("part", 5)):
                 found["bench/threads.sh"].add(it[1], name, it[place])
     return found
 

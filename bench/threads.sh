@@ -1,37 +1,71 @@
 #!/usr/bin/env bash
-# What threads gain: bench/threads.sh [PROGRAM] (the program that ./avrora builds where absent). Each network is run five times
-# with `run --plain` and five times with `run`, in turns; of the fastest of each it prints the time on the wall, and how many
-# times as fast the run by threads is. The two traces are compared.
+# What threads gain: bench/threads.sh [PROGRAM [BUSY]] (the program that ./avrora builds where absent), with so many programs beside
+# it that only reckon. Each network is run seven times, in
+# turns, with `run --plain`, with `run`, and as a yardstick as many times with `run --plain` at once as there are processors. It
+# prints the medians of the time on the wall, how many times as fast the run by threads is, how many times as much the yardstick
+# gets done in a time, and what part of it the threads get. With strace, it counts the calls by which threads wait and wake, and the
+# samples. The traces are compared.
 set -eu
 . "$(dirname "$0")/program.sh"
 cp "$top"/bench/ring.hex "$top"/bench/mixed.hex "$top"/bench/sleep.hex "$top"/bench/network/net.hex "$top"/bench/make0/* "$top"/examples/flood.hex "$work"
 cd "$work"
+turns=7
+processors=$(nproc)
+for ((k = 0; k < ${2:-0}; k++)); do (while :; do :; done) & done
+trap 'kill $(jobs -p) 2>/dev/null; rm -rf "$work"' EXIT
 
-# timed OUT WORD ..: the seconds on the wall of a run with these words.
+# since BEGAN: the microseconds since then.
+since() { echo $((($(date +%s%N) - $1) / 1000)); }
+
+# timed OUT WORD ..: the microseconds on the wall of a run with these words.
 timed() {
-    local out=$1 began ended
+    local out=$1 began
     shift
     began=$(date +%s%N)
     "$program" "$@" >"$out"
-    ended=$(date +%s%N)
-    echo $(((ended - began) / 1000))
+    since "$began"
+}
+
+# at_once FILE: the microseconds on the wall of as many plain runs as there are processors, side by side.
+at_once() {
+    local began k
+    began=$(date +%s%N)
+    local runs=()
+    for ((k = 0; k < processors; k++)); do
+        "$program" run --plain "$1" >"side$k.out" &
+        runs+=($!)
+    done
+    wait "${runs[@]}"
+    since "$began"
+}
+
+# median: of the numbers in the input, a line each.
+median() { sort -n | sed -n "$((turns / 2 + 1))p"; }
+
+# calls FILE: the calls of the system that wait or wake in a run by threads, where strace is there.
+calls() {
+    command -v strace >/dev/null || { echo -; return; }
+    strace -f -c -e trace=futex -o calls.txt "$program" run "$1" >/dev/null 2>&1 || { echo -; return; }
+    awk '$NF == "futex" { n = $4 } END { print n + 0 }' calls.txt
 }
 
 # report NAME FILE
 report() {
-    local plain= threads= it
-    for _ in 1 2 3 4 5; do
-        it=$(timed plain.out run --plain "$2")
-        if [ -z "$plain" ] || ((it < plain)); then plain=$it; fi
-        it=$(timed threads.out run "$2")
-        if [ -z "$threads" ] || ((it < threads)); then threads=$it; fi
+    : >plain.us; : >threads.us; : >side.us
+    local k
+    for ((k = 0; k < turns; k++)); do
+        timed plain.out run --plain "$2" >>plain.us
+        timed threads.out run "$2" >>threads.us
+        at_once "$2" >>side.us
         cmp plain.out threads.out
     done
-    awk -v n="$1" -v p="$plain" -v t="$threads" -v r="$(wc -l <plain.out)" 'BEGIN {
-        printf "%s: one thread %.3f s, a thread a node %.3f s, %.2f times as fast, %d rows\n", n, p / 1e6, t / 1e6, p / t, r }'
+    awk -v n="$1" -v p="$(median <plain.us)" -v t="$(median <threads.us)" -v s="$(median <side.us)" -v m="$processors" -v r="$(wc -l <plain.out)" \
+        -v c="$(calls "$2")" -v a="$(grep -c ' heard ' plain.out)" 'BEGIN {
+        printf "%s: one thread %.3f s, a thread a node %.3f s, %.2f times as fast, yardstick %.2f, part %.2f, %s calls, %d samples, %d rows\n",
+            n, p / 1e6, t / 1e6, p / t, m * p / s, s / (m * t), c, a, r }'
 }
 
-echo "$(nproc) processors, load $(cut -d' ' -f1 /proc/loadavg)"
+echo "$processors processors, ${2:-0} busy programs beside, load $(cut -d' ' -f1 /proc/loadavg)"
 network 8 mixed 5000000 "latency = 3072" "byte_time = 3072" >apart.toml
 report "8 nodes that do not use the radio" apart.toml
 network 8 ring 5000000 "latency = 3072" "byte_time = 3072" >ring8.toml

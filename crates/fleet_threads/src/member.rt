@@ -80,6 +80,13 @@ impl Member {
         self.runner.number()
     }
 
+    /// The cycle that it has come to, and whether it waits there for the answer to a sample.
+    pub fn stands(&self) -> (u64, bool)
+        ensures { (result.0 ≡ self.now.runner.cycle) × (result.1 ≡ self.now.runner.asking) }
+    {
+        (self.runner.cycle(), self.runner.asking())
+    }
+
     // Tells all nodes to halt, and halts.
     fn halt<N: Session>(&mut self, shared: &Shared<Scenario, N>, scenario: &Scenario, end: u64)
         requires { IsUnderWay N.table N.world scenario.now N.floor end self.old }

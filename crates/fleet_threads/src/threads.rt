@@ -74,7 +74,16 @@ fn work_unless_refused<N: Session, R: Wait, G: Gate>(
     work(rt, shared, gate, scenario, end, member)
 }
 
-// One step of each node for which no thread was found. Whether all of them are over.
+// What one step of each node for which no thread was found came to.
+#[derive(Clone, Copy)]
+struct Progress {
+    // All of them are over.
+    over: bool,
+    // One of them is not where it was. No clause rests on it.
+    moved: bool,
+}
+
+// One step of each node for which no thread was found.
 fn round<N: Session, R: Wait, G: Gate>(
     rt: &R,
     shared: &Shared<Scenario, N>,
@@ -82,23 +91,36 @@ fn round<N: Session, R: Wait, G: Gate>(
     scenario: &Scenario,
     end: u64,
     waiting: &mut Vec<Member>,
-) -> bool
+) -> Progress
     requires { All (IsUnderWay N.table N.world scenario.now N.floor end) waiting.old.items }
     ensures all { All (IsUnderWay N.table N.world scenario.now N.floor end) waiting.new.items }
     ensures numbers { numbers waiting.new.items ≡ numbers waiting.old.items }
-    ensures over { result ≡ true → All (IsOver end) waiting.new.items }
+    ensures over { result.over ≡ true → All (IsOver end) waiting.new.items }
 {
     let mut over = true;
+    let mut moved = false;
     for k in 0..waiting.len() {
+        let stood = waiting[k].stands();
         if !waiting[k].step(rt, shared, gate, scenario, end, Sampling::Tries) {
             over = false;
         }
+        moved |= waiting[k].stands() != stood;
     }
-    over
+    Progress { over, moved }
+}
+
+// Between two rounds: where no node got on in the last one, a node that has a thread gets the processor.
+fn breathe(backoff: &Backoff, moved: bool) {
+    if moved {
+        backoff.reset();
+    } else {
+        backoff.snooze();
+    }
 }
 
 // Takes the nodes for which no thread was found to the end of the epoch, one event of each after the other. None of them
-// waits at a sample, since it may be one of the others for which it would wait.
+// waits at a sample, since it may be one of the others for which it would wait. Where none of them got on, they wait for a
+// node that has a thread.
 fn rotate<N: Session, R: Wait, G: Gate>(
     rt: &R,
     shared: &Shared<Scenario, N>,
@@ -113,10 +135,11 @@ fn rotate<N: Session, R: Wait, G: Gate>(
 {
     let backoff = Backoff::new();
     for _ in rt.forever() {
-        if round(rt, shared, gate, scenario, end, waiting) {
+        let made = round(rt, shared, gate, scenario, end, waiting);
+        if made.over {
             return;
         }
-        backoff.snooze();
+        breathe(&backoff, made.moved);
     }
     unreachable!()
 }

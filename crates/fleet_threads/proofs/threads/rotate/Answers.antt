@@ -5,12 +5,12 @@ pub loop-preserved : goal.loop-preserved
 loop-preserved g c = record {
   next = tt;
   finite = tt;
-  all = c.round.ensures.all;
-  numbers = c.round.ensures.numbers ∙ c.loop.invariant.numbers;
+  all = c.round-made.ensures.all;
+  numbers = c.round-made.ensures.numbers ∙ c.loop.invariant.numbers;
 }
 
-pub returns-then-round : goal.returns-then-round
-returns-then-round g c = record {
-  all = λ k d lt. record { is = c.round.ensures.all k d lt; over = c.round.ensures.over c.if-round.true k d lt };
-  numbers = c.round.ensures.numbers ∙ c.loop.invariant.numbers;
+pub returns-then-made : goal.returns-then-made
+returns-then-made g c = record {
+  all = λ k d lt. record { is = c.round-made.ensures.all k d lt; over = c.round-made.ensures.over c.if-made.true k d lt };
+  numbers = c.round-made.ensures.numbers ∙ c.loop.invariant.numbers;
 }
