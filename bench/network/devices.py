@@ -9,6 +9,11 @@ class Stop(Exception):
         self.cause = cause
 
 
+def listed(running):
+    """The end and the byte of what runs, behind the flag that something does."""
+    return [0, 0, 0] if running is None else [1, *running]
+
+
 class Timer:
     """Timers 0 to 3: of 8 bits with one compare value, of 16 with three, ICR and TEMP."""
 
@@ -97,6 +102,19 @@ class Timer:
         elif name != "icr" or self.mode() == 12:
             self.values[name] = self.temp << 8 | byte
 
+    def numbers(self):
+        """As a state has them."""
+        wide = [self.values["b"], self.values["c"], self.values["icr"], self.temp] if self.bits == 16 else []
+        names = ("ov", "a", "b", "c", "icf") if self.bits == 16 else ("ov", "a")
+        return [self.control, self.count, self.values["a"], *wide, int(self.blocked), *(self.flags[name] for name in names)]
+
+    def restore(self, numbers):
+        self.control, self.count, self.values["a"], *rest = numbers
+        if self.bits == 16:
+            self.values["b"], self.values["c"], self.values["icr"], self.temp, *rest = rest
+        self.blocked = bool(rest[0])
+        self.flags.update(zip(("ov", "a", "b", "c", "icf"), rest[1:]))
+
 
 class Usart:
     """USART0."""
@@ -175,6 +193,18 @@ class Usart:
             elif self.waiting is None:
                 self.waiting = byte
 
+    def numbers(self):
+        """As a state has them."""
+        count, (first, second) = len(self.received), (self.received + [0, 0])[:2]
+        port = [self.double, self.b, self.c, self.baud, self.txc, self.overrun, count, first, second]
+        return port + listed(self.frame) + ([0, 0] if self.waiting is None else [1, self.waiting])
+
+    def restore(self, numbers):
+        self.double, self.b, self.c, self.baud, self.txc, self.overrun, count, first, second, *rest = numbers
+        runs, end, byte, waits, waiting = rest
+        self.received = [first, second][:count]
+        self.frame, self.waiting = (end, byte) if runs else None, waiting if waits else None
+
 
 class Spi:
     """The SPI as a master."""
@@ -225,13 +255,23 @@ class Spi:
                 divider = (4, 16, 64, 128)[self.control & 3] // (2 if self.double else 1)
                 self.end, self.out = now + 8 * divider, byte
 
+    def numbers(self):
+        """As a state has them."""
+        transfer = listed(None if self.end is None else (self.end, self.out))
+        return [self.control, self.double, self.data] + transfer + [self.spif, self.wcol, self.seen_spif, self.seen_wcol]
+
+    def restore(self, numbers):
+        self.control, self.double, self.data, runs, end, self.out, *flags = numbers
+        self.end = end if runs else None
+        self.spif, self.wcol, self.seen_spif, self.seen_wcol = flags
+
 
 class Radio:
     """The radio on the SPI."""
 
     def __init__(self, byte_time):
         self.byte_time, self.free = byte_time, 0
-        self.sending, self.answers = False, []
+        self.sending, self.answers, self.sample = False, [], []
 
     def transfer(self, now, selected, byte):
         """The answer, the byte that is sent or None, and whether the air is sampled."""
@@ -250,4 +290,14 @@ class Radio:
         return 0x00, None, byte == 0x02
 
     def heard(self, heard):
-        self.answers = list(heard)
+        self.answers, self.sample = list(heard), list(heard)
+
+    def numbers(self):
+        """As a state has them: the whole sample as long as an answer is left."""
+        if self.answers:
+            return [5 - len(self.answers), *self.sample, self.free]
+        return [int(self.sending), 0, 0, 0, self.free]
+
+    def restore(self, numbers):
+        state, *self.sample, self.free = numbers
+        self.sending, self.answers = state == 1, self.sample[state - 2 :] if state >= 2 else []

@@ -3,18 +3,23 @@
 cycle after the other in order of their numbers, and a sample hears what the list of all sends gives.
 
     bench/network/network.py FILE
+    bench/network/network.py head FILE N          the rows of the first N epochs
+    bench/network/network.py save FILE N          the state behind them
+    bench/network/network.py resume FILE STATE    the rows from a state on
 
 It shares nothing with the crates: it is written from docs/ and the AVR Instruction Set Manual, and reads TOML by Python's
 tomllib. It takes some microseconds for each cycle of a node, so it is for short runs. Exit status and error stream are
-those of `avrora run FILE`.
+those of `avrora run FILE`, `avrora head FILE N` and so on.
 """
 import sys
+from bisect import bisect_left, bisect_right
 from pathlib import Path
 
 sys.path.insert(0, str(Path(__file__).resolve().parent.parent / "scenario"))
 
 import cases as scenario_rules  # noqa: E402
 from machine import Node  # noqa: E402
+from states import EPOCH, Fault, Rules, Saved, read_state, state_text  # noqa: E402
 
 MOST_SCENARIO, MOST_IMAGE, FLASH = 524_288, 1_048_576, 131_072
 
@@ -129,7 +134,7 @@ class Network:
     """A scenario's numbers, and its nodes at reset."""
 
     def __init__(self, document, flashes):
-        self.limit = document["cycles"]
+        self.limit, self.rules, self.first = document["cycles"], Rules(document), 0
         self.byte_time = document.get("byte_time", 3072)
         latency = document.get("latency", 3072)
         self.links = {
@@ -157,8 +162,11 @@ class Network:
         return sent + latency if sent + latency <= cycle < sent + latency + self.byte_time else None
 
     def heard(self, listener, cycle):
-        """What all sends so far give a sample: its status, byte and age."""
-        found = [(send, since) for send in self.sends if (since := self.audible(send, listener, cycle)) is not None]
+        """What all sends so far give a sample: its status, byte and age. Sends stand in the order of their cycles."""
+        early = bisect_right(self.sends, cycle - self.rules.longest - self.byte_time, key=cycle_of)
+        late = bisect_left(self.sends, cycle, early, key=cycle_of)
+        near = self.sends[early:late]
+        found = [(send, since) for send in near if (since := self.audible(send, listener, cycle)) is not None]
         if not found:
             return (0, 0, 0)
         if len(found) == 1:
@@ -170,14 +178,29 @@ class Network:
         return (2, both, 0)
 
     def run(self):
-        for cycle in range(self.limit):
+        self.run_to(self.limit)
+        for node in self.nodes:
+            self.rows.append(node.last_row(self.limit))
+
+    def run_to(self, end):
+        for cycle in range(self.first, end):
             for node in self.nodes:
                 if not node.stopped:
                     sent = node.tick(cycle, self.sample)
                     if sent is not None:
                         self.sends.append((node.number, cycle, sent))
-        for node in self.nodes:
-            self.rows.append(node.last_row(self.limit))
+        self.first = end
+
+    def saved(self):
+        """The state as the next cycle begins."""
+        kept = [send for send in self.sends if self.rules.can_be_heard(send[1], self.first)]
+        return Saved(self.first, [node.saved() for node in self.nodes], kept)
+
+    def restore(self, saved):
+        self.first, self.sends, self.samples = saved.cycle, list(saved.sends), []
+        self.rows.clear()
+        for node, of in zip(self.nodes, saved.nodes):
+            node.restore(of)
 
     def sample(self, node, cycle):
         heard = self.heard(node, cycle)
@@ -192,22 +215,48 @@ class Network:
         return "".join(f"{cycle} {node} {text}\n" for cycle, node, text in self.rows).encode()
 
 
+def cycle_of(send):
+    return send[1]
+
+
 def open_network(files, name):
     document = read_scenario(files, name)
     flashes = [read_image(files, node["image"]) for node in document["node"]]
     return Network(document, flashes)
 
 
-def main():
-    if len(sys.argv) != 2:
-        sys.exit("usage: network.py FILE")
+def outcome(files, words):
+    """What a call with these words writes. Raises Refused."""
+    if len(words) == 1:
+        network = open_network(files, words[0])
+        network.run()
+        return network.trace()
+    kind, name, last = words
+    network = open_network(files, name)
     try:
-        network = open_network(Folder("."), sys.argv[1])
+        if kind == "resume":
+            network.restore(read_state(network.rules, files.read(last)))
+            network.run()
+            return network.trace()
+        cycle = EPOCH * int(last)
+        if cycle >= network.limit:
+            raise Fault("PastEnd")
+    except Fault as fault:
+        of = last if kind == "resume" else name
+        raise Refused(8, f"avrora: {of}: state refused: {fault}") from None
+    network.run_to(cycle)
+    return network.trace() if kind == "head" else state_text(network.saved())
+
+
+def main():
+    words = sys.argv[1:]
+    if len(words) != 1 and (len(words) != 3 or words[0] not in ("head", "save", "resume")):
+        sys.exit(__doc__)
+    try:
+        sys.stdout.buffer.write(outcome(Folder("."), words))
     except Refused as refused:
         print(refused.line, file=sys.stderr)
         sys.exit(refused.status)
-    network.run()
-    sys.stdout.buffer.write(network.trace())
 
 
 if __name__ == "__main__":
