@@ -1,0 +1,12 @@
+pub mod Timers
+pub mod Ports
+pub mod Boards
+pub mod Cores
+pub mod Decoded
+pub mod Accesses
+pub mod Nodes
+pub mod Fits
+pub mod Widths
+pub mod Fixed
+pub mod Worlds
+pub mod Restores

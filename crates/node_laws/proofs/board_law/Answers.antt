@@ -1,0 +1,20 @@
+use Rattle.node_laws.proofs.Boards.{cycle_within, entered_within, read_within, reset_within, sends_within, write_within}
+use Rattle.node_laws.proofs.board_law.Goals as goal
+
+pub returns-clause-reset : goal.returns-clause-reset
+returns-clause-reset c = reset_within
+
+pub returns-clause-read : goal.returns-clause-read
+returns-clause-read c = read_within
+
+pub returns-clause-write : goal.returns-clause-write
+returns-clause-write c = write_within
+
+pub returns-clause-entry : goal.returns-clause-entry
+returns-clause-entry c = entered_within
+
+pub returns-clause-cycle : goal.returns-clause-cycle
+returns-clause-cycle c = cycle_within
+
+pub returns-clause-sends : goal.returns-clause-sends
+returns-clause-sends c = sends_within
