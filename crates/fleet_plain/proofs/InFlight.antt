@@ -1,18 +1,15 @@
 -- The fleet between two steps: the sample that is furthest behind may be answered, the record takes the next send, and a step keeps all.
-use Rattle.std.proofs.Common.{◌≡◌, ℕ, ◌+◌, ◌-◌, ◌<◌, ◌≤◌, ◌⊎◌, inl, inr, ⊎_elim, true, false, ◌&&◌, ◌==◌, List, [], ◌∷◌, ◌++◌, length, set, refl, sym, subst, ◌∙◌, ap, arith, length-set, length-append}
+use Rattle.std.proofs.Common.{◌≡◌, ℕ, ◌+◌, ◌-◌, ◌<◌, ◌≤◌, ◌⊎◌, inl, inr, ⊎_elim, true, false, List, [], ◌∷◌, ◌++◌, length, set, refl, sym, subst, ◌∙◌, ap, arith, length-set, length-append}
 use Rattle.std.specs.Prelude.{is_some}
 use Rattle.std.specs.List.{All, sum_by}
 use Rattle.std.proofs.lemmas.List.{get_or-set_same, get_or-set_other}
 use Rattle.std.proofs.lemmas.List.Sums.{sum_by-set}
 use Rattle.std.proofs.lemmas.List.Elements.{All-push}
 use Rattle.std.proofs.lemmas.Bool.{false≢true}
-use Rattle.std.proofs.lemmas.Bool.Decides.{nat_tests}
-use Rattle.std.proofs.lemmas.List.Folds.{Any-from_list_any}
 use native.Mathlib.Decide.{dec_le, ℕ_discrete}
 use Rattle.world_core.specs.declared.air.Send.{Send}
 use Rattle.world_core.specs.declared.world.WorldFacts.{WorldFacts}
-use Rattle.world_core.specs.declared.air.Link.{Link}
-use Rattle.world_core.specs.Topology.{Topology, is_linked, is_needed, latency_of}
+use Rattle.world_core.specs.Topology.{is_needed, latency_of}
 use Rattle.world_core.specs.Heard.{heard}
 use Rattle.world_core.specs.Sends.{sends_below, IsSendNumber}
 use Rattle.world_core.specs.Posted.{sent_of, AllPostedFor}
@@ -35,19 +32,9 @@ use Rattle.node_runner.specs.Scenario.{ScenarioOf, IsScenario, fleet_of}
 use Rattle.node_runner.specs.Place.{Place, is_live, state_at, sends_passed}
 use Rattle.node_runner.proofs.Sound.{sound, scenario_lawful}
 use Rattle.node_runner.specs.Flight.{epoch, place_at, IsAt, IsTaken, Advanced, PostsNothing, PostsOne, rank}
+use Rattle.node_runner.proofs.Near.{near_link}
 use Rattle.node_runner.proofs.Places.{still_over, live_taken, bool_cases, home, away}
 use Rattle.fleet_plain.specs.Flight.{InFlight, HearsRight, CanPost, IsLow}
-
--- a bound of the latency of each link is one of the latency from a node to one that hears it
-joined : (m k : ℕ) (y : Link) → ((y.from == m) && (y.to == k)) ≡ true → (y.from ≡ m) × (y.to ≡ k)
-joined m k y e = (grind (arith, nat_tests), grind (arith, nat_tests))
-
-near_link : (t : Topology) (ahead m k : ℕ) → All (λ l. ahead ≤ latency_of t l.from l.to) t.links → is_linked t m k ≡ true → ahead ≤ latency_of t m k
-near_link t ahead m k each e =
-    let (i, y, lt, at, q) = Any-from_list_any (λ (l : Link). (l.from == m) && (l.to == k)) t.links e in
-    let own : ahead ≤ latency_of t y.from y.to = subst (λ (l : Link). ahead ≤ latency_of t l.from l.to) at (each i y lt) in
-    let ends = joined m k y q in
-    subst (λ (n : ℕ). ahead ≤ latency_of t n k) ends.0 (subst (λ (n : ℕ). ahead ≤ latency_of t y.from n) ends.1 own)
 
 module _ (sc : ScenarioOf) (floor end : ℕ) (ps : List Place) (sends : List Send) (ok : IsScenario sc) (limit : end ≤ sc.topo.limit) (fl : InFlight sc floor end ps sends) where
   abbrev f : Fleet NodeState Row

@@ -29,7 +29,8 @@ use Rattle.node_runner.specs.Gather.{start_of}
 use Rattle.node_runner.proofs.Gathered.{agree_by, over_at}
 use Rattle.node_runner.proofs.Places.{still_calm}
 use Rattle.node_runner.proofs.Sound.{sound, scenario_lawful}
-use Rattle.fleet_plain.specs.Kept.{AreOrdered, HasCome, kept_at}
+use Rattle.node_runner.specs.Run.{kept_at}
+use Rattle.fleet_plain.specs.Kept.{AreOrdered, HasCome}
 use Rattle.fleet_plain.specs.Run.{IsResting}
 
 abbrev cycle_of : Send → ℕ

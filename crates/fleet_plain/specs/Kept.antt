@@ -1,17 +1,11 @@
--- What a run shows between two epochs beside its rows: where its nodes stand, and the sends that can still be heard.
+-- What a run shows between two epochs beside its rows: where its nodes stand, and the sends that can still be heard in order.
 use Rattle.std.specs.Prelude.{◌≡◌, ◌⊎◌, ℕ, ◌≤◌, true, false, is_some, List}
-use Rattle.std.specs.List.{filter}
 use Rattle.std.specs.List.Sorted.{IsNonDecreasingBy, IsStableByKey}
 use Rattle.std.specs.Ordering.{nat_cmp}
 use Rattle.world_core.specs.declared.air.Send.{Send}
-use Rattle.world_core.specs.Kept.{is_kept}
-use Rattle.world_core.specs.Order.{node_at, world_at}
+use Rattle.world_core.specs.Order.{node_at}
 use Rattle.node_runner.specs.Scenario.{ScenarioOf, fleet_of}
 use Rattle.node_runner.specs.Place.{Place, state_at}
-
--- the world's sends that are kept at cycle c, in order of cycle, then node
-abbrev pub kept_at : ScenarioOf → ℕ → List Send
-kept_at sc c = filter (is_kept sc.topo c) (world_at (fleet_of sc) c).sends
 
 -- a runner of node k that has come to cycle c, or stopped before it: its node is in the state that it has at cycle c
 pub record HasCome (sc : ScenarioOf) (c k : ℕ) (p : Place) : Type 0 where

@@ -7,9 +7,8 @@ use Rattle.world_core.specs.Chain.{LogFacts}
 use Rattle.node_runner.specs.Scenario.{ScenarioOf, IsScenario}
 use Rattle.node_runner.specs.Place.{Place, is_live}
 use Rattle.node_runner.specs.Flight.{epoch}
-use Rattle.node_runner.specs.Run.{RunAt}
+use Rattle.node_runner.specs.Run.{RunAt, kept_at}
 use Rattle.fleet_plain.specs.Flight.{InFlight}
-use Rattle.fleet_plain.specs.Kept.{kept_at}
 
 -- all nodes have come to the floor, or stopped before
 pub record IsResting (sc : ScenarioOf) (floor : ℕ) (ps : List Place) (log : LogFacts) : Type 0 where

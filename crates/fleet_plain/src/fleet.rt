@@ -1,7 +1,7 @@
 // Steps of all nodes.
 ghost use Rattle.std.specs.Prelude.{◌≡◌, ◌<◌, ◌≤◌, ◌+◌, true, false, length, OnOk};
 ghost use Rattle.std.specs.List.{All};
-ghost use Rattle.world_core.specs.Topology.{IsInside, latency_of};
+ghost use Rattle.world_core.specs.Topology.{IsInside};
 ghost use Rattle.world_core.specs.Kept.{kept_room_of};
 ghost use Rattle.node_runner.specs.Place.{is_live};
 ghost use Rattle.node_runner.specs.Scenario.{IsScenario};
@@ -9,8 +9,8 @@ ghost use Rattle.node_runner.specs.Flight.{epoch, IsAt, Advanced};
 ghost use Rattle.fleet_plain.specs.Flight.{InFlight, HearsRight, CanPost, IsLow, IsTurn};
 
 use avr_base::NoMemory;
-use node_runner::{Event, Runner, Scenario};
-use world_core::{EPOCH, SendLog, Topo};
+use node_runner::{Event, Runner, Scenario, lookahead};
+use world_core::{SendLog, Topo};
 
 // The cycles of one turn of a node, at most.
 const QUANTUM: u64 = 1_024;
@@ -20,19 +20,6 @@ const QUANTUM: u64 = 1_024;
 struct Turn {
     number: usize,
     low: u64,
-}
-
-// How many cycles a node may be ahead of all others and yet hear all that it can: the least latency of all links, in cycles.
-// Where nobody hears anybody, that is an epoch.
-fn lookahead(topo: &Topo) -> u64
-    ensures some { 1 ≤ result }
-    ensures each { All (λ l. result ≤ latency_of topo.now l.from l.to) topo.now.links }
-{
-    let mut least = EPOCH;
-    for link in topo.links() {
-        least = least.min(topo.latency_of(link.from, link.to));
-    }
-    least
 }
 
 // The live runner with the lowest cycle.

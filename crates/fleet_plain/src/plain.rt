@@ -4,8 +4,8 @@ ghost use Rattle.world_core.specs.Kept.{kept_room_of};
 ghost use Rattle.world_core.specs.Order.{run_rows};
 ghost use Rattle.node_runner.specs.Scenario.{fleet_of, IsScenario};
 ghost use Rattle.node_runner.specs.Flight.{epoch, place_at};
-ghost use Rattle.node_runner.specs.Run.{rows_upto};
-ghost use Rattle.fleet_plain.specs.Kept.{HasCome, kept_at};
+ghost use Rattle.node_runner.specs.Run.{kept_at, rows_upto};
+ghost use Rattle.fleet_plain.specs.Kept.{HasCome};
 ghost use Rattle.fleet_plain.specs.Run.{IsResting};
 ghost use Rattle.node_runner.specs.Place.{Place};
 

@@ -5,3 +5,4 @@ pub mod Advance
 pub mod Places
 pub mod Gathered
 pub mod Epoch
+pub mod Near

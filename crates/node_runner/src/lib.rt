@@ -7,12 +7,14 @@
 //! the single global order.
 #![tactic(auto)]
 
+mod latency;
 mod law;
 mod order;
 mod restore;
 mod runner;
 mod scenario;
 
+pub use latency::lookahead;
 pub use law::order_law;
 pub use order::sort;
 pub use runner::{Event, Runner};

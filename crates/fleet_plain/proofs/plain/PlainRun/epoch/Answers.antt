@@ -1,8 +1,8 @@
 use Rattle.std.proofs.Common.{◌≡◌, ℕ, ◌+◌, ◌++◌, ◌≤◌, List, false, min, sym, subst, ap, ◌∙◌, arith}
 use Rattle.world_core.specs.declared.air.Send.{Send}
 use Rattle.node_runner.specs.Scenario.{ScenarioOf, IsScenario, fleet_of}
-use Rattle.node_runner.specs.Run.{RunAt, rows_upto}
-use Rattle.fleet_plain.specs.Kept.{AreOrdered, kept_at}
+use Rattle.node_runner.specs.Run.{RunAt, kept_at, rows_upto}
+use Rattle.fleet_plain.specs.Kept.{AreOrdered}
 use Rattle.fleet_plain.specs.Run.{IsResting}
 use Rattle.fleet_plain.proofs.KeptSends.{kept_sends}
 use Rattle.fleet_plain.proofs.plain.PlainRun.epoch.Goals as goal

@@ -1,6 +1,5 @@
 use Rattle.std.proofs.Common.{◌≡◌, ◌∙◌, ap, false}
-use Rattle.node_runner.specs.Run.{RunAt}
-use Rattle.fleet_plain.specs.Kept.{kept_at}
+use Rattle.node_runner.specs.Run.{RunAt, kept_at}
 use Rattle.fleet_plain.proofs.plain.PlainRun.sends.Goals as goal
 
 pub returns : goal.returns

@@ -1,0 +1,9 @@
+pub mod Trails
+pub mod Ordered
+pub mod Hearing
+pub mod Pauses
+pub mod NodeIs
+pub mod EachNode
+pub mod OnwardRows
+pub mod Records
+pub mod Continues

@@ -1,0 +1,37 @@
+use Rattle.std.proofs.Common.{◌≡◌, ℕ, ◌<◌, false, List, sym, subst, ap, ◌∙◌, arith}
+use Rattle.std.specs.List.{All}
+use Rattle.std.proofs.lemmas.List.Elements.{All-weaker}
+use Rattle.world_core.specs.declared.air.Send.{Send}
+use Rattle.world_core.specs.Topology.{Topology}
+use Rattle.node_runner.specs.Scenario.{ScenarioOf}
+use Rattle.state_text.specs.Text.{StateOf}
+use Rattle.checkpoint_text.specs.Onward.{SavedAt}
+use Rattle.checkpoint_text.specs.Paused.{IsSaved}
+use Rattle.checkpoint_text.proofs.OnwardRows.{first_paused}
+use Rattle.checkpoint_text.proofs.saved.Saved.new.Goals as goal
+
+pub record_of-requires-clause-nodes : goal.record_of-requires-clause-nodes
+record_of-requires-clause-nodes c =
+    let st : StateOf = c.args.state.now in
+    let sends : c.deref.result.now ≡ st.sends = c.deref.ensures.value ∙ ap (λ (s : StateOf). s.sends) c.state.view_is in
+    let most = c.lawful_topo.ensures.sound.topo.ranges.nodes_to in
+    subst (All (λ (x : Send). x.node < 64)) (sym sends)
+    (All-weaker (λ (x : Send). (x.node < c.args.scenario.now.topo.nodes) × (x.cycle < st.cycle)) (λ (x : Send). x.node < 64) (λ x h. (let n = h.0 in omega arith)) st.sends c.requires.sends)
+
+pub invariant_of-result : goal.invariant_of-result
+invariant_of-result c =
+    let sc : ScenarioOf = c.args.scenario.now in
+    let st : StateOf = c.args.state.now in
+    let cycle : c.state.inside.cycle ≡ st.cycle = ap (λ (s : StateOf). s.cycle) c.state.view_is in
+    let sends : c.deref.result.now ≡ st.sends = c.deref.ensures.value ∙ ap (λ (s : StateOf). s.sends) c.state.view_is in
+    let limit : c.limit-limit.result ≡ sc.topo.limit = c.limit-limit.ensures.value ∙ ap (λ (t : Topology). t.limit) c.lawful_topo.ensures.value in
+    let early = c.requires.early in
+    let begun : IsSaved (record { scenario = sc; state = st; floor = st.cycle; failed = false }) c.limit-limit.result c.in_ok-nodes.nodes.items c.in_ok-log.log.sends = record {
+      scenario = c.lawful_topo.ensures.sound;
+      limit = limit;
+      within = omega arith;
+      paused = (λ e. first_paused sc st c.in_ok-nodes.nodes.items c.in_ok-log.log.sends c.requires c.in_ok-nodes.ensures (c.in_ok-log.ensures ∙ sends));
+    } in
+    let at : (record { scenario = sc; state = st; floor = st.cycle; failed = false }) ≡ (record { scenario = c.of.result.value; state = c.of-2.result.value; floor = c.state.inside.cycle; failed = false }) =
+    (λ i. record { scenario = sym c.of.ensures i; state = sym c.of-2.ensures i; floor = sym cycle i; failed = false }) in
+    subst (λ (a : SavedAt). IsSaved a c.limit-limit.result c.in_ok-nodes.nodes.items c.in_ok-log.log.sends) at begun

@@ -1,0 +1,4 @@
+pub mod NodeOf
+pub mod Onward
+pub mod Alone
+pub mod Paused

@@ -1,0 +1,45 @@
+-- The run onward from a saved state: the nodes of the state, in the cycle of the state, with the sends that may still be heard,
+-- go on in the single global order of cycles. Own to this simulator.
+use Rattle.std.specs.Prelude.{◌≡◌, ℕ, ◌<◌, Bool, List, [], length, None, slice_index_or}
+use Rattle.std.specs.List.{All}
+use Rattle.world_core.specs.Chain.{Rises}
+use Rattle.world_core.specs.Order.{Fleet}
+use Rattle.node_core.specs.declared.row.Row.{Row}
+use Rattle.node_core.specs.Restored.{fault_of}
+use Rattle.node_core.specs.State.{NodeState}
+use Rattle.node_runner.specs.Scenario.{ScenarioOf, fleet_of}
+use Rattle.state_text.specs.Text.{NodeOf, StateOf}
+use Rattle.checkpoint_text.specs.NodeOf.{node_of}
+
+abbrev no_node : NodeOf
+no_node = record { numbers = []; io = []; sram = [] }
+
+-- what the state has of node k
+abbrev pub saved_node : StateOf → ℕ → NodeOf
+saved_node st k = slice_index_or st.nodes k no_node
+
+-- the nodes of the state, from its cycle on; `run_rows` of it is the rest of the trace
+abbrev pub onward : ScenarioOf → StateOf → Fleet NodeState Row
+onward sc st = record (fleet_of sc) { start = st.cycle; begins = λ k. node_of sc k (saved_node st k); sent = st.sends }
+
+-- what is saved of a node is that of one that has reached a cycle
+pub record IsFit (cycle : ℕ) (n : NodeOf) : Type 0 where
+  pub count : length n.numbers ≡ 108
+  pub io_count : length n.io ≡ 224
+  pub sram_count : length n.sram ≡ 4096
+  pub fault : fault_of cycle n.numbers n.io ≡ None
+
+-- a state from which the scenario can go on, be it one that a run comes to or not
+pub record CanResume (sc : ScenarioOf) (st : StateOf) : Type 0 where
+  pub early : st.cycle < sc.topo.limit
+  pub count : length st.nodes ≡ sc.topo.nodes
+  pub nodes : All (IsFit st.cycle) st.nodes
+  pub sends : All (λ x. (x.node < sc.topo.nodes) × (x.cycle < st.cycle)) st.sends
+  pub rises : Rises st.sends
+
+-- a run onward: the scenario, the state that it began in, the cycle reached, and whether there was want of memory
+pub record SavedAt : Type 0 where
+  pub scenario : ScenarioOf
+  pub state : StateOf
+  pub floor : ℕ
+  pub failed : Bool

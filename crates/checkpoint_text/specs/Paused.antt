@@ -1,0 +1,65 @@
+-- All nodes of a run at one cycle, and the record of the sends that may still be heard. These are words of contracts.
+use Rattle.std.specs.Prelude.{◌≡◌, ℕ, ◌<◌, ◌≤◌, false, List, [], ◌∷◌, length}
+use Rattle.std.specs.List.{All, filter}
+use Rattle.world_core.specs.declared.air.Send.{Send}
+use Rattle.world_core.specs.Chain.{IsAfter, Rises}
+use Rattle.world_core.specs.Kept.{is_kept}
+use Rattle.world_core.specs.NodeRun.{Timed}
+use Rattle.world_core.specs.Order.{Fleet, node_at, rows_between, world_at}
+use Rattle.world_core.specs.Sends.{sends_of}
+use Rattle.node_core.specs.declared.row.Row.{Row}
+use Rattle.node_core.specs.State.{NodeState}
+use Rattle.node_core.specs.Cycle.{end_row}
+use Rattle.world_core.specs.Each.{each_below}
+use Rattle.node_runner.specs.Scenario.{IsScenario, ScenarioOf}
+use Rattle.state_text.specs.Text.{StateOf}
+use Rattle.checkpoint_text.specs.Alone.{HasRun, node_in}
+use Rattle.checkpoint_text.specs.NodeOf.{node_of}
+use Rattle.checkpoint_text.specs.Onward.{SavedAt, onward, saved_node}
+
+-- node k has come to cycle c, or stopped before it, and has its rows from the cycle `since` on
+pub record AtRest {S R : Type 0} (f : Fleet S R) (since c k : ℕ) (v : Timed S R) : Type 0 where
+  pub calm : v.asking ≡ false
+  pub has : HasRun f.kind c v
+  pub state : v.state ≡ node_at f k c
+  pub rows : v.rows ≡ rows_between f k since c
+
+-- so have all nodes; of each node's sends the record has in order those that are kept
+pub record IsPaused {S R : Type 0} (f : Fleet S R) (since c : ℕ) (vs : List (Timed S R)) (xs : List Send) : Type 0 where
+  pub begun : f.start ≤ since
+  pub later : since ≤ c
+  pub count : length vs ≡ f.topo.nodes
+  pub nodes : (k : ℕ) (d : Timed S R) → k < f.topo.nodes → AtRest f since c k (node_in vs k d)
+  pub kept : (k : ℕ) → sends_of k (filter (is_kept f.topo c) xs) ≡ sends_of k (filter (is_kept f.topo c) (world_at f c).sends)
+  pub inside : All (λ x. (x.node < f.topo.nodes) × (x.cycle < c)) xs
+  pub rises : Rises xs
+
+-- what holds of the inside of a run onward
+pub record IsSaved (a : SavedAt) (last : ℕ) (vs : List (Timed NodeState Row)) (xs : List Send) : Type 0 where
+  pub scenario : IsScenario a.scenario
+  pub limit : last ≡ a.scenario.topo.limit
+  pub within : a.floor ≤ last
+  pub paused : a.failed ≡ false → IsPaused (onward a.scenario a.state) a.floor a.floor vs xs
+
+-- the rows of all nodes, one node's after another's, which were taken from them
+pub record IsGathered {S R : Type 0} (vs ws : List (Timed S R)) (all : List R) : Type 0 where
+  pub count : length ws ≡ length vs
+  pub nodes : (k : ℕ) (d : Timed S R) → k < length vs → node_in ws k d ≡ record (node_in vs k d) { rows = [] }
+  pub rows : (d : Timed S R) → all ≡ each_below (length vs) (λ k. (node_in vs k d).rows)
+
+-- the last rows of the first n nodes
+abbrev pub ends_of : ℕ → ℕ → List (Timed NodeState Row) → Timed NodeState Row → List Row
+ends_of limit n vs d = each_below n (λ k. end_row limit (node_in vs k d).state ∷ [])
+
+-- the first n nodes, as the state has them
+pub record AllRestored (sc : ScenarioOf) (st : StateOf) (n : ℕ) (vs : List (Timed NodeState Row)) : Type 0 where
+  pub count : length vs ≡ n
+  pub nodes : (k : ℕ) (d : Timed NodeState Row) → k < n → node_in vs k d ≡ record { cycle = st.cycle; asking = false; state = node_of sc k (saved_node st k); rows = [] }
+
+-- a record of these sends takes those ones behind them
+pub record CanPost (xs ys : List Send) : Type 0 where
+  pub old_nodes : All (λ x. x.node < 64) xs
+  pub new_nodes : All (λ x. x.node < 64) ys
+  pub old_rises : Rises xs
+  pub new_rises : Rises ys
+  pub behind : All (λ x. All (λ y. IsAfter y x) ys) xs

@@ -1,0 +1,177 @@
+// A run that goes on from a saved state.
+ghost use Rattle.std.specs.Prelude.{◌≡◌, ◌<◌, ◌≤◌, ◌+◌, ◌++◌, ◌==◌, [], min, true, false, length, IfOk, OnOk};
+ghost use Rattle.std.specs.List.{All};
+ghost use Rattle.node_runner.specs.Scenario.{IsScenario};
+ghost use Rattle.node_runner.specs.Flight.{epoch};
+ghost use Rattle.node_runner.specs.Run.{rows_upto};
+ghost use Rattle.checkpoint_text.specs.Onward.{CanResume, IsFit, onward};
+ghost use Rattle.checkpoint_text.specs.NodeOf.{node_of};
+ghost use Rattle.checkpoint_text.specs.Paused.{AllRestored};
+
+use crate::record::record_of;
+use crate::rows::rows_to;
+use avr_base::NoMemory;
+use node_core::{Node, RestoreFault, Row};
+use node_runner::Scenario;
+use state_text::{NodeParts, StateParts};
+use std::alloc::Global;
+use std::marker::Model;
+use std::snapshot::Snapshot;
+use world_core::{EPOCH, SendLog};
+
+// The numbers of a node.
+fn numbers_of(numbers: &[u64]) -> [u64; 108]
+    requires { length numbers.now ≡ 108 }
+    ensures { result ≡ numbers.now }
+{
+    let mut all = [0; 108];
+    all.copy_from_slice(numbers);
+    all
+}
+
+// Node `number` of the scenario, by what is saved of it at the cycle `cycle`.
+fn node_of(
+    alloc: Global,
+    scenario: &Scenario,
+    number: u8,
+    cycle: u64,
+    parts: &NodeParts,
+) -> Result<Node, NoMemory>
+    requires number { number < scenario.now.topo.nodes }
+    requires cycle { cycle < scenario.now.topo.limit }
+    requires fits { IsFit cycle parts.now }
+    ensures { IfOk result (λ node. node ≡ record { cycle = cycle; asking = false; state = node_of scenario.now number parts.now; rows = [] }) }
+{
+    let _lawful = scenario.lawful_topo();
+    let numbers = numbers_of(&parts.numbers);
+    match scenario.restore(alloc, number, cycle, &numbers, &parts.io, &parts.sram) {
+        Ok(node) => Ok(node),
+        Err(_) => Err(NoMemory),
+    }
+}
+
+// The nodes of the scenario, in order.
+fn nodes_of(alloc: Global, scenario: &Scenario, state: &StateParts) -> Result<Vec<Node>, NoMemory>
+    requires { CanResume scenario.now state.now }
+    ensures { IfOk result (λ nodes. AllRestored scenario.now state.now (length state.now.nodes) nodes.items) }
+{
+    let _lawful = scenario.lawful_topo();
+    let mut nodes = Vec::new(alloc);
+    for k in 0..state.nodes.len() {
+        let node = node_of(alloc, scenario, k as u8, state.cycle, &state.nodes[k])?;
+        if nodes.push(node).is_err() {
+            return Err(NoMemory);
+        }
+    }
+    Ok(nodes)
+}
+
+/// A run of all nodes of a scenario that goes on from a saved state, epoch by epoch, on one thread. Any state will do, be it
+/// one that a run comes to or not.
+pub struct Saved {
+    alloc: Global,
+    scenario: Snapshot<Scenario>,
+    state: Snapshot<StateParts>,
+    limit: u64,
+    floor: u64,
+    failed: bool,
+    nodes: Vec<Node>,
+    log: SendLog,
+}
+
+// By hand, so that an exit that lets go of a run, here and in the crates above, has one call to prove.
+impl Drop for Saved {
+    fn drop(self) {
+        let Saved {
+            alloc: _,
+            scenario: _,
+            state: _,
+            limit: _,
+            floor: _,
+            failed: _,
+            nodes: _,
+            log: _,
+        } = self;
+    }
+}
+
+impl Model for Saved {
+    ghost use Rattle.checkpoint_text.specs.Onward.{SavedAt};
+    ghost use Rattle.checkpoint_text.specs.Paused.{IsSaved};
+
+    ghost Value = { SavedAt };
+
+    ghost view = { λ s. record { scenario = s.scenario.value; state = s.state.value; floor = s.floor; failed = s.failed } };
+
+    ghost invariant = { λ s. IsSaved record { scenario = s.scenario.value; state = s.state.value; floor = s.floor; failed = s.failed } s.limit s.nodes.items s.log.sends };
+}
+
+impl Saved {
+    /// The run before its first epoch, at the state's cycle.
+    pub(crate) fn new(
+        alloc: Global,
+        scenario: &Scenario,
+        state: &StateParts,
+    ) -> Result<Saved, NoMemory>
+        requires { CanResume scenario.now state.now }
+        ensures { IfOk result (λ saved. saved ≡ record { scenario = scenario.now; state = state.now; floor = state.now.cycle; failed = false }) }
+    {
+        let limit = scenario.lawful_topo().limit();
+        let nodes = nodes_of(alloc, scenario, state)?;
+        let log = record_of(alloc, &state.sends)?;
+        Ok(Saved {
+            alloc,
+            scenario: Snapshot::of(scenario),
+            state: Snapshot::of(state),
+            limit,
+            floor: state.cycle,
+            failed: false,
+            nodes,
+            log,
+        })
+    }
+
+    /// The cycle that all nodes have reached, or stopped before: that of the state at first, and the end of the last epoch
+    /// after it.
+    pub fn cycle(&self) -> u64
+        ensures { result ≡ self.now.floor }
+    {
+        self.floor
+    }
+
+    /// Whether the limit is reached, so that no epoch is left.
+    pub fn done(&self) -> bool
+        ensures value { result ≡ (self.now.floor == self.now.scenario.topo.limit) }
+        ensures within { self.now.floor ≤ self.now.scenario.topo.limit }
+        ensures sound { IsScenario self.now.scenario }
+    {
+        self.floor == self.limit
+    }
+
+    /// The rows of the next epoch, cycle by cycle and in a cycle node by node, with the last row of each node after the last
+    /// epoch. The scenario is the one of the state. After `NoMemory` the run can only be dropped.
+    pub fn epoch(&mut self, scenario: &Scenario) -> Result<Vec<Row>, NoMemory>
+        requires same { scenario.now ≡ self.old.scenario }
+        requires more { self.old.floor < self.old.scenario.topo.limit }
+        requires sound { self.old.failed ≡ false }
+        ensures rows { IfOk result (λ v. rows_upto (onward scenario.now self.old.state) self.new.floor ≡ rows_upto (onward scenario.now self.old.state) self.old.floor ++ v.items) }
+        ensures after { OnOk result (self.new ≡ record self.old { floor = min (self.old.floor + epoch) self.old.scenario.topo.limit }) }
+        ensures scenario { self.new.scenario ≡ self.old.scenario }
+        ensures state { self.new.state ≡ self.old.state }
+    {
+        self.failed = true;
+        let end = (self.floor + EPOCH).min(self.limit);
+        let rows = rows_to(
+            self.alloc,
+            &self.state,
+            &mut self.nodes,
+            &mut self.log,
+            scenario,
+            self.floor,
+            end,
+        )?;
+        self.floor = end;
+        self.failed = false;
+        Ok(rows)
+    }
+}
