@@ -1,8 +1,9 @@
--- The array of rules in the code is the table, no address beside it has a row, and the start values.
-use Rattle.std.proofs.Common.{◌≡◌, ℕ, ◌+◌, ◌-◌, ◌==◌, ◌≤◌, ◌&&◌, nat_le, Bool, true, false, List, [], ◌∷◌, Ok, Err, refl, sym, ap, ◌∙◌, arith, get_or}
+-- The array of rules in the code is the table, no address past it has a row, and the start values.
+use Rattle.std.proofs.Common.{◌≡◌, ℕ, ◌==◌, ◌<◌, ◌≤◌, nat_le, Bool, true, false, List, [], ◌∷◌, Ok, Err, refl, sym, ap, ◌∙◌, arith, zero-add, get_or}
 use Rattle.std.specs.Prelude.{IfErr, IfOk, OnErr, Result, map, replicate, slice_set}
 use Rattle.std.specs.List.{list_all, list_any, range_with_len}
-use Rattle.std.proofs.lemmas.Bool.{and_parts, eqb-true, false_from_ne_true, false≢true, leb-true}
+use Rattle.std.proofs.lemmas.Bool.{and_parts}
+use Rattle.std.proofs.lemmas.Bool.Decides.{nat_tests}
 use Rattle.std.proofs.lemmas.List.FromFn.{get_or-map-range_with_len}
 use Rattle.avr_base.specs.declared.stop.StopCause.{StopCause}
 use Rattle.avr_base.specs.declared.stop.StopCause.TheVariants as stop
@@ -14,53 +15,45 @@ use Rattle.board_io.specs.Names.{MCUCSR, PORF, TWAR, TWDR, TWSR, UCSR1A, UCSR1C}
 use Rattle.board_io.specs.Registers.{IsGot, get_by, io_get, io_put, put_by}
 use Rattle.board_io.specs.Table.{RegisterRow, first_rule, rule_of, start_of, table}
 
-rules_are : RULES ≡ map rule_of (range_with_len 0x20 0x80)
+rules_are : RULES ≡ map rule_of (range_with_len 0 0xA0)
 unfolding rule_of
 rules_are = refl
 
-pub rule_is : (at : ℕ) → 0x20 ≤ at → at ≤ 0x9F → get_or RULES (at - 0x20) Reserved ≡ rule_of at
-rule_is at low high =
-    let there : 0x20 + (at - 0x20) ≡ at = omega arith in
-    ap (λ (rs : List Rule). get_or rs (at - 0x20) Reserved) rules_are ∙ get_or-map-range_with_len rule_of 0x20 0x80 (at - 0x20) at Reserved (omega arith) there
+pub rule_is : (at : ℕ) → at ≤ 0x9F → get_or RULES at Reserved ≡ rule_of at
+rule_is at h = ap (λ (rs : List Rule). get_or rs at Reserved) rules_are ∙ get_or-map-range_with_len rule_of 0 0xA0 at at Reserved (omega arith) (zero-add at)
 
--- ---- beside the table
-abbrev has_rule : ℕ → Bool
-has_rule a = nat_le 0x20 a && nat_le a 0x9F
+-- ---- past the table
+abbrev is_low : RegisterRow → Bool
+is_low r = list_all (λ a. nat_le a 0x9F) r.ats
 
-abbrev is_within : RegisterRow → Bool
-is_within r = list_all has_rule r.ats
-
-none_at : (ats : List ℕ) (at : ℕ) → has_rule at ≡ false → list_all has_rule ats ≡ true → list_any (λ a. a == at) ats ≡ false
+none_at : (ats : List ℕ) (at : ℕ) → 0x9F < at → list_all (λ a. nat_le a 0x9F) ats ≡ true → list_any (λ a. a == at) ats ≡ false
 none_at [] at h e = refl
 none_at (a ∷ ats) at h e =
-    let p = and_parts (has_rule a) (list_all has_rule ats) e in
-    let other = false_from_ne_true (a == at) (λ e. false≢true (sym h ∙ (ap has_rule (sym (eqb-true a at e)) ∙ p.0))) in
-    rw other (none_at ats at h p.1)
+    let p = and_parts (nat_le a 0x9F) (list_all (λ b. nat_le b 0x9F) ats) e in
+    let off : (a == at) ≡ false = grind (arith, nat_tests, p.0) in
+    rw off (none_at ats at h p.1)
 
-rule_none : (rs : List RegisterRow) (at : ℕ) → has_rule at ≡ false → list_all is_within rs ≡ true → first_rule rs at ≡ Reserved
+rule_none : (rs : List RegisterRow) (at : ℕ) → 0x9F < at → list_all is_low rs ≡ true → first_rule rs at ≡ Reserved
 rule_none [] at h e = refl
 rule_none (r ∷ rs) at h e =
-    let p = and_parts (is_within r) (list_all is_within rs) e in
+    let p = and_parts (is_low r) (list_all is_low rs) e in
     let off = none_at r.ats at h p.0 in
     rw (off, first_rule) (rule_none rs at h p.1)
 
-all_within : list_all is_within table ≡ true
-all_within = refl
+all_low : list_all is_low table ≡ true
+all_low = refl
 
-pub rule_beside : (at : ℕ) → has_rule at ≡ false → rule_of at ≡ Reserved
+pub rule_past : (at : ℕ) → 0x9F < at → rule_of at ≡ Reserved
 unfolding rule_of
-rule_beside at h = rule_none table at h all_within
+rule_past at h = rule_none table at h all_low
 
-pub no_rule : (at : ℕ) → (0x20 ≤ at → at ≤ 0x9F → ⊥) → has_rule at ≡ false
-no_rule at h = false_from_ne_true (has_rule at) (λ e. let p = and_parts (nat_le 0x20 at) (nat_le at 0x9F) e in h (leb-true 0x20 at p.0) (leb-true at 0x9F p.1))
-
-pub get_beside : (b : Board) (at : ℕ) → has_rule at ≡ false → io_get b at ≡ Err stop.ReservedAddress
+pub get_past : (b : Board) (at : ℕ) → 0x9F < at → io_get b at ≡ Err stop.ReservedAddress
 unfolding io_get
-get_beside b at h = ap (λ r. get_by r b at) (rule_beside at h)
+get_past b at h = ap (λ r. get_by r b at) (rule_past at h)
 
-pub put_beside : (b : Board) (at x : ℕ) → has_rule at ≡ false → io_put b at x ≡ Err stop.ReservedAddress
+pub put_past : (b : Board) (at x : ℕ) → 0x9F < at → io_put b at x ≡ Err stop.ReservedAddress
 unfolding io_put
-put_beside b at x h = ap (λ r. put_by r b at x) (rule_beside at h)
+put_past b at x h = ap (λ r. put_by r b at x) (rule_past at h)
 
 -- ---- an access, by the rule that the array has
 module _ (b : Board) (at : ℕ) (rule : Rule) (e : rule ≡ rule_of at) where

@@ -5,7 +5,7 @@ ghost use Rattle.board_io.specs.Lagging.{is_spdr, is_udr, is_plain_read, is_time
 use crate::LaggingBoard;
 use crate::names::{ETIMSK, TIMSK};
 use crate::rules::{LAST, Rule, listed_rule};
-use avr_base::{IO_START, StopCause};
+use avr_base::StopCause;
 use data_space::Bus;
 use serial_ports::{SpiReg, UsartReg};
 
@@ -169,7 +169,7 @@ impl Bus for LaggingBoard {
 
     #[tactic(auto, unfolding(crate::specs::Registers::io_get))]
     fn get(&mut self, at: u16) -> Result<u8, StopCause> {
-        if at < IO_START || at > LAST {
+        if at > LAST {
             return Err(StopCause::ReservedAddress);
         }
         let low = at as u8;
@@ -185,7 +185,7 @@ impl Bus for LaggingBoard {
 
     #[tactic(auto, unfolding(crate::specs::Registers::io_put))]
     fn put(&mut self, at: u16, b: u8) -> Result<(), StopCause> {
-        if at < IO_START || at > LAST {
+        if at > LAST {
             return Err(StopCause::ReservedAddress);
         }
         let low = at as u8;

@@ -7,7 +7,7 @@ use crate::names::{
     TOV2, TOV3, WDCE, WDE,
 };
 use crate::rules::{LAST, Rule, listed_rule};
-use avr_base::{IO_START, StopCause};
+use avr_base::StopCause;
 use avr_timers::TimerFlags;
 use data_space::Bus;
 use device_base::{any_bit, bit};
@@ -207,7 +207,7 @@ impl Bus for Board {
 
     #[tactic(auto, unfolding(crate::specs::Registers::io_get))]
     fn get(&mut self, at: u16) -> Result<u8, StopCause> {
-        if at < IO_START || at > LAST {
+        if at > LAST {
             return Err(StopCause::ReservedAddress);
         }
         self.get_by(listed_rule(at), at as u8)
@@ -215,7 +215,7 @@ impl Bus for Board {
 
     #[tactic(auto, unfolding(crate::specs::Registers::io_put))]
     fn put(&mut self, at: u16, b: u8) -> Result<(), StopCause> {
-        if at < IO_START || at > LAST {
+        if at > LAST {
             return Err(StopCause::ReservedAddress);
         }
         self.put_by(listed_rule(at), at as u8, b)

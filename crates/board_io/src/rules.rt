@@ -6,7 +6,7 @@ use crate::names::{
     ACIC, ACIE, ADEN, ADSC, AS0, EEMWE, EERE, EERIE, EEWE, PORTA, PORTB, PORTC, PORTD, PORTE,
     PORTF, PORTG, PSR0, PSR321, RXEN1, TICIE1, TICIE3, TSM, TWEN, TXEN1, XDIVEN,
 };
-use avr_base::{IO_START, StopCause};
+use avr_base::StopCause;
 use avr_timers::{Chan, Reg8, Reg16};
 use serial_ports::{SpiReg, UsartReg};
 
@@ -47,11 +47,45 @@ pub enum Rule {
     Spi(SpiReg),
 }
 
-/// The data address of the last rule of the table, whose first is that of `IO_START`. All others are reserved.
+/// The data address of the last rule of the table. Past it all are reserved.
 pub(crate) const LAST: u16 = 0x9F;
 
-// The rules of the data addresses `IO_START` to `LAST`, in the order of docs/MACHINE.md.
-static RULES: [Rule; 128] = [
+// The rules of the data addresses up to `LAST`, in the order of docs/MACHINE.md. It begins at 0, so that a look-up does
+// not subtract, though below 0x20 stand the general registers, which are the core's.
+static RULES: [Rule; 160] = [
+    // 0x00 to 0x1F
+    Rule::Reserved,
+    Rule::Reserved,
+    Rule::Reserved,
+    Rule::Reserved,
+    Rule::Reserved,
+    Rule::Reserved,
+    Rule::Reserved,
+    Rule::Reserved,
+    Rule::Reserved,
+    Rule::Reserved,
+    Rule::Reserved,
+    Rule::Reserved,
+    Rule::Reserved,
+    Rule::Reserved,
+    Rule::Reserved,
+    Rule::Reserved,
+    Rule::Reserved,
+    Rule::Reserved,
+    Rule::Reserved,
+    Rule::Reserved,
+    Rule::Reserved,
+    Rule::Reserved,
+    Rule::Reserved,
+    Rule::Reserved,
+    Rule::Reserved,
+    Rule::Reserved,
+    Rule::Reserved,
+    Rule::Reserved,
+    Rule::Reserved,
+    Rule::Reserved,
+    Rule::Reserved,
+    Rule::Reserved,
     Rule::Pin(PORTF), // 0x20 PINF
     Rule::Pin(PORTE), // 0x21 PINE
     Rule::Kept(0xFF), // 0x22 DDRE
@@ -185,11 +219,10 @@ static RULES: [Rule; 128] = [
 /// The rule of a data address of the table.
 #[inline]
 pub(crate) fn listed_rule(at: u16) -> Rule
-    requires first { 0x20 ≤ at }
-    requires last { at ≤ 0x9F }
+    requires { at ≤ 0x9F }
     ensures { result ≡ rule_of at }
 {
-    RULES[usize::from(at - IO_START)]
+    RULES[usize::from(at)]
 }
 
 /// The rule of a data address below 0x0100.
@@ -197,7 +230,7 @@ pub(crate) fn rule_at(at: u8) -> Rule
     ensures { result ≡ rule_of at }
 {
     let at = u16::from(at);
-    if at < IO_START || at > LAST {
+    if at > LAST {
         return Rule::Reserved;
     }
     listed_rule(at)

@@ -1,11 +1,10 @@
 -- An instruction that jumps to itself: rounds of it, each of which leaves all as it is but for the cycle and the count.
-use Rattle.std.proofs.Common.{◌≡◌, ℕ, zero, suc, ◌+◌, ◌*◌, ◌≤◌, ◌<◌, ◌^◌, ◌%◌, ◌==◌, ◌&&◌, nat_lt, nat_le, Bool, true, false, None, List, refl, sym, subst, ap, ◌∙◌, arith, add-zero}
+use Rattle.std.proofs.Common.{◌≡◌, ℕ, zero, suc, ◌+◌, ◌*◌, ◌≤◌, ◌<◌, ◌^◌, ◌%◌, ◌&&◌, nat_lt, nat_le, Bool, true, false, None, List, refl, sym, subst, ap, ◌∙◌, arith}
 use Rattle.std.proofs.lemmas.Bool.{false≢true}
 use Rattle.std.proofs.lemmas.Bool.Decides.{nat_tests}
 use Rattle.std.specs.Int.{w16, cast_unsigned}
 use Rattle.std.specs.Prelude.{Ok}
 use Rattle.avr_base.specs.Lines.{due_of}
-use Rattle.avr_base.specs.declared.interrupts.Lines.{Lines}
 use Rattle.avr_decoder.specs.declared.op.Class.TheVariants as class
 use Rattle.avr_decoder.specs.declared.op.Op.{Op}
 use Rattle.avr_decoder.specs.declared.op.Op.TheVariants as op
@@ -14,17 +13,16 @@ use Rattle.board_io.specs.Board.{clock_at, unclocked}
 use Rattle.board_io.specs.Cycle.{board_quiet, timers_leap}
 use Rattle.board_io.specs.Lagging.{IsIdle}
 use Rattle.board_io.specs.Lines.{lines_of}
-use Rattle.board_io.proofs.Lags.{leap_add, leap_clock, lines_clock}
+use Rattle.board_io.proofs.Lags.{leap_add, leap_clock}
 use Rattle.board_io.proofs.Leaps.{leap_quiet, leap_zero}
 use Rattle.bus_step.specs.FlowTable.{flow_effect}
 use Rattle.data_space.specs.declared.cpu.Cpu.{Cpu}
 use Rattle.data_space.specs.Sequence.{Outcome, done}
-use Rattle.ihex_loader.specs.Flash.{word_at}
 use Rattle.serial_ports.specs.Script.{script_byte}
 use Rattle.node_core.specs.declared.bus.NodeBus.{NodeBus}
 use Rattle.node_core.specs.declared.machine.Machine.{Machine}
-use Rattle.node_core.specs.Bus.{bus_at, bus_get, bus_put, with_board}
-use Rattle.node_core.specs.Cycle.{is_refused, is_sei, is_sleep, is_spin, op_now, owes}
+use Rattle.node_core.specs.Bus.{with_board}
+use Rattle.node_core.specs.Cycle.{is_sleep, is_spin, op_now, owes}
 use Rattle.node_core.specs.Execute.{executed}
 use Rattle.node_core.specs.Inside.{IsCalm}
 use Rattle.node_core.specs.Interrupts.{due}

@@ -1,5 +1,5 @@
 -- A sprint: what holds of it at the beginning of a cycle, and how a step takes it on or ends it.
-use Rattle.std.proofs.Common.{◌≡◌, ℕ, ◌+◌, ◌-◌, ◌≤◌, ◌^◌, ◌++◌, true, false, Option, Some, None, List, is_some, refl, sym, subst, ap, ◌∙◌, arith}
+use Rattle.std.proofs.Common.{◌≡◌, ℕ, ◌+◌, ◌-◌, ◌≤◌, ◌<◌, ◌^◌, ◌++◌, true, false, Option, Some, None, List, is_some, refl, sym, subst, ap, ◌∙◌, arith}
 use Rattle.std.proofs.lemmas.Bool.{false≢true}
 use Rattle.std.specs.Prelude.{vec_len, vec_capacity}
 use Rattle.avr_base.specs.Lines.{due_of}
@@ -13,7 +13,7 @@ use Rattle.node_core.specs.declared.machine.Machine.{Machine}
 use Rattle.node_core.specs.declared.row.Row.{Row}
 use Rattle.node_core.specs.Bus.{with_board}
 use Rattle.node_core.specs.Cycle.{instructed, instructed_rows, node_kind}
-use Rattle.node_core.specs.Inside.{IsCalm}
+use Rattle.node_core.specs.Inside.{IsCalm, MayAct}
 use Rattle.node_core.specs.Interrupts.{due}
 use Rattle.node_core.specs.Midway.{IsActed, IsMidway, IsSprinted, IsStepped}
 use Rattle.node_core.specs.Shown.{shown}
@@ -99,6 +99,13 @@ module _ (t at : ℕ) (old m : Machine) (h : IsSprinting t at old m) where
         one_more = omega (arith, count);
         from = h.from;
       }
+
+  pub may : at ≤ 2 ^ 40 → vec_len old.rows < vec_capacity old.rows → MayAct at m
+  may early room =
+      let count = h.count in
+      let len : vec_len m.rows ≡ vec_len old.rows = ap (λ x. vec_len x) h.rows in
+      let wide : vec_capacity m.rows ≡ vec_capacity old.rows = ap (λ x. vec_capacity x) h.rows in
+      record { going = h.going; free = h.free; awake = h.awake; now = h.clock; few = count; early = early; room = omega (arith, len, wide, room) }
 
   -- and goes on as another does from there
   pub joins : (c : ℕ) (x : Machine) → IsSprinted at c false m x → x.to ≡ m.to → IsSprinting t c old x

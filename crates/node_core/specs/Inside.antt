@@ -14,6 +14,17 @@ pub record IsWhole (cycle : ℕ) (asking : Bool) (m : Machine) : Type 0 where
   pub room : asking ≡ true → vec_len m.rows < vec_capacity m.rows
   pub waits : asking ≡ true → is_some m.bus.board.spi.shift_register ≡ true
 
+-- a node that, at the beginning of cycle t, neither stopped nor waits nor sleeps: it executes an instruction or enters an
+-- interrupt, and has room for the row of that
+pub record MayAct (t : ℕ) (m : Machine) : Type 0 where
+  pub going : m.stop ≡ None
+  pub free : m.wait ≡ 0
+  pub awake : m.asleep ≡ false
+  pub now : m.bus.board.clock ≡ t
+  pub few : m.count ≤ 2 ^ 40 + t
+  pub early : t ≤ 2 ^ 40
+  pub room : vec_len m.rows < vec_capacity m.rows
+
 -- n cycles from cycle t on in which the devices end nothing and no byte arrives, as far as the ends that stand now tell
 pub record IsCalm (t n : ℕ) (s : NodeState) : Type 0 where
   pub ends : (i : ℕ) → i < n → board_quiet (t + i) s.bus.board ≡ true

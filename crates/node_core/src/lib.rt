@@ -10,6 +10,7 @@ mod law;
 mod machine;
 mod node;
 mod numbers;
+mod processor;
 mod restore;
 mod rests;
 mod row;

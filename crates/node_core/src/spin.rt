@@ -1,6 +1,7 @@
 // An instruction that jumps to itself, as the one in which a program ends.
 ghost use Rattle.std.specs.Prelude.{◌≡◌, ◌≤◌, ◌<◌, ◌+◌, ◌^◌, ℕ, None, false};
 ghost use Rattle.node_core.specs.Cycle.{is_spin};
+ghost use Rattle.node_core.specs.Inside.{MayAct};
 ghost use Rattle.node_core.specs.Midway.{IsSprinted};
 ghost use Rattle.serial_ports.specs.Script.{script_byte};
 
@@ -27,14 +28,10 @@ impl Machine {
     #[inline(never)]
     pub fn spin(&mut self, pc: u16, cycle: u64, end: u64) -> u64
         requires at { self.old.cpu.pc ≡ pc }
-        requires going { self.old.stop ≡ None }
-        requires free { self.old.wait ≡ 0 }
-        requires awake { self.old.asleep ≡ false }
+        requires may { MayAct cycle self.old }
         requires behind { self.old.to ≤ cycle }
-        requires now { self.old.bus.board.clock ≡ cycle }
-        requires few { self.old.count ≤ 2 ^ 40 + cycle }
-        requires early { end ≤ 2 ^ 40 }
         requires within { cycle ≤ end }
+        requires early { end ≤ 2 ^ 40 }
         requires none { (i : ℕ) → cycle + i < end → script_byte self.old.script (cycle + i) ≡ None }
         ensures sprinted { IsSprinted cycle (cycle + result) false self.old self.new }
         ensures others { self.new ≡ record self.old { bus = self.new.bus; count = self.new.count } }

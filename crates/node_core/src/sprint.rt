@@ -1,12 +1,14 @@
 // Instructions of a node, one behind another, while nothing is due.
 ghost use Rattle.std.specs.Prelude.{◌≡◌, ◌≤◌, ◌<◌, ◌+◌, ◌^◌, ℕ, None, false, vec_len, vec_capacity};
 ghost use Rattle.node_core.specs.Cycle.{op_now};
+ghost use Rattle.node_core.specs.Inside.{MayAct};
 ghost use Rattle.node_core.specs.Shown.{shown};
 ghost use Rattle.node_core.specs.Midway.{IsSprinted, IsStep};
 ghost use Rattle.serial_ports.specs.Script.{script_byte};
 
 use crate::execute::execute_on_bus;
-use crate::machine::{Machine, is_sleep, owes};
+use crate::machine::Machine;
+use crate::processor::{is_sleep, owes};
 use avr_base::StopCause;
 use avr_decoder::Op;
 
@@ -31,14 +33,9 @@ impl Machine {
     // count and whether it owes another are written.
     #[inline(always)]
     fn step(&mut self, op: &Op, cycle: u64) -> Step
+        requires may { MayAct cycle self.old }
         requires fetched { op.now ≡ op_now (shown self.old) }
-        requires going { self.old.stop ≡ None }
-        requires awake { self.old.asleep ≡ false }
-        requires free { self.old.wait ≡ 0 }
-        requires few { self.old.count ≤ 2 ^ 41 }
-        requires now { self.old.bus.board.clock ≡ cycle }
         requires behind { self.old.to ≤ cycle }
-        requires room { vec_len self.old.rows < vec_capacity self.old.rows }
         ensures { IsStep cycle result self.old self.new }
     {
         let pc = self.cpu.pc;
@@ -75,15 +72,10 @@ impl Machine {
     /// interrupt is due and the devices end nothing.
     #[inline(always)]
     pub fn sprint(&mut self, cycle: u64, end: u64) -> Sprinted
-        requires going { self.old.stop ≡ None }
-        requires free { self.old.wait ≡ 0 }
-        requires awake { self.old.asleep ≡ false }
-        requires now { self.old.bus.board.clock ≡ cycle }
-        requires few { self.old.count ≤ 2 ^ 40 + cycle }
-        requires early { end ≤ 2 ^ 40 }
+        requires may { MayAct cycle self.old }
         requires within { cycle ≤ end }
+        requires early { end ≤ 2 ^ 40 }
         requires none { (i : ℕ) → cycle + i < end → script_byte self.old.script (cycle + i) ≡ None }
-        requires room { vec_len self.old.rows < vec_capacity self.old.rows }
         ensures sprinted { IsSprinted cycle result.at result.inside self.old self.new }
         ensures within { result.at ≤ end }
     {

@@ -5,4 +5,4 @@ use Rattle.board_io.proofs.Agree.{rule_is}
 use Rattle.board_io.proofs.rules.listed_rule.Goals as goal
 
 pub returns : goal.returns
-returns c = ap (λ i. get_or RULES i Reserved) c.from.ensures ∙ rule_is c.args.at c.requires.first c.requires.last
+returns c = ap (λ i. get_or RULES i Reserved) c.from.ensures ∙ rule_is c.args.at c.requires

@@ -1,6 +1,6 @@
 use Rattle.std.proofs.Common.{sym, arith}
-use Rattle.board_io.proofs.Agree.{no_rule, rule_beside}
+use Rattle.board_io.proofs.Agree.{rule_past}
 use Rattle.board_io.proofs.rules.rule_at.Goals as goal
 
-pub returns-then-at-lt-IO_START : goal.returns-then-at-lt-IO_START
-returns-then-at-lt-IO_START c = sym (rule_beside c.args.at (no_rule c.args.at (λ low high. omega arith)))
+pub returns-then-at-gt-LAST : goal.returns-then-at-gt-LAST
+returns-then-at-gt-LAST c = sym (rule_past c.args.at (omega arith))

@@ -1,4 +1,4 @@
-use Rattle.std.proofs.Common.{◌≡◌, ◌∙◌, ◌++◌, ap, take}
+use Rattle.std.proofs.Common.{◌∙◌, ◌++◌, ap, take}
 use Rattle.board_io.specs.Saved as board
 use Rattle.node_core.specs.Numbers.{fits}
 use Rattle.node_core.proofs.Saved.{then_put}

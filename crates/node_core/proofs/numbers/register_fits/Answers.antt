@@ -1,4 +1,4 @@
-use Rattle.std.proofs.Common.{◌∙◌, ap, arith, map, nat_le, slice_index, sym, refl}
+use Rattle.std.proofs.Common.{◌∙◌, ap, arith, map, nat_le, slice_index, sym}
 use Rattle.std.proofs.lemmas.List.{length-set, take_all}
 use Rattle.node_core.proofs.Saved.{tested}
 use Rattle.node_core.proofs.numbers.register_fits.Goals as goal

@@ -1,4 +1,4 @@
-use Rattle.std.proofs.Common.{◌≡◌, ℕ, ◌+◌, ◌-◌, ◌∙◌, ap, arith, length, refl, replicate, slice_index, slice_set, sym, take}
+use Rattle.std.proofs.Common.{◌≡◌, ℕ, ◌+◌, ◌-◌, ◌∙◌, ap, arith, length, refl, slice_index, slice_set, sym, take}
 use Rattle.std.proofs.lemmas.List.{length-set, length-replicate, take_all}
 use Rattle.data_space.specs.Memory.{zeros}
 use Rattle.node_core.proofs.Saved.{copied}

@@ -1,6 +1,5 @@
-use Rattle.std.proofs.Common.{arith}
-use Rattle.board_io.proofs.Agree.{no_rule, put_beside}
+use Rattle.board_io.proofs.Agree.{put_past}
 use Rattle.board_io.proofs.lagging_registers.LaggingBoardBus.put.Goals as goal
 
-pub returns-then-at-lt-IO_START-clause-err : goal.returns-then-at-lt-IO_START-clause-err
-returns-then-at-lt-IO_START-clause-err c = put_beside c.args.self.now c.args.at c.args.b (no_rule c.args.at (λ low high. omega arith))
+pub returns-then-at-gt-LAST-clause-err : goal.returns-then-at-gt-LAST-clause-err
+returns-then-at-gt-LAST-clause-err c = put_past c.args.self.now c.args.at c.args.b c.if-at-gt-LAST.true

@@ -1,6 +1,5 @@
-use Rattle.std.proofs.Common.{arith}
-use Rattle.board_io.proofs.Agree.{get_beside, no_rule}
+use Rattle.board_io.proofs.Agree.{get_past}
 use Rattle.board_io.proofs.registers.BoardBus.get.Goals as goal
 
-pub returns-then-at-lt-IO_START-clause-err : goal.returns-then-at-lt-IO_START-clause-err
-returns-then-at-lt-IO_START-clause-err c = get_beside c.args.self.now c.args.at (no_rule c.args.at (λ low high. omega arith))
+pub returns-then-at-gt-LAST-clause-err : goal.returns-then-at-gt-LAST-clause-err
+returns-then-at-gt-LAST-clause-err c = get_past c.args.self.now c.args.at c.if-at-gt-LAST.true

@@ -48,8 +48,8 @@ returns-in-Some c =
     let r = c.requires in
     let a : Outcome NodeBus = record { result = Ok d; cpu = c.exec_if.new.cpu; bus = m.bus } in
     let done : a ≡ executed flash o m.cpu m.bus = computed flash o m.cpu c.exec_if.new.cpu m.bus d is (c.in-Some.ensures.core is) c.in-Some.ensures.done in
-    gone c.args.cycle m o r.fetched (runs_on (shown m) o (arith_awake o is)) r.now r.behind a flash refl done d refl c.owes-owed.result c.owes-owed.ensures
-    (ap (λ (x : Done). x.sleep) c.in-Some.ensures.done) (takes a flash o m.cpu m.bus done) r.awake r.going r.free
+    gone c.args.cycle m o r.fetched (runs_on (shown m) o (arith_awake o is)) r.may.now r.behind a flash refl done d refl c.owes-owed.result c.owes-owed.ensures
+    (ap (λ (x : Done). x.sleep) c.in-Some.ensures.done) (takes a flash o m.cpu m.bus done) r.may.awake r.may.going r.may.free
 
 pub returns-then-refuses : goal.returns-then-refuses
 returns-then-refuses c =
@@ -94,8 +94,8 @@ returns-then-is_sleep c =
     record {
       state = c.end.ensures.state
           ∙ (ap (λ (b : Bool). let u : NodeState = record (after_instruction s o (Ok d) a.cpu a.bus) { owed = b } in u) c.owes-owed-in-Ok.ensures
-          ∙ ran t m o c.requires.fetched runs c.requires.now a flash (λ i. (c.flash.ensures i).bytes) done (Ok d) c.in-Ok.is);
-      rows = c.end.ensures.rows ∙ ran_rows t m o c.requires.fetched runs c.requires.now a flash (λ i. (c.flash.ensures i).bytes) done m.rows.items (Ok d) c.in-Ok.is;
+          ∙ ran t m o c.requires.fetched runs c.requires.may.now a flash (λ i. (c.flash.ensures i).bytes) done (Ok d) c.in-Ok.is);
+      rows = c.end.ensures.rows ∙ ran_rows t m o c.requires.fetched runs c.requires.may.now a flash (λ i. (c.flash.ensures i).bytes) done m.rows.items (Ok d) c.in-Ok.is;
       going = λ l. absurd (omega arith);
       same = λ l. absurd (omega arith);
       room = c.end.ensures.room;
@@ -112,9 +112,9 @@ returns-else-is_sleep c =
     let a : Outcome NodeBus = record { result = c.execute_on_bus.result; cpu = c.execute_on_bus.new.cpu; bus = c.execute_on_bus.new.bus } in
     let kept = c.in_default.ensures.same (sym c.in_default.ensures.which) in
     let done : a ≡ executed flash o m.cpu m.bus = c.execute_on_bus.ensures.outcome ∙ ap (λ (x : Cpu). executed flash o x m.bus) kept in
-    gone c.args.cycle m o r.fetched (sym c.refuses.ensures ∙ c.if-refuses.false) r.now r.behind a flash (λ i. (c.flash.ensures i).bytes) done d c.in-Ok.is
+    gone c.args.cycle m o r.fetched (sym c.refuses.ensures ∙ c.if-refuses.false) r.may.now r.behind a flash (λ i. (c.flash.ensures i).bytes) done d c.in-Ok.is
     c.owes-owed-in-Ok.result c.owes-owed-in-Ok.ensures
-    (wakes a flash o m.cpu m.bus d done c.in-Ok.is (sym c.is_sleep.ensures ∙ c.if-is_sleep.false)) c.in-Ok.ensures.takes r.awake r.going r.free
+    (wakes a flash o m.cpu m.bus d done c.in-Ok.is (sym c.is_sleep.ensures ∙ c.if-is_sleep.false)) c.in-Ok.ensures.takes r.may.awake r.may.going r.may.free
 
 pub returns-in-Err : goal.returns-in-Err
 returns-in-Err c =
@@ -128,8 +128,8 @@ returns-in-Err c =
     let done : a ≡ executed flash o m.cpu m.bus = c.execute_on_bus.ensures.outcome ∙ ap (λ (x : Cpu). executed flash o x m.bus) kept in
     let runs = sym c.refuses.ensures ∙ c.if-refuses.false in
     record {
-      state = c.halt-in-Err.ensures.state ∙ ran t m o c.requires.fetched runs c.requires.now a flash (λ i. (c.flash.ensures i).bytes) done (Err c.in-Err.cause) c.in-Err.is;
-      rows = c.halt-in-Err.ensures.rows ∙ ran_rows t m o c.requires.fetched runs c.requires.now a flash (λ i. (c.flash.ensures i).bytes) done m.rows.items (Err c.in-Err.cause) c.in-Err.is;
+      state = c.halt-in-Err.ensures.state ∙ ran t m o c.requires.fetched runs c.requires.may.now a flash (λ i. (c.flash.ensures i).bytes) done (Err c.in-Err.cause) c.in-Err.is;
+      rows = c.halt-in-Err.ensures.rows ∙ ran_rows t m o c.requires.fetched runs c.requires.may.now a flash (λ i. (c.flash.ensures i).bytes) done m.rows.items (Err c.in-Err.cause) c.in-Err.is;
       going = λ l. absurd (omega arith);
       same = λ l. absurd (omega arith);
       room = c.halt-in-Err.ensures.room;

@@ -180,3 +180,34 @@ pub returns-then-self-gt0-clause-count : goal.returns-then-self-gt0-clause-count
 returns-then-self-gt0-clause-count c =
     let more = one_more c.args.cycle (shown c.args.self.now) (shown c.idle.new.self) c.idle.ensures.state in
     omega (arith, more, c.requires.few)
+
+pub sprint-sprinted-requires-clause-may : goal.sprint-sprinted-requires-clause-may
+sprint-sprinted-requires-clause-may c =
+    let i = c.loop-cycle.invariant in
+    record {
+      going = i.going;
+      free = i.free;
+      awake = i.awake;
+      now = i.clock;
+      few = i.count;
+      early = omega (arith, i.within, c.quiet.ensures.within, c.requires.early);
+      room = omega (arith, i.len, i.capacity, c.requires.room);
+    }
+
+pub act-taken-requires : goal.act-taken-requires
+act-taken-requires c =
+    let i = c.loop-cycle.invariant in
+    let q = c.sprint-sprinted.ensures.sprinted in
+    let none : c.sprint-sprinted.result.inside ≡ false = c.if-sprinted.false in
+    let m = c.sprint-sprinted.new.self in
+    let kept : vec_len m.rows ≡ vec_len c.loop-cycle.self.rows = ap (λ x. vec_len x) (q.same none) in
+    let wide : vec_capacity m.rows ≡ vec_capacity c.loop-cycle.self.rows = ap (λ x. vec_capacity x) (q.same none) in
+    record {
+      going = q.going none;
+      free = q.free none;
+      awake = q.awake none;
+      now = q.clock;
+      few = q.few none;
+      early = omega (arith, c.sprint-sprinted.ensures.within, c.quiet.ensures.within, c.requires.early);
+      room = omega (arith, kept, wide, i.len, i.capacity, c.requires.room);
+    }

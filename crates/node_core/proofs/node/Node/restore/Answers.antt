@@ -1,4 +1,4 @@
-use Rattle.std.proofs.Common.{◌≡◌, ◌+◌, ◌∙◌, ap, arith, false, is_some, refl, slice_index, ◌==◌, subst, sym}
+use Rattle.std.proofs.Common.{◌≡◌, ◌∙◌, ap, arith, is_some, refl, slice_index, ◌==◌, subst, sym}
 use Rattle.std.proofs.lemmas.Bool.{false≢true}
 use Rattle.board_io.specs.Saved as board
 use Rattle.board_io.specs.declared.board.Board.{Board}

@@ -1,6 +1,6 @@
 use Rattle.std.proofs.Common.{◌≡◌, ℕ, None, refl, ap, sym, ◌∙◌}
 use Rattle.avr_base.specs.Lines.{lowest_line, pending_of, vector_of}
-use Rattle.node_core.proofs.machine.pending.Goals as goal
+use Rattle.node_core.proofs.processor.pending.Goals as goal
 
 none_set : None ≡ vector_of (lowest_line 0)
 unfolding lowest_line
