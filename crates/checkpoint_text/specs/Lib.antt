@@ -2,3 +2,4 @@ pub mod NodeOf
 pub mod Onward
 pub mod Alone
 pub mod Paused
+pub mod State

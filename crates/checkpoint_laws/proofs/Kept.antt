@@ -1,0 +1,44 @@
+-- What is saved of a node is read again as that node.
+use Rattle.std.proofs.Common.{◌≡◌, ℕ, ◌<◌, ◌≤◌, List, [], ◌++◌, map, length, refl, sym, subst, ◌∙◌, ap, arith}
+use Rattle.std.specs.Prelude.{slice_index}
+use Rattle.std.specs.List.{range_with_len}
+use Rattle.std.proofs.lemmas.List.{ext_get_or}
+use Rattle.std.proofs.lemmas.List.FromFn.{get_or-map-range_with_len, length-map-range_with_len}
+use Rattle.world_core.specs.Order.{node_at, run_rows, world_at}
+use Rattle.board_io.specs.Kept.{io_of}
+use Rattle.node_core.specs.Numbers.{numbers_of}
+use Rattle.node_core.specs.State.{NodeState}
+use Rattle.node_runner.specs.Run.{kept_at}
+use Rattle.node_runner.specs.Scenario.{IsRestoredIn, IsScenario, ScenarioOf, fleet_of}
+use Rattle.node_laws.specs.Scenario.{AreImages, IsSaved}
+use Rattle.node_laws.proofs.Restores.{saved}
+use Rattle.state_text.specs.Text.{NodeOf}
+use Rattle.checkpoint_text.specs.NodeOf.{node_of}
+use Rattle.checkpoint_text.specs.Onward.{onward, saved_node}
+use Rattle.checkpoint_text.specs.State.{parts_of, saved_at}
+use Rattle.checkpoint_text.proofs.NodeIs.{one_node}
+use Rattle.checkpoint_text.proofs.Continues.{continues}
+
+-- a list is what stands at its places
+pub by_index : (xs : List ℕ) (n : ℕ) → length xs ≡ n → map (λ k. slice_index xs k) (range_with_len 0 n) ≡ xs
+by_index xs n len =
+    let count = length-map-range_with_len (λ k. slice_index xs k) 0 n in
+    ext_get_or 0 (map (λ k. slice_index xs k) (range_with_len 0 n)) xs (count ∙ sym len)
+    (λ k lt. get_or-map-range_with_len (λ j. slice_index xs j) 0 n k k 0 (omega (arith, count, lt)) (omega arith))
+
+-- the state of a node is read from what is saved of it
+again : (sc : ScenarioOf) (k c : ℕ) (u : NodeState) → IsSaved sc k c u → node_of sc k (parts_of u) ≡ u
+again sc k c u s =
+    let sram : map (λ i. slice_index u.bus.sram i) (range_with_len 0 4096) ≡ u.bus.sram = by_index u.bus.sram 4096 s.sram.length_is in
+    one_node sc k c (parts_of u) u s.within (subst (λ (xs : List ℕ). IsRestoredIn sc k (numbers_of u) (io_of u.bus.board) xs u) (sym sram) s.restored)
+
+module _ (sc : ScenarioOf) (c : ℕ) (ok : IsScenario sc) (images : AreImages sc) (lim : c ≤ sc.topo.limit) where
+  -- what is saved of node k
+  pub saved_part : (k : ℕ) → k < sc.topo.nodes → saved_node (saved_at sc c) k ≡ parts_of (node_at (fleet_of sc) k c)
+  saved_part k lt = get_or-map-range_with_len (λ j. parts_of (node_at (fleet_of sc) j c)) 0 sc.topo.nodes k k (record { numbers = []; io = []; sram = [] }) lt (omega arith)
+
+  pub read_again : (k : ℕ) → k < sc.topo.nodes → node_of sc k (saved_node (saved_at sc c) k) ≡ node_at (fleet_of sc) k c
+  read_again k lt = ap (node_of sc k) (saved_part k lt) ∙ again sc k c (node_at (fleet_of sc) k c) (saved sc k c ok images lim)
+
+  pub goes_on : run_rows (fleet_of sc) ≡ (world_at (fleet_of sc) c).rows ++ run_rows (onward sc (saved_at sc c))
+  goes_on = continues (fleet_of sc) c (omega arith) lim (λ k. node_of sc k (saved_node (saved_at sc c) k)) (kept_at sc c) read_again refl

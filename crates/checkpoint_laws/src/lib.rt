@@ -1,0 +1,20 @@
+//! A saved state goes on as if the run had never stopped. Each law is the contract of a function that does nothing; it is about
+//! the definitions that the calls for saving a run and for going on from what was saved are proved to compute.
+#![tactic(auto)]
+
+ghost use Rattle.std.specs.Prelude.{◌≡◌, ℕ, ◌<◌, ◌≤◌, ◌++◌};
+ghost use Rattle.world_core.specs.Order.{node_at, run_rows, world_at};
+ghost use Rattle.node_runner.specs.Scenario.{IsScenario, ScenarioOf, fleet_of};
+ghost use Rattle.node_laws.specs.Scenario.{AreImages};
+ghost use Rattle.checkpoint_text.specs.NodeOf.{node_of};
+ghost use Rattle.checkpoint_text.specs.Onward.{onward, saved_node};
+ghost use Rattle.checkpoint_text.specs.State.{saved_at};
+
+/// What is saved of a run at a cycle is each node as it is then, and the rows of the whole run are those of the cycles before it
+/// and then those of the run that goes on from what was saved.
+pub fn onward_law()
+    ensures nodes { (sc : ScenarioOf) (c k : ℕ) → IsScenario sc → AreImages sc → c ≤ sc.topo.limit → k < sc.topo.nodes
+        → node_of sc k (saved_node (saved_at sc c) k) ≡ node_at (fleet_of sc) k c }
+    ensures rows { (sc : ScenarioOf) (c : ℕ) → IsScenario sc → AreImages sc → c ≤ sc.topo.limit
+        → run_rows (fleet_of sc) ≡ (world_at (fleet_of sc) c).rows ++ run_rows (onward sc (saved_at sc c)) }
+{}

@@ -1,0 +1,66 @@
+-- The state of a scenario that a text says, and the one that is written of a run at a cycle. Own to this simulator.
+use Rattle.std.specs.Prelude.{◌≡◌, ℕ, ◌==◌, ◌&&◌, nat_le, Bool, true, false, List, length, map, slice_index, is_none, Option, Some, None, Result}
+use Rattle.std.specs.List.{range_with_len}
+use Rattle.world_core.specs.Order.{node_at}
+use Rattle.world_core.specs.declared.air.Send.{Send}
+use Rattle.board_io.specs.Kept.{first_refused, io_of}
+use Rattle.node_core.specs.Numbers.{first_outside, numbers_of}
+use Rattle.node_core.specs.State.{NodeState}
+use Rattle.node_runner.specs.Place.{Place, state_at}
+use Rattle.node_runner.specs.Run.{kept_at}
+use Rattle.node_runner.specs.Scenario.{ScenarioOf, fleet_of}
+use Rattle.state_text.specs.Bounds.{Rules, rules}
+use Rattle.state_text.specs.Reading.{state_of}
+use Rattle.state_text.specs.Text.{NodeOf, StateOf}
+use Rattle.state_text.specs.declared.fault.StateFault.{StateFault}
+
+-- ---- what is read
+
+-- a node's first numbers, and 0 for each of the 108 that is not there
+abbrev pub padded : List ℕ → List ℕ
+padded n = map (λ place. slice_index n place) (range_with_len 0 108)
+
+abbrev pub is_behind : ℕ → Option ℕ → Bool
+is_behind count None = true
+is_behind count (Some place) = nat_le count place
+
+-- none of a node's first numbers is outside its bound: no bound hangs on a number behind its own, and 0 is within each
+abbrev pub within : ℕ → List ℕ → Bool
+within cycle n = is_behind (length n) (first_outside cycle (padded n))
+
+abbrev pub readable : List ℕ → Bool
+readable io = length io == 224 && is_none (first_refused io)
+
+abbrev pub rules_of : ScenarioOf → Rules
+rules_of sc = rules sc.topo within readable
+
+-- the state that a text says, or the fault of its first faulty line
+abbrev pub state_in : ScenarioOf → List ℕ → Result StateOf StateFault
+state_in sc text = state_of (rules_of sc) text
+
+-- ---- what is written
+
+-- what is saved of a node: its numbers, the bytes that its board keeps, and those of its SRAM
+abbrev pub parts_of : NodeState → NodeOf
+parts_of s = record {
+  numbers = numbers_of s;
+  io = io_of s.bus.board;
+  sram = map (λ k. slice_index s.bus.sram k) (range_with_len 0 4096);
+}
+
+-- all nodes as they are at cycle c, beside these sends
+abbrev pub saved_with : ScenarioOf → ℕ → List Send → StateOf
+saved_with sc c sends = record {
+  cycle = c;
+  nodes = map (λ k. parts_of (node_at (fleet_of sc) k c)) (range_with_len 0 sc.topo.nodes);
+  sends = sends;
+}
+
+-- the state of a run at cycle c: all nodes, and the sends that may still be heard
+abbrev pub saved_at : ScenarioOf → ℕ → StateOf
+saved_at sc c = saved_with sc c (kept_at sc c)
+
+-- a runner that is at cycle c or stopped before it, so that its node is as it is at cycle c, with no sample unanswered
+pub record IsAt (sc : ScenarioOf) (c k : ℕ) (p : Place) : Type 0 where
+  pub calm : p.asking ≡ false
+  pub state : state_at p ≡ node_at (fleet_of sc) k c
