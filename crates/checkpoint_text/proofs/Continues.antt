@@ -7,7 +7,7 @@ use Rattle.world_core.specs.Each.{each_below}
 use Rattle.world_core.specs.Heard.{heard}
 use Rattle.world_core.specs.Kept.{is_kept}
 use Rattle.world_core.specs.NodeKind.{ticked, ticked_rows}
-use Rattle.world_core.specs.Order.{Fleet, Moment, end_rows, hears, node_at, resumed, run_rows, send_of, world_after, world_at}
+use Rattle.world_core.specs.Order.{Fleet, Moment, end_rows, node_at, resumed, run_rows, send_of, world_after, world_at}
 use Rattle.world_core.specs.Resumed.{GoesOn}
 use Rattle.world_core.specs.Sends.{sends_of}
 use Rattle.world_core.proofs.Each.{each_same}

@@ -1,5 +1,5 @@
 -- Loops over all nodes: so many of them have been served, and the others are as they were.
-use Rattle.std.proofs.Common.{◌≡◌, ◌≢◌, ℕ, zero, suc, ◌+◌, ◌-◌, ◌<◌, ◌≤◌, true, false, List, [], ◌∷◌, ◌++◌, length, set, refl, sym, subst, ◌∙◌, ap, arith, append-nil, append_assoc, length-set}
+use Rattle.std.proofs.Common.{◌≡◌, ◌≢◌, ℕ, suc, ◌+◌, ◌-◌, ◌<◌, ◌≤◌, false, List, [], ◌∷◌, ◌++◌, length, set, refl, sym, subst, ◌∙◌, ap, arith, length-set}
 use Rattle.std.proofs.lemmas.List.{get_or-set_same, get_or-set_other, get_or_append_left, get_or-append_right, get_or_default, length-append}
 use Rattle.std.proofs.Common.{get_or}
 use native.Mathlib.Decide.{ℕ_discrete}
@@ -16,7 +16,7 @@ use Rattle.node_runner.specs.Scenario.{ScenarioOf}
 use Rattle.state_text.specs.Text.{StateOf}
 use Rattle.checkpoint_text.specs.NodeOf.{node_of}
 use Rattle.checkpoint_text.specs.Onward.{saved_node}
-use Rattle.checkpoint_text.specs.Alone.{AllRan, GoesAlone, HasRun, RanAlone, RunsAlone, alone, alone_rows, alone_sends, node_in, sent_by}
+use Rattle.checkpoint_text.specs.Alone.{AllRan, RanAlone, RunsAlone, alone_sends, node_in, sent_by}
 use Rattle.checkpoint_text.specs.Paused.{AllRestored, IsGathered, ends_of}
 
 -- one more of what is made number by number

@@ -1,8 +1,8 @@
 -- What a node hears shortly after a cycle: of the sends before that cycle, and of no others. A send that is over changes nothing.
-use Rattle.std.proofs.Common.{◌≡◌, ℕ, ◌+◌, ◌<◌, ◌≤◌, Bool, true, false, ◌&&◌, ◌==◌, List, [], ◌++◌, refl, sym, ◌∙◌, ap, arith, append-nil}
+use Rattle.std.proofs.Common.{◌≡◌, ℕ, ◌+◌, ◌<◌, ◌≤◌, Bool, true, false, ◌&&◌, ◌==◌, List, ◌++◌, refl, sym, ◌∙◌, ap, arith, append-nil}
 use Rattle.std.specs.Prelude.{nat_le, nat_lt}
 use Rattle.std.specs.List.{All, filter}
-use Rattle.std.proofs.lemmas.List.Elements.{filter-append, All-weaker}
+use Rattle.std.proofs.lemmas.List.Elements.{filter-append}
 use Rattle.std.proofs.lemmas.Bool.Decides.{nat_tests}
 use Rattle.world_core.specs.declared.air.Send.{Send}
 use Rattle.world_core.specs.Topology.{Topology, is_linked, is_open, is_in_time, latency_of}
@@ -13,7 +13,7 @@ use Rattle.world_core.specs.Order.{Fleet, hears, world_at}
 use Rattle.world_core.specs.Sends.{sends_of}
 use Rattle.world_core.proofs.Each.{filter_none}
 use Rattle.world_core.proofs.Final.{filter_swap, not_kept, through}
-use Rattle.world_core.proofs.Order.{SameByNode, heard_same}
+use Rattle.world_core.proofs.Order.{heard_same}
 use Rattle.node_runner.proofs.Near.{near_link}
 use Rattle.checkpoint_text.proofs.Ordered.{sends_from, sent_all, sent_in}
 

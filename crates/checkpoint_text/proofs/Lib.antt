@@ -7,3 +7,6 @@ pub mod EachNode
 pub mod OnwardRows
 pub mod Records
 pub mod Continues
+pub mod Bounded
+pub mod Prefix
+pub mod Shown

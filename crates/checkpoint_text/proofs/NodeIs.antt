@@ -6,11 +6,9 @@ use Rattle.avr_base.specs.Causes.{cause_number}
 use Rattle.avr_base.specs.declared.stop.StopCause.{StopCause}
 use Rattle.avr_base.specs.declared.stop.StopCause.TheVariants as stop
 use Rattle.board_io.specs.Saved as board
-use Rattle.board_io.specs.Kept.{kept_of}
 use Rattle.board_io.specs.declared.board.Board.{Board}
 use Rattle.board_io.proofs.OneBoard.{all, fits-parts}
 use Rattle.board_io.proofs.OneBoard as whole
-use Rattle.data_space.specs.declared.cpu.Cpu.{Cpu}
 use Rattle.device_base.specs.Bits.{bit}
 use Rattle.device_base.specs.Numbers.{part}
 use Rattle.avr_timers.specs.Numbers16.{control_mode}
@@ -27,9 +25,8 @@ use Rattle.serial_ports.proofs.RadioSaved.{one-radio}
 use Rattle.node_core.specs.Numbers.{core_tail, ends_from, first_outside, stop_number}
 use Rattle.node_core.specs.Restored.{cpu_of}
 use Rattle.node_core.specs.State.{NodeState}
-use Rattle.node_core.specs.declared.bus.NodeBus.{NodeBus}
 use Rattle.node_core.proofs.Saved.{board-fits, has-numbers}
-use Rattle.node_runner.specs.Scenario.{ScenarioOf, IsRestoredIn, image_at, script_at}
+use Rattle.node_runner.specs.Scenario.{ScenarioOf, IsRestoredIn}
 use Rattle.state_text.specs.Text.{NodeOf}
 use Rattle.checkpoint_text.specs.NodeOf.{board_of, cause_of, node_of, radio_of, some_mode, spi_of, timer16_of, timer8_of, usart_of}
 

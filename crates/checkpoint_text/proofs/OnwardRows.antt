@@ -1,5 +1,5 @@
 -- The rows of a run onward, from one epoch to the next.
-use Rattle.std.proofs.Common.{◌≡◌, ◌≢◌, ℕ, ◌+◌, ◌<◌, ◌≤◌, inr, Bool, true, false, cond, ◌==◌, List, [], ◌∷◌, ◌++◌, length, refl, sym, subst, ◌∙◌, ap, arith, append-nil, append_assoc}
+use Rattle.std.proofs.Common.{◌≡◌, ◌≢◌, ℕ, ◌<◌, inr, Bool, false, cond, ◌==◌, List, [], ◌∷◌, ◌++◌, length, refl, sym, subst, ◌∙◌, ap, arith, append-nil, append_assoc}
 use Rattle.std.specs.List.{All, filter}
 use Rattle.std.specs.List.Sorted.{IsNonDecreasingBy, IsStableByKey}
 use Rattle.std.specs.Ordering.{nat_cmp}
@@ -9,13 +9,12 @@ use Rattle.world_core.specs.declared.air.Send.{Send}
 use Rattle.world_core.specs.Chain.{Rises}
 use Rattle.world_core.specs.Each.{each_below}
 use Rattle.world_core.specs.Kept.{is_kept}
-use Rattle.world_core.specs.NodeKind.{IsSteady}
 use Rattle.world_core.specs.NodeRun.{Timed}
 use Rattle.world_core.specs.Order.{Fleet, Moment, end_rows, node_at, rows_between, world_at}
 use Rattle.world_core.specs.Sends.{sends_of}
 use Rattle.world_core.proofs.Each.{each_same}
 use Rattle.world_core.proofs.Sorted.{Agree}
-use Rattle.node_core.specs.Cycle.{end_row, node_kind}
+use Rattle.node_core.specs.Cycle.{end_row}
 use Rattle.node_core.specs.declared.row.Row.{Row}
 use Rattle.node_core.specs.State.{NodeState}
 use Rattle.node_core.proofs.Steady.{steady}
@@ -25,7 +24,7 @@ use Rattle.node_runner.proofs.Gathered.{agree_by}
 use Rattle.state_text.specs.Text.{StateOf}
 use Rattle.checkpoint_text.specs.NodeOf.{node_of}
 use Rattle.checkpoint_text.specs.Onward.{CanResume, onward, saved_node}
-use Rattle.checkpoint_text.specs.Alone.{HasRun, node_in}
+use Rattle.checkpoint_text.specs.Alone.{node_in}
 use Rattle.checkpoint_text.specs.Paused.{AllRestored, AtRest, IsGathered, IsPaused, ends_of}
 use Rattle.checkpoint_text.proofs.Ordered.{first, rows_merged, rows_none}
 

@@ -1,5 +1,5 @@
 -- All nodes from one cycle to a later one, each by itself, and the record with what they sent.
-use Rattle.std.proofs.Common.{◌≡◌, ℕ, zero, suc, ◌+◌, ◌-◌, ◌<◌, ◌≤◌, ◌⊎◌, inl, inr, ⊎_elim, Bool, true, false, ◌==◌, List, [], ◌∷◌, ◌++◌, length, refl, sym, subst, ◌∙◌, ap, arith, append-nil, append_assoc}
+use Rattle.std.proofs.Common.{◌≡◌, ℕ, zero, suc, ◌+◌, ◌-◌, ◌<◌, ◌≤◌, ◌⊎◌, inl, inr, ⊎_elim, Bool, true, false, ◌==◌, List, [], ◌∷◌, ◌++◌, length, refl, sym, subst, ◌∙◌, ap, arith}
 use Rattle.std.specs.Prelude.{nat_lt, Some, None}
 use Rattle.std.specs.List.{All, AllPairs, filter}
 use Rattle.std.proofs.lemmas.List.Elements.{filter-append, All-append, All-filter, All-head, All-tail, All-weaker}
@@ -24,7 +24,7 @@ use Rattle.checkpoint_text.specs.Alone.{AllRan, GoesAlone, HasRun, alone, alone_
 use Rattle.checkpoint_text.specs.Paused.{AtRest, CanPost, IsPaused}
 use Rattle.checkpoint_text.proofs.Hearing.{hears_record}
 use Rattle.checkpoint_text.proofs.Ordered.{along, of_one, rows_along, rows_join, sends_along, sends_by_node, sends_from, sent_in}
-use Rattle.checkpoint_text.proofs.Trails.{Same, same_stopped, same_whole}
+use Rattle.checkpoint_text.proofs.Trails.{same_stopped, same_whole}
 
 -- ---- lists
 all_pairs_from : {X : Type 0} (R : X → X → Type 0) (x : X) (xs : List X) → AllPairs R (x ∷ xs) → All (R x) xs × AllPairs R xs

@@ -1,5 +1,5 @@
 -- A node that runs by itself: stretches of cycles joined, quiet ones passed in one leap, and one that stopped.
-use Rattle.std.proofs.Common.{◌≡◌, ℕ, zero, suc, ◌+◌, ◌-◌, ◌<◌, ◌≤◌, ◌⊎◌, inl, inr, Bool, true, false, cond, Option, Some, None, List, [], ◌∷◌, ◌++◌, refl, sym, subst, ◌∙◌, ap, arith, append-nil, append_assoc, add-zero, add-one}
+use Rattle.std.proofs.Common.{◌≡◌, ℕ, zero, suc, ◌+◌, ◌-◌, ◌<◌, ◌≤◌, ◌⊎◌, inl, inr, Bool, true, false, Option, None, List, [], ◌∷◌, ◌++◌, refl, sym, ◌∙◌, ap, arith, append-nil, append_assoc, add-zero}
 use Rattle.world_core.specs.declared.air.Heard.{Heard}
 use Rattle.world_core.specs.declared.air.Send.{Send}
 use Rattle.world_core.specs.Each.{each_below}

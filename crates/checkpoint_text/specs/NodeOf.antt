@@ -3,7 +3,6 @@
 use Rattle.std.specs.Prelude.{ℕ, ◌%◌, ◌==◌, if◌then◌else◌, List, Option, None, Some, slice_index}
 use Rattle.avr_base.specs.declared.stop.StopCause.{StopCause}
 use Rattle.avr_base.specs.declared.stop.StopCause.TheVariants as stop
-use Rattle.world_core.specs.declared.air.Heard.{Heard}
 use Rattle.device_base.specs.Bits.{any_bit}
 use Rattle.device_base.specs.Numbers.{part}
 use Rattle.avr_timers.specs.Numbers16.{control_mode}

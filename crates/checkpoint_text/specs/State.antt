@@ -1,6 +1,6 @@
 -- The state of a scenario that a text says, and the one that is written of a run at a cycle. Own to this simulator.
-use Rattle.std.specs.Prelude.{◌≡◌, ℕ, ◌==◌, ◌&&◌, nat_le, Bool, true, false, List, length, map, slice_index, is_none, Option, Some, None, Result}
-use Rattle.std.specs.List.{range_with_len}
+use Rattle.std.specs.Prelude.{◌≡◌, ℕ, ◌^◌, ◌<◌, ◌==◌, ◌&&◌, nat_le, Bool, true, false, List, length, map, slice_index, is_none, Option, Some, None, Result}
+use Rattle.std.specs.List.{AllByRecursion, range_with_len}
 use Rattle.world_core.specs.Order.{node_at}
 use Rattle.world_core.specs.declared.air.Send.{Send}
 use Rattle.board_io.specs.Kept.{first_refused, io_of}
@@ -33,6 +33,12 @@ readable io = length io == 224 && is_none (first_refused io)
 
 abbrev pub rules_of : ScenarioOf → Rules
 rules_of sc = rules sc.topo within readable
+
+-- numbers of 64 bits, and bytes
+pub record HasBytes (n : NodeOf) : Type 0 where
+  pub wide : AllByRecursion (λ x. x < 2 ^ 64) n.numbers
+  pub io : AllByRecursion (λ x. x < 256) n.io
+  pub sram : AllByRecursion (λ x. x < 256) n.sram
 
 -- the state that a text says, or the fault of its first faulty line
 abbrev pub state_in : ScenarioOf → List ℕ → Result StateOf StateFault

@@ -3,8 +3,14 @@
 
 mod alone;
 mod block;
+mod law;
+mod reading;
 mod record;
 mod rows;
 mod saved;
+mod writing;
 
+pub use law::fit_law;
+pub use reading::{read_parts, read_state};
 pub use saved::Saved;
+pub use writing::write_state;

@@ -5,6 +5,9 @@ pub mod HexBytes
 pub mod Laws
 pub mod Loops
 pub mod Numerals
+pub mod Pasted
+pub mod Pieced
 pub mod Pieces
+pub mod Put
 pub mod Taken
 pub mod Visible

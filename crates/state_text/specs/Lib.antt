@@ -3,3 +3,4 @@ pub mod Parts
 pub mod Reading
 pub mod Shown
 pub mod Text
+pub mod Writing

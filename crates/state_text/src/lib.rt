@@ -5,13 +5,20 @@
 mod bounds;
 mod cuts;
 mod fault;
+mod law;
 mod lines;
+mod nodes;
 mod numbers;
+mod page;
 mod parts;
 mod reading;
 mod state;
+mod writing;
 
 pub use bounds::Bounds;
 pub use fault::StateFault;
+pub use law::{again_law, spelling_law};
+pub use nodes::Nodes;
 pub use reading::read;
 pub use state::{NodeParts, StateParts};
+pub use writing::write;

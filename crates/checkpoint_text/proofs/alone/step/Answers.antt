@@ -1,4 +1,4 @@
-use Rattle.std.proofs.Common.{◌≡◌, ℕ, [], ◌∷◌, ◌++◌, ◌∙◌, ap, subst, rules, false, true}
+use Rattle.std.proofs.Common.{◌≡◌, [], ◌∷◌, ◌++◌, subst, rules}
 use Rattle.world_core.specs.Heard.{heard}
 use Rattle.node_core.specs.Cycle.{node_kind}
 use Rattle.node_core.specs.Reached.{IsReached}

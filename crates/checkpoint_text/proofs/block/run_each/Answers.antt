@@ -1,4 +1,4 @@
-use Rattle.std.proofs.Common.{◌≡◌, ℕ, ◌<◌, length, vec_len, arith, rules}
+use Rattle.std.proofs.Common.{◌≡◌, ◌<◌, length, vec_len, arith, rules}
 use Rattle.world_core.specs.Heard.{heard}
 use Rattle.node_core.specs.Cycle.{node_kind}
 use Rattle.checkpoint_text.proofs.EachNode.{ran_more}

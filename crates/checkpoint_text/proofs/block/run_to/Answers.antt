@@ -1,4 +1,4 @@
-use Rattle.std.proofs.Common.{◌≡◌, ◌⊎◌, ℕ, ◌+◌, ◌≤◌, ◌++◌, false, List, [], sym, subst, ap, ◌∙◌, arith}
+use Rattle.std.proofs.Common.{◌≡◌, ◌⊎◌, ℕ, ◌+◌, ◌≤◌, ◌++◌, false, List, [], sym, subst, arith}
 use Rattle.std.specs.List.{All, filter}
 use Rattle.world_core.specs.declared.air.Send.{Send}
 use Rattle.world_core.specs.Heard.{heard}

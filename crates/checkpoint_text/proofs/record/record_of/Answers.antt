@@ -1,4 +1,4 @@
-use Rattle.std.proofs.Common.{◌≡◌, ℕ, ◌<◌, List, sym, subst, ap}
+use Rattle.std.proofs.Common.{ℕ, ◌<◌, List, sym, subst, ap}
 use Rattle.std.specs.Prelude.{slice_index_or}
 use Rattle.std.specs.List.{All}
 use Rattle.std.proofs.lemmas.List.{get_or_default}

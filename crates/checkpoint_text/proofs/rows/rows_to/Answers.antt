@@ -1,4 +1,4 @@
-use Rattle.std.proofs.Common.{◌≡◌, ℕ, cond, ◌==◌, List, [], ◌++◌, length, sym, subst, ap, ◌∙◌, arith}
+use Rattle.std.proofs.Common.{◌≡◌, cond, ◌==◌, List, [], ◌++◌, length, ap, ◌∙◌, arith}
 use Rattle.world_core.specs.NodeRun.{Timed}
 use Rattle.world_core.specs.Topology.{Topology}
 use Rattle.node_core.specs.State.{NodeState}

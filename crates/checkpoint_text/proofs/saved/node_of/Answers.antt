@@ -1,12 +1,8 @@
 use Rattle.std.proofs.Common.{◌≡◌, ℕ, None, false, [], List, sym, subst, ◌∙◌, ap}
-use Rattle.world_core.specs.NodeRun.{Timed}
 use Rattle.node_core.specs.Numbers.{first_outside}
-use Rattle.node_core.specs.State.{NodeState}
-use Rattle.node_core.specs.declared.row.Row.{Row}
 use Rattle.node_core.proofs.Saved.{no-fault}
 use Rattle.node_runner.specs.Scenario.{IsRestoredIn}
 use Rattle.state_text.specs.Text.{NodeOf}
-use Rattle.checkpoint_text.specs.NodeOf.{node_of}
 use Rattle.checkpoint_text.proofs.NodeIs.{one_node}
 use Rattle.checkpoint_text.proofs.saved.node_of.Goals as goal
 

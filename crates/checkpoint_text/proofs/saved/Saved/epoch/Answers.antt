@@ -1,4 +1,4 @@
-use Rattle.std.proofs.Common.{◌≡◌, ℕ, ◌+◌, ◌≤◌, false, min, sym, subst, ap, ◌∙◌, arith}
+use Rattle.std.proofs.Common.{◌≡◌, ◌+◌, false, min, sym, subst, ap, ◌∙◌, arith}
 use Rattle.node_runner.specs.Scenario.{ScenarioOf}
 use Rattle.checkpoint_text.specs.Onward.{SavedAt, onward}
 use Rattle.checkpoint_text.specs.Paused.{IsPaused}

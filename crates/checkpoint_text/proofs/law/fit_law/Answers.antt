@@ -1,0 +1,5 @@
+use Rattle.checkpoint_text.proofs.Prefix.{has_node}
+use Rattle.checkpoint_text.proofs.law.fit_law.Goals as goal
+
+pub returns : goal.returns
+returns c = λ sc cycle n fit bytes. has_node sc cycle n fit bytes
