@@ -72,7 +72,8 @@ pub fn write_statuses<O: Sink>(out: &mut O) -> Result<(), SinkFault> {
     write_status("BadScenario", Status::BadScenario.number(), out)?;
     write_status("BadImage", Status::BadImage.number(), out)?;
     write_status("NoMemory", Status::NoMemory.number(), out)?;
-    write_status("BadSource", Status::BadSource.number(), out)
+    write_status("BadSource", Status::BadSource.number(), out)?;
+    write_status("BadState", Status::BadState.number(), out)
 }
 
 /// The status, the output and the error stream.

@@ -12,7 +12,6 @@ use Rattle.node_runner.specs.Run.{kept_at}
 use Rattle.node_runner.specs.Scenario.{IsRestoredIn, IsScenario, ScenarioOf, fleet_of}
 use Rattle.node_laws.specs.Scenario.{AreImages, IsSaved}
 use Rattle.node_laws.proofs.Restores.{saved}
-use Rattle.state_text.specs.Text.{NodeOf}
 use Rattle.checkpoint_text.specs.NodeOf.{node_of}
 use Rattle.checkpoint_text.specs.Onward.{onward, saved_node}
 use Rattle.checkpoint_text.specs.State.{parts_of, saved_at}

@@ -2,13 +2,14 @@
 //! the definitions that the calls for saving a run and for going on from what was saved are proved to compute.
 #![tactic(auto)]
 
-ghost use Rattle.std.specs.Prelude.{◌≡◌, ℕ, ◌<◌, ◌≤◌, ◌++◌};
+ghost use Rattle.std.specs.Prelude.{◌≡◌, ℕ, ◌<◌, ◌≤◌, ◌++◌, true};
 ghost use Rattle.world_core.specs.Order.{node_at, run_rows, world_at};
 ghost use Rattle.node_runner.specs.Scenario.{IsScenario, ScenarioOf, fleet_of};
 ghost use Rattle.node_laws.specs.Scenario.{AreImages};
 ghost use Rattle.checkpoint_text.specs.NodeOf.{node_of};
 ghost use Rattle.checkpoint_text.specs.Onward.{onward, saved_node};
-ghost use Rattle.checkpoint_text.specs.State.{saved_at};
+ghost use Rattle.checkpoint_text.specs.State.{rules_of, saved_at};
+ghost use Rattle.state_text.specs.Bounds.{IsState, is_cut};
 
 /// What is saved of a run at a cycle is each node as it is then, and the rows of the whole run are those of the cycles before it
 /// and then those of the run that goes on from what was saved.
@@ -17,4 +18,9 @@ pub fn onward_law()
         → node_of sc k (saved_node (saved_at sc c) k) ≡ node_at (fleet_of sc) k c }
     ensures rows { (sc : ScenarioOf) (c : ℕ) → IsScenario sc → AreImages sc → c ≤ sc.topo.limit
         → run_rows (fleet_of sc) ≡ (world_at (fleet_of sc) c).rows ++ run_rows (onward sc (saved_at sc c)) }
+{}
+
+/// What is saved of a run at the end of an epoch below the limit keeps each bound of a state's text, so that it is accepted.
+pub fn accepted_law()
+    ensures { (sc : ScenarioOf) (c : ℕ) → IsScenario sc → AreImages sc → is_cut sc.topo c ≡ true → IsState (rules_of sc) (saved_at sc c) }
 {}

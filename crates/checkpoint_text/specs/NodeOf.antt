@@ -13,7 +13,7 @@ use Rattle.avr_timers.specs.declared.prescaler.Prescaler.TheVariants.{Own, Share
 use Rattle.avr_timers.specs.declared.timer8.Timer8.{Timer8}
 use Rattle.avr_timers.specs.declared.timer16.Timer16.{Timer16}
 use Rattle.serial_ports.specs.Numbers.{transmission_of}
-use Rattle.serial_ports.specs.UsartNumbers.{receive_buffer_of, waiting_of}
+use Rattle.serial_ports.specs.UsartNumbers.{receive_buffer_of, transmit_buffer_of}
 use Rattle.serial_ports.specs.RadioNumbers.{state_of}
 use Rattle.serial_ports.specs.declared.usart.Usart.{Usart}
 use Rattle.serial_ports.specs.declared.spi.Spi.{Spi}
@@ -33,7 +33,7 @@ timer8_of p n = record {
   count = slice_index n 1;
   compare = slice_index n 2;
   match_blocked = slice_index n 3 == 1;
-  over = slice_index n 4 == 1;
+  tov = slice_index n 4 == 1;
   ocf_a = slice_index n 5 == 1;
 }
 
@@ -56,11 +56,11 @@ timer16_of n = record {
   temp = slice_index n 6;
   match_blocked = slice_index n 7 == 1;
   flags = record {
-    over = slice_index n 8 == 1;
+    tov = slice_index n 8 == 1;
     ocf_a = slice_index n 9 == 1;
     ocf_b = slice_index n 10 == 1;
     ocf_c = slice_index n 11 == 1;
-    icr = slice_index n 12 == 1;
+    icf = slice_index n 12 == 1;
   };
 }
 
@@ -74,7 +74,7 @@ usart_of n = record {
   dor = slice_index n 5 == 1;
   receive_buffer = receive_buffer_of (slice_index n 6) (slice_index n 7) (slice_index n 8);
   shift_register = transmission_of (slice_index n 9 == 1) (slice_index n 10) (slice_index n 11);
-  transmit_buffer = waiting_of (slice_index n 12 == 1) (slice_index n 13);
+  transmit_buffer = transmit_buffer_of (slice_index n 12 == 1) (slice_index n 13);
 }
 
 abbrev pub spi_of : List ℕ → Spi

@@ -8,7 +8,7 @@ use Rattle.ihex_loader.specs.Image.{hex_fault, image}
 use Rattle.ihex_loader.specs.declared.fault.HexFault.{HexFault}
 use Rattle.scenario_file.specs.Scenario.{ScenarioParts, scenario_in}
 use Rattle.scenario_file.specs.declared.fault.ScenarioFault.{ScenarioFault}
-use Rattle.command_plans.specs.Plan.{Plan, Give, Refuse, Read, Refusal, BadWords, BadScenario, BadImage, BadSource, and_then, image_or, image_plan, images_behind, scenario_or, scenario_plan, source_or, source_plan}
+use Rattle.command_plans.specs.Plan.{Plan, Give, Refuse, Read, Refusal, BadWords, BadScenario, BadImage, BadSource, BadState, and_then, image_or, image_plan, images_behind, scenario_or, scenario_plan, source_or, source_plan}
 use Rattle.command_plans.specs.Reading.{Files, Reached, Here, Fitting, TooLong, Accepts, Refuses, Verdict, Refused as RefusedVerdict, Accepted, Says, verdict, on_bytes}
 use Rattle.command_plans.specs.Ends.{Ends, End, Done, OutFailed, NoMemory, ReadFailed, Refused, Reads, Stream}
 use Rattle.command_plans.specs.Parts.{Reported, Stopped, StopsAt, Told, Written, end_at, end_of}
@@ -19,6 +19,7 @@ use Rattle.command_plans.specs.declared.trouble.ScenarioCause.{ScenarioCause}
 use Rattle.command_plans.specs.declared.trouble.ScenarioCause.TheVariants as scenario_cause
 use Rattle.command_plans.specs.declared.trouble.SourceCause.{SourceCause}
 use Rattle.command_plans.specs.declared.trouble.SourceCause.TheVariants as source_cause
+use Rattle.command_plans.specs.declared.trouble.StateCause.{StateCause}
 use Rattle.command_plans.specs.declared.trouble.Trouble.{Trouble}
 use Rattle.command_plans.specs.declared.trouble.Trouble.TheVariants as trouble
 
@@ -113,6 +114,9 @@ scenario_is_no_words name why e = cc
 
 source_is_no_words : (name : List ℕ) (why : SourceCause) → BadSource name why ≢ BadWords
 source_is_no_words name why e = cc
+
+pub state_is_no_words : (name : List ℕ) (why : StateCause) → BadState name why ≢ BadWords
+state_is_no_words name why e = cc
 
 keeps_image_or : (name : List ℕ) (o : Option HexFault) (flash : Image) → KeepsWords (image_or name o flash)
 keeps_image_or name (Some fault) flash = image_is_no_words name (cause.Faulty fault)

@@ -77,7 +77,7 @@ stopped_behind files p next store store' err err' answer h = record { end = h.en
 -- ---- a file of one kind
 
 -- what comes of a file that was read
-opened : {A : Type 0} (files : Files) (name : List ℕ) (most : ℕ) (too_long : Refusal) (bytes : List ℕ) (rest : Plan A) → Reached files (Read name most too_long Give) (Give bytes)
+pub opened : {A : Type 0} (files : Files) (name : List ℕ) (most : ℕ) (too_long : Refusal) (bytes : List ℕ) (rest : Plan A) → Reached files (Read name most too_long Give) (Give bytes)
     → (next : List ℕ → Plan A) → Reached files (next bytes) rest → Reached files (Read name most too_long next) rest
 unfolding and_then
 opened files name most too_long bytes rest read next more = both files _ (next bytes) rest (goes_on files (Read name most too_long Give) bytes next read) more

@@ -4,7 +4,7 @@ use Rattle.sim_io.specs.Outside.{Rose, extended, TookFront}
 use Rattle.asm_text.specs.Fault.{fault_name as source_fault_name, fault_line as source_fault_line}
 use Rattle.ihex_loader.specs.Fault.{fault_name, fault_line}
 use Rattle.scenario_file.specs.Faults.{fault_name as scenario_fault_name}
-use Rattle.command_plans.specs.Plan.{Plan, Refusal, BadWords, BadScenario, BadImage, BadSource}
+use Rattle.command_plans.specs.Plan.{Plan, Refusal, BadWords, BadScenario, BadImage, BadSource, BadState}
 use Rattle.command_plans.specs.Reading.{Files, Accepts, Refuses, IsNext, Verdict, Untold, Refused as RefusedVerdict, Accepted}
 use Rattle.command_plans.specs.declared.trouble.ImageCause.{ImageCause}
 use Rattle.command_plans.specs.declared.trouble.ImageCause.TheVariants as cause
@@ -12,6 +12,9 @@ use Rattle.command_plans.specs.declared.trouble.ScenarioCause.{ScenarioCause}
 use Rattle.command_plans.specs.declared.trouble.ScenarioCause.TheVariants as scenario_cause
 use Rattle.command_plans.specs.declared.trouble.SourceCause.{SourceCause}
 use Rattle.command_plans.specs.declared.trouble.SourceCause.TheVariants as source_cause
+use Rattle.command_plans.specs.declared.trouble.StateCause.{StateCause}
+use Rattle.command_plans.specs.declared.trouble.StateCause.TheVariants as state_cause
+use Rattle.state_text.specs.declared.fault.StateFault.TheVariants as state_fault
 use Rattle.command_plans.specs.declared.status.Status.{Status}
 use Rattle.command_plans.specs.declared.status.Status.TheVariants as status
 
@@ -71,7 +74,7 @@ module _ {J : Type 0} (output : J → List ℕ) where
   Ends files plan store store' out out' (ReadFailed name) = FailedRead store name store' × IsNext files plan name × (out' ≡ out)
   Ends files plan store store' out out' (Refused refusal) = (store' ≡ store) × Refuses files plan refusal × (out' ≡ out)
 
--- where the fault of an image or a source is
+-- where the fault of an image, a source or a state is
 unfoldable pub place_text : Option ℕ → List ℕ
 place_text None = []
 place_text (Some line) = codes ", line " ++ decimal line
@@ -88,6 +91,13 @@ unfoldable pub source_cause_text : SourceCause → List ℕ
 source_cause_text source_cause.TooLong = codes "TooLong"
 source_cause_text (source_cause.Faulty fault) = source_fault_name fault ++ place_text (source_fault_line fault)
 
+unfoldable pub state_cause_text : StateCause → List ℕ
+state_cause_text state_cause.TooLong = codes "TooLong"
+state_cause_text (state_cause.Faulty (state_fault.NotAState line)) = codes "NotAState" ++ place_text (Some line)
+state_cause_text (state_cause.Faulty (state_fault.OutOfBounds line)) = codes "OutOfBounds" ++ place_text (Some line)
+state_cause_text (state_cause.Faulty state_fault.PastEnd) = codes "PastEnd"
+state_cause_text (state_cause.Faulty state_fault.NoMemory) = codes "NoMemory"
+
 -- the line on `err` that each end owes
 unfoldable pub line_due : End → List ℕ
 line_due Done = []
@@ -98,12 +108,14 @@ line_due (Refused BadWords) = codes "avrora: bad command line\n"
 line_due (Refused (BadScenario name why)) = codes "avrora: " ++ name ++ (codes ": scenario refused: " ++ scenario_cause_text why ++ codes "\n")
 line_due (Refused (BadImage name why)) = codes "avrora: " ++ name ++ (codes ": image refused: " ++ cause_text why ++ codes "\n")
 line_due (Refused (BadSource name why)) = codes "avrora: " ++ name ++ (codes ": source refused: " ++ source_cause_text why ++ codes "\n")
+line_due (Refused (BadState name why)) = codes "avrora: " ++ name ++ (codes ": state refused: " ++ state_cause_text why ++ codes "\n")
 
 abbrev pub refusal_status : Refusal → Status
 refusal_status BadWords = status.BadWords
 refusal_status (BadScenario name why) = status.BadScenario
 refusal_status (BadImage name why) = status.BadImage
 refusal_status (BadSource name why) = status.BadSource
+refusal_status (BadState name why) = status.BadState
 
 abbrev pub status_due : End → Status
 status_due Done = status.Done
@@ -139,3 +151,4 @@ status_number status.BadScenario = 4
 status_number status.BadImage = 5
 status_number status.NoMemory = 6
 status_number status.BadSource = 7
+status_number status.BadState = 8

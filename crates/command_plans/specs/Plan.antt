@@ -12,6 +12,7 @@ use Rattle.command_plans.specs.declared.trouble.ImageCause.TheVariants as cause
 use Rattle.command_plans.specs.declared.trouble.ScenarioCause.{ScenarioCause}
 use Rattle.command_plans.specs.declared.trouble.ScenarioCause.TheVariants as scenario_cause
 use Rattle.command_plans.specs.declared.trouble.SourceCause.{SourceCause}
+use Rattle.command_plans.specs.declared.trouble.StateCause.{StateCause}
 use Rattle.command_plans.specs.declared.trouble.SourceCause.TheVariants as source_cause
 
 -- why a call is refused
@@ -24,6 +25,8 @@ pub data Refusal : Type 0 where
   BadImage : (name : List ℕ) (why : ImageCause) → Refusal
   -- the source in this file is not
   BadSource : (name : List ℕ) (why : SourceCause) → Refusal
+  -- the saved state in this file is not, or the one that the scenario in this file is to come to cannot be had
+  BadState : (name : List ℕ) (why : StateCause) → Refusal
 
 -- what is left to do: nothing more, since this was got; a refusal; or a file to be read, of at most so many bytes, and what comes of its
 -- bytes

@@ -23,8 +23,8 @@ const MOST_SCENARIO_BYTES: usize = 524_288;
 // The most bytes of a source's text.
 const MOST_SOURCE_BYTES: usize = 1_048_576;
 
-// The bytes of the file `name`, at most `most`; a longer one is refused as `too_long` says.
-fn read_file<'n, S: Store>(
+/// The bytes of the file `name`, at most `most`; a longer one is refused as `too_long` says.
+pub fn read_file<'n, S: Store>(
     alloc: Global,
     name: &'n str,
     most: usize,

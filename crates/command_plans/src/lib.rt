@@ -8,7 +8,7 @@ mod reports;
 mod status;
 mod trouble;
 
-pub use files::{read_image, read_images, read_scenario, read_source};
+pub use files::{read_file, read_image, read_images, read_scenario, read_source};
 pub use reports::{report, tell};
 pub use status::Status;
-pub use trouble::{Complaint, ImageCause, ScenarioCause, SourceCause, Trouble};
+pub use trouble::{Complaint, ImageCause, ScenarioCause, SourceCause, StateCause, Trouble};

@@ -1,13 +1,14 @@
 // What is said on the error stream.
 ghost use Rattle.std.specs.Prelude.{[], ◌≡◌, ◌≤◌, ◌+◌, ◌++◌, codes, length};
 ghost use Rattle.arrayvec.specs.ArrayString.{array_string_len};
-ghost use Rattle.command_plans.specs.Ends.{cause_text, line_due, place_text, scenario_cause_text, source_cause_text, status_due, stream};
+ghost use Rattle.command_plans.specs.Ends.{cause_text, line_due, place_text, scenario_cause_text, source_cause_text, state_cause_text, status_due, stream};
 ghost use Rattle.command_plans.specs.Parts.{end_at, end_of, LineSaid, Reported, Told};
 
 use crate::Status;
-use crate::trouble::{Complaint, ImageCause, ScenarioCause, SourceCause, Trouble};
+use crate::trouble::{Complaint, ImageCause, ScenarioCause, SourceCause, StateCause, Trouble};
 use arrayvec::ArrayString;
 use sim_io::{Sink, SinkFault, put_decimal, write_all};
+use state_text::StateFault;
 
 // Writes a line: what stands before the name of a file, the name, and what stands behind it.
 fn say<E: Sink>(err: &mut E, before: &str, name: &str, after: &str) -> Result<(), SinkFault>
@@ -73,6 +74,21 @@ fn source_cause(cause: SourceCause) -> (&'static str, Option<usize>)
     }
 }
 
+// Why a saved state is refused, and in which line of it.
+#[tactic(auto, unfolding(crate::specs::Ends::state_cause_text, crate::specs::Ends::place_text))]
+fn state_cause(cause: StateCause) -> (&'static str, Option<usize>)
+    ensures text { result.0.now ++ place_text result.1 ≡ state_cause_text cause }
+    ensures short { length result.0.now ≤ 15 }
+{
+    match cause {
+        StateCause::TooLong => ("TooLong", None),
+        StateCause::Faulty(StateFault::NotAState { line }) => ("NotAState", Some(line)),
+        StateCause::Faulty(StateFault::OutOfBounds { line }) => ("OutOfBounds", Some(line)),
+        StateCause::Faulty(StateFault::PastEnd) => ("PastEnd", None),
+        StateCause::Faulty(StateFault::NoMemory) => ("NoMemory", None),
+    }
+}
+
 // What stands behind the name of a file that is refused: what it is, why, and in which line.
 fn put_refusal(what: &str, cause: (&'static str, Option<usize>), after: &mut ArrayString<64>)
     requires empty { after.old.bytes ≡ [] }
@@ -112,6 +128,10 @@ fn line_at<'n>(trouble: Trouble<'n>, after: &mut ArrayString<64>) -> (&'static s
             put_refusal(": source refused: ", source_cause(cause), after);
             ("avrora: ", name)
         }
+        Trouble::Refused(Complaint::BadState(name, cause)) => {
+            put_refusal(": state refused: ", state_cause(cause), after);
+            ("avrora: ", name)
+        }
     }
 }
 
@@ -126,6 +146,7 @@ fn status_at(trouble: Trouble) -> Status
         Trouble::Refused(Complaint::BadScenario(_, _)) => Status::BadScenario,
         Trouble::Refused(Complaint::BadImage(_, _)) => Status::BadImage,
         Trouble::Refused(Complaint::BadSource(_, _)) => Status::BadSource,
+        Trouble::Refused(Complaint::BadState(_, _)) => Status::BadState,
     }
 }
 

@@ -21,10 +21,12 @@ pub enum Status {
     NoMemory,
     /// The source is refused.
     BadSource,
+    /// A saved state is refused, or cannot be had.
+    BadState,
 }
 
 impl Status {
-    /// The exit status of the program: 0 to 7 in the order of the variants.
+    /// The exit status of the program: 0 to 8 in the order of the variants.
     #[tactic(auto, unfolding(crate::specs::Ends::status_number))]
     pub fn number(self) -> u8
         ensures { result ≡ status_number self }
@@ -38,6 +40,7 @@ impl Status {
             Status::BadImage => 5,
             Status::NoMemory => 6,
             Status::BadSource => 7,
+            Status::BadState => 8,
         }
     }
 }

@@ -2,6 +2,7 @@
 use asm_text::AsmFault;
 use ihex_loader::HexFault;
 use scenario_file::ScenarioFault;
+use state_text::StateFault;
 
 /// Why a scenario is refused.
 #[derive(Clone, Copy)]
@@ -30,6 +31,15 @@ pub enum SourceCause {
     Faulty(AsmFault),
 }
 
+/// Why a saved state is refused.
+#[derive(Clone, Copy)]
+pub enum StateCause {
+    /// Its text has more than 4,194,304 bytes.
+    TooLong,
+    /// The fault of its first faulty line; or that a run has no such state, since the epoch ends at or behind the limit.
+    Faulty(StateFault),
+}
+
 /// What is refused.
 #[derive(Clone, Copy)]
 pub enum Complaint<'n> {
@@ -41,6 +51,8 @@ pub enum Complaint<'n> {
     BadImage(&'n str, ImageCause),
     /// The source in this file.
     BadSource(&'n str, SourceCause),
+    /// The saved state in this file, or the one that this scenario is to come to.
+    BadState(&'n str, StateCause),
 }
 
 /// Why a call stops short.

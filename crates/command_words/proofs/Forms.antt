@@ -4,7 +4,7 @@ use Rattle.std.proofs.lemmas.Bool.{and_parts}
 use Rattle.std.proofs.lemmas.Slice.Eq.{bytes_eq-Decides}
 use Rattle.std.specs.Prelude.{IfSome}
 use Rattle.command_words.specs.declared.command.Command.{Command}
-use Rattle.command_words.specs.Words.{Asked, Node, Run, RunPlain, Monitor, Sniff, Check, Disasm, Asm, Make, as_make, as_node, as_plain_run, asked_by, cycles_of, file_behind, is_file, is_word, or_else, sample_of, shown, IsInLimits}
+use Rattle.command_words.specs.Words.{Asked, Node, Run, RunPlain, Monitor, Sniff, Check, Disasm, Asm, Make, Head, Save, Resume, as_make, as_plain_run, as_resume, asked_by, cycles_of, epochs_of, file_behind, is_file, is_word, or_else, sample_of, shown, with_number, IsInLimits}
 use Rattle.command_words.proofs.Numerals.{number_limits}
 
 -- words that ask for something, each form with what it says
@@ -18,19 +18,43 @@ pub data Form : List (List ℕ) → Asked → Type 0 where
   IsDisasm : (file : List ℕ) → is_file file ≡ true → Form (codes "disasm" ∷ file ∷ []) (Disasm file)
   IsAsm : (file : List ℕ) → is_file file ≡ true → Form (codes "asm" ∷ file ∷ []) (Asm file)
   IsMake : (number : List ℕ) (n : ℕ) → sample_of number ≡ Some n → Form (codes "make" ∷ number ∷ []) (Make n)
+  IsHead : (file epochs : List ℕ) (n : ℕ) → is_file file ≡ true → epochs_of epochs ≡ Some n → Form (codes "head" ∷ file ∷ epochs ∷ []) (Head file n)
+  IsSave : (file epochs : List ℕ) (n : ℕ) → is_file file ≡ true → epochs_of epochs ≡ Some n → Form (codes "save" ∷ file ∷ epochs ∷ []) (Save file n)
+  IsResume : (file state : List ℕ) → is_file file ≡ true → is_file state ≡ true → Form (codes "resume" ∷ file ∷ state ∷ []) (Resume file state)
 
 same : (name word : List ℕ) → is_word name word ≡ true → word ≡ name
 same name word h = (bytes_eq-Decides word name).0 h
 
-node_form : (word file cycles : List ℕ) (b : Bool) → b ≡ (is_word (codes "node") word && is_file file) → (o : Option ℕ) → o ≡ cycles_of cycles → (asked : Asked)
-    → (if b then option_map (Node file) o else None) ≡ Some asked → Form (word ∷ file ∷ cycles ∷ []) asked
-node_form word file cycles false e o f asked h = absurd (cc)
-node_form word file cycles true e None f asked h = absurd (cc)
-node_form word file cycles true e (Some n) f asked h =
-    let p = and_parts (is_word (codes "node") word) (is_file file) (sym e) in
-    let w : word ≡ codes "node" = same (codes "node") word p.0 in
-    let a : Node file n ≡ asked = cc in
-    rw (w, ← a) (IsNode file cycles n p.1 (sym f))
+-- a command with a file and a number
+module _ (name : List ℕ) (read : List ℕ → Option ℕ) (made : List ℕ → ℕ → Asked)
+    (form : (file number : List ℕ) (n : ℕ) → is_file file ≡ true → read number ≡ Some n → Form (name ∷ file ∷ number ∷ []) (made file n)) where
+  number_form : (word file number : List ℕ) (b : Bool) → b ≡ (is_word name word && is_file file) → (o : Option ℕ) → o ≡ read number → (asked : Asked)
+      → (if b then option_map (made file) o else None) ≡ Some asked → Form (word ∷ file ∷ number ∷ []) asked
+  number_form word file number false e o f asked h = absurd (cc)
+  number_form word file number true e None f asked h = absurd (cc)
+  number_form word file number true e (Some n) f asked h =
+      let p = and_parts (is_word name word) (is_file file) (sym e) in
+      let w : word ≡ name = same name word p.0 in
+      let a : made file n ≡ asked = cc in
+      rw (w, ← a) (form file number n p.1 (sym f))
+
+  of_number : (words : List (List ℕ)) (asked : Asked) → with_number name read made words ≡ Some asked → Form words asked
+  unfolding with_number
+  of_number [] asked h = absurd (cc)
+  of_number (a ∷ []) asked h = absurd (cc)
+  of_number (a ∷ b ∷ []) asked h = absurd (cc)
+  of_number (word ∷ file ∷ number ∷ []) asked h = number_form word file number _ refl _ refl asked h
+  of_number (a ∷ b ∷ c ∷ d ∷ more) asked h = absurd (cc)
+
+resume_form : (word file state : List ℕ) (b : Bool) → b ≡ (is_word (codes "resume") word && is_file file && is_file state) → (asked : Asked)
+    → (if b then Some (Resume file state) else None) ≡ Some asked → Form (word ∷ file ∷ state ∷ []) asked
+resume_form word file state false e asked h = absurd (cc)
+resume_form word file state true e asked h =
+    let p = and_parts (is_word (codes "resume") word && is_file file) (is_file state) (sym e) in
+    let q = and_parts (is_word (codes "resume") word) (is_file file) p.0 in
+    let w : word ≡ codes "resume" = same (codes "resume") word q.0 in
+    let a : Resume file state ≡ asked = cc in
+    rw (w, ← a) (IsResume file state q.1 p.1)
 
 plain_run_form : (word option file : List ℕ) (b : Bool) → b ≡ (is_word (codes "run") word && is_word (codes "--plain") option && is_file file) → (asked : Asked)
     → (if b then Some (RunPlain file) else None) ≡ Some asked → Form (word ∷ option ∷ file ∷ []) asked
@@ -52,13 +76,13 @@ make_form word number true e (Some n) f asked h =
     let a : Make n ≡ asked = cc in
     rw (w, ← a) (IsMake number n (sym f))
 
-of_node : (words : List (List ℕ)) (asked : Asked) → as_node words ≡ Some asked → Form words asked
-unfolding as_node
-of_node [] asked h = absurd (cc)
-of_node (a ∷ []) asked h = absurd (cc)
-of_node (a ∷ b ∷ []) asked h = absurd (cc)
-of_node (word ∷ file ∷ cycles ∷ []) asked h = node_form word file cycles _ refl _ refl asked h
-of_node (a ∷ b ∷ c ∷ d ∷ more) asked h = absurd (cc)
+of_resume : (words : List (List ℕ)) (asked : Asked) → as_resume words ≡ Some asked → Form words asked
+unfolding as_resume
+of_resume [] asked h = absurd (cc)
+of_resume (a ∷ []) asked h = absurd (cc)
+of_resume (a ∷ b ∷ []) asked h = absurd (cc)
+of_resume (word ∷ file ∷ state ∷ []) asked h = resume_form word file state _ refl asked h
+of_resume (a ∷ b ∷ c ∷ d ∷ more) asked h = absurd (cc)
 
 of_plain_run : (words : List (List ℕ)) (asked : Asked) → as_plain_run words ≡ Some asked → Form words asked
 unfolding as_plain_run
@@ -115,7 +139,7 @@ either words asked None other f g h = g h
 pub form_of : (words : List (List ℕ)) (asked : Asked) → asked_by words ≡ Some asked → Form words asked
 unfolding asked_by
 form_of words asked h =
-    either words asked (as_node words) _ (of_node words asked)
+    either words asked (with_number (codes "node") cycles_of Node words) _ (of_number (codes "node") cycles_of Node IsNode words asked)
     (either words asked (option_map Run (file_behind (codes "run") words)) _ (of_file (codes "run") words Run _ refl IsRun asked)
     (either words asked (as_plain_run words) _ (of_plain_run words asked)
     (either words asked (option_map Monitor (file_behind (codes "monitor") words)) _ (of_file (codes "monitor") words Monitor _ refl IsMonitor asked)
@@ -123,7 +147,10 @@ form_of words asked h =
     (either words asked (option_map Check (file_behind (codes "check") words)) _ (of_file (codes "check") words Check _ refl IsCheck asked)
     (either words asked (option_map Disasm (file_behind (codes "disasm") words)) _ (of_file (codes "disasm") words Disasm _ refl IsDisasm asked)
     (either words asked (option_map Asm (file_behind (codes "asm") words)) _ (of_file (codes "asm") words Asm _ refl IsAsm asked)
-    (of_make words asked)))))))) h
+    (either words asked (as_make words) _ (of_make words asked)
+    (either words asked (with_number (codes "head") epochs_of Head words) _ (of_number (codes "head") epochs_of Head IsHead words asked)
+    (either words asked (with_number (codes "save") epochs_of Save words) _ (of_number (codes "save") epochs_of Save IsSave words asked)
+    (of_resume words asked))))))))))) h
 
 pub in_limits : (words : List (List ℕ)) (asked : Asked) → Form words asked → IsInLimits asked
 in_limits _ _ (IsNode file cycles n f e) = number_limits 8 1 10000000 cycles n e
@@ -135,6 +162,9 @@ in_limits _ _ (IsCheck file f) = tt
 in_limits _ _ (IsDisasm file f) = tt
 in_limits _ _ (IsAsm file f) = tt
 in_limits _ _ (IsMake number n e) = (number_limits 5 0 65535 number n e).1
+in_limits _ _ (IsHead file epochs n f e) = number_limits 7 1 9999999 epochs n e
+in_limits _ _ (IsSave file epochs n f e) = number_limits 7 1 9999999 epochs n e
+in_limits _ _ (IsResume file state f g) = tt
 
 -- a command that is what the words ask for
 pub command_in_limits : (words : List (List ℕ)) (command : Option Command) → option_map shown command ≡ asked_by words → IfSome command (λ o. IsInLimits (shown o))

@@ -4,11 +4,11 @@ use Rattle.std.specs.Str.{bytes_eq}
 use Rattle.clap.specs.Lexer.{strip_byte}
 use Rattle.clap.specs.Words.{subcommand_of, takes}
 use Rattle.clap.proofs.OnLiterals.{clap_on_literals}
-use Rattle.command_words.specs.Words.{Asked, Node, Run, RunPlain, Monitor, Sniff, Check, Disasm, Asm, Make, asked_by, is_file}
+use Rattle.command_words.specs.Words.{Asked, Node, Run, RunPlain, Monitor, Sniff, Check, Disasm, Asm, Make, Head, Save, Resume, asked_by, is_file}
 use Rattle.command_words.specs.Apps.{the_app}
-use Rattle.command_words.specs.Split.{asked_in, asked_of, read_in, watch_in}
+use Rattle.command_words.specs.Split.{asked_in, asked_of, cut_in, read_in, watch_in}
 use Rattle.command_words.proofs.Numerals.{number_file}
-use Rattle.command_words.proofs.Forms.{Form, IsNode, IsRun, IsPlainRun, IsMonitor, IsSniff, IsCheck, IsDisasm, IsAsm, IsMake, form_of}
+use Rattle.command_words.proofs.Forms.{Form, IsNode, IsRun, IsPlainRun, IsMonitor, IsSniff, IsCheck, IsDisasm, IsAsm, IsMake, IsHead, IsSave, IsResume, form_of}
 
 -- a word that `clap` takes for a value
 record Plain (word : List ℕ) : Type 0 where
@@ -40,10 +40,22 @@ taken _ _ (IsCheck file f) = let a = plain_file file f in simp (a.short, a.long)
 taken _ _ (IsDisasm file f) = let a = plain_file file f in simp (a.short, a.long) (refl {a = true})
 taken _ _ (IsAsm file f) = let a = plain_file file f in simp (a.short, a.long) (refl {a = true})
 taken _ _ (IsMake number n e) = let a = plain_file number (number_file 5 0 65535 number n e) in simp (a.short, a.long) (refl {a = true})
+taken _ _ (IsHead file epochs n f e) =
+    let a = plain_file file f in
+    let b = plain_file epochs (number_file 7 1 9999999 epochs n e) in
+    simp (a.short, a.long, b.short, b.long) (refl {a = true})
+taken _ _ (IsSave file epochs n f e) =
+    let a = plain_file file f in
+    let b = plain_file epochs (number_file 7 1 9999999 epochs n e) in
+    simp (a.short, a.long, b.short, b.long) (refl {a = true})
+taken _ _ (IsResume file state f g) =
+    let a = plain_file file f in
+    let b = plain_file state g in
+    simp (a.short, a.long, b.short, b.long) (refl {a = true})
 
 -- and its matches ask for what the words ask for
 pub kept : (words : List (List ℕ)) (asked : Asked) → Form words asked → asked_of (subcommand_of the_app words) ≡ Some asked
-unfolding clap_on_literals asked_of asked_in watch_in read_in
+unfolding clap_on_literals asked_of asked_in watch_in read_in cut_in
 kept _ _ (IsNode file cycles n f e) =
     let a = plain_file file f in
     let b = plain_file cycles (number_file 8 1 10000000 cycles n e) in
@@ -56,6 +68,18 @@ kept _ _ (IsCheck file f) = let a = plain_file file f in simp (a.short, a.long) 
 kept _ _ (IsDisasm file f) = let a = plain_file file f in simp (a.short, a.long) (refl {a = Some (Disasm file)})
 kept _ _ (IsAsm file f) = let a = plain_file file f in simp (a.short, a.long) (refl {a = Some (Asm file)})
 kept _ _ (IsMake number n e) = let a = plain_file number (number_file 5 0 65535 number n e) in simp (a.short, a.long, e) (refl {a = Some (Make n)})
+kept _ _ (IsHead file epochs n f e) =
+    let a = plain_file file f in
+    let b = plain_file epochs (number_file 7 1 9999999 epochs n e) in
+    simp (a.short, a.long, b.short, b.long, e) (refl {a = Some (Head file n)})
+kept _ _ (IsSave file epochs n f e) =
+    let a = plain_file file f in
+    let b = plain_file epochs (number_file 7 1 9999999 epochs n e) in
+    simp (a.short, a.long, b.short, b.long, e) (refl {a = Some (Save file n)})
+kept _ _ (IsResume file state f g) =
+    let a = plain_file file f in
+    let b = plain_file state g in
+    simp (a.short, a.long, b.short, b.long) (refl {a = Some (Resume file state)})
 
 some_of : (o : Option Asked) → is_some o ≡ true → (asked : Asked) × (o ≡ Some asked)
 some_of None h = absurd (cc)

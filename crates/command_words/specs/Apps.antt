@@ -14,8 +14,12 @@ required id = record (new_rule id) { required = true }
 abbrev pub plain_flag : Rule
 plain_flag = record (new_rule (codes "plain")) { long = Some (codes "plain"); action = Some SetTrue }
 
+-- a subcommand with a file and another word
+abbrev pub two_words_app : Text → Text → App
+two_words_app name id = with_rule (with_rule (new_app name) (required (codes "file"))) (required id)
+
 abbrev pub node_app : App
-node_app = with_rule (with_rule (new_app (codes "node")) (required (codes "file"))) (required (codes "cycles"))
+node_app = two_words_app (codes "node") (codes "cycles")
 
 abbrev pub run_app : App
 run_app = with_rule (with_rule (new_app (codes "run")) plain_flag) (required (codes "file"))
@@ -36,14 +40,20 @@ simulating app = with_subcommand (with_subcommand (with_subcommand app node_app.
 abbrev pub watching : App → App
 watching app = with_subcommand (with_subcommand app (one_word_app (codes "monitor") (codes "file")).top) (one_word_app (codes "sniff") (codes "file")).top
 
--- and those that simulate nothing
+-- those that simulate nothing
 abbrev pub reading : App → App
 reading app =
     with_subcommand (with_subcommand (with_subcommand app (one_word_app (codes "check") (codes "file")).top) (one_word_app (codes "disasm") (codes "file")).top)
     (one_word_app (codes "asm") (codes "file")).top
 
+-- and those that cut a run, or go on with one
+abbrev pub cutting : App → App
+cutting app =
+    with_subcommand (with_subcommand (with_subcommand app (two_words_app (codes "head") (codes "epochs")).top) (two_words_app (codes "save") (codes "epochs")).top)
+    (two_words_app (codes "resume") (codes "state")).top
+
 abbrev pub the_app : App
-the_app = reading (watching (simulating (without_first (new_app (codes "avrora")))))
+the_app = cutting (reading (watching (simulating (without_first (new_app (codes "avrora"))))))
 
 -- where a subcommand could be made, it is this one, and none of its words is global
 abbrev pub MakesLeaf : App → Result Command AllocError → Type 0

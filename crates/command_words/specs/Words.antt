@@ -27,6 +27,12 @@ pub data Asked : Type 0 where
   Asm : (file : List ℕ) → Asked
   -- simulate the sample network of this number
   Make : (number : ℕ) → Asked
+  -- simulate the first epochs of the network of the scenario in this file
+  Head : (file : List ℕ) (epochs : ℕ) → Asked
+  -- the same, and write the state in which it is then
+  Save : (file : List ℕ) (epochs : ℕ) → Asked
+  -- simulate the network of the scenario in this file from the state in that file on
+  Resume : (file state : List ℕ) → Asked
 
 -- the same of the code's value
 abbrev pub shown : Command → Asked
@@ -39,6 +45,9 @@ shown (variant.Check file) = Check file.now
 shown (variant.Disasm file) = Disasm file.now
 shown (variant.Asm file) = Asm file.now
 shown (variant.Make number) = Make number
+shown (variant.Head file epochs) = Head file.now epochs
+shown (variant.Save file epochs) = Save file.now epochs
+shown (variant.Resume file state) = Resume file.now state.now
 
 abbrev pub is_word : List ℕ → List ℕ → Bool
 is_word name word = pointwise ◌==◌ word name
@@ -63,11 +72,15 @@ cycles_of word = number_of 8 1 10000000 word
 abbrev pub sample_of : List ℕ → Option ℕ
 sample_of word = number_of 5 0 65535 word
 
--- `node FILE CYCLES`
-unfoldable pub as_node : List (List ℕ) → Option Asked
-as_node (command ∷ file ∷ cycles ∷ []) =
-    if is_word (codes "node") command && is_file file then option_map (Node file) (cycles_of cycles) else None
-as_node _ = None
+-- N: one to seven decimal digits that write a number from 1 on
+abbrev pub epochs_of : List ℕ → Option ℕ
+epochs_of word = number_of 7 1 9999999 word
+
+-- the FILE and the number of a command that has these two: `node FILE CYCLES`, `head FILE N`, `save FILE N`
+unfoldable pub with_number : List ℕ → (List ℕ → Option ℕ) → (List ℕ → ℕ → Asked) → List (List ℕ) → Option Asked
+with_number name read made (command ∷ file ∷ number ∷ []) =
+    if is_word name command && is_file file then option_map (made file) (read number) else None
+with_number name read made _ = None
 
 -- the FILE of a command that has nothing else: `run FILE`, `monitor FILE`, `sniff FILE`, `check FILE`, `disasm FILE`, `asm FILE`
 unfoldable pub file_behind : List ℕ → List (List ℕ) → Option (List ℕ)
@@ -85,6 +98,12 @@ unfoldable pub as_make : List (List ℕ) → Option Asked
 as_make (command ∷ number ∷ []) = if is_word (codes "make") command then option_map Make (sample_of number) else None
 as_make _ = None
 
+-- `resume FILE STATE`
+unfoldable pub as_resume : List (List ℕ) → Option Asked
+as_resume (command ∷ file ∷ state ∷ []) =
+    if is_word (codes "resume") command && is_file file && is_file state then Some (Resume file state) else None
+as_resume _ = None
+
 abbrev pub or_else : Option Asked → Option Asked → Option Asked
 or_else (Some asked) other = Some asked
 or_else None other = other
@@ -92,7 +111,7 @@ or_else None other = other
 -- what the words ask for: the forms in turn; None where they are not accepted
 unfoldable pub asked_by : List (List ℕ) → Option Asked
 asked_by words =
-    or_else (as_node words)
+    or_else (with_number (codes "node") cycles_of Node words)
     (or_else (option_map Run (file_behind (codes "run") words))
     (or_else (as_plain_run words)
     (or_else (option_map Monitor (file_behind (codes "monitor") words))
@@ -100,9 +119,12 @@ asked_by words =
     (or_else (option_map Check (file_behind (codes "check") words))
     (or_else (option_map Disasm (file_behind (codes "disasm") words))
     (or_else (option_map Asm (file_behind (codes "asm") words))
-    (as_make words))))))))
+    (or_else (as_make words)
+    (or_else (with_number (codes "head") epochs_of Head words)
+    (or_else (with_number (codes "save") epochs_of Save words)
+    (as_resume words)))))))))))
 
--- the number of cycles, where there is one, is from 1 to 10,000,000, and that of a sample at most 65,535
+-- the number of cycles, where there is one, is from 1 to 10,000,000, that of a sample at most 65,535, and that of epochs from 1 to 9,999,999
 abbrev pub IsInLimits : Asked → Type 0
 IsInLimits (Node file cycles) = (1 ≤ cycles) × (cycles ≤ 10000000)
 IsInLimits (Run file) = Unit {0}
@@ -113,3 +135,6 @@ IsInLimits (Check file) = Unit {0}
 IsInLimits (Disasm file) = Unit {0}
 IsInLimits (Asm file) = Unit {0}
 IsInLimits (Make number) = number ≤ 65535
+IsInLimits (Head file epochs) = (1 ≤ epochs) × (epochs ≤ 9999999)
+IsInLimits (Save file epochs) = (1 ≤ epochs) × (epochs ≤ 9999999)
+IsInLimits (Resume file state) = Unit {0}

@@ -2,7 +2,7 @@
 ghost use Rattle.std.specs.Prelude.{[], ◌≡◌, ◌∷◌, is_some, map};
 ghost use Rattle.command_words.specs.Words.{asked_by};
 
-use crate::operands::{cycles, is_file, sample};
+use crate::operands::{cycles, epochs, is_file, sample};
 
 // Whether the word behind the name of a command that takes one is accepted.
 fn is_pair(command: &str, word: &str) -> bool
@@ -22,6 +22,8 @@ fn is_triple(command: &str, first: &str, second: &str) -> bool
     match command {
         "node" => is_file(first) & cycles(second).is_some(),
         "run" => (first == "--plain") & is_file(second),
+        "head" | "save" => is_file(first) & epochs(second).is_some(),
+        "resume" => is_file(first) & is_file(second),
         _ => false,
     }
 }

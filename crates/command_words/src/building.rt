@@ -24,7 +24,7 @@ struct Form {
 }
 
 // The forms, but for `run` with and without its flag, which are one.
-static FORMS: [Form; 8] = [
+static FORMS: [Form; 11] = [
     Form {
         name: "node",
         words: &[Word::Required("file"), Word::Required("cycles")],
@@ -56,6 +56,18 @@ static FORMS: [Form; 8] = [
     Form {
         name: "asm",
         words: &[Word::Required("file")],
+    },
+    Form {
+        name: "head",
+        words: &[Word::Required("file"), Word::Required("epochs")],
+    },
+    Form {
+        name: "save",
+        words: &[Word::Required("file"), Word::Required("epochs")],
+    },
+    Form {
+        name: "resume",
+        words: &[Word::Required("file"), Word::Required("state")],
     },
 ];
 

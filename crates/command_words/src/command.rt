@@ -21,4 +21,10 @@ pub enum Command<'w> {
     Sniff { file: &'w str },
     /// `make NUMBER`: simulate the sample network of this number, and count what came out.
     Make { number: u16 },
+    /// `head FILE N`: simulate the first epochs of the network of this scenario, 1 to 9,999,999.
+    Head { file: &'w str, epochs: u64 },
+    /// `save FILE N`: the same, and write the state in which it is then.
+    Save { file: &'w str, epochs: u64 },
+    /// `resume FILE STATE`: simulate the network of this scenario from the state in this file on.
+    Resume { file: &'w str, state: &'w str },
 }

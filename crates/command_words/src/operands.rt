@@ -2,7 +2,7 @@
 ghost use Rattle.std.specs.Prelude.{◌≡◌, ◌≤◌, IfSome};
 ghost use Rattle.std.specs.Char.{is_ascii_digit};
 ghost use Rattle.std.specs.List.{list_all};
-ghost use Rattle.command_words.specs.Words.{cycles_of, is_file, number_of, sample_of};
+ghost use Rattle.command_words.specs.Words.{cycles_of, epochs_of, is_file, number_of, sample_of};
 
 /// Whether a word names a file: it is not empty, and no option.
 pub fn is_file(word: &str) -> bool
@@ -47,6 +47,13 @@ pub fn cycles(word: &str) -> Option<u64>
     ensures limits { IfSome result (λ n. (1 ≤ n) × (n ≤ 10000000)) }
 {
     number(word, 8, 1, 10_000_000)
+}
+
+/// The number of epochs that a word gives: one to seven decimal digits, no sign, from 1 on.
+pub fn epochs(word: &str) -> Option<u64>
+    ensures { result ≡ epochs_of word.now }
+{
+    number(word, 7, 1, 9_999_999)
 }
 
 /// The number of a sample that a word gives: one to five decimal digits, no sign, at most 65,535.

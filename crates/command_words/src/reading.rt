@@ -2,10 +2,10 @@
 ghost use Rattle.std.specs.Prelude.{◌≡◌, option_map};
 ghost use Rattle.clap.specs.Words.{found_of, rows_of, subcommand_rows_of};
 ghost use Rattle.command_words.specs.Words.{shown};
-ghost use Rattle.command_words.specs.Split.{asked_in, asked_of, make_in, node_in, read_in, run_in, text_in, watch_in};
+ghost use Rattle.command_words.specs.Split.{asked_in, asked_of, cut_in, make_in, node_in, read_in, run_in, text_in, watch_in};
 
 use crate::Command;
-use crate::operands::{cycles, sample};
+use crate::operands::{cycles, epochs, sample};
 use clap::ArgMatches;
 
 fn text_at<'w>(matches: &ArgMatches<'w>, id: &str) -> &'w str
@@ -28,7 +28,30 @@ fn run_command<'w>(matches: &ArgMatches<'w>) -> Command<'w>
     }
 }
 
-// What a subcommand that simulates nothing asks for.
+// What a subcommand that cuts a run, or goes on with one, asks for.
+#[tactic(auto, unfolding(crate::specs::Split::cut_in))]
+fn cutting_in<'w>(name: &str, matches: &ArgMatches<'w>) -> Option<Command<'w>>
+    ensures { option_map shown result ≡ cut_in name.now (rows_of (found_of matches.now)) }
+{
+    let file = text_at(matches, "file");
+    match name {
+        "head" => match epochs(text_at(matches, "epochs")) {
+            Some(epochs) => Some(Command::Head { file, epochs }),
+            None => None,
+        },
+        "save" => match epochs(text_at(matches, "epochs")) {
+            Some(epochs) => Some(Command::Save { file, epochs }),
+            None => None,
+        },
+        "resume" => Some(Command::Resume {
+            file,
+            state: text_at(matches, "state"),
+        }),
+        _ => None,
+    }
+}
+
+// What a subcommand that simulates nothing asks for, or one of those that cut a run.
 #[tactic(auto, unfolding(crate::specs::Split::read_in))]
 fn reading_in<'w>(name: &str, matches: &ArgMatches<'w>) -> Option<Command<'w>>
     ensures { option_map shown result ≡ read_in name.now (rows_of (found_of matches.now)) }
@@ -38,7 +61,7 @@ fn reading_in<'w>(name: &str, matches: &ArgMatches<'w>) -> Option<Command<'w>>
         "check" => Some(Command::Check { file }),
         "disasm" => Some(Command::Disasm { file }),
         "asm" => Some(Command::Asm { file }),
-        _ => None,
+        _ => cutting_in(name, matches),
     }
 }
 

@@ -1,4 +1,6 @@
 pub mod Lines
 pub mod Networks
+pub mod States
+pub mod Epochs
 pub mod Traces
 pub mod Statuses

@@ -1,16 +1,20 @@
 -- How the reading of a network ends, and what is left to do then.
-use Rattle.std.proofs.Common.{◌≡◌, ℕ, List, sym, subst}
+use Rattle.std.proofs.Common.{◌≡◌, ℕ, ◌*◌, ◌<◌, ◌≤◌, nat_lt, Bool, true, false, if◌then◌else◌, List, sym, ap, subst, arith}
+use Rattle.std.proofs.lemmas.Bool.Decides.{nat_tests}
 use Rattle.ihex_loader.specs.Flash.{Image}
 use Rattle.scenario_file.specs.Scenario.{ScenarioParts}
+use Rattle.node_runner.specs.Flight.{epoch}
 use Rattle.node_runner.specs.Scenario.{ScenarioOf}
-use Rattle.command_plans.specs.Plan.{Plan, Give, and_then, images_plan, scenario_plan}
+use Rattle.state_text.specs.declared.fault.StateFault.TheVariants.{PastEnd}
+use Rattle.command_plans.specs.declared.trouble.StateCause.TheVariants as cause
+use Rattle.command_plans.specs.Plan.{Plan, Give, Refuse, BadState, and_then, images_plan, scenario_plan}
 use Rattle.command_plans.specs.Reading.{Files, Reached}
 use Rattle.command_plans.specs.Ends.{End, Reads, Stream}
 use Rattle.command_plans.specs.Parts.{StopsAt}
 use Rattle.command_plans.proofs.Steps.{both, goes_on, stops_on, stops_moved, stops_behind, reached_moved}
 use Rattle.commands.specs.Network.{network_of}
 use Rattle.commands.specs.Job.{Job}
-use Rattle.commands.specs.Plan.{network_plan}
+use Rattle.commands.specs.Plan.{cut_or, cut_plan, network_plan}
 use Rattle.commands.specs.Parts.{HasRead, IsShort, Ready, job_at}
 use Rattle.commands.specs.declared.job.Job.{Job as JobValue}
 
@@ -38,6 +42,30 @@ module _ (files files' : Files) (name : List ℕ) where
       (both files (network_plan name) (Rest parts) (Give made) (goes_on files (scenario_plan name) parts Rest reached)
       (goes_on files (images_plan parts.images) images (λ it. Give (network_of parts it)) (reached_moved files files' (images_plan parts.images) (Give images) e more)))
 
+-- ---- a network whose run is cut
+
+below : (a b : ℕ) → a < b → nat_lt a b ≡ true
+below a b h = grind (arith, nat_tests)
+
+not_below : (a b : ℕ) → b ≤ a → nat_lt a b ≡ false
+not_below a b h = grind (arith, nat_tests)
+
+module _ (files : Files) (name : List ℕ) (epochs : ℕ) (network : ScenarioOf) (reached : Reached files (network_plan name) (Give network)) where
+  cut : Reached files (cut_plan name epochs) (cut_or name (epochs * epoch) network)
+  cut = goes_on files (network_plan name) network (cut_or name (epochs * epoch)) reached
+
+  pub cut_reached : epochs * epoch < network.topo.limit → Reached files (cut_plan name epochs) (Give network)
+  cut_reached h =
+      subst (λ (b : Bool). Reached files (cut_plan name epochs) (if b then Give network else Refuse (BadState name (cause.Faulty PastEnd))))
+      (below (epochs * epoch) network.topo.limit h) cut
+
+  pub cut_refused : network.topo.limit ≤ epochs * epoch → Reached files (cut_plan name epochs) (Refuse (BadState name (cause.Faulty PastEnd)))
+  cut_refused h =
+      subst (λ (b : Bool). Reached files (cut_plan name epochs) (if b then Give network else Refuse (BadState name (cause.Faulty PastEnd))))
+      (not_below (epochs * epoch) network.topo.limit h) cut
+
+-- ---- what is left to do
+
 -- what is to be done with something that was read
 pub ready : {A : Type 0} (files : Files) (plan : Plan A) (next : A → Job) (got : A) (store store' : Reads) (err err' : Stream) (todo : JobValue)
     → Reached files plan (Give got) → next got ≡ job_at todo → store' ≡ store → err' ≡ err → IsShort todo
@@ -50,8 +78,8 @@ ready files plan next got store store' err err' todo reached is same silent shor
 }
 
 -- and with the network of a scenario
-pub network_ready : (files : Files) (name : List ℕ) (next : ScenarioOf → Job) (store store' : Reads) (err err' : Stream) (network : ScenarioOf) (todo : JobValue)
-    → HasRead files name store store' err err' network → next network ≡ job_at todo → IsShort todo
-    → Ready files (and_then (network_plan name) (λ it. Give (next it))) store store' err err' todo
-network_ready files name next store store' err err' network todo read is short =
-    ready files (network_plan name) next network store store' err err' todo read.reached is read.same read.silent short
+pub network_ready : (files : Files) (plan : Plan ScenarioOf) (next : ScenarioOf → Job) (store store' : Reads) (err err' : Stream) (network : ScenarioOf) (todo : JobValue)
+    → HasRead files plan store store' err err' network → next network ≡ job_at todo → IsShort todo
+    → Ready files (and_then plan (λ it. Give (next it))) store store' err err' todo
+network_ready files plan next store store' err err' network todo read is short =
+    ready files plan next network store store' err err' todo read.reached is read.same read.silent short

@@ -1,21 +1,30 @@
 -- What each status says of a call.
-use Rattle.std.proofs.Common.{◌≡◌, ◌≢◌, ◌⊎◌, ℕ, List, Option, Some, None, is_some, true, false, Result, Ok, Err, inl, inr, refl, sym, ap, ◌∙◌, subst}
+use Rattle.std.proofs.Common.{◌≡◌, ◌≢◌, ◌⊎◌, ℕ, ◌*◌, nat_lt, Bool, if◌then◌else◌, List, Option, Some, None, is_some, true, false, Result, Ok, Err, inl, inr, refl, sym, ap, ◌∙◌, subst}
 use Rattle.sim_io.specs.Outside.{Rose}
-use Rattle.command_words.specs.Words.{Asked, Node, Run, RunPlain, Monitor, Sniff, Check, Disasm, Asm, Make, asked_by, shown}
+use Rattle.command_words.specs.Words.{Asked, Node, Run, RunPlain, Monitor, Sniff, Check, Disasm, Asm, Make, Head, Save, Resume, asked_by, shown}
 use Rattle.command_words.specs.declared.command.Command.{Command}
-use Rattle.command_plans.specs.Plan.{Plan, Refuse, BadWords, BadScenario, BadImage, BadSource, image_plan, images_plan, scenario_plan, source_plan}
-use Rattle.command_plans.specs.Reading.{Files, Reached, Here, Verdict, Untold, Refused as RefusedVerdict, Accepted, Says, verdict}
+use Rattle.node_runner.specs.Flight.{epoch}
+use Rattle.node_runner.specs.Scenario.{ScenarioOf}
+use Rattle.checkpoint_text.specs.State.{state_in}
+use Rattle.state_text.specs.Text.{StateOf}
+use Rattle.state_text.specs.declared.fault.StateFault.{StateFault}
+use Rattle.state_text.specs.declared.fault.StateFault.TheVariants.{PastEnd}
+use Rattle.command_plans.specs.Plan.{Plan, Give, Refuse, Refusal, BadWords, BadScenario, BadImage, BadSource, BadState, and_then, image_plan, images_plan, scenario_plan, source_plan}
+use Rattle.command_plans.specs.Reading.{Files, Reached, Here, Refuses, Verdict, Untold, Refused as RefusedVerdict, Accepted, Says, verdict}
 use Rattle.command_plans.specs.Ends.{Ends, End, Done, OutFailed, NoMemory, ReadFailed, Refused, Reads, Stream, status_due, EndedSaying, EndedUnsaid, HasStatus}
 use Rattle.command_plans.specs.Parts.{Told, Said, Unsaid, Reported, Stopped, Written, end_of}
 use Rattle.command_plans.specs.declared.trouble.Trouble.{Trouble}
 use Rattle.command_plans.specs.declared.trouble.ImageCause.{ImageCause}
 use Rattle.command_plans.specs.declared.trouble.ScenarioCause.{ScenarioCause}
 use Rattle.command_plans.specs.declared.trouble.SourceCause.{SourceCause}
+use Rattle.command_plans.specs.declared.trouble.StateCause.{StateCause}
+use Rattle.command_plans.specs.declared.trouble.StateCause.TheVariants as cause
 use Rattle.command_plans.specs.declared.status.Status.{Status}
 use Rattle.command_plans.specs.declared.status.Status.TheVariants as case
-use Rattle.command_plans.proofs.Endings.{KeepsWords, ends_job, ends_stopped, keeps_both, keeps_image, keeps_images, keeps_reached, keeps_scenario, keeps_source, reported_stop}
+use Rattle.command_plans.proofs.Endings.{KeepsWords, ends_job, ends_stopped, keeps_both, keeps_image, keeps_images, keeps_reached, keeps_scenario, keeps_source, refuses, reported_stop, state_is_no_words}
 use Rattle.commands.specs.Job.{Job, output}
-use Rattle.commands.specs.Plan.{network_plan, plan, plan_for, plan_of}
+use Rattle.commands.specs.Network.{network_of}
+use Rattle.commands.specs.Plan.{cut_plan, network_plan, plan, plan_for, plan_of, state_or, state_plan}
 use Rattle.commands.specs.TopClause.{TopClause}
 use Rattle.commands.specs.Parts.{JobRead, Prepared, Prepares, Ready, job_at}
 use Rattle.commands.specs.declared.job.Job.{Job as JobValue}
@@ -26,6 +35,22 @@ asked_not_none o asked e none = cc
 keeps_network : (name : List ℕ) → KeepsWords (network_plan name)
 keeps_network name =
     keeps_both (scenario_plan name) _ (keeps_scenario name) (λ parts. keeps_both (images_plan parts.images) _ (keeps_images _ parts.images) (λ images. tt))
+
+keeps_if : (b : Bool) (network : ScenarioOf) (refusal : Refusal) → refusal ≢ BadWords → KeepsWords (if b then Give network else Refuse refusal)
+keeps_if true network refusal h = tt
+keeps_if false network refusal h = h
+
+keeps_cut : (name : List ℕ) (epochs : ℕ) → KeepsWords (cut_plan name epochs)
+keeps_cut name epochs =
+    keeps_both (network_plan name) _ (keeps_network name)
+    (λ network. keeps_if (nat_lt (epochs * epoch) network.topo.limit) network _ (state_is_no_words name (cause.Faulty PastEnd)))
+
+keeps_state_or : (name : List ℕ) (r : Result StateOf StateFault) → KeepsWords (state_or name r)
+keeps_state_or name (Ok state) = tt
+keeps_state_or name (Err fault) = state_is_no_words name (cause.Faulty fault)
+
+keeps_state : (network : ScenarioOf) (name : List ℕ) → KeepsWords (state_plan network name)
+keeps_state network name = (state_is_no_words name cause.TooLong, λ bytes. keeps_state_or name (state_in network bytes))
 
 keeps_plan : (asked : Asked) → KeepsWords (plan_of asked)
 unfolding plan_of
@@ -38,6 +63,10 @@ keeps_plan (Check file) = keeps_both (network_plan file) _ (keeps_network file) 
 keeps_plan (Disasm file) = keeps_both (image_plan file) _ (keeps_image file) (λ flash. tt)
 keeps_plan (Asm file) = keeps_both (source_plan file) _ (keeps_source file) (λ words. tt)
 keeps_plan (Make number) = tt
+keeps_plan (Head file epochs) = keeps_both (cut_plan file epochs) _ (keeps_cut file epochs) (λ network. tt)
+keeps_plan (Save file epochs) = keeps_both (cut_plan file epochs) _ (keeps_cut file epochs) (λ network. tt)
+keeps_plan (Resume file state) =
+    keeps_both (network_plan file) _ (keeps_network file) (λ network. keeps_both (state_plan network state) _ (keeps_state network state) (λ saved. tt))
 
 -- words are refused only where nothing is asked for
 asked_none : (files : Files) (asked : Option Asked) → Reached files (plan_for asked) (Refuse BadWords) → asked ≡ None
@@ -54,6 +83,7 @@ EndsWith case.BadScenario end = (name : List ℕ) × ((why : ScenarioCause) × (
 EndsWith case.BadImage end = (name : List ℕ) × ((why : ImageCause) × (end ≡ Refused (BadImage name why)))
 EndsWith case.NoMemory end = end ≡ NoMemory
 EndsWith case.BadSource end = (name : List ℕ) × ((why : SourceCause) × (end ≡ Refused (BadSource name why)))
+EndsWith case.BadState end = (name : List ℕ) × ((why : StateCause) × (end ≡ Refused (BadState name why)))
 
 ends_with_due : (end : End) → EndsWith (status_due end) end
 ends_with_due Done = refl
@@ -64,6 +94,7 @@ ends_with_due (Refused BadWords) = refl
 ends_with_due (Refused (BadScenario name why)) = (name, (why, refl))
 ends_with_due (Refused (BadImage name why)) = (name, (why, refl))
 ends_with_due (Refused (BadSource name why)) = (name, (why, refl))
+ends_with_due (Refused (BadState name why)) = (name, (why, refl))
 
 ends_with : (x answer : Status) (end : End) → answer ≡ status_due end → answer ≡ x → EndsWith x end
 ends_with x answer end e f = subst (λ s. EndsWith s end) (sym e ∙ f) (ends_with_due end)
@@ -140,6 +171,11 @@ module _ (files : Files) (words : List (List ℕ)) (store store' : Reads) (out o
       let s = said h case.BadSource e (λ f. cc) (λ f. cc) in
       (s.1.0, (s.1.1.0, subst SaidSo s.1.1.1 s.2))
 
+  state_from : HowNow → answer ≡ case.BadState → (name : List ℕ) × ((why : StateCause) × SaidSo (Refused (BadState name why)))
+  state_from h e =
+      let s = said h case.BadState e (λ f. cc) (λ f. cc) in
+      (s.1.0, (s.1.1.0, subst SaidSo s.1.1.1 s.2))
+
   memory_from : HowNow → answer ≡ case.NoMemory → SaidSo NoMemory
   memory_from h e =
       let s = said h case.NoMemory e (λ f. cc) (λ f. cc) in
@@ -179,6 +215,7 @@ module _ (files : Files) (words : List (List ℕ)) (store store' : Reads) (out o
     bad_image = image_from how;
     no_memory = memory_from how;
     bad_source = source_from how;
+    bad_state = state_from how;
     words_first = λ e. words_told (none e);
     complete = expected_from how;
   }

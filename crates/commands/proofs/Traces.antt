@@ -1,5 +1,5 @@
 -- The trace of a run, epoch by epoch.
-use Rattle.std.proofs.Common.{◌≡◌, ◌≢◌, ℕ, zero, suc, ◌+◌, ◌-◌, ◌≤◌, Bool, false, cond, ◌==◌, List, [], ◌++◌, Option, Some, None, refl, sym, ap, ◌∙◌, arith, append-nil, append_assoc}
+use Rattle.std.proofs.Common.{◌≡◌, ◌≢◌, ℕ, zero, suc, ◌+◌, ◌-◌, ◌<◌, ◌≤◌, Bool, true, false, cond, ◌==◌, List, [], ◌++◌, Option, Some, None, refl, sym, subst, ap, ◌∙◌, arith, append-nil, append_assoc}
 use Rattle.std.proofs.lemmas.Grind.{flat_map-append}
 use Rattle.std.proofs.lemmas.Bool.Decides.{nat_tests}
 use native.Mathlib.Decide.{ℕ_discrete}
@@ -46,25 +46,34 @@ rows_later f n (suc m) =
 differ : (a b : ℕ) → a ≢ b → (a == b) ≡ false
 differ a b e = grind (arith, nat_tests)
 
-module _ (f : Fleet NodeState Row) (c : ℕ) where
-  pub rows_early : c ≢ f.topo.limit → rows_upto f c ≡ (world_at f c).rows
-  rows_early d = ap (λ (b : Bool). (world_at f c).rows ++ cond b (end_rows f) []) (differ c f.topo.limit d) ∙ append-nil (world_at f c).rows
+-- below the limit no last rows are there
+pub rows_early : (f : Fleet NodeState Row) (c : ℕ) → c ≢ f.topo.limit → rows_upto f c ≡ (world_at f c).rows
+rows_early f c d = ap (λ (b : Bool). (world_at f c).rows ++ cond b (end_rows f) []) (differ c f.topo.limit d) ∙ append-nil (world_at f c).rows
 
-  begins_case : f.start ≤ c → c ≤ f.topo.limit → Dec (c ≡ f.topo.limit) → Begins (rows_upto f c) (run_rows f)
-  begins_case low h (yes e) = record { rest = []; parts = sym (rows_whole f c e) ∙ sym (append-nil (rows_upto f c)) }
-  begins_case low h (no d) =
-      let later = rows_later f (c - f.start) (f.topo.limit - c) in
-      let n : f.topo.limit - c + (c - f.start) ≡ f.topo.limit - f.start = omega arith in
-      let parts : (world_at f f.topo.limit).rows ≡ (world_at f c).rows ++ later.rest = ap (λ k. (world_after f k).rows) (sym n) ∙ later.parts in
+-- where a run begins below the limit there are none
+pub rows_none : (f : Fleet NodeState Row) → f.start < f.topo.limit → rows_upto f f.start ≡ []
+unfolding world_after
+rows_none f h =
+    let e : f.start - f.start ≡ 0 = omega arith in
+    rows_early f f.start (λ g. absurd (omega arith)) ∙ ap (λ n. (world_after f n).rows) e
+
+module _ (f : Fleet NodeState Row) (c end : ℕ) (low : f.start ≤ c) (high : c ≤ end) (last : end ≤ f.topo.limit) where
+  begins_case : Dec (c ≡ end) → Begins (rows_upto f c) (rows_upto f end)
+  begins_case (yes e) = record { rest = []; parts = ap (rows_upto f) (sym e) ∙ sym (append-nil (rows_upto f c)) }
+  begins_case (no d) =
+      let later = rows_later f (c - f.start) (end - c) in
+      let n : end - c + (c - f.start) ≡ end - f.start = omega arith in
+      let parts : (world_at f end).rows ≡ (world_at f c).rows ++ later.rest = ap (λ k. (world_after f k).rows) (sym n) ∙ later.parts in
+      let more : List Row = cond (end == f.topo.limit) (end_rows f) [] in
       record {
-        rest = later.rest ++ end_rows f;
-        parts = ap (λ l. l ++ end_rows f) parts ∙ append_assoc (world_at f c).rows later.rest (end_rows f)
-            ∙ ap (λ l. l ++ (later.rest ++ end_rows f)) (sym (rows_early d));
+        rest = later.rest ++ more;
+        parts = ap (λ l. l ++ more) parts ∙ append_assoc (world_at f c).rows later.rest more
+            ∙ ap (λ l. l ++ (later.rest ++ more)) (sym (rows_early f c (λ e. d (omega arith))));
       }
 
-  -- the rows up to a cycle are the front of those of the whole run
-  begins : f.start ≤ c → c ≤ f.topo.limit → Begins (rows_upto f c) (run_rows f)
-  begins low h = begins_case low h (ℕ_discrete c f.topo.limit)
+  -- the rows up to a cycle are the front of those up to a later one
+  begins : Begins (rows_upto f c) (rows_upto f end)
+  begins = begins_case (ℕ_discrete c end)
 
 text_parts : (a b : List Row) → rows_text (a ++ b) ≡ rows_text a ++ rows_text b
 unfolding rows_text
@@ -92,11 +101,11 @@ taken_next o p q before rows after e f h =
     h ∙ ap (λ x. extended x (rows_text rows)) e ∙ extended-extended o (rows_text before) (rows_text rows)
     ∙ ap (extended o) (sym (text_parts before rows) ∙ ap rows_text (sym f))
 
-module _ (f : Fleet NodeState Row) (c : ℕ) (low : f.start ≤ c) (high : c ≤ f.topo.limit) where
-  -- a sink that took the text of some rows of a run took a front of its trace
-  pub front_taken : (o p : Option (List ℕ)) → p ≡ extended o (rows_text (rows_upto f c)) → TookFront o (rows_text (run_rows f)) p
-  front_taken o p e =
-      let b = begins f c low high in
+module _ (f : Fleet NodeState Row) (c end : ℕ) (low : f.start ≤ c) (high : c ≤ end) (last : end ≤ f.topo.limit) where
+  -- a sink that took the text of some rows of a run took a front of that of more rows
+  pub front_upto : (o p : Option (List ℕ)) → p ≡ extended o (rows_text (rows_upto f c)) → TookFront o (rows_text (rows_upto f end)) p
+  front_upto o p e =
+      let b = begins f c end low high last in
       record {
         front = rows_text (rows_upto f c);
         rest = rows_text b.rest;
@@ -105,10 +114,10 @@ module _ (f : Fleet NodeState Row) (c : ℕ) (low : f.start ≤ c) (high : c ≤
       }
 
   -- and so where a write failed in the midst of the next ones
-  pub front_failed : (o p q : Option (List ℕ)) (before rows : List Row)
-      → p ≡ extended o (rows_text before) → rows_upto f c ≡ before ++ rows → TookFront p (rows_text rows) q → TookFront o (rows_text (run_rows f)) q
-  front_failed o p q before rows e is t =
-      let b = begins f c low high in
+  pub failed_upto : (o p q : Option (List ℕ)) (before rows : List Row)
+      → p ≡ extended o (rows_text before) → rows_upto f c ≡ before ++ rows → TookFront p (rows_text rows) q → TookFront o (rows_text (rows_upto f end)) q
+  failed_upto o p q before rows e is t =
+      let b = begins f c end low high last in
       let text = rows_text before in
       record {
         front = text ++ t.front;
@@ -119,3 +128,16 @@ module _ (f : Fleet NodeState Row) (c : ℕ) (low : f.start ≤ c) (high : c ≤
             ∙ append_assoc (text ++ t.front) t.rest (rows_text b.rest);
         taken = t.taken ∙ ap (λ x. extended x t.front) e ∙ extended-extended o text t.front;
       }
+
+-- ---- the whole run
+
+module _ (f : Fleet NodeState Row) (c : ℕ) (low : f.start ≤ c) (high : c ≤ f.topo.limit) where
+  whole : (o p : Option (List ℕ)) → TookFront o (rows_text (rows_upto f f.topo.limit)) p → TookFront o (rows_text (run_rows f)) p
+  whole o p t = subst (λ (l : List Row). TookFront o (rows_text l) p) (rows_whole f f.topo.limit refl) t
+
+  pub front_taken : (o p : Option (List ℕ)) → p ≡ extended o (rows_text (rows_upto f c)) → TookFront o (rows_text (run_rows f)) p
+  front_taken o p e = whole o p (front_upto f c f.topo.limit low high (omega arith) o p e)
+
+  pub front_failed : (o p q : Option (List ℕ)) (before rows : List Row)
+      → p ≡ extended o (rows_text before) → rows_upto f c ≡ before ++ rows → TookFront p (rows_text rows) q → TookFront o (rows_text (run_rows f)) q
+  front_failed o p q before rows e is t = whole o q (failed_upto f c f.topo.limit low high (omega arith) o p q before rows e is t)

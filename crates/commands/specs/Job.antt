@@ -1,10 +1,16 @@
 -- What a command writes.
-use Rattle.std.specs.Prelude.{ℕ, List}
+use Rattle.std.specs.Prelude.{ℕ, ◌*◌, List}
 use Rattle.ihex_loader.specs.Flash.{Image}
 use Rattle.ihex_loader.specs.Hex.{hex_of}
-use Rattle.node_runner.specs.Scenario.{ScenarioOf}
+use Rattle.node_runner.specs.Flight.{epoch}
+use Rattle.node_runner.specs.Scenario.{ScenarioOf, fleet_of}
 use Rattle.run_reports.specs.Profiles.{profiles_text}
 use Rattle.run_reports.specs.Frames.{frames_text}
+use Rattle.checkpoint_text.specs.Onward.{onward}
+use Rattle.checkpoint_text.specs.State.{saved_at}
+use Rattle.state_text.specs.Text.{StateOf, state_text}
+use Rattle.trace_writer.specs.Line.{rows_text}
+use Rattle.world_core.specs.Order.{run_rows, world_at}
 use Rattle.commands.specs.Listing.{listing}
 use Rattle.commands.specs.Network.{size_line, trace_of}
 use Rattle.commands.specs.Sample.{sample_line}
@@ -25,6 +31,12 @@ pub data Job : Type 0 where
   AsmJob : (words : List ℕ) → Job
   -- what came out of the sample of this number
   SampleJob : (number : ℕ) → Job
+  -- the trace of the first epochs of this network
+  HeadJob : (network : ScenarioOf) (epochs : ℕ) → Job
+  -- the state in which it is then
+  SaveJob : (network : ScenarioOf) (epochs : ℕ) → Job
+  -- the trace of this network from a state on
+  ResumeJob : (network : ScenarioOf) (state : StateOf) → Job
 
 -- what a job writes to `out`
 unfoldable pub output : Job → List ℕ
@@ -35,3 +47,6 @@ output (SizeJob network) = size_line network
 output (DisasmJob flash) = listing flash
 output (AsmJob words) = hex_of words
 output (SampleJob number) = sample_line number
+output (HeadJob network epochs) = rows_text (world_at (fleet_of network) (epochs * epoch)).rows
+output (SaveJob network epochs) = state_text (saved_at network (epochs * epoch))
+output (ResumeJob network state) = rows_text (run_rows (onward network state))

@@ -1,15 +1,17 @@
 -- What the parts of a call owe to one another: the job that a value of the code stands for, and what is known once it was read.
 -- These are the contracts of functions inside this crate, and no part of what the top clause says.
-use Rattle.std.specs.Prelude.{◌≡◌, ◌≤◌, ◌-◌, ℕ, true, is_some, length, List, Result, Ok, Err}
+use Rattle.std.specs.Prelude.{◌≡◌, false, ◌≤◌, ◌<◌, ◌-◌, ◌*◌, ℕ, min, true, is_some, length, List, Result, Ok, Err}
+use Rattle.node_runner.specs.Flight.{epoch}
 use Rattle.node_runner.specs.Scenario.{ScenarioOf}
+use Rattle.checkpoint_text.specs.Onward.{SavedAt}
 use Rattle.command_words.specs.Words.{asked_by}
 use Rattle.command_plans.specs.Plan.{Plan, Give}
 use Rattle.command_plans.specs.Reading.{Files, Reached}
 use Rattle.command_plans.specs.Ends.{Reads, Stream}
 use Rattle.command_plans.specs.Parts.{Stopped}
 use Rattle.command_plans.specs.declared.status.Status.{Status}
-use Rattle.commands.specs.Job.{Job, TraceJob, MonitorJob, SniffJob, SizeJob, DisasmJob, AsmJob, SampleJob}
-use Rattle.commands.specs.Plan.{network_plan, plan}
+use Rattle.commands.specs.Job.{Job, TraceJob, MonitorJob, SniffJob, SizeJob, DisasmJob, AsmJob, SampleJob, HeadJob, SaveJob, ResumeJob}
+use Rattle.commands.specs.Plan.{plan}
 use Rattle.commands.specs.TopClause.{TopClause}
 use Rattle.commands.specs.declared.job.Job.{Job as JobValue}
 use Rattle.commands.specs.declared.job.Job.TheVariants as job
@@ -18,9 +20,14 @@ use Rattle.commands.specs.declared.job.Job.TheVariants as job
 abbrev pub IsNarrow : ScenarioOf → Type 0
 IsNarrow network = network.to - network.from ≤ 20000
 
--- the network of the scenario in this file was read, and nothing was said
-pub record HasRead (files : Files) (name : List ℕ) (store store' : Reads) (err err' : Stream) (network : ScenarioOf) : Type 0 where
-  pub reached : Reached files (network_plan name) (Give network)
+-- an epoch of the network ends at this cycle
+pub record EndsEpoch (network : ScenarioOf) (cycle : ℕ) : Type 0 where
+  pub count : ℕ
+  pub at : cycle ≡ min (count * epoch) network.topo.limit
+
+-- a plan that gets the network of a scenario was read, and nothing was said
+pub record HasRead (files : Files) (plan : Plan ScenarioOf) (store store' : Reads) (err err' : Stream) (network : ScenarioOf) : Type 0 where
+  pub reached : Reached files plan (Give network)
   pub same : store' ≡ store
   pub silent : err' ≡ err
   pub narrow : IsNarrow network
@@ -35,8 +42,16 @@ job_at (job.Size network) = SizeJob network
 job_at (job.Listing flash) = DisasmJob flash
 job_at (job.Program words) = AsmJob words.items
 job_at (job.Sample number) = SampleJob number
+job_at (job.Head network epochs) = HeadJob network epochs
+job_at (job.Save network epochs) = SaveJob network epochs
+job_at (job.Resume network saved) = ResumeJob network saved.state
 
--- a program is no longer than the flash, and a window that is watched is narrow
+-- a saved state of this network, with which nothing was done yet
+pub record IsFresh (network : ScenarioOf) (saved : SavedAt) : Type 0 where
+  pub is : saved ≡ record { scenario = network; state = saved.state; floor = saved.state.cycle; failed = false }
+  pub early : saved.state.cycle < network.topo.limit
+
+-- a program is no longer than the flash, a window that is watched is narrow, and a run is cut below its limit
 abbrev pub IsShort : JobValue → Type 0
 IsShort (job.Trace network) = Unit {0}
 IsShort (job.PlainTrace network) = Unit {0}
@@ -46,6 +61,9 @@ IsShort (job.Size network) = Unit {0}
 IsShort (job.Listing flash) = Unit {0}
 IsShort (job.Program words) = length words.items ≤ 65536
 IsShort (job.Sample number) = Unit {0}
+IsShort (job.Head network epochs) = epochs * epoch < network.topo.limit
+IsShort (job.Save network epochs) = epochs * epoch < network.topo.limit
+IsShort (job.Resume network saved) = IsFresh network saved
 
 -- what a plan reads was read, this is left to do, and nothing was said
 pub record Ready (files : Files) (plan : Plan Job) (store store' : Reads) (err err' : Stream) (todo : JobValue) : Type 0 where

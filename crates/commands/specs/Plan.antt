@@ -1,14 +1,37 @@
 -- What each command reads, in order, and what it is to write then.
-use Rattle.std.specs.Prelude.{ℕ, List, Option, Some, None}
-use Rattle.command_words.specs.Words.{Asked, Node, Run, RunPlain, Monitor, Sniff, Check, Disasm, Asm, Make, asked_by}
+use Rattle.std.specs.Prelude.{ℕ, ◌*◌, nat_lt, if◌then◌else◌, List, Option, Some, None, Result, Ok, Err}
+use Rattle.command_words.specs.Words.{Asked, Node, Run, RunPlain, Monitor, Sniff, Check, Disasm, Asm, Make, Head, Save, Resume, asked_by}
+use Rattle.node_runner.specs.Flight.{epoch}
 use Rattle.node_runner.specs.Scenario.{ScenarioOf}
-use Rattle.command_plans.specs.Plan.{Plan, Give, Refuse, BadWords, and_then, image_plan, images_plan, scenario_plan, source_plan}
-use Rattle.commands.specs.Job.{Job, TraceJob, MonitorJob, SniffJob, SizeJob, DisasmJob, AsmJob, SampleJob}
+use Rattle.checkpoint_text.specs.State.{state_in}
+use Rattle.state_text.specs.Text.{StateOf}
+use Rattle.state_text.specs.declared.fault.StateFault.{StateFault}
+use Rattle.state_text.specs.declared.fault.StateFault.TheVariants.{PastEnd}
+use Rattle.command_plans.specs.declared.trouble.StateCause.TheVariants as cause
+use Rattle.command_plans.specs.Plan.{Plan, Give, Refuse, Read, BadWords, BadState, and_then, image_plan, images_plan, scenario_plan, source_plan}
+use Rattle.commands.specs.Job.{Job, TraceJob, MonitorJob, SniffJob, SizeJob, DisasmJob, AsmJob, SampleJob, HeadJob, SaveJob, ResumeJob}
 use Rattle.commands.specs.Network.{lone_node, network_of}
 
 -- read a scenario and then the image of each of its nodes, for the network
 abbrev pub network_plan : List ℕ → Plan ScenarioOf
 network_plan name = and_then (scenario_plan name) (λ parts. and_then (images_plan parts.images) (λ images. Give (network_of parts images)))
+
+-- a run can be cut where an epoch ends below its limit
+abbrev pub cut_or : List ℕ → ℕ → ScenarioOf → Plan ScenarioOf
+cut_or name cycle network = if nat_lt cycle network.topo.limit then Give network else Refuse (BadState name (cause.Faulty PastEnd))
+
+-- read a network whose run is to be cut after so many epochs
+abbrev pub cut_plan : List ℕ → ℕ → Plan ScenarioOf
+cut_plan name epochs = and_then (network_plan name) (cut_or name (epochs * epoch))
+
+-- a state is accepted where nothing is wrong with its text
+abbrev pub state_or : List ℕ → Result StateOf StateFault → Plan StateOf
+state_or name (Ok state) = Give state
+state_or name (Err fault) = Refuse (BadState name (cause.Faulty fault))
+
+-- read a state of a network, of at most 4,194,304 bytes of text
+abbrev pub state_plan : ScenarioOf → List ℕ → Plan StateOf
+state_plan network name = Read name 4194304 (BadState name cause.TooLong) (λ bytes. state_or name (state_in network bytes))
 
 -- what each command reads
 unfoldable pub plan_of : Asked → Plan Job
@@ -21,6 +44,9 @@ plan_of (Check file) = and_then (network_plan file) (λ network. Give (SizeJob n
 plan_of (Disasm file) = and_then (image_plan file) (λ flash. Give (DisasmJob flash))
 plan_of (Asm file) = and_then (source_plan file) (λ words. Give (AsmJob words))
 plan_of (Make number) = Give (SampleJob number)
+plan_of (Head file epochs) = and_then (cut_plan file epochs) (λ network. Give (HeadJob network epochs))
+plan_of (Save file epochs) = and_then (cut_plan file epochs) (λ network. Give (SaveJob network epochs))
+plan_of (Resume file state) = and_then (network_plan file) (λ network. and_then (state_plan network state) (λ saved. Give (ResumeJob network saved)))
 
 -- the plan of what the words ask for
 abbrev pub plan_for : Option Asked → Plan Job

@@ -23,10 +23,13 @@ use std::alloc::Global;
 /// | `check FILE` | how many nodes, links and cycles the network of the scenario in FILE has; it is not run |
 /// | `disasm FILE` | the address and the text of each instruction of the image in FILE, a line each |
 /// | `asm FILE` | the program of the source in assembly in FILE, as an image in Intel HEX |
+/// | `head FILE N` | the trace of the first N epochs, of 262,144 cycles each, of the network of the scenario in FILE |
+/// | `save FILE N` | the state in which it is then |
+/// | `resume FILE STATE` | the trace of that network from the state in STATE on |
 /// | `make NUMBER` | what came out of the sample network of NUMBER: how often its nodes sent, and what they heard |
 ///
 /// FILE is a word that is not empty and does not begin with `-`; CYCLES is one to eight digits, 1 to 10,000,000; NUMBER is
-/// one to five, up to 65,535. All other words are `BadWords`. Where the answer is not `Done`, `err` has one line that says
+/// one to five, up to 65,535; N is one to seven, 1 or more. All other words are `BadWords`. Where the answer is not `Done`, `err` has one line that says
 /// why, or the write of that line failed and the answer is `SinkFailed`. A node that stops is no fault.
 pub fn avrora_alone<'w, S: Store, O: Sink, E: Sink>(
     alloc: Global,

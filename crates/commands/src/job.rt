@@ -4,12 +4,15 @@ ghost use Rattle.command_plans.specs.Parts.{Written};
 ghost use Rattle.commands.specs.Job.{output};
 ghost use Rattle.commands.specs.Parts.{IsShort, job_at};
 
+use crate::checkpoints::{write_onward, write_saved};
 use crate::frames::write_frames;
 use crate::image::write_program;
 use crate::listing::write_listing;
-use crate::network::{write_size, write_trace};
+use crate::network::write_size;
 use crate::profiles::write_profiles;
 use crate::sample::write_sample;
+use crate::trace::{write_head, write_trace};
+use checkpoint_text::Saved;
 use command_plans::Trouble;
 use ihex_loader::Flash;
 use node_runner::Scenario;
@@ -34,6 +37,12 @@ pub enum Job {
     Program(Vec<u16>),
     /// To write what comes out of the sample of this number.
     Sample(u16),
+    /// To write the trace of the first epochs of this network, so many.
+    Head(Scenario, u64),
+    /// To write the state in which this network is after so many epochs.
+    Save(Scenario, u64),
+    /// To write the trace of this network from a saved state on.
+    Resume(Scenario, Saved),
 }
 
 /// Does a job on one thread.
@@ -51,5 +60,8 @@ pub fn do_job<'n, O: Sink>(alloc: Global, job: Job, out: &mut O) -> Result<(), T
         Job::Listing(flash) => write_listing(&flash, out),
         Job::Program(words) => write_program(alloc, words.as_slice(), out),
         Job::Sample(number) => write_sample(alloc, number, out),
+        Job::Head(network, epochs) => write_head(alloc, &network, epochs, out),
+        Job::Save(network, epochs) => write_saved(alloc, &network, epochs, out),
+        Job::Resume(network, saved) => write_onward(&network, saved, out),
     }
 }

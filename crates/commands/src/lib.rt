@@ -6,6 +6,7 @@
 #![tactic(auto)]
 
 mod alone;
+mod checkpoints;
 mod frames;
 mod image;
 mod job;
@@ -17,6 +18,7 @@ mod reading;
 mod sample;
 mod threads;
 mod top;
+mod trace;
 
 pub use alone::avrora_alone;
 pub use command_plans::Status;

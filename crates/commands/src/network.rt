@@ -1,7 +1,6 @@
-// Networks, and what is written of them.
-ghost use Rattle.std.specs.Prelude.{◌≡◌, ◌≤◌, ◌++◌, IfOk, false};
-ghost use Rattle.node_runner.specs.Scenario.{IsScenario};
-ghost use Rattle.commands.specs.Network.{lone_node, size_line, trace_of};
+// The network of one node, and how large a network is.
+ghost use Rattle.std.specs.Prelude.{◌≡◌, ◌≤◌, ◌++◌, IfOk};
+ghost use Rattle.commands.specs.Network.{lone_node, size_line};
 ghost use Rattle.command_plans.specs.Ends.{stream};
 ghost use Rattle.command_plans.specs.Parts.{Written};
 
@@ -9,7 +8,6 @@ use arrayvec::ArrayString;
 use avr_base::NoMemory;
 use avr_program::Program;
 use command_plans::Trouble;
-use fleet_plain::PlainRun;
 use ihex_loader::Flash;
 use node_runner::Scenario;
 use scenario_file::{BYTE_TIME, LATENCY, ScenarioText, no_script};
@@ -41,42 +39,6 @@ pub fn lone_node(alloc: Global, flash: Flash, cycles: u64) -> Result<Scenario, N
         window: (0, cycles.min(TRACED)),
     };
     Ok(Scenario::new(text, images))
-}
-
-// Writes the rows of each epoch of a run from its first on, before the next one is run.
-fn write_epochs<'n, O: Sink>(
-    network: &Scenario,
-    run: &mut PlainRun,
-    out: &mut O,
-) -> Result<(), Trouble<'n>>
-    requires sound { IsScenario network.now }
-    requires first { run.old ≡ record { scenario = network.now; floor = 0; failed = false } }
-    ensures { Written (trace_of network.now) (stream (O.taken out.old) (O.faults out.old)) (stream (O.taken out.new) (O.faults out.new)) result }
-{
-    while !run.done() {
-        let Ok(rows) = run.epoch(network) else {
-            return Err(Trouble::NoMemory);
-        };
-        match trace_writer::write(rows.as_slice(), out) {
-            Ok(()) => {}
-            Err(_) => return Err(Trouble::OutFailed),
-        }
-    }
-    Ok(())
-}
-
-/// Runs a network and writes its trace, the rows of each epoch before the next one is run.
-pub fn write_trace<'n, O: Sink>(
-    alloc: Global,
-    network: &Scenario,
-    out: &mut O,
-) -> Result<(), Trouble<'n>>
-    ensures { Written (trace_of network.now) (stream (O.taken out.old) (O.faults out.old)) (stream (O.taken out.new) (O.faults out.new)) result }
-{
-    match PlainRun::new(alloc, network) {
-        Ok(mut run) => write_epochs(network, &mut run, out),
-        Err(_) => Err(Trouble::NoMemory),
-    }
 }
 
 // The line that says how large a network is.

@@ -1,20 +1,25 @@
 // What is read before a job is done.
-ghost use Rattle.std.specs.Prelude.{◌≡◌, map, IfErr, IfOk};
+ghost use Rattle.std.specs.Prelude.{◌≡◌, ◌<◌, ◌≤◌, ◌*◌, map, IfErr, IfOk};
 ghost use Rattle.command_words.specs.Words.{IsInLimits, shown};
 ghost use Rattle.command_plans.specs.Ends.{reads, stream};
 ghost use Rattle.command_plans.specs.Parts.{Stopped};
-ghost use Rattle.commands.specs.Plan.{network_plan, plan_of};
+ghost use Rattle.commands.specs.Plan.{cut_plan, network_plan, plan_of};
 ghost use Rattle.commands.specs.Parts.{HasRead, JobRead, Prepares};
+ghost use Rattle.node_runner.specs.Flight.{epoch};
 
+use crate::checkpoints::read_saved;
 use crate::job::Job;
 use crate::network::lone_node;
 use command_plans::{
-    Complaint, Status, Trouble, read_image, read_images, read_scenario, read_source, tell,
+    Complaint, StateCause, Status, Trouble, read_image, read_images, read_scenario, read_source,
+    tell,
 };
 use command_words::{Command, read_words};
 use node_runner::Scenario;
 use sim_io::{Sink, Store};
+use state_text::StateFault;
 use std::alloc::Global;
+use world_core::EPOCH;
 
 // The network of the scenario in `file`, with the image of each node. Where it is not to be had, `err` has the line that says why, and
 // the answer is the status of the call: that line may name a file of the scenario's own, so it cannot be written later.
@@ -25,7 +30,7 @@ fn read_network<'w, S: Store, E: Sink>(
     err: &mut E,
 ) -> Result<Scenario, Status>
     ensures held { S.held store.new ≡ S.held store.old }
-    ensures ok { IfOk result (HasRead (S.held store.old) file.entry.now
+    ensures ok { IfOk result (HasRead (S.held store.old) (network_plan file.entry.now)
         (reads (S.faults store.old) (S.failed store.old)) (reads (S.faults store.new) (S.failed store.new))
         (stream (E.taken err.old) (E.faults err.old)) (stream (E.taken err.new) (E.faults err.new))) }
     ensures err { IfErr result (Stopped (S.held store.old) (network_plan file.entry.now)
@@ -40,6 +45,36 @@ fn read_network<'w, S: Store, E: Sink>(
         Ok(images) => Ok(Scenario::new(text, images)),
         Err(trouble) => Err(tell(err, trouble)),
     }
+}
+
+// The network of the scenario in a file, of which a run is cut after so many epochs. Where that is not to be had, or these epochs do
+// not end below its limit, `err` has the line that says why, and the answer is the status of the call.
+fn read_cut<'w, S: Store, E: Sink>(
+    alloc: Global,
+    file: &'w str,
+    epochs: u64,
+    store: &mut S,
+    err: &mut E,
+) -> Result<Scenario, Status>
+    requires few { epochs ≤ 9999999 }
+    ensures held { S.held store.new ≡ S.held store.old }
+    ensures ok { IfOk result (HasRead (S.held store.old) (cut_plan file.entry.now epochs)
+        (reads (S.faults store.old) (S.failed store.old)) (reads (S.faults store.new) (S.failed store.new))
+        (stream (E.taken err.old) (E.faults err.old)) (stream (E.taken err.new) (E.faults err.new))) }
+    ensures within { IfOk result (λ network. epochs * epoch < network.topo.limit) }
+    ensures err { IfErr result (Stopped (S.held store.old) (cut_plan file.entry.now epochs)
+        (reads (S.faults store.old) (S.failed store.old)) (reads (S.faults store.new) (S.failed store.new))
+        (stream (E.taken err.old) (E.faults err.old)) (stream (E.taken err.new) (E.faults err.new))) }
+{
+    let network = match read_network(alloc, file, store, err) {
+        Ok(network) => network,
+        Err(status) => return Err(status),
+    };
+    if epochs * EPOCH < network.lawful_topo().limit() {
+        return Ok(network);
+    }
+    let past_end = StateCause::Faulty(StateFault::PastEnd);
+    Err(tell(err, Trouble::Refused(Complaint::BadState(file, past_end))))
 }
 
 // Reads what a command needs. Where that is not to be had, `err` has the line that says why, and the answer is the status of the
@@ -93,6 +128,21 @@ fn read_job<'w, S: Store, E: Sink>(
             Err(trouble) => Err(tell(err, trouble)),
         },
         Command::Make { number } => Ok(Job::Sample(number)),
+        Command::Head { file, epochs } => match read_cut(alloc, file, epochs, store, err) {
+            Ok(network) => Ok(Job::Head(network, epochs)),
+            Err(status) => Err(status),
+        },
+        Command::Save { file, epochs } => match read_cut(alloc, file, epochs, store, err) {
+            Ok(network) => Ok(Job::Save(network, epochs)),
+            Err(status) => Err(status),
+        },
+        Command::Resume { file, state } => match read_network(alloc, file, store, err) {
+            Ok(network) => match read_saved(alloc, &network, state, store) {
+                Ok(saved) => Ok(Job::Resume(network, saved)),
+                Err(trouble) => Err(tell(err, trouble)),
+            },
+            Err(status) => Err(status),
+        },
     }
 }
 

@@ -167,7 +167,7 @@ known_by t None b c e early states h spi radio =
     let s : SpiWithin (t + 1) b.spi = record {
       control = h.spi.control;
       last = h.spi.last;
-      transfer = shift_later t b.spi.shift_register (none_ended t b.spi.shift_register e) h.spi.shift_register;
+      shift_register = shift_later t b.spi.shift_register (none_ended t b.spi.shift_register e) h.spi.shift_register;
     } in
     (subst (SpiWithin (t + 1)) (sym spi) s, subst RadioWithin (sym radio) h.radio)
 known_by t (Some byte) b c e early states h spi radio =

@@ -100,7 +100,7 @@ waits_fits None (Some f) h = refl
 waits_fits (Some b) None h = absurd (false≢true (h refl))
 waits_fits (Some b) (Some f) h = refl
 
-byte_fits : (w : Option ℕ) → ByteWithin w → nat_le (usart.waiting_number w) (owned (bit (is_some w) 1 == 1) 255) ≡ true
+byte_fits : (w : Option ℕ) → ByteWithin w → nat_le (usart.transmit_buffer_number w) (owned (bit (is_some w) 1 == 1) 255) ≡ true
 byte_fits None h = refl
 byte_fits (Some b) h = le-leb b 255 h
 

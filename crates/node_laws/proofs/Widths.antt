@@ -97,7 +97,7 @@ second_most Empty h = omega arith
 second_most (One a) h = omega arith
 second_most (Two a b) h = h.1
 
-waiting_most : (o : Option ℕ) → ByteWithin o → usart.waiting_number o ≤ 255
+waiting_most : (o : Option ℕ) → ByteWithin o → usart.transmit_buffer_number o ≤ 255
 waiting_most None h = omega arith
 waiting_most (Some b) h = h
 
@@ -109,7 +109,7 @@ small_usart t u states h =
     (both (is_small (usart.first_number u.receive_buffer) (omega (arith, first_most u.receive_buffer h.receive_buffer)))
     (both (is_small (usart.second_number u.receive_buffer) (omega (arith, second_most u.receive_buffer h.receive_buffer))) (both (bit_small (is_some u.shift_register))
     (both (is_small (end_number u.shift_register) (end_most t u.shift_register h.shift_register)) (both (is_small (byte_number u.shift_register) (omega (arith, shifted_most t u.shift_register h.shift_register)))
-    (both (bit_small (is_some u.transmit_buffer)) (both (is_small (usart.waiting_number u.transmit_buffer) (omega (arith, waiting_most u.transmit_buffer h.transmit_buffer))) refl)))))))))))))
+    (both (bit_small (is_some u.transmit_buffer)) (both (is_small (usart.transmit_buffer_number u.transmit_buffer) (omega (arith, waiting_most u.transmit_buffer h.transmit_buffer))) refl)))))))))))))
 
 small_spi : (t : ℕ) (s : Spi) → SpiWithin t s → all (spi.numbers_of s) ≡ true
 small_spi t s h =

@@ -1,5 +1,5 @@
-use Rattle.std.proofs.Common.{is_some, refl, sym, ap}
-use Rattle.command_words.proofs.Accepts.{node_triple, run_triple, no_triple, other}
+use Rattle.std.proofs.Common.{inl, inr, is_some, refl, sym, ap}
+use Rattle.command_words.proofs.Accepts.{node_triple, run_triple, head_triple, save_triple, resume_triple, no_triple, other}
 use Rattle.command_words.proofs.accepted.is_triple.Goals as goal
 
 pub returns-in-node : goal.returns-in-node
@@ -8,8 +8,19 @@ returns-in-node c =
 
 pub returns-in_default : goal.returns-in_default
 returns-in_default c =
-    sym (no_triple c.args.command.now c.args.first.now c.args.second.now (other _ _ c.in_default.not-node) (other _ _ c.in_default.not-run))
+    let d = c.in_default in
+    sym (no_triple c.args.command.now c.args.first.now c.args.second.now (other _ _ d.not-node) (other _ _ d.not-run) (other _ _ d.not-head) (other _ _ d.not-save) (other _ _ d.not-resume))
 
 pub returns-in-run : goal.returns-in-run
 returns-in-run c =
     rw (c.in-run.is, run_triple c.args.first.now c.args.second.now, sym c.eq.ensures, sym c.is_file-in-run.ensures) refl
+
+pub returns-in-head : goal.returns-in-head
+returns-in-head c = elim c.in-head.is [
+  | inl head ↦ rw (head, head_triple c.args.first.now c.args.second.now, sym c.is_file-in-head.ensures, ap is_some (sym c.epochs.ensures), sym c.is_some-in-head.ensures) refl
+  | inr save ↦ rw (save, save_triple c.args.first.now c.args.second.now, sym c.is_file-in-head.ensures, ap is_some (sym c.epochs.ensures), sym c.is_some-in-head.ensures) refl
+]
+
+pub returns-in-resume : goal.returns-in-resume
+returns-in-resume c =
+    rw (c.in-resume.is, resume_triple c.args.first.now c.args.second.now, sym c.is_file-in-resume.ensures, sym c.is_file-in-resume-2.ensures) refl

@@ -4,15 +4,16 @@ use Rattle.command_plans.specs.Plan.{Give, image_plan, source_plan}
 use Rattle.command_plans.specs.Parts.{end_at}
 use Rattle.command_plans.specs.Reading.{Here}
 use Rattle.command_plans.proofs.Steps.{stopped_behind}
-use Rattle.commands.specs.Job.{Job, TraceJob, MonitorJob, SniffJob, SizeJob, DisasmJob, AsmJob, SampleJob}
+use Rattle.commands.specs.Job.{Job, TraceJob, MonitorJob, SniffJob, SizeJob, DisasmJob, AsmJob, SampleJob, HeadJob, SaveJob}
 use Rattle.commands.specs.Network.{lone_node}
-use Rattle.commands.specs.Plan.{network_plan, plan_of}
+use Rattle.commands.specs.Plan.{cut_plan, network_plan, plan_of}
 use Rattle.commands.proofs.Networks.{network_ready, ready}
+use Rattle.commands.proofs.States.{resume_ready, resume_stopped}
 use Rattle.commands.proofs.reading.read_job.Goals as goal
 
 pub returns-in-Ok-clause-read : goal.returns-in-Ok-clause-read
 unfolding plan_of
-returns-in-Ok-clause-read g c = rw c.in-Run.is (network_ready _ c.in-Run.file.now TraceJob _ _ _ _ _ _ c.in-Ok.ensures.ok refl tt)
+returns-in-Ok-clause-read g c = rw c.in-Run.is (network_ready _ (network_plan c.in-Run.file.now) TraceJob _ _ _ _ _ _ c.in-Ok.ensures.ok refl tt)
 
 pub returns-in-Err-clause-read : goal.returns-in-Err-clause-read
 unfolding plan_of
@@ -20,7 +21,7 @@ returns-in-Err-clause-read g c = rw c.in-Run.is (stopped_behind _ (network_plan 
 
 pub returns-in-Ok-read_network-clause-read : goal.returns-in-Ok-read_network-clause-read
 unfolding plan_of
-returns-in-Ok-read_network-clause-read g c = rw c.in-RunPlain.is (network_ready _ c.in-RunPlain.file.now TraceJob _ _ _ _ _ _ c.in-Ok-read_network.ensures.ok refl tt)
+returns-in-Ok-read_network-clause-read g c = rw c.in-RunPlain.is (network_ready _ (network_plan c.in-RunPlain.file.now) TraceJob _ _ _ _ _ _ c.in-Ok-read_network.ensures.ok refl tt)
 
 pub returns-in-Err-read_network-clause-read : goal.returns-in-Err-read_network-clause-read
 unfolding plan_of
@@ -28,7 +29,7 @@ returns-in-Err-read_network-clause-read g c = rw c.in-RunPlain.is (stopped_behin
 
 pub returns-in-Ok-read_network-2-clause-read : goal.returns-in-Ok-read_network-2-clause-read
 unfolding plan_of
-returns-in-Ok-read_network-2-clause-read g c = rw c.in-Monitor.is (network_ready _ c.in-Monitor.file.now MonitorJob _ _ _ _ _ _ c.in-Ok-read_network-2.ensures.ok refl c.in-Ok-read_network-2.ensures.ok.narrow)
+returns-in-Ok-read_network-2-clause-read g c = rw c.in-Monitor.is (network_ready _ (network_plan c.in-Monitor.file.now) MonitorJob _ _ _ _ _ _ c.in-Ok-read_network-2.ensures.ok refl c.in-Ok-read_network-2.ensures.ok.narrow)
 
 pub returns-in-Err-read_network-2-clause-read : goal.returns-in-Err-read_network-2-clause-read
 unfolding plan_of
@@ -36,7 +37,7 @@ returns-in-Err-read_network-2-clause-read g c = rw c.in-Monitor.is (stopped_behi
 
 pub returns-in-Ok-read_network-3-clause-read : goal.returns-in-Ok-read_network-3-clause-read
 unfolding plan_of
-returns-in-Ok-read_network-3-clause-read g c = rw c.in-Sniff.is (network_ready _ c.in-Sniff.file.now SniffJob _ _ _ _ _ _ c.in-Ok-read_network-3.ensures.ok refl tt)
+returns-in-Ok-read_network-3-clause-read g c = rw c.in-Sniff.is (network_ready _ (network_plan c.in-Sniff.file.now) SniffJob _ _ _ _ _ _ c.in-Ok-read_network-3.ensures.ok refl tt)
 
 pub returns-in-Err-read_network-3-clause-read : goal.returns-in-Err-read_network-3-clause-read
 unfolding plan_of
@@ -44,7 +45,7 @@ returns-in-Err-read_network-3-clause-read g c = rw c.in-Sniff.is (stopped_behind
 
 pub returns-in-Ok-read_network-4-clause-read : goal.returns-in-Ok-read_network-4-clause-read
 unfolding plan_of
-returns-in-Ok-read_network-4-clause-read g c = rw c.in-Check.is (network_ready _ c.in-Check.file.now SizeJob _ _ _ _ _ _ c.in-Ok-read_network-4.ensures.ok refl tt)
+returns-in-Ok-read_network-4-clause-read g c = rw c.in-Check.is (network_ready _ (network_plan c.in-Check.file.now) SizeJob _ _ _ _ _ _ c.in-Ok-read_network-4.ensures.ok refl tt)
 
 pub returns-in-Err-read_network-4-clause-read : goal.returns-in-Err-read_network-4-clause-read
 unfolding plan_of
@@ -94,3 +95,41 @@ returns-in-Err-read_source-clause-read g c =
 pub returns-in-Make-clause-read : goal.returns-in-Make-clause-read
 unfolding plan_of
 returns-in-Make-clause-read g c = rw c.in-Make.is (record { reached = Here (Give (SampleJob c.in-Make.number)); same = refl; silent = refl; short = tt })
+
+pub returns-in-Ok-read_cut-clause-read : goal.returns-in-Ok-read_cut-clause-read
+unfolding plan_of
+returns-in-Ok-read_cut-clause-read g c =
+    rw c.in-Head.is
+    (network_ready _ (cut_plan c.in-Head.file.now c.in-Head.epochs) (λ network. HeadJob network c.in-Head.epochs) _ _ _ _ _ _ c.in-Ok-read_cut.ensures.ok refl c.in-Ok-read_cut.ensures.within)
+
+pub returns-in-Err-read_cut-clause-read : goal.returns-in-Err-read_cut-clause-read
+unfolding plan_of
+returns-in-Err-read_cut-clause-read g c = rw c.in-Head.is (stopped_behind _ (cut_plan c.in-Head.file.now c.in-Head.epochs) _ _ _ _ _ _ c.in-Err-read_cut.ensures.err)
+
+pub returns-in-Ok-read_cut-2-clause-read : goal.returns-in-Ok-read_cut-2-clause-read
+unfolding plan_of
+returns-in-Ok-read_cut-2-clause-read g c =
+    rw c.in-Save.is
+    (network_ready _ (cut_plan c.in-Save.file.now c.in-Save.epochs) (λ network. SaveJob network c.in-Save.epochs) _ _ _ _ _ _ c.in-Ok-read_cut-2.ensures.ok refl c.in-Ok-read_cut-2.ensures.within)
+
+pub returns-in-Err-read_cut-2-clause-read : goal.returns-in-Err-read_cut-2-clause-read
+unfolding plan_of
+returns-in-Err-read_cut-2-clause-read g c = rw c.in-Save.is (stopped_behind _ (cut_plan c.in-Save.file.now c.in-Save.epochs) _ _ _ _ _ _ c.in-Err-read_cut-2.ensures.err)
+
+pub returns-in-Ok-read_saved-clause-read : goal.returns-in-Ok-read_saved-clause-read
+unfolding plan_of
+returns-in-Ok-read_saved-clause-read g c =
+    rw c.in-Resume.is
+    (resume_ready _ _ c.in-Resume.file.now c.in-Resume.state.now c.in-Ok-read_network-5.network _ _ _ _ _ c.in-Ok-read_network-5.ensures.ok c.in-Ok-read_network-5.ensures.held
+    c.in-Ok-read_saved.saved c.in-Ok-read_saved.ensures.read c.in-Ok-read_saved.ensures.fresh)
+
+pub returns-in-Err-read_saved-clause-read : goal.returns-in-Err-read_saved-clause-read
+unfolding plan_of
+returns-in-Err-read_saved-clause-read g c =
+    rw c.in-Resume.is
+    (resume_stopped _ _ c.in-Resume.file.now c.in-Resume.state.now c.in-Ok-read_network-5.network _ _ _ _ _ c.in-Ok-read_network-5.ensures.ok c.in-Ok-read_network-5.ensures.held
+    (end_at c.in-Err-read_saved.trouble) _ _ c.in-Err-read_saved.ensures.read c.tell-in-Err-read_saved.ensures)
+
+pub returns-in-Err-read_network-5-clause-read : goal.returns-in-Err-read_network-5-clause-read
+unfolding plan_of
+returns-in-Err-read_network-5-clause-read g c = rw c.in-Resume.is (stopped_behind _ (network_plan c.in-Resume.file.now) _ _ _ _ _ _ c.in-Err-read_network-5.ensures.err)

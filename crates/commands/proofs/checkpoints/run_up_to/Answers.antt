@@ -1,0 +1,41 @@
+use Rattle.std.proofs.Common.{◌≡◌, ℕ, ◌+◌, ◌<◌, ◌≤◌, min, ap, ◌∙◌, sym, subst, arith}
+use Rattle.node_runner.specs.Scenario.{ScenarioOf}
+use Rattle.node_runner.specs.Run.{RunAt}
+use Rattle.commands.proofs.Epochs.{epoch_last, epoch_next, epoch_within, epoch_zero}
+use Rattle.commands.proofs.checkpoints.run_up_to.Goals as goal
+
+pub loop-run-init : goal.loop-run-init
+loop-run-init c =
+    let e = c.requires.first in
+    let zero : c.args.run.now.floor ≡ 0 = ap (λ (r : RunAt). r.floor) e in
+    record {
+      same = ap (λ (r : RunAt). r.scenario) e;
+      sound = ap (λ (r : RunAt). r.failed) e;
+      at = epoch_zero c.args.network.now c.args.run.now.floor zero;
+      within = omega arith;
+    }
+
+pub epoch-requires-clause-more : goal.epoch-requires-clause-more
+epoch-requires-clause-more c =
+    let last : c.args.end ≤ c.args.network.now.topo.limit = epoch_last c.args.network.now c.args.end c.requires.end in
+    let more : c.loop-run.run.floor < c.args.network.now.topo.limit = omega arith in
+    subst (λ (s : ScenarioOf). c.loop-run.run.floor < s.topo.limit) (sym c.loop-run.invariant.same) more
+
+pub loop-run-preserved : goal.loop-run-preserved
+loop-run-preserved c =
+    let network : ScenarioOf = c.args.network.now in
+    let after = c.in_ok-epoch.ensures.after in
+    let floor : c.epoch.new.self.floor ≡ min (c.loop-run.run.floor + 262144) c.loop-run.run.scenario.topo.limit = ap (λ (r : RunAt). r.floor) after in
+    let end : c.epoch.new.self.floor ≡ min (c.loop-run.run.floor + 262144) network.topo.limit =
+    subst (λ (s : ScenarioOf). c.epoch.new.self.floor ≡ min (c.loop-run.run.floor + 262144) s.topo.limit) c.loop-run.invariant.same floor in
+    record {
+      same = ap (λ (r : RunAt). r.scenario) after ∙ c.loop-run.invariant.same;
+      sound = ap (λ (r : RunAt). r.failed) after ∙ c.loop-run.invariant.sound;
+      at = epoch_next network c.loop-run.run.floor c.epoch.new.self.floor c.args.end c.loop-run.invariant.at c.requires.end (omega arith) end;
+      within = epoch_within network c.loop-run.run.floor c.epoch.new.self.floor c.args.end c.loop-run.invariant.at c.requires.end (omega arith) end;
+    }
+
+pub returns : goal.returns
+returns c =
+    let over : c.loop-run.run.floor ≡ c.args.end = omega arith in
+    λ i. record { scenario = c.loop-run.invariant.same i; floor = over i; failed = c.loop-run.invariant.sound i }

@@ -1,0 +1,107 @@
+// Saved states: one is read from its text, written as text, and gone on from.
+ghost use Rattle.std.specs.Prelude.{◌≡◌, ◌<◌, ◌≤◌, ◌*◌, min, false, IfOk, OnOk};
+ghost use Rattle.checkpoint_text.specs.Onward.{onward};
+ghost use Rattle.checkpoint_text.specs.State.{saved_at};
+ghost use Rattle.command_plans.specs.Ends.{reads, stream};
+ghost use Rattle.command_plans.specs.Parts.{ReadAs, Written};
+ghost use Rattle.commands.specs.Parts.{EndsEpoch, IsFresh};
+ghost use Rattle.commands.specs.Plan.{state_plan};
+ghost use Rattle.node_runner.specs.Flight.{epoch};
+ghost use Rattle.node_runner.specs.Scenario.{IsScenario};
+ghost use Rattle.state_text.specs.Text.{state_text};
+ghost use Rattle.trace_writer.specs.Line.{rows_text};
+ghost use Rattle.world_core.specs.Order.{run_rows};
+
+use avr_base::NoMemory;
+use checkpoint_text::{Saved, read_state, write_state};
+use command_plans::{Complaint, StateCause, Trouble, read_file};
+use fleet_plain::PlainRun;
+use node_runner::Scenario;
+use sim_io::{Sink, Store};
+use state_text::StateFault;
+use std::alloc::Global;
+use world_core::EPOCH;
+
+// The most bytes of a state's text.
+const MOST_STATE_BYTES: usize = 4_194_304;
+
+/// The saved state of a network in the file `name`, which has at most 4,194,304 bytes of text.
+pub fn read_saved<'n, S: Store>(
+    alloc: Global,
+    network: &Scenario,
+    name: &'n str,
+    store: &mut S,
+) -> Result<Saved, Trouble<'n>>
+    ensures held { S.held store.new ≡ S.held store.old }
+    ensures fresh { IfOk result (λ saved. IsFresh network.now saved) }
+    ensures read { ReadAs (S.held store.old) (state_plan network.now name.entry.now) (λ saved. saved.state)
+        (reads (S.faults store.old) (S.failed store.old)) (reads (S.faults store.new) (S.failed store.new)) result }
+{
+    let too_long = Complaint::BadState(name, StateCause::TooLong);
+    let read = match read_file(alloc, name, MOST_STATE_BYTES, too_long, store) {
+        Ok(bytes) => read_state(alloc, network, bytes.as_slice()),
+        Err(trouble) => return Err(trouble),
+    };
+    match read {
+        Ok(saved) => Ok(saved),
+        Err(StateFault::NoMemory) => Err(Trouble::NoMemory),
+        Err(fault) => Err(Trouble::Refused(Complaint::BadState(name, StateCause::Faulty(fault)))),
+    }
+}
+
+// Runs a network that has not begun up to the cycle `end`, where an epoch ends.
+fn run_up_to(network: &Scenario, run: &mut PlainRun, end: u64) -> Result<(), NoMemory>
+    requires first { run.old ≡ record { scenario = network.now; floor = 0; failed = false } }
+    requires end { EndsEpoch network.now end }
+    ensures { OnOk result (run.new ≡ record { scenario = network.now; floor = end; failed = false }) }
+{
+    while run.floor() < end {
+        let _ = run.epoch(network)?;
+    }
+    Ok(())
+}
+
+/// Runs a network over its first epochs, which end below its limit, and writes the state in which it is then.
+pub fn write_saved<'n, O: Sink>(
+    alloc: Global,
+    network: &Scenario,
+    epochs: u64,
+    out: &mut O,
+) -> Result<(), Trouble<'n>>
+    requires { epochs * epoch < network.now.topo.limit }
+    ensures { Written (state_text (saved_at network.now (epochs * epoch))) (stream (O.taken out.old) (O.faults out.old)) (stream (O.taken out.new) (O.faults out.new)) result }
+{
+    let Ok(mut run) = PlainRun::new(alloc, network) else {
+        return Err(Trouble::NoMemory);
+    };
+    let end = epochs * EPOCH;
+    let Ok(()) = run_up_to(network, &mut run, end) else {
+        return Err(Trouble::NoMemory);
+    };
+    match write_state(network, end, run.runners(), run.sends(), out) {
+        Ok(()) => Ok(()),
+        Err(_) => Err(Trouble::OutFailed),
+    }
+}
+
+/// Goes on with a network from a saved state, with which nothing was done yet, up to the limit, and writes the rows of each epoch
+/// before the next one is run.
+pub fn write_onward<'n, O: Sink>(
+    network: &Scenario,
+    mut saved: Saved,
+    out: &mut O,
+) -> Result<(), Trouble<'n>>
+    requires { IsFresh network.now saved }
+    ensures { Written (rows_text (run_rows (onward network.now saved.state))) (stream (O.taken out.old) (O.faults out.old)) (stream (O.taken out.new) (O.faults out.new)) result }
+{
+    while !saved.done() {
+        let Ok(rows) = saved.epoch(network) else {
+            return Err(Trouble::NoMemory);
+        };
+        match trace_writer::write(rows.as_slice(), out) {
+            Ok(()) => {}
+            Err(_) => return Err(Trouble::OutFailed),
+        }
+    }
+    Ok(())
+}
