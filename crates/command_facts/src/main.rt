@@ -31,6 +31,7 @@ fn do_parts<R: Files + AllocGlobal, O: Sink>(
         "profiles" => run_facts::do_profiles(rt, file, out),
         "samples" => run_facts::do_samples(rt, file, out),
         "sniffs" => run_facts::do_sniffs(rt, file, out),
+        "saved" => state_facts::do_file(rt, file, out),
         _ => Err(Failed),
     }
 }
