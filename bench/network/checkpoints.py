@@ -108,7 +108,7 @@ class Cases:
 
     def shown(self, name, text):
         lines = text.splitlines()
-        self.expected.append(f"{name}: {len(text)} bytes, {len(lines)} lines")
+        self.expected.append(f"{name}: {len(text)} bytes, {text.count(chr(10))} lines")
         most = lines if len(lines) <= MOST_SHOWN else [*lines[:2], f".. {len(text)} bytes {fnv(text.encode())}", *lines[-2:]]
         self.expected += [f"| {line}" for line in most]
 
