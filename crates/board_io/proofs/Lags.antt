@@ -92,6 +92,9 @@ caught_zero t b e = let none : b.clock - t ≡ 0 = omega (arith, e) in ap (λ (n
 pub caught_clock : (t : ℕ) (b : Board) → (caught_up t b).clock ≡ b.clock
 caught_clock t b = clock_leap t (b.clock - t) b
 
+pub clock_now : (a : Ahead) (b v : Board) → caught_up a.settled b ≡ v → b.clock ≡ v.clock
+clock_now a b v e = sym (caught_clock a.settled b) ∙ ap (λ (w : Board). w.clock) e
+
 bits_same : (l m : Lines) → l.bits ≡ m.bits → l ≡ m
 bits_same l m e = λ k. let n : Lines = record { bits = e k } in n
 
@@ -169,7 +172,7 @@ module _ (a : Ahead) (b : Board) (h : IsAhead a b) where
       leap_clock (b.clock + n) a.settled (b.clock + n - a.settled) b
       ∙ ap (clock_at (b.clock + n)) (ap (λ (m : ℕ). timers_leap a.settled m b) more ∙ sym (further n))
 
-  -- and its value is n cycles further
+  -- its value is n cycles further
   pub passed : (n : ℕ) (v : Board) → caught_up a.settled b ≡ v → unclocked (caught_up a.settled (clock_at (b.clock + n) b)) ≡ timers_leap v.clock n (unclocked v)
   passed n v e =
       ap unclocked (passed_by n)
@@ -180,6 +183,14 @@ module _ (a : Ahead) (b : Board) (h : IsAhead a b) where
   passed_clock n v e =
       caught_clock a.settled (clock_at (b.clock + n) b)
       ∙ ap (λ (t : ℕ). t + n) (sym (caught_clock a.settled b) ∙ ap (λ (w : Board). w.clock) e)
+
+  -- and its lines are as before
+  pub lines_stay : (n : ℕ) (v : Board) → caught_up a.settled b ≡ v → b.clock + n ≤ a.next → lines_of (caught_up a.settled (clock_at (b.clock + n) b)) ≡ lines_of v
+  lines_stay n v e le =
+      bits_same (lines_of (caught_up a.settled (clock_at (b.clock + n) b))) (lines_of v)
+      (ap (λ (c : Board). (lines_of c).bits) (passed_by n)
+      ∙ (ap (λ (l : Lines). l.bits) (lines_clock (b.clock + n) (timers_leap b.clock n (caught_up a.settled b)))
+      ∙ (lines_by n le ∙ (sym lines_now ∙ ap (λ (c : Board). (lines_of c).bits) e))))
 
 -- the cycle of its clock is quiet, where one is passed
 pub quiet_now : (t : ℕ) (v : Board) → IsIdle t 1 (unclocked v) → board_quiet t (unclocked v) ≡ true

@@ -9,7 +9,7 @@ use Rattle.board_io.specs.declared.rules.Rule.TheVariants.{Reserved, Pin, Kept, 
 use Rattle.board_io.specs.Board.{clock_at, selected, with_kept}
 use Rattle.board_io.specs.declared.cycle.OnAir.{OnAir}
 use Rattle.board_io.specs.declared.cycle.OnAir.TheVariants.{Quiet, Sent, Asks}
-use Rattle.board_io.specs.Cycle.{air_by, air_of, board_air, board_answered, board_asks, board_begun, board_sends, is_asks, moved, moved_by, sent_by, timers_cycle, timers_leap, transfer_end, usart_cycle, with_moved}
+use Rattle.board_io.specs.Cycle.{air_by, air_of, board_air, board_answered, board_asks, board_begun, board_sends, is_asks, moved_by, sent_by, timers_cycle, timers_leap, transfer_end, usart_cycle, with_moved}
 use Rattle.board_io.specs.Lines.{entered_of}
 use Rattle.board_io.specs.Names.{IVSEL, SPI_STC, SRE, TIMER0_COMP, TIMER0_OVF, TIMER1_COMPA, TIMER1_COMPB, TIMER1_COMPC, TIMER1_OVF, TIMER2_COMP, TIMER2_OVF, TIMER3_COMPA, TIMER3_COMPB, TIMER3_COMPC, TIMER3_OVF, USART0_TX, WDCE, WDE}
 use Rattle.board_io.specs.Registers.{get_by, io_get, io_put, put_by, with_spi, with_t0, with_t1, with_t2, with_t3, with_usart}

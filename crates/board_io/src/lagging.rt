@@ -1,5 +1,5 @@
 // A board that does its timers' cycles once somebody looks at them.
-ghost use Rattle.std.specs.Prelude.{◌≡◌, ◌≤◌, ◌<◌, ◌+◌, ◌*◌, ◌^◌, true, false, is_some};
+ghost use Rattle.std.specs.Prelude.{◌≡◌, ◌≤◌, ◌<◌, ◌+◌, ◌-◌, ◌*◌, ◌^◌, true, false, is_some};
 ghost use Rattle.board_io.specs.Lagging.{IsIdle};
 
 use crate::ahead::Ahead;
@@ -61,6 +61,17 @@ impl LaggingBoard {
         self.board.sleep_mode()
     }
 
+    /// A cycle, of 2^40 at most, up to which no frame and no transfer ends and the lines stay, as far as what runs now
+    /// tells.
+    #[inline]
+    pub fn horizon(&self) -> u64
+        ensures from { self.now.clock ≤ result }
+        ensures early { result ≤ 2 ^ 40 }
+        ensures idle { IsIdle self.now.clock (result - self.now.clock) (unclocked self.now) }
+    {
+        self.ahead.next
+    }
+
     /// Passes cycles, of at most `most`, in which no frame and no transfer ends and each of which begins with the lines
     /// of now, as far as what runs now tells: how many it were.
     #[inline]
@@ -68,6 +79,7 @@ impl LaggingBoard {
         ensures within { result ≤ most }
         ensures idle { IsIdle self.old.clock result (unclocked self.old) }
         ensures state { unclocked self.new ≡ timers_leap self.old.clock result (unclocked self.old) }
+        ensures lines { lines_of self.new ≡ lines_of self.old }
         ensures clock { self.new.clock ≡ self.old.clock + result }
     {
         let clock = self.board.clock.get();
@@ -84,6 +96,7 @@ impl LaggingBoard {
         ensures within { result * length ≤ most }
         ensures idle { IsIdle self.old.clock (result * length) (unclocked self.old) }
         ensures state { unclocked self.new ≡ timers_leap self.old.clock (result * length) (unclocked self.old) }
+        ensures lines { lines_of self.new ≡ lines_of self.old }
         ensures clock { self.new.clock ≡ self.old.clock + result * length }
     {
         let clock = self.board.clock.get();
@@ -100,6 +113,7 @@ impl LaggingBoard {
         requires now { self.old.clock ≡ cycle }
         ensures idle { result ≡ true → IsIdle cycle n (unclocked self.old) }
         ensures state { result ≡ true → unclocked self.new ≡ timers_leap cycle n (unclocked self.old) }
+        ensures lines { result ≡ true → lines_of self.new ≡ lines_of self.old }
         ensures clock { result ≡ true → self.new.clock ≡ cycle + n }
         ensures same { result ≡ false → self.new ≡ self.old }
     {

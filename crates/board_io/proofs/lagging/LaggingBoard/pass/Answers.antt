@@ -1,8 +1,9 @@
 use Rattle.std.proofs.Common.{◌≡◌, ℕ, ◌+◌, sym, ap, subst, ◌∙◌, arith}
 use Rattle.board_io.specs.Board.{clock_at, unclocked}
 use Rattle.board_io.specs.Lagging.{IsAhead, caught_up}
+use Rattle.board_io.specs.Lines.{lines_of}
 use Rattle.board_io.specs.declared.board.Board.{Board}
-use Rattle.board_io.proofs.Lags.{idle, later, passed, passed_clock}
+use Rattle.board_io.proofs.Lags.{idle, later, lines_stay, passed, passed_clock}
 use Rattle.board_io.proofs.lagging.LaggingBoard.pass.Goals as goal
 
 pub invariant_of-self : goal.invariant_of-self
@@ -29,6 +30,17 @@ returns-clause-state c =
     let n : ℕ = c.min-n.result in
     let here : b.clock + n ≡ c.new-self-inside.result = omega (arith, at, c.new-self-inside.ensures) in
     ap (λ (t : ℕ). unclocked (caught_up a.settled (clock_at t b))) (sym here) ∙ passed a b c.self.invariant n c.args.self.now c.self.view_is
+
+pub returns-clause-lines : goal.returns-clause-lines
+returns-clause-lines c =
+    let a = c.self.inside.ahead in
+    let b : Board = c.self.inside.board in
+    let at = c.get-clock.ensures.value in
+    let next = c.self.invariant.next in
+    let n : ℕ = c.min-n.result in
+    let here : b.clock + n ≡ c.new-self-inside.result = omega (arith, at, c.new-self-inside.ensures) in
+    ap (λ (t : ℕ). lines_of (caught_up a.settled (clock_at t b))) (sym here)
+    ∙ lines_stay a b c.self.invariant n c.args.self.now c.self.view_is (omega (arith, at, next))
 
 pub returns-clause-clock : goal.returns-clause-clock
 returns-clause-clock c =

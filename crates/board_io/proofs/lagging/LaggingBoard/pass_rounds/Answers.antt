@@ -1,10 +1,11 @@
-use Rattle.std.proofs.Common.{◌≡◌, ℕ, ◌+◌, ◌-◌, ◌*◌, ◌/◌, ◌≤◌, sym, ap, subst, ◌∙◌, arith}
+use Rattle.std.proofs.Common.{◌≡◌, ℕ, ◌+◌, ◌*◌, ◌/◌, ◌≤◌, sym, ap, subst, ◌∙◌, arith}
 use Rattle.std.proofs.Math.Nat.{div-mul-le_self}
 use Rattle.board_io.specs.Board.{clock_at, unclocked}
 use Rattle.board_io.specs.Cycle.{timers_leap}
 use Rattle.board_io.specs.Lagging.{IsAhead, IsIdle, caught_up}
+use Rattle.board_io.specs.Lines.{lines_of}
 use Rattle.board_io.specs.declared.board.Board.{Board}
-use Rattle.board_io.proofs.Lags.{idle, later, passed, passed_clock}
+use Rattle.board_io.proofs.Lags.{idle, later, lines_stay, passed, passed_clock}
 use Rattle.board_io.proofs.lagging.LaggingBoard.pass_rounds.Goals as goal
 
 -- the cycles that were passed
@@ -42,6 +43,13 @@ returns-clause-state c =
     ap (λ (t : ℕ). unclocked (caught_up a.settled (clock_at t b))) (sym (here c))
     ∙ (passed a b c.self.invariant (passed_by c) c.args.self.now c.self.view_is
     ∙ ap (λ (n : ℕ). timers_leap c.args.self.now.clock n (unclocked c.args.self.now)) (same c))
+
+pub returns-clause-lines : goal.returns-clause-lines
+returns-clause-lines c =
+    let a = c.self.inside.ahead in
+    let b : Board = c.self.inside.board in
+    ap (λ (t : ℕ). lines_of (caught_up a.settled (clock_at t b))) (sym (here c))
+    ∙ lines_stay a b c.self.invariant (passed_by c) c.args.self.now c.self.view_is (below c)
 
 pub returns-clause-clock : goal.returns-clause-clock
 returns-clause-clock c =

@@ -2,8 +2,9 @@ use Rattle.std.proofs.Common.{◌≡◌, ℕ, ◌+◌, sym, ap, subst, ◌∙◌
 use Rattle.board_io.specs.Board.{clock_at, unclocked}
 use Rattle.board_io.specs.Cycle.{timers_leap}
 use Rattle.board_io.specs.Lagging.{IsAhead, IsIdle, caught_up}
+use Rattle.board_io.specs.Lines.{lines_of}
 use Rattle.board_io.specs.declared.board.Board.{Board}
-use Rattle.board_io.proofs.Lags.{caught_clock, idle, later, passed, passed_clock}
+use Rattle.board_io.proofs.Lags.{caught_clock, idle, later, lines_stay, passed, passed_clock}
 use Rattle.board_io.proofs.lagging.LaggingBoard.passes.Goals as goal
 
 pub overflow_add-end : goal.overflow_add-end
@@ -43,6 +44,17 @@ returns-clause-state c =
     λ _.
     ap (λ (t : ℕ). unclocked (caught_up a.settled (clock_at t b))) (sym here)
     ∙ (passed a b c.self.invariant n c.args.self.now c.self.view_is ∙ ap (λ (t : ℕ). timers_leap t n (unclocked c.args.self.now)) c.requires.now)
+
+pub returns-clause-lines : goal.returns-clause-lines
+returns-clause-lines c =
+    let a = c.self.inside.ahead in
+    let b : Board = c.self.inside.board in
+    let at : b.clock ≡ c.args.cycle = sym (caught_clock a.settled b) ∙ (ap (λ (w : Board). w.clock) c.self.view_is ∙ c.requires.now) in
+    let n : ℕ = c.args.n in
+    let here : b.clock + n ≡ c.new-self-inside.result = omega (arith, at, c.new-self-inside.ensures) in
+    λ _.
+    ap (λ (t : ℕ). lines_of (caught_up a.settled (clock_at t b))) (sym here)
+    ∙ lines_stay a b c.self.invariant n c.args.self.now c.self.view_is (omega (arith, at))
 
 pub returns-clause-clock : goal.returns-clause-clock
 returns-clause-clock c =
