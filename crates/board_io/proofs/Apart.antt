@@ -45,6 +45,8 @@ like_ahead a b c like h =
       settled = omega (arith, e, s);
       next = omega (arith, e, n);
       early = h.early;
+      calm = h.calm;
+      clear = h.clear;
       quiet = λ t from below. like.quiet t ∙ h.quiet t from below;
       same = λ i k. ap (λ (l : Lines). l.bits) (like.same a.settled i) ∙ h.same i k;
     }

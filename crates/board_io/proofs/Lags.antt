@@ -148,6 +148,8 @@ module _ (a : Ahead) (b : Board) (h : IsAhead a b) where
         settled = omega (arith, at);
         next = omega (arith, at, m);
         early = h.early;
+        calm = h.calm;
+        clear = h.clear;
         quiet = λ t from below. quiet_by t from below;
         same = λ i le. lines_by i le;
       }
@@ -160,6 +162,8 @@ module _ (a : Ahead) (b : Board) (h : IsAhead a b) where
         settled = omega (arith, l);
         next = le;
         early = h.early;
+        calm = h.calm;
+        clear = h.clear;
         quiet = λ t from below. quiet_clock (b.clock + n) t b ∙ h.quiet t from below;
         same = λ i k. ap (λ (c : Board). (lines_of c).bits) (leap_clock (b.clock + n) a.settled i b)
             ∙ (ap (λ (m : Lines). m.bits) (lines_clock (b.clock + n) (timers_leap a.settled i b)) ∙ h.same i k);

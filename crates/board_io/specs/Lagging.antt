@@ -24,6 +24,8 @@ pub record IsAhead (a : Ahead) (b : Board) : Type 0 where
   pub early : a.next ≤ 2 ^ 40
   pub quiet : (t : ℕ) → a.settled ≤ t → t < a.next → board_quiet t b ≡ true
   pub same : (i : ℕ) → a.settled + i ≤ a.next → (lines_of (timers_leap a.settled i b)).bits ≡ a.lines
+  pub calm : a.calm ≤ a.next
+  pub clear : 0 < a.calm → a.lines ≡ 0
 
 -- n cycles from cycle t on in which nothing of a board ends, and each of which begins with the lines of now
 pub record IsIdle (t n : ℕ) (b : Board) : Type 0 where

@@ -1,5 +1,5 @@
 // What is known of a board's next cycles.
-ghost use Rattle.std.specs.Prelude.{◌≡◌, ◌≤◌, ◌^◌};
+ghost use Rattle.std.specs.Prelude.{◌≡◌, ◌≤◌, ◌<◌, ◌^◌};
 ghost use Rattle.board_io.specs.Lagging.{IsAhead};
 
 use crate::Board;
@@ -16,6 +16,17 @@ pub struct Ahead {
     pub next: u64,
     /// The interrupt lines.
     pub lines: u64,
+    /// `next` where no line is up, else 0: so one comparison tells whether cycles pass in which no interrupt can be due.
+    pub calm: u64,
+}
+
+// Up to which cycle no interrupt can be due, by the lines and the cycle up to which they stay.
+#[inline]
+fn calm_until(lines: u64, next: u64) -> u64
+    ensures within { result ≤ next }
+    ensures clear { 0 < result → lines ≡ 0 }
+{
+    if lines == 0 { next } else { 0 }
 }
 
 impl Board {
@@ -31,10 +42,13 @@ impl Board {
         let settled = self.clock.get();
         let calm = self.quiet(settled, LAST - settled);
         let same = self.same_lines(settled, calm + 1);
+        let next = settled + (same - 1);
+        let lines = self.lines().bits;
         Ahead {
             settled,
-            next: settled + (same - 1),
-            lines: self.lines().bits,
+            next,
+            lines,
+            calm: calm_until(lines, next),
         }
     }
 

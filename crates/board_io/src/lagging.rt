@@ -126,6 +126,27 @@ impl LaggingBoard {
         true
     }
 
+    /// Passes the `n` cycles from `cycle` on, which is that of its clock, if no interrupt line is up, no frame and no transfer
+    /// ends in any of them and no line comes up before they are over, as far as what runs now tells: whether it passed them.
+    #[inline(always)]
+    pub fn passes_clear(&mut self, cycle: u64, n: u8) -> bool
+        requires now { self.old.clock ≡ cycle }
+        requires some { 0 < n }
+        ensures idle { result ≡ true → IsIdle cycle n (unclocked self.old) }
+        ensures state { result ≡ true → unclocked self.new ≡ timers_leap cycle n (unclocked self.old) }
+        ensures clear { result ≡ true → (lines_of self.new).bits ≡ 0 }
+        ensures clock { result ≡ true → self.new.clock ≡ cycle + n }
+        ensures same { result ≡ false → self.new ≡ self.old }
+    {
+        let calm = self.ahead.calm;
+        let end = cycle + u64::from(n);
+        if end > calm {
+            return false;
+        }
+        self.board.clock = Clock::new(end);
+        true
+    }
+
     // The devices' part of a cycle in which something may end.
     #[inline(never)]
     fn begin_caught_up(&mut self, cycle: u64, arrival: Option<u8>) -> Begun

@@ -23,5 +23,7 @@ returns-clause-ahead c =
           (let i : ℕ = u - t in
           let here : t + i ≡ u = omega (arith, from) in
           subst (λ (w : ℕ). board_quiet w b ≡ true) here (calm.none i (omega (arith, from, below, most, some))));
-      same = λ i le. ap (λ (l : Lines). l.bits) (same.same i (omega (arith, le, some)) ∙ sym c.lines.ensures);
+      same = λ i le. ap (λ (l : Lines). l.bits) (same.same i (omega (arith, le, some)) ∙ sym c.lines-lines.ensures);
+      calm = c.calm_until.ensures.within;
+      clear = c.calm_until.ensures.clear;
     }
