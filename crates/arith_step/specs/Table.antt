@@ -73,14 +73,5 @@ arith_cycles (op.Fmuls d r) = 2
 arith_cycles (op.Fmulsu d r) = 2
 arith_cycles _ = 1
 
--- whether an instruction of this class works on registers and flags alone
-abbrev pub is_arith : Class → Bool
-is_arith Arith = true
-is_arith _ = false
-
--- registers and flags after an instruction, and the cycles that it takes; 0 of one that is not executed here
-abbrev pub applied_if : Op → Cpu → Cpu × ℕ
-applied_if instruction cpu = if is_arith (class_of instruction) then (effect instruction cpu, arith_cycles instruction) else (cpu, 0)
-
 abbrev pub arith_done : Op → Done
 arith_done instruction = done (arith_cycles instruction)

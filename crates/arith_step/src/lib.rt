@@ -4,17 +4,15 @@
 #![tactic(auto)]
 
 mod differences;
-mod execute;
 mod flags;
 mod products;
-mod shapes;
+pub mod shapes;
 mod shifts;
 mod signed;
 mod sums;
 mod words;
 
 pub use differences::{com, dec, neg, sub};
-pub use execute::{exec, exec_if};
 pub use products::{MulKind, mul};
 pub use shifts::{asr, lsr, ror};
 pub use sums::{add, inc, logic};

@@ -10,14 +10,14 @@ use avr_base::{Reg, Sreg};
 use data_space::Cpu;
 
 // The register r0, the lower one of the pair that products go to.
-#[inline]
+#[inline(always)]
 fn r0() -> Reg
     ensures { result ≡ 0 }
 {
     Reg::numbered(0)
 }
 
-#[inline]
+#[inline(always)]
 pub fn put_byte(d: Reg, computed: (u8, Sreg), cpu: &mut Cpu) -> u8
     ensures core { cpu.new ≡ to_reg d computed cpu.old }
     ensures cycles { result ≡ 1 }
@@ -27,7 +27,7 @@ pub fn put_byte(d: Reg, computed: (u8, Sreg), cpu: &mut Cpu) -> u8
     1
 }
 
-#[inline]
+#[inline(always)]
 pub fn put_word(d: Reg, computed: (u16, Sreg), cpu: &mut Cpu) -> u8
     ensures core { cpu.new ≡ to_pair d computed cpu.old }
     ensures cycles { result ≡ 2 }
@@ -37,7 +37,7 @@ pub fn put_word(d: Reg, computed: (u16, Sreg), cpu: &mut Cpu) -> u8
     2
 }
 
-#[inline]
+#[inline(always)]
 #[tactic(auto, unfolding(crate::specs::Shapes::adds))]
 pub fn add(d: Reg, b: u8, carry: bool, cpu: &mut Cpu) -> u8
     ensures core { cpu.new ≡ adds d b carry cpu.old }
@@ -47,7 +47,7 @@ pub fn add(d: Reg, b: u8, carry: bool, cpu: &mut Cpu) -> u8
     put_byte(d, computed, cpu)
 }
 
-#[inline]
+#[inline(always)]
 #[tactic(auto, unfolding(crate::specs::Shapes::subtracts))]
 pub fn subtract(d: Reg, b: u8, cpu: &mut Cpu) -> u8
     ensures core { cpu.new ≡ subtracts d b cpu.old }
@@ -57,7 +57,7 @@ pub fn subtract(d: Reg, b: u8, cpu: &mut Cpu) -> u8
     put_byte(d, computed, cpu)
 }
 
-#[inline]
+#[inline(always)]
 #[tactic(auto, unfolding(crate::specs::Shapes::subtracts_with_carry))]
 pub fn subtract_with_carry(d: Reg, b: u8, cpu: &mut Cpu) -> u8
     ensures core { cpu.new ≡ subtracts_with_carry d b cpu.old }
@@ -67,7 +67,7 @@ pub fn subtract_with_carry(d: Reg, b: u8, cpu: &mut Cpu) -> u8
     put_byte(d, computed, cpu)
 }
 
-#[inline]
+#[inline(always)]
 #[tactic(auto, unfolding(crate::specs::Shapes::compares))]
 pub fn compare(d: Reg, b: u8, cpu: &mut Cpu) -> u8
     ensures core { cpu.new ≡ compares d b cpu.old }
@@ -77,7 +77,7 @@ pub fn compare(d: Reg, b: u8, cpu: &mut Cpu) -> u8
     1
 }
 
-#[inline]
+#[inline(always)]
 #[tactic(auto, unfolding(crate::specs::Shapes::compares_with_carry))]
 pub fn compare_with_carry(d: Reg, b: u8, cpu: &mut Cpu) -> u8
     ensures core { cpu.new ≡ compares_with_carry d b cpu.old }
@@ -87,7 +87,7 @@ pub fn compare_with_carry(d: Reg, b: u8, cpu: &mut Cpu) -> u8
     1
 }
 
-#[inline]
+#[inline(always)]
 #[tactic(auto, unfolding(crate::specs::Shapes::becomes_bits))]
 pub fn put_bits(d: Reg, bits: u8, cpu: &mut Cpu) -> u8
     ensures core { cpu.new ≡ becomes_bits d bits cpu.old }
@@ -96,7 +96,7 @@ pub fn put_bits(d: Reg, bits: u8, cpu: &mut Cpu) -> u8
     put_byte(d, (bits, crate::logic(bits, cpu.sreg)), cpu)
 }
 
-#[inline]
+#[inline(always)]
 #[tactic(auto, unfolding(crate::specs::Shapes::multiplies))]
 pub fn multiply(kind: MulKind, d: Reg, r: Reg, cpu: &mut Cpu) -> u8
     ensures core { cpu.new ≡ multiplies kind d r cpu.old }
@@ -106,7 +106,7 @@ pub fn multiply(kind: MulKind, d: Reg, r: Reg, cpu: &mut Cpu) -> u8
     put_word(r0(), computed, cpu)
 }
 
-#[inline]
+#[inline(always)]
 #[tactic(auto, unfolding(crate::specs::Shapes::sets_flag))]
 pub fn set_flag(s: u8, on: bool, cpu: &mut Cpu) -> u8
     requires { s < 8 }
@@ -118,7 +118,7 @@ pub fn set_flag(s: u8, on: bool, cpu: &mut Cpu) -> u8
 }
 
 // The bits of a byte are numbered as the flags of SREG are, so they are read and written as flags.
-#[inline]
+#[inline(always)]
 #[tactic(auto, unfolding(crate::specs::Shapes::loads_bit))]
 pub fn load_bit(d: Reg, b: u8, cpu: &mut Cpu) -> u8
     requires { b < 8 }
@@ -130,7 +130,7 @@ pub fn load_bit(d: Reg, b: u8, cpu: &mut Cpu) -> u8
     1
 }
 
-#[inline]
+#[inline(always)]
 pub fn store_bit(d: Reg, b: u8, cpu: &mut Cpu) -> u8
     requires { b < 8 }
     ensures core { cpu.new ≡ stores_bit d b cpu.old }
@@ -140,7 +140,7 @@ pub fn store_bit(d: Reg, b: u8, cpu: &mut Cpu) -> u8
     set_flag(Sreg::T, byte.has(b), cpu)
 }
 
-#[inline]
+#[inline(always)]
 #[tactic(auto, unfolding(crate::specs::Shapes::swaps))]
 pub fn swap(d: Reg, cpu: &mut Cpu) -> u8
     ensures core { cpu.new ≡ swaps d cpu.old }
@@ -151,7 +151,7 @@ pub fn swap(d: Reg, cpu: &mut Cpu) -> u8
     1
 }
 
-#[inline]
+#[inline(always)]
 pub fn copy(d: Reg, value: u8, cpu: &mut Cpu) -> u8
     ensures core { cpu.new ≡ with_reg d value cpu.old }
     ensures cycles { result ≡ 1 }
@@ -160,7 +160,7 @@ pub fn copy(d: Reg, value: u8, cpu: &mut Cpu) -> u8
     1
 }
 
-#[inline]
+#[inline(always)]
 pub fn copy_pair(d: Reg, r: Reg, cpu: &mut Cpu) -> u8
     ensures core { cpu.new ≡ with_pair d (pair_at r cpu.old) cpu.old }
     ensures cycles { result ≡ 1 }

@@ -31,8 +31,3 @@ flow_effect get put flash op.Ret cpu bus = returns get cpu bus
 flow_effect get put flash op.Reti cpu bus = returns_enabling get cpu bus
 flow_effect get put flash op.Sleep cpu bus = ends (record { cycles = 1; sleep = true }, advanced 1 cpu) bus
 flow_effect get put flash _ cpu bus = ends (done 1, cpu) bus  -- no other instruction is executed here
-
--- whether an instruction of this class is executed here
-abbrev pub is_flow : Class → Bool
-is_flow Flow = true
-is_flow _ = false

@@ -57,8 +57,3 @@ memory_effect get put flash op.ElpmR0 cpu bus = ends 1 3 (loads_extended flash 0
 memory_effect get put flash (op.ElpmZ d) cpu bus = ends 1 3 (loads_extended flash d cpu) bus
 memory_effect get put flash (op.ElpmZInc d) cpu bus = ends 1 3 (loads_extended_post_increment flash d cpu) bus
 memory_effect get put flash _ cpu bus = ends 0 1 cpu bus  -- no other instruction is executed here
-
--- whether an instruction of this class is executed here
-abbrev pub is_memory : Class → Bool
-is_memory Memory = true
-is_memory _ = false

@@ -8,7 +8,7 @@ use avr_base::{IO_START, Reg, Sreg, StopCause};
 use data_space::{Bus, Cpu, Done, load, pop, push, store};
 
 // The data address of an I/O register.
-#[inline]
+#[inline(always)]
 pub fn io(a: u8) -> u16
     ensures { result ≡ a + 0x20 }
 {
@@ -16,7 +16,7 @@ pub fn io(a: u8) -> u16
 }
 
 // Ends an instruction of so many words after so many cycles.
-#[inline]
+#[inline(always)]
 pub fn end(words: u16, cycles: u8, cpu: &mut Cpu) -> Done
     ensures core { cpu.new ≡ advanced words cpu.old }
     ensures reported { result ≡ record { cycles = cycles; sleep = false } }
@@ -29,7 +29,7 @@ pub fn end(words: u16, cycles: u8, cpu: &mut Cpu) -> Done
 }
 
 // The data address of a pointer with the displacement `q`.
-#[inline]
+#[inline(always)]
 pub fn displaced(p: Reg, q: u8, cpu: &Cpu) -> u16
     ensures { result ≡ displaced p q cpu.now }
 {
@@ -37,7 +37,7 @@ pub fn displaced(p: Reg, q: u8, cpu: &Cpu) -> u16
 }
 
 // The data address before a pointer.
-#[inline]
+#[inline(always)]
 fn decremented(p: Reg, cpu: &Cpu) -> u16
     ensures { result ≡ decremented p cpu.now }
 {
@@ -45,7 +45,7 @@ fn decremented(p: Reg, cpu: &Cpu) -> u16
 }
 
 // Loads the byte at `at` into rD.
-#[inline]
+#[inline(always)]
 #[tactic(auto, unfolding(crate::specs::MemoryShapes::loads))]
 pub fn load_at<B: Bus>(
     d: Reg,
@@ -63,7 +63,7 @@ pub fn load_at<B: Bus>(
 }
 
 // LD rD, P+.
-#[inline]
+#[inline(always)]
 #[tactic(auto, unfolding(crate::specs::MemoryShapes::loads_post_increment))]
 pub fn load_post_increment<B: Bus>(
     d: Reg,
@@ -82,7 +82,7 @@ pub fn load_post_increment<B: Bus>(
 }
 
 // A load at a pointer that is lowered for it, and stays as it was where the load stops.
-#[inline]
+#[inline(always)]
 #[tactic(auto, unfolding(crate::specs::MemoryShapes::loads_pre_decrement))]
 pub fn load_pre_decrement<B: Bus>(
     d: Reg,
@@ -108,7 +108,7 @@ pub fn load_pre_decrement<B: Bus>(
 }
 
 // Stores a byte at `at`.
-#[inline]
+#[inline(always)]
 #[tactic(auto, unfolding(crate::specs::MemoryShapes::stores))]
 pub fn store_at<B: Bus>(
     at: u16,
@@ -125,7 +125,7 @@ pub fn store_at<B: Bus>(
 }
 
 // ST P+, rR. The store may be to the pointer itself, which then is one higher than it was all the same.
-#[inline]
+#[inline(always)]
 #[tactic(auto, unfolding(crate::specs::MemoryShapes::stores_post_increment))]
 pub fn store_post_increment<B: Bus>(
     p: Reg,
@@ -144,7 +144,7 @@ pub fn store_post_increment<B: Bus>(
 }
 
 // ST -P, rR: the pointer stays as it was where the store stops.
-#[inline]
+#[inline(always)]
 #[tactic(auto, unfolding(crate::specs::MemoryShapes::stores_pre_decrement))]
 pub fn store_pre_decrement<B: Bus>(
     p: Reg,
@@ -168,7 +168,7 @@ pub fn store_pre_decrement<B: Bus>(
 }
 
 // PUSH.
-#[inline]
+#[inline(always)]
 #[tactic(auto, unfolding(crate::specs::MemoryShapes::pushes))]
 pub fn push_reg<B: Bus>(r: Reg, cpu: &mut Cpu, bus: &mut B) -> Result<Done, StopCause>
     ensures { record { result = result; cpu = cpu.new; bus = bus.new } ≡ pushes B.put_gives r cpu.old bus.old }
@@ -179,7 +179,7 @@ pub fn push_reg<B: Bus>(r: Reg, cpu: &mut Cpu, bus: &mut B) -> Result<Done, Stop
 }
 
 // POP.
-#[inline]
+#[inline(always)]
 #[tactic(auto, unfolding(crate::specs::MemoryShapes::pops))]
 pub fn pop_reg<B: Bus>(d: Reg, cpu: &mut Cpu, bus: &mut B) -> Result<Done, StopCause>
     ensures { record { result = result; cpu = cpu.new; bus = bus.new } ≡ pops B.get_gives d cpu.old bus.old }
@@ -190,7 +190,7 @@ pub fn pop_reg<B: Bus>(d: Reg, cpu: &mut Cpu, bus: &mut B) -> Result<Done, StopC
 }
 
 // SBI and CBI. The bits of a byte are numbered as the flags of SREG are, so one is written as a flag.
-#[inline]
+#[inline(always)]
 #[tactic(auto, unfolding(crate::specs::MemoryShapes::sets_bit))]
 pub fn set_bit<B: Bus>(
     a: u8,

@@ -8,15 +8,15 @@ use avr_base::{Reg, Sreg, StopCause};
 use data_space::{Bus, Cpu, Done, pop_word, push_word};
 
 // The pointer Z.
-#[inline]
-pub fn z(cpu: &Cpu) -> u16
+#[inline(always)]
+pub fn z_pointer(cpu: &Cpu) -> u16
     ensures { result ≡ pair_at 30 cpu.now }
 {
     cpu.pair(Reg::numbered(30))
 }
 
 // Pushes the address `words` on.
-#[inline]
+#[inline(always)]
 fn push_return<B: Bus>(words: u16, cpu: &mut Cpu, bus: &mut B) -> Result<(), StopCause>
     ensures { record { result = result; cpu = cpu.new; bus = bus.new } ≡ pushes_return B.put_gives words cpu.old bus.old }
 {
@@ -25,7 +25,7 @@ fn push_return<B: Bus>(words: u16, cpu: &mut Cpu, bus: &mut B) -> Result<(), Sto
 }
 
 // CALL.
-#[inline]
+#[inline(always)]
 #[tactic(auto, unfolding(crate::specs::FlowShapes::calls))]
 pub fn call<B: Bus>(k: u16, cpu: &mut Cpu, bus: &mut B) -> Result<Done, StopCause>
     ensures { record { result = result; cpu = cpu.new; bus = bus.new } ≡ calls B.put_gives 4 2 (λ _. k) cpu.old bus.old }
@@ -35,7 +35,7 @@ pub fn call<B: Bus>(k: u16, cpu: &mut Cpu, bus: &mut B) -> Result<Done, StopCaus
 }
 
 // RCALL.
-#[inline]
+#[inline(always)]
 #[tactic(auto, unfolding(crate::specs::FlowShapes::calls))]
 pub fn call_near<B: Bus>(k: i16, cpu: &mut Cpu, bus: &mut B) -> Result<Done, StopCause>
     ensures { record { result = result; cpu = cpu.new; bus = bus.new } ≡ calls B.put_gives 3 1 (relative k) cpu.old bus.old }
@@ -45,17 +45,17 @@ pub fn call_near<B: Bus>(k: i16, cpu: &mut Cpu, bus: &mut B) -> Result<Done, Sto
 }
 
 // ICALL. The stack may lie on Z, which is read after the pushes.
-#[inline]
+#[inline(always)]
 #[tactic(auto, unfolding(crate::specs::FlowShapes::calls))]
 pub fn call_at_z<B: Bus>(cpu: &mut Cpu, bus: &mut B) -> Result<Done, StopCause>
     ensures { record { result = result; cpu = cpu.new; bus = bus.new } ≡ calls B.put_gives 3 1 (pair_at 30) cpu.old bus.old }
 {
     push_return(1, cpu, bus)?;
-    Ok(jump(3, z(cpu), cpu))
+    Ok(jump(3, z_pointer(cpu), cpu))
 }
 
 // RET.
-#[inline]
+#[inline(always)]
 #[tactic(auto, unfolding(crate::specs::FlowShapes::returns))]
 pub fn ret<B: Bus>(cpu: &mut Cpu, bus: &mut B) -> Result<Done, StopCause>
     ensures { record { result = result; cpu = cpu.new; bus = bus.new } ≡ returns B.get_gives cpu.old bus.old }
@@ -65,7 +65,7 @@ pub fn ret<B: Bus>(cpu: &mut Cpu, bus: &mut B) -> Result<Done, StopCause>
 }
 
 // RETI.
-#[inline]
+#[inline(always)]
 #[tactic(auto, unfolding(crate::specs::FlowShapes::returns_enabling))]
 pub fn reti<B: Bus>(cpu: &mut Cpu, bus: &mut B) -> Result<Done, StopCause>
     ensures { record { result = result; cpu = cpu.new; bus = bus.new } ≡ returns_enabling B.get_gives cpu.old bus.old }

@@ -14,7 +14,7 @@ const FLASH: u32 = 0x2_0000;
 const HALF: u32 = 0x1_0000;
 
 // The pointer Z, by its lower register.
-#[inline]
+#[inline(always)]
 fn z() -> Reg
     ensures { result ≡ 30 }
 {
@@ -22,7 +22,7 @@ fn z() -> Reg
 }
 
 // The byte address that RAMPZ and Z name.
-#[inline]
+#[inline(always)]
 fn extended_z(cpu: &Cpu) -> u32
     ensures value { result ≡ extended_z cpu.now }
     ensures within { result < 131072 }
@@ -31,7 +31,7 @@ fn extended_z(cpu: &Cpu) -> u32
     half + u32::from(cpu.pair(z()))
 }
 
-#[inline]
+#[inline(always)]
 fn set_extended_z(at: u32, cpu: &mut Cpu)
     requires { at < 131072 }
     ensures { cpu.new ≡ with_extended_z at cpu.old }
@@ -41,7 +41,7 @@ fn set_extended_z(at: u32, cpu: &mut Cpu)
 }
 
 // LPM rD, Z.
-#[inline]
+#[inline(always)]
 pub fn load_program(d: Reg, flash: &Flash, cpu: &mut Cpu) -> Done
     ensures core { cpu.new ≡ advanced 1 (loads_program flash.now.bytes d cpu.old) }
     ensures reported { result ≡ record { cycles = 3; sleep = false } }
@@ -52,7 +52,7 @@ pub fn load_program(d: Reg, flash: &Flash, cpu: &mut Cpu) -> Done
 }
 
 // LPM rD, Z+.
-#[inline]
+#[inline(always)]
 #[tactic(auto, unfolding(crate::specs::MemoryShapes::loads_program_post_increment))]
 pub fn load_program_post_increment(d: Reg, flash: &Flash, cpu: &mut Cpu) -> Done
     ensures core { cpu.new ≡ advanced 1 (loads_program_post_increment flash.now.bytes d cpu.old) }
@@ -66,7 +66,7 @@ pub fn load_program_post_increment(d: Reg, flash: &Flash, cpu: &mut Cpu) -> Done
 }
 
 // ELPM rD, Z.
-#[inline]
+#[inline(always)]
 pub fn load_extended(d: Reg, flash: &Flash, cpu: &mut Cpu) -> Done
     ensures core { cpu.new ≡ advanced 1 (loads_extended flash.now.bytes d cpu.old) }
     ensures reported { result ≡ record { cycles = 3; sleep = false } }
@@ -77,7 +77,7 @@ pub fn load_extended(d: Reg, flash: &Flash, cpu: &mut Cpu) -> Done
 }
 
 // ELPM rD, Z+.
-#[inline]
+#[inline(always)]
 #[tactic(auto, unfolding(crate::specs::MemoryShapes::loads_extended_post_increment))]
 pub fn load_extended_post_increment(d: Reg, flash: &Flash, cpu: &mut Cpu) -> Done
     ensures core { cpu.new ≡ advanced 1 (loads_extended_post_increment flash.now.bytes d cpu.old) }

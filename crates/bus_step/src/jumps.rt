@@ -11,7 +11,7 @@ use data_space::{Bus, Cpu, Done, load};
 use ihex_loader::Flash;
 
 // What an instruction other than SLEEP reports.
-#[inline]
+#[inline(always)]
 fn took(cycles: u8) -> Done
     ensures { result ≡ done cycles }
 {
@@ -22,7 +22,7 @@ fn took(cycles: u8) -> Done
 }
 
 // The program address `k` words behind the next word.
-#[inline]
+#[inline(always)]
 pub fn relative_to(k: i16, cpu: &Cpu) -> u16
     ensures { result ≡ relative k cpu.now }
 {
@@ -30,7 +30,7 @@ pub fn relative_to(k: i16, cpu: &Cpu) -> u16
 }
 
 // Whether bit `b` of a byte is `on`. Bits are numbered as the flags of SREG are.
-#[inline]
+#[inline(always)]
 pub fn bit(on: bool, b: u8, byte: u8) -> bool
     requires { b < 8 }
     ensures { result ≡ bit_is on b byte }
@@ -39,7 +39,7 @@ pub fn bit(on: bool, b: u8, byte: u8) -> bool
     if on { byte.has(b) } else { !byte.has(b) }
 }
 
-#[inline]
+#[inline(always)]
 pub fn jump(cycles: u8, pc: u16, cpu: &mut Cpu) -> Done
     ensures { (result, cpu.new) ≡ jumped cycles pc cpu.old }
 {
@@ -47,7 +47,7 @@ pub fn jump(cycles: u8, pc: u16, cpu: &mut Cpu) -> Done
     took(cycles)
 }
 
-#[inline]
+#[inline(always)]
 #[tactic(auto, unfolding(crate::specs::FlowShapes::branched))]
 pub fn branch(on: bool, k: i16, cpu: &mut Cpu) -> Done
     ensures { (result, cpu.new) ≡ branched on k cpu.old }
@@ -61,7 +61,7 @@ pub fn branch(on: bool, k: i16, cpu: &mut Cpu) -> Done
 }
 
 // The words by which the program goes on that leaves out the next instruction where `on`.
-#[inline]
+#[inline(always)]
 #[tactic(auto, unfolding(crate::specs::FlowShapes::skipping))]
 fn words_on(on: bool, flash: &Flash, cpu: &Cpu) -> u8
     ensures { result ≡ skipping flash.now.bytes on cpu.now }
@@ -73,7 +73,7 @@ fn words_on(on: bool, flash: &Flash, cpu: &Cpu) -> u8
     }
 }
 
-#[inline]
+#[inline(always)]
 pub fn skip(on: bool, flash: &Flash, cpu: &mut Cpu) -> Done
     ensures { (result, cpu.new) ≡ skipped flash.now.bytes on cpu.old }
 {
@@ -83,7 +83,7 @@ pub fn skip(on: bool, flash: &Flash, cpu: &mut Cpu) -> Done
 }
 
 // A skip where bit `b` of the register at the I/O address `a` is `on`.
-#[inline]
+#[inline(always)]
 #[tactic(auto, unfolding(crate::specs::FlowShapes::skips_by_io))]
 pub fn skip_by_io<B: Bus>(
     a: u8,
@@ -101,7 +101,7 @@ pub fn skip_by_io<B: Bus>(
 }
 
 // SLEEP goes on by one word; what it then does is not the core's.
-#[inline]
+#[inline(always)]
 pub fn sleep(cpu: &mut Cpu) -> Done
     ensures core { cpu.new ≡ advanced 1 cpu.old }
     ensures reported { result ≡ record { cycles = 1; sleep = true } }

@@ -2,12 +2,7 @@
 //! SLEEP; and loads and stores of the data space, the stack and the I/O registers, and loads from the flash.
 #![tactic(auto)]
 
-mod accesses;
-mod calls;
-mod flash;
-mod flow;
-mod jumps;
-mod memory;
-
-pub use flow::{exec_flow, exec_flow_if};
-pub use memory::{exec_memory, exec_memory_if};
+pub mod accesses;
+pub mod calls;
+pub mod flash;
+pub mod jumps;

@@ -22,7 +22,7 @@ use Rattle.bus_step.proofs.MemoryKeeps.{memory_keeps}
 use Rattle.node_core.specs.declared.bus.NodeBus.{NodeBus}
 use Rattle.node_core.specs.Bus.{board_got, board_put, bus_at, bus_get, bus_put, reset_bus}
 use Rattle.node_core.specs.Cycle.{acted, after_entry, after_instruction, begun_in, cpu_cycle, devices_cycle, entered, instructed, is_refused, op_now}
-use Rattle.node_core.specs.Execute.{executed, executed_by}
+use Rattle.node_core.specs.Execute.{executed, executed_by, executed_over}
 use Rattle.node_core.specs.Interrupts.{due, entry}
 use Rattle.node_core.specs.State.{NodeState}
 use Rattle.instruction_laws.specs.Stack.{IsMemory}
@@ -118,7 +118,7 @@ by_class class.Memory flash o cpu bus = memory_keeps keeps (size bus) flash o cp
 by_class (class.Halting cause) flash o cpu bus = refl
 
 executed_keeps : (flash : List ℕ) (o : Op) (cpu : Cpu) (bus : NodeBus) → size (executed flash o cpu bus).bus ≡ size bus
-unfolding executed
+unfolding executed_over
 executed_keeps flash o cpu bus = by_class (class_of o) flash o cpu bus
 
 entry_keeps : (word : ℕ) (cpu : Cpu) (bus : NodeBus) → size (entry word cpu bus).bus ≡ size bus

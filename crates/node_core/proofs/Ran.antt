@@ -18,7 +18,7 @@ use Rattle.node_core.specs.declared.bus.NodeBus.{NodeBus}
 use Rattle.node_core.specs.declared.machine.Machine.{Machine}
 use Rattle.node_core.specs.Bus.{bus_at, with_board}
 use Rattle.node_core.specs.Cycle.{acted, acted_rows, after_entry, after_instruction, cpu_cycle, cpu_rows, entered, entered_rows, entry_rows, instructed, instructed_rows, instruction_rows, is_refused, op_now, row}
-use Rattle.node_core.specs.Execute.{executed, executed_by}
+use Rattle.node_core.specs.Execute.{executed, executed_by, executed_over}
 use Rattle.node_core.specs.Interrupts.{due, entry}
 use Rattle.node_core.specs.Midway.{IsActed}
 use Rattle.node_core.specs.Shown.{shown}
@@ -33,7 +33,7 @@ now_at t m now = λ i. with_board m.bus (clock_at (now i) m.bus.board)
 
 -- the effect of an instruction, by its class
 pub by_class : (k : Class) (flash : List ℕ) (o : Op) (cpu : Cpu) (bus : NodeBus) → class_of o ≡ k → executed_by k flash o cpu bus ≡ executed flash o cpu bus
-unfolding executed
+unfolding executed_over
 by_class k flash o cpu bus e = ap (λ (c : Class). executed_by c flash o cpu bus) (sym e)
 
 module _ (t : ℕ) (m : Machine) (o : Op) (fetched : o ≡ op_now (shown m)) (runs : is_refused (shown m) o ≡ false) (now : m.bus.board.clock ≡ t)

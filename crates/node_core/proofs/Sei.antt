@@ -15,7 +15,7 @@ use Rattle.bus_step.specs.FlowShapes.{ends, jumped, returns_enabling}
 use Rattle.bus_step.specs.FlowTable.{flow_effect}
 use Rattle.node_core.specs.declared.bus.NodeBus.{NodeBus}
 use Rattle.node_core.specs.Bus.{bus_get}
-use Rattle.node_core.specs.Execute.{executed}
+use Rattle.node_core.specs.Execute.{executed, executed_over}
 use Rattle.avr_decoder.specs.declared.op.Op.{Op}
 use Rattle.avr_decoder.specs.declared.op.Op.TheVariants as op
 use Rattle.node_core.specs.Cycle.{is_sei}
@@ -45,7 +45,7 @@ unfolding sets_flag
 sets_on cpu s e = seven_on cpu.sreg.bits s e
 
 sei_on : (flash : List ℕ) (o : Op) (cpu : Cpu) (bus : NodeBus) → is_sei o ≡ true → IfOk {E = StopCause} (executed flash o cpu bus).result (λ d. 128 ≤ (executed flash o cpu bus).cpu.sreg.bits)
-unfolding executed effect flow_effect
+unfolding executed_over effect flow_effect
 sei_on flash (op.Bset s) cpu bus e = sets_on cpu s e
 sei_on flash op.Reti cpu bus e = reti_on cpu bus
 sei_on flash _ cpu bus e = absurd (false≢true e)

@@ -1,8 +1,9 @@
 -- A sprint: what holds of it at the beginning of a cycle, and how a step takes it on or ends it.
-use Rattle.std.proofs.Common.{◌≡◌, ℕ, ◌+◌, ◌-◌, ◌≤◌, ◌<◌, ◌^◌, ◌++◌, true, false, Option, Some, None, List, is_some, refl, sym, subst, ap, ◌∙◌, arith}
+use Rattle.std.proofs.Common.{◌≡◌, ℕ, ◌+◌, ◌-◌, ◌≤◌, ◌<◌, ◌^◌, ◌++◌, Bool, cond, true, false, Option, Some, None, List, is_some, refl, sym, subst, ap, ◌∙◌, arith}
 use Rattle.std.proofs.lemmas.Bool.{false≢true}
 use Rattle.std.specs.Prelude.{vec_len, vec_capacity}
-use Rattle.avr_base.specs.Lines.{due_of}
+use Rattle.avr_base.specs.Flags.{I, has_flag}
+use Rattle.avr_base.specs.Lines.{due_of, lowest_line, pending_of, vector_of}
 use Rattle.board_io.specs.Cycle.{timers_leap}
 use Rattle.board_io.specs.Lines.{lines_of}
 use Rattle.board_io.proofs.Lags.{lines_clock}
@@ -11,11 +12,15 @@ use Rattle.world_core.proofs.QuietCycles.{comes_none}
 use Rattle.node_core.specs.declared.bus.NodeBus.{NodeBus}
 use Rattle.node_core.specs.declared.machine.Machine.{Machine}
 use Rattle.node_core.specs.declared.row.Row.{Row}
+use Rattle.node_core.specs.declared.row.Kind.TheVariants as kind
+use Rattle.avr_base.specs.declared.stop.StopCause.{StopCause}
+use Rattle.data_space.specs.declared.cpu.Cpu.{Cpu}
+use Rattle.serial_ports.specs.Script.{ScriptBytes, script_byte}
 use Rattle.node_core.specs.Bus.{with_board}
-use Rattle.node_core.specs.Cycle.{instructed, instructed_rows, node_kind}
+use Rattle.node_core.specs.Cycle.{instructed, instructed_rows, node_kind, row}
 use Rattle.node_core.specs.Inside.{IsCalm, MayAct}
 use Rattle.node_core.specs.Interrupts.{due}
-use Rattle.node_core.specs.Midway.{IsActed, IsMidway, IsSprinted, IsStepped}
+use Rattle.node_core.specs.Midway.{IsActed, IsMidway, IsSprinted, IsStepped, IsStopping, owing, turned_on}
 use Rattle.node_core.specs.Shown.{shown}
 use Rattle.node_core.specs.State.{NodeState}
 use Rattle.node_core.proofs.Acts.{one_more, one_row}
@@ -28,6 +33,18 @@ none_of (Some a) e = absurd (false≢true (sym e))
 
 pub none_due : (m : Machine) → due_of m.cpu.sreg.bits (lines_of m.bus.board) ≡ None → due (shown m) ≡ None
 none_due m none = ap (due_of m.cpu.sreg.bits) (lines_clock 0 m.bus.board) ∙ none
+
+none_up : vector_of (lowest_line 0) ≡ None
+unfolding lowest_line
+none_up = refl
+
+-- no interrupt is due while no line is up
+pub clear_due : (m : Machine) → (lines_of m.bus.board).bits ≡ 0 → due (shown m) ≡ None
+clear_due m e = none_due m (by_flag (has_flag m.cpu.sreg.bits I))
+  where
+    by_flag : (b : Bool) → cond b (pending_of (lines_of m.bus.board)) None ≡ None
+    by_flag true = ap (λ (n : ℕ). vector_of (lowest_line n)) e ∙ none_up
+    by_flag false = refl
 
 pub record IsSprinting (t at : ℕ) (old m : Machine) : Type 0 where
   pub from : t ≤ at
@@ -200,3 +217,44 @@ module _ (t at : ℕ) (old m : Machine) (h : IsSprinting t at old m) where
           count = omega (arith, count, more, some);
           rows = p.same ∙ h.rows;
         }
+
+-- what is owed, said otherwise
+pub owes_so : (b : Bool) (m : Machine) → m.owed ≡ b → m ≡ owing b m
+owes_so b m e = λ i. let x : Machine = record m { owed = e i } in x
+
+pub told_on : (s : ℕ) (x y : Machine) → y.owed ≡ turned_on s y.cpu.sreg.bits → x.owed ≡ y.owed → x.cpu ≡ y.cpu → x ≡ owing (turned_on s x.cpu.sreg.bits) x
+told_on s x y told owed core = owes_so (turned_on s x.cpu.sreg.bits) x (owed ∙ (told ∙ sym (ap (λ (c : Cpu). turned_on s c.sreg.bits) core)))
+
+-- a step whose cycles pass whole, whatever was owed before it
+pub steps_on : (t at n s : ℕ) (old m w x : Machine) (b : Bool) → IsSprinting t at old (owing b m) → due (shown m) ≡ None → IsStepped at n (owing b m) (owing (turned_on s w.cpu.sreg.bits) w)
+    → IsCalm at n (shown w) → shown x ≡ (let u : NodeState = record (shown w) { bus = with_board (shown w).bus (timers_leap at n (shown w).bus.board) } in u)
+    → x ≡ (let y : Machine = record w { bus = x.bus } in y) → x.bus.board.clock ≡ at + n → IsSprinting t (at + n) old (owing (turned_on s x.cpu.sreg.bits) x)
+steps_on t at n s old m w x b h none p calm state others clock =
+    let d : Bool = turned_on s w.cpu.sreg.bits in
+    let kept : (let y : Machine = record w { bus = x.bus } in shown y) ≡ shown x = ap shown (sym others) in
+    let bus : (let y : Machine = record w { bus = x.bus } in shown y).bus ≡ with_board (shown w).bus (timers_leap at n (shown w).bus.board) = ap (λ (u : NodeState). u.bus) (kept ∙ state) in
+    let is_calm : IsCalm at n (shown (owing d w)) = record { ends = calm.ends; none = calm.none } in
+    subst (λ (y : Machine). IsSprinting t (at + n) old (owing (turned_on s y.cpu.sreg.bits) y)) (sym others)
+    (goes t at old (owing b m) h n (owing d w) none p x.bus is_calm
+    (λ i. let u : NodeState = record (shown (owing d w)) { bus = bus i } in u) clock)
+
+-- one that stops
+pub stops : (t at : ℕ) (old m w new : Machine) (b r : Bool) (cause : StopCause) → IsSprinting t at old (owing b m) → due (shown m) ≡ None → IsStopping at cause (owing b m) (owing b w) → r ≡ b
+    → shown new ≡ (let u : NodeState = record (shown (owing r w)) { stop = Some cause } in u) → new.rows.items ≡ w.rows.items ++ row at (shown (owing r w)) (kind.Stop m.cpu.pc cause)
+    → vec_capacity new.rows ≡ vec_capacity w.rows → new.bus.board.clock ≡ w.bus.board.clock → IsSprinted t at true old new
+stops t at old m w new b r cause h none q same state rows room clock =
+    ends t at old (owing b m) h new none record {
+      state = state ∙ (ap (λ (d : Bool). let u : NodeState = record (shown (owing d w)) { stop = Some cause } in u) same ∙ q.state);
+      rows = rows ∙ (λ i. (ap (λ x. x.items) q.same) i ++ q.told i);
+      going = λ l. absurd (omega arith);
+      same = λ l. absurd (omega arith);
+      room = room ∙ ap (λ x. vec_capacity x) q.same;
+      clock = clock ∙ q.clock;
+    }
+
+-- up to `end` no byte arrives
+pub silent : (t at end : ℕ) (old m : Machine) → m.script ≡ old.script → t ≤ at → ((i : ℕ) → t + i < end → script_byte old.script (t + i) ≡ None) → (i : ℕ) → at + i < end → script_byte m.script (at + i) ≡ None
+silent t at end old m same from none i l =
+    let there : t + (at - t + i) ≡ at + i = omega (arith, from) in
+    ap (λ (x : ScriptBytes). script_byte x (at + i)) same
+    ∙ subst (λ (u : ℕ). script_byte old.script u ≡ None) there (none (at - t + i) (omega (arith, l, from)))

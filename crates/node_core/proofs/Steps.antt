@@ -1,7 +1,8 @@
 -- A step of a sprint: the processor's part of its cycle, of an instruction that goes on.
 use Rattle.std.proofs.Common.{◌≡◌, ℕ, ◌+◌, ◌-◌, ◌≤◌, ◌&&◌, ◌++◌, nat_le, nat_lt, Bool, true, false, cond, None, List, [], is_some, append-nil, refl, sym, subst, ap, ◌∙◌, arith}
 use Rattle.std.proofs.lemmas.Bool.Decides.{nat_tests}
-use Rattle.std.specs.Prelude.{Ok}
+use Rattle.std.specs.Prelude.{Result, Ok, Err, IfOk, ◌||◌}
+use Rattle.avr_base.specs.declared.stop.StopCause.{StopCause}
 use Rattle.avr_decoder.specs.declared.op.Op.{Op}
 use Rattle.board_io.specs.Board.{sleep_mode}
 use Rattle.board_io.specs.Cycle.{timers_leap}
@@ -13,15 +14,17 @@ use Rattle.node_core.specs.declared.bus.NodeBus.{NodeBus}
 use Rattle.node_core.specs.declared.machine.Machine.{Machine}
 use Rattle.node_core.specs.declared.row.Row.{Row}
 use Rattle.node_core.specs.declared.row.Kind.TheVariants as kind
-use Rattle.node_core.specs.Bus.{bus_at, with_board}
+use Rattle.node_core.specs.Bus.{bus_at, bus_get, bus_put, with_board}
 use Rattle.node_core.specs.Cycle.{first_word, instructed, instructed_rows, is_idle, is_other, is_refused, is_sleep, node_kind, op_now, owes, row, second_word}
-use Rattle.node_core.specs.Execute.{executed}
-use Rattle.node_core.specs.Inside.{IsCalm}
+use Rattle.node_core.specs.Execute.{executed, is_plain}
+use Rattle.node_core.specs.Inside.{IsCalm, MayAct}
 use Rattle.node_core.specs.Interrupts.{due}
-use Rattle.node_core.specs.Midway.{IsActed, IsMidway, IsStepped}
+use Rattle.node_core.specs.Midway.{IsActed, IsMidway, IsStepped, IsStopping, owing, turned_on}
 use Rattle.node_core.specs.Shown.{shown}
 use Rattle.node_core.specs.State.{NodeState}
 use Rattle.node_core.proofs.Clocks.{executed_clock}
+use Rattle.node_core.proofs.Executes.{plain_awake, plain_no_sei, takes}
+use Rattle.node_core.proofs.Wakes.{wakes}
 use Rattle.node_core.proofs.Ran.{goes_on, ran, ran_rows}
 use Rattle.node_core.proofs.Strides.{passed_there}
 
@@ -70,6 +73,29 @@ module _ (t : ℕ) (m : Machine) (o : Op) (fetched : o ≡ op_now (shown m)) (ru
     to = refl;
     script = refl;
     count = refl;
+    clock = ap (λ (x : Outcome NodeBus). x.bus.board.clock) done ∙ executed_clock flash o m.cpu m.bus;
+  }
+
+-- ---- a plain instruction behind the window, whatever was owed before it
+module _ (t : ℕ) (m : Machine) (o : Op) (fetched : o ≡ op_now (shown m)) (plain : is_plain o ≡ true) (may : MayAct t m)
+    (a : Outcome NodeBus) (flash : List ℕ) (kept : flash ≡ m.program.bytes) (done : a ≡ executed flash o m.cpu m.bus) where
+  runs : is_refused (shown m) o ≡ false
+  runs = runs_on (shown m) o (plain_awake o plain)
+
+  pub plain_goes : (d : Done) → a.result ≡ Ok d → m.to ≤ t → (b : Bool)
+      → IsStepped t d.cycles (owing b m) (let x : Machine = record m { cpu = a.cpu; bus = a.bus; count = m.count + 1 } in owing (turned_on m.cpu.sreg.bits a.cpu.sreg.bits) x)
+  plain_goes d ok behind b =
+      let some : IfOk {E = StopCause} (Ok d) (λ (e : Done). 1 ≤ e.cycles) = subst (λ (r : Result Done StopCause). IfOk r (λ (e : Done). 1 ≤ e.cycles)) ok (takes bus_get bus_put a flash o m.cpu m.bus done) in
+      gone t (owing b m) o fetched runs may.now behind a flash kept done d ok (turned_on m.cpu.sreg.bits a.cpu.sreg.bits)
+      (sym (ap (λ (s : Bool). s || turned_on m.cpu.sreg.bits a.cpu.sreg.bits) (plain_no_sei o plain)))
+      (wakes a flash o m.cpu m.bus d done ok (plain_awake o plain)) some may.awake may.going may.free
+
+  pub plain_stops : (cause : StopCause) → a.result ≡ Err cause → (b : Bool)
+      → IsStopping t cause (owing b m) (let x : Machine = record m { cpu = a.cpu; bus = a.bus } in owing b x)
+  plain_stops cause stop b = record {
+    state = ran t (owing b m) o fetched runs may.now a flash kept done (Err cause) stop;
+    told = ran_rows t (owing b m) o fetched runs may.now a flash kept done [] (Err cause) stop;
+    same = refl;
     clock = ap (λ (x : Outcome NodeBus). x.bus.board.clock) done ∙ executed_clock flash o m.cpu m.bus;
   }
 

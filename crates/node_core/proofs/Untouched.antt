@@ -15,7 +15,7 @@ use Rattle.bus_step.proofs.FlowKeeps.{flow_keeps}
 use Rattle.bus_step.proofs.MemoryKeeps.{memory_keeps}
 use Rattle.node_core.specs.declared.bus.NodeBus.{NodeBus}
 use Rattle.node_core.specs.Bus.{board_got, board_put, bus_get, bus_put}
-use Rattle.node_core.specs.Execute.{executed, executed_by}
+use Rattle.node_core.specs.Execute.{executed, executed_by, executed_over}
 use Rattle.node_core.specs.Interrupts.{entry}
 
 module _ {V : Type 0} (part : Board → V)
@@ -62,7 +62,7 @@ module _ {V : Type 0} (part : Board → V)
   by_class (class.Halting cause) flash o cpu bus = refl
 
   pub executed_keeps : (flash : List ℕ) (o : Op) (cpu : Cpu) (bus : NodeBus) → bus_part (executed flash o cpu bus).bus ≡ bus_part bus
-  unfolding executed
+  unfolding executed_over
   executed_keeps flash o cpu bus = by_class (class_of o) flash o cpu bus
 
   pub entry_keeps : (word : ℕ) (cpu : Cpu) (bus : NodeBus) → bus_part (entry word cpu bus).bus ≡ bus_part bus

@@ -21,7 +21,7 @@ use Rattle.bus_step.specs.MemoryTable.{memory_effect, x, y, z}
 use Rattle.node_core.specs.declared.bus.NodeBus.{NodeBus}
 use Rattle.node_core.specs.Bus.{bus_get, bus_put}
 use Rattle.node_core.specs.Cycle.{is_sleep}
-use Rattle.node_core.specs.Execute.{executed, executed_by}
+use Rattle.node_core.specs.Execute.{executed, executed_by, executed_over}
 
 abbrev Wakes : {B : Type 0} → Outcome B → Type 0
 Wakes outcome = IfOk outcome.result (λ d. d.sleep ≡ false)
@@ -149,7 +149,7 @@ wakes_by class.Memory flash o cpu bus e = memory_wakes bus_get bus_put flash o c
 wakes_by (class.Halting cause) flash o cpu bus e = tt
 
 executed_wakes : (flash : List ℕ) (o : Op) (cpu : Cpu) (bus : NodeBus) → is_sleep o ≡ false → Wakes (executed flash o cpu bus)
-unfolding executed
+unfolding executed_over
 executed_wakes flash o cpu bus e = wakes_by (class_of o) flash o cpu bus e
 
 pub wakes : (a : Outcome NodeBus) (flash : List ℕ) (o : Op) (cpu : Cpu) (bus : NodeBus) (d : Done) → a ≡ executed flash o cpu bus → a.result ≡ Ok d → is_sleep o ≡ false → d.sleep ≡ false

@@ -1,7 +1,9 @@
 -- The effect of one instruction on the core and the data space (AVR Instruction Set Manual), by its class: the tables
--- of arith_step and bus_step over this node's bus. An instruction that halts changes nothing.
-use Rattle.std.specs.Prelude.{ℕ, List, Ok, Err}
+-- of arith_step and bus_step. An instruction that halts changes nothing.
+use Rattle.std.specs.Prelude.{ℕ, Bool, true, false, List, Result, Ok, Err}
+use Rattle.avr_base.specs.declared.stop.StopCause.{StopCause}
 use Rattle.avr_decoder.specs.declared.op.Op.{Op}
+use Rattle.avr_decoder.specs.declared.op.Op.TheVariants as op
 use Rattle.avr_decoder.specs.declared.op.Class.{Class}
 use Rattle.avr_decoder.specs.declared.op.Class.TheVariants as class
 use Rattle.avr_decoder.specs.Class.{class_of}
@@ -13,11 +15,32 @@ use Rattle.bus_step.specs.MemoryTable.{memory_effect}
 use Rattle.node_core.specs.declared.bus.NodeBus.{NodeBus}
 use Rattle.node_core.specs.Bus.{bus_get, bus_put}
 
-abbrev pub executed_by : Class → List ℕ → Op → Cpu → NodeBus → Outcome NodeBus
-executed_by class.Arith flash o cpu bus = record { result = Ok (arith_done o); cpu = arith_cpu o cpu; bus = bus }
-executed_by class.Flow flash o cpu bus = flow_effect bus_get bus_put flash o cpu bus
-executed_by class.Memory flash o cpu bus = memory_effect bus_get bus_put flash o cpu bus
-executed_by (class.Halting cause) flash o cpu bus = record { result = Err cause; cpu = cpu; bus = bus }
+-- over any bus, by what its loads and stores give
+abbrev pub executed_over_by : {B : Type 0} → (B → ℕ → Result (ℕ × B) StopCause) → (B → ℕ → ℕ → Result B StopCause) → Class → List ℕ → Op → Cpu → B → Outcome B
+executed_over_by get put class.Arith flash o cpu bus = record { result = Ok (arith_done o); cpu = arith_cpu o cpu; bus = bus }
+executed_over_by get put class.Flow flash o cpu bus = flow_effect get put flash o cpu bus
+executed_over_by get put class.Memory flash o cpu bus = memory_effect get put flash o cpu bus
+executed_over_by get put (class.Halting cause) flash o cpu bus = record { result = Err cause; cpu = cpu; bus = bus }
 
-unfoldable pub executed : List ℕ → Op → Cpu → NodeBus → Outcome NodeBus
-executed flash o cpu bus = executed_by (class_of o) flash o cpu bus
+unfoldable pub executed_over : {B : Type 0} → (B → ℕ → Result (ℕ × B) StopCause) → (B → ℕ → ℕ → Result B StopCause) → List ℕ → Op → Cpu → B → Outcome B
+executed_over get put flash o cpu bus = executed_over_by get put (class_of o) flash o cpu bus
+
+-- over this node's bus
+abbrev pub executed_by : Class → List ℕ → Op → Cpu → NodeBus → Outcome NodeBus
+executed_by k flash o cpu bus = executed_over_by bus_get bus_put k flash o cpu bus
+
+abbrev pub executed : List ℕ → Op → Cpu → NodeBus → Outcome NodeBus
+executed flash o cpu bus = executed_over bus_get bus_put flash o cpu bus
+
+abbrev pub runs_on : Class → Bool
+runs_on class.Arith = true
+runs_on class.Flow = true
+runs_on class.Memory = true
+runs_on (class.Halting cause) = false
+
+-- whether an instruction is neither one that sets a flag (SEI is one), nor RETI, nor SLEEP, nor one that halts
+abbrev pub is_plain : Op → Bool
+is_plain (op.Bset s) = false
+is_plain op.Reti = false
+is_plain op.Sleep = false
+is_plain o = runs_on (class_of o)

@@ -1,15 +1,17 @@
 -- A run of a node that stands in the middle of a cycle: of that cycle the processor's part is done, the devices' is not. What
 -- that part did, and what the cycles did in which the node only rested.
-use Rattle.std.specs.Prelude.{◌≡◌, ◌<◌, ◌≤◌, ◌+◌, ◌-◌, ◌^◌, ℕ, Bool, None, true, false, is_some, List, [], ◌++◌, vec_len, vec_capacity}
+use Rattle.std.specs.Prelude.{◌≡◌, ◌<◌, ◌≤◌, ◌+◌, ◌-◌, ◌^◌, ◌&&◌, nat_le, nat_lt, ℕ, Bool, None, Some, true, false, is_some, List, [], ◌++◌, vec_len, vec_capacity}
+use Rattle.avr_base.specs.declared.stop.StopCause.{StopCause}
 use Rattle.node_core.specs.declared.row.Row.{Row}
+use Rattle.node_core.specs.declared.row.Kind.TheVariants as kind
 use Rattle.world_core.specs.NodeRun.{AllQuiet, Timed, Comes, passed, passed_rows}
 use Rattle.node_core.specs.declared.machine.Machine.{Machine}
 use Rattle.node_core.specs.declared.sprint.Step.{Step}
-use Rattle.node_core.specs.declared.sprint.Step.TheVariants.{Plain, Ended}
+use Rattle.node_core.specs.declared.sprint.Step.TheVariants.{Plain, Stopped, Left}
 use Rattle.node_core.specs.Inside.{IsGoing}
 use Rattle.node_core.specs.Shown.{shown}
 use Rattle.node_core.specs.State.{NodeState}
-use Rattle.node_core.specs.Cycle.{cpu_cycle, cpu_rows, instructed, instructed_rows, node_kind}
+use Rattle.node_core.specs.Cycle.{cpu_cycle, cpu_rows, instructed, instructed_rows, node_kind, row}
 
 -- from v on the node came through quiet cycles to the beginning of cycle c, ran there, and is now at u with rows k
 pub record IsMidway (v : Timed NodeState Row) (c : ℕ) (u : NodeState) (k : List Row) : Type 0 where
@@ -54,10 +56,26 @@ pub record IsStepped (t n : ℕ) (old new : Machine) : Type 0 where
   pub count : new.count ≡ old.count + 1
   pub clock : new.bus.board.clock ≡ old.bus.board.clock
 
--- what a step of a sprint did in cycle t
+-- an instruction stopped in its first cycle, t; the row and the stop are still to be told
+pub record IsStopping (t : ℕ) (cause : StopCause) (old new : Machine) : Type 0 where
+  pub state : (let u : NodeState = record (shown new) { stop = Some cause } in u) ≡ instructed t (shown old)
+  pub told : row t (shown new) (kind.Stop old.cpu.pc cause) ≡ instructed_rows t (shown old)
+  pub same : new.rows ≡ old.rows
+  pub clock : new.bus.board.clock ≡ old.bus.board.clock
+
+-- whether the flag I was turned on
+abbrev pub turned_on : ℕ → ℕ → Bool
+turned_on before after = nat_lt before 128 && nat_le 128 after
+
+-- a sprint tells at its end alone whether an instruction is owed
+abbrev pub owing : Bool → Machine → Machine
+owing b m = record m { owed = b }
+
+-- what a step of a sprint did in cycle t, whatever was owed before it
 abbrev pub IsStep : ℕ → Step → Machine → Machine → Type 0
-IsStep t (Plain n) old new = IsStepped t n old new
-IsStep t Ended old new = IsActed 0 (instructed t (shown old)) (instructed_rows t (shown old)) old new
+IsStep t (Plain n) old new = (b : Bool) → IsStepped t n (owing b old) (owing (turned_on old.cpu.sreg.bits new.cpu.sreg.bits) new)
+IsStep t (Stopped cause) old new = (b : Bool) → IsStopping t cause (owing b old) (owing b new)
+IsStep t Left old new = new ≡ old
 
 -- from cycle t on it executed instruction after instruction, and came to the beginning of cycle c, or, where it is inside, to
 -- the middle of it

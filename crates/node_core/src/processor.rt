@@ -24,7 +24,6 @@ use board_io::{LaggingBoard, Sleep};
 use data_space::Done;
 
 // SEI and RETI.
-#[inline(always)]
 fn is_set_interrupts(op: &Op) -> bool
     ensures { result ≡ is_sei op.now }
 {
@@ -35,8 +34,7 @@ fn is_set_interrupts(op: &Op) -> bool
     }
 }
 
-#[inline(always)]
-pub fn is_sleep(op: &Op) -> bool
+fn is_sleep(op: &Op) -> bool
     ensures { result ≡ is_sleep op.now }
 {
     match op {
@@ -64,8 +62,7 @@ fn is_other(mode: Sleep) -> bool
 }
 
 // Whether an instruction is owed before the next interrupt is entered. SEI and RETI leave I set, so without it none is.
-#[inline(always)]
-pub fn owes(op: &Op, before: u8, after: u8) -> bool
+fn owes(op: &Op, before: u8, after: u8) -> bool
     requires { is_sei op.now ≡ true → 128 ≤ after }
     ensures { result ≡ owes op.now before after }
 {
@@ -143,7 +140,7 @@ impl Machine {
     // What is left of the first cycle of an instruction that did not stop, by whether another is owed. The answer is that of
     // `instruct`.
     #[inline(always)]
-    pub fn end(&mut self, cycle: u64, pc: u16, owed: bool, done: Done) -> u8
+    fn end(&mut self, cycle: u64, pc: u16, owed: bool, done: Done) -> u8
         requires going { self.old.stop ≡ None }
         requires awake { self.old.asleep ≡ false }
         requires few { self.old.count ≤ 2 ^ 41 }
@@ -166,8 +163,7 @@ impl Machine {
     }
 
     // Whether an instruction is SLEEP in a mode other than idle.
-    #[inline(always)]
-    pub fn refuses(&self, op: &Op) -> bool
+    fn refuses(&self, op: &Op) -> bool
         ensures { result ≡ is_refused (shown self.now) op.now }
     {
         is_sleep(op) && is_other(self.bus.board.sleep_mode())

@@ -2,6 +2,7 @@
 ghost use Rattle.std.specs.Prelude.{◌≡◌, ◌≤◌, ◌<◌, ◌+◌, ◌^◌, ℕ, None, false};
 ghost use Rattle.node_core.specs.Cycle.{is_spin};
 ghost use Rattle.node_core.specs.Inside.{MayAct};
+ghost use Rattle.board_io.specs.Lines.{lines_of};
 ghost use Rattle.node_core.specs.Midway.{IsSprinted};
 ghost use Rattle.serial_ports.specs.Script.{script_byte};
 
@@ -35,6 +36,7 @@ impl Machine {
         requires none { (i : ℕ) → cycle + i < end → script_byte self.old.script (cycle + i) ≡ None }
         ensures sprinted { IsSprinted cycle (cycle + result) false self.old self.new }
         ensures others { self.new ≡ record self.old { bus = self.new.bus; count = self.new.count } }
+        ensures lines { lines_of self.new.bus.board ≡ lines_of self.old.bus.board }
         ensures within { cycle + result ≤ end }
     {
         let op = self.program.op(pc);

@@ -1,16 +1,12 @@
 // Instructions of a node, one behind another, while nothing is due.
-ghost use Rattle.std.specs.Prelude.{◌≡◌, ◌≤◌, ◌<◌, ◌+◌, ◌^◌, ℕ, None, false, vec_len, vec_capacity};
-ghost use Rattle.node_core.specs.Cycle.{op_now};
+ghost use Rattle.std.specs.Prelude.{◌≡◌, ◌≤◌, ◌<◌, ◌+◌, ◌^◌, ℕ, None, false};
 ghost use Rattle.node_core.specs.Inside.{MayAct};
-ghost use Rattle.node_core.specs.Shown.{shown};
-ghost use Rattle.node_core.specs.Midway.{IsSprinted, IsStep};
+ghost use Rattle.node_core.specs.Midway.{IsSprinted, IsStep, turned_on};
 ghost use Rattle.serial_ports.specs.Script.{script_byte};
 
-use crate::execute::execute_on_bus;
+use crate::execute::execute_plain;
 use crate::machine::Machine;
-use crate::processor::{is_sleep, owes};
 use avr_base::StopCause;
-use avr_decoder::Op;
 
 /// Where a sprint ended: at the beginning of the cycle `at`, or in the middle of it, of which the processor's part is done.
 #[derive(Clone, Copy)]
@@ -24,53 +20,43 @@ pub struct Sprinted {
 pub enum Step {
     /// It executed an instruction of so many cycles.
     Plain { taken: u8 },
-    /// The processor's part of the cycle, in which the node stopped, or executed SLEEP.
-    Ended,
+    /// The instruction stopped.
+    Stopped { cause: StopCause },
+    /// It left an instruction that is none of a sprint's.
+    Left,
+}
+
+// Whether the flag I, the highest of SREG, was turned on.
+#[inline]
+fn turned_on(before: u8, after: u8) -> bool
+    ensures { result ≡ turned_on before after }
+{
+    before < 128 && after >= 128
 }
 
 impl Machine {
-    // The first cycle of an instruction behind the window, where nothing is due. Where it goes on, only its effect, its
-    // count and whether it owes another are written.
+    // The first cycle of an instruction behind the window, where nothing is due. Of one that goes on, the effect and the count
+    // are written; whether it owes another is told at the end of the sprint.
     #[inline(always)]
-    fn step(&mut self, op: &Op, cycle: u64) -> Step
+    fn step(&mut self, cycle: u64) -> Step
         requires may { MayAct cycle self.old }
-        requires fetched { op.now ≡ op_now (shown self.old) }
         requires behind { self.old.to ≤ cycle }
         ensures { IsStep cycle result self.old self.new }
     {
-        let pc = self.cpu.pc;
-        let before = self.cpu.sreg.bits;
-        if let Some(done) = arith_step::exec_if(*op, &mut self.cpu) {
-            let owed = owes(op, before, self.cpu.sreg.bits);
-            self.owed = owed;
-            self.count += 1;
-            return Step::Plain { taken: done.cycles };
-        }
-        if self.refuses(op) {
-            self.halt(cycle, pc, StopCause::SleepMode);
-            return Step::Ended;
-        }
-        match execute_on_bus(op, self.program.flash(), &mut self.cpu, &mut self.bus) {
-            Ok(done) => {
-                let owed = owes(op, before, self.cpu.sreg.bits);
-                if is_sleep(op) {
-                    self.end(cycle, pc, owed, done);
-                    return Step::Ended;
-                }
-                self.owed = owed;
+        let op = self.program.op(self.cpu.pc);
+        match execute_plain(op, self.program.flash(), &mut self.cpu, &mut self.bus) {
+            None => Step::Left,
+            Some(Ok(done)) => {
                 self.count += 1;
                 Step::Plain { taken: done.cycles }
             }
-            Err(cause) => {
-                self.halt(cycle, pc, cause);
-                Step::Ended
-            }
+            Some(Err(cause)) => Step::Stopped { cause },
         }
     }
 
     /// Executes instructions from `cycle` on, behind the window and up to `end`, below which no byte arrives, while no
-    /// interrupt is due and the devices end nothing.
-    #[inline(always)]
+    /// interrupt line is up and the devices end nothing. It ends before an instruction after which a node looks up.
+    #[inline(never)]
     pub fn sprint(&mut self, cycle: u64, end: u64) -> Sprinted
         requires may { MayAct cycle self.old }
         requires within { cycle ≤ end }
@@ -80,26 +66,42 @@ impl Machine {
         ensures within { result.at ≤ end }
     {
         let mut at = cycle;
-        if cycle < self.to {
+        if cycle < self.to || self.owed || self.bus.board.lines().bits != 0 {
             return Sprinted { at, inside: false };
         }
-        while self.due().is_none() {
+        // as if I had been on: so nothing is owed yet
+        let mut before = 128;
+        loop {
             let pc = self.cpu.pc;
-            let op = self.program.op(pc);
-            match self.step(&op, at) {
-                Step::Ended => return Sprinted { at, inside: true },
+            let now = self.cpu.sreg.bits;
+            match self.step(at) {
                 Step::Plain { taken } => {
-                    if !self.passes_whole(at, end, taken) {
+                    before = now;
+                    if !self.passes_clear(at, end, taken) {
+                        self.owed = turned_on(before, self.cpu.sreg.bits);
+                        if self.passes_whole(at, end, taken) {
+                            at += u64::from(taken);
+                            return Sprinted { at, inside: false };
+                        }
                         self.wait = taken - 1;
                         return Sprinted { at, inside: true };
                     }
                     at += u64::from(taken);
                     if self.cpu.pc == pc {
+                        self.owed = turned_on(before, self.cpu.sreg.bits);
                         at += self.spin(pc, at, end);
                     }
                 }
+                Step::Left => {
+                    self.owed = turned_on(before, now);
+                    return Sprinted { at, inside: false };
+                }
+                Step::Stopped { cause } => {
+                    self.owed = turned_on(before, now);
+                    self.halt(at, pc, cause);
+                    return Sprinted { at, inside: true };
+                }
             }
         }
-        Sprinted { at, inside: false }
     }
 }

@@ -3,6 +3,7 @@ ghost use Rattle.std.specs.Prelude.{◌≡◌, ◌≤◌, ◌<◌, ◌+◌, ◌-
 ghost use Rattle.node_core.specs.Inside.{IsCalm, IsGoing, IsPassed};
 ghost use Rattle.node_core.specs.Midway.{IsMidway};
 ghost use Rattle.board_io.specs.Cycle.{timers_leap};
+ghost use Rattle.board_io.specs.Lines.{lines_of};
 ghost use Rattle.node_core.specs.Bus.{with_board};
 ghost use Rattle.node_core.specs.Shown.{shown};
 ghost use Rattle.serial_ports.specs.Script.{script_byte};
@@ -28,6 +29,27 @@ impl Machine {
             return false;
         }
         self.bus.board.passes(cycle, taken)
+    }
+
+    // The devices' part of these cycles, if besides no interrupt line is up before or after them: whether it was so.
+    #[inline(always)]
+    pub fn passes_clear(&mut self, cycle: u64, end: u64, taken: u8) -> bool
+        requires now { self.old.bus.board.clock ≡ cycle }
+        requires some { 0 < taken }
+        requires early { cycle ≤ 2 ^ 40 }
+        requires none { (i : ℕ) → cycle + i < end → script_byte self.old.script (cycle + i) ≡ None }
+        ensures calm { result ≡ true → IsCalm cycle taken (shown self.old) }
+        ensures state { result ≡ true → shown self.new ≡ record (shown self.old) { bus = with_board (shown self.old).bus (timers_leap cycle taken (shown self.old).bus.board) } }
+        ensures clear { result ≡ true → (lines_of self.new.bus.board).bits ≡ 0 }
+        ensures same { result ≡ false → self.new ≡ self.old }
+        ensures others { self.new ≡ record self.old { bus = self.new.bus } }
+        ensures clock { result ≡ true → self.new.bus.board.clock ≡ cycle + taken }
+        ensures within { result ≡ true → cycle + taken ≤ end }
+    {
+        if cycle + u64::from(taken) > end {
+            return false;
+        }
+        self.bus.board.passes_clear(cycle, taken)
     }
 
     // The devices' part of the cycle `cycle`, in which an instruction begins that takes `taken` cycles, and its other cycles,

@@ -30,7 +30,7 @@ use Rattle.device_laws.proofs.Timers.{kept_if}
 use Rattle.ihex_loader.specs.Flash.{word_at}
 use Rattle.node_core.specs.Bus.{board_got, board_put, bus_at, bus_get, bus_put, with_board}
 use Rattle.node_core.specs.Cycle.{acted, after_entry, after_instruction, asks_after, asks_in, begun_in, cpu_cycle, devices_cycle, entered, first_word, finished_in, instructed, is_refused, node_kind, op_now, second_word, sends_after, sends_in}
-use Rattle.node_core.specs.Execute.{executed, executed_by}
+use Rattle.node_core.specs.Execute.{executed, executed_by, executed_over}
 use Rattle.node_core.specs.Interrupts.{due, entry, vectored}
 use Rattle.node_core.specs.State.{NodeState, reset}
 use Rattle.node_core.specs.declared.bus.NodeBus.{NodeBus}
@@ -107,7 +107,7 @@ module _ (t : ℕ) where
 
   executed_in : t < 2 ^ 40 → (flash : List ℕ) (o : Op) (cpu : Cpu) (bus : NodeBus) → AreBytes flash → OpWithin o → CoreWithin cpu → BusWithin t t bus
       → Leaves (BusWithin t t) IsShort (executed flash o cpu bus)
-  unfolding executed
+  unfolding executed_over
   executed_in early flash o cpu bus bytes w c q = by_class early (class_of o) flash o cpu bus bytes w c q
 
   vectored_in : (word : ℕ) (cpu : Cpu) → word ≤ 65535 → CoreWithin cpu → CoreWithin (vectored word cpu)
