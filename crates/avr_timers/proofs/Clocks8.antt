@@ -1,11 +1,12 @@
 -- Many cycles of an 8-bit timer are those of its counter.
-use Rattle.std.proofs.Common.{◌≡◌, ℕ, zero, suc, ◌+◌, ◌<◌, Bool, true, false, cond, refl, sym, ap, ◌∙◌}
+use Rattle.std.proofs.Common.{◌≡◌, ℕ, zero, suc, ◌+◌, ◌<◌, Bool, true, false, ◌&&◌, not, cond, refl, sym, ap, ◌∙◌}
 use Rattle.avr_timers.specs.Clock.{clocked, clocks_of, cycles, many}
 use Rattle.avr_timers.specs.Prescaler.{divider_of}
 use Rattle.avr_timers.specs.declared.timer_counter.TimerCounter.{TimerCounter}
+use Rattle.avr_timers.specs.declared.flags.TimerFlags.{TimerFlags}
 use Rattle.avr_timers.specs.Timer as counter
 use Rattle.avr_timers.proofs.Timers as counters
-use Rattle.avr_timers.specs.Timer8.{counter_of, flags_of, sets_flag_at, timer_cycle, with_counter}
+use Rattle.avr_timers.specs.Timer8.{cleared, counter_of, flags_of, sets_flag_at, timer_cycle, with_counter}
 use Rattle.avr_timers.specs.declared.timer8.Timer8.{Timer8}
 
 clock-of : (tm : Timer8) (b : Bool) → counter_of (with_counter tm (cond b (counter.clock (counter_of tm)) (counter_of tm))) ≡ cond b (counter.clock (counter_of tm)) (counter_of tm)
@@ -36,6 +37,10 @@ leap_many t n k tm e =
 pub leap_none : (t n k : ℕ) (tm : Timer8) → k ≡ clocks_of (divider_of tm.prescaler tm.select) t n → k ≡ 0 → tm ≡ cycles timer_cycle t n tm
 leap_none t n k tm e none = sym (cycles-with t n tm ∙ ap (with_counter tm) (counters.cycles-none t n k (counter_of tm) e none))
 
+-- so is the count
+pub count_many : (t n k : ℕ) (tm : Timer8) → k ≡ clocks_of (divider_of tm.prescaler tm.select) t n → (many counter.clock k (counter_of tm)).count ≡ (cycles timer_cycle t n tm).count
+count_many t n k tm e = ap (λ (u : Timer8). u.count) (leap_many t n k tm e)
+
 -- ---- for the board above
 -- the flags stay until a cycle sets one
 pub flags-until : (t n : ℕ) (tm : Timer8) → ((i : ℕ) → i < n → sets_flag_at t tm i ≡ false) → flags_of (cycles timer_cycle t n tm) ≡ flags_of tm
@@ -47,3 +52,19 @@ cycles-stopped t n tm e = cycles-with t n tm ∙ ap (with_counter tm) (counters.
 
 pub cycle-stopped : (t : ℕ) (tm : Timer8) → tm.select ≡ 0 → timer_cycle t tm ≡ tm
 cycle-stopped t tm e = ap (λ (d : ℕ). with_counter tm (cond (clocked d t) (counter.clock (counter_of tm)) (counter_of tm))) (counters.undivided tm.prescaler tm.select e)
+
+pub sets-stopped : (t n : ℕ) (tm : Timer8) → tm.select ≡ 0 → sets_flag_at t tm n ≡ false
+sets-stopped t n tm e = counters.sets-stopped t n (counter_of tm) e
+
+-- flags are cleared before cycles that set none as after them
+pub cleared-until : (t n : ℕ) (f : TimerFlags) (tm : Timer8) → ((i : ℕ) → i < n → sets_flag_at t tm i ≡ false) → cycles timer_cycle t n (cleared tm f) ≡ cleared (cycles timer_cycle t n tm) f
+cleared-until t n f tm none =
+    let c : TimerCounter = cycles counter.counter_cycle t n (counter_of tm) in
+    cycles-with t n (cleared tm f)
+    ∙ (ap (with_counter (cleared tm f)) (counters.flags-aside (flags_of (cleared tm f)) t n (counter_of tm) none)
+    ∙ ap (λ (g : TimerFlags). let u : Timer8 = record (with_counter tm c) { tov = g.tov && not f.tov; ocf_a = g.ocf_a && not f.ocf_a } in u) (sym (counters.flags-until t n (counter_of tm) none))
+    ∙ ap (λ (u : Timer8). cleared u f) (sym (cycles-with t n tm)))
+
+-- and clearing them moves none
+pub sets-cleared : (t n : ℕ) (f : TimerFlags) (tm : Timer8) → ((i : ℕ) → i < n → sets_flag_at t tm i ≡ false) → sets_flag_at t (cleared tm f) n ≡ sets_flag_at t tm n
+sets-cleared t n f tm none = counters.sets-aside (flags_of (cleared tm f)) t n (counter_of tm) none

@@ -1,5 +1,5 @@
 -- Many clocks and many cycles of what has a prescaler, and the cycle of the first clock that sets a flag.
-use Rattle.std.proofs.Common.{◌≡◌, ℕ, zero, suc, ◌+◌, ◌-◌, ◌*◌, ◌/◌, ◌%◌, ◌<◌, ◌≤◌, ◌==◌, nat_lt, add-one, add-zero, Bool, true, false, ◌&&◌, Some, refl, sym, ap, ◌∙◌, arith}
+use Rattle.std.proofs.Common.{◌≡◌, ℕ, zero, suc, ◌+◌, ◌-◌, ◌*◌, ◌/◌, ◌%◌, ◌<◌, ◌≤◌, ◌==◌, nat_lt, add-one, add-zero, cond, Bool, true, false, ◌&&◌, Some, refl, sym, ap, ◌∙◌, arith}
 use Rattle.std.proofs.lemmas.Nat.{div-mul-add, mod-mul-add, div_below, le-div}
 use Rattle.std.proofs.lemmas.Bool.{lt-ltb, cond_both}
 use Rattle.std.proofs.lemmas.Bool.Decides.{nat_tests}
@@ -141,3 +141,20 @@ module _ {A : Type 0} (divider : A → ℕ) (clock : A → A) (keeps : (x : A) �
       (λ e. (let on : clocked (divider x) (t + n) ≡ true = ap (λ d. clocked d (t + n)) (sym (divider-cycles t n x)) ∙ e in
       calm y (sym (ap (λ b. b && sets y) on) ∙ none n (omega arith)) ∙ before))
       (λ e. before)
+
+  -- what commutes with a clock that sets no flag commutes with cycles that set none
+  moved-cycle : (f : A → A) (on : Bool) (y : A) → (on ≡ true → clock (f y) ≡ f (clock y)) → cond on (clock (f y)) (f y) ≡ f (cond on (clock y) y)
+  moved-cycle f true y e = e refl
+  moved-cycle f false y e = refl
+
+  pub moved-until : (f : A → A) (sets : A → Bool) → ((x : A) → divider (f x) ≡ divider x) → ((x : A) → sets x ≡ false → clock (f x) ≡ f (clock x)) → (t n : ℕ) (x : A)
+      → ((i : ℕ) → i < n → sets_at divider clock sets t x i ≡ false) → cycles (prescaled divider clock) t n (f x) ≡ f (cycles (prescaled divider clock) t n x)
+  unfolding cycles sets_at
+  moved-until f sets same calm t zero x none = refl
+  moved-until f sets same calm t (suc n) x none =
+      let y = cycles (prescaled divider clock) t n x in
+      ap (prescaled divider clock (t + n)) (moved-until f sets same calm t n x (λ i l. none i (omega arith)))
+      ∙ (ap (λ d. cond (clocked d (t + n)) (clock (f y)) (f y)) (same y)
+      ∙ moved-cycle f (clocked (divider y) (t + n)) y
+      (λ e. (let on : clocked (divider x) (t + n) ≡ true = ap (λ d. clocked d (t + n)) (sym (divider-cycles t n x)) ∙ e in
+      calm y (sym (ap (λ b. b && sets y) on) ∙ none n (omega arith)))))

@@ -3,6 +3,8 @@ pub mod Clocks16
 pub mod Clocks8
 pub mod Cycles
 pub mod First
+pub mod Later16
+pub mod Later8
 pub mod Path
 pub mod Saved16
 pub mod Saved8

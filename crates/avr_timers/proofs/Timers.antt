@@ -1,12 +1,13 @@
 -- Many clocks of a timer's counter: the state after them, and the first that sets a flag.
-use Rattle.std.proofs.Common.{◌≡◌, ℕ, zero, suc, ◌+◌, ◌-◌, ◌/◌, ◌<◌, ◌≤◌, ◌==◌, cond, ◌⊎◌, inl, inr, nat_lt, if◌then◌else◌, Bool, true, false, ◌||◌, Option, Some, None, IfSome, IsSome, is_some, refl, sym, ap, ◌∙◌, arith}
+use Rattle.std.proofs.Common.{◌≡◌, ℕ, zero, suc, ◌+◌, ◌-◌, ◌/◌, ◌<◌, ◌≤◌, ◌==◌, cond, ◌⊎◌, inl, inr, nat_lt, if◌then◌else◌, Bool, true, false, ◌||◌, ◌&&◌, Option, Some, None, IfSome, IsSome, is_some, refl, sym, ap, ◌∙◌, arith}
 use Rattle.std.proofs.lemmas.Bool.{cases_lt, eq-eqb, lt-ltb, ne_eqb}
-use Rattle.avr_timers.specs.Clock.{clocks_of, cycles, many}
-use Rattle.avr_timers.specs.Counter.{path}
+use Rattle.avr_timers.specs.Clock.{clocked, clocks_of, cycles, many, sets_at}
+use Rattle.avr_timers.specs.Counter.{path, stepped}
 use Rattle.avr_timers.specs.First.{First, earlier_of, is_before, seen}
-use Rattle.avr_timers.proofs.Cycles.{cycles-clocks, cycles-halted, kept-until, many-zero}
+use Rattle.avr_timers.proofs.Cycles.{cycles-clocks, cycles-halted, kept-until, many-after, many-zero, moved-until}
 use Rattle.avr_timers.proofs.First.{first-same, first-either, seen-first}
 use Rattle.avr_timers.proofs.Calm.{flags_or-none}
+use Rattle.avr_timers.specs.declared.flags.TimerFlags.{TimerFlags}
 use Rattle.avr_timers.specs.declared.prescaler.Prescaler.{Prescaler}
 use Rattle.avr_timers.specs.declared.prescaler.Prescaler.TheVariants.{Own, Shared}
 use Rattle.avr_timers.specs.declared.timer_counter.TimerCounter.{TimerCounter}
@@ -122,6 +123,20 @@ pub count_at-from : (c : TimerCounter) (t i r : ℕ) → t ≡ top c → r ≡ p
 unfolding count_at
 count_at-from c t i r e h = h ∙ ap (λ v. path c.maximum v c.count i) e
 
+-- ---- the count alone
+pub count_none : (c : TimerCounter) (k : ℕ) → k ≡ 0 → c.count ≡ (many clock k c).count
+count_none c k none = sym (ap (λ (u : TimerCounter). u.count) (ap (λ i. many clock i c) none ∙ many-zero clock c))
+
+pub count_free : (c : TimerCounter) (k r : ℕ) → c.match_blocked ≡ false → r ≡ path c.maximum (top c) c.count k → r ≡ (many clock k c).count
+unfolding count_at
+count_free c k r e h = h ∙ sym (ap (λ (u : TimerCounter). u.count) (many-clock c k e))
+
+pub count_blocked : (c : TimerCounter) (k next r : ℕ) → c.match_blocked ≡ true → 0 < k → next ≡ stepped c.maximum (top c) true c.count → r ≡ path c.maximum (top c) next (k - 1) → r ≡ (many clock k c).count
+unfolding clock
+count_blocked c k next r e some n h =
+    let after : next ≡ (clock c).count = n ∙ ap (λ b. stepped c.maximum (top c) b c.count) (sym e) in
+    count_free (clock c) (k - 1) r refl (h ∙ ap (λ i. path c.maximum (top c) i (k - 1)) after) ∙ ap (λ (u : TimerCounter). u.count) (many-after clock k c some)
+
 -- ---- for the timers and the board above
 many-cycles : (d t n : ℕ) (c : TimerCounter) → divider c ≡ d → (0 < d) ⊎ (d ≤ 0) → cycles counter_cycle t n c ≡ many clock (clocks_of d t n) c
 many-cycles d t n c e (inl some) =
@@ -147,6 +162,21 @@ calm c e = flags_or-none c.flags (set_flags c) e
 pub flags-until : (t n : ℕ) (c : TimerCounter) → ((i : ℕ) → i < n → sets_flag_at t c i ≡ false) → (cycles counter_cycle t n c).flags ≡ c.flags
 flags-until t n c none = kept-until divider clock keeps (λ (u : TimerCounter). u.flags) sets calm t n c none
 
+-- while no cycle sets a flag, a counter runs alike whatever flags it has
+abbrev pub with_flags : TimerFlags → TimerCounter → TimerCounter
+with_flags f c = record c { flags = f }
+
+flags-clock : (f : TimerFlags) (c : TimerCounter) → sets c ≡ false → clock (with_flags f c) ≡ with_flags f (clock c)
+unfolding clock
+flags-clock f c e = ap (λ (g : TimerFlags). with_flags g (clock c)) (flags_or-none f (set_flags c) e)
+
+pub flags-aside : (f : TimerFlags) (t n : ℕ) (c : TimerCounter) → ((i : ℕ) → i < n → sets_flag_at t c i ≡ false) → cycles counter_cycle t n (with_flags f c) ≡ with_flags f (cycles counter_cycle t n c)
+flags-aside f t n c none = moved-until divider clock keeps (with_flags f) sets (λ u. refl) (flags-clock f) t n c none
+
+pub sets-aside : (f : TimerFlags) (t n : ℕ) (c : TimerCounter) → ((i : ℕ) → i < n → sets_flag_at t c i ≡ false) → sets_flag_at t (with_flags f c) n ≡ sets_flag_at t c n
+unfolding sets_at
+sets-aside f t n c none = ap (λ (u : TimerCounter). clocked (divider c) (t + n) && sets u) (flags-aside f t n c none)
+
 halted : (p : Prescaler) → divider_of p 0 ≡ 0
 unfolding divider_of
 halted Own = refl
@@ -154,6 +184,11 @@ halted Shared = refl
 
 pub undivided : (p : Prescaler) (s : ℕ) → s ≡ 0 → divider_of p s ≡ 0
 undivided p s e = ap (divider_of p) e ∙ halted p
+
+-- and sets none
+pub sets-stopped : (t n : ℕ) (c : TimerCounter) → c.select ≡ 0 → sets_flag_at t c n ≡ false
+unfolding sets_at
+sets-stopped t n c e = let d : divider c ≡ 0 = undivided c.prescaler c.select e in rw d refl
 
 -- a halted counter stays as it is
 pub cycles-stopped : (t n : ℕ) (c : TimerCounter) → c.select ≡ 0 → cycles counter_cycle t n c ≡ c

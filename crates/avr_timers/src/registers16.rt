@@ -1,5 +1,5 @@
 // The registers of a timer.
-ghost use Rattle.std.specs.Prelude.{◌≡◌, ◌/◌, ◌%◌, Ok, Err, OnOk, OnErr, IfErr};
+ghost use Rattle.std.specs.Prelude.{◌≡◌, ◌≤◌, ◌+◌, ◌/◌, ◌%◌, ◌^◌, Ok, Err, OnOk, OnErr, IfErr};
 
 use crate::{Mode16, Prescaler, Timer16};
 use avr_base::StopCause;
@@ -40,7 +40,9 @@ pub enum Reg16 {
 }
 
 impl Timer16 {
+    ghost use Rattle.avr_timers.specs.Clock.{cycles};
     ghost use Rattle.avr_timers.specs.Mode.{mode_of, number_of};
+    ghost use Rattle.avr_timers.specs.Timer16.{timer_cycle};
     ghost use Rattle.avr_timers.specs.Registers16.{compare_of, control_b, get_of, put_of, with_compare, word_with};
 
     // The word that a write of a low byte makes with TEMP.
@@ -102,6 +104,30 @@ impl Timer16 {
             Reg16::CountH | Reg16::IcrH => self.temp,
             Reg16::CompL(chan) => (self.compare(chan) % 256) as u8,
             Reg16::CompH(chan) => (self.compare(chan) / 256) as u8,
+        }
+    }
+
+    /// What the register `reg` reads as after the `n` cycles from `cycle` on, of which the timer is not told: a read that
+    /// does not move it, but for TEMP.
+    #[inline(always)]
+    pub fn get_later(&mut self, cycle: u64, n: u64, reg: Reg16) -> u8
+        requires { cycle + n ≤ 2 ^ 41 }
+        ensures got { get_of (cycles timer_cycle cycle n self.old) reg ≡ (result, cycles timer_cycle cycle n self.new) }
+        ensures others { self.new ≡ record self.old { temp = self.new.temp } }
+    {
+        match reg {
+            Reg16::CountL => {
+                let count = self.count_later(cycle, n);
+                self.low_first(count)
+            }
+            Reg16::ControlA
+            | Reg16::ControlB
+            | Reg16::ControlC
+            | Reg16::CountH
+            | Reg16::IcrL
+            | Reg16::IcrH
+            | Reg16::CompL(_)
+            | Reg16::CompH(_) => self.get(reg),
         }
     }
 

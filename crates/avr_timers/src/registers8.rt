@@ -1,5 +1,5 @@
 // The registers of a timer.
-ghost use Rattle.std.specs.Prelude.{◌≡◌, Ok, Err, OnOk, OnErr, IfErr};
+ghost use Rattle.std.specs.Prelude.{◌≡◌, ◌≤◌, ◌+◌, ◌^◌, Ok, Err, OnOk, OnErr, IfErr};
 
 use crate::Timer8;
 use avr_base::StopCause;
@@ -17,6 +17,8 @@ pub enum Reg8 {
 }
 
 impl Timer8 {
+    ghost use Rattle.avr_timers.specs.Clock.{cycles};
+    ghost use Rattle.avr_timers.specs.Timer8.{timer_cycle};
     ghost use Rattle.avr_timers.specs.Registers8.{get_of, put_of};
 
     /// What the register `reg` reads as.
@@ -27,6 +29,19 @@ impl Timer8 {
             Reg8::Control => bit(self.ctc, 0x08) | self.select,
             Reg8::Count => self.count,
             Reg8::Compare => self.compare,
+        }
+    }
+
+    /// What the register `reg` reads as after the `n` cycles from `cycle` on, of which the timer is not told.
+    #[inline(always)]
+    #[tactic(auto, using(crate::proofs::Later8::get_control, crate::proofs::Later8::get_compare))]
+    pub fn get_later(&self, cycle: u64, n: u64, reg: Reg8) -> u8
+        requires { cycle + n ≤ 2 ^ 41 }
+        ensures { result ≡ get_of (cycles timer_cycle cycle n self.now) reg }
+    {
+        match reg {
+            Reg8::Count => self.count_later(cycle, n),
+            Reg8::Control | Reg8::Compare => self.get(reg),
         }
     }
 

@@ -168,6 +168,17 @@ impl Timer16 {
         }
     }
 
+    // TCNT after the `n` cycles from `cycle` on.
+    #[inline(always)]
+    #[tactic(auto, using(crate::proofs::Clocks16::count_many))]
+    pub(crate) fn count_later(&self, cycle: u64, n: u64) -> u16
+        requires { cycle + n ≤ 2 ^ 41 }
+        ensures { result ≡ (cycles timer_cycle cycle n self.now).count }
+    {
+        let clocks = Prescaler::Shared.clocks(self.select, cycle, n);
+        self.counter().count_later(clocks)
+    }
+
     /// The first cycle from `cycle` on whose tick sets a flag, be it set already or not: less than 2^28 cycles on.
     /// `None` exactly where the timer is halted.
     pub fn next_event(&self, cycle: u64) -> Option<u64>

@@ -1,5 +1,5 @@
 -- An access that looks at no timer is the same on a board whose timers lag, and leaves what is known of it.
-use Rattle.std.proofs.Common.{◌≡◌, ◌≢◌, ℕ, zero, suc, ◌+◌, ◌-◌, ◌/◌, ◌==◌, ◌&&◌, not, if◌then◌else◌, Bool, true, false, Result, Ok, Err, refl, sym, ap, ◌∙◌, subst, arith}
+use Rattle.std.proofs.Common.{◌≡◌, ◌≢◌, ℕ, ◌-◌, ◌<◌, ◌==◌, ◌&&◌, not, if◌then◌else◌, Bool, true, false, Result, Ok, Err, refl, sym, ap, ◌∙◌, subst, arith}
 use Rattle.std.specs.Prelude.{bit_and}
 use Rattle.std.proofs.lemmas.Bool.{and_parts, eq-eqb}
 use Rattle.std.proofs.lemmas.List.{get_or-set_other}
@@ -10,16 +10,23 @@ use Rattle.board_io.specs.declared.rules.Rule.{Rule}
 use Rattle.board_io.specs.declared.rules.Rule.TheVariants.{Reserved, Pin, Kept, Guarded, WatchdogControl, ResetFlags, CpuControl, TimerFlags, ExtendedTimerFlags, Timer0, Timer1, Timer2, Timer3, Usart0, Spi}
 use Rattle.board_io.specs.Board.{kept_at, with_kept}
 use Rattle.board_io.specs.Cycle.{board_quiet, timers_leap}
-use Rattle.board_io.specs.Lagging.{IsAhead, caught_up, is_no_mask, is_plain_read, is_timer_read, is_plain_write}
+use Rattle.board_io.specs.Lagging.{IsAhead, caught_up, is_no_mask, is_plain_read, is_plain_write}
 use Rattle.board_io.specs.Lines.{lines_of}
 use Rattle.board_io.specs.Names.{ETIMSK, IVSEL, SRE, TIMSK, WDCE, WDE}
-use Rattle.board_io.specs.Registers.{IsGot, IsPut, get_by, put_by}
+use Rattle.board_io.specs.Registers.{IsGot, IsPut, extended_timer_flags, get_by, put_by, timer_flags}
+use Rattle.board_io.specs.Passing.{sets_flag_at}
 use Rattle.board_io.proofs.Radio.{get_by_clock, put_by_clock}
+use Rattle.board_io.proofs.Steady.{flags_0, flags_1, flags_2, flags_3}
+use Rattle.avr_timers.specs.declared.flags.TimerFlags.{TimerFlags as Flags}
 use Rattle.device_base.specs.Bits.{any_bit}
 use Rattle.avr_timers.specs.Clock.{cycles}
 use Rattle.avr_base.specs.declared.interrupts.Lines.{Lines}
 use Rattle.serial_ports.specs.declared.spi_registers.SpiReg.TheVariants as spi
-use Rattle.avr_timers.specs.declared.registers16.Reg16.TheVariants as reg16
+use Rattle.avr_timers.specs.declared.registers16.Reg16.{Reg16}
+use Rattle.avr_timers.specs.declared.registers8.Reg8.{Reg8}
+use Rattle.avr_timers.specs.Registers16 as reg16s
+use Rattle.avr_timers.specs.Registers8 as reg8
+use Rattle.avr_timers.specs.Timer8 as timer8
 use Rattle.avr_timers.specs.declared.timer16.Timer16.{Timer16}
 use Rattle.avr_timers.specs.Timer16 as timer16
 use Rattle.serial_ports.specs.declared.usart_registers.UsartReg.TheVariants as usart
@@ -31,10 +38,11 @@ with_temp x u = record u { temp = x }
 record IsLike (b c : Board) : Type 0 where
   pub clock : c.clock ≡ b.clock
   pub quiet : (t : ℕ) → board_quiet t c ≡ board_quiet t b
-  pub same : (t i : ℕ) → lines_of (timers_leap t i c) ≡ lines_of (timers_leap t i b)
+  pub calm : (t i : ℕ) → sets_flag_at t c i ≡ sets_flag_at t b i
+  pub lines : lines_of c ≡ lines_of b
 
 itself : (b : Board) → IsLike b b
-itself b = record { clock = refl; quiet = λ t. refl; same = λ t i. refl }
+itself b = record { clock = refl; quiet = λ t. refl; calm = λ t i. refl; lines = refl }
 
 like_ahead : (a : Ahead) (b c : Board) → IsLike b c → IsAhead a b → IsAhead a c
 like_ahead a b c like h =
@@ -45,10 +53,11 @@ like_ahead a b c like h =
       settled = omega (arith, e, s);
       next = omega (arith, e, n);
       early = h.early;
-      calm = h.calm;
       clear = h.clear;
-      quiet = λ t from below. like.quiet t ∙ h.quiet t from below;
-      same = λ i k. ap (λ (l : Lines). l.bits) (like.same a.settled i) ∙ h.same i k;
+      down = h.down;
+      quiet = λ t from below. like.quiet t ∙ h.quiet t (omega (arith, e, from)) below;
+      calm = λ i below. like.calm a.settled i ∙ h.calm i below;
+      lines = ap (λ (l : Lines). l.bits) like.lines ∙ h.lines;
     }
 
 -- ---- reads
@@ -59,80 +68,53 @@ GotApart b s n (Err cause) late = late ≡ Err cause
 false_true : false ≡ true → ⊥
 false_true e = cc
 
-got_apart : (rule : Rule) (b : Board) (at s n : ℕ) → is_plain_read rule ≡ true → GotApart b s n (get_by rule b at) (get_by rule (timers_leap s n b) at)
+timer_flags_later : (s n : ℕ) (b : Board) → ((i : ℕ) → i < n → sets_flag_at s b i ≡ false) → timer_flags (timers_leap s n b) ≡ timer_flags b
+unfolding timers_leap
+timer_flags_later s n b none =
+    let f0 = flags_0 s n b none in
+    let f1 = flags_1 s n b none in
+    let f2 = flags_2 s n b none in
+    let over0 = ap (λ (f : Flags). f.tov) f0 in
+    let comp0 = ap (λ (f : Flags). f.ocf_a) f0 in
+    let over2 = ap (λ (f : Flags). f.tov) f2 in
+    let comp2 = ap (λ (f : Flags). f.ocf_a) f2 in
+    rw (over0, comp0, over2, comp2, f1) refl
+
+extended_flags_later : (s n : ℕ) (b : Board) → ((i : ℕ) → i < n → sets_flag_at s b i ≡ false) → extended_timer_flags (timers_leap s n b) ≡ extended_timer_flags b
+unfolding timers_leap
+extended_flags_later s n b none =
+    let f1 = flags_1 s n b none in
+    let f3 = flags_3 s n b none in
+    rw (f1, f3) refl
+
+got_apart : (rule : Rule) (b : Board) (at s n : ℕ) → is_plain_read rule ≡ true → ((i : ℕ) → i < n → sets_flag_at s b i ≡ false) → GotApart b s n (get_by rule b at) (get_by rule (timers_leap s n b) at)
 unfolding timers_leap board_quiet lines_of
-got_apart Reserved b at s n e = refl
-got_apart (Pin port) b at s n e = (refl, itself b)
-got_apart (Kept mask) b at s n e = (refl, itself b)
-got_apart (Guarded bits cause mask) b at s n e = (refl, itself b)
-got_apart WatchdogControl b at s n e = (refl, itself b)
-got_apart ResetFlags b at s n e = (refl, itself b)
-got_apart CpuControl b at s n e = (refl, itself b)
-got_apart TimerFlags b at s n e = absurd (false_true e)
-got_apart ExtendedTimerFlags b at s n e = absurd (false_true e)
-got_apart (Timer0 reg) b at s n e = absurd (false_true e)
-got_apart (Timer1 reg) b at s n e = absurd (false_true e)
-got_apart (Timer2 reg) b at s n e = absurd (false_true e)
-got_apart (Timer3 reg) b at s n e = absurd (false_true e)
-got_apart (Usart0 usart.StatusA) b at s n e = (refl, itself b)
-got_apart (Usart0 usart.ControlB) b at s n e = (refl, itself b)
-got_apart (Usart0 usart.ControlC) b at s n e = (refl, itself b)
-got_apart (Usart0 usart.BaudL) b at s n e = (refl, itself b)
-got_apart (Usart0 usart.BaudH) b at s n e = (refl, itself b)
-got_apart (Usart0 usart.Udr) b at s n e = absurd (false_true e)
-got_apart (Spi spi.Control) b at s n e = (refl, itself b)
-got_apart (Spi spi.Status) b at s n e = (refl, record { clock = refl; quiet = λ t. refl; same = λ t i. refl })
-got_apart (Spi spi.Spdr) b at s n e = absurd (false_true e)
+got_apart Reserved b at s n e none = refl
+got_apart (Pin port) b at s n e none = (refl, itself b)
+got_apart (Kept mask) b at s n e none = (refl, itself b)
+got_apart (Guarded bits cause mask) b at s n e none = (refl, itself b)
+got_apart WatchdogControl b at s n e none = (refl, itself b)
+got_apart ResetFlags b at s n e none = (refl, itself b)
+got_apart CpuControl b at s n e none = (refl, itself b)
+got_apart TimerFlags b at s n e none = (ap (λ x. let r : Result (ℕ × Board) StopCause = Ok (x, timers_leap s n b) in r) (timer_flags_later s n b none), itself b)
+got_apart ExtendedTimerFlags b at s n e none = (ap (λ x. let r : Result (ℕ × Board) StopCause = Ok (x, timers_leap s n b) in r) (extended_flags_later s n b none), itself b)
+got_apart (Timer0 reg) b at s n e none = absurd (false_true e)
+got_apart (Timer1 reg) b at s n e none = absurd (false_true e)
+got_apart (Timer2 reg) b at s n e none = absurd (false_true e)
+got_apart (Timer3 reg) b at s n e none = absurd (false_true e)
+got_apart (Usart0 usart.StatusA) b at s n e none = (refl, itself b)
+got_apart (Usart0 usart.ControlB) b at s n e none = (refl, itself b)
+got_apart (Usart0 usart.ControlC) b at s n e none = (refl, itself b)
+got_apart (Usart0 usart.BaudL) b at s n e none = (refl, itself b)
+got_apart (Usart0 usart.BaudH) b at s n e none = (refl, itself b)
+got_apart (Usart0 usart.Udr) b at s n e none = absurd (false_true e)
+got_apart (Spi spi.Control) b at s n e none = (refl, itself b)
+got_apart (Spi spi.Status) b at s n e none = (refl, record { clock = refl; quiet = λ t. refl; calm = λ t i. refl; lines = refl })
+got_apart (Spi spi.Spdr) b at s n e none = absurd (false_true e)
 
--- reads of the timers: TEMP alone may change
-temp_cycle : (t x : ℕ) (u : Timer16) → timer16.timer_cycle t (with_temp x u) ≡ with_temp x (timer16.timer_cycle t u)
-temp_cycle t x u = refl
-
-temp_cycles : (t n x : ℕ) (u : Timer16) → cycles timer16.timer_cycle t n (with_temp x u) ≡ with_temp x (cycles timer16.timer_cycle t n u)
-unfolding cycles
-temp_cycles t zero x u = refl
-temp_cycles t (suc n) x u = ap (timer16.timer_cycle (t + n)) (temp_cycles t n x u) ∙ temp_cycle (t + n) x (cycles timer16.timer_cycle t n u)
-
-like_t1 : (x : ℕ) (b : Board) → IsLike b (let c : Board = record b { t1 = with_temp x b.t1 } in c)
-unfolding timers_leap board_quiet lines_of
-like_t1 x b = record { clock = refl; quiet = λ t. refl; same = λ t i. (let e = ap (λ (u : Timer16). u.flags) (temp_cycles t i x b.t1) in rw e refl) }
-
-like_t3 : (x : ℕ) (b : Board) → IsLike b (let c : Board = record b { t3 = with_temp x b.t3 } in c)
-unfolding timers_leap board_quiet lines_of
-like_t3 x b = record { clock = refl; quiet = λ t. refl; same = λ t i. (let e = ap (λ (u : Timer16). u.flags) (temp_cycles t i x b.t3) in rw e refl) }
-
-abbrev LikeGot : Board → Result (ℕ × Board) StopCause → Type 0
-LikeGot b (Ok p) = IsLike b p.1
-LikeGot b (Err cause) = Unit {0}
-
-timer_like : (rule : Rule) (b : Board) (at : ℕ) → is_timer_read rule ≡ true → LikeGot b (get_by rule b at)
-timer_like Reserved b at e = absurd (false_true e)
-timer_like (Pin port) b at e = absurd (false_true e)
-timer_like (Kept mask) b at e = absurd (false_true e)
-timer_like (Guarded bits cause mask) b at e = absurd (false_true e)
-timer_like WatchdogControl b at e = absurd (false_true e)
-timer_like ResetFlags b at e = absurd (false_true e)
-timer_like CpuControl b at e = absurd (false_true e)
-timer_like TimerFlags b at e = itself b
-timer_like ExtendedTimerFlags b at e = itself b
-timer_like (Timer0 reg) b at e = itself b
-timer_like (Timer2 reg) b at e = itself b
-timer_like (Timer1 reg16.CountL) b at e = like_t1 (b.t1.count / 256) b
-timer_like (Timer1 reg16.IcrL) b at e = like_t1 (b.t1.icr / 256) b
-timer_like (Timer1 _) b at e = itself b
-timer_like (Timer3 reg16.CountL) b at e = like_t3 (b.t3.count / 256) b
-timer_like (Timer3 reg16.IcrL) b at e = like_t3 (b.t3.icr / 256) b
-timer_like (Timer3 _) b at e = itself b
-timer_like (Usart0 reg) b at e = absurd (false_true e)
-timer_like (Spi reg) b at e = absurd (false_true e)
-
-pub timer_ahead : (rule : Rule) (b c : Board) (at : ℕ) (a : Ahead) (r : Result ℕ StopCause) → is_timer_read rule ≡ true → IsGot (get_by rule b at) b r c → IsAhead a b → IsAhead a c
-timer_ahead rule b c at a (Ok x) e h k = like_ahead a b c (subst (LikeGot b) h (timer_like rule b at e)) k
-timer_ahead rule b c at a (Err cause) e h k = subst (IsAhead a) (sym h.1) k
-
-module _ (rule : Rule) (b : Board) (at s : ℕ) (e : is_plain_read rule ≡ true) where
+module _ (rule : Rule) (b : Board) (at s : ℕ) (e : is_plain_read rule ≡ true) (none : (i : ℕ) → i < b.clock - s → sets_flag_at s b i ≡ false) where
   got : (g : Result (ℕ × Board) StopCause) → get_by rule b at ≡ g → GotApart b s (b.clock - s) g (get_by rule (caught_up s b) at)
-  got g h = subst (λ r. GotApart b s (b.clock - s) r (get_by rule (caught_up s b) at)) h (got_apart rule b at s (b.clock - s) e)
+  got g h = subst (λ r. GotApart b s (b.clock - s) r (get_by rule (caught_up s b) at)) h (got_apart rule b at s (b.clock - s) e none)
 
   read_ok : (x : ℕ) (c v : Board) → get_by rule b at ≡ Ok (x, c) → caught_up s b ≡ v → get_by rule v at ≡ Ok (x, caught_up s c)
   read_ok x c v h is =
@@ -157,6 +139,60 @@ pub read_late : (rule : Rule) (at : ℕ) (r : Result ℕ StopCause) (b v c w : B
 read_late rule at r b v c w now new h =
     subst (λ (d : Board). IsGot (get_by rule v at) v r d) (sym new) (subst (λ (d : Board). IsGot (get_by rule d at) d r c) now h)
 
+-- reads of the timers: TEMP alone may change
+like_t1 : (b : Board) (tm : Timer16) → tm ≡ with_temp tm.temp b.t1 → IsLike b (let c : Board = record b { t1 = tm } in c)
+unfolding board_quiet lines_of
+like_t1 b tm e = subst (λ (u : Timer16). IsLike b (let c : Board = record b { t1 = u } in c)) (sym e) (temp_like tm.temp)
+  where
+    temp_like : (x : ℕ) → IsLike b (let c : Board = record b { t1 = with_temp x b.t1 } in c)
+    temp_like x = record { clock = refl; quiet = λ t. refl; calm = λ t i. refl; lines = refl }
+
+like_t3 : (b : Board) (tm : Timer16) → tm ≡ with_temp tm.temp b.t3 → IsLike b (let c : Board = record b { t3 = tm } in c)
+unfolding board_quiet lines_of
+like_t3 b tm e = subst (λ (u : Timer16). IsLike b (let c : Board = record b { t3 = u } in c)) (sym e) (temp_like tm.temp)
+  where
+    temp_like : (x : ℕ) → IsLike b (let c : Board = record b { t3 = with_temp x b.t3 } in c)
+    temp_like x = record { clock = refl; quiet = λ t. refl; calm = λ t i. refl; lines = refl }
+
+pub ahead_t1 : (a : Ahead) (b : Board) (tm : Timer16) → tm ≡ with_temp tm.temp b.t1 → IsAhead a b → IsAhead a (let c : Board = record b { t1 = tm } in c)
+ahead_t1 a b tm e h = like_ahead a b (let c : Board = record b { t1 = tm } in c) (like_t1 b tm e) h
+
+pub ahead_t3 : (a : Ahead) (b : Board) (tm : Timer16) → tm ≡ with_temp tm.temp b.t3 → IsAhead a b → IsAhead a (let c : Board = record b { t3 = tm } in c)
+ahead_t3 a b tm e h = like_ahead a b (let c : Board = record b { t3 = tm } in c) (like_t3 b tm e) h
+
+module _ (rule : Rule) (b v : Board) (at s x : ℕ) (is : caught_up s b ≡ v) where
+  -- at the board's value, what is got at the board that is caught up
+  got_late : (c : Board) → get_by rule (caught_up s b) at ≡ Ok (x, c) → IsGot (get_by rule v at) v (Ok x) c
+  got_late c h = subst (λ (w : Board). get_by rule w at ≡ Ok (x, c)) is h
+
+  pub read_t0 : (reg : Reg8) → rule ≡ Timer0 reg → x ≡ reg8.get_of (cycles timer8.timer_cycle s (b.clock - s) b.t0) reg → get_by rule v at ≡ Ok (x, v)
+  unfolding timers_leap
+  read_t0 reg r e =
+      subst (λ (w : Board). get_by rule w at ≡ Ok (x, w)) is
+      (ap (λ (k : Rule). get_by k (caught_up s b) at) r ∙ ap (λ y. let g : Result (ℕ × Board) StopCause = Ok (y, caught_up s b) in g) (sym e))
+
+  pub read_t2 : (reg : Reg8) → rule ≡ Timer2 reg → x ≡ reg8.get_of (cycles timer8.timer_cycle s (b.clock - s) b.t2) reg → get_by rule v at ≡ Ok (x, v)
+  unfolding timers_leap
+  read_t2 reg r e =
+      subst (λ (w : Board). get_by rule w at ≡ Ok (x, w)) is
+      (ap (λ (k : Rule). get_by k (caught_up s b) at) r ∙ ap (λ y. let g : Result (ℕ × Board) StopCause = Ok (y, caught_up s b) in g) (sym e))
+
+  pub read_t1 : (reg : Reg16) (tm : Timer16) → rule ≡ Timer1 reg → reg16s.get_of (cycles timer16.timer_cycle s (b.clock - s) b.t1) reg ≡ (x, cycles timer16.timer_cycle s (b.clock - s) tm)
+      → IsGot (get_by rule v at) v (Ok x) (caught_up s (let c : Board = record b { t1 = tm } in c))
+  unfolding timers_leap
+  read_t1 reg tm r e =
+      got_late (caught_up s (let c : Board = record b { t1 = tm } in c))
+      (ap (λ (k : Rule). get_by k (caught_up s b) at) r
+      ∙ ap (λ (p : ℕ × Timer16). let c : Board = record (caught_up s b) { t1 = p.1 } in let g : Result (ℕ × Board) StopCause = Ok (p.0, c) in g) e)
+
+  pub read_t3 : (reg : Reg16) (tm : Timer16) → rule ≡ Timer3 reg → reg16s.get_of (cycles timer16.timer_cycle s (b.clock - s) b.t3) reg ≡ (x, cycles timer16.timer_cycle s (b.clock - s) tm)
+      → IsGot (get_by rule v at) v (Ok x) (caught_up s (let c : Board = record b { t3 = tm } in c))
+  unfolding timers_leap
+  read_t3 reg tm r e =
+      got_late (caught_up s (let c : Board = record b { t3 = tm } in c))
+      (ap (λ (k : Rule). get_by k (caught_up s b) at) r
+      ∙ ap (λ (p : ℕ × Timer16). let c : Board = record (caught_up s b) { t3 = p.1 } in let g : Result (ℕ × Board) StopCause = Ok (p.0, c) in g) e)
+
 -- ---- writes
 abbrev PutApart : Board → ℕ → ℕ → Result Board StopCause → Result Board StopCause → Type 0
 PutApart b s n (Ok c) late = (late ≡ Ok (timers_leap s n c)) × IsLike b c
@@ -172,7 +208,7 @@ like_kept at y b e =
     let parts = and_parts (not (at == TIMSK)) (not (at == ETIMSK)) e in
     let m : kept_at TIMSK (with_kept at y b) ≡ kept_at TIMSK b = get_or-set_other b.kept at TIMSK y 0 (not_at at TIMSK parts.0) in
     let x : kept_at ETIMSK (with_kept at y b) ≡ kept_at ETIMSK b = get_or-set_other b.kept at ETIMSK y 0 (not_at at ETIMSK parts.1) in
-    record { clock = refl; quiet = λ t. refl; same = λ t i. rw (m, x) refl }
+    record { clock = refl; quiet = λ t. refl; calm = λ t i. refl; lines = rw (m, x) refl }
 
 either : (b : Board) (s n : ℕ) (c : Bool) (p q u w : Result Board StopCause) → PutApart b s n p u → PutApart b s n q w → PutApart b s n (if c then p else q) (if c then u else w)
 either b s n true p q u w h k = h

@@ -1,5 +1,5 @@
 -- A board that lags: what its value is, and what stays known of it.
-use Rattle.std.proofs.Common.{◌≡◌, ℕ, ◌+◌, ◌-◌, ◌<◌, ◌≤◌, true, Option, Some, None, refl, sym, ap, ◌∙◌, subst, arith}
+use Rattle.std.proofs.Common.{◌≡◌, ℕ, ◌+◌, ◌-◌, ◌<◌, ◌≤◌, true, false, Option, Some, None, refl, sym, ap, ◌∙◌, subst, arith}
 use Rattle.board_io.specs.declared.ahead.Ahead.{Ahead}
 use Rattle.board_io.specs.declared.board.Board.{Board}
 use Rattle.board_io.specs.Board.{clock_at, sleep_mode, unclocked}
@@ -11,6 +11,8 @@ use Rattle.world_core.specs.declared.air.Heard.{Heard}
 use Rattle.board_io.specs.Lagging.{IsAhead, IsIdle, caught_up}
 use Rattle.board_io.specs.Lines.{lines_of}
 use Rattle.board_io.proofs.Leaps.{leap_quiet, leap_zero}
+use Rattle.board_io.specs.Passing.{sets_flag_at}
+use Rattle.board_io.proofs.Steady.{lines_calm}
 use Rattle.avr_timers.proofs.Cycles.{cycles-add}
 use Rattle.serial_ports.specs.Transmission.{ended_byte}
 use Rattle.avr_base.specs.declared.interrupts.Lines.{Lines}
@@ -106,8 +108,15 @@ idle_clock n v h = record {
 
 -- ---- a board that lags
 module _ (a : Ahead) (b : Board) (h : IsAhead a b) where
+  same : (i : ℕ) → a.settled + i ≤ a.next → (lines_of (timers_leap a.settled i b)).bits ≡ a.lines
+  same i le = ap (λ (l : Lines). l.bits) (lines_calm a.settled i b (λ j l. h.calm j (omega (arith, le, l)))) ∙ h.lines
+
+  -- up to now no flag was set
+  pub calm_now : (i : ℕ) → i < b.clock - a.settled → sets_flag_at a.settled b i ≡ false
+  calm_now i l = let m = h.next in h.calm i (omega (arith, m, l))
+
   pub lines_now : (lines_of (caught_up a.settled b)).bits ≡ a.lines
-  lines_now = let l = h.settled in let m = h.next in h.same (b.clock - a.settled) (omega (arith, l, m))
+  lines_now = let l = h.settled in let m = h.next in same (b.clock - a.settled) (omega (arith, l, m))
 
   pub lines_are : (v : Board) → caught_up a.settled b ≡ v → (let l : Lines = record { bits = a.lines } in l) ≡ lines_of v
   lines_are v e = bits_same _ (lines_of v) (sym lines_now ∙ ap (λ (c : Board). (lines_of c).bits) e)
@@ -120,12 +129,12 @@ module _ (a : Ahead) (b : Board) (h : IsAhead a b) where
       ap (λ (t : ℕ). timers_leap t i (caught_up a.settled b)) (sym at) ∙ sym (leap_add a.settled (b.clock - a.settled) i b)
 
   quiet_by : (t : ℕ) → b.clock ≤ t → t < a.next → board_quiet t (caught_up a.settled b) ≡ true
-  quiet_by t from below = let l = h.settled in leap_quiet t a.settled (b.clock - a.settled) b ∙ h.quiet t (omega (arith, l, from)) below
+  quiet_by t from below = leap_quiet t a.settled (b.clock - a.settled) b ∙ h.quiet t from below
 
   lines_by : (i : ℕ) → b.clock + i ≤ a.next → (lines_of (timers_leap b.clock i (caught_up a.settled b))).bits ≡ a.lines
   lines_by i le =
       let l = h.settled in
-      ap (λ (c : Board). (lines_of c).bits) (further i) ∙ h.same (b.clock - a.settled + i) (omega (arith, l, le))
+      ap (λ (c : Board). (lines_of c).bits) (further i) ∙ same (b.clock - a.settled + i) (omega (arith, l, le))
 
   idle_by : (n : ℕ) → b.clock + n ≤ a.next → IsIdle b.clock n (caught_up a.settled b)
   idle_by n le = record {
@@ -139,21 +148,6 @@ module _ (a : Ahead) (b : Board) (h : IsAhead a b) where
       idle_clock n v
       (subst (λ (w : Board). IsIdle w.clock n w) e (subst (λ (t : ℕ). IsIdle t n (caught_up a.settled b)) (sym (caught_clock a.settled b)) (idle_by n le)))
 
-  -- the same is known of the board that caught up
-  pub settled_ahead : IsAhead (let c : Ahead = record a { settled = b.clock } in c) (caught_up a.settled b)
-  settled_ahead =
-      let at = caught_clock a.settled b in
-      let m = h.next in
-      record {
-        settled = omega (arith, at);
-        next = omega (arith, at, m);
-        early = h.early;
-        calm = h.calm;
-        clear = h.clear;
-        quiet = λ t from below. quiet_by t from below;
-        same = λ i le. lines_by i le;
-      }
-
   -- n cycles on the same is known
   pub later : (n : ℕ) → b.clock + n ≤ a.next → IsAhead a (clock_at (b.clock + n) b)
   later n le =
@@ -162,11 +156,11 @@ module _ (a : Ahead) (b : Board) (h : IsAhead a b) where
         settled = omega (arith, l);
         next = le;
         early = h.early;
+        quiet = λ t from below. quiet_clock (b.clock + n) t b ∙ h.quiet t (omega (arith, from)) below;
         calm = h.calm;
         clear = h.clear;
-        quiet = λ t from below. quiet_clock (b.clock + n) t b ∙ h.quiet t from below;
-        same = λ i k. ap (λ (c : Board). (lines_of c).bits) (leap_clock (b.clock + n) a.settled i b)
-            ∙ (ap (λ (m : Lines). m.bits) (lines_clock (b.clock + n) (timers_leap a.settled i b)) ∙ h.same i k);
+        down = h.down;
+        lines = ap (λ (m : Lines). m.bits) (lines_clock (b.clock + n) b) ∙ h.lines;
       }
 
   passed_by : (n : ℕ) → caught_up a.settled (clock_at (b.clock + n) b) ≡ clock_at (b.clock + n) (timers_leap b.clock n (caught_up a.settled b))

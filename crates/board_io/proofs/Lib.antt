@@ -4,8 +4,11 @@ pub mod Steady
 pub mod Leaps
 pub mod Radio
 pub mod Halted
+pub mod Ports
 pub mod Enabled
 pub mod Lags
 pub mod Apart
+pub mod Beside
+pub mod Served
 pub mod OneBoard
 pub mod Refused

@@ -1,10 +1,10 @@
 -- Cycles in which nothing ends, and in which the lines stay.
 use Rattle.std.proofs.Common.{◌≡◌, ℕ, ◌-◌, ◌<◌, ◌≤◌, Bool, true, false, ◌&&◌, ◌||◌, not, ◌⊎◌, inl, inr, Option, Some, None, refl, sym, ap, ◌∙◌, subst, arith}
-use Rattle.std.proofs.lemmas.Bool.{cases_lt}
+use Rattle.std.proofs.lemmas.Bool.{cases_lt, or_parts}
 use Rattle.board_io.specs.declared.board.Board.{Board}
 use Rattle.board_io.specs.Cycle.{board_quiet, timers_leap}
 use Rattle.board_io.specs.Lines.{lines_of}
-use Rattle.board_io.specs.Passing.{is_at}
+use Rattle.board_io.specs.Passing.{is_at, sets_flag_at}
 use Rattle.avr_timers.specs.Clock.{cycles}
 use Rattle.avr_timers.specs.declared.flags.TimerFlags.{TimerFlags}
 use Rattle.avr_timers.specs.First.{First}
@@ -42,6 +42,12 @@ stopped_8 t n tm e = clocks8.cycles-stopped t n tm e
 pub stopped_16 : (t n : ℕ) (tm : Timer16) → tm.select ≡ 0 → cycles timer16.timer_cycle t n tm ≡ tm
 stopped_16 t n tm e = clocks16.cycles-stopped t n tm e
 
+pub calm_8 : (t n : ℕ) (tm : Timer8) → tm.select ≡ 0 → timer8.sets_flag_at t tm n ≡ false
+calm_8 t n tm e = clocks8.sets-stopped t n tm e
+
+pub calm_16 : (t n : ℕ) (tm : Timer16) → tm.select ≡ 0 → timer16.sets_flag_at t tm n ≡ false
+calm_16 t n tm e = clocks16.sets-stopped t n tm e
+
 -- up to the first cycle that sets a flag, and with it
 pub before_8 : (t w n : ℕ) (tm : Timer8) → First (timer8.sets_flag_at t tm) (Some w) → n ≤ w → timer8.flags_of (cycles timer8.timer_cycle t n tm) ≡ timer8.flags_of tm
 before_8 t w n tm first le = clocks8.flags-until t n tm (λ i l. first.1 i (omega arith))
@@ -67,6 +73,37 @@ pub lines_same : (t n : ℕ) (b : Board)
 unfolding timers_leap
 lines_same t n b e0 e1 e2 e3 =
     lines_by b (cycles timer8.timer_cycle t n b.t0) (cycles timer8.timer_cycle t n b.t2) (cycles timer16.timer_cycle t n b.t1) (cycles timer16.timer_cycle t n b.t3) e0 e1 e2 e3
+
+-- no timer of a board sets a flag
+pub record IsCalm (t n : ℕ) (b : Board) : Type 0 where
+  pub t0 : timer8.sets_flag_at t b.t0 n ≡ false
+  pub t1 : timer16.sets_flag_at t b.t1 n ≡ false
+  pub t2 : timer8.sets_flag_at t b.t2 n ≡ false
+  pub t3 : timer16.sets_flag_at t b.t3 n ≡ false
+
+pub calm_each : (t n : ℕ) (b : Board) → sets_flag_at t b n ≡ false → IsCalm t n b
+calm_each t n b e =
+    let p = or_parts (timer8.sets_flag_at t b.t0 n || timer16.sets_flag_at t b.t1 n || timer8.sets_flag_at t b.t2 n) (timer16.sets_flag_at t b.t3 n) e in
+    let q = or_parts (timer8.sets_flag_at t b.t0 n || timer16.sets_flag_at t b.t1 n) (timer8.sets_flag_at t b.t2 n) p.0 in
+    let r = or_parts (timer8.sets_flag_at t b.t0 n) (timer16.sets_flag_at t b.t1 n) q.0 in
+    record { t0 = r.0; t1 = r.1; t2 = q.1; t3 = p.1 }
+
+-- where it is so of cycle after cycle, flags and lines stay
+module _ (t n : ℕ) (b : Board) (none : (i : ℕ) → i < n → sets_flag_at t b i ≡ false) where
+  pub flags_0 : timer8.flags_of (cycles timer8.timer_cycle t n b.t0) ≡ timer8.flags_of b.t0
+  flags_0 = clocks8.flags-until t n b.t0 (λ i l. (calm_each t i b (none i l)).t0)
+
+  pub flags_1 : (cycles timer16.timer_cycle t n b.t1).flags ≡ b.t1.flags
+  flags_1 = clocks16.flags-until t n b.t1 (λ i l. (calm_each t i b (none i l)).t1)
+
+  pub flags_2 : timer8.flags_of (cycles timer8.timer_cycle t n b.t2) ≡ timer8.flags_of b.t2
+  flags_2 = clocks8.flags-until t n b.t2 (λ i l. (calm_each t i b (none i l)).t2)
+
+  pub flags_3 : (cycles timer16.timer_cycle t n b.t3).flags ≡ b.t3.flags
+  flags_3 = clocks16.flags-until t n b.t3 (λ i l. (calm_each t i b (none i l)).t3)
+
+  pub lines_calm : lines_of (timers_leap t n b) ≡ lines_of b
+  lines_calm = lines_same t n b flags_0 flags_1 flags_2 flags_3
 
 -- the last of the cycles that are told, where they are not all, ends something or sets a flag
 pub loud_at : (t : ℕ) (b : Board) → is_at (end_of b.usart.shift_register) t ≡ true → board_quiet t b ≡ false

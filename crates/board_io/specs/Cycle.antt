@@ -63,6 +63,10 @@ abbrev pub with_moved : Option (Moved × Radio) → Board → Board
 with_moved None b = b
 with_moved (Some m) b = transfer_end m.0 m.1 b
 
+-- the part of USART0, and of the serial peripheral interface and the radio up to a sample
+unfoldable pub ports_begun : ℕ → Option ℕ → Board → Board
+ports_begun t arrival b = with_moved (moved t b) (usart_cycle t arrival b)
+
 -- the devices' part of cycle t, up to its sample where it has one
 unfoldable pub board_begun : ℕ → Option ℕ → Board → Board
 board_begun t arrival b = with_moved (moved t b) (usart_cycle t arrival (timers_cycle t b))

@@ -1,11 +1,12 @@
 -- A board that lags behind its clock: the timers' cycles from `settled` on are still to be made up for, and until
--- `next` nothing of it ends and its interrupt lines stay, so that they can be told without a look at the timers.
+-- `next` nothing of it ends and no timer sets a flag, so that flags and lines can be told without a leap of the timers.
 use Rattle.std.specs.Prelude.{◌≡◌, ℕ, ◌+◌, ◌-◌, ◌^◌, ◌<◌, ◌≤◌, ◌==◌, ◌&&◌, not, Bool, true, false}
 use Rattle.board_io.specs.declared.board.Board.{Board}
 use Rattle.board_io.specs.declared.ahead.Ahead.{Ahead}
 use Rattle.board_io.specs.Cycle.{board_quiet, timers_leap}
 use Rattle.board_io.specs.Lines.{lines_of}
 use Rattle.board_io.specs.Names.{ETIMSK, TIMSK}
+use Rattle.board_io.specs.Passing.{sets_flag_at}
 use Rattle.board_io.specs.declared.rules.Rule.{Rule}
 use Rattle.board_io.specs.declared.rules.Rule.TheVariants.{Reserved, Pin, Kept, Guarded, WatchdogControl, ResetFlags, CpuControl, TimerFlags, ExtendedTimerFlags, Timer0, Timer1, Timer2, Timer3, Usart0, Spi}
 use Rattle.serial_ports.specs.declared.spi_registers.SpiReg.{SpiReg}
@@ -22,10 +23,11 @@ pub record IsAhead (a : Ahead) (b : Board) : Type 0 where
   pub settled : a.settled ≤ b.clock
   pub next : b.clock ≤ a.next
   pub early : a.next ≤ 2 ^ 40
-  pub quiet : (t : ℕ) → a.settled ≤ t → t < a.next → board_quiet t b ≡ true
-  pub same : (i : ℕ) → a.settled + i ≤ a.next → (lines_of (timers_leap a.settled i b)).bits ≡ a.lines
-  pub calm : a.calm ≤ a.next
-  pub clear : 0 < a.calm → a.lines ≡ 0
+  pub quiet : (t : ℕ) → b.clock ≤ t → t < a.next → board_quiet t b ≡ true
+  pub calm : (i : ℕ) → a.settled + i < a.next → sets_flag_at a.settled b i ≡ false
+  pub lines : (lines_of b).bits ≡ a.lines
+  pub clear : a.clear ≤ a.next
+  pub down : 0 < a.clear → a.lines ≡ 0
 
 -- n cycles from cycle t on in which nothing of a board ends, and each of which begins with the lines of now
 pub record IsIdle (t n : ℕ) (b : Board) : Type 0 where
@@ -45,7 +47,7 @@ is_spdr spi.Control = false
 is_spdr spi.Status = false
 is_spdr spi.Spdr = true
 
--- whether a read by a rule looks at no timer, and leaves the lines and what may end
+-- whether a read by a rule looks at no timer but for its flags, and leaves the lines and what may end
 abbrev pub is_plain_read : Rule → Bool
 is_plain_read Reserved = true
 is_plain_read (Pin port) = true
@@ -54,8 +56,8 @@ is_plain_read (Guarded bits cause mask) = true
 is_plain_read WatchdogControl = true
 is_plain_read ResetFlags = true
 is_plain_read CpuControl = true
-is_plain_read TimerFlags = false
-is_plain_read ExtendedTimerFlags = false
+is_plain_read TimerFlags = true
+is_plain_read ExtendedTimerFlags = true
 is_plain_read (Timer0 reg) = false
 is_plain_read (Timer1 reg) = false
 is_plain_read (Timer2 reg) = false
@@ -63,23 +65,23 @@ is_plain_read (Timer3 reg) = false
 is_plain_read (Usart0 reg) = not (is_udr reg)
 is_plain_read (Spi reg) = not (is_spdr reg)
 
--- whether a read by a rule looks at a timer
-abbrev pub is_timer_read : Rule → Bool
-is_timer_read Reserved = false
-is_timer_read (Pin port) = false
-is_timer_read (Kept mask) = false
-is_timer_read (Guarded bits cause mask) = false
-is_timer_read WatchdogControl = false
-is_timer_read ResetFlags = false
-is_timer_read CpuControl = false
-is_timer_read TimerFlags = true
-is_timer_read ExtendedTimerFlags = true
-is_timer_read (Timer0 reg) = true
-is_timer_read (Timer1 reg) = true
-is_timer_read (Timer2 reg) = true
-is_timer_read (Timer3 reg) = true
-is_timer_read (Usart0 reg) = false
-is_timer_read (Spi reg) = false
+-- whether a rule is one of USART0 or of the serial peripheral interface
+abbrev pub is_port : Rule → Bool
+is_port Reserved = false
+is_port (Pin port) = false
+is_port (Kept mask) = false
+is_port (Guarded bits cause mask) = false
+is_port WatchdogControl = false
+is_port ResetFlags = false
+is_port CpuControl = false
+is_port TimerFlags = false
+is_port ExtendedTimerFlags = false
+is_port (Timer0 reg) = false
+is_port (Timer1 reg) = false
+is_port (Timer2 reg) = false
+is_port (Timer3 reg) = false
+is_port (Usart0 reg) = true
+is_port (Spi reg) = true
 
 -- neither TIMSK nor ETIMSK, which enable the timers' lines
 abbrev pub is_no_mask : ℕ → Bool

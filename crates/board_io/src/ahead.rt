@@ -1,5 +1,6 @@
 // What is known of a board's next cycles.
-ghost use Rattle.std.specs.Prelude.{◌≡◌, ◌≤◌, ◌<◌, ◌^◌};
+ghost use Rattle.std.specs.Prelude.{◌≡◌, ◌≤◌, ◌<◌, ◌+◌, ◌^◌, ℕ, false};
+ghost use Rattle.board_io.specs.Passing.{sets_flag_at};
 ghost use Rattle.board_io.specs.Lagging.{IsAhead};
 
 use crate::Board;
@@ -17,14 +18,14 @@ pub struct Ahead {
     /// The interrupt lines.
     pub lines: u64,
     /// `next` where no line is up, else 0: so one comparison tells whether cycles pass in which no interrupt can be due.
-    pub calm: u64,
+    pub clear: u64,
 }
 
-// Up to which cycle no interrupt can be due, by the lines and the cycle up to which they stay.
+// Up to which cycle no line is up, by the lines and the cycle up to which they stay; 0 where one is up.
 #[inline]
-fn calm_until(lines: u64, next: u64) -> u64
+pub fn clear_until(lines: u64, next: u64) -> u64
     ensures within { result ≤ next }
-    ensures clear { 0 < result → lines ≡ 0 }
+    ensures down { 0 < result → lines ≡ 0 }
 {
     if lines == 0 { next } else { 0 }
 }
@@ -48,7 +49,28 @@ impl Board {
             settled,
             next,
             lines,
-            calm: calm_until(lines, next),
+            clear: clear_until(lines, next),
+        }
+    }
+
+    /// What is known of it, where of its timers what `before` tells is known still.
+    pub fn ahead_beside(&self, before: Ahead) -> Ahead
+        requires settled { before.settled ≤ self.now.clock }
+        requires next { self.now.clock ≤ before.next }
+        requires early { before.next ≤ 2 ^ 40 }
+        requires calm { (i : ℕ) → before.settled + i < before.next → sets_flag_at before.settled self.now i ≡ false }
+        ensures settled { result.settled ≡ before.settled }
+        ensures ahead { IsAhead result self.now }
+    {
+        let clock = self.clock.get();
+        let calm = self.quiet(clock, before.next - clock);
+        let next = clock + calm;
+        let lines = self.lines().bits;
+        Ahead {
+            settled: before.settled,
+            next,
+            lines,
+            clear: clear_until(lines, next),
         }
     }
 

@@ -65,7 +65,7 @@ fn tick_16(timer: &mut Timer16, cycle: u64)
 }
 
 impl Board {
-    ghost use Rattle.board_io.specs.Cycle.{air_by, air_of, board_air, board_answered, board_begun, board_serial, is_asks, moved, timers_cycle, transfer_end, usart_cycle, with_moved};
+    ghost use Rattle.board_io.specs.Cycle.{air_by, air_of, board_air, board_answered, board_begun, board_serial, is_asks, ports_begun, moved, timers_cycle, transfer_end, usart_cycle, with_moved};
 
     // The timers' part of a cycle.
     fn tick_timers(&mut self, cycle: u64)
@@ -130,10 +130,26 @@ impl Board {
         }
     }
 
+    /// The part of USART0, with the byte that arrives, and of the serial peripheral interface and the radio in the cycle
+    /// `cycle`, which follows that of the timers. It looks at no timer.
+    #[inline(always)]
+    #[tactic(auto, unfolding(crate::specs::Cycle::ports_begun, crate::specs::Cycle::board_serial, crate::specs::Cycle::board_air))]
+    pub fn begin_ports(&mut self, cycle: u64, arrival: Option<u8>) -> Begun
+        requires { cycle ≤ 2 ^ 41 }
+        ensures state { self.new ≡ ports_begun cycle arrival self.old }
+        ensures serial { result.serial ≡ board_serial cycle self.old }
+        ensures air { result.air ≡ board_air cycle self.old }
+        ensures waits { is_asks result.air ≡ true → is_some self.new.spi.shift_register ≡ true }
+    {
+        let serial = self.tick_usart(cycle, arrival);
+        let air = self.exchange(cycle);
+        Begun { serial, air }
+    }
+
     /// The devices' part of the cycle `cycle`: the timers, then USART0 with the byte that arrives, then the serial
     /// peripheral interface and the radio. Where the radio samples the air the cycle is left there, and `answer`, with
     /// what is heard, does the rest.
-    #[tactic(auto, unfolding(crate::specs::Cycle::board_begun, crate::specs::Cycle::board_serial, crate::specs::Cycle::board_air))]
+    #[tactic(auto, using(crate::proofs::Ports::begun_ports, crate::proofs::Ports::serial_ports, crate::proofs::Ports::air_ports))]
     pub fn begin(&mut self, cycle: u64, arrival: Option<u8>) -> Begun
         requires { cycle ≤ 2 ^ 41 }
         ensures state { self.new ≡ board_begun cycle arrival self.old }
@@ -142,9 +158,7 @@ impl Board {
         ensures waits { is_asks result.air ≡ true → is_some self.new.spi.shift_register ≡ true }
     {
         self.tick_timers(cycle);
-        let serial = self.tick_usart(cycle, arrival);
-        let air = self.exchange(cycle);
-        Begun { serial, air }
+        self.begin_ports(cycle, arrival)
     }
 
     /// The rest of a cycle that samples, with what is heard: the transfer that sampled ends, and answers 0.

@@ -2,7 +2,7 @@
 ghost use Rattle.std.specs.Prelude.{◌≡◌, ◌≤◌, ◌<◌, ◌+◌, ◌-◌, ◌*◌, ◌^◌, true, false, is_some};
 ghost use Rattle.board_io.specs.Lagging.{IsIdle};
 
-use crate::ahead::Ahead;
+use crate::ahead::{Ahead, clear_until};
 use crate::{Begun, Board, Clock, Sleep};
 use avr_base::{Lines, Vector};
 use std::marker::Model;
@@ -138,9 +138,9 @@ impl LaggingBoard {
         ensures clock { result ≡ true → self.new.clock ≡ cycle + n }
         ensures same { result ≡ false → self.new ≡ self.old }
     {
-        let calm = self.ahead.calm;
+        let clear = self.ahead.clear;
         let end = cycle + u64::from(n);
-        if end > calm {
+        if end > clear {
             return false;
         }
         self.board.clock = Clock::new(end);
@@ -158,8 +158,10 @@ impl LaggingBoard {
         ensures air { result.air ≡ board_air cycle (unclocked self.old) }
         ensures waits { is_asks result.air ≡ true → is_some self.new.spi.shift_register ≡ true }
     {
-        self.board.catch_up(self.ahead.settled);
-        let begun = self.board.begin(cycle, arrival);
+        let settled = self.ahead.settled;
+        let n = cycle + 1 - settled;
+        self.board.leap(settled, n);
+        let begun = self.board.begin_ports(cycle, arrival);
         self.board.at(cycle + 1);
         self.ahead = self.board.ahead();
         begun
@@ -198,8 +200,9 @@ impl LaggingBoard {
     pub fn entered(&mut self, v: Vector)
         ensures { self.new ≡ entered_of v.word self.old }
     {
-        self.board.catch_up(self.ahead.settled);
         self.board.entered(v);
-        self.ahead = self.board.ahead();
+        let lines = self.board.lines().bits;
+        self.ahead.lines = lines;
+        self.ahead.clear = clear_until(lines, self.ahead.next);
     }
 }

@@ -1,6 +1,7 @@
 // The I/O registers of a board that lags.
-ghost use Rattle.std.specs.Prelude.{◌≡◌, true};
-ghost use Rattle.board_io.specs.Lagging.{is_spdr, is_udr, is_plain_read, is_timer_read, is_plain_write};
+ghost use Rattle.std.specs.Prelude.{◌≡◌, ◌≤◌, true, false};
+ghost use Rattle.board_io.specs.Lagging.{is_spdr, is_udr, is_plain_read, is_plain_write, is_port};
+ghost use Rattle.board_io.specs.Table.{rule_of};
 
 use crate::LaggingBoard;
 use crate::names::{ETIMSK, TIMSK};
@@ -35,7 +36,7 @@ fn is_spdr(reg: SpiReg) -> bool
     }
 }
 
-// Whether a read by a rule looks at no timer, and leaves the lines and what may end.
+// Whether a read by a rule looks at no timer but for its flags, and leaves the lines and what may end.
 #[inline]
 fn is_plain_read(rule: Rule) -> bool
     ensures { result ≡ is_plain_read rule }
@@ -47,39 +48,12 @@ fn is_plain_read(rule: Rule) -> bool
         | Rule::Guarded(..)
         | Rule::WatchdogControl
         | Rule::ResetFlags
-        | Rule::CpuControl => true,
-        Rule::TimerFlags
-        | Rule::ExtendedTimerFlags
-        | Rule::Timer0(_)
-        | Rule::Timer1(_)
-        | Rule::Timer2(_)
-        | Rule::Timer3(_) => false,
+        | Rule::CpuControl
+        | Rule::TimerFlags
+        | Rule::ExtendedTimerFlags => true,
+        Rule::Timer0(_) | Rule::Timer1(_) | Rule::Timer2(_) | Rule::Timer3(_) => false,
         Rule::Usart0(reg) => !is_udr(reg),
         Rule::Spi(reg) => !is_spdr(reg),
-    }
-}
-
-// Whether a read by a rule looks at a timer. It leaves the lines, and what may end.
-#[inline]
-fn is_timer_read(rule: Rule) -> bool
-    ensures { result ≡ is_timer_read rule }
-{
-    match rule {
-        Rule::TimerFlags
-        | Rule::ExtendedTimerFlags
-        | Rule::Timer0(_)
-        | Rule::Timer1(_)
-        | Rule::Timer2(_)
-        | Rule::Timer3(_) => true,
-        Rule::Reserved
-        | Rule::Pin(_)
-        | Rule::Kept(_)
-        | Rule::Guarded(..)
-        | Rule::WatchdogControl
-        | Rule::ResetFlags
-        | Rule::CpuControl
-        | Rule::Usart0(_)
-        | Rule::Spi(_) => false,
     }
 }
 
@@ -108,7 +82,7 @@ fn is_plain_write(rule: Rule, at: u8) -> bool
 impl LaggingBoard {
     ghost use Rattle.board_io.specs.Registers.{IsGot, IsPut, get_by, put_by};
 
-    // A read that looks at no timer.
+    // A read that looks at no timer but for its flags.
     #[inline]
     fn get_plain(&mut self, rule: Rule, at: u8) -> Result<u8, StopCause>
         requires { is_plain_read rule ≡ true }
@@ -117,15 +91,24 @@ impl LaggingBoard {
         self.board.get_by(rule, at)
     }
 
-    // A read that looks at a timer.
+    // A read of a timer, which does not catch up, or of a port.
     #[inline(never)]
-    fn get_timer(&mut self, rule: Rule, at: u8) -> Result<u8, StopCause>
-        requires { is_timer_read rule ≡ true }
-        ensures { IsGot (get_by rule self.old at) self.old result self.new }
+    fn get_beside(&mut self, at: u16) -> Result<u8, StopCause>
+        requires listed { at ≤ 0x9F }
+        requires moves { is_plain_read (rule_of at) ≡ false }
+        ensures { IsGot (get_by (rule_of at) self.old at) self.old result self.new }
     {
-        self.board.catch_up(self.ahead.settled);
-        self.ahead.settled = self.board.clock.get();
-        self.board.get_by(rule, at)
+        let low = at as u8;
+        let rule = listed_rule(at);
+        let settled = self.ahead.settled;
+        let n = self.board.clock.get() - settled;
+        match rule {
+            Rule::Timer0(reg) => Ok(self.board.t0.get_later(settled, n, reg)),
+            Rule::Timer1(reg) => Ok(self.board.t1.get_later(settled, n, reg)),
+            Rule::Timer2(reg) => Ok(self.board.t2.get_later(settled, n, reg)),
+            Rule::Timer3(reg) => Ok(self.board.t3.get_later(settled, n, reg)),
+            _ => self.get_port(rule, low),
+        }
     }
 
     // A write that looks at no timer.
@@ -137,19 +120,41 @@ impl LaggingBoard {
         self.board.put_by(rule, at, x)
     }
 
-    // A read of what may move.
-    #[inline(never)]
-    fn get_and_look_ahead(&mut self, rule: Rule, at: u8) -> Result<u8, StopCause>
+    // A read of USART0 or of the serial peripheral interface, which may move its lines and its end.
+    fn get_port(&mut self, rule: Rule, at: u8) -> Result<u8, StopCause>
+        requires { is_port rule ≡ true }
         ensures { IsGot (get_by rule self.old at) self.old result self.new }
     {
-        self.board.catch_up(self.ahead.settled);
         let got = self.board.get_by(rule, at);
-        self.ahead = self.board.ahead();
+        self.ahead = self.board.ahead_beside(self.ahead);
         got
     }
 
-    // A write of what may move.
+    // A write of USART0 or of the serial peripheral interface.
+    fn put_port(&mut self, rule: Rule, at: u8, x: u8) -> Result<(), StopCause>
+        requires { is_port rule ≡ true }
+        ensures { IsPut (put_by rule self.old at x) self.old result self.new }
+    {
+        let put = self.board.put_by(rule, at, x);
+        self.ahead = self.board.ahead_beside(self.ahead);
+        put
+    }
+
+    // A write that may move a line or an event.
     #[inline(never)]
+    fn put_beside(&mut self, at: u16, x: u8) -> Result<(), StopCause>
+        requires { at ≤ 0x9F }
+        ensures { IsPut (put_by (rule_of at) self.old at x) self.old result self.new }
+    {
+        let low = at as u8;
+        let rule = listed_rule(at);
+        match rule {
+            Rule::Usart0(_) | Rule::Spi(_) => self.put_port(rule, low, x),
+            _ => self.put_and_look_ahead(rule, low, x),
+        }
+    }
+
+    // A write of what may move a timer's event, or enables its line.
     fn put_and_look_ahead(&mut self, rule: Rule, at: u8, x: u8) -> Result<(), StopCause>
         ensures { IsPut (put_by rule self.old at x) self.old result self.new }
     {
@@ -177,10 +182,7 @@ impl Bus for LaggingBoard {
         if is_plain_read(rule) {
             return self.get_plain(rule, low);
         }
-        if is_timer_read(rule) {
-            return self.get_timer(rule, low);
-        }
-        self.get_and_look_ahead(rule, low)
+        self.get_beside(at)
     }
 
     #[tactic(auto, unfolding(crate::specs::Registers::io_put))]
@@ -193,6 +195,6 @@ impl Bus for LaggingBoard {
         if is_plain_write(rule, low) {
             return self.put_plain(rule, low, b);
         }
-        self.put_and_look_ahead(rule, low, b)
+        self.put_beside(at, b)
     }
 }

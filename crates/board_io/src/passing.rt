@@ -54,11 +54,12 @@ fn leap_16(timer: &mut Timer16, cycle: u64, n: u64)
 
 // For how many cycles from `cycle` on, of at most `most`, each begins with the flags that the timer has now.
 #[inline(always)]
-#[tactic(auto, using(crate::proofs::Steady::halted_8))]
+#[tactic(auto, using(crate::proofs::Steady::halted_8, crate::proofs::Steady::calm_8))]
 fn same_flags_8(timer: &Timer8, cycle: u64, most: u64) -> u64
     requires { cycle ≤ 2 ^ 40 }
     ensures within { result ≤ most }
     ensures same { (i : ℕ) → i < result → timer8.flags_of (cycles timer8.timer_cycle cycle i timer.now) ≡ timer8.flags_of timer.now }
+    ensures calm { (i : ℕ) → i + 1 < result → timer8.sets_flag_at cycle timer.now i ≡ false }
     ensures goes_on { 0 < most → 0 < result }
     ensures first { result < most → timer8.sets_flag_at cycle timer.now (result - 1) ≡ true }
 {
@@ -74,11 +75,12 @@ fn same_flags_8(timer: &Timer8, cycle: u64, most: u64) -> u64
 // For how many cycles from `cycle` on, of at most `most`, each begins with the flags that the timer of sixteen bits has
 // now.
 #[inline(always)]
-#[tactic(auto, using(crate::proofs::Steady::halted_16))]
+#[tactic(auto, using(crate::proofs::Steady::halted_16, crate::proofs::Steady::calm_16))]
 fn same_flags_16(timer: &Timer16, cycle: u64, most: u64) -> u64
     requires { cycle ≤ 2 ^ 40 }
     ensures within { result ≤ most }
     ensures same { (i : ℕ) → i < result → (cycles timer16.timer_cycle cycle i timer.now).flags ≡ timer.now.flags }
+    ensures calm { (i : ℕ) → i + 1 < result → timer16.sets_flag_at cycle timer.now i ≡ false }
     ensures goes_on { 0 < most → 0 < result }
     ensures first { result < most → timer16.sets_flag_at cycle timer.now (result - 1) ≡ true }
 {
@@ -129,6 +131,7 @@ impl Board {
         requires { cycle ≤ 2 ^ 40 }
         ensures within { result ≤ most }
         ensures same { (i : ℕ) → i < result → lines_of (timers_leap cycle i self.now) ≡ lines_of self.now }
+        ensures calm { (i : ℕ) → i + 1 < result → sets_flag_at cycle self.now i ≡ false }
         ensures goes_on { 0 < most → 0 < result }
         ensures first { result < most → sets_flag_at cycle self.now (result - 1) ≡ true }
     {

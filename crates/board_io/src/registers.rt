@@ -96,6 +96,7 @@ impl Board {
     }
 
     /// A read of the register at a data address below 0x0100, by its rule.
+    #[inline(always)]
     pub(crate) fn get_by(&mut self, rule: Rule, at: u8) -> Result<u8, StopCause>
         ensures { IsGot (get_by rule self.old at) self.old result self.new }
     {

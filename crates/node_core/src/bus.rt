@@ -44,25 +44,25 @@ impl Bus for NodeBus {
     #[inline]
     #[tactic(auto, unfolding(crate::specs::Bus::bus_get))]
     fn get(&mut self, at: u16) -> Result<u8, StopCause> {
+        if at < 0x0100 {
+            return self.board.get(at);
+        }
         if at > 0x10FF {
             return Err(StopCause::PastMemory);
         }
-        if at >= 0x0100 {
-            return Ok(self.sram.get(at));
-        }
-        self.board.get(at)
+        Ok(self.sram.get(at))
     }
 
     #[inline]
     #[tactic(auto, unfolding(crate::specs::Bus::bus_put))]
     fn put(&mut self, at: u16, b: u8) -> Result<(), StopCause> {
+        if at < 0x0100 {
+            return self.board.put(at, b);
+        }
         if at > 0x10FF {
             return Err(StopCause::PastMemory);
         }
-        if at >= 0x0100 {
-            self.sram.put(at, b);
-            return Ok(());
-        }
-        self.board.put(at, b)
+        self.sram.put(at, b);
+        Ok(())
     }
 }

@@ -1,5 +1,5 @@
 use Rattle.std.proofs.Common.{◌≡◌, ℕ, ◌-◌, true, subst, arith}
-use Rattle.board_io.proofs.Steady.{before_16, halted_16}
+use Rattle.board_io.proofs.Steady.{before_16, calm_16, halted_16}
 use Rattle.avr_timers.specs.Timer16.{sets_flag_at}
 use Rattle.board_io.proofs.passing.same_flags_16.Goals as goal
 
@@ -13,3 +13,9 @@ pub returns-in-Some-clause-first : goal.returns-in-Some-clause-first
 returns-in-Some-clause-first c l =
     let last : c.in-Some.event - c.args.cycle ≡ c.min.result - 1 = omega arith in
     subst (λ (n : ℕ). sets_flag_at c.args.cycle c.args.timer.now n ≡ true) last c.in-Some.ensures.first.0
+
+pub returns-in-None-clause-calm : goal.returns-in-None-clause-calm
+returns-in-None-clause-calm c i l = calm_16 c.args.cycle i c.args.timer.now (c.in-None.ensures.none.0 cc)
+
+pub returns-in-Some-clause-calm : goal.returns-in-Some-clause-calm
+returns-in-Some-clause-calm c i l = c.in-Some.ensures.first.1 i (omega arith)

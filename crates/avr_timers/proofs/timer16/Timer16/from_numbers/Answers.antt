@@ -1,4 +1,4 @@
-use Rattle.std.proofs.Common.{◌≡◌, ◌∙◌, ap, arith, sym, false, Some, is_some, None}
+use Rattle.std.proofs.Common.{◌∙◌, ap, arith, sym, Some, is_some}
 use Rattle.std.proofs.lemmas.Bool.{false≢true}
 use Rattle.avr_timers.proofs.Saved16.{has-numbers, one-timer, within}
 use Rattle.avr_timers.proofs.timer16.Timer16.from_numbers.Goals as goal

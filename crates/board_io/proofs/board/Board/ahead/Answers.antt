@@ -1,4 +1,4 @@
-use Rattle.std.proofs.Common.{◌≡◌, ℕ, ◌+◌, ◌-◌, true, sym, ap, ◌∙◌, subst, arith}
+use Rattle.std.proofs.Common.{◌≡◌, ℕ, ◌+◌, ◌-◌, true, sym, ap, subst, arith}
 use Rattle.board_io.specs.Cycle.{board_quiet}
 use Rattle.board_io.specs.declared.board.Board.{Board}
 use Rattle.avr_base.specs.declared.interrupts.Lines.{Lines}
@@ -21,9 +21,10 @@ returns-clause-ahead c =
       early = omega (arith, at, early, within, most, some);
       quiet = λ u from below.
           (let i : ℕ = u - t in
-          let here : t + i ≡ u = omega (arith, from) in
-          subst (λ (w : ℕ). board_quiet w b ≡ true) here (calm.none i (omega (arith, from, below, most, some))));
-      same = λ i le. ap (λ (l : Lines). l.bits) (same.same i (omega (arith, le, some)) ∙ sym c.lines-lines.ensures);
-      calm = c.calm_until.ensures.within;
-      clear = c.calm_until.ensures.clear;
+          let here : t + i ≡ u = omega (arith, from, at) in
+          subst (λ (w : ℕ). board_quiet w b ≡ true) here (calm.none i (omega (arith, from, at, below, most, some))));
+      calm = λ i below. same.calm i (omega (arith, below, some));
+      lines = ap (λ (l : Lines). l.bits) (sym c.lines-lines.ensures);
+      clear = c.clear_until.ensures.within;
+      down = c.clear_until.ensures.down;
     }

@@ -1,20 +1,21 @@
-use Rattle.std.proofs.Common.{ap, ◌∙◌, arith}
-use Rattle.board_io.specs.Lines.{entered_of}
-use Rattle.board_io.specs.declared.board.Board.{Board}
-use Rattle.board_io.proofs.Lags.{caught_clock, caught_zero}
-use Rattle.board_io.proofs.Radio.{entered_clock}
+use Rattle.std.proofs.Common.{sym, ap, subst, ◌∙◌}
+use Rattle.avr_base.specs.declared.interrupts.Lines.{Lines}
+use Rattle.board_io.specs.Lagging.{IsAhead, caught_up}
+use Rattle.board_io.specs.Lines.{lines_of}
+use Rattle.board_io.specs.declared.ahead.Ahead.{Ahead}
+use Rattle.board_io.proofs.Served.{served_ahead, served_late}
 use Rattle.board_io.proofs.lagging.LaggingBoard.entered.Goals as goal
 
-pub ahead-self-inside-requires : goal.ahead-self-inside-requires
-ahead-self-inside-requires c =
+pub invariant_of-self : goal.invariant_of-self
+invariant_of-self c =
     let i = c.self.inside in
-    let same = ap (λ (b : Board). b.clock) c.entered.ensures ∙ entered_clock c.args.v.word c.catch_up.new.self in
-    let there = ap (λ (b : Board). b.clock) c.catch_up.ensures ∙ caught_clock i.ahead.settled i.board in
-    let next = c.self.invariant.next in
-    let early = c.self.invariant.early in
-    omega (arith, same, there, next, early)
+    let w = c.args.v.word in
+    let a : Ahead = record i.ahead { lines = c.lines-lines.result.bits; clear = c.clear_until-self-inside.result } in
+    let bits = ap (λ (l : Lines). l.bits) (c.lines-lines.ensures ∙ ap lines_of c.entered.ensures) in
+    let clear = c.clear_until-self-inside.ensures in
+    subst (IsAhead a) (sym c.entered.ensures) (served_ahead i.ahead i.board c.self.invariant w c.lines-lines.result.bits c.clear_until-self-inside.result bits clear.within clear.down)
 
 pub returns : goal.returns
 returns c =
-    caught_zero c.ahead-self-inside.result.settled c.entered.new.self c.ahead-self-inside.ensures.settled
-    ∙ (c.entered.ensures ∙ ap (entered_of c.args.v.word) (c.catch_up.ensures ∙ c.self.view_is))
+    let i = c.self.inside in
+    ap (caught_up i.ahead.settled) c.entered.ensures ∙ served_late i.ahead i.board c.self.invariant c.args.v.word c.args.self.now c.self.view_is

@@ -13,9 +13,9 @@ overflow_add-end c =
     let a = c.self.inside.ahead in
     let b : Board = c.self.inside.board in
     let at : b.clock ≡ c.args.cycle = sym (caught_clock a.settled b) ∙ (ap (λ (w : Board). w.clock) c.self.view_is ∙ c.requires.now) in
-    let calm = c.self.invariant.calm in
+    let clear = c.self.invariant.clear in
     let early = c.self.invariant.early in
-    omega (arith, at, calm, early)
+    omega (arith, at, clear, early)
 
 pub invariant_of-self : goal.invariant_of-self
 invariant_of-self c =
@@ -24,7 +24,7 @@ invariant_of-self c =
     let at : b.clock ≡ c.args.cycle = sym (caught_clock a.settled b) ∙ (ap (λ (w : Board). w.clock) c.self.view_is ∙ c.requires.now) in
     let n : ℕ = c.args.n in
     let here : b.clock + n ≡ c.new-self-inside.result = omega (arith, at, c.new-self-inside.ensures) in
-    subst (λ (t : ℕ). IsAhead a (clock_at t b)) here (later a b c.self.invariant n (let calm = c.self.invariant.calm in omega (arith, at, calm)))
+    subst (λ (t : ℕ). IsAhead a (clock_at t b)) here (later a b c.self.invariant n (let clear = c.self.invariant.clear in omega (arith, at, clear)))
 
 pub returns-clause-idle : goal.returns-clause-idle
 returns-clause-idle c =
@@ -33,7 +33,7 @@ returns-clause-idle c =
     let at : b.clock ≡ c.args.cycle = sym (caught_clock a.settled b) ∙ (ap (λ (w : Board). w.clock) c.self.view_is ∙ c.requires.now) in
     λ _.
     subst (λ (t : ℕ). IsIdle t c.args.n (unclocked c.args.self.now)) c.requires.now
-    (idle a b c.self.invariant c.args.n c.args.self.now c.self.view_is (let calm = c.self.invariant.calm in omega (arith, at, calm)))
+    (idle a b c.self.invariant c.args.n c.args.self.now c.self.view_is (let clear = c.self.invariant.clear in omega (arith, at, clear)))
 
 pub returns-clause-state : goal.returns-clause-state
 returns-clause-state c =
@@ -53,13 +53,13 @@ returns-clause-clear c =
     let at : b.clock ≡ c.args.cycle = sym (caught_clock a.settled b) ∙ (ap (λ (w : Board). w.clock) c.self.view_is ∙ c.requires.now) in
     let n : ℕ = c.args.n in
     let here : b.clock + n ≡ c.new-self-inside.result = omega (arith, at, c.new-self-inside.ensures) in
-    let calm = c.self.invariant.calm in
+    let clear = c.self.invariant.clear in
     let some = c.requires.some in
-    let stay = lines_stay a b c.self.invariant n c.args.self.now c.self.view_is (omega (arith, at, calm)) in
+    let stay = lines_stay a b c.self.invariant n c.args.self.now c.self.view_is (omega (arith, at, clear)) in
     let now = lines_are a b c.self.invariant c.args.self.now c.self.view_is in
     λ _.
     ap (λ (t : ℕ). (lines_of (caught_up a.settled (clock_at t b))).bits) (sym here)
-    ∙ (ap (λ (l : Lines). l.bits) (stay ∙ sym now) ∙ c.self.invariant.clear (omega (arith, some)))
+    ∙ (ap (λ (l : Lines). l.bits) (stay ∙ sym now) ∙ c.self.invariant.down (omega (arith, some)))
 
 pub returns-clause-clock : goal.returns-clause-clock
 returns-clause-clock c =

@@ -1,3 +1,5 @@
+use Rattle.std.proofs.Common.{refl}
+use Rattle.board_io.specs.Table.{rule_of}
 use Rattle.board_io.proofs.Agree.{get_err, get_ok, get_past, got_same}
 use Rattle.board_io.proofs.lagging_registers.LaggingBoardBus.get.Goals as goal
 
@@ -15,24 +17,13 @@ returns-then-is_plain_read-clause-err c =
 pub returns-then-is_plain_read-clause-same : goal.returns-then-is_plain_read-clause-same
 returns-then-is_plain_read-clause-same c = got_same _ c.args.self.now c.get_plain.new.self c.get_plain.result c.get_plain.ensures
 
-pub returns-then-is_timer_read-clause-ok : goal.returns-then-is_timer_read-clause-ok
-returns-then-is_timer_read-clause-ok c =
-    get_ok c.args.self.now c.args.at c.listed_rule-rule.result c.listed_rule-rule.ensures c.get_timer.result c.get_timer.new.self c.get_timer.ensures
-
-pub returns-then-is_timer_read-clause-err : goal.returns-then-is_timer_read-clause-err
-returns-then-is_timer_read-clause-err c =
-    get_err c.args.self.now c.args.at c.listed_rule-rule.result c.listed_rule-rule.ensures c.get_timer.result c.get_timer.new.self c.get_timer.ensures
-
-pub returns-then-is_timer_read-clause-same : goal.returns-then-is_timer_read-clause-same
-returns-then-is_timer_read-clause-same c = got_same _ c.args.self.now c.get_timer.new.self c.get_timer.result c.get_timer.ensures
-
 pub returns-clause-ok : goal.returns-clause-ok
 returns-clause-ok c =
-    get_ok c.args.self.now c.args.at c.listed_rule-rule.result c.listed_rule-rule.ensures c.get_and_look_ahead.result c.get_and_look_ahead.new.self c.get_and_look_ahead.ensures
+    get_ok c.args.self.now c.args.at (rule_of c.args.at) refl c.get_beside.result c.get_beside.new.self c.get_beside.ensures
 
 pub returns-clause-err : goal.returns-clause-err
 returns-clause-err c =
-    get_err c.args.self.now c.args.at c.listed_rule-rule.result c.listed_rule-rule.ensures c.get_and_look_ahead.result c.get_and_look_ahead.new.self c.get_and_look_ahead.ensures
+    get_err c.args.self.now c.args.at (rule_of c.args.at) refl c.get_beside.result c.get_beside.new.self c.get_beside.ensures
 
 pub returns-clause-same : goal.returns-clause-same
-returns-clause-same c = got_same _ c.args.self.now c.get_and_look_ahead.new.self c.get_and_look_ahead.result c.get_and_look_ahead.ensures
+returns-clause-same c = got_same _ c.args.self.now c.get_beside.new.self c.get_beside.result c.get_beside.ensures

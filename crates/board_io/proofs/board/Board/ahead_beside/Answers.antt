@@ -1,0 +1,29 @@
+use Rattle.std.proofs.Common.{◌≡◌, ℕ, ◌+◌, ◌-◌, true, sym, ap, subst, arith}
+use Rattle.board_io.specs.Cycle.{board_quiet}
+use Rattle.board_io.specs.declared.board.Board.{Board}
+use Rattle.avr_base.specs.declared.interrupts.Lines.{Lines}
+use Rattle.board_io.proofs.board.Board.ahead_beside.Goals as goal
+
+pub returns-clause-ahead : goal.returns-clause-ahead
+returns-clause-ahead c =
+    let b : Board = c.args.self.now in
+    let t : ℕ = c.get-clock.result in
+    let at = c.get-clock.ensures.value in
+    let quiet = c.quiet-calm.ensures in
+    let within = quiet.within in
+    let settled = c.requires.settled in
+    let next = c.requires.next in
+    let early = c.requires.early in
+    record {
+      settled = settled;
+      next = omega (arith, at);
+      early = omega (arith, at, early, within, next);
+      quiet = λ u from below.
+          (let i : ℕ = u - t in
+          let here : t + i ≡ u = omega (arith, from, at) in
+          subst (λ (w : ℕ). board_quiet w b ≡ true) here (quiet.none i (omega (arith, from, at, below))));
+      calm = λ i below. c.requires.calm i (omega (arith, below, at, within, next));
+      lines = ap (λ (l : Lines). l.bits) (sym c.lines-lines.ensures);
+      clear = c.clear_until.ensures.within;
+      down = c.clear_until.ensures.down;
+    }

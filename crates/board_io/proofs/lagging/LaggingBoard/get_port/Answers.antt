@@ -1,0 +1,33 @@
+use Rattle.std.proofs.Common.{ℕ, sym, subst, arith}
+use Rattle.board_io.specs.Lagging.{caught_up}
+use Rattle.board_io.specs.Registers.{IsGot, get_by}
+use Rattle.board_io.proofs.Beside.{calm_beside, got_timers, read_beside}
+use Rattle.board_io.proofs.lagging.LaggingBoard.get_port.Goals as goal
+
+pub ahead_beside-self-inside-requires-clause-settled : goal.ahead_beside-self-inside-requires-clause-settled
+ahead_beside-self-inside-requires-clause-settled c =
+    let i = c.self.inside in
+    let same = (got_timers c.args.rule i.board c.args.at i.ahead.settled c.requires c.get_by-got.result c.get_by-got.new.self c.get_by-got.ensures).clock in
+    let settled = c.self.invariant.settled in
+    omega (arith, same, settled)
+
+pub ahead_beside-self-inside-requires-clause-next : goal.ahead_beside-self-inside-requires-clause-next
+ahead_beside-self-inside-requires-clause-next c =
+    let i = c.self.inside in
+    let same = (got_timers c.args.rule i.board c.args.at i.ahead.settled c.requires c.get_by-got.result c.get_by-got.new.self c.get_by-got.ensures).clock in
+    let next = c.self.invariant.next in
+    omega (arith, same, next)
+
+pub ahead_beside-self-inside-requires-clause-early : goal.ahead_beside-self-inside-requires-clause-early
+ahead_beside-self-inside-requires-clause-early c = c.self.invariant.early
+
+pub ahead_beside-self-inside-requires-clause-calm : goal.ahead_beside-self-inside-requires-clause-calm
+ahead_beside-self-inside-requires-clause-calm c =
+    let i = c.self.inside in
+    calm_beside i.ahead i.board c.get_by-got.new.self (got_timers c.args.rule i.board c.args.at i.ahead.settled c.requires c.get_by-got.result c.get_by-got.new.self c.get_by-got.ensures) c.self.invariant
+
+pub returns : goal.returns
+returns c =
+    let i = c.self.inside in
+    subst (λ (s : ℕ). IsGot (get_by c.args.rule c.args.self.now c.args.at) c.args.self.now c.get_by-got.result (caught_up s c.get_by-got.new.self)) (sym c.ahead_beside-self-inside.ensures.settled)
+    (read_beside c.args.rule i.board c.args.at i.ahead.settled c.requires c.get_by-got.result c.get_by-got.new.self c.args.self.now c.self.view_is c.get_by-got.ensures)
