@@ -1,5 +1,5 @@
-//! The rules of the air as tables: each case file has questions with the answers that somebody else worked out, by hand or by
-//! `bench/air_cases.py`. `world_core` and `sync_core` are asked all of them.
+//! The rules of the air as tables: each case file has questions with the answers that somebody else worked out, by hand
+//! or by `bench/air_cases.py`. `world_core` and `sync_core` are asked all of them.
 #![tactic(auto)]
 
 mod answer;

@@ -138,7 +138,8 @@ fn sample_agrees(
         && is_all_posted(world, sent, ask.node, ask.cycle)
 }
 
-/// Whether these clocks, counts and records are consistent in this world, where the records are cut up to cycle `floor`.
+/// Whether these clocks, counts and records are consistent in this world, where the records are cut up to cycle
+/// `floor`.
 pub fn is_consistent(
     alloc: Global,
     world: &ListWorld,

@@ -22,7 +22,7 @@ frames_behind k [] = []
 frames_behind (suc k) (x ∷ l) = frames_behind k l
 frames_behind zero (x ∷ l) = begun (x ∷ l) ++ frames_behind (passed (x ∷ l) - 1) l
 
--- The frames: none of no sends; where a frame begins the list that frame, and then those of the rest behind it; else those of
--- the list without its first send.
+-- The frames: none of no sends; where a frame begins the list that frame, and then those of the rest behind it; else
+-- those of the list without its first send.
 abbrev pub frames : List Send → List Frame
 frames = frames_behind 0

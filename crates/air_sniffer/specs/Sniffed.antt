@@ -6,8 +6,8 @@ use Rattle.air_sniffer.specs.declared.frame.Frame.{Frame}
 use Rattle.air_sniffer.specs.Head.{is_open}
 use Rattle.air_sniffer.specs.Frames.{begun, passed, frames}
 
--- the frames that are certain whatever comes, behind the first k sends: those up to the first place from which more sends could
--- make a frame
+-- the frames that are certain whatever comes, behind the first k sends: those up to the first place from which more
+-- sends could make a frame
 unfoldable pub sure_behind : ℕ → List Send → List Frame
 sure_behind k [] = []
 sure_behind (suc k) (x ∷ l) = sure_behind k l

@@ -99,8 +99,9 @@ impl Sniffer {
         })
     }
 
-    /// Takes the sends that come next; those of other nodes are passed over. The answer is the frames that are sure by now and
-    /// were not before: a frame as soon as its last byte is there. Where there was no memory, the sniffer is as before.
+    /// Takes the sends that come next; those of other nodes are passed over. The answer is the frames that are sure by
+    /// now and were not before: a frame as soon as its last byte is there. Where there was no memory, the sniffer is as
+    /// before.
     pub fn feed(&mut self, sends: &[Send]) -> Result<Vec<Frame>, NoMemory>
         ensures frames { IfOk result (λ v. v.items ≡ sure (line_of self.old sends.now)) }
         ensures held { OnOk result (self.new ≡ fed self.old sends.now) }

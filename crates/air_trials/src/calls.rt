@@ -63,8 +63,8 @@ pub fn peek_again(clocks: &Clocks<ListWorld>, mut seat: NodeSeat, node: u8, coun
 }
 
 #[tactic(auto, using(crate::proofs::Silent::none_below))]
-/// Raises the clock of a silent node so often, cycle by cycle and then at the last again and again, and answers where it
-/// then stands.
+/// Raises the clock of a silent node so often, cycle by cycle and then at the last again and again, and answers where
+/// it then stands.
 pub fn raise_again(clocks: &Clocks<ListWorld>, mut seat: NodeSeat, last: u64, count: u64) -> u64
     requires table { seat.table ≡ clocks.now.table }
     requires silent { seat.world.sends ≡ [] }

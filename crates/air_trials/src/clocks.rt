@@ -1,5 +1,5 @@
-// Two nodes' clock words with real threads: one node raises its clock through every cycle up to the limit, and the other
-// looks at it all the while. Or so many calls of one kind on one thread.
+// Two nodes' clock words with real threads: one node raises its clock through every cycle up to the limit, and the
+// other looks at it all the while. Or so many calls of one kind on one thread.
 ghost use Rattle.std.specs.Prelude.{◌≡◌, ◌≤◌, ◌<◌, []};
 
 use crate::calls::{load_again, peek_again, raise_again, raise_through, watch};

@@ -1,12 +1,12 @@
-//! Trials of the clock words, of the shared record and of the record of sends, each a word: with real threads, or so many
-//! calls on one thread, for `bench/clocks.sh`, `bench/shared.sh` and `bench/air.sh`.
+//! Trials of the clock words, of the shared record and of the record of sends, each a word: with real threads, or so
+//! many calls on one thread, for `bench/clocks.sh`, `bench/shared.sh` and `bench/air.sh`.
 //!
 //! - `clocks`: one node raises its clock through a million cycles, and another one looks at it all the while.
 //! - `load:N`, `peek:N`, `raise:N`: so many of these calls on clock words.
-//! - `post:N`, `sample:N`, `both:N`: so many rounds in which node 0 posts a thousand bytes; and node 1 samples each of them,
-//!   behind it on one thread, or beside it on another one.
-//! - `front:SENDS:SAMPLES`, `all:SENDS:SAMPLES`: so many samples of 64 nodes that have sent so many bytes each, at the newest
-//!   sends or drawn over all of them.
+//! - `post:N`, `sample:N`, `both:N`: so many rounds in which node 0 posts a thousand bytes; and node 1 samples each of
+//!   them, behind it on one thread, or beside it on another one.
+//! - `front:SENDS:SAMPLES`, `all:SENDS:SAMPLES`: so many samples of 64 nodes that have sent so many bytes each, at the
+//!   newest sends or drawn over all of them.
 #![tactic(auto)]
 
 mod calls;

@@ -30,6 +30,7 @@ pub fn send_all<N: Session, R: Wait>(
     requires early { All (λ x. x.cycle < N.floor + epoch) sends.now }
     ensures same { (result.table ≡ node.table) × (result.world ≡ node.world) × (result.number ≡ node.number) }
 {
+    // The call's clause says that the world is lawful, which what follows rests on.
     let _ = world.topo();
     for place in 0..sends.len() {
         let send = sends[place];

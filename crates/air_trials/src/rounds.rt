@@ -1,5 +1,5 @@
-// Two nodes on one shared air: node 0 sends one byte after another, and node 1 takes a sample of each as soon as it may. A round
-// has an air of its own, in a session of its own.
+// Two nodes on one shared air: node 0 sends one byte after another, and node 1 takes a sample of each as soon as it
+// may. A round has an air of its own, in a session of its own.
 ghost use Rattle.std.specs.Prelude.{◌≡◌, ◌+◌, ◌≤◌, ◌<◌, [], IfSome};
 ghost use Rattle.std.specs.List.{All};
 ghost use Rattle.world_core.specs.Sends.{sends_of};
@@ -46,6 +46,7 @@ fn two_of(clocks: &Clocks<ListWorld>, mut nodes: Vec<NodeAir>) -> Option<(NodeAi
     ensures first { IfSome result (λ p. p.0 ≡ first_node clocks.now.table clocks.now.world 0) }
     ensures second { IfSome result (λ p. p.1 ≡ first_node clocks.now.table clocks.now.world 1) }
 {
+    // Only the contract names it.
     let _ = clocks;
     let second = nodes.pop()?;
     let first = nodes.pop()?;
@@ -78,10 +79,12 @@ fn in_session<N: Session + std::marker::Send + Sync, R: Threads + Wait + Sync>(
     let (first, second) = nodes;
     let heard = match work {
         Work::Post => {
+            // The node that comes back sends nothing more.
             let _ = send_all(rt, &shared, world, first, sends);
             0
         }
         Work::Sample => {
+            // The node that comes back sends nothing more.
             let _ = send_all(rt, &shared, world, first, sends);
             sample_all(rt, &shared, second, world.asks(), floor)
         }

@@ -1,5 +1,5 @@
-// Samples over a long record: 64 nodes, each of which hears four others, have sent so many bytes each, one in 1,024 cycles,
-// and each samples in turn, at the newest sends or drawn over the whole record.
+// Samples over a long record: 64 nodes, each of which hears four others, have sent so many bytes each, one in 1,024
+// cycles, and each samples in turn, at the newest sends or drawn over the whole record.
 ghost use Rattle.std.specs.Prelude.{◌≡◌, ◌≤◌, ◌<◌, ◌+◌, ◌*◌, IfOk};
 ghost use Rattle.std.specs.List.{All};
 ghost use Rattle.world_core.specs.Topology.{IsInside};
@@ -99,8 +99,8 @@ fn run(alloc: Global, measure: &Measure) -> Option<Counts> {
     Some(sample(&log, &topo, measure))
 }
 
-/// How many samples hear nothing, one byte, and several: of `SENDS:SAMPLES`, the sends of a node and the samples. `None` where
-/// the sends pass the cycle limit, there was no memory, or the text is another.
+/// How many samples hear nothing, one byte, and several: of `SENDS:SAMPLES`, the sends of a node and the samples.
+/// `None` where the sends pass the cycle limit, there was no memory, or the text is another.
 pub fn counted(alloc: Global, is_drawn: bool, numbers: &str) -> Option<String> {
     let (sends, samples) = numbers.split_once(':')?;
     let measure = Measure {

@@ -41,6 +41,7 @@ fn two_of(clocks: &Clocks<ListWorld>, mut seats: Vec<NodeSeat>) -> Option<(NodeS
     ensures first { IfSome result (λ p. p.0 ≡ first_node clocks.now.table clocks.now.world 0) }
     ensures second { IfSome result (λ p. p.1 ≡ first_node clocks.now.table clocks.now.world 1) }
 {
+    // Only the contract names it.
     let _ = clocks;
     let second = seats.pop()?;
     let first = seats.pop()?;

@@ -1,4 +1,5 @@
--- The flags of sums, differences and shifts from tables, put into a flags byte at once: tests over all carries and bytes.
+-- The flags of sums, differences and shifts from tables, put into a flags byte at once: tests over all carries and
+-- bytes.
 use Rattle.std.proofs.Common.{◌≡◌, ℕ, ◌+◌, ◌-◌, ◌*◌, ◌/◌, ◌%◌, ◌^◌, ◌<◌, ◌≤◌, ◌==◌, ◌&&◌, nat_le, nat_lt, not, List, Bool, true, false, if◌then◌else◌, refl, get_or, bit_and, bit_or, bit_xor, ap, sym, ◌∙◌, arith, pos, ◌+ℤ◌, ◌-ℤ◌}
 use Rattle.std.proofs.lemmas.Bool.{and_parts, eqb-true}
 use Rattle.std.proofs.lemmas.Bool.Decides.{nat_tests}

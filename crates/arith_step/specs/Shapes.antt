@@ -1,7 +1,7 @@
 -- What the instructions on registers do, one definition for each shape of instruction (AVR Instruction Set Manual):
 -- which operands a rule of results and flags is given, and where its result goes.
 use Rattle.std.specs.Prelude.{ℕ, ◌+◌, ◌*◌, ◌/◌, ◌%◌, Bool, true, false, slice_index}
-use Rattle.avr_base.specs.Flags.{C, T, has_flag, with_flag}
+use Rattle.avr_base.specs.Flags.{C, T, has_bit, has_flag, with_bit, with_flag}
 use Rattle.avr_base.specs.declared.sreg.Sreg.{Sreg}
 use Rattle.data_space.specs.declared.cpu.Cpu.{Cpu}
 use Rattle.data_space.specs.Core.{pair_at, with_pair, with_reg}
@@ -63,12 +63,13 @@ multiplies kind d r cpu = to_pair 0 (multiplied kind (slice_index cpu.r d) (slic
 unfoldable pub sets_flag : ℕ → Bool → Cpu → Cpu
 sets_flag s on cpu = with_sreg (record { bits = with_flag cpu.sreg.bits s on }) cpu
 
--- bit b of rD becomes the flag T, and T becomes bit b of rD: a byte's bits are numbered as flags are
+-- bit b of rD becomes the flag T
 unfoldable pub loads_bit : ℕ → ℕ → Cpu → Cpu
-loads_bit d b cpu = with_reg d (with_flag (slice_index cpu.r d) b (has_flag cpu.sreg.bits T)) cpu
+loads_bit d b cpu = with_reg d (with_bit (slice_index cpu.r d) b (has_flag cpu.sreg.bits T)) cpu
 
+-- T becomes bit b of rD
 abbrev pub stores_bit : ℕ → ℕ → Cpu → Cpu
-stores_bit d b cpu = sets_flag T (has_flag (slice_index cpu.r d) b) cpu
+stores_bit d b cpu = sets_flag T (has_bit (slice_index cpu.r d) b) cpu
 
 -- the halves of rD are exchanged
 unfoldable pub swaps : ℕ → Cpu → Cpu

@@ -5,7 +5,7 @@ ghost use Rattle.arith_step.specs.Whole.{signs_of, with_result};
 
 use avr_base::Sreg;
 
-// N, Z and S of each result of a byte that did not overflow.
+/// N, Z and S of each result of a byte that did not overflow.
 pub static SIGNS: [u8; 256] = [
     0x02, 0x00, 0x00, 0x00, 0x00, 0x00, 0x00, 0x00, 0x00, 0x00, 0x00, 0x00, 0x00, 0x00, 0x00, 0x00,
     0x00, 0x00, 0x00, 0x00, 0x00, 0x00, 0x00, 0x00, 0x00, 0x00, 0x00, 0x00, 0x00, 0x00, 0x00, 0x00,
@@ -25,7 +25,8 @@ pub static SIGNS: [u8; 256] = [
     0x14, 0x14, 0x14, 0x14, 0x14, 0x14, 0x14, 0x14, 0x14, 0x14, 0x14, 0x14, 0x14, 0x14, 0x14, 0x14,
 ];
 
-// C, H, V, and what V does to S, of a sum or a difference of bytes, by its carries into bits 4 to 8, that into bit 4 lowest.
+/// C, H, V, and what V does to S, of a sum or a difference of bytes, by its carries into bits 4 to 8, that into bit 4
+/// lowest.
 pub static CARRIES: [u8; 32] = [
     0x00, 0x20, 0x00, 0x20, 0x00, 0x20, 0x00, 0x20, 0x18, 0x38, 0x18, 0x38, 0x18, 0x38, 0x18, 0x38,
     0x19, 0x39, 0x19, 0x39, 0x19, 0x39, 0x19, 0x39, 0x01, 0x21, 0x01, 0x21, 0x01, 0x21, 0x01, 0x21,
@@ -37,12 +38,13 @@ const OVERFLOW: u8 = 0x18;
 // All flags but N, Z, V and S.
 const OTHERS: u8 = 0xE1;
 
-// The flags that no sum and no difference of bytes changes.
+/// The flags that no sum and no difference of bytes changes.
 pub const T_AND_I: u8 = 0xC0;
 
-// The flags that no shift, and no sum or difference of a word and a constant, changes.
+/// The flags that no shift, and no sum or difference of a word and a constant, changes.
 pub const H_T_AND_I: u8 = 0xE0;
 
+/// N, Z and S of a result that is a byte, at their bits of SREG, where V is 0.
 #[inline]
 pub fn signs_at(r: u8) -> u8
     ensures listed { result ≡ slice_index_or SIGNS r 0 }
@@ -51,8 +53,8 @@ pub fn signs_at(r: u8) -> u8
     SIGNS[usize::from(r)]
 }
 
-// C, H, V and what V does to S, where `whole` is the sum or the difference of two bytes: the carries are the bits in which
-// it is not their exclusive or.
+/// C, H, V and what V does to S, at their bits of SREG, where `whole` is the sum or the difference of the bytes `a` and
+/// `b`: a carry went into each bit in which `whole` is not their exclusive or.
 #[inline]
 pub fn carries_at(a: u8, b: u8, whole: u32) -> u8
     ensures { result ≡ slice_index_or CARRIES (bit_xor (bit_xor a b) whole / 16 % 32) 0 }
@@ -78,7 +80,7 @@ fn signs_of(r: u8, v: bool) -> u8
     if v { turned(signs) } else { signs }
 }
 
-// N, Z, V and S of a result that is a byte.
+/// SREG `s` with N, Z, V and S of a result `r` that is a byte, which overflowed where `v`; C, H, T and I stay.
 #[inline]
 pub fn result(s: Sreg, r: u8, v: bool) -> Sreg
     ensures { result.bits ≡ with_result 128 r v s.bits }

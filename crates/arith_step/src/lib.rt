@@ -1,6 +1,6 @@
 //! The instructions that work on registers and flags alone: arithmetic, logic, shifts, products, copies, single bits
-//! and flags; and below them their results and flags, one function for each rule of the AVR Instruction Set Manual. Each call
-//! is total and takes no memory.
+//! and flags; and below them their results and flags, one function for each rule of the AVR Instruction Set Manual.
+//! Each call is total and takes no memory.
 #![tactic(auto)]
 
 mod differences;

@@ -6,7 +6,7 @@ ghost use Rattle.data_space.specs.Core.{pair_at, with_pair, with_reg};
 ghost use Rattle.arith_step.specs.Shapes.{adds, becomes_bits, compares, compares_with_carry, loads_bit, multiplies, sets_flag, stores_bit, subtracts, subtracts_with_carry, swaps, to_pair, to_reg};
 
 use crate::MulKind;
-use avr_base::{Reg, Sreg};
+use avr_base::{ByteBits, Reg, Sreg};
 use data_space::Cpu;
 
 // The register r0, the lower one of the pair that products go to.
@@ -17,6 +17,7 @@ fn r0() -> Reg
     Reg::numbered(0)
 }
 
+/// Puts a byte into rD and the flags that it was computed with into SREG. One cycle.
 #[inline(always)]
 pub fn put_byte(d: Reg, computed: (u8, Sreg), cpu: &mut Cpu) -> u8
     ensures core { cpu.new ≡ to_reg d computed cpu.old }
@@ -27,6 +28,7 @@ pub fn put_byte(d: Reg, computed: (u8, Sreg), cpu: &mut Cpu) -> u8
     1
 }
 
+/// Puts a word into the pair whose lower register is rD, and the flags that it was computed with into SREG. Two cycles.
 #[inline(always)]
 pub fn put_word(d: Reg, computed: (u16, Sreg), cpu: &mut Cpu) -> u8
     ensures core { cpu.new ≡ to_pair d computed cpu.old }
@@ -37,6 +39,7 @@ pub fn put_word(d: Reg, computed: (u16, Sreg), cpu: &mut Cpu) -> u8
     2
 }
 
+/// ADD, and ADC where `carry` is the flag C: rD becomes rD + `b` + `carry` modulo 256. One cycle.
 #[inline(always)]
 #[tactic(auto, unfolding(crate::specs::Shapes::adds))]
 pub fn add(d: Reg, b: u8, carry: bool, cpu: &mut Cpu) -> u8
@@ -47,6 +50,7 @@ pub fn add(d: Reg, b: u8, carry: bool, cpu: &mut Cpu) -> u8
     put_byte(d, computed, cpu)
 }
 
+/// SUB and SUBI: rD becomes rD - `b` modulo 256. One cycle.
 #[inline(always)]
 #[tactic(auto, unfolding(crate::specs::Shapes::subtracts))]
 pub fn subtract(d: Reg, b: u8, cpu: &mut Cpu) -> u8
@@ -57,6 +61,7 @@ pub fn subtract(d: Reg, b: u8, cpu: &mut Cpu) -> u8
     put_byte(d, computed, cpu)
 }
 
+/// SBC and SBCI: rD becomes rD - `b` - C modulo 256; Z stays set only where it was and the result is 0. One cycle.
 #[inline(always)]
 #[tactic(auto, unfolding(crate::specs::Shapes::subtracts_with_carry))]
 pub fn subtract_with_carry(d: Reg, b: u8, cpu: &mut Cpu) -> u8
@@ -67,6 +72,7 @@ pub fn subtract_with_carry(d: Reg, b: u8, cpu: &mut Cpu) -> u8
     put_byte(d, computed, cpu)
 }
 
+/// CP and CPI: the flags of rD - `b`; no register changes. One cycle.
 #[inline(always)]
 #[tactic(auto, unfolding(crate::specs::Shapes::compares))]
 pub fn compare(d: Reg, b: u8, cpu: &mut Cpu) -> u8
@@ -77,6 +83,8 @@ pub fn compare(d: Reg, b: u8, cpu: &mut Cpu) -> u8
     1
 }
 
+/// CPC: the flags of rD - `b` - C, where Z stays set only where it was and the result is 0; no register changes. One
+/// cycle.
 #[inline(always)]
 #[tactic(auto, unfolding(crate::specs::Shapes::compares_with_carry))]
 pub fn compare_with_carry(d: Reg, b: u8, cpu: &mut Cpu) -> u8
@@ -87,6 +95,7 @@ pub fn compare_with_carry(d: Reg, b: u8, cpu: &mut Cpu) -> u8
     1
 }
 
+/// AND, OR, EOR, and the forms with a constant: rD becomes `bits`; V is cleared, C, H, T and I stay. One cycle.
 #[inline(always)]
 #[tactic(auto, unfolding(crate::specs::Shapes::becomes_bits))]
 pub fn put_bits(d: Reg, bits: u8, cpu: &mut Cpu) -> u8
@@ -96,6 +105,7 @@ pub fn put_bits(d: Reg, bits: u8, cpu: &mut Cpu) -> u8
     put_byte(d, (bits, crate::logic(bits, cpu.sreg)), cpu)
 }
 
+/// MUL, MULS, MULSU and their fractional forms: r1:r0 becomes the product of rD and rR, with C and Z. Two cycles.
 #[inline(always)]
 #[tactic(auto, unfolding(crate::specs::Shapes::multiplies))]
 pub fn multiply(kind: MulKind, d: Reg, r: Reg, cpu: &mut Cpu) -> u8
@@ -106,6 +116,7 @@ pub fn multiply(kind: MulKind, d: Reg, r: Reg, cpu: &mut Cpu) -> u8
     put_word(r0(), computed, cpu)
 }
 
+/// BSET and BCLR: flag `s` (0 to 7) of SREG becomes `on`. One cycle.
 #[inline(always)]
 #[tactic(auto, unfolding(crate::specs::Shapes::sets_flag))]
 pub fn set_flag(s: u8, on: bool, cpu: &mut Cpu) -> u8
@@ -117,7 +128,7 @@ pub fn set_flag(s: u8, on: bool, cpu: &mut Cpu) -> u8
     1
 }
 
-// The bits of a byte are numbered as the flags of SREG are, so they are read and written as flags.
+/// BLD: bit `b` (0 to 7) of rD becomes T. One cycle.
 #[inline(always)]
 #[tactic(auto, unfolding(crate::specs::Shapes::loads_bit))]
 pub fn load_bit(d: Reg, b: u8, cpu: &mut Cpu) -> u8
@@ -125,21 +136,23 @@ pub fn load_bit(d: Reg, b: u8, cpu: &mut Cpu) -> u8
     ensures core { cpu.new ≡ loads_bit d b cpu.old }
     ensures cycles { result ≡ 1 }
 {
-    let byte = Sreg { bits: cpu.reg(d) };
-    cpu.set_reg(d, byte.with(b, cpu.sreg.has(Sreg::T)).bits);
+    let byte = ByteBits { byte: cpu.reg(d) };
+    cpu.set_reg(d, byte.with(b, cpu.sreg.has(Sreg::T)));
     1
 }
 
+/// BST: T becomes bit `b` (0 to 7) of rD. One cycle.
 #[inline(always)]
 pub fn store_bit(d: Reg, b: u8, cpu: &mut Cpu) -> u8
     requires { b < 8 }
     ensures core { cpu.new ≡ stores_bit d b cpu.old }
     ensures cycles { result ≡ 1 }
 {
-    let byte = Sreg { bits: cpu.reg(d) };
+    let byte = ByteBits { byte: cpu.reg(d) };
     set_flag(Sreg::T, byte.has(b), cpu)
 }
 
+/// SWAP: the high and the low four bits of rD change places; no flag changes. One cycle.
 #[inline(always)]
 #[tactic(auto, unfolding(crate::specs::Shapes::swaps))]
 pub fn swap(d: Reg, cpu: &mut Cpu) -> u8
@@ -151,6 +164,7 @@ pub fn swap(d: Reg, cpu: &mut Cpu) -> u8
     1
 }
 
+/// MOV and LDI: rD becomes `value`; no flag changes. One cycle.
 #[inline(always)]
 pub fn copy(d: Reg, value: u8, cpu: &mut Cpu) -> u8
     ensures core { cpu.new ≡ with_reg d value cpu.old }
@@ -160,6 +174,7 @@ pub fn copy(d: Reg, value: u8, cpu: &mut Cpu) -> u8
     1
 }
 
+/// MOVW: the pair whose lower register is rD becomes that of rR; no flag changes. One cycle.
 #[inline(always)]
 pub fn copy_pair(d: Reg, r: Reg, cpu: &mut Cpu) -> u8
     ensures core { cpu.new ≡ with_pair d (pair_at r cpu.old) cpu.old }

@@ -2,6 +2,7 @@
 ghost use Rattle.std.specs.Prelude.{◌≡◌};
 ghost use Rattle.arith_step.specs.Whole.{signed};
 
+/// A byte as a number in two's complement, -128 to 127.
 #[inline]
 pub fn signed_byte(n: u8) -> i16
     ensures { result ≡ signed 128 n }

@@ -5,10 +5,10 @@ ghost use Rattle.arith_step.specs.Words.{added_word, subtracted_word};
 use crate::flags::H_T_AND_I;
 use avr_base::Sreg;
 
-// C, N, V and S of a sum by the signs of the word and of the sum, that of the word higher.
+/// C, N, V and S of a sum by the signs of the word and of the sum, that of the word higher.
 pub static SUM_FLAGS: [u8; 4] = [0x00, 0x0C, 0x01, 0x14];
 
-// The same of a difference.
+/// C, N, V and S of a difference by the signs of the word and of the difference, that of the word higher.
 pub static DIFFERENCE_FLAGS: [u8; 4] = [0x00, 0x15, 0x18, 0x14];
 
 // The signs of a word and of a result, that of the word higher.

@@ -1,5 +1,5 @@
--- The numbers of an instruction's printed operands fit their digits: a constant or an I/O address has at most eight bits in
--- its word.
+-- The numbers of an instruction's printed operands fit their digits: a constant or an I/O address has at most eight
+-- bits in its word.
 use Rattle.std.proofs.Common.{◌≡◌, ℕ, ◌+◌, ◌*◌, ◌/◌, ◌%◌, ◌^◌, ◌<◌, ◌≤◌, ◌&&◌, Bool, true, false, List, [], ◌∷◌, length, filter, refl, arith, mul-le-mul_right, pow-suc}
 use Rattle.std.specs.Prelude.{nat_le}
 use Rattle.std.proofs.lemmas.Bool.{and_parts, cond_both, leb-true}
@@ -67,7 +67,7 @@ module _ (word next : ℕ) (small : word < 65536) (second : next < 65536) where
   either true x y h k = h
   either false x y h k = k
 
-  -- so do those of each instruction
+  -- the numbers of each instruction fit their digits
   pub all_show : Shows (op_at word next)
   unfolding op_at rows_at shown
   all_show =

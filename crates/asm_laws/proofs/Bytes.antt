@@ -1,4 +1,5 @@
--- The bytes of what is printed of an instruction: mnemonics, operands and addresses are visible bytes that separate nothing.
+-- The bytes of what is printed of an instruction: mnemonics, operands and addresses are visible bytes that separate
+-- nothing.
 use Rattle.std.proofs.Common.{◌≡◌, ℕ, zero, suc, ◌+◌, ◌*◌, ◌/◌, ◌%◌, ◌<◌, ◌==◌, ◌&&◌, not, if◌then◌else◌, ℤ, pos, negsuc, Bool, true, false, List, [], ◌∷◌, ◌++◌, Some, None, refl, ap, ◌∙◌, arith}
 use Rattle.std.specs.Prelude.{codes, decimal}
 use Rattle.std.specs.Fmt.{digits, digits_onto, digit_glyph}

@@ -1,5 +1,5 @@
--- The printed text of the instructions that take up most words assembles to them: the decoder's lemma of the row, what the
--- operands give in their fields, and that opcode and fields add up to the word, which is computed.
+-- The printed text of the instructions that take up most words assembles to them: the decoder's lemma of the row, what
+-- the operands give in their fields, and that opcode and fields add up to the word, which is computed.
 use Rattle.std.proofs.Common.{◌≡◌, ℕ, ◌+◌, ◌*◌, ◌/◌, ◌%◌, ◌<◌, ◌≤◌, Bool, true, refl, ap, ◌∙◌, Ok, arith}
 use Rattle.std.specs.Prelude.{codes}
 use Rattle.avr_base.proofs.Computed.{all_from, all_from-at}

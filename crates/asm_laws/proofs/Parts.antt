@@ -45,7 +45,7 @@ sum_of opcode b c = ((opcode + b) % 65536 + c) % 65536
 abbrev pub spells : ℕ → ℕ → (ℕ → ℕ) → ℕ → (ℕ → ℕ) → (ℕ → ℕ) → (ℕ → ℕ) → ℕ → Bool
 spells opcode m bits n more first second w = nat_lt (first w) m && (nat_lt (second w) n && sum_of opcode (bits (first w)) (more (second w)) == w)
 
--- so of one field
+-- what one field adds to an opcode, and that of this number it adds up to the word
 abbrev pub spells_one : ℕ → ℕ → (ℕ → ℕ) → (ℕ → ℕ) → ℕ → Bool
 spells_one opcode m bits first w = nat_lt (first w) m && (opcode + bits (first w)) % 65536 == w
 

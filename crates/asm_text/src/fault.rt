@@ -44,8 +44,8 @@ impl fmt::Display for LineFault {
     }
 }
 
-/// Why a source was refused. The first line with a fault other than `OutOfReach` decides, and on it the first fault in the order
-/// of `LineFault`; where there is none, the first line with `OutOfReach`.
+/// Why a source was refused. The first line with a fault other than `OutOfReach` decides, and on it the first fault in
+/// the order of `LineFault`; where there is none, the first line with `OutOfReach`.
 #[derive(Clone, Copy, Debug, Error)]
 pub enum AsmFault {
     /// A line is faulty.

@@ -21,7 +21,7 @@ pub data Said : Type 0 where
   Code : (address : Option ℕ) (mnemonic : List ℕ) (texts : Texts) → Said
   NotALine : Said
 
--- the same of the code's values
+-- the operands of the code as texts
 abbrev pub told : Operands → Texts
 told operands.Zero = Zero
 told (operands.One a) = One a.now

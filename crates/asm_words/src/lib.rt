@@ -1,6 +1,7 @@
-//! One line of an assembler's source. What it says by itself: a label, an instruction or nothing, before any mnemonic or operand
-//! is looked at. And the words of its instruction: its mnemonic and its operands, encoded by the fields of its opcode (AVR
-//! Instruction Set Manual, the sections "Syntax" and "16-bit Opcode"). Reading a line is total and takes no memory.
+//! One line of an assembler's source. What it says by itself: a label, an instruction or nothing, before any mnemonic
+//! or operand is looked at. And the words of its instruction: its mnemonic and its operands, encoded by the fields of
+//! its opcode (AVR Instruction Set Manual, the sections "Syntax" and "16-bit Opcode"). Reading a line is total and
+//! takes no memory.
 #![tactic(auto)]
 
 mod field;

@@ -1,5 +1,5 @@
--- The interrupt that is served (ATmega128 datasheet, "Reset and Interrupt Handling": the lower its vector's address, the
--- higher its priority).
+-- The interrupt that is served (ATmega128 datasheet, "Reset and Interrupt Handling": the lower its vector's address,
+-- the higher its priority).
 use Rattle.std.specs.Prelude.{ℕ, ◌*◌, ◌==◌, if◌then◌else◌, Bool, Option, Some, None, find}
 use Rattle.std.specs.Int.{bit_at}
 use Rattle.std.specs.List.{range_with_len}

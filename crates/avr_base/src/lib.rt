@@ -1,8 +1,9 @@
-//! What every part of the simulated ATmega128 shares: register numbers, the flags byte SREG, the interrupt lines and the
-//! one that is served, the causes that stop a node, and the answer to want of memory.
+//! What every part of the simulated ATmega128 shares: register numbers, the bits of a byte, the flags byte SREG, the
+//! interrupt lines and the one that is served, the causes that stop a node, and the answer to want of memory.
 #![tactic(auto)]
 
 mod address;
+mod byte_bits;
 mod interrupts;
 mod memory;
 mod reg;
@@ -10,6 +11,7 @@ mod sreg;
 mod stop;
 
 pub use address::IO_START;
+pub use byte_bits::ByteBits;
 pub use interrupts::{Lines, Vector, pending};
 pub use memory::NoMemory;
 pub use reg::Reg;

@@ -2,6 +2,8 @@
 ghost use Rattle.std.specs.Prelude.{◌≡◌, ◌≤◌};
 ghost use Rattle.avr_base.specs.Flags.{has_flag, with_flag};
 
+use crate::ByteBits;
+
 /// The status register SREG: bits 0 to 7 are C, Z, N, V, S, H, T and I (AVR Instruction Set Manual, "Status Register").
 #[derive(Clone, Copy, PartialEq, Eq)]
 pub struct Sreg {
@@ -40,25 +42,18 @@ impl Sreg {
         requires { i ≤ 7 }
         ensures { result ≡ has_flag self.bits i }
     {
-        (self.bits >> i) % 2 == 1
+        ByteBits { byte: self.bits }.has(i)
     }
 
     /// The byte with flag `i` (0 to 7) set where `on`, else cleared. The other flags stay.
     #[inline]
-    #[tactic(auto, unfolding(crate::specs::Flags::with_flag))]
     pub fn with(self, i: u8, on: bool) -> Sreg
         requires { i ≤ 7 }
         ensures { result.bits ≡ with_flag self.bits i on }
     {
-        let bit = 1u8 << i;
-        if on {
-            Sreg {
-                bits: self.bits | bit,
-            }
-        } else {
-            Sreg {
-                bits: self.bits & !bit,
-            }
+        let byte = ByteBits { byte: self.bits };
+        Sreg {
+            bits: byte.with(i, on),
         }
     }
 }

@@ -170,12 +170,13 @@ with_register : (n top low w next : ℕ) → number_with top low (w / 16 % 32) �
 with_register n top low w next is e f =
     by_bits n w next (bits 7 top ++ (bits 5 (w / 16 % 32) ++ bits 4 low)) (bits-ends top low w e f ∙ ap (λ t. bits 7 top ++ (t ++ bits 4 low)) (bits-5 (w / 16))) is
 
--- the same by a test of each register
+-- the row of a word with a register in its middle, by a test of each register
 pub by_registers : (n top low w next : ℕ) → all_from (λ v. number_with top low v == n) 0 32 ≡ true → w / 512 ≡ top → w % 16 ≡ low → op_at w next ≡ numbered n w next
 by_registers n top low w next computed e f =
     with_register n top low w next (eqb-true (number_with top low (w / 16 % 32)) n (all_from-at (λ v. number_with top low v == n) 0 32 (w / 16 % 32) computed (omega arith) (omega arith))) e f
 
--- the number of the row of a load or store that moves a pointer, or of none, since its register is in the pair of this number
+-- the number of the row of a load or store that moves a pointer, or of none, since its register is in the pair of this
+-- number
 abbrev pub moving_number : ℕ → ℕ → ℕ → ℕ
 moving_number n pair v = elim (v / 2 == pair) [ true ↦ 90 | false ↦ n ]
 

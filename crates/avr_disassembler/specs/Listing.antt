@@ -6,8 +6,8 @@ use Rattle.avr_decoder.specs.Opcodes.{op_at}
 use Rattle.avr_decoder.specs.Words.{is_two_words}
 use Rattle.avr_disassembler.specs.Text.{line_of}
 
--- whether a word is the second word of an instruction, where the words at all addresses are these: the word before it begins
--- one of two words
+-- whether a word is the second word of an instruction, where the words at all addresses are these: the word before it
+-- begins one of two words
 unfoldable pub is_second : (ℕ → ℕ) → ℕ → Bool
 is_second word zero = false
 is_second word (suc pc) = not (is_second word pc) && is_two_words (word pc)

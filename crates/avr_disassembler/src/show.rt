@@ -103,8 +103,8 @@ pub fn text(op: Op, out: &mut ArrayString<32>)
     put_text(op, out);
 }
 
-/// Appends the line of an instruction at the word address `pc`, at most 28 bytes, to a text of any capacity that has room
-/// for them: the address in four hexadecimal digits, a space and the text.
+/// Appends the line of an instruction at the word address `pc`, at most 28 bytes, to a text of any capacity that has
+/// room for them: the address in four hexadecimal digits, a space and the text.
 #[tactic(auto, unfolding(crate::specs::Text::line_of))]
 pub fn put_line<const N: usize>(pc: u16, op: Op, out: &mut ArrayString<N>)
     requires { array_string_len out.old + 28 ≤ N }

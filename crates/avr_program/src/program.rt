@@ -44,7 +44,8 @@ impl Program {
         }
     }
 
-    /// The same: shared with the first of `known` that has this flash, where there is one.
+    /// The program of a flash, shared with the first of `known` that has this flash; a new one where none has. `Err`
+    /// only for want of memory.
     pub fn among(alloc: Global, known: &[Program], flash: Flash) -> Result<Program, NoMemory>
         ensures { IfOk result (λ program. program ≡ flash) }
     {
@@ -56,7 +57,8 @@ impl Program {
         Program::new(alloc, flash)
     }
 
-    /// The same program for one node more; nothing is copied. `Err` only for want of memory.
+    /// An equal program, for one node more, over the same flash and instructions in memory. `Err` only for want of
+    /// memory.
     pub fn share(&self) -> Result<Program, NoMemory>
         ensures { IfOk result (λ program. program ≡ self.now) }
     {

@@ -259,7 +259,7 @@ pub write_clock : (rule : Rule) (b c : Board) (at x : ℕ) (r : Result (Unit {0}
 write_clock rule b c at x (Ok u) h = put_by_clock rule b c at x h
 write_clock rule b c at x (Err cause) h = ap (λ (d : Board). d.clock) h.1
 
--- so a write
+-- a write that catches up before or behind it
 pub write_late : (rule : Rule) (at x : ℕ) (r : Result (Unit {0}) StopCause) (b v c w : Board) → b ≡ v → w ≡ c → IsPut (put_by rule b at x) b r c → IsPut (put_by rule v at x) v r w
 write_late rule at x r b v c w now new h =
     subst (λ (d : Board). IsPut (put_by rule v at x) v r d) (sym new) (subst (λ (d : Board). IsPut (put_by rule d at x) d r c) now h)

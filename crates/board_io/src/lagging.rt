@@ -88,8 +88,8 @@ impl LaggingBoard {
         n
     }
 
-    /// Passes whole rounds of `length` cycles, of at most `most` cycles in all, in none of which a frame or a transfer ends or
-    /// the lines change, as far as what runs now tells: how many rounds.
+    /// Passes whole rounds of `length` cycles, of at most `most` cycles in all, in none of which a frame or a transfer
+    /// ends or the lines change, as far as what runs now tells: how many rounds.
     #[inline]
     pub fn pass_rounds(&mut self, most: u64, length: u8) -> u64
         requires { 0 < length }

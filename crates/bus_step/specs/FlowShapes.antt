@@ -4,7 +4,7 @@
 use Rattle.std.specs.Prelude.{ℕ, ◌+◌, ◌%◌, ℤ, Bool, true, not, if◌then◌else◌, List, Result, Ok}
 use Rattle.std.specs.Int.{w16, cast_unsigned}
 use Rattle.avr_base.specs.declared.stop.StopCause.{StopCause}
-use Rattle.avr_base.specs.Flags.{I, has_flag, with_flag}
+use Rattle.avr_base.specs.Flags.{I, has_bit, with_flag}
 use Rattle.avr_decoder.specs.Words.{is_two_words}
 use Rattle.data_space.specs.declared.bus.Done.{Done}
 use Rattle.data_space.specs.declared.cpu.Cpu.{Cpu}
@@ -41,9 +41,9 @@ skipping flash on cpu = if on then (if is_two_words (word_at flash ((cpu.pc + 1)
 abbrev pub skipped : List ℕ → Bool → Cpu → Done × Cpu
 skipped flash on cpu = let words = skipping flash on cpu in (done words, advanced words cpu)
 
--- whether bit b of a byte, whose bits are numbered as flags are, is set, or is clear
+-- whether bit b of a byte is set, or is clear
 abbrev pub bit_is : Bool → ℕ → ℕ → Bool
-bit_is on b byte = if on then has_flag byte b else not (has_flag byte b)
+bit_is on b byte = if on then has_bit byte b else not (has_bit byte b)
 
 -- a skip by a bit of an I/O register, which is loaded
 unfoldable pub skips_by_io : {B : Type 0} → (B → ℕ → Result (ℕ × B) StopCause) → List ℕ → ℕ → ℕ → Bool → Cpu → B → Access Done B

@@ -3,7 +3,7 @@
 -- A pointer is named by the lower register of its pair; addresses of data are modulo 65,536, of the flash 131,072.
 use Rattle.std.specs.Prelude.{ℕ, ◌+◌, ◌%◌, Bool, if◌then◌else◌, nat_le, List, Result, Ok, slice_index}
 use Rattle.avr_base.specs.declared.stop.StopCause.{StopCause}
-use Rattle.avr_base.specs.Flags.{with_flag}
+use Rattle.avr_base.specs.Flags.{with_bit}
 use Rattle.data_space.specs.declared.bus.Done.{Done}
 use Rattle.data_space.specs.declared.cpu.Cpu.{Cpu}
 use Rattle.data_space.specs.Core.{advanced, pair_at, with_pair, with_reg}
@@ -78,11 +78,11 @@ pops get d cpu bus =
     let got = popped get cpu bus in
     then_do got got.result (λ byte cpu bus. ends 1 2 (with_reg d byte cpu) bus)
 
--- bit b of an I/O register is set or cleared: the whole byte is loaded and stored. Bits are numbered as flags are
+-- bit b of an I/O register is set or cleared: the whole byte is loaded and stored
 unfoldable pub sets_bit : {B : Type 0} → (B → ℕ → Result (ℕ × B) StopCause) → (B → ℕ → ℕ → Result B StopCause) → ℕ → ℕ → Bool → Cpu → B → Access Done B
 sets_bit get put a b on cpu bus =
     let got = loaded get (a + 0x20) cpu bus in
-    then_do got got.result (λ byte cpu bus. stores put (a + 0x20) (with_flag byte b on) 1 2 cpu bus)
+    then_do got got.result (λ byte cpu bus. stores put (a + 0x20) (with_bit byte b on) 1 2 cpu bus)
 
 -- the byte address of the flash that RAMPZ and Z name
 abbrev pub extended_z : Cpu → ℕ
@@ -96,7 +96,7 @@ with_extended_z at cpu = record (with_pair 30 (at % 65536) cpu) { rampz = nat_le
 abbrev pub loads_program : List ℕ → ℕ → Cpu → Cpu
 loads_program flash d cpu = with_reg d (byte_at flash (pair_at 30 cpu)) cpu
 
--- the same, and Z is then one higher
+-- rD becomes the byte of the flash at Z, and Z is then one higher
 unfoldable pub loads_program_post_increment : List ℕ → ℕ → Cpu → Cpu
 loads_program_post_increment flash d cpu = with_pair 30 (displaced 30 1 cpu) (loads_program flash d cpu)
 
@@ -104,6 +104,6 @@ loads_program_post_increment flash d cpu = with_pair 30 (displaced 30 1 cpu) (lo
 abbrev pub loads_extended : List ℕ → ℕ → Cpu → Cpu
 loads_extended flash d cpu = with_reg d (byte_at flash (extended_z cpu)) cpu
 
--- the same, and RAMPZ and Z are then one higher
+-- rD becomes the byte of the flash at RAMPZ and Z, which are then one higher together
 unfoldable pub loads_extended_post_increment : List ℕ → ℕ → Cpu → Cpu
 loads_extended_post_increment flash d cpu = with_extended_z ((extended_z cpu + 1) % 131072) (loads_extended flash d cpu)

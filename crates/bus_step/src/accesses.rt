@@ -4,10 +4,10 @@ ghost use Rattle.std.specs.Prelude.{◌≡◌, ◌<◌, ◌≤◌, ◌+◌, fals
 ghost use Rattle.data_space.specs.Core.{advanced};
 ghost use Rattle.bus_step.specs.MemoryShapes.{displaced, decremented, loads, loads_pre_decrement, loads_post_increment, pops, pushes, sets_bit, stores, stores_pre_decrement, stores_post_increment};
 
-use avr_base::{IO_START, Reg, Sreg, StopCause};
+use avr_base::{ByteBits, IO_START, Reg, StopCause};
 use data_space::{Bus, Cpu, Done, load, pop, push, store};
 
-// The data address of an I/O register.
+/// The data address of the register at the I/O address `a`, which is 0 to 63 in an opcode.
 #[inline(always)]
 pub fn io(a: u8) -> u16
     ensures { result ≡ a + 0x20 }
@@ -15,7 +15,8 @@ pub fn io(a: u8) -> u16
     u16::from(a) + IO_START
 }
 
-// Ends an instruction of so many words after so many cycles.
+/// Ends an instruction of `words` words: the program counter goes on by them, modulo 65,536. The answer has its
+/// `cycles`.
 #[inline(always)]
 pub fn end(words: u16, cycles: u8, cpu: &mut Cpu) -> Done
     ensures core { cpu.new ≡ advanced words cpu.old }
@@ -28,7 +29,7 @@ pub fn end(words: u16, cycles: u8, cpu: &mut Cpu) -> Done
     }
 }
 
-// The data address of a pointer with the displacement `q`.
+/// The data address `q` bytes behind the pointer `p`, modulo 65,536.
 #[inline(always)]
 pub fn displaced(p: Reg, q: u8, cpu: &Cpu) -> u16
     ensures { result ≡ displaced p q cpu.now }
@@ -44,7 +45,8 @@ fn decremented(p: Reg, cpu: &Cpu) -> u16
     cpu.pair(p).wrapping_sub(1)
 }
 
-// Loads the byte at `at` into rD.
+/// Loads the byte at the data address `at` into rD, by an instruction of `words` words and `cycles` cycles. `Err` where
+/// the read stops.
 #[inline(always)]
 #[tactic(auto, unfolding(crate::specs::MemoryShapes::loads))]
 pub fn load_at<B: Bus>(
@@ -62,7 +64,7 @@ pub fn load_at<B: Bus>(
     Ok(end(words, cycles, cpu))
 }
 
-// LD rD, P+.
+/// LD rD, P+: two cycles. Where the read stops (`Err`), the pointer stays as it was.
 #[inline(always)]
 #[tactic(auto, unfolding(crate::specs::MemoryShapes::loads_post_increment))]
 pub fn load_post_increment<B: Bus>(
@@ -81,7 +83,7 @@ pub fn load_post_increment<B: Bus>(
     Ok(end(1, 2, cpu))
 }
 
-// A load at a pointer that is lowered for it, and stays as it was where the load stops.
+/// LD rD, -P: two cycles. Where the read stops (`Err`), the pointer stays as it was.
 #[inline(always)]
 #[tactic(auto, unfolding(crate::specs::MemoryShapes::loads_pre_decrement))]
 pub fn load_pre_decrement<B: Bus>(
@@ -107,7 +109,8 @@ pub fn load_pre_decrement<B: Bus>(
     }
 }
 
-// Stores a byte at `at`.
+/// Stores a byte at the data address `at`, by an instruction of `words` words and `cycles` cycles. `Err` where the
+/// write stops.
 #[inline(always)]
 #[tactic(auto, unfolding(crate::specs::MemoryShapes::stores))]
 pub fn store_at<B: Bus>(
@@ -124,7 +127,8 @@ pub fn store_at<B: Bus>(
     Ok(end(words, cycles, cpu))
 }
 
-// ST P+, rR. The store may be to the pointer itself, which then is one higher than it was all the same.
+/// ST P+, rR: two cycles. The store may be to the pointer itself, which is one higher than it was all the same. Where
+/// the write stops (`Err`), the pointer stays as it was.
 #[inline(always)]
 #[tactic(auto, unfolding(crate::specs::MemoryShapes::stores_post_increment))]
 pub fn store_post_increment<B: Bus>(
@@ -143,7 +147,7 @@ pub fn store_post_increment<B: Bus>(
     Ok(end(1, 2, cpu))
 }
 
-// ST -P, rR: the pointer stays as it was where the store stops.
+/// ST -P, rR: two cycles. Where the write stops (`Err`), the pointer stays as it was.
 #[inline(always)]
 #[tactic(auto, unfolding(crate::specs::MemoryShapes::stores_pre_decrement))]
 pub fn store_pre_decrement<B: Bus>(
@@ -167,7 +171,7 @@ pub fn store_pre_decrement<B: Bus>(
     }
 }
 
-// PUSH.
+/// PUSH rR: two cycles. Where the write stops (`Err`), the stack pointer stays as it was.
 #[inline(always)]
 #[tactic(auto, unfolding(crate::specs::MemoryShapes::pushes))]
 pub fn push_reg<B: Bus>(r: Reg, cpu: &mut Cpu, bus: &mut B) -> Result<Done, StopCause>
@@ -178,7 +182,7 @@ pub fn push_reg<B: Bus>(r: Reg, cpu: &mut Cpu, bus: &mut B) -> Result<Done, Stop
     Ok(end(1, 2, cpu))
 }
 
-// POP.
+/// POP rD: two cycles. Where the read stops (`Err`), the stack pointer stays as it was.
 #[inline(always)]
 #[tactic(auto, unfolding(crate::specs::MemoryShapes::pops))]
 pub fn pop_reg<B: Bus>(d: Reg, cpu: &mut Cpu, bus: &mut B) -> Result<Done, StopCause>
@@ -189,7 +193,8 @@ pub fn pop_reg<B: Bus>(d: Reg, cpu: &mut Cpu, bus: &mut B) -> Result<Done, StopC
     Ok(end(1, 2, cpu))
 }
 
-// SBI and CBI. The bits of a byte are numbered as the flags of SREG are, so one is written as a flag.
+/// SBI and CBI: bit `b` (0 to 7) of the register at the I/O address `a` becomes `on`, by a read and a write of the
+/// whole register. Two cycles. `Err` where one of the two stops.
 #[inline(always)]
 #[tactic(auto, unfolding(crate::specs::MemoryShapes::sets_bit))]
 pub fn set_bit<B: Bus>(
@@ -202,8 +207,8 @@ pub fn set_bit<B: Bus>(
     requires { b < 8 }
     ensures { record { result = result; cpu = cpu.new; bus = bus.new } ≡ sets_bit B.get_gives B.put_gives a b on cpu.old bus.old }
 {
-    let byte = Sreg {
-        bits: load(cpu, bus, io(a))?,
+    let byte = ByteBits {
+        byte: load(cpu, bus, io(a))?,
     };
-    store_at(io(a), byte.with(b, on).bits, 1, 2, cpu, bus)
+    store_at(io(a), byte.with(b, on), 1, 2, cpu, bus)
 }

@@ -7,7 +7,7 @@ use crate::jumps::{jump, relative_to};
 use avr_base::{Reg, Sreg, StopCause};
 use data_space::{Bus, Cpu, Done, pop_word, push_word};
 
-// The pointer Z.
+/// The pointer Z, r31:r30.
 #[inline(always)]
 pub fn z_pointer(cpu: &Cpu) -> u16
     ensures { result ≡ pair_at 30 cpu.now }
@@ -24,7 +24,8 @@ fn push_return<B: Bus>(words: u16, cpu: &mut Cpu, bus: &mut B) -> Result<(), Sto
     push_word(cpu, bus, back)
 }
 
-// CALL.
+/// CALL: the program goes on at the word address `k`, after four cycles. `Err` where a push of the return address
+/// stops.
 #[inline(always)]
 #[tactic(auto, unfolding(crate::specs::FlowShapes::calls))]
 pub fn call<B: Bus>(k: u16, cpu: &mut Cpu, bus: &mut B) -> Result<Done, StopCause>
@@ -34,7 +35,8 @@ pub fn call<B: Bus>(k: u16, cpu: &mut Cpu, bus: &mut B) -> Result<Done, StopCaus
     Ok(jump(4, k, cpu))
 }
 
-// RCALL.
+/// RCALL: the program goes on `k` words behind the next word, after three cycles. `Err` where a push of the return
+/// address stops.
 #[inline(always)]
 #[tactic(auto, unfolding(crate::specs::FlowShapes::calls))]
 pub fn call_near<B: Bus>(k: i16, cpu: &mut Cpu, bus: &mut B) -> Result<Done, StopCause>
@@ -44,7 +46,8 @@ pub fn call_near<B: Bus>(k: i16, cpu: &mut Cpu, bus: &mut B) -> Result<Done, Sto
     Ok(jump(3, relative_to(k, cpu), cpu))
 }
 
-// ICALL. The stack may lie on Z, which is read after the pushes.
+/// ICALL: the program goes on at the word address in Z, after three cycles. The stack may lie on Z, which is read after
+/// the pushes. `Err` where one of them stops.
 #[inline(always)]
 #[tactic(auto, unfolding(crate::specs::FlowShapes::calls))]
 pub fn call_at_z<B: Bus>(cpu: &mut Cpu, bus: &mut B) -> Result<Done, StopCause>
@@ -54,7 +57,7 @@ pub fn call_at_z<B: Bus>(cpu: &mut Cpu, bus: &mut B) -> Result<Done, StopCause>
     Ok(jump(3, z_pointer(cpu), cpu))
 }
 
-// RET.
+/// RET: the program goes on at the word address that is popped, after four cycles. `Err` where a read of it stops.
 #[inline(always)]
 #[tactic(auto, unfolding(crate::specs::FlowShapes::returns))]
 pub fn ret<B: Bus>(cpu: &mut Cpu, bus: &mut B) -> Result<Done, StopCause>
@@ -64,7 +67,8 @@ pub fn ret<B: Bus>(cpu: &mut Cpu, bus: &mut B) -> Result<Done, StopCause>
     Ok(jump(4, pc, cpu))
 }
 
-// RETI.
+/// RETI: the program goes on at the word address that is popped, with the flag I set, after four cycles. `Err` where a
+/// read of it stops.
 #[inline(always)]
 #[tactic(auto, unfolding(crate::specs::FlowShapes::returns_enabling))]
 pub fn reti<B: Bus>(cpu: &mut Cpu, bus: &mut B) -> Result<Done, StopCause>

@@ -40,7 +40,7 @@ fn set_extended_z(at: u32, cpu: &mut Cpu)
     cpu.rampz = at >= HALF;
 }
 
-// LPM rD, Z.
+/// LPM rD, Z: the byte of the flash at the byte address in Z. Three cycles.
 #[inline(always)]
 pub fn load_program(d: Reg, flash: &Flash, cpu: &mut Cpu) -> Done
     ensures core { cpu.new ≡ advanced 1 (loads_program flash.now.bytes d cpu.old) }
@@ -51,7 +51,7 @@ pub fn load_program(d: Reg, flash: &Flash, cpu: &mut Cpu) -> Done
     end(1, 3, cpu)
 }
 
-// LPM rD, Z+.
+/// LPM rD, Z+: Z goes on by one, modulo 65,536. Three cycles.
 #[inline(always)]
 #[tactic(auto, unfolding(crate::specs::MemoryShapes::loads_program_post_increment))]
 pub fn load_program_post_increment(d: Reg, flash: &Flash, cpu: &mut Cpu) -> Done
@@ -65,7 +65,7 @@ pub fn load_program_post_increment(d: Reg, flash: &Flash, cpu: &mut Cpu) -> Done
     end(1, 3, cpu)
 }
 
-// ELPM rD, Z.
+/// ELPM rD, Z: the byte of the flash at the byte address in RAMPZ and Z, 0 to 131,071. Three cycles.
 #[inline(always)]
 pub fn load_extended(d: Reg, flash: &Flash, cpu: &mut Cpu) -> Done
     ensures core { cpu.new ≡ advanced 1 (loads_extended flash.now.bytes d cpu.old) }
@@ -76,7 +76,7 @@ pub fn load_extended(d: Reg, flash: &Flash, cpu: &mut Cpu) -> Done
     end(1, 3, cpu)
 }
 
-// ELPM rD, Z+.
+/// ELPM rD, Z+: RAMPZ and Z together go on by one, modulo 131,072. Three cycles.
 #[inline(always)]
 #[tactic(auto, unfolding(crate::specs::MemoryShapes::loads_extended_post_increment))]
 pub fn load_extended_post_increment(d: Reg, flash: &Flash, cpu: &mut Cpu) -> Done

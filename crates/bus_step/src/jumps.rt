@@ -5,7 +5,7 @@ ghost use Rattle.data_space.specs.Core.{advanced};
 ghost use Rattle.data_space.specs.Sequence.{done};
 ghost use Rattle.bus_step.specs.FlowShapes.{at_pc, bit_is, branched, jumped, relative, skipped, skipping, skips_by_io};
 
-use avr_base::{IO_START, Sreg, StopCause};
+use avr_base::{ByteBits, IO_START, StopCause};
 use avr_decoder::width;
 use data_space::{Bus, Cpu, Done, load};
 use ihex_loader::Flash;
@@ -21,7 +21,7 @@ fn took(cycles: u8) -> Done
     }
 }
 
-// The program address `k` words behind the next word.
+/// The word address `k` words behind the next word, modulo 65,536.
 #[inline(always)]
 pub fn relative_to(k: i16, cpu: &Cpu) -> u16
     ensures { result ≡ relative k cpu.now }
@@ -29,16 +29,17 @@ pub fn relative_to(k: i16, cpu: &Cpu) -> u16
     cpu.pc.wrapping_add(1).wrapping_add(k.cast_unsigned())
 }
 
-// Whether bit `b` of a byte is `on`. Bits are numbered as the flags of SREG are.
+/// Whether bit `b` (0 to 7) of a byte is `on`.
 #[inline(always)]
 pub fn bit(on: bool, b: u8, byte: u8) -> bool
     requires { b < 8 }
     ensures { result ≡ bit_is on b byte }
 {
-    let byte = Sreg { bits: byte };
+    let byte = ByteBits { byte };
     if on { byte.has(b) } else { !byte.has(b) }
 }
 
+/// The program goes on at the word address `pc`, after so many cycles.
 #[inline(always)]
 pub fn jump(cycles: u8, pc: u16, cpu: &mut Cpu) -> Done
     ensures { (result, cpu.new) ≡ jumped cycles pc cpu.old }
@@ -47,6 +48,8 @@ pub fn jump(cycles: u8, pc: u16, cpu: &mut Cpu) -> Done
     took(cycles)
 }
 
+/// A branch: where `on` the program goes on `k` words behind the next word, after two cycles; else with the next word,
+/// after one.
 #[inline(always)]
 #[tactic(auto, unfolding(crate::specs::FlowShapes::branched))]
 pub fn branch(on: bool, k: i16, cpu: &mut Cpu) -> Done
@@ -73,6 +76,8 @@ fn words_on(on: bool, flash: &Flash, cpu: &Cpu) -> u8
     }
 }
 
+/// A skip: where `on` it leaves out the next instruction, of one word or two, and takes as many cycles more; else one
+/// cycle.
 #[inline(always)]
 pub fn skip(on: bool, flash: &Flash, cpu: &mut Cpu) -> Done
     ensures { (result, cpu.new) ≡ skipped flash.now.bytes on cpu.old }
@@ -82,7 +87,8 @@ pub fn skip(on: bool, flash: &Flash, cpu: &mut Cpu) -> Done
     took(words)
 }
 
-// A skip where bit `b` of the register at the I/O address `a` is `on`.
+/// SBIS and SBIC: a skip where bit `b` (0 to 7) of the register at the I/O address `a` is `on`. `Err` where its read
+/// stops.
 #[inline(always)]
 #[tactic(auto, unfolding(crate::specs::FlowShapes::skips_by_io))]
 pub fn skip_by_io<B: Bus>(
@@ -100,7 +106,8 @@ pub fn skip_by_io<B: Bus>(
     Ok(skip(bit(on, b, byte), flash, cpu))
 }
 
-// SLEEP goes on by one word; what it then does is not the core's.
+/// SLEEP: the program goes on with the next word, after one cycle. The answer says that it was SLEEP, which the caller
+/// acts on.
 #[inline(always)]
 pub fn sleep(cpu: &mut Cpu) -> Done
     ensures core { cpu.new ≡ advanced 1 cpu.old }

@@ -1,5 +1,5 @@
-// Calls over stores and streams in memory, which fail where a line of a text file says so: for each the status, and what
-// stands on the output and on the error stream.
+// Calls over stores and streams in memory, which fail where a line of a text file says so: for each the status, and
+// what stands on the output and on the error stream.
 use crate::call_lines::{Line, read_line};
 use crate::call_texts::{write_outcome, write_statuses};
 use crate::calling::{called, called_without_memory};

@@ -5,7 +5,8 @@ use case_files::{Digest, write_line};
 use commands::Status;
 use sim_io::{Sink, SinkFault, put_decimal, write_all};
 
-// Of a text of more lines than this only the first two and the last two are written, and between them a number for all of it.
+// Of a text of more lines than this only the first two and the last two are written, and between them a number for all
+// of it.
 const MOST_LINES: usize = 20;
 
 // `NAME: N bytes, M lines`

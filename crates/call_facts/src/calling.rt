@@ -105,7 +105,8 @@ pub fn called_without_memory(alloc: Global, words: &[&str]) -> Result<Outcome, A
     })
 }
 
-/// As [`called`], with the nodes of `run` and `make` on threads of their own.
+/// Makes a call with these words over what is held, with the nodes of `run` and `make` on threads of their own. It
+/// fails where there is no memory for the store and the streams.
 pub fn called_on_threads<R: Threads + Wait + AllocGlobal + Sync>(
     rt: &R,
     words: &[&str],

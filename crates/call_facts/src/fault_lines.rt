@@ -12,8 +12,8 @@ pub enum Place<'l> {
     Err(usize, &'l str),
     /// The end of this file.
     End(&'l str),
-    /// Nothing: the call is made over so many pairs of images, which are drawn. The first word of each image is this much
-    /// above that of the image before it, modulo 65,536.
+    /// Nothing: the call is made over so many pairs of images, which are drawn. The first word of each image is this
+    /// much above that of the image before it, modulo 65,536.
     Drawn(u16, u16),
 }
 

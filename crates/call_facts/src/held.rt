@@ -69,7 +69,7 @@ impl Held {
         None
     }
 
-    /// The same files, of which each of this name has its first bytes alone, this many at most.
+    /// A copy of the files, of which each of this name has its first bytes alone, at most `length` of them.
     pub fn cut(&self, alloc: Global, name: &str, length: usize) -> Result<Held, AllocError> {
         let mut files = Vec::new(alloc);
         for (held, bytes) in self.files.iter() {
@@ -85,7 +85,7 @@ impl Held {
         Ok(Held { files })
     }
 
-    /// The same files.
+    /// A copy of the files.
     pub fn copy(&self, alloc: Global) -> Result<Held, AllocError> {
         let mut copy = Held::none(alloc);
         for (name, bytes) in self.files.iter() {

@@ -1,6 +1,7 @@
-//! Calls of the whole program, in cases of four kinds: traces of nodes over real files; and over files and streams in memory
-//! single calls, runs of whole networks, and calls that fail at every place. What each comes to is written, to be compared with
-//! what docs/FORMATS.md says and slow programs give that share nothing with this one (`bench/machine.py`, `bench/network`).
+//! Calls of the whole program, in cases of four kinds: traces of nodes over real files; and over files and streams in
+//! memory single calls, runs of whole networks, and calls that fail at every place. What each comes to is written, to
+//! be compared with what docs/FORMATS.md says and slow programs give that share nothing with this one
+//! (`bench/machine.py`, `bench/network`).
 #![tactic(auto)]
 
 mod call_cases;

@@ -16,6 +16,7 @@ impl Store for Starved {
     ghost failed = { λ s. [] };
 
     fn read(&mut self, alloc: Global, name: &str, most: usize) -> Result<Vec<u8>, ReadFault> {
+        // It looks at nothing, since it has no memory for any file.
         let _ = alloc;
         let _ = name;
         let _ = most;

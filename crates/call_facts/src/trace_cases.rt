@@ -1,5 +1,5 @@
-// Traces of whole nodes, one after another: for each line FILE CYCLES of a text file the trace of `node FILE CYCLES`, under a
-// line that names it.
+// Traces of whole nodes, one after another: for each line FILE CYCLES of a text file the trace of `node FILE CYCLES`,
+// under a line that names it.
 use case_files::{Failed, text_of};
 use commands::{Status, avrora_alone};
 use memory_io::MemSink;

@@ -21,7 +21,7 @@ fn are_same(one: &Outcome, other: &Outcome) -> bool {
         && one.err.taken() == other.err.taken()
 }
 
-// The same call on one thread, where it can be asked for.
+// What `run FILE` comes to on one thread. `None` for any other call, which cannot be asked for so.
 fn plain(
     alloc: Global,
     words: &[&str],
@@ -34,7 +34,8 @@ fn plain(
     }
 }
 
-/// Makes a call, with each node of `run FILE` on a thread of its own. It is told to be another on one thread where it is.
+/// Makes a call, with each node of `run FILE` on a thread of its own. It is told to be another on one thread where it
+/// is.
 pub fn tried<R: Threads + Wait + AllocGlobal + Sync>(
     rt: &R,
     words: &[&str],

@@ -5,8 +5,8 @@ ghost use Rattle.sim_io.specs.Outside.{Rose, extended};
 use arrayvec::ArrayString;
 use sim_io::{Sink, SinkFault, put_decimal};
 
-/// Of a text how many bytes it has, and its FNV-1a hash of 64 bits: so a long one need not be written out. As a sink it takes
-/// all that is written, and keeps only these.
+/// Of a text how many bytes it has, and its FNV-1a hash of 64 bits: so a long one need not be written out. As a sink it
+/// takes all that is written, and keeps only these.
 #[derive(Clone, Copy)]
 pub struct Digest {
     bytes: u64,

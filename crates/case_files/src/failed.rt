@@ -5,8 +5,8 @@ use std::alloc::{AllocError, AllocFailed, Global};
 use std::fmt::Debug;
 use std::fs::{self, Files};
 
-/// Why a stored run writes no more: a line that is none, a case that is wrong, a file that cannot be read, want of memory, or
-/// an output that fails.
+/// Why a stored run writes no more: a line that is none, a case that is wrong, a file that cannot be read, want of
+/// memory, or an output that fails.
 #[derive(Drop)]
 pub struct Failed;
 

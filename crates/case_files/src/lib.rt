@@ -1,6 +1,6 @@
-//! What the libraries of stored cases have in common: why they stop, the files that they read, how many cases they count,
-//! the lines that they write, and a number for a text that is too long to be written. `command_facts` runs all of them in one
-//! program.
+//! What the libraries of stored cases have in common: why they stop, the files that they read, how many cases they
+//! count, the lines that they write, and a number for a text that is too long to be written. `command_facts` runs all
+//! of them in one program.
 #![tactic(auto)]
 
 mod digest;

@@ -68,7 +68,7 @@ module _ {S R : Type 0} (f : Fleet S R) (ok : IsSound f) (none : f.sent ≡ []) 
   sent_in t = each_below f.topo.nodes (λ k. send_of t k (f.kind.sends t (node_at f k t)))
 
   no_pairs : AllPairs Before (world_at f f.start).sends
-  no_pairs = subst (AllPairs Before) (sym (ap (λ (w : Moment S R). w.sends) (first f ok) ∙ none)) (λ i j d lt le. absurd (omega arith))
+  no_pairs = subst (AllPairs Before) (sym (ap (λ (w : Moment S R). w.sends) (first f) ∙ none)) (λ i j d lt le. absurd (omega arith))
 
   in_cycle : (P : Send → Type 0) (t : ℕ) → ((x : Send) → x.cycle ≡ t → P x) → All P (sent_in t)
   in_cycle P t h = All_each P f.topo.nodes (λ k. send_of t k (f.kind.sends t (node_at f k t))) (λ k lt. of_one P t k (f.kind.sends t (node_at f k t)) (λ b. h (record { node = k; cycle = t; byte = b }) refl))

@@ -1,5 +1,5 @@
-//! A saved state goes on as if the run had never stopped. Each law is the contract of a function that does nothing; it is about
-//! the definitions that the calls for saving a run and for going on from what was saved are proved to compute.
+//! A saved state goes on as if the run had never stopped. Each law is the contract of a function that does nothing; it
+//! is about the definitions that the calls for saving a run and for going on from what was saved are proved to compute.
 #![tactic(auto)]
 
 ghost use Rattle.std.specs.Prelude.{◌≡◌, ℕ, ◌<◌, ◌≤◌, ◌++◌, true};
@@ -11,8 +11,8 @@ ghost use Rattle.checkpoint_text.specs.Onward.{onward, saved_node};
 ghost use Rattle.checkpoint_text.specs.State.{rules_of, saved_at};
 ghost use Rattle.state_text.specs.Bounds.{IsState, is_cut};
 
-/// What is saved of a run at a cycle is each node as it is then, and the rows of the whole run are those of the cycles before it
-/// and then those of the run that goes on from what was saved.
+/// What is saved of a run at a cycle is each node as it is then, and the rows of the whole run are those of the cycles
+/// before it and then those of the run that goes on from what was saved.
 pub fn onward_law()
     ensures nodes { (sc : ScenarioOf) (c k : ℕ) → IsScenario sc → AreImages sc → c ≤ sc.topo.limit → k < sc.topo.nodes
         → node_of sc k (saved_node (saved_at sc c) k) ≡ node_at (fleet_of sc) k c }
@@ -20,7 +20,8 @@ pub fn onward_law()
         → run_rows (fleet_of sc) ≡ (world_at (fleet_of sc) c).rows ++ run_rows (onward sc (saved_at sc c)) }
 {}
 
-/// What is saved of a run at the end of an epoch below the limit keeps each bound of a state's text, so that it is accepted.
+/// What is saved of a run at the end of an epoch below the limit keeps each bound of a state's text, so that it is
+/// accepted.
 pub fn accepted_law()
     ensures { (sc : ScenarioOf) (c : ℕ) → IsScenario sc → AreImages sc → is_cut sc.topo c ≡ true → IsState (rules_of sc) (saved_at sc c) }
 {}

@@ -1,4 +1,5 @@
--- What a node hears shortly after a cycle: of the sends before that cycle, and of no others. A send that is over changes nothing.
+-- What a node hears shortly after a cycle: of the sends before that cycle, and of no others. A send that is over
+-- changes nothing.
 use Rattle.std.proofs.Common.{◌≡◌, ℕ, ◌+◌, ◌<◌, ◌≤◌, Bool, true, false, ◌&&◌, ◌==◌, List, ◌++◌, refl, sym, ◌∙◌, ap, arith, append-nil}
 use Rattle.std.specs.Prelude.{nat_le, nat_lt}
 use Rattle.std.specs.List.{All, filter}

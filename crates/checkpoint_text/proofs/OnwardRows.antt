@@ -12,7 +12,10 @@ use Rattle.world_core.specs.Kept.{is_kept}
 use Rattle.world_core.specs.NodeRun.{Timed}
 use Rattle.world_core.specs.Order.{Fleet, Moment, end_rows, node_at, rows_between, world_at}
 use Rattle.world_core.specs.Sends.{sends_of}
+use Rattle.world_core.proofs.Alone.{rows_none}
 use Rattle.world_core.proofs.Each.{each_same}
+use Rattle.world_core.proofs.OrderRows.{rows_merged}
+use Rattle.world_core.proofs.Sends.{first}
 use Rattle.world_core.proofs.Sorted.{Agree}
 use Rattle.node_core.specs.Cycle.{end_row}
 use Rattle.node_core.specs.declared.row.Row.{Row}
@@ -26,7 +29,6 @@ use Rattle.checkpoint_text.specs.NodeOf.{node_of}
 use Rattle.checkpoint_text.specs.Onward.{CanResume, onward, saved_node}
 use Rattle.checkpoint_text.specs.Alone.{node_in}
 use Rattle.checkpoint_text.specs.Paused.{AllRestored, AtRest, IsGathered, IsPaused, ends_of}
-use Rattle.checkpoint_text.proofs.Ordered.{first, rows_merged, rows_none}
 
 differ : (a b : ℕ) → a ≢ b → (a == b) ≡ false
 differ a b e = grind (arith, nat_tests)

@@ -1,21 +1,20 @@
--- The single global order of cycles, of nodes in any state at all: what each makes in a stretch of cycles in which what it hears
--- is known.
-use Rattle.std.proofs.Common.{◌≡◌, ℕ, zero, suc, ◌+◌, ◌-◌, ◌<◌, ◌≤◌, Bool, true, false, cond, List, [], ◌++◌, sym, ◌∙◌, ap, arith, append-nil, append_assoc, add-zero}
+-- The single global order of cycles, of nodes in any state at all: what each makes in a stretch of cycles in which what
+-- it hears is known.
+use Rattle.std.proofs.Common.{◌≡◌, ℕ, zero, suc, ◌+◌, ◌<◌, ◌≤◌, List, [], ◌++◌, sym, ◌∙◌, ap, arith, append-nil, append_assoc, add-zero}
 use Rattle.std.specs.List.{All}
-use Rattle.std.specs.List.Sorted.{IsNonDecreasingBy}
-use Rattle.std.proofs.lemmas.List.Elements.{All-append, All-nil, All-cons}
+use Rattle.std.proofs.lemmas.List.Elements.{All-nil, All-cons}
 use Rattle.world_core.specs.declared.air.Heard.{Heard}
 use Rattle.world_core.specs.declared.air.Send.{Send}
 use Rattle.std.specs.declared.option.Option.{Option}
 use Rattle.std.specs.Prelude.{Some, None}
 use Rattle.world_core.specs.Each.{each_below}
-use Rattle.world_core.specs.NodeKind.{IsSteady, ticked, ticked_rows}
-use Rattle.world_core.specs.Order.{Fleet, Moment, hears, node_at, rows_between, rows_in, send_of, stepped, world_after, world_at}
+use Rattle.world_core.specs.NodeKind.{ticked, ticked_rows}
+use Rattle.world_core.specs.Order.{Fleet, Moment, hears, node_at, rows_in, send_of, world_at}
 use Rattle.world_core.specs.Sends.{sends_of}
 use Rattle.world_core.proofs.Each.{All_each, each_same}
-use Rattle.world_core.proofs.Sorted.{Agree, agrees, merged}
+use Rattle.world_core.proofs.Sends.{next}
+use Rattle.world_core.proofs.Sorted.{agrees}
 use Rattle.checkpoint_text.specs.Alone.{alone, alone_rows, alone_sends}
-use Rattle.checkpoint_text.proofs.Trails.{each_add}
 
 -- a send of node k in cycle t
 pub of_one : (P : Send → Type 0) (t k : ℕ) (o : Option ℕ) → ((b : ℕ) → P (record { node = k; cycle = t; byte = b })) → All P (send_of t k o)
@@ -23,38 +22,20 @@ of_one P t k None h = All-nil P
 of_one P t k (Some b) h = All-cons P (record { node = k; cycle = t; byte = b }) [] (h b) (All-nil P)
 
 module _ {S R : Type 0} (f : Fleet S R) where
-  pub next : (t : ℕ) → f.start ≤ t → world_at f (suc t) ≡ stepped f t (world_at f t)
-  unfolding world_after
-  next t h =
-      let e : suc t - f.start ≡ suc (t - f.start) = omega arith in
-      let q : f.start + (t - f.start) ≡ t = omega arith in
-      ap (world_after f) e ∙ ap (λ (u : ℕ). stepped f u (world_after f (t - f.start))) q
-
-  pub first : world_at f f.start ≡ record { state = f.begins; sends = f.sent; asks = []; rows = [] }
-  unfolding world_after
-  first = let e : f.start - f.start ≡ 0 = omega arith in ap (world_after f) e
-
   pub node_next : (k t : ℕ) → f.start ≤ t → node_at f k (suc t) ≡ ticked f.kind t (node_at f k t) (hears f t (world_at f t) k)
-  node_next k t g = ap (λ (w : Moment S R). w.state k) (next t g)
+  node_next k t g = ap (λ (w : Moment S R). w.state k) (next f t g)
 
-  -- ---- what all nodes make, cycle by cycle
-  grows : {X : Type 0} (part : Moment S R → List X) (made : ℕ → ℕ → List X)
-      → ((t : ℕ) → f.start ≤ t → part (world_at f (suc t)) ≡ part (world_at f t) ++ each_below f.topo.nodes (made t))
-      → (a n : ℕ) → f.start ≤ a → part (world_at f (a + n)) ≡ part (world_at f a) ++ each_below n (λ i. each_below f.topo.nodes (made (a + i)))
-  grows part made more a zero g = let e : a + 0 ≡ a = omega arith in ap (λ (t : ℕ). part (world_at f t)) e ∙ sym (append-nil (part (world_at f a)))
-  grows part made more a (suc n) g =
-      let e : a + suc n ≡ suc (a + n) = omega arith in
-      ap (λ (t : ℕ). part (world_at f t)) e ∙ more (a + n) (omega arith) ∙ ap (λ (l : List _). l ++ each_below f.topo.nodes (made (a + n))) (grows part made more a n g)
-      ∙ append_assoc (part (world_at f a)) (each_below n (λ i. each_below f.topo.nodes (made (a + i)))) (each_below f.topo.nodes (made (a + n)))
-
+  -- ---- what all nodes send, cycle by cycle
   abbrev pub sent_in : ℕ → ℕ → List Send
   sent_in t k = send_of t k (f.kind.sends t (node_at f k t))
 
   pub sends_from : (a n : ℕ) → f.start ≤ a → (world_at f (a + n)).sends ≡ (world_at f a).sends ++ each_below n (λ i. each_below f.topo.nodes (sent_in (a + i)))
-  sends_from = grows (λ w. w.sends) sent_in (λ t g. ap (λ (w : Moment S R). w.sends) (next t g))
-
-  pub rows_from : (a n : ℕ) → f.start ≤ a → (world_at f (a + n)).rows ≡ (world_at f a).rows ++ each_below n (λ i. each_below f.topo.nodes (λ k. rows_in f k (a + i)))
-  rows_from = grows (λ w. w.rows) (λ t k. rows_in f k t) (λ t g. ap (λ (w : Moment S R). w.rows) (next t g))
+  sends_from a zero g = let e : a + 0 ≡ a = omega arith in ap (λ (t : ℕ). (world_at f t).sends) e ∙ sym (append-nil (world_at f a).sends)
+  sends_from a (suc n) g =
+      let e : a + suc n ≡ suc (a + n) = omega arith in
+      let made = each_below f.topo.nodes (sent_in (a + n)) in
+      ap (λ (t : ℕ). (world_at f t).sends) e ∙ ap (λ (w : Moment S R). w.sends) (next f (a + n) (omega arith)) ∙ ap (λ (l : List Send). l ++ made) (sends_from a n g)
+      ∙ append_assoc (world_at f a).sends (each_below n (λ i. each_below f.topo.nodes (sent_in (a + i)))) made
 
   -- the sends of these cycles
   pub sent_all : (P : Send → Type 0) (a n : ℕ) → ((x : Send) → a ≤ x.cycle → x.cycle < a + n → x.node < f.topo.nodes → P x) → All P (each_below n (λ i. each_below f.topo.nodes (sent_in (a + i))))
@@ -94,37 +75,3 @@ module _ {S R : Type 0} (f : Fleet S R) where
     sends_along n e =
         each_same n (λ i. sent_in (c + i) k) (λ i. send_of (c + i) k (f.kind.sends (c + i) (alone f.kind h c i (node_at f k c))))
         (λ i l. ap (λ (s : S). send_of (c + i) k (f.kind.sends (c + i) s)) (along i (λ j m. e j (omega arith))))
-
-  -- ---- rows
-  pub rows_join : (k a b c : ℕ) → a ≤ b → b ≤ c → rows_between f k a c ≡ rows_between f k a b ++ each_below (c - b) (λ i. rows_in f k (b + i))
-  rows_join k a b c h l =
-      let e : c - a ≡ (b - a) + (c - b) = omega arith in
-      ap (λ (n : ℕ). each_below n (λ i. rows_in f k (a + i))) e ∙ each_add (b - a) (c - b) (λ i. rows_in f k (a + i))
-      ∙ ap (λ (m : List R). rows_between f k a b ++ m) (each_same (c - b) (λ i. rows_in f k (a + (b - a + i))) (λ i. rows_in f k (b + i)) (λ i m. let q : a + (b - a + i) ≡ b + i = omega arith in ap (rows_in f k) q))
-
-  pub rows_none : (k t : ℕ) → rows_between f k t t ≡ []
-  rows_none k t =
-      let e : t - t ≡ 0 = omega arith in
-      ap (λ (n : ℕ). each_below n (λ i. rows_in f k (t + i))) e
-
-  module _ (steady : IsSteady f.kind) where
-    cond_all : (P : R → Type 0) (b : Bool) (xs : List R) → All P xs → All P (cond b xs [])
-    cond_all P true xs a = a
-    cond_all P false xs a = All-nil P
-
-    rows_bear : (k t : ℕ) → All (λ r. f.kind.row_cycle r ≡ t) (rows_in f k t)
-    rows_bear k t =
-        let heard : Heard = hears f t (world_at f t) k in
-        let s : S = node_at f k t in
-        All-append (λ (r : R). f.kind.row_cycle r ≡ t) (f.kind.begun_rows t s) (cond (f.kind.asks t s) (f.kind.finished_rows t (f.kind.begun t s) heard) [])
-        (steady.begun_rows t s)
-        (cond_all (λ (r : R). f.kind.row_cycle r ≡ t) (f.kind.asks t s) (f.kind.finished_rows t (f.kind.begun t s) heard) (steady.finished_rows t (f.kind.begun t s) heard))
-
-    -- the rows of the nodes one after another, in order of cycle
-    pub rows_merged : (a b : ℕ) (ys : List R) → f.start ≤ a → a ≤ b → IsNonDecreasingBy f.kind.row_cycle ys
-        → Agree f.kind.row_cycle ys (each_below f.topo.nodes (λ k. rows_between f k a b))
-        → (world_at f b).rows ≡ (world_at f a).rows ++ ys
-    rows_merged a b ys g l up same =
-        let e : b ≡ a + (b - a) = omega arith in
-        ap (λ (t : ℕ). (world_at f t).rows) e ∙ rows_from a (b - a) g
-        ∙ ap (λ (z : List R). (world_at f a).rows ++ z) (sym (merged f.kind.row_cycle a (λ k i. rows_in f k (a + i)) (λ k i. rows_bear k (a + i)) f.topo.nodes (b - a) ys up same))

@@ -18,12 +18,13 @@ use Rattle.world_core.specs.NodeRun.{Timed}
 use Rattle.world_core.specs.Order.{Fleet, hears, node_at, rows_between, send_of, world_at}
 use Rattle.world_core.specs.Sends.{sends_of}
 use Rattle.world_core.specs.Topology.{Topology, latency_of, reach}
+use Rattle.world_core.proofs.Alone.{rows_join}
 use Rattle.world_core.proofs.Each.{All_each, each_same, filter_whole}
 use Rattle.world_core.proofs.Final.{filter_swap, through}
 use Rattle.checkpoint_text.specs.Alone.{AllRan, GoesAlone, HasRun, alone, alone_rows, alone_sends, node_in, sent_by}
 use Rattle.checkpoint_text.specs.Paused.{AtRest, CanPost, IsPaused}
 use Rattle.checkpoint_text.proofs.Hearing.{hears_record}
-use Rattle.checkpoint_text.proofs.Ordered.{along, of_one, rows_along, rows_join, sends_along, sends_by_node, sends_from, sent_in}
+use Rattle.checkpoint_text.proofs.Ordered.{along, of_one, rows_along, sends_along, sends_by_node, sends_from, sent_in}
 use Rattle.checkpoint_text.proofs.Trails.{same_stopped, same_whole}
 
 -- ---- lists

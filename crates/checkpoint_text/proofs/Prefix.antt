@@ -1,4 +1,5 @@
--- A node that can be restored has first numbers within their bounds, whatever stands in the place of the numbers behind them.
+-- A node that can be restored has first numbers within their bounds, whatever stands in the place of the numbers behind
+-- them.
 use Rattle.std.proofs.Common.{◌≡◌, ℕ, ◌+◌, ◌-◌, ◌<◌, ◌≤◌, Bool, true, false, not, List, ◌++◌, length, take, drop, get_or, Option, Some, None, refl, sym, ap, ◌∙◌, arith, inl, inr}
 use Rattle.std.specs.Prelude.{is_none, slice_index}
 use Rattle.std.specs.List.{position}

@@ -1,5 +1,5 @@
--- One node that runs by itself, cycle after cycle, where what it hears in each cycle is given. These are words of contracts, and
--- no part of what a run is.
+-- One node that runs by itself, cycle after cycle, where what it hears in each cycle is given. These are words of
+-- contracts, and no part of what a run is.
 use Rattle.std.specs.Prelude.{◌≡◌, ◌⊎◌, ℕ, zero, suc, ◌+◌, ◌-◌, ◌≤◌, ◌<◌, Bool, true, false, List, [], ◌++◌, length, slice_index_or}
 use Rattle.world_core.specs.declared.air.Heard.{Heard}
 use Rattle.world_core.specs.declared.air.Send.{Send}
@@ -58,7 +58,8 @@ pub record RanAlone {S R : Type 0} (m : NodeKind S R) (h : ℕ → Heard) (k end
   pub goes : GoesAlone m h k v [] w (sent_by m h k v w)
   pub has : HasRun m end w
 
--- each node of a list ran alone up to the cycle `end`, where node k hears what h says, and zs is what they sent, node by node
+-- each node of a list ran alone up to the cycle `end`, where node k hears what h says, and zs is what they sent, node
+-- by node
 pub record AllRan {S R : Type 0} (m : NodeKind S R) (h : ℕ → ℕ → Heard) (end : ℕ) (vs ws : List (Timed S R)) (zs : List Send) : Type 0 where
   pub count : length ws ≡ length vs
   pub nodes : (k : ℕ) (d : Timed S R) → k < length vs → RanAlone m (h k) k end (node_in vs k d) (node_in ws k d)

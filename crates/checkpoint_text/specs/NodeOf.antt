@@ -1,5 +1,6 @@
--- The state of a node of a saved state: each part of it is read from the node's numbers, from the I/O bytes that its board
--- keeps, or is its SRAM. A number's place in its device is that of the device's `numbers_of`. Own to this simulator.
+-- The state of a node of a saved state: each part of it is read from the node's numbers, from the I/O bytes that its
+-- board keeps, or is its SRAM. A number's place in its device is that of the device's `numbers_of`. Own to this
+-- simulator.
 use Rattle.std.specs.Prelude.{ℕ, ◌%◌, ◌==◌, if◌then◌else◌, List, Option, None, Some, slice_index}
 use Rattle.avr_base.specs.declared.stop.StopCause.{StopCause}
 use Rattle.avr_base.specs.declared.stop.StopCause.TheVariants as stop

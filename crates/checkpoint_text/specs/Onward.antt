@@ -1,5 +1,5 @@
--- The run onward from a saved state: the nodes of the state, in the cycle of the state, with the sends that may still be heard,
--- go on in the single global order of cycles. Own to this simulator.
+-- The run onward from a saved state: the nodes of the state, in the cycle of the state, with the sends that may still
+-- be heard, go on in the single global order of cycles. Own to this simulator.
 use Rattle.std.specs.Prelude.{◌≡◌, ℕ, ◌<◌, Bool, [], length, None, slice_index_or}
 use Rattle.std.specs.List.{All}
 use Rattle.world_core.specs.Chain.{Rises}

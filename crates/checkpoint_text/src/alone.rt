@@ -10,8 +10,8 @@ use avr_base::NoMemory;
 use node_core::{Node, Reached};
 use world_core::{Send, SendLog, Topo};
 
-// Goes on to the node's next send or sample before the cycle `end`, whose cycle is finished, and answers whether there was
-// one. Where there was none, the node has come to `end`, or stopped before.
+// Goes on to the node's next send or sample before the cycle `end`, whose cycle is finished, and answers whether there
+// was one. Where there was none, the node has come to `end`, or stopped before.
 fn step(
     node: &mut Node,
     number: u8,
@@ -48,8 +48,8 @@ fn step(
     }
 }
 
-/// The node of this number runs by itself up to the cycle `end`, or until it has stopped: it hears the sends of the log and no
-/// others. What it sends is put behind `sends`.
+/// The node of this number runs by itself up to the cycle `end`, or until it has stopped: it hears the sends of the log
+/// and no others. What it sends is put behind `sends`.
 pub fn run_alone(
     node: &mut Node,
     number: u8,

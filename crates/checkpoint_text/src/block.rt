@@ -39,8 +39,8 @@ fn run_each(
     Ok(sends)
 }
 
-/// All nodes from the cycle `floor` to the cycle `end`. A byte is heard a latency after it was sent at the earliest: so far each
-/// node runs by itself, and then all have come there.
+/// All nodes from the cycle `floor` to the cycle `end`. A byte is heard a latency after it was sent at the earliest: so
+/// far each node runs by itself, and then all have come there.
 pub fn run_to(
     alloc: Global,
     state: &Snapshot<StateParts>,

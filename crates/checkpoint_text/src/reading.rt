@@ -56,8 +56,8 @@ impl Bounds for NodeBounds {
     }
 }
 
-/// The state of the scenario that the text `bytes` says, as plain data, or the fault of the text's first faulty line. A line
-/// is bounded by what a node can be restored from, and a send by whether it may still be heard.
+/// The state of the scenario that the text `bytes` says, as plain data, or the fault of the text's first faulty line. A
+/// line is bounded by what a node can be restored from, and a send by whether it may still be heard.
 pub fn read_parts(
     alloc: Global,
     scenario: &Scenario,
@@ -69,8 +69,8 @@ pub fn read_parts(
     read(alloc, scenario.lawful_topo(), &NodeBounds, bytes)
 }
 
-/// The state of the scenario that the text `bytes` says, ready to go on from it, or the fault of the text's first faulty
-/// line, as [`read_parts`] gives it.
+/// The state of the scenario that the text `bytes` says, ready to go on from it, or the fault of the text's first
+/// faulty line, as [`read_parts`] gives it.
 pub fn read_state(alloc: Global, scenario: &Scenario, bytes: &[u8]) -> Result<Saved, StateFault>
     ensures state { IfOk result (λ saved. state_in scenario.now bytes.now ≡ Ok saved.state) }
     ensures fresh { IfOk result (λ saved. saved ≡ record { scenario = scenario.now; state = saved.state; floor = saved.state.cycle; failed = false }) }

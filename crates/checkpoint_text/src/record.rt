@@ -24,7 +24,8 @@ pub fn record_of(alloc: Global, sends: &[Send]) -> Result<SendLog, NoMemory>
     Ok(log)
 }
 
-/// Puts sends into the record, behind those that it has. Where there are any, what is over at the cycle `floor` is dropped.
+/// Puts sends into the record, behind those that it has. Where there are any, what is over at the cycle `floor` is
+/// dropped.
 pub fn post(
     alloc: Global,
     topo: &Topo,

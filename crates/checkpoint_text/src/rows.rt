@@ -46,8 +46,8 @@ fn ends(alloc: Global, nodes: &[Node], limit: u64, over: bool) -> Result<Vec<Row
     Ok(rows)
 }
 
-/// The rows of the epoch from the cycle `floor` to the cycle `end`, with the last row of each node where that is the limit.
-/// They are taken from the nodes.
+/// The rows of the epoch from the cycle `floor` to the cycle `end`, with the last row of each node where that is the
+/// limit. They are taken from the nodes.
 pub fn rows_to(
     alloc: Global,
     state: &Snapshot<StateParts>,

@@ -42,6 +42,7 @@ fn node_of(
     requires fits { IsFit cycle parts.now }
     ensures { IfOk result (λ node. node ≡ record { cycle = cycle; asking = false; state = node_of scenario.now number parts.now; rows = [] }) }
 {
+    // The call's clause says that the scenario is one (`IsScenario`), which what follows rests on.
     let _lawful = scenario.lawful_topo();
     let numbers = numbers_of(&parts.numbers);
     match scenario.restore(alloc, number, cycle, &numbers, &parts.io, &parts.sram) {
@@ -55,6 +56,7 @@ fn nodes_of(alloc: Global, scenario: &Scenario, state: &StateParts) -> Result<Ve
     requires { CanResume scenario.now state.now }
     ensures { IfOk result (λ nodes. AllRestored scenario.now state.now (length state.now.nodes) nodes.items) }
 {
+    // The call's clause says that the scenario is one (`IsScenario`), which what follows rests on.
     let _lawful = scenario.lawful_topo();
     let mut nodes = Vec::new(alloc);
     for k in 0..state.nodes.len() {
@@ -66,8 +68,8 @@ fn nodes_of(alloc: Global, scenario: &Scenario, state: &StateParts) -> Result<Ve
     Ok(nodes)
 }
 
-/// A run of all nodes of a scenario that goes on from a saved state, epoch by epoch, on one thread. Any state will do, be it
-/// one that a run comes to or not.
+/// A run of all nodes of a scenario that goes on from a saved state, epoch by epoch, on one thread. Any state will do,
+/// be it one that a run comes to or not.
 pub struct Saved {
     alloc: Global,
     scenario: Snapshot<Scenario>,
@@ -131,8 +133,8 @@ impl Saved {
         })
     }
 
-    /// The cycle that all nodes have reached, or stopped before: that of the state at first, and the end of the last epoch
-    /// after it.
+    /// The cycle that all nodes have reached, or stopped before: that of the state at first, and the end of the last
+    /// epoch after it.
     pub fn cycle(&self) -> u64
         ensures { result ≡ self.now.floor }
     {
@@ -148,8 +150,8 @@ impl Saved {
         self.floor == self.limit
     }
 
-    /// The rows of the next epoch, cycle by cycle and in a cycle node by node, with the last row of each node after the last
-    /// epoch. The scenario is the one of the state. After `NoMemory` the run can only be dropped.
+    /// The rows of the next epoch, cycle by cycle and in a cycle node by node, with the last row of each node after the
+    /// last epoch. The scenario is the one of the state. After `NoMemory` the run can only be dropped.
     pub fn epoch(&mut self, scenario: &Scenario) -> Result<Vec<Row>, NoMemory>
         requires same { scenario.now ≡ self.old.scenario }
         requires more { self.old.floor < self.old.scenario.topo.limit }

@@ -69,9 +69,9 @@ impl<'a> Nodes for Runners<'a> {
     }
 }
 
-/// Writes the text of the state of a run of the scenario at `cycle`: of all nodes, each with no sample unanswered and at that
-/// cycle, or stopped before it, and of the sends that may still be heard, in order of cycle, then node. At a fault a front of
-/// the text was taken, and the sink's count rose.
+/// Writes the text of the state of a run of the scenario at `cycle`: of all nodes, each with no sample unanswered and
+/// at that cycle, or stopped before it, and of the sends that may still be heard, in order of cycle, then node. At a
+/// fault a front of the text was taken, and the sink's count rose.
 pub fn write_state<O: Sink>(
     _scenario: &Scenario,
     cycle: u64,

@@ -1,7 +1,7 @@
-//! The stored runs of all cases, in one program, since what a program stands on is proved once more for each. Each of its
-//! words names a kind of cases and a file of them, as `calls=calls.txt` (some kinds have none); what the cases come to is
-//! written one after another. Behind the word `refused` it ends as `avrora` itself, which refuses all these words with its
-//! exit status.
+//! The stored runs of all cases, in one program, since what a program stands on is proved once more for each. Each of
+//! its words names a kind of cases and a file of them, as `calls=calls.txt` (some kinds have none); what the cases come
+//! to is written one after another. Behind the word `refused` it ends as `avrora` itself, which refuses all these words
+//! with its exit status.
 #![tactic(auto)]
 
 use case_files::{Failed, write_line};

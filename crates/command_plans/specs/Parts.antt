@@ -1,5 +1,5 @@
--- What the parts of a call owe to one another: how reading stops, how what is to be written ends, and that an end was told. These
--- are the contracts of the functions that a call is made of, and no part of what is said of the whole.
+-- What the parts of a call owe to one another: how reading stops, how what is to be written ends, and that an end was
+-- told. These are the contracts of the functions that a call is made of, and no part of what is said of the whole.
 use Rattle.std.specs.Prelude.{◌≡◌, ℕ, List, Result, Ok, Err}
 use Rattle.sim_io.specs.Outside.{TookFront}
 use Rattle.command_plans.specs.Plan.{Plan, Give, Refuse, Refusal, BadWords, BadScenario, BadImage, BadSource, BadState}

@@ -28,8 +28,8 @@ pub data Refusal : Type 0 where
   -- the saved state in this file is not, or the one that the scenario in this file is to come to cannot be had
   BadState : (name : List ℕ) (why : StateCause) → Refusal
 
--- what is left to do: nothing more, since this was got; a refusal; or a file to be read, of at most so many bytes, and what comes of its
--- bytes
+-- what is left to do: nothing more, since this was got; a refusal; or a file to be read, of at most so many bytes, and
+-- what comes of its bytes
 pub data Plan (A : Type 0) : Type 0 where
   Give : (got : A) → Plan A
   Refuse : (refusal : Refusal) → Plan A

@@ -6,7 +6,8 @@ use Rattle.command_plans.specs.Plan.{Plan, Give, Refuse, Read, Refusal}
 abbrev pub Files : Type 0
 Files = List ℕ → Option (List ℕ)
 
--- what a plan comes to over these files: what it gets, a refusal, or nothing known, where a file that it reads is not told
+-- what a plan comes to over these files: what it gets, a refusal, or nothing known, where a file that it reads is not
+-- told
 pub data Verdict (A : Type 0) : Type 0 where
   Untold : Verdict A
   Refused : (refusal : Refusal) → Verdict A

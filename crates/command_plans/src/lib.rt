@@ -1,6 +1,6 @@
-//! What a call of the program reads, and how it ends, whatever is to be done in between: a plan is what is read in which order, and
-//! what comes of it (`specs/Plan`). Each kind of file is read and accepted here, or is a `Trouble`; a call's end is reported by a
-//! line on the error stream and a `Status`.
+//! What a call of the program reads, and how it ends, whatever is to be done in between: a plan is what is read in
+//! which order, and what comes of it (`specs/Plan`). Each kind of file is read and accepted here, or is a `Trouble`; a
+//! call's end is reported by a line on the error stream and a `Status`.
 #![tactic(auto)]
 
 mod files;

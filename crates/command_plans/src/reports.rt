@@ -102,7 +102,8 @@ fn put_refusal(what: &str, cause: (&'static str, Option<usize>), after: &mut Arr
     after.push_str("\n");
 }
 
-// The line that is owed, but for what stands behind the name of a file, which is put into `after`: what stands before it, and the name.
+// The line that is owed, but for what stands behind the name of a file, which is put into `after`: what stands before
+// it, and the name.
 #[tactic(auto, unfolding(crate::specs::Ends::line_due))]
 fn line_at<'n>(trouble: Trouble<'n>, after: &mut ArrayString<64>) -> (&'static str, &'n str)
     requires { after.old.bytes ≡ [] }

@@ -36,7 +36,8 @@ pub enum SourceCause {
 pub enum StateCause {
     /// Its text has more than 4,194,304 bytes.
     TooLong,
-    /// The fault of its first faulty line; or that a run has no such state, since the epoch ends at or behind the limit.
+    /// The fault of its first faulty line; or that a run has no such state, since the epoch ends at or behind the
+    /// limit.
     Faulty(StateFault),
 }
 

@@ -13,11 +13,11 @@ pub data Asked : Type 0 where
   Node : (file : List ℕ) (cycles : ℕ) → Asked
   -- simulate the network of the scenario in this file
   Run : (file : List ℕ) → Asked
-  -- the same on one thread
+  -- simulate the network of the scenario in this file, on one thread
   RunPlain : (file : List ℕ) → Asked
   -- simulate the network of the scenario in this file, and write on what its nodes spent the window
   Monitor : (file : List ℕ) → Asked
-  -- the same, and write the frames that its nodes sent
+  -- simulate the network of the scenario in this file, and write the frames that its nodes sent
   Sniff : (file : List ℕ) → Asked
   -- read the scenario in this file and its images, and run nothing
   Check : (file : List ℕ) → Asked
@@ -29,12 +29,12 @@ pub data Asked : Type 0 where
   Make : (number : ℕ) → Asked
   -- simulate the first epochs of the network of the scenario in this file
   Head : (file : List ℕ) (epochs : ℕ) → Asked
-  -- the same, and write the state in which it is then
+  -- simulate the first epochs of the network of the scenario in this file, and write the state in which it is then
   Save : (file : List ℕ) (epochs : ℕ) → Asked
   -- simulate the network of the scenario in this file from the state in that file on
   Resume : (file state : List ℕ) → Asked
 
--- the same of the code's value
+-- what the code's value asks for
 abbrev pub shown : Command → Asked
 shown (variant.Node file cycles) = Node file.now cycles
 shown (variant.Run file) = Run file.now
@@ -82,7 +82,8 @@ with_number name read made (command ∷ file ∷ number ∷ []) =
     if is_word name command && is_file file then option_map (made file) (read number) else None
 with_number name read made _ = None
 
--- the FILE of a command that has nothing else: `run FILE`, `monitor FILE`, `sniff FILE`, `check FILE`, `disasm FILE`, `asm FILE`
+-- the FILE of a command that has nothing else: `run FILE`, `monitor FILE`, `sniff FILE`, `check FILE`, `disasm FILE`,
+-- `asm FILE`
 unfoldable pub file_behind : List ℕ → List (List ℕ) → Option (List ℕ)
 file_behind name (command ∷ file ∷ []) = if is_word name command && is_file file then Some file else None
 file_behind name _ = None
@@ -124,7 +125,8 @@ asked_by words =
     (or_else (with_number (codes "save") epochs_of Save words)
     (as_resume words)))))))))))
 
--- the number of cycles, where there is one, is from 1 to 10,000,000, that of a sample at most 65,535, and that of epochs from 1 to 9,999,999
+-- the number of cycles, where there is one, is from 1 to 10,000,000, that of a sample at most 65,535, and that of
+-- epochs from 1 to 9,999,999
 abbrev pub IsInLimits : Asked → Type 0
 IsInLimits (Node file cycles) = (1 ≤ cycles) × (cycles ≤ 10000000)
 IsInLimits (Run file) = Unit {0}

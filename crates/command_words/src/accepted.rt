@@ -1,4 +1,5 @@
-// Which words are accepted. Both tests are made, by `&` and not `&&`: a way round one costs more to prove than the test.
+// Which words are accepted. Both tests are made, by `&` and not `&&`: a way round one costs more to prove than the
+// test.
 ghost use Rattle.std.specs.Prelude.{[], ◌≡◌, ◌∷◌, is_some, map};
 ghost use Rattle.command_words.specs.Words.{asked_by};
 

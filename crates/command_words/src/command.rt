@@ -7,7 +7,7 @@ pub enum Command<'w> {
     Node { file: &'w str, cycles: u64 },
     /// `run FILE`: simulate the network of this scenario.
     Run { file: &'w str },
-    /// `run --plain FILE`: the same on one thread.
+    /// `run --plain FILE`: simulate the network of this scenario on one thread.
     RunPlain { file: &'w str },
     /// `check FILE`: read this scenario and its images, and run nothing.
     Check { file: &'w str },
@@ -23,7 +23,8 @@ pub enum Command<'w> {
     Make { number: u16 },
     /// `head FILE N`: simulate the first epochs of the network of this scenario, 1 to 9,999,999.
     Head { file: &'w str, epochs: u64 },
-    /// `save FILE N`: the same, and write the state in which it is then.
+    /// `save FILE N`: simulate the first epochs of the network of this scenario, 1 to 9,999,999, and write the state in
+    /// which it is then.
     Save { file: &'w str, epochs: u64 },
     /// `resume FILE STATE`: simulate the network of this scenario from the state in this file on.
     Resume { file: &'w str, state: &'w str },

@@ -231,7 +231,7 @@ done_clause files files' words store store' out out' err mid err' todo r answer 
     (subst (λ e. Reported (end_of r) e err' answer) prepared.ready.silent reported))
     (λ none. let bad : false ≡ true = ap is_some (sym none) ∙ prepared.asked in absurd (cc))
 
--- so does one whose reading stopped
+-- a call whose reading stopped ends by the top clause
 stopped_clause : (files files' : Files) (words : List (List ℕ)) (store store' : Reads) (err err' : Stream) (answer : Status) → files' ≡ files
     → Stopped files (plan words) store store' err err' answer → (asked_by words ≡ None → Reported (Refused BadWords) err err' answer) → (out : Stream)
     → TopClause files files' words store store' out out err err' answer

@@ -11,8 +11,8 @@ use Rattle.trace_writer.specs.Line.{rows_text}
 abbrev pub network_of : ScenarioParts → List Image → ScenarioOf
 network_of parts images = record { topo = parts.topology; images = images; scripts = parts.scripts; from = parts.window.0; to = parts.window.1 }
 
--- one node that hears nobody and at which nothing arrives. Its instructions are traced in the first 20,000 cycles; latency and byte
--- time are what a scenario's text has where it names none
+-- one node that hears nobody and at which nothing arrives. Its instructions are traced in the first 20,000 cycles;
+-- latency and byte time are what a scenario's text has where it names none
 abbrev pub lone_node : Image → ℕ → ScenarioOf
 lone_node image cycles =
     record { topo = topology 1 cycles 3072 3072 [] [] []; images = image ∷ []; scripts = no_script ∷ []; from = 0; to = min cycles 20000 }

@@ -21,7 +21,8 @@ pub record TopClause (files files' : Files) (words : List (List ℕ)) (store sto
   pub held : files' ≡ files
   -- 0: all files were accepted, and the job's whole output is written
   pub done : answer ≡ status.Done → Ends output files (plan words) store store' out out' Done × (err' ≡ err)
-  -- 1: a write to `out` failed, and `err` has the line that says so; or a write to `err` failed, of the line of some end
+  -- 1: a write to `out` failed, and `err` has the line that says so; or a write to `err` failed, of the line of some
+  -- end
   pub sink_failed : answer ≡ status.SinkFailed
       → EndedSaying output files (plan words) store store' out out' err err' OutFailed
       ⊎ ((end : End) × EndedUnsaid output files (plan words) store store' out out' err err' end)

@@ -9,16 +9,17 @@ use command_plans::{Status, report};
 use sim_io::{Sink, Store};
 use std::alloc::Global;
 
-/// The whole program over a store of files and two streams, on one thread: does what the words after the program's
-/// name ask for, and answers how it ended. Files are read in the order in which the command needs them, each whole, and
-/// `out` is written only when all of them are accepted: a scenario first, then the image of each node in order of number.
+/// The whole program over a store of files and two streams, on one thread: does what the words after the program's name
+/// ask for, and answers how it ended. Files are read in the order in which the command needs them, each whole, and
+/// `out` is written only when all of them are accepted: a scenario first, then the image of each node in order of
+/// number.
 ///
 /// | Words | Written to `out` with `Done` |
 /// |---|---|
-/// | `node FILE CYCLES` | the trace of one node that runs the image in FILE, with no links and no input, over CYCLES cycles; instructions are traced in the first 20,000 |
+/// | `node FILE CYCLES` | the trace of one node that runs the image in FILE alone; instructions in the first 20,000 |
 /// | `run FILE` | the trace of the network of the scenario in FILE, in the single global order of cycles |
-/// | `run --plain FILE` | the same, on one thread |
-/// | `monitor FILE` | on what each node of that network spent each cycle of the window, and its charge; it is run up to the window's end |
+/// | `run --plain FILE` | the trace of that network, which is run on one thread |
+/// | `monitor FILE` | on what each node of that network spent each cycle of the window, and its charge |
 /// | `sniff FILE` | the frames that each node of that network sends |
 /// | `check FILE` | how many nodes, links and cycles the network of the scenario in FILE has; it is not run |
 /// | `disasm FILE` | the address and the text of each instruction of the image in FILE, a line each |
@@ -28,9 +29,12 @@ use std::alloc::Global;
 /// | `resume FILE STATE` | the trace of that network from the state in STATE on |
 /// | `make NUMBER` | what came out of the sample network of NUMBER: how often its nodes sent, and what they heard |
 ///
-/// FILE is a word that is not empty and does not begin with `-`; CYCLES is one to eight digits, 1 to 10,000,000; NUMBER is
-/// one to five, up to 65,535; N is one to seven, 1 or more. All other words are `BadWords`. Where the answer is not `Done`, `err` has one line that says
-/// why, or the write of that line failed and the answer is `SinkFailed`. A node that stops is no fault.
+/// `node` has no links and no input, and runs over CYCLES cycles; `monitor` runs up to the window's end.
+///
+/// FILE is a word that is not empty and does not begin with `-`; CYCLES is one to eight digits, 1 to 10,000,000; NUMBER
+/// is one to five, up to 65,535; N is one to seven, 1 or more. All other words are `BadWords`. Where the answer is not
+/// `Done`, `err` has one line that says why, or the write of that line failed and the answer is `SinkFailed`. A node
+/// that stops is no fault.
 pub fn avrora_alone<'w, S: Store, O: Sink, E: Sink>(
     alloc: Global,
     words: &'w [&'w str],

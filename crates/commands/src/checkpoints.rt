@@ -56,6 +56,7 @@ fn run_up_to(network: &Scenario, run: &mut PlainRun, end: u64) -> Result<(), NoM
     ensures { OnOk result (run.new ≡ record { scenario = network.now; floor = end; failed = false }) }
 {
     while run.floor() < end {
+        // The rows up to there are in no saved state.
         let _ = run.epoch(network)?;
     }
     Ok(())
@@ -84,8 +85,8 @@ pub fn write_saved<'n, O: Sink>(
     }
 }
 
-/// Goes on with a network from a saved state, with which nothing was done yet, up to the limit, and writes the rows of each epoch
-/// before the next one is run.
+/// Goes on with a network from a saved state, with which nothing was done yet, up to the limit, and writes the rows of
+/// each epoch before the next one is run.
 pub fn write_onward<'n, O: Sink>(
     network: &Scenario,
     mut saved: Saved,

@@ -34,8 +34,8 @@ fn feed_run(
     Ok(())
 }
 
-// The frames that each node of a network sends, node after node, over its whole run. Of the run so far only frames are kept, and
-// at most 35 sends of each node. `Err` only for want of memory.
+// The frames that each node of a network sends, node after node, over its whole run. Of the run so far only frames are
+// kept, and at most 35 sends of each node. `Err` only for want of memory.
 fn frames_text(alloc: Global, network: &Scenario) -> Result<Vec<u8>, NoMemory>
     ensures { IfOk result (λ text. text.items ≡ frames_text network.now) }
 {

@@ -23,7 +23,7 @@ use std::alloc::Global;
 pub enum Job {
     /// To write the trace of this network.
     Trace(Scenario),
-    /// The same, on one thread.
+    /// To write the trace of this network, run on one thread.
     PlainTrace(Scenario),
     /// To write the profile of each node of this network.
     Profiles(Scenario),

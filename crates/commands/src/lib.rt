@@ -1,8 +1,9 @@
-//! The program: from the words of the command line, the files and the streams to a status. Files are read, which leaves a job
-//! (`prepare`); the job is done, which writes rows, a listing or a report; and the end is reported. The one clause of the top call
-//! `avrora`, `TopClause`, says what each status wrote, and when it comes; `avrora_alone` is the same on one thread. `run` and `make`
-//! give each node of their network a thread; all other jobs are done on one. `run_program` is `avrora` over the real files and
-//! streams, which is what `main` does, as a call, so that each program that is run by the gate has the same one.
+//! The program: from the words of the command line, the files and the streams to a status. Files are read, which leaves
+//! a job (`prepare`); the job is done, which writes rows, a listing or a report; and the end is reported. The one
+//! clause of the top call `avrora`, `TopClause`, says what each status wrote, and when it comes; `avrora_alone` is the
+//! same on one thread. `run` and `make` give each node of their network a thread; all other jobs are done on one.
+//! `run_program` is `avrora` over the real files and streams, which is what `main` does, as a call, so that each
+//! program that is run by the gate has the same one.
 #![tactic(auto)]
 
 mod alone;

@@ -18,8 +18,8 @@ use world_core::Topo;
 // The cycles from 0 on in which the instructions of a lone node are traced.
 const TRACED: u64 = 20_000;
 
-/// The network of one node that hears nobody and at which nothing arrives, over `cycles` cycles, 1 to 10,000,000. `Err` only for
-/// want of memory.
+/// The network of one node that hears nobody and at which nothing arrives, over `cycles` cycles, 1 to 10,000,000. `Err`
+/// only for want of memory.
 pub fn lone_node(alloc: Global, flash: Flash, cycles: u64) -> Result<Scenario, NoMemory>
     requires some { 1 ≤ cycles }
     requires limit { cycles ≤ 10000000 }

@@ -17,7 +17,8 @@ use run_reports::{keep_more, profiles_of};
 use sim_io::{Sink, write_all};
 use std::alloc::Global;
 
-// The rows of a run that count in a profile, from one that has not begun. It goes no further than the epoch in which the window ends.
+// The rows of a run that count in a profile, from one that has not begun. It goes no further than the epoch in which
+// the window ends.
 fn kept_rows(alloc: Global, network: &Scenario, run: &mut PlainRun) -> Result<Vec<Row>, NoMemory>
     requires sound { IsScenario network.now }
     requires first { run.old ≡ record { scenario = network.now; floor = 0; failed = false } }

@@ -13,9 +13,9 @@ use std::thread::Threads;
 // The exit status where the words of the command line cannot be had: for want of memory, or where one is no UTF-8.
 const NO_WORDS: u8 = 9;
 
-/// Does what the words after the program's name ask for, over the files of the folder that it runs in, the standard output and
-/// `err`, which is the standard error; and answers the exit status, which is the number of the top call's, or 9 where the
-/// words cannot be had. No node is held at a turn.
+/// Does what the words after the program's name ask for, over the files of the folder that it runs in, the standard
+/// output and `err`, which is the standard error; and answers the exit status, which is the number of the top call's,
+/// or 9 where the words cannot be had. No node is held at a turn.
 pub fn run_program<R: Env + AllocGlobal + Files + Print + Threads + Wait + Sync, W: Write + Drop>(
     rt: &R,
     err: W,

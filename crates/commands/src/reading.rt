@@ -21,8 +21,9 @@ use state_text::StateFault;
 use std::alloc::Global;
 use world_core::EPOCH;
 
-// The network of the scenario in `file`, with the image of each node. Where it is not to be had, `err` has the line that says why, and
-// the answer is the status of the call: that line may name a file of the scenario's own, so it cannot be written later.
+// The network of the scenario in `file`, with the image of each node. Where it is not to be had, `err` has the line
+// that says why, and the answer is the status of the call: that line may name a file of the scenario's own, so it
+// cannot be written later.
 fn read_network<'w, S: Store, E: Sink>(
     alloc: Global,
     file: &'w str,
@@ -47,8 +48,8 @@ fn read_network<'w, S: Store, E: Sink>(
     }
 }
 
-// The network of the scenario in a file, of which a run is cut after so many epochs. Where that is not to be had, or these epochs do
-// not end below its limit, `err` has the line that says why, and the answer is the status of the call.
+// The network of the scenario in a file, of which a run is cut after so many epochs. Where that is not to be had, or
+// these epochs do not end below its limit, `err` has the line that says why, and the answer is the status of the call.
 fn read_cut<'w, S: Store, E: Sink>(
     alloc: Global,
     file: &'w str,
@@ -77,8 +78,8 @@ fn read_cut<'w, S: Store, E: Sink>(
     Err(tell(err, Trouble::Refused(Complaint::BadState(file, past_end))))
 }
 
-// Reads what a command needs. Where that is not to be had, `err` has the line that says why, and the answer is the status of the
-// call.
+// Reads what a command needs. Where that is not to be had, `err` has the line that says why, and the answer is the
+// status of the call.
 fn read_job<'w, S: Store, E: Sink>(
     alloc: Global,
     command: Command<'w>,
@@ -146,8 +147,9 @@ fn read_job<'w, S: Store, E: Sink>(
     }
 }
 
-/// What the words ask for, with all that it needs read: a scenario first, then the image of each node in order of number. Where
-/// they ask for nothing, or that is not to be had, `err` has the line that says so, and the answer is the status of the call.
+/// What the words ask for, with all that it needs read: a scenario first, then the image of each node in order of
+/// number. Where they ask for nothing, or that is not to be had, `err` has the line that says so, and the answer is the
+/// status of the call.
 pub fn prepare<'w, S: Store, E: Sink>(
     alloc: Global,
     words: &'w [&'w str],

@@ -49,7 +49,8 @@ pub fn write_counts<'n, O: Sink>(number: u16, rows: &[Row], out: &mut O) -> Resu
     }
 }
 
-/// `make NUMBER`: runs the sample of a number with 8 nodes on one thread, and writes how often they sent and what they heard.
+/// `make NUMBER`: runs the sample of a number with 8 nodes on one thread, and writes how often they sent and what they
+/// heard.
 pub fn write_sample<'n, O: Sink>(alloc: Global, number: u16, out: &mut O) -> Result<(), Trouble<'n>>
     ensures { Written (sample_line number) (stream (O.taken out.old) (O.faults out.old)) (stream (O.taken out.new) (O.faults out.new)) result }
 {

@@ -16,7 +16,8 @@ use std::alloc::Global;
 use std::sync::Wait;
 use std::thread::Threads;
 
-// Runs a network, each node on a thread of its own, and writes its trace: the rows of each epoch before the next one is run.
+// Runs a network, each node on a thread of its own, and writes its trace: the rows of each epoch before the next one is
+// run.
 fn write_trace<'n, R: Threads + Wait + Sync, O: Sink, G: Gate + Sync>(
     rt: &R,
     alloc: Global,
@@ -41,7 +42,8 @@ fn write_trace<'n, R: Threads + Wait + Sync, O: Sink, G: Gate + Sync>(
     Ok(())
 }
 
-// Runs the sample of a number, each of its nodes on a thread of its own, and writes how often they sent and what they heard.
+// Runs the sample of a number, each of its nodes on a thread of its own, and writes how often they sent and what they
+// heard.
 fn write_sample<'n, R: Threads + Wait + Sync, O: Sink, G: Gate + Sync>(
     rt: &R,
     alloc: Global,
@@ -60,7 +62,8 @@ fn write_sample<'n, R: Threads + Wait + Sync, O: Sink, G: Gate + Sync>(
     write_counts(number, rows.as_slice(), out)
 }
 
-/// Does a job: the runs of `run FILE` and `make NUMBER` give each node a thread of its own, and all else is done on this one.
+/// Does a job: the runs of `run FILE` and `make NUMBER` give each node a thread of its own, and all else is done on
+/// this one.
 #[tactic(auto, unfolding(crate::specs::Job::output))]
 pub fn do_on_threads<'n, R: Threads + Wait + Sync, O: Sink, G: Gate + Sync>(
     rt: &R,

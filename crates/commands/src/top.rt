@@ -12,9 +12,11 @@ use std::alloc::Global;
 use std::sync::Wait;
 use std::thread::Threads;
 
-/// The whole program, as `avrora_alone` is, but that `run FILE` and `make NUMBER` give each node a thread of its own. What is
-/// written is the same: with `Done`, the rows of the single global order of cycles. The gate is told of each turn of a node
-/// before it begins. The call comes back only if each node that waits at a sample is served; no such thing is claimed.
+/// The whole program over a store of files and two streams: does what the words after the program's name ask for, and
+/// answers how it ended. `run FILE` and `make NUMBER` give each node a thread of its own; what is written does not
+/// depend on it, and for the words, the files and the two streams see `avrora_alone`. The gate is told of each turn of
+/// a node before it begins. The call comes back only if each node that waits at a sample is served; no such thing is
+/// claimed.
 pub fn avrora<'w, R: Threads + Wait + Sync, S: Store, O: Sink, E: Sink, G: Gate + Sync>(
     rt: &R,
     alloc: Global,

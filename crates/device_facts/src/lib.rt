@@ -1,5 +1,5 @@
-//! Facts of the devices, each alone, from text files: a line does one thing to a device, and says what it answers. That is
-//! compared with what the devices' crates answer; a line that is wrong is written, and how many there were.
+//! Facts of the devices, each alone, from text files: a line does one thing to a device, and says what it answers. That
+//! is compared with what the devices' crates answer; a line that is wrong is written, and how many there were.
 #![tactic(auto)]
 
 mod answers;

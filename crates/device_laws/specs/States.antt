@@ -58,8 +58,8 @@ pub record IsSpi (s : Spi) : Type 0 where
 pub record IsRadio (r : Radio) : Type 0 where
   pub byte_time : r.byte_time ≤ 4096
 
--- what a register that no device has holds by its rule: bits of its mask, and none that may not be written 1; where nothing is
--- kept, 0
+-- what a register that no device has holds by its rule: bits of its mask, and none that may not be written 1; where
+-- nothing is kept, 0
 abbrev pub IsKept : Rule → ℕ → Type 0
 IsKept (Kept mask) x = IsWithin mask x
 IsKept (Guarded bits cause mask) x = IsWithin mask x × (any_bit x bits ≡ false)

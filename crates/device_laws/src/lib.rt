@@ -1,5 +1,5 @@
-//! What each call of the devices keeps: the states that a board can be in after reset. Each law is the contract of a function
-//! that does nothing; it is about the definitions that the calls of a board are proved to compute.
+//! What each call of the devices keeps: the states that a board can be in after reset. Each law is the contract of a
+//! function that does nothing; it is about the definitions that the calls of a board are proved to compute.
 #![tactic(auto)]
 
 ghost use Rattle.std.specs.Prelude.{◌≡◌, ℕ, ◌<◌, ◌≤◌, Ok, Option};

@@ -1,4 +1,5 @@
--- The fleet between two steps: the sample that is furthest behind may be answered, the record takes the next send, and a step keeps all.
+-- The fleet between two steps: the sample that is furthest behind may be answered, the record takes the next send, and
+-- a step keeps all.
 use Rattle.std.proofs.Common.{◌≡◌, ℕ, ◌+◌, ◌-◌, ◌<◌, ◌≤◌, ◌⊎◌, inl, inr, ⊎_elim, true, false, List, [], ◌∷◌, ◌++◌, length, set, refl, sym, subst, ◌∙◌, ap, arith, length-set, length-append}
 use Rattle.std.specs.Prelude.{is_some}
 use Rattle.std.specs.List.{All, sum_by}

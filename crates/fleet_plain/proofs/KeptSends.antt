@@ -84,7 +84,7 @@ module _ {S R : Type 0} (f : Fleet S R) (ok : IsSound f) (none : f.sent ≡ []) 
   made_in P t h = All_each P f.topo.nodes (λ k. send_of t k (sends_in t k)) (λ k l. one_send P t k (sends_in t k) (λ b. h (record { node = k; cycle = t; byte = b }) refl))
 
   no_sends : (world_at f f.start).sends ≡ []
-  no_sends = ap (λ (w : Moment S R). w.sends) (first f ok) ∙ none
+  no_sends = ap (λ (w : Moment S R). w.sends) (first f) ∙ none
 
   early : (t : ℕ) → f.start ≤ t → All (λ x. x.cycle < t) (world_at f t).sends
   early t h = All-weaker (λ x. (x.node < f.topo.nodes) × (x.cycle < t)) (λ x. x.cycle < t) (λ x q. q.1) (world_at f t).sends (all_inside f ok t h)
@@ -211,4 +211,4 @@ module _ (sc : ScenarioOf) (end : ℕ) (ps : List Place) (log : LogFacts) (ok : 
 
 -- before the first cycle there are none
 pub no_kept_yet : (sc : ScenarioOf) → IsScenario sc → kept_at sc 0 ≡ []
-no_kept_yet sc ok = ap (λ (w : Moment NodeState Row). filter (is_kept sc.topo 0) w.sends) (first (fleet_of sc) (sound sc ok))
+no_kept_yet sc ok = ap (λ (w : Moment NodeState Row). filter (is_kept sc.topo 0) w.sends) (first (fleet_of sc))

@@ -14,8 +14,8 @@ use Rattle.node_runner.specs.Place.{Place, is_live, sends_passed}
 use Rattle.node_runner.specs.Flight.{place_at, IsAt, IsTaken}
 use Rattle.fleet_plain.specs.declared.fleet.Turn.{Turn}
 
--- All runners, and the record of the sends that can still be heard from the cycle `floor` on: of each node the sends below its cycle
--- are posted.
+-- All runners, and the record of the sends that can still be heard from the cycle `floor` on: of each node the sends
+-- below its cycle are posted.
 pub record InFlight (sc : ScenarioOf) (floor end : ℕ) (ps : List Place) (sends : List Send) : Type 0 where
   pub count : length ps ≡ sc.topo.nodes
   pub at : (k : ℕ) (d : Place) → k < sc.topo.nodes → IsAt sc end k (place_at ps k d)

@@ -1,4 +1,5 @@
--- What a run shows between two epochs beside its rows: where its nodes stand, and the sends that can still be heard in order.
+-- What a run shows between two epochs beside its rows: where its nodes stand, and the sends that can still be heard in
+-- order.
 use Rattle.std.specs.Prelude.{◌≡◌, ◌⊎◌, ℕ, ◌≤◌, true, false, is_some, List}
 use Rattle.std.specs.List.Sorted.{IsNonDecreasingBy, IsStableByKey}
 use Rattle.std.specs.Ordering.{nat_cmp}

@@ -48,8 +48,8 @@ fn behind(runners: &[Runner], end: u64, ahead: u64) -> Option<Turn>
     }
 }
 
-// The turn behind this one, whose runner has taken a step: it goes on while it is not too far ahead of the others, so that
-// they need not be asked after each step.
+// The turn behind this one, whose runner has taken a step: it goes on while it is not too far ahead of the others, so
+// that they need not be asked after each step.
 fn next_turn(runners: &[Runner], end: u64, ahead: u64, turn: Turn) -> Option<Turn>
     requires some { 1 ≤ ahead }
     requires within { turn.number < length runners.now }
@@ -97,8 +97,8 @@ fn advance(runner: &mut Runner, log: &mut SendLog, topo: &Topo, end: u64) -> Res
     }
 }
 
-/// Steps the runner that is furthest behind, and goes on with it as far as nobody can send what it would hear; until all have
-/// come to the cycle `end` or stopped.
+/// Steps the runner that is furthest behind, and goes on with it as far as nobody can send what it would hear; until
+/// all have come to the cycle `end` or stopped.
 pub fn run_to(
     runners: &mut Vec<Runner>,
     log: &mut SendLog,

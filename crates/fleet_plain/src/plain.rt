@@ -55,8 +55,8 @@ fn rows_to(
     Ok(rows)
 }
 
-/// A run of all nodes of a scenario on one thread, epoch by epoch. It has a record of sends of bounded room; the rows of an
-/// epoch are given as it ends.
+/// A run of all nodes of a scenario on one thread, epoch by epoch. It has a record of sends of bounded room; the rows
+/// of an epoch are given as it ends.
 pub struct PlainRun {
     alloc: Global,
     scenario: Snapshot<Scenario>,
@@ -154,8 +154,8 @@ impl PlainRun {
         &self.sends
     }
 
-    /// The rows of the next epoch, cycle by cycle and in a cycle node by node, with the last row of each node after the last
-    /// epoch. The scenario is the one of `new`. After `NoMemory` the run can only be dropped.
+    /// The rows of the next epoch, cycle by cycle and in a cycle node by node, with the last row of each node after the
+    /// last epoch. The scenario is the one of `new`. After `NoMemory` the run can only be dropped.
     pub fn epoch(&mut self, scenario: &Scenario) -> Result<Vec<Row>, NoMemory>
         requires same { scenario.now ≡ self.old.scenario }
         requires more { self.old.floor < self.old.scenario.topo.limit }
@@ -182,8 +182,8 @@ impl PlainRun {
     }
 }
 
-/// The rows of a whole run of all nodes in the single global order of cycles: cycle by cycle, in a cycle node by node, then
-/// the last row of each node. It waits for nobody. `Err` only for want of memory.
+/// The rows of a whole run of all nodes in the single global order of cycles: cycle by cycle, in a cycle node by node,
+/// then the last row of each node. It waits for nobody. `Err` only for want of memory.
 pub fn run_plain(alloc: Global, scenario: &Scenario) -> Result<Vec<Row>, NoMemory>
     ensures { IfOk result (λ rows. rows.items ≡ run_rows (fleet_of scenario.now)) }
 {

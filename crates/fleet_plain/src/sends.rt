@@ -25,7 +25,7 @@ fn sort_by_cycle(sends: &mut Vec<Send>) -> Result<(), AllocError>
     Ok(())
 }
 
-/// The same sends in order of cycle, then node.
+/// These sends in order of cycle, then node; what a node sent stays in its order. `Err` only for want of memory.
 pub fn ordered(alloc: Global, sends: &[Send]) -> Result<Vec<Send>, AllocError>
     ensures { IfOk result (λ v. AreOrdered sends.now v.items) }
 {

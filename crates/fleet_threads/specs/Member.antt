@@ -28,8 +28,8 @@ pub record IsPlaced (sc : ScenarioOf) (floor end : ℕ) (p : Place) : Type 0 whe
 abbrev pub word_of : ℕ → Place → ℕ
 word_of end p = if is_live end p then p.cycle else end
 
--- A node in that epoch. It has seen that all that it has sent is posted. Its clock word may stand ahead of the cycle that it has come to, as
--- far as it sends nothing in between.
+-- A node in that epoch. It has seen that all that it has sent is posted. Its clock word may stand ahead of the cycle
+-- that it has come to, as far as it sends nothing in between.
 pub record IsUnderWay (t : TableId) (w : WorldFacts) (sc : ScenarioOf) (floor end : ℕ) (m : Member) : Type 0 where
   pub epoch : IsEpoch w sc floor end
   pub place : IsPlaced sc floor end m.runner

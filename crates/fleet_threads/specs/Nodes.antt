@@ -1,4 +1,5 @@
--- The nodes of an epoch: those to be begun, which come back to their list, and those for which no thread was found. Own to this simulator.
+-- The nodes of an epoch: those to be begun, which come back to their list, and those for which no thread was found. Own
+-- to this simulator.
 use Rattle.std.specs.Prelude.{◌≡◌, ℕ, ◌+◌, ◌≤◌, Vec, vec_len, vec_capacity}
 use Rattle.std.specs.List.{All}
 use Rattle.std.specs.declared.alloc.Global.{Global}

@@ -27,8 +27,8 @@ pub record IsResting (t : TableId) (sc : ScenarioOf) (floor end : ℕ) (m : Memb
   pub clock : m.air.clock ≡ end
   pub goes : m.halted ≡ false
 
--- Words, record and nodes are of one table and of this scenario. The record is cut at the end of the epoch, all nodes have come there, and
--- their rows were taken at the floor.
+-- Words, record and nodes are of one table and of this scenario. The record is cut at the end of the epoch, all nodes
+-- have come there, and their rows were taken at the floor.
 pub record IsTied (sc : ScenarioOf) (floor end : ℕ) (x : Parts) : Type 0 where
   pub parts : AreParts x.air.table (facts_of (fleet_of sc)) end x.clocks x.air
   pub posted : IsPostedTo (facts_of (fleet_of sc)) end x.air.sent

@@ -48,8 +48,8 @@ fn gather(alloc: Global, members: &mut Vec<Member>) -> Result<Vec<Row>, AllocErr
     Ok(rows)
 }
 
-/// The rows of the epoch from `floor` to `end` in the single global order, with the last row of each node where the end is
-/// the limit. They are taken from the runners.
+/// The rows of the epoch from `floor` to `end` in the single global order, with the last row of each node where the end
+/// is the limit. They are taken from the runners.
 pub fn epoch_rows(
     alloc: Global,
     scenario: &Scenario,
@@ -64,6 +64,7 @@ pub fn epoch_rows(
     ensures rows { IfOk result (λ v. rows_upto (fleet_of scenario.now) end ≡ rows_upto (fleet_of scenario.now) floor ++ v.items) }
     ensures left { OnOk result (members.new.items ≡ map taken_at members.old.items) }
 {
+    // Only the contract names it.
     let _ = floor;
     let mut rows = gather(alloc, members)?;
     sort(&mut rows)?;

@@ -11,8 +11,8 @@ use std::sync::Wait;
 // The cycles of one turn of a node, at most.
 const QUANTUM: u64 = 1_024;
 
-/// A node: its runner, its part of the air, the number of its next turn, and the least number of cycles from one of its sends
-/// to the next, which is the byte time.
+/// A node: its runner, its part of the air, the number of its next turn, and the least number of cycles from one of its
+/// sends to the next, which is the byte time.
 pub struct Member {
     pub runner: Runner,
     pub air: NodeAir,
@@ -92,14 +92,15 @@ impl Member {
         requires { IsUnderWay N.table N.world scenario.now N.floor end self.old }
         ensures { IsUnderWay N.table N.world scenario.now N.floor end self.new × (self.new.runner ≡ self.old.runner) }
     {
+        // Only the contract names them.
         let _ = scenario;
         let _ = end;
         self.air.halt(shared);
         self.halted = true;
     }
 
-    // Raises the node's clock word to the runner's cycle, and to the end of the epoch where the node goes on no more before
-    // that. It may stand higher already, where the node has looked ahead.
+    // Raises the node's clock word to the runner's cycle, and to the end of the epoch where the node goes on no more
+    // before that. It may stand higher already, where the node has looked ahead.
     fn raise<N: Session>(&mut self, shared: &Shared<Scenario, N>, scenario: &Scenario, end: u64)
         requires { IsUnderWay N.table N.world scenario.now N.floor end self.old }
         ensures member { IsUnderWay N.table N.world scenario.now N.floor end self.new }
@@ -107,6 +108,7 @@ impl Member {
         ensures halted { self.new.halted ≡ self.old.halted }
         ensures over { is_live end self.old.runner ≡ false → self.new.air.clock ≡ end }
     {
+        // Only the contract names it.
         let _ = scenario;
         let reached = if self.runner.is_live(end) {
             self.runner.cycle()
@@ -117,8 +119,8 @@ impl Member {
         self.air.raise(shared, clock);
     }
 
-    // Raises the node's clock word past its last send, which is posted: for a byte time from that send's cycle on it sends
-    // nothing more, so those that hear it need not wait until it gets there.
+    // Raises the node's clock word past its last send, which is posted: for a byte time from that send's cycle on it
+    // sends nothing more, so those that hear it need not wait until it gets there.
     fn look_ahead<N: Session>(
         &mut self,
         shared: &Shared<Scenario, N>,
@@ -130,6 +132,7 @@ impl Member {
         requires none { sends_below N.world.sends self.old.air.number (sent + self.old.gap) ≤ sends_passed self.old.runner }
         ensures { GoesOn N.table N.world scenario.now N.floor end self.old self.new }
     {
+        // Only the contract names it.
         let _ = scenario;
         let free = sent.saturating_add(self.gap).min(end);
         let clock = free.max(self.air.clock());
@@ -189,8 +192,8 @@ impl Member {
         }
     }
 
-    /// One step: the node raises its clock word, and then samples or takes a turn. Whether it is over for this epoch: the
-    /// node has come to the end or stopped, or it has halted.
+    /// One step: the node raises its clock word, and then samples or takes a turn. Whether it is over for this epoch:
+    /// the node has come to the end or stopped, or it has halted.
     pub fn step<N: Session, R: Wait, G: Gate>(
         &mut self,
         rt: &R,

@@ -32,8 +32,8 @@ impl Parts {
     ghost use Rattle.fleet_threads.specs.Member.{IsBack, numbers};
     ghost use Rattle.fleet_threads.specs.Nodes.{AreBegun};
 
-    /// One epoch in a session of its own, which is made, used and taken apart. The list is for nodes for which no thread is
-    /// found.
+    /// One epoch in a session of its own, which is made, used and taken apart. The list is for nodes for which no
+    /// thread is found.
     pub fn in_session<N: Session + Send + Sync, R: Threads + Wait + Sync, G: Gate + Sync>(
         self,
         rt: &R,

@@ -94,8 +94,8 @@ fn through<R: Threads + Wait + Sync, G: Gate + Sync>(
     Ok(Epoch { parts, rows })
 }
 
-/// A run of all nodes of a scenario on threads of their own, epoch by epoch. It has a record of bounded room; the rows of an
-/// epoch are given as it ends.
+/// A run of all nodes of a scenario on threads of their own, epoch by epoch. It has a record of bounded room; the rows
+/// of an epoch are given as it ends.
 pub struct ThreadRun {
     alloc: Global,
     scenario: Snapshot<Scenario>,
@@ -190,9 +190,9 @@ impl ThreadRun {
         }
     }
 
-    /// The rows of the next epoch, cycle by cycle and in a cycle node by node, with the last row of each node after the last
-    /// epoch. Each node has a thread of its own; all of them are joined before the call answers. The scenario is the one of
-    /// `new`. After `NoMemory` the run can only be dropped.
+    /// The rows of the next epoch, cycle by cycle and in a cycle node by node, with the last row of each node after the
+    /// last epoch. Each node has a thread of its own; all of them are joined before the call answers. The scenario is
+    /// the one of `new`. After `NoMemory` the run can only be dropped.
     pub fn epoch<R: Threads + Wait + Sync, G: Gate + Sync>(
         &mut self,
         rt: &R,
@@ -209,6 +209,7 @@ impl ThreadRun {
         let Some(parts) = self.parts.take() else {
             unreachable!();
         };
+        // The call's clause says that the scenario is one (`IsScenario`), which what follows rests on.
         let _lawful = scenario.lawful_topo();
         let floor = self.floor;
         let end = (floor + EPOCH).min(self.limit);
@@ -219,8 +220,8 @@ impl ThreadRun {
     }
 }
 
-/// The rows of a whole run of all nodes on threads of their own, in the single global order of cycles: cycle by cycle, in a
-/// cycle node by node, then the last row of each node. `Err` only for want of memory.
+/// The rows of a whole run of all nodes on threads of their own, in the single global order of cycles: cycle by cycle,
+/// in a cycle node by node, then the last row of each node. `Err` only for want of memory.
 pub fn run_threads<R: Threads + Wait + Sync, G: Gate + Sync>(
     rt: &R,
     alloc: Global,

@@ -53,9 +53,9 @@ fn work<N: Session, R: Wait, G: Gate>(
     unreachable!()
 }
 
-// The same, unless no thread was found for the node: then it is handed back as it is. The node that was refused last is the
-// one for which this is called where a thread was to be begun; those that have threads were never refused. No clause rests
-// on it.
+// Takes a node to the end of the epoch, unless no thread was found for it: then it is handed back as it is. The node
+// that was refused last is the one for which this is called where a thread was to be begun; those that have threads
+// were never refused. No clause rests on it.
 fn work_unless_refused<N: Session, R: Wait, G: Gate>(
     rt: &R,
     shared: &Shared<Scenario, N>,
@@ -118,9 +118,9 @@ fn breathe(backoff: &Backoff, moved: bool) {
     }
 }
 
-// Takes the nodes for which no thread was found to the end of the epoch, one event of each after the other. None of them
-// waits at a sample, since it may be one of the others for which it would wait. Where none of them got on, they wait for a
-// node that has a thread.
+// Takes the nodes for which no thread was found to the end of the epoch, one event of each after the other. None of
+// them waits at a sample, since it may be one of the others for which it would wait. Where none of them got on, they
+// wait for a node that has a thread.
 fn rotate<N: Session, R: Wait, G: Gate>(
     rt: &R,
     shared: &Shared<Scenario, N>,
@@ -144,8 +144,8 @@ fn rotate<N: Session, R: Wait, G: Gate>(
     unreachable!()
 }
 
-// A thread that takes the node to the end of the epoch. Else the node comes back as it is: where it goes on no more in this
-// epoch, so that a thread would only cost, and where none was found for it.
+// A thread that takes the node to the end of the epoch. Else the node comes back as it is: where it goes on no more in
+// this epoch, so that a thread would only cost, and where none was found for it.
 fn begin<'s, E, N: Session + Send + Sync, R: Threads + Wait + Sync, G: Gate + Sync>(
     scope: &Scope<'s, E>,
     rt: &'s R,
@@ -181,9 +181,9 @@ fn begin<'s, E, N: Session + Send + Sync, R: Threads + Wait + Sync, G: Gate + Sy
     }
 }
 
-// Starts the last node, goes on with the others, and joins it. When all are started, those that have no thread are run here.
-// A node whose thread has taken it to the end of the epoch stays there when it is worked on once more. (That `R` and `G` may
-// be shared is a condition, since the bounds of a function that calls itself are not told to its proof.)
+// Starts the last node, goes on with the others, and joins it. When all are started, those that have no thread are run
+// here. A node whose thread has taken it to the end of the epoch stays there when it is worked on once more. (That `R`
+// and `G` may be shared is a condition, since the bounds of a function that calls itself are not told to its proof.)
 fn run_from<'s, E, N: Session + Send + Sync, R: Threads + Wait + Sync, G: Gate + Sync>(
     scope: &Scope<'s, E>,
     rt: &'s R,

@@ -6,7 +6,8 @@ use Rattle.std.specs.List.{slice_get}
 use Rattle.ihex_loader.specs.Flash.{Image, byte_at}
 use Rattle.ihex_loader.specs.Line.{Line, Blank, Faulty, Record, data_word}
 
--- where some lines say a number: the last of those before line n that says one says v; where none does, v is the default
+-- where some lines say a number: the last of those before line n that says one says v; where none does, v is the
+-- default
 pub data IsLast (Says : ℕ → ℕ → Type 0) (n default v : ℕ) : Type 0 where
   NoneSays : ((m x : ℕ) → m < n → Says m x → ⊥) → v ≡ default → IsLast Says n default v
   LineSays : (m : ℕ) → m < n → Says m v → ((k x : ℕ) → m < k → k < n → Says k x → ⊥) → IsLast Says n default v

@@ -1,6 +1,6 @@
-//! Intel HEX text and the flash of an ATmega128 (Intel, Hexadecimal Object File Format Specification, record types 00 to 05): from text
-//! to flash, the accepted image byte for byte, or the first thing that is wrong with it and its line; and from words of flash to
-//! the text of a file.
+//! Intel HEX text and the flash of an ATmega128 (Intel, Hexadecimal Object File Format Specification, record types 00
+//! to 05): from text to flash, the accepted image byte for byte, or the first thing that is wrong with it and its line;
+//! and from words of flash to the text of a file.
 #![tactic(auto)]
 
 mod fault;

@@ -11,6 +11,7 @@ pub struct RecordBytes {
 }
 
 impl RecordBytes {
+    /// The record of these bytes: five or more, whose check byte, type and count the caller has looked at.
     pub fn new(bytes: Vec<u8>) -> Self
         requires { 5 ≤ length bytes.items }
         ensures { result.bytes.items ≡ bytes.items }

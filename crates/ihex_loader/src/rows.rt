@@ -13,8 +13,8 @@ fn check_of(bytes: &[u8]) -> u8
     0u8.wrapping_sub(sum_of(bytes))
 }
 
-// The digits, in upper case, of the bytes of a record: the count, the offset with its high byte first, the type, the data
-// and the check byte.
+// The digits, in upper case, of the bytes of a record: the count, the offset with its high byte first, the type, the
+// data and the check byte.
 fn digits_of(alloc: Global, kind: u8, offset: u16, bytes: &[u8]) -> Result<String, AllocError>
     requires { length bytes.now ≤ 255 }
     ensures { IfOk result (λ digits. string_bytes digits ≡ encode_upper (record_bytes kind offset bytes.now)) }

@@ -1,7 +1,7 @@
-//! Facts of single instructions, of their digits, of the images that bring them and of the sources that they are assembled
-//! from, in text files: each case has the words of one instruction, the operands of one rule, a number, an image or a
-//! source, and what comes of it. That is compared with what the crates of the instructions give; a case that is wrong is
-//! written, and how many there were. The head of each file has the forms of its cases.
+//! Facts of single instructions, of their digits, of the images that bring them and of the sources that they are
+//! assembled from, in text files: each case has the words of one instruction, the operands of one rule, a number, an
+//! image or a source, and what comes of it. That is compared with what the crates of the instructions give; a case that
+//! is wrong is written, and how many there were. The head of each file has the forms of its cases.
 #![tactic(auto)]
 
 mod cases;

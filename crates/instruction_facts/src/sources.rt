@@ -1,6 +1,6 @@
-// The sources of a file: it is lines of bytes. A line `== NAME` begins a case, a line `-> ..` ends it with what comes of it, and
-// the source is what stands between them, without the last LF. In it a line `* N TEXT` stands for N lines of the text, and in the
-// line that ends it `N*WORD` for a word N times.
+// The sources of a file: it is lines of bytes. A line `== NAME` begins a case, a line `-> ..` ends it with what comes
+// of it, and the source is what stands between them, without the last LF. In it a line `* N TEXT` stands for N lines of
+// the text, and in the line that ends it `N*WORD` for a word N times.
 use asm_text::{AsmFault, assemble};
 use case_files::{Failed, Tally, bytes_of, write_line};
 use sim_io::{Sink, write_all};

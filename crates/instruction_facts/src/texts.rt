@@ -45,8 +45,8 @@ pub fn has_cause(number: u8, wanted: &str) -> bool {
     }
 }
 
-/// Whether these are the digits of a number: of a byte, of a word, of a decimal one, or of a distance of words, in two's
-/// complement; `None` where it is no such number.
+/// Whether these are the digits of a number: of a byte, of a word, of a decimal one, or of a distance of words, in
+/// two's complement; `None` where it is no such number.
 pub fn has_digits(form: &str, number: &str, wanted: &str) -> Option<bool> {
     let mut out = ArrayString::<20>::new();
     match form {

@@ -1,5 +1,5 @@
--- A push and the pop behind it, and a call and the return behind it, in the SRAM of a node. The second instruction finds the
--- bus that it would find had the board been there from the first on.
+-- A push and the pop behind it, and a call and the return behind it, in the SRAM of a node. The second instruction
+-- finds the bus that it would find had the board been there from the first on.
 use Rattle.std.proofs.Common.{◌≡◌, ℕ, ◌+◌, ◌-◌, ◌/◌, ◌%◌, true, List, ap, ◌∙◌, arith}
 use Rattle.avr_decoder.specs.declared.op.Op.{Op}
 use Rattle.avr_decoder.specs.declared.op.Op.TheVariants as op

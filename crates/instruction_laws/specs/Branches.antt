@@ -1,5 +1,6 @@
--- What comparisons, sums and differences over one byte and over two mean (AVR Instruction Set Manual, "Conditional Branch Summary",
--- and the examples of CPC, ADC and SBC): the conditions of the branches, in terms of the numbers compared.
+-- What comparisons, sums and differences over one byte and over two mean (AVR Instruction Set Manual, "Conditional
+-- Branch Summary", and the examples of CPC, ADC and SBC): the conditions of the branches, in terms of the numbers
+-- compared.
 use Rattle.std.specs.Prelude.{Bool, ℤ, ◌≡◌, ◌≢◌, ℕ, ◌+◌, ◌*◌, ◌<◌, ◌==◌, nat_lt, int_lt, length, slice_index}
 use Rattle.arith_step.specs.Whole.{signed}
 use Rattle.avr_base.specs.Flags.{C, S, Z, has_flag}

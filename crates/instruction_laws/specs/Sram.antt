@@ -1,5 +1,5 @@
--- The SRAM of a node as a memory, and what instructions do with the stack in it (ATmega128 datasheet, "SRAM Data Memory",
--- "Stack Pointer").
+-- The SRAM of a node as a memory, and what instructions do with the stack in it (ATmega128 datasheet, "SRAM Data
+-- Memory", "Stack Pointer").
 use Rattle.std.specs.Prelude.{◌≡◌, ℕ, ◌+◌, ◌-◌, ◌/◌, ◌%◌, ◌==◌, Bool, List, length, slice_set}
 use Rattle.avr_decoder.specs.declared.op.Op.{Op}
 use Rattle.avr_decoder.specs.declared.op.Op.TheVariants as op
@@ -44,8 +44,8 @@ HasStack room cpu = HasRoom sram_first sram_last room cpu
 abbrev pub then_executed : List ℕ → Op → Board → Outcome NodeBus → Outcome NodeBus
 then_executed flash instruction board before = executed flash instruction before.cpu (with_board before.bus board)
 
--- a node executes a call of so many words and the return that follows it, whatever its devices do meanwhile: the program
--- goes on behind the call, all else of the core is as before, and the SRAM still has the return address
+-- a node executes a call of so many words and the return that follows it, whatever its devices do meanwhile: the
+-- program goes on behind the call, all else of the core is as before, and the SRAM still has the return address
 abbrev pub NodeComesBack : List ℕ → Op → ℕ → Cpu → NodeBus → Type 0
 NodeComesBack flash call words cpu bus =
     (board : Board)

@@ -57,8 +57,8 @@ pub fn branch_law<B>()
         → flow_effect a.get a.put flash (op.Brbc S k) cpu bus ≡ branches (not (int_lt (signed half m) (signed half n))) k cpu bus }
 {}
 
-/// ADD of the low bytes and ADC of the high ones give the sum of the two words modulo 65,536, and C where it does not fit.
-/// The sum's low byte goes to a register that ADC does not read.
+/// ADD of the low bytes and ADC of the high ones give the sum of the two words modulo 65,536, and C where it does not
+/// fit. The sum's low byte goes to a register that ADC does not read.
 pub fn sum_law()
     ensures sum { (dl dh rl rh : ℕ) (cpu : Cpu) → IsCore cpu → AreApart dl dh → dl ≢ rh
         → word_in dl dh (both (op.Add dl rl) (op.Adc dh rh) cpu) ≡ (word_in dl dh cpu + word_in rl rh cpu) % 65536 }
@@ -66,8 +66,8 @@ pub fn sum_law()
         → has_flag (both (op.Add dl rl) (op.Adc dh rh) cpu).sreg.bits C ≡ nat_le 65536 (word_in dl dh cpu + word_in rl rh cpu) }
 {}
 
-/// SUB of the low bytes and SBC of the high ones, and SUBI and SBCI, give the difference of the two words modulo 65,536,
-/// and the flags compare them.
+/// SUB of the low bytes and SBC of the high ones, and SUBI and SBCI, give the difference of the two words modulo
+/// 65,536, and the flags compare them.
 pub fn difference_law()
     ensures registers { (dl dh rl rh : ℕ) (cpu : Cpu) → IsCore cpu → AreApart dl dh → dl ≢ rh
         → word_in dl dh (both (op.Sub dl rl) (op.Sbc dh rh) cpu) ≡ (word_in dl dh cpu + 65536 - word_in rl rh cpu) % 65536 }
@@ -95,9 +95,10 @@ pub fn return_law<B>()
         → IsStack a sound first last 2 cpu → sound bus ≡ true → TakesReturn a 1 cpu bus mid bus' → ComesBack a flash op.Icall 1 cpu bus bus' }
 {}
 
-/// The SRAM of a node is such a memory, from 0x0100 to 0x10FF, while it has its 4,096 bytes: what is stored at an address is
-/// loaded from it, and the bytes at the others stay. A store there never stops. The SRAM has so many bytes after reset, and
-/// still has them after each cycle, up to its sample of the air and from it on; in the code its type says so of every node.
+/// The SRAM of a node is such a memory, from 0x0100 to 0x10FF, while it has its 4,096 bytes: what is stored at an
+/// address is loaded from it, and the bytes at the others stay. A store there never stops. The SRAM has so many bytes
+/// after reset, and still has them after each cycle, up to its sample of the air and from it on; in the code its type
+/// says so of every node.
 pub fn sram_law()
     ensures memory { IsMemory node_accesses has_sram sram_first sram_last }
     ensures stores { (bus : NodeBus) (at x : ℕ) → sram_first ≤ at → at ≤ sram_last → bus_put bus at x ≡ Ok (with_byte at x bus) }
@@ -106,9 +107,9 @@ pub fn sram_law()
     ensures finished { (t : ℕ) (s : NodeState) (h : Heard) → has_sram s.bus ≡ true → has_sram (finished_in t s h).bus ≡ true }
 {}
 
-/// The stack of a node, with the stack pointer in its SRAM and room for what is pushed: PUSH and then POP give a register the
-/// byte that was pushed, and RET comes back behind CALL, RCALL and ICALL, whatever the devices do meanwhile. All else of the
-/// core is as before, and what was pushed stays in the SRAM.
+/// The stack of a node, with the stack pointer in its SRAM and room for what is pushed: PUSH and then POP give a
+/// register the byte that was pushed, and RET comes back behind CALL, RCALL and ICALL, whatever the devices do
+/// meanwhile. All else of the core is as before, and what was pushed stays in the SRAM.
 pub fn node_stack_law()
     ensures push { (flash : List ℕ) (r d : ℕ) (cpu : Cpu) (bus : NodeBus) (board : Board) → has_sram bus ≡ true → HasStack 1 cpu
         → then_executed flash (op.Pop d) board (executed flash (op.Push r) cpu bus)

@@ -33,6 +33,7 @@ pub fn send_fault(topo: &Topo, sends: &[Send]) -> Option<usize>
 pub fn ask_fault(topo: &Topo, asks: &[Ask]) -> Option<usize>
     ensures { MatchOption result (AllKeep (IsNextAsk topo.now) asks.now) (IsFirstFault (IsNextAsk topo.now) asks.now) }
 {
+    // The call's clause says that the topology is lawful, so that each node has its place in `free`.
     let _nodes = topo.nodes();
     let mut free = [0u64; 64];
     for (place, ask) in asks.iter().enumerate() {

@@ -28,14 +28,15 @@ impl ListWorld {
     ghost use Rattle.std.specs.Prelude.{◌≡◌, ◌↔◌, IsOk, IfOk, IfErr};
     ghost use Rattle.world_core.specs.Lawful.{IsLawful, IsWorldFault};
 
-    /// The world of these lists, in each of which a node's entries stand in order. It takes no memory.
-    /// The first entry whose node or cycle is out of range, or that comes too early behind that node's entry before it
-    /// (a send by less than the byte time, a sample by less than one cycle), is refused with its place, the sends first.
+    /// The world of these lists, in each of which a node's entries stand in order. It takes no memory. The first entry
+    /// whose node or cycle is out of range, or that comes too early behind that node's entry before it (a send by less
+    /// than the byte time, a sample by less than one cycle), is refused with its place, the sends first.
     pub fn new(topo: Topo, sends: Vec<Send>, asks: Vec<Ask>) -> Result<ListWorld, WorldFault>
         ensures ok { IsOk result ↔ IsLawful record { topo = topo; sends = sends.items; asks = asks.items } }
         ensures value { IfOk result (λ w. w ≡ record { topo = topo; sends = sends.items; asks = asks.items }) }
         ensures fault { IfErr result (IsWorldFault record { topo = topo; sends = sends.items; asks = asks.items }) }
     {
+        // The call's clause says that the topology is lawful, which what follows rests on.
         let _lawful = topo.nodes();
         if let Some(place) = send_fault(&topo, &sends) {
             return Err(WorldFault::SendOrder { place });

@@ -1,5 +1,5 @@
--- Where the words of a network of n nodes lie in the table. Own to this simulator.
--- A line of the processor's cache has eight words of the table. Only the first word of each line is used, so that no two words share a line.
+-- Where the words of a network of n nodes lie in the table. Own to this simulator. A line of the processor's cache has
+-- eight words of the table. Only the first word of each line is used, so that no two words share a line.
 use Rattle.std.specs.Prelude.{ℕ, ◌+◌, ◌*◌, ◌/◌}
 
 -- the first word of line i, and the line of a word
@@ -9,7 +9,8 @@ word_at i = 8 * i
 abbrev pub line_of : ℕ → ℕ
 line_of word = word / 8
 
--- the clock of node k, the number of its posted sends, the least cycle that somebody wants its clock to pass, and the halt
+-- the clock of node k, the number of its posted sends, the least cycle that somebody wants its clock to pass, and the
+-- halt
 abbrev pub clock_at : ℕ → ℕ
 clock_at k = word_at k
 

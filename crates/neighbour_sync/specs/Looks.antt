@@ -13,7 +13,8 @@ peeked n loads = record n { loads = n.loads ++ loads }
 abbrev pub looked : NodeFacts → List (ℕ × ℕ) → List ℕ → NodeFacts
 looked n loads halts = record n { loads = n.loads ++ loads; halts = n.halts ++ halts }
 
--- where node j may hear node k in cycle s, one of these looks was at a clock of node k past the last cycle whose sends may be heard
+-- where node j may hear node k in cycle s, one of these looks was at a clock of node k past the last cycle whose sends
+-- may be heard
 abbrev pub IsSeenPast : WorldFacts → ℕ → ℕ → List (ℕ × ℕ) → ℕ → Type 0
 IsSeenPast w j s loads k = is_needed w.topo k j s ≡ true → (c : ℕ) × (s - latency_of w.topo k j < c) × Contains loads (k, c)
 

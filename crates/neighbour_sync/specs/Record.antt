@@ -1,4 +1,5 @@
--- The record of the air, as contracts see it: what always holds of it, and what each call makes of it. Own to this simulator.
+-- The record of the air, as contracts see it: what always holds of it, and what each call makes of it. Own to this
+-- simulator.
 use Rattle.std.specs.Prelude.{◌≡◌, ℕ, ◌+◌, ◌<◌, nat_le, List, [], ◌∷◌, ◌++◌, slice_set, replicate}
 use Rattle.std.specs.List.{All, filter}
 use Rattle.atomic_table.specs.Seated.{TableId}
@@ -16,8 +17,8 @@ use Rattle.neighbour_sync.specs.declared.answers.Posted.{Posted}
 use Rattle.neighbour_sync.specs.declared.answers.Posted.TheVariants.{Added, There, Early}
 use Rattle.neighbour_sync.specs.Loads.{IsBehind}
 
--- The words that it goes by and the world, what its seat knows (how many sends of each node are posted, and the clocks that it loaded),
--- the cycle up to which it is cut, and the sends and samples in the order in which they were recorded.
+-- The words that it goes by and the world, what its seat knows (how many sends of each node are posted, and the clocks
+-- that it loaded), the cycle up to which it is cut, and the sends and samples in the order in which they were recorded.
 pub record AirRecord : Type 0 where
   pub table : TableId
   pub world : WorldFacts
@@ -31,7 +32,8 @@ pub record AirRecord : Type 0 where
 abbrev pub epoch : ℕ
 epoch = 262144
 
--- Whenever the record is at rest: its sends are those of the posted ones that may still be heard, and each of its samples is the true one and final.
+-- Whenever the record is at rest: its sends are those of the posted ones that may still be heard, and each of its
+-- samples is the true one and final.
 pub record IsSound (r : AirRecord) : Type 0 where
   pub lawful : IsLawful r.world
   pub recorded : IsRecorded r.world r.floor r.sent r.sends r.samples
@@ -54,13 +56,15 @@ with_sample r j s h = record r { samples = r.samples ++ (record { node = j; cycl
 abbrev pub cut_at : AirRecord → ℕ → AirRecord
 cut_at r f = record r { floor = f; sends = filter (is_kept r.world.topo f) r.sends; samples = filter (λ x. nat_le f x.0.cycle) r.samples }
 
--- send number `number` of its node, counted from 0, was to be posted: it is the next one, it stands there already, or others come before it
+-- send number `number` of its node, counted from 0, was to be posted: it is the next one, it stands there already, or
+-- others come before it
 abbrev pub IsPost : AirRecord → Send → ℕ → Posted → AirRecord → Type 0
 IsPost r x number Added new = (sent_of r.sent x.node ≡ number) × (new ≡ with_send r x)
 IsPost r x number There new = (number < sent_of r.sent x.node) × (new ≡ r)
 IsPost r x number (Early count) new = (sent_of r.sent x.node < number) × (count ≡ sent_of r.sent x.node) × (new ≡ r)
 
--- node j sampled in cycle s: the true answer is recorded; or the clock of a node that it may hear was loaded last, and was not far enough
+-- node j sampled in cycle s: the true answer is recorded; or the clock of a node that it may hear was loaded last, and
+-- was not far enough
 abbrev pub IsSample : AirRecord → ℕ → ℕ → Sampled → AirRecord → Type 0
 IsSample r j s (Heard h) new = (h ≡ truth r.world j s) × ((more : List (ℕ × ℕ)) × (new ≡ with_sample (with_loads r more) j s h))
 IsSample r j s (NotYet k c) new = IsBehind r.world j s k c × ((more : List (ℕ × ℕ)) × (new ≡ with_loads r (more ++ (k, c) ∷ [])))

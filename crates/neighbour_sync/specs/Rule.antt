@@ -1,4 +1,5 @@
--- The rule of the clock words: what holds of the words and of what each seat knows, between any two steps. Own to this simulator.
+-- The rule of the clock words: what holds of the words and of what each seat knows, between any two steps. Own to this
+-- simulator.
 use Rattle.std.specs.Prelude.{◌≡◌, ℕ, suc, ◌≤◌, ◌<◌, true, false, List, [], length, slice_index, replicate}
 use mathlib.Core.Option.{some}
 use lib.ListN.{get_elem?}
@@ -16,7 +17,8 @@ pub record IsAirView (w : WorldFacts) (v : View) : Type 0 where
   pub made : v.made ≤ w.topo.nodes
   pub sent : length v.sent ≡ w.topo.nodes
 
--- the seat of node k: its clock word is what it stored last, its sent word is no less than what it saw there, and where it has stored the halt the halt is 1
+-- the seat of node k: its clock word is what it stored last, its sent word is no less than what it saw there, and where
+-- it has stored the halt the halt is 1
 pub record IsNodeView (w : WorldFacts) (words : List ℕ) (k : ℕ) (v : View) : Type 0 where
   pub is_node : v.is_air ≡ false
   pub world : v.world ≡ w
@@ -25,8 +27,8 @@ pub record IsNodeView (w : WorldFacts) (words : List ℕ) (k : ℕ) (v : View) :
   pub told : v.told ≤ slice_index words (sent_at w.topo.nodes k)
   pub stopped : v.stopped ≡ true → slice_index words (halt_at w.topo.nodes) ≡ 1
 
--- The first seat is the air's. Behind it stand the seats of the nodes 0, 1, .. in order, one each, as many as the air's seat has made.
--- Nothing is said of the want words, and nothing rests on them: they only tell whom to wake.
+-- The first seat is the air's. Behind it stand the seats of the nodes 0, 1, .. in order, one each, as many as the air's
+-- seat has made. Nothing is said of the want words, and nothing rests on them: they only tell whom to wake.
 pub record KeepsRule (w : WorldFacts) (s : State (Unit {0}) View) : Type 0 where
   pub words : length s.words ≡ word_count w.topo.nodes
   pub air : View

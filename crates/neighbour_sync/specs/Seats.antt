@@ -16,8 +16,8 @@ pub record AirFacts : Type 0 where
   pub sent : List ℕ
   pub loads : List (ℕ × ℕ)
 
--- A node's seat: the node, the clock that it stored last, how many of its sends it saw to be posted, each clock that it loaded, with its node,
--- and each value of the halt that it loaded, in order, and whether it has stored the halt.
+-- A node's seat: the node, the clock that it stored last, how many of its sends it saw to be posted, each clock that it
+-- loaded, with its node, and each value of the halt that it loaded, in order, and whether it has stored the halt.
 pub record NodeFacts : Type 0 where
   pub table : TableId
   pub world : WorldFacts

@@ -11,7 +11,8 @@ use Rattle.neighbour_sync.specs.Looks.{looked, AreSeenPast}
 abbrev pub IsEnd : WorldFacts → NodeFacts → ℕ → NodeFacts → Type 0
 IsEnd w old s new = (tries : ℕ) × (loads : List (ℕ × ℕ)) × AreSeenPast w old.number s loads × (new ≡ looked old loads (replicate (suc tries) 0))
 
--- The node looked at the halt once in each try, and it was 1 in the last one where the answer is Halted, and 0 elsewhere.
+-- The node looked at the halt once in each try, and it was 1 in the last one where the answer is Halted, and 0
+-- elsewhere.
 abbrev pub IsPassed : WorldFacts → NodeFacts → ℕ → Passed → NodeFacts → Type 0
 IsPassed w old s (Heard h) new = (h ≡ truth w old.number s) × IsEnd w old s new
 IsPassed w old s Halted new = (tries : ℕ) × (loads : List (ℕ × ℕ)) × (new ≡ looked old loads (replicate tries 0 ++ 1 ∷ []))

@@ -6,7 +6,8 @@ use world_core::Heard;
 pub enum Tried {
     /// What the node hears, which is recorded.
     Heard(Heard),
-    /// That cannot be told yet: node `node` may still send what would be heard, since its clock is at the cycle `clock`.
+    /// That cannot be told yet: node `node` may still send what would be heard, since its clock is at the cycle
+    /// `clock`.
     NotYet {
         /// The number of such a node.
         node: u8,

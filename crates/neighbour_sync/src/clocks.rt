@@ -25,22 +25,23 @@ const NOBODY: u64 = u64::MAX;
 
 pub(crate) type Words<W> = Table<(), View, Snapshot<W>, ClockRule, Global>;
 
-/// The clock words of the nodes of a world, which threads share by reference. Each call with a seat is one step, and `raise` a
-/// second one where it wakes somebody: it waits for no one, but for `sleep_until_past`, and takes no memory, and the seat is
-/// of the same table, lent by whoever has it.
+/// The clock words of the nodes of a world, which threads share by reference. Each call with a seat is one step, and
+/// `raise` a second one where it wakes somebody: it waits for no one, but for `sleep_until_past`, and takes no memory,
+/// and the seat is of the same table, lent by whoever has it.
 ///
-/// *Why no wake is lost.* All steps on the words, loads too, are sequentially consistent: they stand in one order, in which
-/// each thread's stand as it takes them. Who is about to sleep lowers the want word of the node for which it waits and then
-/// looks at that node's clock (`sleep_until_past`). The node stores its clock and then looks at its want word (`raise`). So
-/// where the look at the clock comes before the store, the want stands in the word before the node looks there. If the node
-/// has passed it, it clears the word, and wakes all who sleep there behind that. A sleep begins only while the word still
-/// shows what it showed with this want in it, and the system compares and goes to sleep in one step, in which no wake falls:
-/// where the word was cleared before, the sleep ends at once, and where it is cleared later, the wake behind that finds it.
-/// A want that is cleared unseen, or that was not passed yet, is not lost either: its sleep ends the same way, and it is put
-/// there anew. Where another has lowered the word meanwhile, the sleep ends at once too, or begins at a want that is no
-/// higher than its own, and so is passed no later. (The system compares the low half of the word. The wants of one epoch lie
-/// closer than that, and one of an earlier epoch is below the clock, so the node's next raise clears it; a want whose low half
-/// is that of `NOBODY`, one in each 4,294,967,296 cycles, could sleep for its 10 ms.)
+/// *Why no wake is lost.* All steps on the words, loads too, are sequentially consistent: they stand in one order, in
+/// which each thread's stand as it takes them. Who is about to sleep lowers the want word of the node for which it
+/// waits and then looks at that node's clock (`sleep_until_past`). The node stores its clock and then looks at its want
+/// word (`raise`). So where the look at the clock comes before the store, the want stands in the word before the node
+/// looks there. If the node has passed it, it clears the word, and wakes all who sleep there behind that. A sleep
+/// begins only while the word still shows what it showed with this want in it, and the system compares and goes to
+/// sleep in one step, in which no wake falls: where the word was cleared before, the sleep ends at once, and where it
+/// is cleared later, the wake behind that finds it. A want that is cleared unseen, or that was not passed yet, is not
+/// lost either: its sleep ends the same way, and it is put there anew. Where another has lowered the word meanwhile,
+/// the sleep ends at once too, or begins at a want that is no higher than its own, and so is passed no later. (The
+/// system compares the low half of the word. The wants of one epoch lie closer than that, and one of an earlier epoch
+/// is below the clock, so the node's next raise clears it; a want whose low half is that of `NOBODY`, one in each
+/// 4,294,967,296 cycles, could sleep for its 10 ms.)
 pub struct Clocks<W: World> {
     table: Words<W>,
     nodes: u8,
@@ -127,8 +128,8 @@ impl<W: World> Clocks<W> {
         seat.clock = clock;
     }
 
-    // Wakes those who sleep until the clock of the seat's node has passed a cycle, if it has passed the least of those cycles.
-    // While it has not, this is one load. One who wants a later cycle is woken with them, and sleeps again.
+    // Wakes those who sleep until the clock of the seat's node has passed a cycle, if it has passed the least of those
+    // cycles. While it has not, this is one load. One who wants a later cycle is woken with them, and sleeps again.
     fn serve(&self, seat: &mut NodeSeat)
         requires { seat.old.table ≡ self.now.table }
         ensures { seat.new ≡ seat.old }
@@ -140,9 +141,10 @@ impl<W: World> Clocks<W> {
         }
     }
 
-    /// Raises the clock of the seat's node to this cycle, so that others need not wait for the node's sends below it, and wakes
-    /// those who sleep until it is there (`sleep_until_past`). Where the clock stands there already it does nothing.
-    /// The clock may not fall or pass the limit, and the seat has to have seen that all its sends below it are posted.
+    /// Raises the clock of the seat's node to this cycle, so that others need not wait for the node's sends below it,
+    /// and wakes those who sleep until it is there (`sleep_until_past`). Where the clock stands there already it does
+    /// nothing. The clock may not fall or pass the limit, and the seat has to have seen that all its sends below it are
+    /// posted.
     pub fn raise(&self, seat: &mut NodeSeat, clock: u64)
         requires table { seat.old.table ≡ self.now.table }
         requires rises { seat.old.clock ≤ clock }
@@ -166,8 +168,8 @@ impl<W: World> Clocks<W> {
         get::<_, LoadClock>(&self.table, &mut seat.seat, clock_word(node))
     }
 
-    /// A first look at the clock of a node, to see whether it is worth while to ask the record. Nothing follows from it:
-    /// the seat of a node does not know what is posted of another.
+    /// A first look at the clock of a node, to see whether it is worth while to ask the record. Nothing follows from
+    /// it: the seat of a node does not know what is posted of another.
     pub fn peek_clock(&self, seat: &mut NodeSeat, node: u8) -> u64
         requires table { seat.old.table ≡ self.now.table }
         requires node { node < seat.old.world.topo.nodes }
@@ -200,8 +202,8 @@ impl<W: World> Clocks<W> {
         lower::<_, Want>(&self.table, &mut seat.seat, word, cycle).min(cycle)
     }
 
-    /// Sleeps until the clock of a node has passed this cycle, and for 10 ms at most. It may return at any time, as it does where
-    /// there is no such node, and nothing follows from it.
+    /// Sleeps until the clock of a node has passed this cycle, and for 10 ms at most. It may return at any time, as it
+    /// does where there is no such node, and nothing follows from it.
     pub fn sleep_until_past<R: Wait>(&self, rt: &R, seat: &mut NodeSeat, node: u8, cycle: u64)
         requires { seat.old.table ≡ self.now.table }
         ensures { seat.new ≡ seat.old }

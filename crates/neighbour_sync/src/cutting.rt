@@ -9,8 +9,9 @@ use crossbeam_utils::Backoff;
 use std::sync::Wait;
 use world_core::World;
 
-/// Raises the floor of a record that is under no lock to this cycle, as soon as the clock of each node has come to it. The
-/// sends that are over there, which nobody can hear any more, are gone, and the samples below it. It takes no memory.
+/// Raises the floor of a record that is under no lock to this cycle, as soon as the clock of each node has come to it.
+/// The sends that are over there, which nobody can hear any more, are gone, and the samples below it. It takes no
+/// memory.
 pub fn cut_when_passed<W: World, R: Wait>(rt: &R, clocks: &Clocks<W>, air: &mut Air, floor: u64)
     requires table { air.old.table ≡ clocks.now.table }
     requires rises { air.old.floor ≤ floor }

@@ -61,8 +61,8 @@ pub fn first_behind<W: World>(
     None
 }
 
-/// The first node whose clock is below this cycle, as it was loaded last. Where there is none, all clocks were loaded, in
-/// the order of the nodes.
+/// The first node whose clock is below this cycle, as it was loaded last. Where there is none, all clocks were loaded,
+/// in the order of the nodes.
 pub fn first_below<W: World>(
     clocks: &Clocks<W>,
     seat: &mut AirSeat,

@@ -36,8 +36,8 @@ fn late_clock<W: World>(
     }
 }
 
-/// The first node that the seat's node may hear in this cycle and that is not far enough, as its clock was seen last. Where
-/// there is none, the clock of each that may be heard was seen to be past what may be heard of it.
+/// The first node that the seat's node may hear in this cycle and that is not far enough, as its clock was seen last.
+/// Where there is none, the clock of each that may be heard was seen to be past what may be heard of it.
 pub fn first_behind<W: World>(
     clocks: &Clocks<W>,
     seat: &mut NodeSeat,

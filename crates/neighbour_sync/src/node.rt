@@ -8,8 +8,8 @@ use std::marker::Model;
 use std::sync::{Arc, Wait};
 use world_core::{Send, Topo, World};
 
-/// A node's part of the air: its seat at the clock words, and the topology, by which it sees for whom it has to wait. All nodes
-/// hold one topology together.
+/// A node's part of the air: its seat at the clock words, and the topology, by which it sees for whom it has to wait.
+/// All nodes hold one topology together.
 pub struct NodeAir {
     seat: NodeSeat,
     topo: Arc<Topo>,
@@ -72,9 +72,9 @@ impl NodeAir {
         self.seat.told()
     }
 
-    /// Raises the node's clock to this cycle, so that others need not wait for its sends below it, and wakes those who sleep until
-    /// it is there (`sample_when_passed`). It takes no lock.
-    /// The clock may not fall or pass the limit, and the node has to have seen that all its sends below it are posted.
+    /// Raises the node's clock to this cycle, so that others need not wait for its sends below it, and wakes those who
+    /// sleep until it is there (`sample_when_passed`). It takes no lock. The clock may not fall or pass the limit, and
+    /// the node has to have seen that all its sends below it are posted.
     pub fn raise<W: World, N: Session>(&mut self, shared: &Shared<W, N>, clock: u64)
         requires session { (self.old.table ≡ N.table) × (self.old.world ≡ N.world) }
         requires rises { self.old.clock ≤ clock }
@@ -85,9 +85,9 @@ impl NodeAir {
         shared.clocks().raise(&mut self.seat, clock);
     }
 
-    /// Posts a send of the node, which is number `number` of its sends, counted from 0, and lies below the session's floor and
-    /// an epoch. It posts under the lock until the send stands in the record, and then looks until it sees that, so that the
-    /// node's next raise may pass it. It takes no memory.
+    /// Posts a send of the node, which is number `number` of its sends, counted from 0, and lies below the session's
+    /// floor and an epoch. It posts under the lock until the send stands in the record, and then looks until it sees
+    /// that, so that the node's next raise may pass it. It takes no memory.
     pub fn post<W: World, N: Session, R: Wait>(
         &mut self,
         rt: &R,
@@ -107,10 +107,10 @@ impl NodeAir {
         see_posted(rt, shared.clocks(), &mut self.seat, number);
     }
 
-    /// Tries to take one of the node's samples, not below the session's floor. It looks at the halt first, then at the clocks
-    /// of the nodes that it may hear, and takes the lock only where it has seen all of them far enough; but for the lock it
-    /// waits for nobody. What is heard is what all sends of the world give, and is recorded.
-    /// `Halted` exactly where its look at the halt gave 1. `NotYet` only where the clock that it names was looked at last, is of
+    /// Tries to take one of the node's samples, not below the session's floor. It looks at the halt first, then at the
+    /// clocks of the nodes that it may hear, and takes the lock only where it has seen all of them far enough; but for
+    /// the lock it waits for nobody. What is heard is what all sends of the world give, and is recorded. `Halted`
+    /// exactly where its look at the halt gave 1. `NotYet` only where the clock that it names was looked at last, is of
     /// a node that may be heard, and is not past the last cycle whose sends may be heard.
     pub fn try_sample<W: World, N: Session, R: Wait>(
         &mut self,
@@ -144,9 +144,9 @@ impl NodeAir {
             .sleep_until_past(rt, &mut self.seat, node, last);
     }
 
-    /// Takes one of the node's samples, not below the session's floor, as soon as the nodes that it may hear are far enough.
-    /// While it waits it looks at words, and at the lock not at all, and sleeps between its looks until the one that it waits for is
-    /// far enough. `Halted` only where its last look at the halt gave 1, and no earlier one did.
+    /// Takes one of the node's samples, not below the session's floor, as soon as the nodes that it may hear are far
+    /// enough. While it waits it looks at words, and at the lock not at all, and sleeps between its looks until the one
+    /// that it waits for is far enough. `Halted` only where its last look at the halt gave 1, and no earlier one did.
     pub fn sample_when_passed<W: World, N: Session, R: Wait>(
         &mut self,
         rt: &R,

@@ -50,8 +50,8 @@ fn seat_nodes<W: World>(
 }
 
 impl<W: World> Clocks<W> {
-    /// The words of this world, with a seat for each node, in the order of their numbers, and the air's seat. No cycle is
-    /// passed yet, no send is posted, and no node has halted. After `NoMemory` nothing is left of it.
+    /// The words of this world, with a seat for each node, in the order of their numbers, and the air's seat. No cycle
+    /// is passed yet, no send is posted, and no node has halted. After `NoMemory` nothing is left of it.
     pub fn new(alloc: Global, world: &W) -> Result<(Clocks<W>, Vec<NodeSeat>, AirSeat), NoMemory>
         ensures world { IfOk result (λ r. r.0.world ≡ W.facts world.now) }
         ensures nodes { IfOk result (λ r. AreFirstNodes r.0.table (W.facts world.now) r.1.items) }

@@ -51,8 +51,8 @@ fn node_airs<W: World>(
     Ok(nodes)
 }
 
-/// The clock words of a world, its record, and the part of each node, in order of number. All are of one table and of this
-/// world; nothing is sent, sampled or passed yet. After `NoMemory` nothing is left of it.
+/// The clock words of a world, its record, and the part of each node, in order of number. All are of one table and of
+/// this world; nothing is sent, sampled or passed yet. After `NoMemory` nothing is left of it.
 pub fn open_air<W: World>(
     alloc: Global,
     world: &W,

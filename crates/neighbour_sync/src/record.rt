@@ -10,9 +10,9 @@ use std::alloc::Global;
 use std::marker::Model;
 use world_core::{Ask, EPOCH, Heard, NoMemory, Sampled, Send, SendLog, Topo, World};
 
-/// The record of the sends and samples of a world, with the air's seat. Whenever no call is at work on it, each recorded
-/// sample is what the one order of all cycles gives, and no send that is still to be posted can alter it.
-/// Its room is that of the sends of an epoch: it is cut at the end of each.
+/// The record of the sends and samples of a world, with the air's seat. Whenever no call is at work on it, each
+/// recorded sample is what the one order of all cycles gives, and no send that is still to be posted can alter it. Its
+/// room is that of the sends of an epoch: it is cut at the end of each.
 pub struct Air {
     seat: AirSeat,
     topo: Topo,
@@ -87,8 +87,8 @@ impl Air {
     }
 
     /// Records a send, which is number `number` of its node, counted from 0, and lies below the floor and an epoch.
-    /// `Added` exactly where it is the next one; `There` exactly where it was posted before; `Early` exactly where others of
-    /// its node come before it. `There` and `Early` change nothing. It takes no memory.
+    /// `Added` exactly where it is the next one; `There` exactly where it was posted before; `Early` exactly where
+    /// others of its node come before it. `There` and `Early` change nothing. It takes no memory.
     pub fn post<W: World>(&mut self, clocks: &Clocks<W>, send: Send, number: u64) -> Posted
         requires table { self.old.table ≡ clocks.now.table }
         requires number { IsSendNumber self.old.world number send }
@@ -108,9 +108,10 @@ impl Air {
         Posted::Added
     }
 
-    /// One of the world's samples, not below the floor. What is heard is what all sends of the world give, and is recorded.
-    /// `NotYet` only where the clock that it names was loaded in this call, is of a node that may be heard, and is not past
-    /// the last cycle whose sends may be heard. `NotYet` and `NoMemory` change nothing but what the seat has loaded.
+    /// One of the world's samples, not below the floor. What is heard is what all sends of the world give, and is
+    /// recorded. `NotYet` only where the clock that it names was loaded in this call, is of a node that may be heard,
+    /// and is not past the last cycle whose sends may be heard. `NotYet` and `NoMemory` change nothing but what the
+    /// seat has loaded.
     pub fn sample<W: World>(&mut self, clocks: &Clocks<W>, node: u8, cycle: u64) -> Sampled
         requires table { self.old.table ≡ clocks.now.table }
         requires asked { Contains self.old.world.asks record { node = node; cycle = cycle } }
@@ -132,9 +133,10 @@ impl Air {
         Sampled::Heard(heard)
     }
 
-    /// Raises the floor to this cycle, where the clock of each node was loaded and was at least that. The sends that are over
-    /// there, which nobody can hear any more, are gone, and the samples below it. `Behind` only where the clock that it names was loaded in
-    /// this call and is below the cycle; nothing then changes but what the seat has loaded. It takes no memory.
+    /// Raises the floor to this cycle, where the clock of each node was loaded and was at least that. The sends that
+    /// are over there, which nobody can hear any more, are gone, and the samples below it. `Behind` only where the
+    /// clock that it names was loaded in this call and is below the cycle; nothing then changes but what the seat has
+    /// loaded. It takes no memory.
     pub fn cut<W: World>(&mut self, clocks: &Clocks<W>, floor: u64) -> Result<(), Behind>
         requires table { self.old.table ≡ clocks.now.table }
         requires rises { self.old.floor ≤ floor }

@@ -4,8 +4,8 @@ use std::collections::LinkedList;
 use std::snapshot::Snapshot;
 use world_core::{World, WorldFacts};
 
-/// What a seat knows: the air's, or a node's. No value of it is made. What the other kind of seat alone knows is 0, false
-/// or empty.
+/// What a seat knows: the air's, or a node's. No value of it is made. What the other kind of seat alone knows is 0,
+/// false or empty.
 pub struct View {
     /// The world whose clocks these are.
     pub world: WorldFacts,

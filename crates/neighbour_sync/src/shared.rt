@@ -7,8 +7,8 @@ use std::marker::{Model, PhantomData};
 use std::sync::{Mutex, Wait};
 use world_core::{Sampled, Send, World};
 
-// What lies under the lock: the record of the session. Whenever the lock is free it is of the session's table and world, and
-// cut at its floor; and it is a record at rest, so that each of its samples is the true one and final.
+// What lies under the lock: the record of the session. Whenever the lock is free it is of the session's table and
+// world, and cut at its floor; and it is a record at rest, so that each of its samples is the true one and final.
 #[derive(Drop)]
 struct Locked<N: Session> {
     air: Air,
@@ -53,8 +53,8 @@ impl<N: Session> Locked<N> {
     }
 }
 
-/// The record of a session under a lock, and the clock words beside it. Threads share it by reference. Whoever takes the
-/// lock knows that record, words and world belong together.
+/// The record of a session under a lock, and the clock words beside it. Threads share it by reference. Whoever takes
+/// the lock knows that record, words and world belong together.
 #[derive(Drop)]
 pub struct Shared<W: World, N: Session> {
     clocks: Clocks<W>,
@@ -84,14 +84,16 @@ impl<W: World, N: Session> Shared<W, N> {
         }
     }
 
-    /// The words and the record, when nobody shares them any more. Whatever was done to them, by whichever threads and in
-    /// whatever order, they belong to the session, and each recorded sample is the true one, which no later entry can alter.
+    /// The words and the record, when nobody shares them any more. Whatever was done to them, by whichever threads and
+    /// in whatever order, they belong to the session, and each recorded sample is the true one, which no later entry
+    /// can alter.
     pub fn into_parts(self) -> (Clocks<W>, Air)
         ensures parts { AreParts N.table N.world N.floor result.0 result.1 }
         ensures sound { IsSound result.1 }
     {
         let Shared { clocks, lock } = self;
         let Locked { air, of: _ } = lock.into_inner();
+        // The call's clause says that the record is sound.
         let _sound = air.samples();
         (clocks, air)
     }

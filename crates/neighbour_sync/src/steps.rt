@@ -47,8 +47,8 @@ pub fn see_posted<W: World, R: Wait>(rt: &R, clocks: &Clocks<W>, seat: &mut Node
     unreachable!()
 }
 
-/// Looks at the halt and then at the clocks of those that the node may hear, and asks the record where all of them are far
-/// enough.
+/// Looks at the halt and then at the clocks of those that the node may hear, and asks the record where all of them are
+/// far enough.
 pub fn try_once<W: World, N: Session, R: Wait>(
     rt: &R,
     shared: &Shared<W, N>,

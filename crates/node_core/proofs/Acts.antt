@@ -1,5 +1,5 @@
--- The processor's part of a cycle: what arrives is as it was, at most one instruction more is counted, and at most one row
--- is told.
+-- The processor's part of a cycle: what arrives is as it was, at most one instruction more is counted, and at most one
+-- row is told.
 use Rattle.std.proofs.Common.{◌≡◌, ℕ, ◌+◌, ◌≤◌, ◌&&◌, ◌++◌, nat_le, nat_lt, Bool, true, false, cond, Option, Some, None, List, [], length, length-append, refl, sym, subst, ◌∙◌, ap, arith}
 use Rattle.std.specs.Prelude.{Result, Ok, Err}
 use Rattle.avr_base.specs.declared.interrupts.Vector.{Vector}
@@ -81,7 +81,7 @@ cpu_few : (t : ℕ) (s : NodeState) → length (cpu_rows t s) ≤ 1
 unfolding cpu_rows
 cpu_few t s = few_case (nat_lt 0 s.wait) _ _ (omega arith) (acted_few t s (due s))
 
--- the same of a node that stands behind that part
+-- what a node is that stands behind the processor's part
 module _ (t : ℕ) (s u : NodeState) (part : u ≡ cpu_cycle t s) where
   pub arrives_still : u.script ≡ s.script
   arrives_still = subst (λ (x : NodeState). x.script ≡ s.script) (sym part) (cpu_acts t s).0

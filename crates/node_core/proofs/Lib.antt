@@ -6,6 +6,7 @@ pub mod Steady
 pub mod Takes
 pub mod Wakes
 pub mod Strides
+pub mod Rounds
 pub mod Untouched
 pub mod Clocks
 pub mod Sei

@@ -1,4 +1,5 @@
--- What the processor's part of a cycle leaves, by what an instruction does to the core and the data space, and what an entry does.
+-- What the processor's part of a cycle leaves, by what an instruction does to the core and the data space, and what an
+-- entry does.
 use Rattle.std.proofs.Common.{◌≡◌, ℕ, ◌++◌, nat_lt, Bool, true, false, cond, Option, Some, None, List, sym, ap, ◌∙◌}
 use Rattle.std.specs.Prelude.{Result}
 use Rattle.avr_base.specs.declared.stop.StopCause.{StopCause}
@@ -76,7 +77,7 @@ module _ (t wait : ℕ) (v : Vector) (m : Machine) (now : m.bus.board.clock ≡ 
 taken : {A : Type 0} (b : Bool) (p q : A) → b ≡ true → p ≡ cond b p q
 taken b p q e = sym (ap (λ (x : Bool). cond x p q) e)
 
--- the same, told otherwise
+-- an act in equal terms
 pub acted_as : (n : ℕ) (u w : NodeState) (k l : List Row) (old new : Machine) → u ≡ w → k ≡ l → IsActed n u k old new → IsActed n w l old new
 acted_as n u w k l old new state rows h = record {
   state = h.state ∙ state;

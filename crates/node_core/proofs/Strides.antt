@@ -1,4 +1,5 @@
--- A run in the middle of a cycle: how it gets there, how it goes on where the devices end nothing, and how its cycle ends.
+-- A run in the middle of a cycle: how it gets there, how it goes on where the devices end nothing, and how its cycle
+-- ends.
 use Rattle.std.proofs.Common.{◌≡◌, ℕ, ◌+◌, ◌-◌, ◌++◌, ◌<◌, Bool, true, false, Option, None, List, is_some, refl, sym, subst, ap, ◌∙◌, arith, append_assoc, Some, cond}
 use Rattle.board_io.specs.Cycle.{board_air, board_quiet, is_asks, sent_by, timers_leap}
 use Rattle.board_io.proofs.Lags.{leap_add}

@@ -1,7 +1,7 @@
 -- One cycle of a node: first the processor's part, then the devices'. A cycle is split at its sample of the air: what
 -- it does before, whether it looks, and what it does with what it heard. The effects of an instruction fall into its
--- first cycle; its other cycles count off (AVR Instruction Set Manual, "Cycles"; ATmega128 datasheet, "Interrupt Response
--- Time", "Sleep Modes").
+-- first cycle; its other cycles count off (AVR Instruction Set Manual, "Cycles"; ATmega128 datasheet, "Interrupt
+-- Response Time", "Sleep Modes").
 use Rattle.std.specs.Prelude.{ℕ, ◌+◌, ◌-◌, ◌%◌, ◌==◌, ◌&&◌, ◌||◌, nat_le, nat_lt, if◌then◌else◌, List, [], ◌∷◌, ◌++◌, Bool, true, false, Option, Some, None, is_some, Result, Ok, Err}
 use Rattle.std.specs.Int.{w16, cast_unsigned}
 use Rattle.avr_base.specs.declared.stop.StopCause.{StopCause}
@@ -85,8 +85,8 @@ is_other Other = true
 abbrev pub is_refused : NodeState → Op → Bool
 is_refused s o = is_sleep o && is_other (sleep_mode s.bus.board)
 
--- after an instruction, by how it ended. One that stops is not counted, and leaves the wait and what is owed. The board's
--- clock is set for the accesses of an instruction, and shows 0 otherwise
+-- after an instruction, by how it ended. One that stops is not counted, and leaves the wait and what is owed. The
+-- board's clock is set for the accesses of an instruction, and shows 0 otherwise
 abbrev pub after_instruction : NodeState → Op → Result Done StopCause → Cpu → NodeBus → NodeState
 after_instruction s o (Ok d) cpu bus = record s {
   cpu = cpu;
@@ -114,8 +114,8 @@ instructed_rows t s =
     if is_refused s (op_now s) then row t s (kind.Stop s.cpu.pc stop.SleepMode)
     else instruction_rows t s (executed s.flash (op_now s) s.cpu (bus_at t s.bus)).result
 
--- after an interrupt was entered, by how that ended. It wakes the node; one that stops leaves the wait, what is owed and
--- the sleep
+-- after an interrupt was entered, by how that ended. It wakes the node; one that stops leaves the wait, what is owed
+-- and the sleep
 abbrev pub after_entry : ℕ → Vector → NodeState → Access (Unit {0}) NodeBus → Result (Unit {0}) StopCause → NodeState
 after_entry wait v s a (Ok done) = record s { cpu = a.cpu; bus = bus_at 0 (with_board a.bus (entered_of v.word a.bus.board)); wait = wait; asleep = false }
 after_entry wait v s a (Err cause) = record s { cpu = a.cpu; bus = bus_at 0 a.bus; stop = Some cause }
@@ -164,8 +164,8 @@ abbrev pub sent_rows : ℕ → NodeState → Option ℕ → List Row
 sent_rows t s None = []
 sent_rows t s (Some byte) = row t s (kind.Sent byte)
 
--- what the radio does on the air once the processor's part is done, whether it samples, what it sends, and the rows of the
--- devices' part
+-- what the radio does on the air once the processor's part is done, whether it samples, what it sends, and the rows of
+-- the devices' part
 unfoldable pub air_after : ℕ → NodeState → OnAir
 air_after t s = if is_some s.stop then Quiet else board_air t s.bus.board
 

@@ -1,5 +1,6 @@
 -- What holds of the inside of a node between two calls: an instruction takes at least a cycle, so its count cannot
--- wrap; the clock of its board shows the next cycle of the devices; in the middle of a sample there is room for the row of what is heard, and the transfer that samples runs.
+-- wrap; the clock of its board shows the next cycle of the devices; in the middle of a sample there is room for the row
+-- of what is heard, and the transfer that samples runs.
 use Rattle.std.specs.Prelude.{◌≡◌, ℕ, ◌+◌, ◌^◌, ◌≤◌, ◌<◌, Bool, true, false, Option, Some, None, is_some, if◌then◌else◌, vec_len, vec_capacity}
 use Rattle.node_core.specs.declared.machine.Machine.{Machine}
 use Rattle.node_core.specs.Bus.{with_board}
@@ -14,8 +15,8 @@ pub record IsWhole (cycle : ℕ) (asking : Bool) (m : Machine) : Type 0 where
   pub room : asking ≡ true → vec_len m.rows < vec_capacity m.rows
   pub waits : asking ≡ true → is_some m.bus.board.spi.shift_register ≡ true
 
--- a node that, at the beginning of cycle t, neither stopped nor waits nor sleeps: it executes an instruction or enters an
--- interrupt, and has room for the row of that
+-- a node that, at the beginning of cycle t, neither stopped nor waits nor sleeps: it executes an instruction or enters
+-- an interrupt, and has room for the row of that
 pub record MayAct (t : ℕ) (m : Machine) : Type 0 where
   pub going : m.stop ≡ None
   pub free : m.wait ≡ 0
@@ -30,15 +31,16 @@ pub record IsCalm (t n : ℕ) (s : NodeState) : Type 0 where
   pub ends : (i : ℕ) → i < n → board_quiet (t + i) s.bus.board ≡ true
   pub none : (i : ℕ) → i < n → script_byte s.script (t + i) ≡ None
 
--- a node that goes on with an instruction or an entry of n cycles, whose first cycle this is: of that the processor's part
--- is done
+-- a node that goes on with an instruction or an entry of n cycles, whose first cycle this is: of that the processor's
+-- part is done
 pub record IsGoing (n : ℕ) (s : NodeState) : Type 0 where
   pub going : s.stop ≡ None
   pub awake : s.asleep ≡ false
   pub wait : n ≡ s.wait + 1
 
--- in the middle of cycle t the node at s, which neither stopped nor sleeps, went on to the beginning of the next instruction's
--- first cycle, n cycles later, and is at u: of these cycles the devices' part is done, and they ended nothing
+-- in the middle of cycle t the node at s, which neither stopped nor sleeps, went on to the beginning of the next
+-- instruction's first cycle, n cycles later, and is at u: of these cycles the devices' part is done, and they ended
+-- nothing
 pub record IsPassed (t n : ℕ) (s u : NodeState) : Type 0 where
   pub going : s.stop ≡ None
   pub calm : IsCalm t n s

@@ -1,5 +1,5 @@
--- Serving an interrupt (ATmega128 datasheet, "Reset and Interrupt Handling"): the program counter is pushed, its low byte
--- first, the flag I is cleared, and the program goes on at the vector.
+-- Serving an interrupt (ATmega128 datasheet, "Reset and Interrupt Handling"): the program counter is pushed, its low
+-- byte first, the flag I is cleared, and the program goes on at the vector.
 use Rattle.std.specs.Prelude.{ℕ, false, Option}
 use Rattle.avr_base.specs.Flags.{I, with_flag}
 use Rattle.board_io.specs.Lines.{lines_of}

@@ -22,8 +22,8 @@ pub record IsMidway (v : Timed NodeState Row) (c : ℕ) (u : NodeState) (k : Lis
   pub part : u ≡ cpu_cycle c state
   pub told : k ≡ rows ++ cpu_rows c state
 
--- the processor's part of a cycle in which it neither waited nor slept: it came to u and told k. Where it answers n, and not 0,
--- the node goes on with an instruction or an entry of n cycles, and told nothing
+-- the processor's part of a cycle in which it neither waited nor slept: it came to u and told k. Where it answers n,
+-- and not 0, the node goes on with an instruction or an entry of n cycles, and told nothing
 pub record IsActed (n : ℕ) (u : NodeState) (k : List Row) (old new : Machine) : Type 0 where
   pub state : shown new ≡ u
   pub rows : new.rows.items ≡ old.rows.items ++ k
@@ -77,8 +77,8 @@ IsStep t (Plain n) old new = (b : Bool) → IsStepped t n (owing b old) (owing (
 IsStep t (Stopped cause) old new = (b : Bool) → IsStopping t cause (owing b old) (owing b new)
 IsStep t Left old new = new ≡ old
 
--- from cycle t on it executed instruction after instruction, and came to the beginning of cycle c, or, where it is inside, to
--- the middle of it
+-- from cycle t on it executed instruction after instruction, and came to the beginning of cycle c, or, where it is
+-- inside, to the middle of it
 pub record IsSprinted (t c : ℕ) (inside : Bool) (old new : Machine) : Type 0 where
   pub comes : inside ≡ false → Comes node_kind (record { cycle = t; asking = false; state = shown old; rows = old.rows.items }) c (shown new) new.rows.items
   pub midway : inside ≡ true → IsMidway (record { cycle = t; asking = false; state = shown old; rows = old.rows.items }) c (shown new) new.rows.items

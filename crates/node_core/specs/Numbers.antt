@@ -1,7 +1,7 @@
--- The 108 numbers of a node, by which it is saved and restored beside the I/O bytes that its board keeps and its SRAM: 41 of
--- the core, then the board's. The core's are r0 to r31, SREG, SP, PC, RAMPZ, the cycles left of the last instruction, whether
--- an instruction is owed, whether it sleeps, the number of the cause that stopped it (0 for none) and how many instructions
--- it executed.
+-- The 108 numbers of a node, by which it is saved and restored beside the I/O bytes that its board keeps and its SRAM:
+-- 41 of the core, then the board's. The core's are r0 to r31, SREG, SP, PC, RAMPZ, the cycles left of the last
+-- instruction, whether an instruction is owed, whether it sleeps, the number of the cause that stopped it (0 for none)
+-- and how many instructions it executed.
 use Rattle.std.specs.Prelude.{ℕ, ◌^◌, ◌==◌, nat_le, not, if◌then◌else◌, Bool, List, [], ◌∷◌, ◌++◌, Option, None, Some, map, take, slice_index}
 use Rattle.std.specs.List.{position}
 use Rattle.avr_base.specs.Causes.{cause_number}
@@ -46,8 +46,8 @@ core_fits n =
     ∷ nat_le (slice_index n 40) (2 ^ 40)
     ∷ []
 
--- the cycle before which no frame and no transfer ends, of a node that has reached this one: the devices of a stopped node
--- no longer move, so theirs may have passed
+-- the cycle before which no frame and no transfer ends, of a node that has reached this one: the devices of a stopped
+-- node no longer move, so theirs may have passed
 abbrev pub ends_from : ℕ → List ℕ → ℕ
 ends_from cycle n = if slice_index n 39 == 0 then cycle else 0
 

@@ -32,8 +32,8 @@ cpu_of n = record {
   rampz = slice_index n 35 == 1;
 }
 
--- why a node is refused that has reached a cycle: for its first number outside its bound, else for its first byte that cannot
--- be the one at its address
+-- why a node is refused that has reached a cycle: for its first number outside its bound, else for its first byte that
+-- cannot be the one at its address
 abbrev pub fault_by : Option ℕ → Option ℕ → Option RestoreFault
 fault_by (Some place) refused = Some (Number place)
 fault_by None (Some k) = Some (Io (0x20 + k))
@@ -46,8 +46,8 @@ fault_of cycle n io = fault_by (first_outside cycle n) (first_refused io)
 abbrev pub IsRefused : ℕ → List ℕ → List ℕ → RestoreFault → Type 0
 IsRefused cycle n io fault = (fault_of cycle n io ≡ Some fault) ⊎ ((fault ≡ NoMemory) × (fault_of cycle n io ≡ None))
 
--- the state of node k with this program memory, these bytes that arrive, the window from one cycle on and below another, and
--- this byte time, that has these numbers, I/O bytes and SRAM. Between two cycles its board shows no clock
+-- the state of node k with this program memory, these bytes that arrive, the window from one cycle on and below
+-- another, and this byte time, that has these numbers, I/O bytes and SRAM. Between two cycles its board shows no clock
 pub record IsRestored (k : ℕ) (image : List ℕ) (arrivals : ScriptBytes) (first last byte_time : ℕ) (n io bytes : List ℕ) (s : NodeState) : Type 0 where
   pub number : s.number ≡ k
   pub flash : s.flash ≡ image

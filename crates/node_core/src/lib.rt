@@ -1,6 +1,6 @@
-//! One node of the network, cycle by cycle: its processor, its devices, and the rows that it makes as it runs: what happened,
-//! in which cycle, at which node. `specs/` says what one cycle of a node is; `Node` runs many, whole instructions and sleep up
-//! to the next event of its devices. `trace_writer` writes the text of the rows.
+//! One node of the network, cycle by cycle: its processor, its devices, and the rows that it makes as it runs: what
+//! happened, in which cycle, at which node. `specs/` says what one cycle of a node is; `Node` runs many, whole
+//! instructions and sleep up to the next event of its devices. `trace_writer` writes the text of the rows.
 #![tactic(auto)]
 
 mod bus;

@@ -14,9 +14,11 @@ use data_space::Cpu;
 use serial_ports::Script;
 use world_core::Heard;
 
-// The rows that a cycle makes at most: the processor's, a frame's, and one of the radio's before and after its sample.
+/// The rows that a cycle makes at most: the processor's, a frame's, and one of the radio's before and after its sample.
 pub const ROWS_OF_A_CYCLE: usize = 4;
 
+/// What a node is beside its cycle: its core, its bus with the board, the bytes that arrive, the window in which its
+/// instructions are told (from `from` on, below `to`), what its last instruction left to do, and the rows that it made.
 #[derive(Drop)]
 pub struct Machine {
     pub number: u8,
@@ -124,7 +126,8 @@ impl Machine {
         self.move_devices(cycle)
     }
 
-    // The rest of a cycle that samples the air.
+    /// The rest of a cycle that samples the air, with what is heard: the Heard row, and the end of the transfer that
+    /// sampled. There is room for the row.
     pub fn finish(&mut self, cycle: u64, heard: Heard)
         requires room { vec_len self.old.rows < vec_capacity self.old.rows }
         requires waits { is_some self.old.bus.board.spi.shift_register ≡ true }

@@ -67,8 +67,9 @@ impl Model for Node {
 }
 
 impl Node {
-    /// A node at reset, before cycle 0, with the program memory of `program`. `script` says which bytes arrive at its USART0; its Instr and Enter rows exist
-    /// in the cycles from `window.0` on and below `window.1`; a byte takes its radio `byte_time` cycles, 256 to 4,096.
+    /// A node at reset, before cycle 0, with the program memory of `program`. `script` says which bytes arrive at its
+    /// USART0; its Instr and Enter rows exist in the cycles from `window.0` on and below `window.1`; a byte takes its
+    /// radio `byte_time` cycles, 256 to 4,096.
     pub fn new(
         alloc: Global,
         number: u8,

@@ -97,8 +97,8 @@ impl Node {
 
     /// Its 108 numbers: r0 to r31, SREG, SP, PC, RAMPZ, the cycles left of the last instruction, as 0 or 1 whether an
     /// instruction is owed and whether it sleeps, the number of the cause that stopped it (0 for none), and how many
-    /// instructions it executed; then those of timers 0, 2, 1 and 3, of USART0, of the serial peripheral interface and of the
-    /// radio, each in the order of its `numbers`.
+    /// instructions it executed; then those of timers 0, 2, 1 and 3, of USART0, of the serial peripheral interface and
+    /// of the radio, each in the order of its `numbers`.
     pub fn numbers(&self) -> [u64; 108]
         ensures { result ≡ numbers_of self.now.state }
     {
@@ -118,8 +118,9 @@ impl Node {
         self.machine.bus.board.io(at as u8)
     }
 
-    /// The place of the first of these `numbers`, 0 to 107, that is outside its bound, of a node that has reached the cycle
-    /// `cycle`. The bound of a number hangs on no number behind it, and of other devices' numbers on that of the stop alone.
+    /// The place of the first of these `numbers`, 0 to 107, that is outside its bound, of a node that has reached the
+    /// cycle `cycle`. The bound of a number hangs on no number behind it, and of other devices' numbers on that of the
+    /// stop alone.
     pub fn first_outside(cycle: u64, numbers: &[u64; 108]) -> Option<u8>
         ensures { result ≡ first_outside cycle numbers.now }
     {

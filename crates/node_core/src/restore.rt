@@ -128,10 +128,10 @@ impl Node {
         })
     }
 
-    /// The node that has these `numbers`, in the order of [`Node::numbers`], these 224 bytes `io` that its board keeps, from
-    /// data address 0x20 on, and these 4,096 bytes `sram`, with no rows, at the cycle `cycle`, at most 2^40. Its number,
-    /// program, script, window and byte time are as for [`Node::new`]. A number outside its bound is refused, the first of
-    /// them first; then a byte that its register can never have.
+    /// The node that has these `numbers`, in the order of [`Node::numbers`], these 224 bytes `io` that its board keeps,
+    /// from data address 0x20 on, and these 4,096 bytes `sram`, with no rows, at the cycle `cycle`, at most 2^40. Its
+    /// number, program, script, window and byte time are as for [`Node::new`]. A number outside its bound is refused,
+    /// the first of them first; then a byte that its register can never have.
     pub fn restore(
         alloc: Global,
         number: u8,

@@ -6,7 +6,7 @@ ghost use Rattle.node_core.specs.declared.row.Kind.TheVariants as kind;
 use crate::{Kind, Row};
 use avr_program::Program;
 
-// Adds a row where there is room.
+/// Adds a row, for which there is room.
 pub fn put_row(rows: &mut Vec<Row>, row: Row)
     requires { vec_len rows.old < vec_capacity rows.old }
     ensures items { rows.new.items ≡ rows.old.items ++ row ∷ [] }
@@ -16,7 +16,7 @@ pub fn put_row(rows: &mut Vec<Row>, row: Row)
     rows.push_reserved(row);
 }
 
-// The same, where it is to be told.
+/// Adds a row where it is to be told. There is room for it.
 pub fn tell(rows: &mut Vec<Row>, told: bool, row: Row)
     requires { vec_len rows.old < vec_capacity rows.old }
     ensures items { rows.new.items ≡ rows.old.items ++ (if told then row ∷ [] else []) }
@@ -29,7 +29,8 @@ pub fn tell(rows: &mut Vec<Row>, told: bool, row: Row)
     }
 }
 
-// The row of the instruction at an address, where it is to be told: its words are read only then.
+/// Adds the row of the instruction at the word address `pc`, where it is to be told: its words are read only then.
+/// There is room for it.
 #[inline]
 pub fn tell_instruction(
     rows: &mut Vec<Row>,
@@ -53,7 +54,7 @@ pub fn tell_instruction(
     }
 }
 
-// So many cycles, or 0 where there is a row.
+/// `cycles` where no row is told, else 0.
 #[inline]
 pub fn unless_told(told: bool, cycles: u8) -> u8
     ensures cycles { 0 < result → result ≡ cycles }
@@ -62,7 +63,8 @@ pub fn unless_told(told: bool, cycles: u8) -> u8
     if told { 0 } else { cycles }
 }
 
-// Whether a cycle lies in a window, which is from its first number on and below its second. Most lie behind it.
+/// Whether a cycle lies in the window from the cycle `from` on and below `to`. Most cycles lie behind it, so that end
+/// is asked first.
 pub fn is_within(from: u64, to: u64, cycle: u64) -> bool
     ensures { result ≡ (nat_le from cycle && nat_lt cycle to) }
 {

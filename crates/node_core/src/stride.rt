@@ -11,8 +11,9 @@ ghost use Rattle.serial_ports.specs.Script.{script_byte};
 use crate::machine::Machine;
 
 impl Machine {
-    // The devices' part of the cycle `cycle` and of the others of an instruction of `taken` cycles that began in it, if they
-    // end by `end`, up to which no byte arrives, and the devices end nothing in them: whether it was so.
+    /// The devices' part of the cycle `cycle` and of the others of an instruction of `taken` cycles that began in it,
+    /// if they end by `end`, up to which no byte arrives, and the devices end nothing in them. The answer is whether it
+    /// was so; else nothing changes.
     #[inline(always)]
     pub fn passes_whole(&mut self, cycle: u64, end: u64, taken: u8) -> bool
         requires now { self.old.bus.board.clock ≡ cycle }
@@ -31,7 +32,8 @@ impl Machine {
         self.bus.board.passes(cycle, taken)
     }
 
-    // The devices' part of these cycles, if besides no interrupt line is up before or after them: whether it was so.
+    /// The devices' part of the cycles of such an instruction, if no interrupt line is up before or after them either: whether
+    /// it was so.
     #[inline(always)]
     pub fn passes_clear(&mut self, cycle: u64, end: u64, taken: u8) -> bool
         requires now { self.old.bus.board.clock ≡ cycle }
@@ -74,8 +76,8 @@ impl Machine {
         true
     }
 
-    /// Cycles from `cycle` on, of at most `most`, in which the devices end nothing: how many it were. Of the cycle after
-    /// them the processor's part is done, and the devices' part is still to come.
+    /// Cycles from `cycle` on, of at most `most`, in which the devices end nothing: how many it were. Of the cycle
+    /// after them the processor's part is done, and the devices' part is still to come.
     pub fn stride(&mut self, cycle: u64, most: u64) -> u64
         requires going { self.old.stop ≡ None }
         requires now { self.old.bus.board.clock ≡ cycle }

@@ -1,5 +1,5 @@
--- The numbers of a decoded instruction that go to a register or to the program counter fit there: a constant has at most eight
--- bits in its word, an address is the second word.
+-- The numbers of a decoded instruction that go to a register or to the program counter fit there: a constant has at
+-- most eight bits in its word, an address is the second word.
 use Rattle.std.proofs.Common.{◌≡◌, ℕ, ◌+◌, ◌*◌, ◌/◌, ◌%◌, ◌^◌, ◌<◌, ◌≤◌, ◌&&◌, Bool, true, false, List, [], ◌∷◌, length, filter, refl, arith, mul-le-mul_right, pow-suc}
 use Rattle.std.specs.Prelude.{nat_le}
 use Rattle.std.proofs.lemmas.Bool.{and_parts, cond_both, leb-true}

@@ -1,5 +1,5 @@
--- What no cycle of a node changes: its number, its program memory, the bytes that arrive, the window, and the byte time of its
--- radio.
+-- What no cycle of a node changes: its number, its program memory, the bytes that arrive, the window, and the byte time
+-- of its radio.
 use Rattle.std.proofs.Common.{◌≡◌, ℕ, nat_lt, List, refl, ◌∙◌, Option, Some, None, is_some}
 use Rattle.std.specs.Prelude.{Result, Ok, Err}
 use Rattle.avr_base.specs.declared.interrupts.Vector.{Vector}
@@ -37,7 +37,7 @@ pub record Fixed : Type 0 where
 abbrev pub fixed : NodeState → Fixed
 fixed s = record { given = given s; gap = s.bus.board.radio.byte_time }
 
--- the same is given to it
+-- two nodes are given equal things
 abbrev Same : NodeState → NodeState → Type 0
 Same s u = given u ≡ given s
 

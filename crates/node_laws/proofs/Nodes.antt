@@ -122,7 +122,7 @@ module _ (t : ℕ) where
       then_in (gives early) IsAny IsAny back back.result _ k.core k.bus k.answer
       (λ u d b p e r. record { core = vectored_in word d small e; bus = r; answer = tt })
 
--- the same data space, where the clock of the board shows another cycle
+-- the data space stays within its bounds where the clock of the board shows another cycle
 clocked : (t a c : ℕ) (bus : NodeBus) → BusWithin t a bus → BusWithin t c (bus_at c bus)
 clocked t a c bus q =
     record { count = q.count; sram = q.sram; states = device.set_clock bus.board q.states c; board = set_clock t bus.board q.board c; clock = refl }

@@ -16,8 +16,8 @@ pub record HasBytes (count : ℕ) (xs : List ℕ) : Type 0 where
   pub length_is : length xs ≡ count
   pub bytes : AreBytes xs
 
--- node k of a scenario, in this state before cycle c: its numbers, its I/O bytes and its SRAM have the lengths and the widths in
--- which they are saved, none is refused at that cycle, and the node that is restored from them is this one
+-- node k of a scenario, in this state before cycle c: its numbers, its I/O bytes and its SRAM have the lengths and the
+-- widths in which they are saved, none is refused at that cycle, and the node that is restored from them is this one
 pub record IsSaved (sc : ScenarioOf) (k c : ℕ) (u : NodeState) : Type 0 where
   pub count : length (numbers_of u) ≡ 108
   pub widths : (i : ℕ) → slice_index (numbers_of u) i < 2 ^ 64

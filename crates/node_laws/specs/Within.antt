@@ -1,5 +1,5 @@
--- Within which bounds the numbers of a board's devices stay from reset on, beyond what `device_laws` says of its devices: the
--- bounds by which a saved node is refused (ATmega128 datasheet, the register descriptions).
+-- Within which bounds the numbers of a board's devices stay from reset on, beyond what `device_laws` says of its
+-- devices: the bounds by which a saved node is refused (ATmega128 datasheet, the register descriptions).
 use Rattle.std.specs.Prelude.{◌≡◌, ℕ, ◌^◌, ◌<◌, ◌≤◌, Option, Some, None, Result, Ok, Err, bit_and}
 use Rattle.avr_base.specs.declared.stop.StopCause.{StopCause}
 use Rattle.board_io.specs.declared.board.Board.{Board}
@@ -86,7 +86,8 @@ pub record BoardWithin (t : ℕ) (b : Board) : Type 0 where
   -- a byte that the board keeps has no bit that its register cannot have; where it keeps none it is 0
   pub kept : (at : ℕ) → at < 256 → bit_and (kept_at at b) (kept_bits (rule_of at)) ≡ kept_at at b
 
--- what an access in cycle t, which the clock of the board shows, gives and leaves; one that stops leaves the board as it was
+-- what an access in cycle t, which the clock of the board shows, gives and leaves; one that stops leaves the board as
+-- it was
 abbrev pub ReadWithin : ℕ → Result (ℕ × Board) StopCause → Type 0
 ReadWithin t (Ok got) = (got.0 ≤ 255) × BoardWithin t got.1 × (got.1.clock ≡ t)
 ReadWithin t (Err cause) = Unit {0}

@@ -1,5 +1,6 @@
-//! Each node of a run has numbers within the bounds by which a saved node is refused, and is restored as itself. Each law is the
-//! contract of a function that does nothing; it is about the definitions that the calls of a node are proved to compute.
+//! Each node of a run has numbers within the bounds by which a saved node is refused, and is restored as itself. Each
+//! law is the contract of a function that does nothing; it is about the definitions that the calls of a node are proved
+//! to compute.
 #![tactic(auto)]
 
 ghost use Rattle.std.specs.Prelude.{◌≡◌, ℕ, ◌+◌, ◌^◌, ◌<◌, ◌≤◌, List, Option, if◌then◌else◌};
@@ -20,9 +21,9 @@ ghost use Rattle.world_core.specs.NodeKind.{ticked};
 ghost use Rattle.world_core.specs.Order.{node_at};
 ghost use Rattle.world_core.specs.declared.air.Heard.{Heard};
 
-/// The numbers of a board are within their bounds after reset, and each call leaves them there: a read of a register, which
-/// gives a byte; a write of a byte; serving an interrupt; and a whole cycle of the devices, by what a sample in it hears. What
-/// the devices send is a byte.
+/// The numbers of a board are within their bounds after reset, and each call leaves them there: a read of a register,
+/// which gives a byte; a write of a byte; serving an interrupt; and a whole cycle of the devices, by what a sample in
+/// it hears. What the devices send is a byte.
 pub fn board_law()
     ensures reset { (byte_time : ℕ) → BoardWithin 0 (reset_board byte_time) }
     ensures read { (t : ℕ) (b : Board) (at : ℕ) → b.clock ≡ t → IsBoard b → BoardWithin t b → ReadWithin t (io_get b at) }
@@ -34,8 +35,8 @@ pub fn board_law()
     ensures sends { (t : ℕ) (b : Board) → t < 2 ^ 40 → IsBoard b → BoardWithin t b → ByteWithin (board_sends t b) }
 {}
 
-/// A node is within its bounds after reset, and after each cycle of it, whatever it executes and whatever it hears. What it
-/// sends is a byte.
+/// A node is within its bounds after reset, and after each cycle of it, whatever it executes and whatever it hears.
+/// What it sends is a byte.
 pub fn node_law()
     ensures reset { (k : ℕ) (flash : List ℕ) (script : ScriptBytes) (first last byte_time : ℕ) → AreBytes flash → byte_time ≤ 4096
         → NodeWithin 0 (reset k flash script first last byte_time) }
@@ -44,8 +45,8 @@ pub fn node_law()
     ensures sends { (t : ℕ) (s : NodeState) → t < 2 ^ 40 → NodeWithin t s → ByteWithin (sends_in t s) }
 {}
 
-/// What is saved of a node of a run, at the beginning of any cycle, is accepted, and the node that is restored from it is that
-/// node.
+/// What is saved of a node of a run, at the beginning of any cycle, is accepted, and the node that is restored from it
+/// is that node.
 pub fn saved_law()
     ensures { (sc : ScenarioOf) (k c : ℕ) → IsScenario sc → AreImages sc → c ≤ sc.topo.limit
         → IsSaved sc k c (node_at (fleet_of sc) k c) }

@@ -1,6 +1,6 @@
-//! Monitors over the rows of a trace: on what a node spent each cycle of the window. A row in which the node executes an
-//! instruction, enters an interrupt or stops has all cycles up to the next such row. `specs/` asks each cycle for its row; the
-//! code goes over the rows once, from the last one back, and subtracts the cycles of neighbouring rows.
+//! Monitors over the rows of a trace: on what a node spent each cycle of the window. A row in which the node executes
+//! an instruction, enters an interrupt or stops has all cycles up to the next such row. `specs/` asks each cycle for
+//! its row; the code goes over the rows once, from the last one back, and subtracts the cycles of neighbouring rows.
 #![tactic(auto)]
 
 mod ledger;

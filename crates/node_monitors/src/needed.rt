@@ -19,8 +19,9 @@ pub fn matters(row: &Row, window: (u64, u64)) -> bool
     counts & (row.cycle < window.1)
 }
 
-/// What a caller can leave out. Where the instructions and entries of interrupts lie below the window's end, as they do in a
-/// trace with that window, the rows that matter give the same account; and so do, in any list, the rows of the node.
+/// What a caller can leave out. Where the instructions and entries of interrupts lie below the window's end, as they do
+/// in a trace with that window, the rows that matter give the same account; and so do, in any list, the rows of the
+/// node.
 pub fn matters_law()
     ensures matters { (node : ℕ) (window : ℕ × ℕ) (rows : List Row) → All (IsBelow window.1) rows → account node window (filter (matters window) rows) ≡ account node window rows }
     ensures own { (node : ℕ) (window : ℕ × ℕ) (p : Row → Bool) (rows : List Row) → ((r : Row) → r.node ≡ node → p r ≡ true) → account node window (filter p rows) ≡ account node window rows }

@@ -29,9 +29,9 @@ impl Model for Profile {
 }
 
 impl Profile {
-    /// The profile of the node `node` over the cycles from `window.0` on, below `window.1`; `rows` are the rows of a trace in
-    /// their order. Rows of other nodes and kinds are passed over. The charge of a node that is awake in each cycle must fit, as
-    /// it does for all windows and sends of a scenario. `Err` only for want of memory.
+    /// The profile of the node `node` over the cycles from `window.0` on, below `window.1`; `rows` are the rows of a
+    /// trace in their order. Rows of other nodes and kinds are passed over. The charge of a node that is awake in each
+    /// cycle must fit, as it does for all windows and sends of a scenario. `Err` only for want of memory.
     pub fn of(
         alloc: Global,
         node: u8,
@@ -90,7 +90,8 @@ impl Profile {
         self.stopped
     }
 
-    /// The charge in its units: 8 for each cycle awake, 1 for each cycle of sleep, 512 for each byte sent in the window.
+    /// The charge in its units: 8 for each cycle awake, 1 for each cycle of sleep, 512 for each byte sent in the
+    /// window.
     pub fn charge(&self) -> u64
         ensures { result ≡ self.now.charge }
     {

@@ -31,12 +31,12 @@ pub begins : (sc : ScenarioOf) (num : ℕ) → IsScenario sc → num < sc.topo.n
 begins sc num i h =
     let f : Fleet NodeState Row = fleet_of sc in
     let ok : IsSound f = sound sc i in
-    let none : sends_below (facts_of f).sends num 0 ≡ 0 = count_is f ok num 0 (omega arith) (omega arith) ∙ ap (λ (w : Moment NodeState Row). length (sends_of num w.sends)) (first f ok) in
+    let none : sends_below (facts_of f).sends num 0 ≡ 0 = count_is f ok num 0 (omega arith) (omega arith) ∙ ap (λ (w : Moment NodeState Row). length (sends_of num w.sends)) (first f) in
     record {
       scenario = i;
       number = h;
       limit = refl;
-      stands = stands_plain f ok num 0 0 (f.begins num) [] (omega arith) (omega arith) (omega arith) (sym (ap (λ (w : Moment NodeState Row). w.state num) (first f ok))) (sym (rows_none f ok num 0));
+      stands = stands_plain f ok num 0 0 (f.begins num) [] (omega arith) (omega arith) (omega arith) (sym (ap (λ (w : Moment NodeState Row). w.state num) (first f))) (sym (rows_none f num 0));
       count = sym none;
     }
 

@@ -68,14 +68,14 @@ module _ (sc : ScenarioOf) (since end : ℕ) (ps : List Place) (ok : IsScenario 
 
   -- the rows of a node up to the end
   rows_to : (k c : ℕ) → since ≤ c → c ≤ end → (is_some (node_at f k c).stop ≡ true) ⊎ (end ≤ c) → rows_between f k since c ≡ rows_between f k since end
-  rows_to k c a b (inl stop) = sym (rows_join f (sound sc ok) k since c end a b ∙ ap (λ (l : List Row). rows_between f k since c ++ l) (stopped_rows f (sound sc ok) k c end (omega arith) stop) ∙ append-nil (rows_between f k since c))
+  rows_to k c a b (inl stop) = sym (rows_join f k since c end a b ∙ ap (λ (l : List Row). rows_between f k since c ++ l) (stopped_rows f (sound sc ok) k c end (omega arith) stop) ∙ append-nil (rows_between f k since c))
   rows_to k c a b (inr past) = let e : c ≡ end = omega arith in ap (rows_between f k since) e
 
   taken_rows : (k : ℕ) (p : Place) → IsTaken sc since k p → p.cycle ≤ end → (is_some (node_at f k p.cycle).stop ≡ true) ⊎ (end ≤ p.cycle) → rows_between f k p.since p.cycle ≡ rows_between f k since end
   taken_rows k p (inl t) w over = ap (λ (n : ℕ). rows_between f k n p.cycle) t.0 ∙ rows_to k p.cycle t.1 w over
   taken_rows k p (inr r) w over =
       let now : is_some (node_at f k since).stop ≡ true = ap (λ (u : NodeState). is_some u.stop) (stopped_state f (sound sc ok) k p.cycle since (omega arith) r.2 r.0) ∙ r.0 in
-      ap (λ (n : ℕ). rows_between f k n p.cycle) r.1 ∙ rows_none f (sound sc ok) k p.cycle ∙ sym (stopped_rows f (sound sc ok) k since end (omega arith) now)
+      ap (λ (n : ℕ). rows_between f k n p.cycle) r.1 ∙ rows_none f k p.cycle ∙ sym (stopped_rows f (sound sc ok) k since end (omega arith) now)
 
   node_rows : (k : ℕ) (d : Place) → k < sc.topo.nodes → rows_of (place_at ps k d) ≡ rows_between f k since end
   node_rows k d h =
@@ -89,7 +89,7 @@ module _ (sc : ScenarioOf) (since end : ℕ) (ps : List Place) (ok : IsScenario 
   gathered d ys up stable =
       let same : flat_map rows_of ps ≡ each_below sc.topo.nodes (λ k. rows_between f k since end) =
       all_flat rows_of (λ k. rows_between f k since end) ps d (λ k h. node_rows k d (omega arith)) ∙ ap (λ (n : ℕ). each_below n (λ k. rows_between f k since end)) count in
-      rows_merged f (sound sc ok) since end ys (omega arith) begun up (subst (Agree (λ (r : Row). r.cycle) ys) same (agree_by (λ r. r.cycle) (flat_map rows_of ps) ys stable))
+      rows_merged f (sound sc ok).kind since end ys (omega arith) begun up (subst (Agree (λ (r : Row). r.cycle) ys) same (agree_by (λ r. r.cycle) (flat_map rows_of ps) ys stable))
 
   -- the last row of each
   end_at : (k : ℕ) (d : Place) → k < sc.topo.nodes → end ≡ sc.topo.limit → end_row_of (place_at ps k d) ≡ end_row sc.topo.limit (node_at f k sc.topo.limit)
@@ -109,4 +109,4 @@ module _ (sc : ScenarioOf) (since end : ℕ) (ps : List Place) (ok : IsScenario 
 
 -- before the first cycle there are no rows
 pub no_rows_yet : (sc : ScenarioOf) → IsScenario sc → (world_at (fleet_of sc) 0).rows ≡ []
-no_rows_yet sc ok = ap (λ (w : Moment NodeState Row). w.rows) (first (fleet_of sc) (sound sc ok))
+no_rows_yet sc ok = ap (λ (w : Moment NodeState Row). w.rows) (first (fleet_of sc))

@@ -6,8 +6,8 @@ ghost use Rattle.node_runner.specs.Flight.{epoch};
 
 use world_core::{EPOCH, Topo};
 
-/// How many cycles a node may be ahead of all others and yet hear all that it can: the least latency of all links, in cycles.
-/// Where nobody hears anybody, that is an epoch.
+/// How many cycles a node may be ahead of all others and yet hear all that it can: the least latency of all links, in
+/// cycles. Where nobody hears anybody, that is an epoch.
 pub fn lookahead(topo: &Topo) -> u64
     ensures some { 1 ≤ result }
     ensures most { result ≤ epoch }

@@ -9,8 +9,8 @@ use node_core::{Node, RestoreFault};
 use std::alloc::Global;
 
 impl Scenario {
-    /// Node `node` of the scenario, below the number of its nodes, of what was saved of it, by [`Node::restore`]: with its
-    /// number, its program and the bytes that arrive at it, and the scenario's window and byte time.
+    /// Node `node` of the scenario, below the number of its nodes, of what was saved of it, by [`Node::restore`]: with
+    /// its number, its program and the bytes that arrive at it, and the scenario's window and byte time.
     pub fn restore(
         &self,
         alloc: Global,

@@ -26,13 +26,13 @@ pub enum Event {
     Turn { cycle: u64 },
     /// No cycle of the call sent or sampled, and the node is stopped or has reached the limit.
     Ended,
-    /// There was no memory for the rows of the next cycle. The node stands between two cycles, some of the call's perhaps
-    /// passed, and the call may be made again.
+    /// There was no memory for the rows of the next cycle. The node stands between two cycles, some of the call's
+    /// perhaps passed, and the call may be made again.
     NoMemory,
 }
 
-/// A node of a scenario, from reset to the cycle limit. A contract sees its place in the single global order of cycles: its
-/// rows and its number of noted sends follow from it.
+/// A node of a scenario, from reset to the cycle limit. A contract sees its place in the single global order of cycles:
+/// its rows and its number of noted sends follow from it.
 pub struct Runner {
     scenario: Snapshot<Scenario>,
     number: u8,
@@ -89,8 +89,8 @@ impl Runner {
         })
     }
 
-    /// Runs at most `quantum` cycles, 1 to 65,536, up to the first one that sends or samples, or in which the node is stopped.
-    /// No sample is to be unanswered, and no send unnoted.
+    /// Runs at most `quantum` cycles, 1 to 65,536, up to the first one that sends or samples, or in which the node is
+    /// stopped. No sample is to be unanswered, and no send unnoted.
     pub fn event(&mut self, quantum: u64) -> Event
         requires quantum { (1 ≤ quantum) × (quantum ≤ 65536) }
         requires calm { self.old.asking ≡ false }

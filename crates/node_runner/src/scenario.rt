@@ -5,8 +5,8 @@ use serial_ports::Script;
 use std::marker::Model;
 use world_core::{Topo, World};
 
-/// What a whole run needs: who hears whom, each node's program memory, the bytes that arrive at it, and the window of cycles
-/// in which instructions and entries of interrupts are traced.
+/// What a whole run needs: who hears whom, each node's program memory, the bytes that arrive at it, and the window of
+/// cycles in which instructions and entries of interrupts are traced.
 pub struct Scenario {
     topo: Topo,
     images: Vec<Program>,
@@ -54,6 +54,7 @@ impl Scenario {
             scripts,
             window,
         } = text;
+        // The call's clause says that the topology is lawful, which a scenario's invariant asks for.
         let _lawful = topo.nodes();
         Scenario {
             topo,

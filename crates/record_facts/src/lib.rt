@@ -1,6 +1,6 @@
-//! The record of the air as tables: each case file has steps of nodes, with the answers that somebody else worked out, by hand
-//! or by `bench/air_cases.py`. They are taken on the clock words and the record alone, or on one shared record, each line of
-//! steps in a session of its own.
+//! The record of the air as tables: each case file has steps of nodes, with the answers that somebody else worked out,
+//! by hand or by `bench/air_cases.py`. They are taken on the clock words and the record alone, or on one shared record,
+//! each line of steps in a session of its own.
 #![tactic(auto)]
 
 mod answer;

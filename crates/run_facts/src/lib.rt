@@ -1,6 +1,6 @@
-//! What is read of scenario texts, what becomes of one node on which bytes arrive, on what a node spends its cycles, what comes
-//! out of samples, and what a sniffer gives, from text files. What each case comes to is written below it, to be compared with
-//! what independent programs give.
+//! What is read of scenario texts, what becomes of one node on which bytes arrive, on what a node spends its cycles,
+//! what comes out of samples, and what a sniffer gives, from text files. What each case comes to is written below it,
+//! to be compared with what independent programs give.
 #![tactic(auto)]
 
 mod nodes;

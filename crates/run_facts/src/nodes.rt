@@ -1,5 +1,5 @@
-// Runs of one node on which bytes arrive, each a line of a text file: for each the rows that it made, but not those of its
-// instructions, how many rows it made in all, and two bytes of its SRAM.
+// Runs of one node on which bytes arrive, each a line of a text file: for each the rows that it made, but not those of
+// its instructions, how many rows it made in all, and two bytes of its SRAM.
 use crate::running::run_trial;
 use crate::trials::read_trial;
 use crate::writing::write_run;

@@ -66,8 +66,8 @@ pub fn run_trial<'l>(alloc: Global, image: &[u8], trial: Trial<'l>) -> Option<Ru
     })
 }
 
-/// The rows of a run of an image below a limit, on a node at which nothing arrives; of its instructions and entries those of a
-/// window.
+/// The rows of a run of an image below a limit, on a node at which nothing arrives; of its instructions and entries
+/// those of a window.
 pub fn rows_in(alloc: Global, image: &[u8], limit: u32, from: u32, until: u32) -> Option<Vec<Row>> {
     if from > until {
         return None;

@@ -1,5 +1,5 @@
-// Samples run to their end on one thread, each a line of a text file: for each how often its nodes sent and what they heard, how
-// long its trace is with a hash of it, and the first byte of each node. And the words of a node's program.
+// Samples run to their end on one thread, each a line of a text file: for each how often its nodes sent and what they
+// heard, how long its trace is with a hash of it, and the first byte of each node. And the words of a node's program.
 ghost use Rattle.std.specs.Prelude.{◌≤◌, IfSome};
 
 use case_files::{Digest, Failed, text_of, write_line};

@@ -1,7 +1,7 @@
 // Scenario texts: for each case of a file what `scenario_file` reads of it, or the name of its fault.
 //
-// A file of cases is lines of bytes. A line `== NAME` begins a case; its text is what stands between it and the next such line,
-// without the last LF.
+// A file of cases is lines of bytes. A line `== NAME` begins a case; its text is what stands between it and the next
+// such line, without the last LF.
 use crate::report::report;
 use case_files::{Failed, bytes_of};
 use sim_io::Sink;

@@ -1,4 +1,5 @@
-// What a sniffer gives of what a node sends, each line of a text file the bytes: in two pieces, for every place of the cut.
+// What a sniffer gives of what a node sends, each line of a text file the bytes: in two pieces, for every place of the
+// cut.
 ghost use Rattle.std.specs.Prelude.{◌≤◌, length};
 
 use air_sniffer::{Frame, Sniffer};

@@ -1,9 +1,9 @@
 // One line of a file of trials.
 use std::alloc::{AllocError, Global};
 
-/// A run: an image, the cycle limit, how many cycles its instructions and entries are told, and the bytes that arrive at
-/// USART0: the cycle of the first, how many cycles one comes after another, and the bytes; and whether two bytes of its
-/// SRAM are told.
+/// A run: an image, the cycle limit, how many cycles its instructions and entries are told, and the bytes that arrive
+/// at USART0: the cycle of the first, how many cycles one comes after another, and the bytes; and whether two bytes of
+/// its SRAM are told.
 #[derive(Drop)]
 pub struct Trial<'l> {
     pub image: &'l str,

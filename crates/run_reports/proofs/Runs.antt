@@ -65,7 +65,7 @@ module _ (sc : ScenarioOf) (ok : IsScenario sc) where
 
   -- the rows of a cycle behind the window do not count
   late_cycle : (k c : ℕ) → sc.to ≤ c → All (λ r. matters (window_of sc) r ≡ false) (rows_in f k c)
-  late_cycle k c h i d lt = late _ _ _ sc.from sc.to c (rows_bear f (sound sc ok) k c i d lt) h
+  late_cycle k c h i d lt = late _ _ _ sc.from sc.to c (rows_bear f (sound sc ok).kind k c i d lt) h
 
   -- nor do last rows
   last_none : filter (matters (window_of sc)) (end_rows f) ≡ []
@@ -87,7 +87,7 @@ module _ (sc : ScenarioOf) (ok : IsScenario sc) where
       let e : c + n ≡ sc.topo.limit = omega arith in
       let p = matters (window_of sc) in
       let later : (world_at f sc.topo.limit).rows ≡ (world_at f c).rows ++ each_below n (λ i. each_below f.topo.nodes (λ k. rows_in f k (c + i))) =
-      ap (λ (t : ℕ). (world_at f t).rows) (sym e) ∙ rows_from f (sound sc ok) c n (omega arith) in
+      ap (λ (t : ℕ). (world_at f t).rows) (sym e) ∙ rows_from f c n (omega arith) in
       sym
       (filter-append p (world_at f sc.topo.limit).rows (end_rows f)
       ∙ ap (λ (l : List Row). filter p (world_at f sc.topo.limit).rows ++ l) last_none ∙ append-nil (filter p (world_at f sc.topo.limit).rows)
@@ -126,7 +126,7 @@ module _ (sc : ScenarioOf) (ok : IsScenario sc) where
   unfolding world_after
   whole =
       let e : 0 + sc.topo.limit ≡ sc.topo.limit = omega arith in
-      ap (λ (t : ℕ). (world_at f t).rows) (sym e) ∙ rows_from f (sound sc ok) 0 sc.topo.limit (omega arith)
+      ap (λ (t : ℕ). (world_at f t).rows) (sym e) ∙ rows_from f 0 sc.topo.limit (omega arith)
 
   below_cycle : (k t : ℕ) → All (IsBelow sc.to) (rows_in f k t)
   below_cycle k t = cycle_below sc.to t (node_at f k t) (hears f t (world_at f t) k) (given_after sc k (t - f.start)).to

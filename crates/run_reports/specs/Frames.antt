@@ -33,6 +33,7 @@ send_told r = send_by r.node r.cycle r.kind
 unfoldable pub sends_told : List Row → List Send
 sends_told rows = filter_map send_told rows
 
--- the frames of each node, over all sends of the run, node after node. (The rows of the run tell these sends: `sends_law`.)
+-- the frames of each node, over all sends of the run, node after node. (The rows of the run tell these sends:
+-- `sends_law`.)
 unfoldable pub frames_text : ScenarioOf → List ℕ
 frames_text network = each_below network.topo.nodes (λ k. flat_map frame_line (frames (sends_of k (facts_of (fleet_of network)).sends)))

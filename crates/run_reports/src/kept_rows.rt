@@ -14,8 +14,8 @@ fn keep(rows: &mut Vec<Row>, window: (u64, u64))
     rows.retain(|row| matters(row, window));
 }
 
-// Rows, and more behind them. Where there are none yet, those that come are taken as they stand, so that the rows of a window
-// that lies in one epoch are never copied.
+// Rows, and more behind them. Where there are none yet, those that come are taken as they stand, so that the rows of a
+// window that lies in one epoch are never copied.
 fn joined(mut rows: Vec<Row>, mut more: Vec<Row>) -> Result<Vec<Row>, AllocError>
     ensures { IfOk result (λ all. all.items ≡ rows.items ++ more.items) }
 {

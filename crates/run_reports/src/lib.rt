@@ -1,6 +1,6 @@
-//! What is written of a run in place of its trace: the profile of each node over the window (`profiles_of`), and the frames that each
-//! node sent (`frames_of`). The rows of a run come in pieces, of which only what is asked for is kept: the rows that count in a
-//! profile (`keep_more`); the frames, and at most 35 sends of each node (`feed_rows`).
+//! What is written of a run in place of its trace: the profile of each node over the window (`profiles_of`), and the
+//! frames that each node sent (`frames_of`). The rows of a run come in pieces, of which only what is asked for is kept:
+//! the rows that count in a profile (`keep_more`); the frames, and at most 35 sends of each node (`feed_rows`).
 #![tactic(auto)]
 
 mod frame_lines;

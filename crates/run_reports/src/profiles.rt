@@ -14,8 +14,8 @@ use node_monitors::Profile;
 use node_runner::Scenario;
 use std::alloc::{AllocError, Global};
 
-// The rows of so many nodes are taken apart from all others at once. A profile goes over the rows once, and would come to memory
-// for all rows of 64 nodes; those of eight stay in the processor's caches.
+// The rows of so many nodes are taken apart from all others at once. A profile goes over the rows once, and would come
+// to memory for all rows of 64 nodes; those of eight stay in the processor's caches.
 const GROUP: u8 = 8;
 
 // The rows of the nodes from `first` on, below `end`.
@@ -67,8 +67,8 @@ fn put_all(alloc: Global, nodes: u8, window: (u64, u64), rows: &[Row]) -> Result
     Ok(text)
 }
 
-/// The profile of each node of a network over its window, of at most 20,000 cycles, node after node. The rows are those of its run
-/// that count in a profile over that window. `Err` only for want of memory.
+/// The profile of each node of a network over its window, of at most 20,000 cycles, node after node. The rows are those
+/// of its run that count in a profile over that window. `Err` only for want of memory.
 pub fn profiles_of(alloc: Global, network: &Scenario, rows: &[Row]) -> Result<Vec<u8>, NoMemory>
     requires narrow { network.now.to - network.now.from ≤ 20000 }
     requires rows { rows.now ≡ filter (matters (window_of network.now)) (run_rows (fleet_of network.now)) }

@@ -1,5 +1,5 @@
-//! A large network from a number, the same on every machine: a ring of nodes that send and sample the air without end. And how
-//! often the nodes of a run sent, and what they heard: four counts by which two runs of a sample are compared.
+//! A large network from a number, the same on every machine: a ring of nodes that send and sample the air without end.
+//! And how often the nodes of a run sent, and what they heard: four counts by which two runs of a sample are compared.
 #![tactic(auto)]
 
 mod counts;

@@ -56,8 +56,8 @@ fn ring_words(byte: u8, rounds: u8) -> [u16; 30]
 }
 
 /// The program memory of a node that gives its radio a byte to send and then samples the air, each 272 cycles without
-/// end: `byte` at first, after so many rounds of waiting of 3 cycles, and then the byte before, what it heard and 1 in all,
-/// modulo 256. `Err` only for want of memory.
+/// end: `byte` at first, after so many rounds of waiting of 3 cycles, and then the byte before, what it heard and 1 in
+/// all, modulo 256. `Err` only for want of memory.
 pub fn ring_image(alloc: Global, byte: u8, rounds: u8) -> Result<Flash, NoMemory>
     ensures { IfOk result (λ flash. flash ≡ image_of_words (ring_words byte rounds)) }
 {

@@ -53,10 +53,10 @@ fn no_scripts(alloc: Global, nodes: u8) -> Result<Vec<Script>, NoMemory>
     Ok(scripts)
 }
 
-/// The sample of `number`, with so many nodes, 1 to 64: a ring in which each node is heard by the next one, over 1,000,000
-/// cycles. A byte is heard for 512 cycles, from 1 to 4,096 cycles after its send on, as the number says; so it says of each
-/// node which byte is its first and how long it waits before it. No byte arrives from outside, and no instruction is traced.
-/// `Err` only for want of memory.
+/// The sample of `number`, with so many nodes, 1 to 64: a ring in which each node is heard by the next one, over
+/// 1,000,000 cycles. A byte is heard for 512 cycles, from 1 to 4,096 cycles after its send on, as the number says; so
+/// it says of each node which byte is its first and how long it waits before it. No byte arrives from outside, and no
+/// instruction is traced. `Err` only for want of memory.
 #[tactic(auto, unfolding(crate::specs::Sample::sample))]
 pub fn make(alloc: Global, number: u16, nodes: u8) -> Result<Scenario, NoMemory>
     requires some { 1 ≤ nodes }
@@ -71,6 +71,7 @@ pub fn make(alloc: Global, number: u16, nodes: u8) -> Result<Scenario, NoMemory>
         window: (0, 0),
     };
     let scenario = Scenario::new(text, images(alloc, number, nodes)?);
+    // The call's clause says that the scenario is one (`IsScenario`), which the caller rests on.
     let _sound = scenario.lawful_topo();
     Ok(scenario)
 }

@@ -70,7 +70,7 @@ number_of _ default = default
 abbrev pub number_at : List ℕ → ℕ → Members → ℕ
 number_at key default ms = number_of (get_member key ms) default
 
--- the same of a value that is a table
+-- the whole number at a key of a value that is a table, and the default where none stands there
 abbrev pub number_in : List ℕ → ℕ → Data → ℕ
 number_in key default d = number_at key default (members_of d)
 
@@ -103,7 +103,7 @@ abbrev pub pair_of : Data → Option (ℕ × ℕ)
 pair_of (array ds) = pair_in (values_in ds)
 pair_of _ = None
 
--- the same, and 0 and 0 for any other value
+-- a pair, and 0 and 0 where there is none
 abbrev pub pair_or : Option (ℕ × ℕ) → ℕ × ℕ
 pair_or p = unwrap_or p (0, 0)
 

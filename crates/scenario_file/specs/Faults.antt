@@ -1,5 +1,5 @@
--- The ten faults of a scenario's text. Each is a test of the whole document, and the lowest that applies is the answer. So a test
--- may answer anything where a lower fault applies.
+-- The ten faults of a scenario's text. Each is a test of the whole document, and the lowest that applies is the answer:
+-- a test may answer anything where a lower fault applies.
 use Rattle.std.specs.Prelude.{ℕ, zero, suc, ◌==◌, ◌&&◌, ◌||◌, nat_lt, nat_le, sum, length, Bool, false, not, List, [], ◌∷◌, ◌++◌, map, Option, Some, None, codes, if◌then◌else◌}
 use Rattle.std.specs.Str.{is_utf8}
 use Rattle.std.specs.List.{list_any, list_all, count_by}

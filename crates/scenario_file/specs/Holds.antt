@@ -1,4 +1,5 @@
--- The rules of tables as one: of a table, of a row of an array, of all rows of one, and of a document with its three arrays.
+-- The rules of tables as one: of a table, of a row of an array, of all rows of one, and of a document with its three
+-- arrays.
 use Rattle.std.specs.Prelude.{◌&&◌, Bool, true, false, not, List}
 use Rattle.std.specs.List.{list_all}
 use Rattle.std.specs.Option.{option_map_or}

@@ -1,5 +1,6 @@
--- The rules of a scenario's tables, one kind of table after another: which keys it may have, which it must have, of which kind a value
--- is, and which numbers and texts are in range. They depend on the version of the text. Own to this simulator.
+-- The rules of a scenario's tables, one kind of table after another: which keys it may have, which it must have, of
+-- which kind a value is, and which numbers and texts are in range. They depend on the version of the text. Own to this
+-- simulator.
 use Rattle.std.specs.Prelude.{ℕ, ℤ, ◌-◌, ◌/◌, ◌%◌, ◌==◌, ◌&&◌, ◌||◌, nat_lt, nat_le, length, Bool, true, false, not, List, [], ◌∷◌, Option, Some, None, codes, if◌then◌else◌}
 use Rattle.std.specs.List.{list_all, list_any}
 use Rattle.std.specs.Option.{option_map_or}
@@ -100,7 +101,8 @@ abbrev pub is_hex : Data → Bool
 is_hex (string s) = list_all is_ascii_hexdigit s && (length s % 2 == 0)
 is_hex _ = true
 
--- a window of a run of so many cycles: from a number to one not below it, both at most the cycles, and 20,000 cycles wide at most
+-- a window of a run of so many cycles: from a number to one not below it, both at most the cycles, and 20,000 cycles
+-- wide at most
 abbrev pub is_window_pair : ℕ → Option (ℕ × ℕ) → Bool
 is_window_pair cycles (Some p) = nat_le p.0 p.1 && nat_le p.1 cycles && nat_le (p.1 - p.0) 20000
 is_window_pair cycles None = false

@@ -9,7 +9,8 @@ use crate::kinds::{is_array_of_two, is_two};
 use crate::ranges::{fits, is_array_of_spans, is_hex, is_name, is_node, is_window};
 use toml::{Table, Value};
 
-/// What is asked of a value, where one stands at its key: first a kind, and later a range, which a value of another kind passes.
+/// What is asked of a value, where one stands at its key: first a kind, and later a range, which a value of another
+/// kind passes.
 #[derive(Clone, Copy)]
 pub enum Asked {
     /// A whole number.

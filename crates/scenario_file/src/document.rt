@@ -8,12 +8,14 @@ ghost use Rattle.scenario_file.specs.Faults.{nodes};
 use std::alloc::{AllocError, Global};
 use toml::{Table, Value};
 
+/// What stands at a key of a table.
 pub fn member<'t>(table: &'t Table, key: &str) -> Option<&'t Value>
     ensures { option_map (λ v. view v.now) result ≡ get_member key.now (table_view table.now) }
 {
     table.get(key)
 }
 
+/// Whether anything stands at a key of a table, be it of the wrong kind.
 pub fn has_key(table: &Table, key: &str) -> bool
     ensures { result ≡ has_key key.now (table_view table.now) }
 {
@@ -110,7 +112,7 @@ pub fn number_in(value: &Value, key: &str, default: u64) -> u64
     }
 }
 
-/// The same of each of these tables.
+/// The number at a key of each of these tables, in their order, or the default. `Err` only for want of memory.
 pub fn numbers_in(
     alloc: Global,
     values: &[Value],

@@ -59,8 +59,8 @@ pub fn links_of(
     Ok(links)
 }
 
-/// Whether two links are equal, in a document without an earlier fault. The topology tells: it takes the links, and nothing else
-/// can be wrong with it.
+/// Whether two links are equal, in a document without an earlier fault. The topology tells: it takes the links, and
+/// nothing else can be wrong with it.
 pub fn any_twice_linked(alloc: Global, version: Version, table: &Table) -> Result<bool, AllocError>
     requires version { version ≡ version_of (table_view table.now) }
     requires early { first_of (early_tests (table_view table.now)) ≡ None }

@@ -1,5 +1,5 @@
-// The rules of the tables: of one, of all of a kind, and of a document with all that it holds. Each test is made, by `&` and not `&&`: none
-// needs the answer of another, and a way round a test costs more to prove than the test.
+// The rules of the tables: of one, of all of a kind, and of a document with all that it holds. Each test is made, by
+// `&` and not `&&`: none needs the answer of another, and a way round a test costs more to prove than the test.
 ghost use Rattle.std.specs.Prelude.{◌≡◌, map};
 ghost use Rattle.toml.specs.View.{view, table_view};
 ghost use Rattle.scenario_file.specs.Document.{at_key};

@@ -18,8 +18,8 @@ use std::alloc::{AllocError, Global};
 use toml::{Table, Value};
 use world_core::Topo;
 
-/// What a scenario's text says: the nodes and the air between them, which image each node runs, what arrives at it, and from which
-/// cycle on and below which instructions are traced.
+/// What a scenario's text says: the nodes and the air between them, which image each node runs, what arrives at it, and
+/// from which cycle on and below which instructions are traced.
 #[derive(Drop)]
 pub struct ScenarioText {
     /// The nodes, their cycle limit, and who hears whom.
@@ -101,8 +101,8 @@ fn table(alloc: Global, bytes: &[u8]) -> Result<Table, ScenarioFault>
     }
 }
 
-/// Reads the text of a scenario, in the version that it names. `Ok` is exactly the scenario that it says, `Err` the lowest fault that
-/// applies, or `NoMemory` where an allocation was refused.
+/// Reads the text of a scenario, in the version that it names. `Ok` is exactly the scenario that it says, `Err` the
+/// lowest fault that applies, or `NoMemory` where an allocation was refused.
 #[tactic(auto, unfolding(crate::specs::Scenario::scenario_in))]
 pub fn read(alloc: Global, bytes: &[u8]) -> Result<ScenarioText, ScenarioFault>
     ensures ok { IfOk result (λ s. scenario_in bytes.now ≡ Ok (parts s)) }

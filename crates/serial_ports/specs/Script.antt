@@ -18,7 +18,7 @@ unfoldable pub script_byte : ScriptBytes → ℕ → Option ℕ
 script_byte s t =
     if nat_le s.at t && (t - s.at) % s.every == 0 then slice_get s.bytes ((t - s.at) / s.every) else None
 
--- the same in the words of the rule: byte i where the cycle is its own, none where it is no byte's
+-- what arrives in cycle t, in the words of the rule: byte i where the cycle is its own, none where it is no byte's
 abbrev pub Arrives : ScriptBytes → ℕ → Option ℕ → Type 0
 Arrives s t (Some b) = (i : ℕ) × (t ≡ s.at + i * s.every) × (slice_get s.bytes i ≡ Some b)
 Arrives s t None = (i : ℕ) → i < length s.bytes → t ≡ s.at + i * s.every → ⊥

@@ -51,8 +51,8 @@ fn fault_of(error: &io::Error) -> ReadFault
     ReadFault::Failed
 }
 
-/// All that a reader has left, of at most `most` bytes: it takes one byte past them at most. A read that a signal cut off
-/// is made again.
+/// All that a reader has left, of at most `most` bytes: it takes one byte past them at most. A read that a signal cut
+/// off is made again.
 pub fn read_whole<F: Read + Drop>(alloc: Global, file: F, most: usize) -> Result<Vec<u8>, ReadFault>
     ensures fits { IfOk result (λ bytes. length bytes.items ≤ most) }
     ensures whole { IfOk result (λ bytes. IfSome (F.remaining file) (λ left. bytes.items ≡ left)) }

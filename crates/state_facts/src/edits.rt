@@ -167,8 +167,8 @@ fn change_line(alloc: Global, text: &mut Text, words: &[&str]) -> Result<(), Fai
     }
 }
 
-/// Makes a change: `part LINE PLACE TEXT`, `byte LINE PLACE DIGITS`, `line LINE TEXT`, `drop LINE`, `twice LINE`, `swap LINE
-/// LINE`, `before LINE TEXT`, `behind TEXT` of a last line, or `cut` of the last LF.
+/// Makes a change: `part LINE PLACE TEXT`, `byte LINE PLACE DIGITS`, `line LINE TEXT`, `drop LINE`, `twice LINE`, `swap
+/// LINE LINE`, `before LINE TEXT`, `behind TEXT` of a last line, or `cut` of the last LF.
 pub fn apply(alloc: Global, text: &mut Text, edit: &str) -> Result<(), Failed> {
     let mut words = Vec::new(alloc);
     for word in edit.split_whitespace() {

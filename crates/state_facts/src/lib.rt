@@ -1,5 +1,5 @@
-//! Texts of saved states, each a small change of one that is accepted, and how each is to be answered: with the fault of its
-//! first faulty line.
+//! Texts of saved states, each a small change of one that is accepted, and how each is to be answered: with the fault
+//! of its first faulty line.
 #![tactic(auto)]
 
 mod cases;

@@ -15,8 +15,8 @@ fn no_program(alloc: Global) -> Result<Program, Failed> {
     }
 }
 
-/// Two nodes, of which the second hears the first, for a million cycles: a send may be heard for its latency of 272 cycles and
-/// the byte time of 512.
+/// Two nodes, of which the second hears the first, for a million cycles: a send may be heard for its latency of 272
+/// cycles and the byte time of 512.
 pub fn two_nodes(alloc: Global) -> Result<Scenario, Failed> {
     let links = vec![in alloc; Link { from: 0, to: 1 }]?;
     let Ok(topo) = Topo::new(2, 1_000_000, 272, 512, links) else {

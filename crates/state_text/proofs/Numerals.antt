@@ -49,7 +49,7 @@ decimal_above n lt = digits_above (decimal n) (digits_decimal own n lt)
 abbrev pub AreWide : List ℕ → Type 0
 AreWide ns = AllByRecursion (λ x. x < 2 ^ 64) ns
 
--- the same of lists
+-- lists of numerals are the numerals of their values
 pub decimals_of : (ps : List (List ℕ)) → list_all is_decimal ps ≡ true → list_all fits_word ps ≡ true → (map decimal (map value ps) ≡ ps) × AreWide (map value ps)
 decimals_of [] h f = (refl, tt)
 decimals_of (p ∷ ps) h f =

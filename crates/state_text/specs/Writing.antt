@@ -1,5 +1,5 @@
--- Words of the writer's contracts, and no part of what a state is: how a page of text in front of a sink stands after a text
--- was appended to it.
+-- Words of the writer's contracts, and no part of what a state is: how a page of text in front of a sink stands after a
+-- text was appended to it.
 use Rattle.std.specs.Prelude.{◌≡◌, ℕ, ◌≤◌, Bool, true, false, List, [], ◌∷◌, ◌++◌, length, take, drop, codes, decimal, slice_index_or, Option}
 use Rattle.sim_io.specs.Outside.{Rose, TookFront, Moved}
 use Rattle.state_text.specs.Parts.{ended}

@@ -1,5 +1,6 @@
-//! The text of a saved state, over plain data: a cycle, each node's numbers and bytes, and the sends that may still be heard. It is
-//! written by one spelling for each state, and read line by line; the first faulty line decides what is wrong with a text.
+//! The text of a saved state, over plain data: a cycle, each node's numbers and bytes, and the sends that may still be
+//! heard. It is written by one spelling for each state, and read line by line; the first faulty line decides what is
+//! wrong with a text.
 #![tactic(auto)]
 
 mod bounds;

@@ -126,7 +126,8 @@ fn has_lower(text: &[u8]) -> bool
     text.iter().any(|b| is_lower(*b))
 }
 
-/// So many bytes.
+/// The `count` bytes that a part spells, two upper case hexadecimal digits each. `NotAState`, with the line number
+/// `number`, where it spells another count or has anything else.
 #[tactic(auto, unfolding(crate::specs::Reading::bytes_in))]
 pub fn bytes_in(
     alloc: Global,
@@ -147,7 +148,8 @@ pub fn bytes_in(
     }
 }
 
-/// So many bytes, in the only part that is left.
+/// The `count` bytes that the only part left spells, as `bytes_in` reads it. `NotAState` also where there is no part
+/// left, or more than one.
 #[tactic(auto, unfolding(crate::specs::Reading::only_bytes))]
 pub fn only_bytes(
     alloc: Global,

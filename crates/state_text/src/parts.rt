@@ -34,7 +34,7 @@ impl<'a> Parts<'a> {
         Parts { rest: Some(line) }
     }
 
-    /// The same parts.
+    /// Another reader of the parts that are left; this one takes none of them.
     pub fn again(&self) -> Parts<'a>
         ensures { result ≡ self.now }
     {

@@ -209,6 +209,7 @@ fn kept_send(
     requires at { is_decimal at.now ≡ true }
     ensures { result ≡ if_kept topo.now cycle before (send (value node.now) (value at.now) (byte ∷ [])) }
 {
+    // The call's clause says that the topology is lawful, which what follows rests on.
     let _lawful = topo.nodes();
     match value(node) {
         None => None,
@@ -336,6 +337,7 @@ pub fn read<B: Bounds>(
     // every other text has exactly its fault
     ensures exact { Gives (λ state. state) result (state_of (rules topo.now (B.within bounds.now) (B.readable bounds.now)) bytes.now) }
 {
+    // The call's clause says that the topology is lawful, which what follows rests on.
     let _lawful = topo.nodes();
     state(alloc, topo, bounds, bytes)
 }

@@ -145,8 +145,8 @@ fn put_state<N: Nodes, O: Sink>(
     page.put_text("end\n", sink);
 }
 
-/// Writes the text of a state: its cycle, its nodes in order, and the sends that may still be heard. At a fault a front of the
-/// text was taken, and the sink's count rose.
+/// Writes the text of a state: its cycle, its nodes in order, and the sends that may still be heard. At a fault a front
+/// of the text was taken, and the sink's count rose.
 pub fn write<N: Nodes, O: Sink>(
     cycle: u64,
     nodes: &N,

@@ -1,5 +1,5 @@
-//! Stores and sinks over memory, over fake readers and writers, and over files and devices of the real system. What each line
-//! of a text file comes to is written below it.
+//! Stores and sinks over memory, over fake readers and writers, and over files and devices of the real system. What
+//! each line of a text file comes to is written below it.
 #![tactic(auto)]
 
 mod cases;

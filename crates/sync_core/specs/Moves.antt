@@ -33,8 +33,8 @@ abbrev pub MayMoveAll : AirState → List Move → Type 0
 MayMoveAll a [] = Unit {0}
 MayMoveAll a (x ∷ xs) = MayMove a x × MayMoveAll (after_move a x) xs
 
--- A recorded sample x has the true answer. And whatever allowed moves come later: until a cut goes past it, it stands in the
--- record as it was, and is what the recorded sends give.
+-- A recorded sample x has the true answer. And whatever allowed moves come later: until a cut goes past it, it stands
+-- in the record as it was, and is what the recorded sends give.
 pub record IsForGood (a : AirState) (x : Ask × Heard) : Type 0 where
   pub right : x.1 ≡ truth a.world x.0.node x.0.cycle
   pub stands : (more : List Move) → MayMoveAll a more → (after_moves a more).floor ≤ x.0.cycle

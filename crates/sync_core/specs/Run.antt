@@ -1,4 +1,5 @@
--- Lists of steps of the core: where each step is allowed, what it does, and the first that is not. Own to this simulator.
+-- Lists of steps of the core: where each step is allowed, what it does, and the first that is not. Own to this
+-- simulator.
 use Rattle.std.specs.Prelude.{◌≡◌, ℕ, ◌<◌, Bool, true, false, List, [], ◌∷◌, length, take, slice_index_or}
 use Rattle.world_core.specs.declared.air.Ask.{Ask}
 use Rattle.world_core.specs.declared.air.Heard.{Heard}

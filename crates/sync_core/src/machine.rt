@@ -68,8 +68,8 @@ impl<W: World> Core<W> {
         &self.world
     }
 
-    /// Raises the clock of a node to this cycle. The clock may not fall or pass the limit, and all sends of the node below
-    /// it are to be posted.
+    /// Raises the clock of a node to this cycle. The clock may not fall or pass the limit, and all sends of the node
+    /// below it are to be posted.
     pub fn raise(&mut self, node: u8, clock: u64)
         requires { MayRaise self.old node clock }
         ensures step { self.new ≡ after_raise self.old node clock }
@@ -88,10 +88,10 @@ impl<W: World> Core<W> {
         self.sent[usize::from(send.node)] += 1;
     }
 
-    /// One of the world's samples: node `node` samples the air in this cycle. What it hears is recorded, and is what all
-    /// sends of the world give.
-    /// `NotYet` exactly where a node that could be heard in this cycle has a clock that is not past the last cycle whose
-    /// sends could be heard: the lowest such node, with its clock. `NotYet` and `NoMemory` change nothing.
+    /// One of the world's samples: node `node` samples the air in this cycle. What it hears is recorded, and is what
+    /// all sends of the world give. `NotYet` exactly where a node that could be heard in this cycle has a clock that is
+    /// not past the last cycle whose sends could be heard: the lowest such node, with its clock. `NotYet` and
+    /// `NoMemory` change nothing.
     pub fn sample(&mut self, node: u8, cycle: u64) -> Sampled
         requires { Contains self.old.world.asks record { node = node; cycle = cycle } }
         ensures step { IsSampled self.old node cycle result self.new }
@@ -137,8 +137,8 @@ impl<W: World> Core<W> {
         self.log.sends()
     }
 
-    /// The recorded samples, in the order in which they were taken. Each is what all sends of the world give, and whatever
-    /// steps come later, the record then gives it the same value.
+    /// The recorded samples, in the order in which they were taken. Each is what all sends of the world give, and
+    /// whatever steps come later, the record then gives it the same value.
     pub fn samples(&self) -> &[(Ask, Heard)]
         ensures value { result.now ≡ self.now.samples }
         ensures right { All (λ x. x.1 ≡ truth self.now.world x.0.node x.0.cycle) result.now }

@@ -107,9 +107,10 @@ fn try_step(core: &mut Core<ListWorld>, step: Step) -> Result<bool, NoMemory>
     }
 }
 
-/// The core after all these steps, from the opening, in a world whose limit is at most 10,000,000 cycles. It is `Ok` only where each step is allowed where it comes.
-/// `Illegal` names exactly the first step that is not: a raise that falls, passes the limit or passes a send that is not
-/// posted, a post of a node that has no further send, a sample that the world does not have or that has to wait.
+/// The core after all these steps, from the opening, in a world whose limit is at most 10,000,000 cycles. It is `Ok`
+/// only where each step is allowed where it comes. `Illegal` names exactly the first step that is not: a raise that
+/// falls, passes the limit or passes a send that is not posted, a post of a node that has no further send, a sample
+/// that the world does not have or that has to wait.
 pub fn replay(
     alloc: Global,
     world: ListWorld,

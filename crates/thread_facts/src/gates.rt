@@ -83,6 +83,7 @@ pub struct BothBegin<'t>(pub &'t Told);
 
 impl<'t> Gate for BothBegin<'t> {
     fn reached<R: Wait>(&self, rt: &R, node: u8, turn: u64) {
+        // It looks again and again, and does not sleep.
         let _ = rt;
         self.0.note(node, turn);
         if turn == 0 && node <= 1 {
@@ -91,8 +92,8 @@ impl<'t> Gate for BothBegin<'t> {
     }
 }
 
-/// Holds node 0 at its turn 0 until node 1's turn 1 is told, and then for a while: node 1's turn 2 comes behind a sample for which
-/// it waits for node 0, so it is not to be told meanwhile.
+/// Holds node 0 at its turn 0 until node 1's turn 1 is told, and then for a while: node 1's turn 2 comes behind a
+/// sample for which it waits for node 0, so it is not to be told meanwhile.
 #[derive(Drop)]
 pub struct FirstIsLate<'t> {
     pub told: &'t Told,
@@ -102,6 +103,7 @@ pub struct FirstIsLate<'t> {
 
 impl<'t> Gate for FirstIsLate<'t> {
     fn reached<R: Wait>(&self, rt: &R, node: u8, turn: u64) {
+        // It looks again and again, and does not sleep.
         let _ = rt;
         self.told.note(node, turn);
         if turn == 0 && node == 0 {
@@ -123,6 +125,7 @@ pub struct SecondIsLate<'t>(pub &'t Told);
 
 impl<'t> Gate for SecondIsLate<'t> {
     fn reached<R: Wait>(&self, rt: &R, node: u8, turn: u64) {
+        // It looks again and again, and does not sleep.
         let _ = rt;
         self.0.note(node, turn);
         if turn == 0 && node == 1 {
@@ -137,6 +140,7 @@ pub struct LastTurn<'t>(pub &'t AtomicU64);
 
 impl<'t> Gate for LastTurn<'t> {
     fn reached<R: Wait>(&self, rt: &R, node: u8, turn: u64) {
+        // It waits for nobody.
         let _ = rt;
         let _ = node;
         self.0.store(turn, Ordering::SeqCst);

@@ -1,6 +1,7 @@
-//! Networks with each node on a thread of its own, beside gates that hold a node until another one has come far enough: so the
-//! stored run shows that two nodes are under way at once, that a node waits at a sample, and that one which waits for nobody
-//! goes ahead. A body on one thread, one that does not wait and one in lockstep each fail one of them. `command_facts` runs it.
+//! Networks with each node on a thread of its own, beside gates that hold a node until another one has come far enough:
+//! so the stored run shows that two nodes are under way at once, that a node waits at a sample, and that one which
+//! waits for nobody goes ahead. A body on one thread, one that does not wait and one in lockstep each fail one of them.
+//! `command_facts` runs it.
 #![tactic(auto)]
 
 mod gates;

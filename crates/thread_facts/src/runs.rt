@@ -66,8 +66,8 @@ fn write_status<O: Sink>(status: u8, out: &mut O) -> Result<(), SinkFault> {
     write_all(out, line.as_str().as_bytes())
 }
 
-/// Writes the status that these words come to over the files beside the program, and what stands on both streams. The write to
-/// the output with the number `fails`, from 0, fails, if there is one.
+/// Writes the status that these words come to over the files beside the program, and what stands on both streams. The
+/// write to the output with the number `fails`, from 0, fails, if there is one.
 pub fn write_call<R: Threads + Wait + Files + AllocGlobal + Sync, G: Gate + Sync, O: Sink>(
     rt: &R,
     words: &[&str],

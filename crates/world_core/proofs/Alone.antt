@@ -19,7 +19,7 @@ too_early false opened l s t d e h = refl
 too_early true false l s t d e h = refl
 too_early true true l s t d e h = let a : nat_le (t + l) s ≡ false = grind (arith, nat_tests) in ap (λ (v : Bool). v && nat_lt s (t + l + d)) a
 
--- the same, through a cond
+-- a cond whose test is known
 pub cond_true : {X : Type 0} (b : Bool) (x y : X) → b ≡ true → cond b x y ≡ x
 cond_true b x y e = ap (λ (v : Bool). cond v x y) e
 
@@ -38,12 +38,12 @@ module _ {S R : Type 0} (f : Fleet S R) (ok : IsSound f) where
   hears_truth k t g h = sym (heard_stays k t f.topo.limit g h)
 
   pub node_next : (k t : ℕ) → f.start ≤ t → t ≤ f.topo.limit → node_at f k (suc t) ≡ ticked f.kind t (node_at f k t) (truth (facts_of f) k t)
-  node_next k t g h = ap (λ (w : Moment S R). w.state k) (next f ok t g) ∙ ap (ticked f.kind t (node_at f k t)) (hears_truth k t g h)
+  node_next k t g h = ap (λ (w : Moment S R). w.state k) (next f t g) ∙ ap (ticked f.kind t (node_at f k t)) (hears_truth k t g h)
 
   -- a cycle that samples nothing
   pub node_begun : (k t : ℕ) → f.start ≤ t → f.kind.asks t (node_at f k t) ≡ false → node_at f k (suc t) ≡ f.kind.begun t (node_at f k t)
   node_begun k t g e =
-      ap (λ (w : Moment S R). w.state k) (next f ok t g)
+      ap (λ (w : Moment S R). w.state k) (next f t g)
       ∙ cond_false (f.kind.asks t (node_at f k t)) (f.kind.finished t (f.kind.begun t (node_at f k t)) (hears f t (world_at f t) k)) (f.kind.begun t (node_at f k t)) e
 
   pub rows_begun : (k t : ℕ) → f.kind.asks t (node_at f k t) ≡ false → rows_in f k t ≡ f.kind.begun_rows t (node_at f k t)
@@ -79,6 +79,7 @@ module _ {S R : Type 0} (f : Fleet S R) (ok : IsSound f) where
       (λ i l. let at = passes k t i g (λ j m. q j (omega arith)) in
       rows_begun k (t + i) (ap (f.kind.asks (t + i)) at ∙ (q i l).0) ∙ ap (f.kind.begun_rows (t + i)) at)
 
+module _ {S R : Type 0} (f : Fleet S R) where
   -- rows from a on, then from b on
   each_add : {X : Type 0} (n m : ℕ) (g : ℕ → List X) → each_below (n + m) g ≡ each_below n g ++ each_below m (λ i. g (n + i))
   each_add n zero g = ap (λ (l : ℕ). each_below l g) (add-zero n) ∙ sym (append-nil (each_below n g))

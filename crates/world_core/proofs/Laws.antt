@@ -33,11 +33,11 @@ module _ {S R : Type 0} (f : Fleet S R) (ok : IsSound f) where
 
   after_begun : (P : S → Type 0) (k t : ℕ) → f.start ≤ t → P (f.kind.begun t (node_at f k t)) → ((u : S) (h : Heard) → P u → P (f.kind.finished t u h)) → P (node_at f k (suc t))
   after_begun P k t g p q =
-      subst P (sym (ap (λ (w : Moment S R). w.state k) (next f ok t g)))
+      subst P (sym (ap (λ (w : Moment S R). w.state k) (next f t g)))
       (ticked_case P t (node_at f k t) (hears f t (world_at f t) k) (f.kind.asks t (node_at f k t)) refl p (λ u r. q u (hears f t (world_at f t) k) r))
 
   at_start : (P : S → Type 0) (k : ℕ) → P (f.begins k) → P (node_at f k f.start)
-  at_start P k p = subst P (sym (ap (λ (w : Moment S R). w.state k) (first f ok))) p
+  at_start P k p = subst P (sym (ap (λ (w : Moment S R). w.state k) (first f))) p
 
   gap_at : (k t : ℕ) → f.start ≤ t → ok.kind.gap (node_at f k t) ≡ f.topo.byte_time
   gap_at k = each_cycle f ok (λ t. ok.kind.gap (node_at f k t) ≡ f.topo.byte_time) (at_start (λ (u : S). ok.kind.gap u ≡ f.topo.byte_time) k (ok.gap k))
@@ -69,7 +69,7 @@ module _ {S R : Type 0} (f : Fleet S R) (ok : IsSound f) where
 
   apart_at : (k : ℕ) → k < f.topo.nodes → (t : ℕ) → f.start ≤ t → Apart (sends_of k (world_at f t).sends) (ok.kind.free (node_at f k t))
   apart_at k h = each_cycle f ok (λ t. Apart (sends_of k (world_at f t).sends) (ok.kind.free (node_at f k t)))
-      (subst (λ (w : Moment S R). Apart (sends_of k w.sends) (ok.kind.free (w.state k))) (sym (first f ok)) (record { pairs = ok.spaced k; below = ok.free k }))
+      (subst (λ (w : Moment S R). Apart (sends_of k w.sends) (ok.kind.free (w.state k))) (sym (first f)) (record { pairs = ok.spaced k; below = ok.free k }))
       (λ t g a. subst (λ (l : List Send). Apart l (ok.kind.free (node_at f k (suc t)))) (sym (sends_next f ok t k g h))
       (apart_case k t (f.kind.sends t (node_at f k t)) g refl (sends_of k (world_at f t).sends) a))
 
@@ -92,7 +92,7 @@ module _ {S R : Type 0} (f : Fleet S R) (ok : IsSound f) where
 
   asks_inside : (t : ℕ) → f.start ≤ t → All (λ x. (x.node < f.topo.nodes) × (x.cycle < t)) (world_at f t).asks
   asks_inside = each_cycle f ok (λ t. All (λ x. (x.node < f.topo.nodes) × (x.cycle < t)) (world_at f t).asks)
-      (subst (All (λ (x : Ask). (x.node < f.topo.nodes) × (x.cycle < f.start))) (sym (ap (λ (w : Moment S R). w.asks) (first f ok))) (All-nil (λ (x : Ask). (x.node < f.topo.nodes) × (x.cycle < f.start))))
+      (subst (All (λ (x : Ask). (x.node < f.topo.nodes) × (x.cycle < f.start))) (sym (ap (λ (w : Moment S R). w.asks) (first f))) (All-nil (λ (x : Ask). (x.node < f.topo.nodes) × (x.cycle < f.start))))
       (λ t g a.
       let P : Ask → Type 0 = λ x. (x.node < f.topo.nodes) × (x.cycle < suc t) in
       let Q : Ask → Type 0 = λ x. (x.node < f.topo.nodes) × (x.cycle < t) in
@@ -133,7 +133,7 @@ module _ {S R : Type 0} (f : Fleet S R) (ok : IsSound f) where
 
   rises_at : (k : ℕ) → k < f.topo.nodes → (t : ℕ) → f.start ≤ t → Rises (asks_of k (world_at f t).asks) t
   rises_at k h = each_cycle f ok (λ t. Rises (asks_of k (world_at f t).asks) t)
-      (subst (λ (w : Moment S R). Rises (asks_of k w.asks) f.start) (sym (first f ok)) (record { pairs = no_pairs (λ (x y : Ask). x.cycle + 1 ≤ y.cycle); below = All-nil (λ (x : Ask). x.cycle + 1 ≤ f.start) }))
+      (subst (λ (w : Moment S R). Rises (asks_of k w.asks) f.start) (sym (first f)) (record { pairs = no_pairs (λ (x y : Ask). x.cycle + 1 ≤ y.cycle); below = All-nil (λ (x : Ask). x.cycle + 1 ≤ f.start) }))
       (λ t g a. subst (λ (l : List Ask). Rises l (suc t)) (sym (asks_next t k g h)) (rises_case k t (f.kind.asks t (node_at f k t)) (asks_of k (world_at f t).asks) a))
 
   asks_past : (k : ℕ) → f.topo.nodes ≤ k → asks_of k (facts_of f).asks ≡ []

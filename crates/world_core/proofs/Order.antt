@@ -72,7 +72,7 @@ pub only_own : (m : ℕ) (xs : List Send) → Only m (sends_of m xs)
 only_own m [] = tt
 only_own m (x ∷ xs) = only_case m x (sends_of m xs) (x.node == m) refl (only_own m xs)
 
--- the same sends of each node, in the same order
+-- two lists have equal sends of each node, in equal order
 abbrev pub SameByNode : List Send → List Send → Type 0
 SameByNode xs ys = (k : ℕ) → sends_of k xs ≡ sends_of k ys
 

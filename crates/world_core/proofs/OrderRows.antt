@@ -5,6 +5,7 @@ use Rattle.std.specs.List.Sorted.{IsNonDecreasingBy}
 use Rattle.std.proofs.lemmas.List.Elements.{All-append, All-nil}
 use Rattle.world_core.specs.Sends.{sends_below}
 use Rattle.world_core.specs.Each.{each_below}
+use Rattle.world_core.specs.NodeKind.{IsSteady}
 use Rattle.world_core.specs.NodeRun.{passed, IsQuiet, AllQuiet}
 use Rattle.world_core.specs.Order.{Fleet, Moment, world_at, facts_of, node_at, hears, rows_in, rows_between}
 use Rattle.world_core.specs.Sound.{IsSound}
@@ -15,16 +16,18 @@ use Rattle.world_core.proofs.Sends.{next}
 use Rattle.world_core.proofs.Sorted.{Agree, merged}
 use Rattle.world_core.proofs.OrderSteps.{count_quiet}
 
-module _ {S R : Type 0} (f : Fleet S R) (ok : IsSound f) where
+module _ {S R : Type 0} (f : Fleet S R) where
   -- the rows of the cycles from a on and below b
   pub rows_from : (a n : ℕ) → f.start ≤ a → (world_at f (a + n)).rows ≡ (world_at f a).rows ++ each_below n (λ i. each_below f.topo.nodes (λ k. rows_in f k (a + i)))
   rows_from a zero g = let e : a + 0 ≡ a = omega arith in ap (λ (t : ℕ). (world_at f t).rows) e ∙ sym (append-nil (world_at f a).rows)
   rows_from a (suc n) g =
       let e : a + suc n ≡ suc (a + n) = omega arith in
       let made = each_below f.topo.nodes (λ k. rows_in f k (a + n)) in
-      ap (λ (t : ℕ). (world_at f t).rows) e ∙ ap (λ (w : Moment S R). w.rows) (next f ok (a + n) (omega arith)) ∙ ap (λ (l : List R). l ++ made) (rows_from a n g)
+      ap (λ (t : ℕ). (world_at f t).rows) e ∙ ap (λ (w : Moment S R). w.rows) (next f (a + n) (omega arith)) ∙ ap (λ (l : List R). l ++ made) (rows_from a n g)
       ∙ append_assoc (world_at f a).rows (each_below n (λ i. each_below f.topo.nodes (λ k. rows_in f k (a + i)))) made
 
+-- where each row bears the cycle in which it is made
+module _ {S R : Type 0} (f : Fleet S R) (steady : IsSteady f.kind) where
   cond_all : (P : R → Type 0) (b : Bool) (xs : List R) → All P xs → All P (cond b xs [])
   cond_all P true xs a = a
   cond_all P false xs a = All-nil P
@@ -32,8 +35,8 @@ module _ {S R : Type 0} (f : Fleet S R) (ok : IsSound f) where
   pub rows_bear : (k t : ℕ) → All (λ r. f.kind.row_cycle r ≡ t) (rows_in f k t)
   rows_bear k t =
       All-append (λ (r : R). f.kind.row_cycle r ≡ t) (f.kind.begun_rows t (node_at f k t)) (cond (f.kind.asks t (node_at f k t)) (f.kind.finished_rows t (f.kind.begun t (node_at f k t)) (hears f t (world_at f t) k)) [])
-      (ok.kind.begun_rows t (node_at f k t))
-      (cond_all (λ (r : R). f.kind.row_cycle r ≡ t) (f.kind.asks t (node_at f k t)) (f.kind.finished_rows t (f.kind.begun t (node_at f k t)) (hears f t (world_at f t) k)) (ok.kind.finished_rows t (f.kind.begun t (node_at f k t)) (hears f t (world_at f t) k)))
+      (steady.begun_rows t (node_at f k t))
+      (cond_all (λ (r : R). f.kind.row_cycle r ≡ t) (f.kind.asks t (node_at f k t)) (f.kind.finished_rows t (f.kind.begun t (node_at f k t)) (hears f t (world_at f t) k)) (steady.finished_rows t (f.kind.begun t (node_at f k t)) (hears f t (world_at f t) k)))
 
   -- a stable sort by cycle of the nodes' rows, one node after another, gives the rows of these cycles
   pub rows_merged : (a b : ℕ) (ys : List R) → f.start ≤ a → a ≤ b → IsNonDecreasingBy f.kind.row_cycle ys
@@ -41,9 +44,10 @@ module _ {S R : Type 0} (f : Fleet S R) (ok : IsSound f) where
       → (world_at f b).rows ≡ (world_at f a).rows ++ ys
   rows_merged a b ys g h up same =
       let e : b ≡ a + (b - a) = omega arith in
-      ap (λ (t : ℕ). (world_at f t).rows) e ∙ rows_from a (b - a) g
+      ap (λ (t : ℕ). (world_at f t).rows) e ∙ rows_from f a (b - a) g
       ∙ ap (λ (l : List R). (world_at f a).rows ++ l) (sym (merged f.kind.row_cycle a (λ k i. rows_in f k (a + i)) (λ k i. rows_bear k (a + i)) f.topo.nodes (b - a) ys up same))
 
+module _ {S R : Type 0} (f : Fleet S R) (ok : IsSound f) where
   -- a node that stopped
   stopped_passes : (t n : ℕ) (s : S) → f.kind.is_stopped s ≡ true → passed f.kind t n s ≡ s
   unfolding passed

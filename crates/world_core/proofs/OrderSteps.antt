@@ -53,7 +53,7 @@ module _ {S R : Type 0} (f : Fleet S R) (ok : IsSound f) where
         comes.rows ∙ ap (λ (n : List R). n ++ passed_rows f.kind v.cycle (c - v.cycle) v.state) (plain_rows k since v stands calm)
         ∙ ap (λ (u : S). rows_between f k since v.cycle ++ passed_rows f.kind v.cycle (c - v.cycle) u) (plain_state k since v stands calm)
         ∙ ap (λ (n : List R). rows_between f k since v.cycle ++ n) (sym (rows_quiet f ok k v.cycle (c - v.cycle) from_start quiet_here))
-        ∙ sym (rows_join f ok k since v.cycle c stands.taken comes.later)
+        ∙ sym (rows_join f k since v.cycle c stands.taken comes.later)
 
     pub come_quiet : QuietBetween f k v.cycle c
     come_quiet t h m =
@@ -157,8 +157,8 @@ module _ {S R : Type 0} (f : Fleet S R) (ok : IsSound f) where
       let g : f.start ≤ c = (let x = stands.begun in omega arith) in
       let next : f.kind.begun c r.state ≡ node_at f k (c + 1) = ap (f.kind.begun c) st ∙ sym (node_begun f ok k c g quiet) ∙ ap (node_at f k) (sym (add-one c)) in
       let made : r.rows ++ f.kind.begun_rows c r.state ≡ rows_between f k since (c + 1) =
-      (λ i. rs i ++ f.kind.begun_rows c (st i)) ∙ ap (λ (l : List R). rows_between f k since c ++ l) (sym (rows_begun f ok k c quiet) ∙ sym (rows_one f ok k c))
-      ∙ sym (rows_join f ok k since c (suc c) le (omega arith)) ∙ ap (rows_between f k since) (sym (add-one c)) in (
+      (λ i. rs i ++ f.kind.begun_rows c (st i)) ∙ ap (λ (l : List R). rows_between f k since c ++ l) (sym (rows_begun f ok k c quiet) ∙ sym (rows_one f k c))
+      ∙ sym (rows_join f k since c (suc c) le (omega arith)) ∙ ap (rows_between f k since) (sym (add-one c)) in (
         subst (Stands f k since) (sym r.after) (stands_plain k since (c + 1) (f.kind.begun c r.state) (r.rows ++ f.kind.begun_rows c r.state) stands.begun (omega arith) (omega arith) next made),
         ap (f.kind.sends c) (sym st) ∙ r.sends,
       )
@@ -186,7 +186,7 @@ module _ {S R : Type 0} (f : Fleet S R) (ok : IsSound f) where
       let made : v.rows ++ f.kind.finished_rows c v.state h ≡ rows_between f k since (c + 1) =
       (λ i. rs i ++ f.kind.finished_rows c (st i) (true_h i))
       ∙ append_assoc (rows_between f k since c) (f.kind.begun_rows c (node_at f k c)) (f.kind.finished_rows c (f.kind.begun c (node_at f k c)) (truth (facts_of f) k c))
-      ∙ ap (λ (l : List R). rows_between f k since c ++ l) (sym (rows_finished f ok k c g lim here.1) ∙ sym (rows_one f ok k c))
-      ∙ sym (rows_join f ok k since c (suc c) stands.taken (omega arith)) ∙ ap (rows_between f k since) (sym (add-one c)) in
+      ∙ ap (λ (l : List R). rows_between f k since c ++ l) (sym (rows_finished f ok k c g lim here.1) ∙ sym (rows_one f k c))
+      ∙ sym (rows_join f k since c (suc c) stands.taken (omega arith)) ∙ ap (rows_between f k since) (sym (add-one c)) in
       let le : since ≤ c + 1 = (let x = stands.taken in omega arith) in
       stands_plain k since (c + 1) (f.kind.finished c v.state h) (v.rows ++ f.kind.finished_rows c v.state h) stands.begun le (let x = here.0 in omega arith) next made

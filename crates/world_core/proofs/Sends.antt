@@ -30,10 +30,7 @@ is_below a b e = grind (arith, nat_tests)
 not_below : (a b : ℕ) → b ≤ a → nat_lt a b ≡ false
 not_below a b e = grind (arith, nat_tests)
 
-module _ {S R : Type 0} (f : Fleet S R) (ok : IsSound f) where
-  abbrev sent_in : ℕ → ℕ → List Send
-  sent_in t k = send_of t k (f.kind.sends t (node_at f k t))
-
+module _ {S R : Type 0} (f : Fleet S R) where
   -- one cycle more
   pub next : (t : ℕ) → f.start ≤ t → world_at f (suc t) ≡ stepped f t (world_at f t)
   unfolding world_after
@@ -46,6 +43,10 @@ module _ {S R : Type 0} (f : Fleet S R) (ok : IsSound f) where
   unfolding world_after
   first = let e : f.start - f.start ≡ 0 = omega arith in ap (world_after f) e
 
+module _ {S R : Type 0} (f : Fleet S R) (ok : IsSound f) where
+  abbrev sent_in : ℕ → ℕ → List Send
+  sent_in t k = send_of t k (f.kind.sends t (node_at f k t))
+
   each_more : (P : ℕ → Type 0) → P f.start → ((t : ℕ) → f.start ≤ t → P t → P (suc t)) → (n : ℕ) → P (f.start + n)
   each_more P z s zero = let e : f.start ≡ f.start + 0 = omega arith in subst P e z
   each_more P z s (suc n) = let e : suc (f.start + n) ≡ f.start + suc n = omega arith in subst P e (s (f.start + n) (omega arith) (each_more P z s n))
@@ -55,10 +56,10 @@ module _ {S R : Type 0} (f : Fleet S R) (ok : IsSound f) where
   each_cycle P z s t h = let e : f.start + (t - f.start) ≡ t = omega arith in subst P e (each_more P z s (t - f.start))
 
   pub next_sends : (t : ℕ) → f.start ≤ t → (world_at f (suc t)).sends ≡ (world_at f t).sends ++ each_below f.topo.nodes (sent_in t)
-  next_sends t h = ap (λ (w : Moment S R). w.sends) (next t h)
+  next_sends t h = ap (λ (w : Moment S R). w.sends) (next f t h)
 
   pub next_asks : (t : ℕ) → f.start ≤ t → (world_at f (suc t)).asks ≡ (world_at f t).asks ++ each_below f.topo.nodes (λ k. ask_of t k (f.kind.asks t (node_at f k t)))
-  next_asks t h = ap (λ (w : Moment S R). w.asks) (next t h)
+  next_asks t h = ap (λ (w : Moment S R). w.asks) (next f t h)
 
   -- the sends of cycle t
   in_cycle : (P : Send → Type 0) (t : ℕ) → ((x : Send) → x.cycle ≡ t → x.node < f.topo.nodes → P x) → All P (each_below f.topo.nodes (sent_in t))
@@ -68,7 +69,7 @@ module _ {S R : Type 0} (f : Fleet S R) (ok : IsSound f) where
   Inside t = All (λ x. (x.node < f.topo.nodes) × (x.cycle < t)) (world_at f t).sends
 
   pub all_inside : (t : ℕ) → f.start ≤ t → All (λ x. (x.node < f.topo.nodes) × (x.cycle < t)) (world_at f t).sends
-  all_inside = each_cycle Inside (subst (All (λ (x : Send). (x.node < f.topo.nodes) × (x.cycle < f.start))) (sym (ap (λ (w : Moment S R). w.sends) first)) ok.inside)
+  all_inside = each_cycle Inside (subst (All (λ (x : Send). (x.node < f.topo.nodes) × (x.cycle < f.start))) (sym (ap (λ (w : Moment S R). w.sends) (first f))) ok.inside)
       (λ t h old.
       let P : Send → Type 0 = λ x. (x.node < f.topo.nodes) × (x.cycle < suc t) in
       let Q : Send → Type 0 = λ x. (x.node < f.topo.nodes) × (x.cycle < t) in

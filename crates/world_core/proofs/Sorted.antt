@@ -1,4 +1,5 @@
--- Two lists in order of a key that agree at each key are the same; so a stable sort of lists by node gives them by key, then node.
+-- Two lists in order of a key that agree at each key are the same; so a stable sort of lists by node gives them by key,
+-- then node.
 use Rattle.std.proofs.Common.{◌≡◌, ℕ, zero, suc, ◌+◌, ◌-◌, ◌<◌, ◌≤◌, ◌≢◌, Bool, true, false, cond, ◌==◌, List, [], ◌∷◌, ◌++◌, refl, sym, subst, ◌∙◌, ap, arith}
 use Rattle.std.specs.List.{filter, All}
 use Rattle.std.specs.List.Sorted.{IsNonDecreasingBy}

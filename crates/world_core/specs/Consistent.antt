@@ -1,4 +1,5 @@
--- When the clocks of all nodes, the counts of their posted sends, and the record of sends and samples agree. Own to this simulator.
+-- When the clocks of all nodes, the counts of their posted sends, and the record of sends and samples agree. Own to
+-- this simulator.
 use Rattle.std.specs.Prelude.{◌≡◌, ℕ, ◌≤◌, List, length, slice_index}
 use Rattle.world_core.specs.declared.air.Send.{Send}
 use Rattle.world_core.specs.declared.air.Ask.{Ask}
@@ -9,7 +10,8 @@ use Rattle.world_core.specs.Sends.{sends_below}
 use Rattle.world_core.specs.Posted.{sent_of}
 use Rattle.world_core.specs.Settled.{IsRecorded}
 
--- the world, each node's clock and the number of its posted sends, the cycle up to which the record is cut, and the record in the order in which it grew
+-- the world, each node's clock and the number of its posted sends, the cycle up to which the record is cut, and the
+-- record in the order in which it grew
 pub record AirState : Type 0 where
   pub world : WorldFacts
   pub clocks : List ℕ

@@ -5,7 +5,8 @@ use Rattle.world_core.specs.declared.air.Send.{Send}
 use Rattle.world_core.specs.declared.air.Heard.{Heard}
 use Rattle.world_core.specs.Topology.{Topology, is_linked, is_open, is_in_time, latency_of}
 
--- node j hears the send x in cycle s: over a link that was open when it was sent, from the latency on, for the byte time
+-- node j hears the send x in cycle s: over a link that was open when it was sent, from the latency on, for the byte
+-- time
 abbrev pub is_audible : Topology → ℕ → ℕ → Send → Bool
 is_audible t j s x = is_linked t x.node j && (is_open t x.node j x.cycle && is_in_time (latency_of t x.node j) t.byte_time s x.cycle)
 

@@ -7,8 +7,8 @@ use Rattle.world_core.specs.Topology.{Topology, reach}
 use Rattle.world_core.specs.Sends.{sends_of, sends_below}
 use Rattle.world_core.specs.Posted.{sent_of}
 
--- The send is not over at the cycle f: over a link with the greatest latency it would be heard in f or later. What a record keeps
--- whose floor is f.
+-- The send is not over at the cycle f: over a link with the greatest latency it would be heard in f or later. What a
+-- record keeps whose floor is f.
 abbrev pub is_kept : Topology → ℕ → Send → Bool
 is_kept t f x = nat_lt f (x.cycle + reach t + t.byte_time)
 
@@ -24,8 +24,8 @@ IsPosted w f sent xs = (k : ℕ) → sends_of k xs ≡ filter (is_kept w.topo f)
 abbrev pub IsPostedTo : WorldFacts → ℕ → List ℕ → Type 0
 IsPostedTo w f sent = (k : ℕ) → sends_below w.sends k f ≤ sent_of sent k
 
--- The same by number: the record's sends of each node k are the world's from number gone[k] on and below number sent[k],
--- and each send below number gone[k] is over at the floor f.
+-- The posted sends by number: the record's sends of each node k are the world's from number gone[k] on and below number
+-- sent[k], and each send below number gone[k] is over at the floor f.
 pub record IsPart (w : WorldFacts) (f : ℕ) (gone : ℕ → ℕ) (sent : List ℕ) (xs : List Send) : Type 0 where
   pub part : (k : ℕ) → sends_of k xs ≡ drop (gone k) (take (sent_of sent k) (sends_of k w.sends))
   pub over : (k : ℕ) → All (λ x. x.cycle + reach w.topo + w.topo.byte_time ≤ f) (take (gone k) (sends_of k w.sends))

@@ -1,4 +1,5 @@
--- The links of a topology as a table of places: entry 64 * to + from is one more than the place of the link from node `from` to node `to`.
+-- The links of a topology as a table of places: entry 64 * to + from is one more than the place of the link from node
+-- `from` to node `to`.
 use Rattle.std.specs.Prelude.{◌≡◌, ℕ, ◌+◌, ◌*◌, ◌<◌, ◌≤◌, ◌&&◌, ◌==◌, nat_lt, if◌then◌else◌, List, [], ◌∷◌, length, slice_index}
 use Rattle.std.specs.List.{list_any}
 use Rattle.world_core.specs.declared.air.Link.{Link}

@@ -1,10 +1,11 @@
--- A kind of node: what one cycle does to a node, as far as the air and the order of all nodes ask. Own to this simulator.
+-- A kind of node: what one cycle does to a node, as far as the air and the order of all nodes ask. Own to this
+-- simulator.
 use Rattle.std.specs.Prelude.{◌≡◌, ℕ, ◌+◌, ◌≤◌, Bool, true, false, if◌then◌else◌, Option, Some, None, List, [], ◌++◌}
 use Rattle.std.specs.List.{All}
 use Rattle.world_core.specs.declared.air.Heard.{Heard}
 
--- A node is in a state of S, and makes rows of R. What it hears enters a cycle at its sample alone:
--- a cycle begins (up to its sample, or whole where it samples nothing) and then, where it samples, is finished with what was heard.
+-- A node is in a state of S, and makes rows of R. What it hears enters a cycle at its sample alone: a cycle begins (up
+-- to its sample, or whole where it samples nothing) and then, where it samples, is finished with what was heard.
 pub record NodeKind (S R : Type 0) : Type 0 where
   -- cycle t, begun in this state, samples the air
   pub asks : ℕ → S → Bool
@@ -45,7 +46,8 @@ pub record IsSteady {S R : Type 0} (m : NodeKind S R) : Type 0 where
   -- the rows of a cycle bear its number
   pub begun_rows : (t : ℕ) (s : S) → All (λ r. m.row_cycle r ≡ t) (m.begun_rows t s)
   pub finished_rows : (t : ℕ) (s : S) (h : Heard) → All (λ r. m.row_cycle r ≡ t) (m.finished_rows t s h)
-  -- two sends lie apart: `free` is the first cycle in which the node may send again, `gap` the byte time that it was made with
+  -- two sends lie apart: `free` is the first cycle in which the node may send again, `gap` the byte time that it was
+  -- made with
   pub free : S → ℕ
   pub gap : S → ℕ
   pub gap_begun : (t : ℕ) (s : S) → gap (m.begun t s) ≡ gap s

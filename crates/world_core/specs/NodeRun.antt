@@ -1,4 +1,5 @@
--- Many cycles of one node by itself: how far a run comes before the node samples, sends or stops. Own to this simulator.
+-- Many cycles of one node by itself: how far a run comes before the node samples, sends or stops. Own to this
+-- simulator.
 use Rattle.std.specs.Prelude.{◌≡◌, ℕ, zero, suc, ◌+◌, ◌-◌, ◌<◌, ◌≤◌, Bool, true, false, Some, None, List, ◌++◌}
 use Rattle.world_core.specs.declared.air.Heard.{Heard}
 use Rattle.world_core.specs.Each.{each_below}
@@ -17,7 +18,7 @@ passed_rows m t n s = each_below n (λ i. m.begun_rows (t + i) (passed m t i s))
 abbrev pub IsQuiet : {S R : Type 0} → NodeKind S R → ℕ → S → Type 0
 IsQuiet m t s = (m.asks t s ≡ false) × (m.sends t s ≡ None)
 
--- so are n cycles from cycle t on
+-- none of n cycles from cycle t on samples or sends
 abbrev pub AllQuiet : {S R : Type 0} → NodeKind S R → ℕ → ℕ → S → Type 0
 AllQuiet m t n s = (i : ℕ) → i < n → IsQuiet m (t + i) (passed m t i s)
 

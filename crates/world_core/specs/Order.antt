@@ -79,6 +79,6 @@ end_rows f = each_below f.topo.nodes (λ k. f.kind.end_row f.topo.limit (node_at
 abbrev pub run_rows : {S R : Type 0} → Fleet S R → List R
 run_rows f = (world_at f f.topo.limit).rows ++ end_rows f
 
--- the same nodes, begun again in the moment w at the beginning of cycle c
+-- the nodes of a fleet, begun again in the moment w at the beginning of cycle c
 abbrev pub resumed : {S R : Type 0} → Fleet S R → ℕ → Moment S R → Fleet S R
 resumed f c w = record f { start = c; begins = w.state; sent = w.sends }

@@ -1,4 +1,5 @@
--- One node of the global order, at the beginning of a cycle or in the middle of one that samples. Own to this simulator.
+-- One node of the global order, at the beginning of a cycle or in the middle of one that samples. Own to this
+-- simulator.
 use Rattle.std.specs.Prelude.{◌≡◌, ℕ, ◌<◌, ◌≤◌, Bool, true, if◌then◌else◌, List, [], ◌++◌}
 use Rattle.world_core.specs.NodeRun.{Timed, IsQuiet}
 use Rattle.world_core.specs.Order.{Fleet, node_at, rows_between}

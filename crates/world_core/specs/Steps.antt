@@ -37,7 +37,8 @@ after_post a k = record a {
 abbrev pub AllPassed : AirState → ℕ → ℕ → Type 0
 AllPassed a j s = (k : ℕ) → is_needed a.world.topo k j s ≡ true → s - latency_of a.world.topo k j < clock_of a.clocks k
 
--- Node j samples in cycle s, one of the world's samples and not below the floor, and hears what the recorded sends give.
+-- Node j samples in cycle s, one of the world's samples and not below the floor, and hears what the recorded sends
+-- give.
 pub record MaySample (a : AirState) (j s : ℕ) : Type 0 where
   pub asked : Contains a.world.asks (record { node = j; cycle = s })
   pub kept : a.floor ≤ s

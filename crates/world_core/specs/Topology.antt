@@ -99,7 +99,8 @@ abbrev pub place_in : List Link → ℕ → ℕ → ℕ
 place_in [] k j = 0
 place_in (l ∷ ls) k j = if (l.from == k) && (l.to == j) then 0 else suc (place_in ls k j)
 
--- How many cycles a byte takes from node k to node j: the link's own number, else the topology's. Each latency is looked up here.
+-- How many cycles a byte takes from node k to node j: the link's own number, else the topology's. Each latency is
+-- looked up here.
 abbrev pub latency_of : Topology → ℕ → ℕ → ℕ
 latency_of t k j = slice_index_or t.own (place_in t.links k j) t.latency
 
@@ -127,7 +128,8 @@ is_open t k j c = is_open_in t.spans (place_in t.links k j) c
 abbrev pub is_in_time : ℕ → ℕ → ℕ → ℕ → Bool
 is_in_time l d s c = nat_le (c + l) s && nat_lt s (c + l + d)
 
--- With these spans, the link at place p is open in a cycle that is heard in cycle s. It is told by the ends of the spans.
+-- With these spans, the link at place p is open in a cycle that is heard in cycle s. It is told by the ends of the
+-- spans.
 abbrev pub is_reached_in : List Span → ℕ → ℕ → ℕ → ℕ → Bool
 is_reached_in xs p l d s = if has_span xs p then list_any (λ x. (x.link == p) && (nat_le (x.from + l) s && nat_lt (s + 1) (x.until + l + d))) xs else nat_le l s
 

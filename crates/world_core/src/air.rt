@@ -56,7 +56,8 @@ pub struct Heard {
 pub enum Sampled {
     /// What it hears.
     Heard(Heard),
-    /// That cannot be told yet: node `node` may still send what would be heard, since its clock is at the cycle `clock`.
+    /// That cannot be told yet: node `node` may still send what would be heard, since its clock is at the cycle
+    /// `clock`.
     NotYet {
         /// The lowest number of such a node.
         node: u8,

@@ -1,6 +1,6 @@
-// The single global order of cycles: what all nodes of a network do, cycle by cycle and node by node, from any moment on.
-// It is stated over any kind of node; `specs/Order` is the definition. Each law is the contract of a function that does
-// nothing.
+// The single global order of cycles: what all nodes of a network do, cycle by cycle and node by node, from any moment
+// on. It is stated over any kind of node; `specs/Order` is the definition. Each law is the contract of a function that
+// does nothing.
 ghost use Rattle.std.specs.Prelude.{◌≡◌, ℕ, ◌+◌, ◌≤◌};
 ghost use Rattle.world_core.specs.Lawful.{IsLawful};
 ghost use Rattle.world_core.specs.Settled.{truth};

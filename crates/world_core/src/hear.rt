@@ -15,7 +15,8 @@ fn age(topo: &Topo, send: &Send, node: u8, cycle: u64) -> u64
         / 16
 }
 
-/// What node `node` hears in this cycle with one audible send more: the byte with its age, or a clash with what is heard so far.
+/// What node `node` hears in this cycle with one audible send more: the byte with its age, or a clash with what is
+/// heard so far.
 pub fn heard_with(topo: &Topo, so_far: Heard, send: &Send, node: u8, cycle: u64) -> Heard
     ensures { result ≡ heard_with (age_of topo.now node cycle) so_far send.now }
 {

@@ -1,4 +1,5 @@
-// The laws of a record that is cut, and of the test for whom a sample waits: each is the contract of a function that does nothing.
+// The laws of a record that is cut, and of the test for whom a sample waits: each is the contract of a function that
+// does nothing.
 ghost use Rattle.std.specs.Prelude.{◌≡◌, ◌↔◌, ℕ, ◌≤◌, ◌<◌, ◌+◌, true, List, length};
 ghost use Rattle.std.specs.List.{All};
 ghost use Rattle.world_core.specs.declared.air.Send.{Send};

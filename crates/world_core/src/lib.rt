@@ -1,7 +1,7 @@
-//! The rules of the air between the nodes of a network: who hears whom, what was sent, and what a node hears that samples the
-//! air. The log of a network's sends in the order of their posting, with a way back along each node's own sends, so that what
-//! a node hears is found by a few looks at its neighbours' sends, however long the record is. And the single global order of
-//! cycles, which says what all nodes do, with its laws.
+//! The rules of the air between the nodes of a network: who hears whom, what was sent, and what a node hears that
+//! samples the air. The log of a network's sends in the order of their posting, with a way back along each node's own
+//! sends, so that what a node hears is found by a few looks at its neighbours' sends, however long the record is. And
+//! the single global order of cycles, which says what all nodes do, with its laws.
 #![tactic(auto)]
 
 mod air;

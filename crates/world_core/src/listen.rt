@@ -23,8 +23,8 @@ fn is_young(topo: &Topo, sends: &[Send], place: usize, from: u8, node: u8, cycle
     send.node == from && cycle < send.cycle + topo.latency_of(from, node)
 }
 
-// A place further back than this one, at which stands a send that is too young: between the two stand only sends of its node
-// that are too young as well.
+// A place further back than this one, at which stands a send that is too young: between the two stand only sends of its
+// node that are too young as well.
 fn older(
     topo: &Topo,
     sends: &[Send],
@@ -49,7 +49,8 @@ fn older(
     way.before
 }
 
-// What is heard with the audible sends of one node more, which is linked: newest first, back to the first one that is too old.
+// What is heard with the audible sends of one node more, which is linked: newest first, back to the first one that is
+// too old.
 fn gather(
     topo: &Topo,
     sends: &[Send],

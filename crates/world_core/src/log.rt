@@ -74,8 +74,9 @@ impl SendLog {
         self.last[node] = self.sends.len();
     }
 
-    /// Drops exactly the sends that are over at the cycle `floor`: those whose cycle, the topology's reach and its byte time
-    /// together are at most that, so that no node can hear them from there on. The others keep their order. It takes no memory.
+    /// Drops exactly the sends that are over at the cycle `floor`: those whose cycle, the topology's reach and its byte
+    /// time together are at most that, so that no node can hear them from there on. The others keep their order. It
+    /// takes no memory.
     pub fn cut(&mut self, topo: &Topo, floor: u64)
         ensures { self.new ≡ log_of (filter (is_kept topo.now floor) self.old.sends) self.old.room }
     {
@@ -97,8 +98,8 @@ impl SendLog {
         self.room
     }
 
-    /// What node `node` hears in this cycle of all these sends: the filter of the whole list. It looks only at the nodes that
-    /// this one hears, and of each only at the few sends that a search for the cycle meets.
+    /// What node `node` hears in this cycle of all these sends: the filter of the whole list. It looks only at the
+    /// nodes that this one hears, and of each only at the few sends that a search for the cycle meets.
     pub fn heard(&self, topo: &Topo, node: u8, cycle: u64) -> Heard
         requires { All (λ x. IsInside topo.now x.node x.cycle) self.now.sends }
         ensures { result ≡ heard topo.now self.now.sends node cycle }

@@ -191,10 +191,10 @@ impl Topo {
     ghost use Rattle.std.specs.Prelude.{◌≡◌, ◌↔◌, ◌≤◌, [], IfOk, IfErr, IsOk, IsTrue};
     ghost use Rattle.world_core.specs.Topology.{topology, is_linked, is_needed, is_open, latency_of, neighbours, place_in, reach, IsTopology, IsTopoFault, IsShortFault};
 
-    /// The topology of these numbers: `limit`, `latency` and `byte_time` in cycles, the limit at most 10,000,000. Each link has the
-    /// topology's latency and is always open. It takes no memory.
-    /// `Range` exactly where a number is out of its range (see the type) or a link ends at a node that there is not;
-    /// else the first link that goes to its own node, or equals an earlier one, is refused with its place.
+    /// The topology of these numbers: `limit`, `latency` and `byte_time` in cycles, the limit at most 10,000,000. Each
+    /// link has the topology's latency and is always open. It takes no memory. `Range` exactly where a number is out of
+    /// its range (see the type) or a link ends at a node that there is not; else the first link that goes to its own
+    /// node, or equals an earlier one, is refused with its place.
     pub fn new(
         nodes: u8,
         limit: u64,
@@ -210,8 +210,11 @@ impl Topo {
         Topo::with_latencies(nodes, limit, latency, byte_time, links, own)
     }
 
-    /// As `new`, where `own` is empty or has each link's own latency, in the order of the links. `Range` also where it has
-    /// another length, or a number outside 1 to 65,535.
+    /// The topology of these numbers: `limit`, `latency` and `byte_time` in cycles, the limit at most 10,000,000. `own`
+    /// has each link's own latency, in the order of the links; where it is empty, each link has `latency`. Each link is
+    /// always open. It takes no memory. `Range` exactly where a number is out of its range (see the type), `own` has
+    /// another length or a number outside 1 to 65,535, or a link ends at a node that there is not; else the first link
+    /// that goes to its own node, or equals an earlier one, is refused with its place.
     pub fn with_latencies(
         nodes: u8,
         limit: u64,
@@ -234,9 +237,13 @@ impl Topo {
         }
     }
 
-    /// As `with_latencies`, with a limit of up to 2^40 cycles, and the spans in which links are open: by link, and within one
-    /// link in order and apart. A link with no span is always open. `Range` also where there are more than 4,096 spans, or one
-    /// is of no link, empty, past cycle 2^40 or out of order.
+    /// The topology of these numbers: `limit`, `latency` and `byte_time` in cycles, the limit at most 2^40. `own` has
+    /// each link's own latency, in the order of the links; where it is empty, each link has `latency`. `spans` says
+    /// when links are open, by link, and within one link in order and apart; a link with no span is always open. It
+    /// takes no memory. `Range` exactly where a number is out of its range (see the type), `own` has another length or
+    /// a number outside 1 to 65,535, a link ends at a node that there is not, or there are more than 4,096 spans or one
+    /// that is of no link, empty, past cycle 2^40 or out of order; else the first link that goes to its own node, or
+    /// equals an earlier one, is refused with its place.
     pub fn with_spans(
         nodes: u8,
         limit: u64,
@@ -368,7 +375,8 @@ impl Topo {
         usize::from(entry) - 1
     }
 
-    /// How many cycles a byte takes from node `from` to node `to`, 1 to 65,535: the link's own latency, else `latency()`.
+    /// How many cycles a byte takes from node `from` to node `to`, 1 to 65,535: the link's own latency, else
+    /// `latency()`.
     pub fn latency_of(&self, from: u8, to: u8) -> u64
         ensures value { result ≡ latency_of self.now from to }
         ensures lawful { IsTopology self.now }
@@ -406,8 +414,8 @@ impl Topo {
         is_open_at(self.spans(), place, cycle)
     }
 
-    /// Whether node `to` may hear in this cycle a byte of node `from`: it hears that node, and their link was open in a cycle
-    /// whose byte is heard in this one.
+    /// Whether node `to` may hear in this cycle a byte of node `from`: it hears that node, and their link was open in a
+    /// cycle whose byte is heard in this one.
     pub fn needs(&self, from: u8, to: u8, cycle: u64) -> bool
         ensures value { result ≡ is_needed self.now from to cycle }
     {

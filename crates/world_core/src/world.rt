@@ -15,8 +15,8 @@ pub struct WorldFacts {
     pub asks: LinkedList<Ask>,
 }
 
-/// A world of the air. Its facts are what all claims on samples speak of; its laws are `IsLawful`: the sends of one node
-/// lie at least a byte time apart, its samples rise strictly, and all of them lie inside the topology.
+/// A world of the air. Its facts are what all claims on samples speak of; its laws are `IsLawful`: the sends of one
+/// node lie at least a byte time apart, its samples rise strictly, and all of them lie inside the topology.
 pub trait World {
     ghost use Rattle.std.specs.Prelude.{◌≡◌};
     ghost use Rattle.world_core.specs.declared.world.WorldFacts.{WorldFacts};

@@ -5,10 +5,10 @@ use Rattle.world_core.proofs.QuietCycles.{comes_none, running_next}
 use Rattle.node_core.specs.State.{NodeState}
 use Rattle.node_core.specs.Shown.{shown}
 use Rattle.node_core.specs.Inside.{IsWhole}
-use Rattle.node_core.specs.Midway.{IsMidway}
-use Rattle.node_core.specs.Cycle.{asks_after, asks_in, node_kind, sends_after, sends_in}
+use Rattle.node_core.specs.Cycle.{asks_after, node_kind, sends_after}
+use Rattle.node_core.proofs.Rounds.{rested_there, round}
 use Rattle.node_core.proofs.Runs.{begun_comes, rested_comes, whole_between}
-use Rattle.node_core.proofs.Strides.{IsOnAir, air_told, ended, ended_air, ended_rows, joined}
+use Rattle.node_core.proofs.Strides.{IsOnAir, air_told}
 use Rattle.node_core.proofs.Steady.{steady}
 use Rattle.node_core.proofs.node.Node.run_until.Goals as goal
 
@@ -44,98 +44,59 @@ returns-then-at-cycle c =
 
 pub loop-self-preserved : goal.loop-self-preserved
 loop-self-preserved c =
-    let i = c.loop-self.self-inside in
     let e = c.rest.ensures in
-    let at : ℕ = i.cycle + c.rest.result in
-    let there : ℕ = at + c.stride.result in
-    let v = c.args.self.now in
-    let s : NodeState = shown c.rest.new.self in
-    let u : NodeState = shown c.stride.new.self in
-    let w : NodeState = shown c.conclude.new.self in
-    let kept = rested_comes v i.cycle c.rest.result (shown i.machine) s i.machine.rows.items c.reserve.new.self.items c.loop-self.invariant.comes e.rested.quiet e.rested.state e.rested.rows (c.reserve.ensures.items ∙ ap (λ x. x.items) e.rested.same) in
-    let mid : IsMidway v there u c.stride.new.self.rows.items =
-    joined v at there s u c.reserve.new.self.items c.stride.new.self.rows.items kept c.stride.ensures.midway in
     let b = c.conclude.ensures in
-    let air = subst (λ a. IsOnAir (asks_in there mid.state) (sends_in there mid.state) a) c.in-Quiet.is (ended_air v there u c.stride.new.self.rows.items mid c.conclude.result b.air) in
-    let state = ended v there u c.stride.new.self.rows.items mid w b.state in
-    let rows = ended_rows v there u c.stride.new.self.rows.items mid c.conclude.new.self.rows.items b.rows in
+    let r = round _ _ _ _ _ _ c.loop-self.invariant.comes e.rested c.reserve.ensures.items _ _ _ _ _ _ _ c.stride.ensures.midway b.state b.rows b.air c.in-Quiet.is in
     record {
       within = omega (arith, e.within, c.stride.ensures.within);
       calm = c.loop-self.invariant.calm;
       few = omega (arith, b.count, c.stride.ensures.count);
       clock = λ going. b.clock (sym b.stop ∙ going);
-      comes = begun_comes v there mid.state w mid.rows c.conclude.new.self.rows.items mid.comes air.0 air.1 state rows;
-      running = running_next node_kind v there mid.state mid.rows steady mid.comes mid.going;
+      comes = begun_comes _ _ r.state _ r.rows _ r.comes r.happened.0 r.happened.1 r.after r.told;
+      running = running_next node_kind _ _ r.state r.rows steady r.comes r.going;
     }
 
 pub returns-in-Sent : goal.returns-in-Sent
 returns-in-Sent c =
-    let i = c.loop-self.self-inside in
     let e = c.rest.ensures in
-    let at : ℕ = i.cycle + c.rest.result in
-    let there : ℕ = at + c.stride.result in
-    let v = c.args.self.now in
-    let s : NodeState = shown c.rest.new.self in
-    let u : NodeState = shown c.stride.new.self in
-    let w : NodeState = shown c.conclude.new.self in
-    let kept = rested_comes v i.cycle c.rest.result (shown i.machine) s i.machine.rows.items c.reserve.new.self.items c.loop-self.invariant.comes e.rested.quiet e.rested.state e.rested.rows (c.reserve.ensures.items ∙ ap (λ x. x.items) e.rested.same) in
-    let mid : IsMidway v there u c.stride.new.self.rows.items =
-    joined v at there s u c.reserve.new.self.items c.stride.new.self.rows.items kept c.stride.ensures.midway in
     let b = c.conclude.ensures in
-    let air = subst (λ a. IsOnAir (asks_in there mid.state) (sends_in there mid.state) a) c.in-Sent.is (ended_air v there u c.stride.new.self.rows.items mid c.conclude.result b.air) in
-    let state = ended v there u c.stride.new.self.rows.items mid w b.state in
-    let rows = ended_rows v there u c.stride.new.self.rows.items mid c.conclude.new.self.rows.items b.rows in (
+    let there : ℕ = c.loop-self.self-inside.cycle + c.rest.result + c.stride.result in
+    let r = round _ _ _ _ _ _ c.loop-self.invariant.comes e.rested c.reserve.ensures.items _ _ _ _ _ _ _ c.stride.ensures.midway b.state b.rows b.air c.in-Sent.is in (
       omega (arith, e.within, c.stride.ensures.within),
       record {
-        state = mid.state;
-        rows = mid.rows;
-        comes = mid.comes;
-        sends = air.1;
-        asks = air.0;
-        after = λ k. record { cycle = there + 1; asking = c.loop-self.invariant.calm k; state = state k; rows = rows k };
+        state = r.state;
+        rows = r.rows;
+        comes = r.comes;
+        sends = r.happened.1;
+        asks = r.happened.0;
+        after = λ k. record { cycle = there + 1; asking = c.loop-self.invariant.calm k; state = r.after k; rows = r.told k };
       },
     )
 
 pub returns-in-Asks : goal.returns-in-Asks
 returns-in-Asks c =
-    let i = c.loop-self.self-inside in
     let e = c.rest.ensures in
-    let at : ℕ = i.cycle + c.rest.result in
-    let there : ℕ = at + c.stride.result in
-    let v = c.args.self.now in
-    let s : NodeState = shown c.rest.new.self in
-    let u : NodeState = shown c.stride.new.self in
-    let w : NodeState = shown c.conclude.new.self in
-    let kept = rested_comes v i.cycle c.rest.result (shown i.machine) s i.machine.rows.items c.reserve.new.self.items c.loop-self.invariant.comes e.rested.quiet e.rested.state e.rested.rows (c.reserve.ensures.items ∙ ap (λ x. x.items) e.rested.same) in
-    let mid : IsMidway v there u c.stride.new.self.rows.items =
-    joined v at there s u c.reserve.new.self.items c.stride.new.self.rows.items kept c.stride.ensures.midway in
     let b = c.conclude.ensures in
-    let air = subst (λ a. IsOnAir (asks_in there mid.state) (sends_in there mid.state) a) c.in-Asks.is (ended_air v there u c.stride.new.self.rows.items mid c.conclude.result b.air) in
-    let state = ended v there u c.stride.new.self.rows.items mid w b.state in
-    let rows = ended_rows v there u c.stride.new.self.rows.items mid c.conclude.new.self.rows.items b.rows in (
+    let there : ℕ = c.loop-self.self-inside.cycle + c.rest.result + c.stride.result in
+    let r = round _ _ _ _ _ _ c.loop-self.invariant.comes e.rested c.reserve.ensures.items _ _ _ _ _ _ _ c.stride.ensures.midway b.state b.rows b.air c.in-Asks.is in (
       omega (arith, e.within, c.stride.ensures.within),
       record {
-        state = mid.state;
-        rows = mid.rows;
-        comes = mid.comes;
-        asks = air;
-        after = λ k. record { cycle = there; asking = true; state = state k; rows = rows k };
+        state = r.state;
+        rows = r.rows;
+        comes = r.comes;
+        asks = r.happened;
+        after = λ k. record { cycle = there; asking = true; state = r.after k; rows = r.told k };
       },
     )
 
 pub returns-then-is_err : goal.returns-then-is_err
 returns-then-is_err c =
-    let i = c.loop-self.self-inside in
-    let e = c.rest.ensures in
-    let at : ℕ = i.cycle + c.rest.result in
-    let v = c.args.self.now in
-    let u : NodeState = shown c.rest.new.self in
-    let comes = rested_comes v i.cycle c.rest.result (shown i.machine) u i.machine.rows.items c.reserve.new.self.items c.loop-self.invariant.comes e.rested.quiet e.rested.state e.rested.rows (c.reserve.ensures.items ∙ ap (λ x. x.items) e.rested.same) in (
+    let e = c.rest.ensures in (
       omega (arith, e.within),
       record {
         cycle = refl;
         asking = c.loop-self.invariant.calm;
-        comes = comes;
+        comes = rested_there _ _ _ _ _ _ c.loop-self.invariant.comes e.rested c.reserve.ensures.items;
       },
     )
 
