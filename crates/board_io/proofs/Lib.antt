@@ -10,5 +10,6 @@ pub mod Lags
 pub mod Apart
 pub mod Beside
 pub mod Served
+pub mod Still
 pub mod OneBoard
 pub mod Refused

@@ -1,14 +1,17 @@
 -- A board that lags behind its clock: the timers' cycles from `settled` on are still to be made up for, and until
 -- `next` nothing of it ends and no timer sets a flag, so that flags and lines can be told without a leap of the timers.
-use Rattle.std.specs.Prelude.{◌≡◌, ℕ, ◌+◌, ◌-◌, ◌^◌, ◌<◌, ◌≤◌, ◌==◌, ◌&&◌, not, Bool, true, false}
+use Rattle.std.specs.Prelude.{◌≡◌, ℕ, ◌+◌, ◌-◌, ◌^◌, ◌<◌, ◌≤◌, ◌==◌, ◌&&◌, not, Bool, true, false, Ok}
 use Rattle.board_io.specs.declared.board.Board.{Board}
 use Rattle.board_io.specs.declared.ahead.Ahead.{Ahead}
+use Rattle.board_io.specs.Board.{clock_at}
 use Rattle.board_io.specs.Cycle.{board_quiet, timers_leap}
+use Rattle.board_io.specs.Registers.{io_get}
 use Rattle.board_io.specs.Lines.{lines_of}
 use Rattle.board_io.specs.Names.{ETIMSK, TIMSK}
 use Rattle.board_io.specs.Passing.{sets_flag_at}
 use Rattle.board_io.specs.declared.rules.Rule.{Rule}
 use Rattle.board_io.specs.declared.rules.Rule.TheVariants.{Reserved, Pin, Kept, Guarded, WatchdogControl, ResetFlags, CpuControl, TimerFlags, ExtendedTimerFlags, Timer0, Timer1, Timer2, Timer3, Usart0, Spi}
+use Rattle.serial_ports.specs.declared.spi.Spi.{Spi as SpiPort}
 use Rattle.serial_ports.specs.declared.spi_registers.SpiReg.{SpiReg}
 use Rattle.serial_ports.specs.declared.spi_registers.SpiReg.TheVariants as spi
 use Rattle.serial_ports.specs.declared.usart_registers.UsartReg.{UsartReg}
@@ -104,3 +107,35 @@ is_plain_write (Timer2 reg) at = false
 is_plain_write (Timer3 reg) at = false
 is_plain_write (Usart0 reg) at = false
 is_plain_write (Spi reg) at = false
+
+-- SPSR has no flag set, and its last read saw none: so a read notes none
+abbrev pub is_unflagged : SpiPort → Bool
+is_unflagged s = not s.spif && not s.wcol && not s.noted_spif && not s.noted_wcol
+
+abbrev pub is_still_port : SpiReg → SpiPort → Bool
+is_still_port spi.Control s = true
+is_still_port spi.Status s = is_unflagged s
+is_still_port spi.Spdr s = false
+
+-- whether a read by a rule changes nothing, and gives the same as long as the timers alone move
+abbrev pub is_still_read : Rule → Board → Bool
+is_still_read Reserved b = false
+is_still_read (Pin port) b = true
+is_still_read (Kept mask) b = true
+is_still_read (Guarded bits cause mask) b = true
+is_still_read WatchdogControl b = true
+is_still_read ResetFlags b = true
+is_still_read CpuControl b = true
+is_still_read TimerFlags b = false
+is_still_read ExtendedTimerFlags b = false
+is_still_read (Timer0 reg) b = false
+is_still_read (Timer1 reg) b = false
+is_still_read (Timer2 reg) b = false
+is_still_read (Timer3 reg) b = false
+is_still_read (Usart0 reg) b = not (is_udr reg)
+is_still_read (Spi reg) b = is_still_port reg b.spi
+
+-- a load at a data address gives this byte and changes nothing, whatever the clock shows and how far ever the timers ran
+pub record ReadsStill (b : Board) (at : ℕ) : Type 0 where
+  pub byte : ℕ
+  pub gives : (u t n : ℕ) → io_get (clock_at u (timers_leap t n b)) at ≡ Ok (byte, clock_at u (timers_leap t n b))

@@ -91,7 +91,7 @@ impl LaggingBoard {
     /// Passes whole rounds of `length` cycles, of at most `most` cycles in all, in none of which a frame or a transfer
     /// ends or the lines change, as far as what runs now tells: how many rounds.
     #[inline]
-    pub fn pass_rounds(&mut self, most: u64, length: u8) -> u64
+    pub fn pass_rounds(&mut self, most: u64, length: u64) -> u64
         requires { 0 < length }
         ensures within { result * length ≤ most }
         ensures idle { IsIdle self.old.clock (result * length) (unclocked self.old) }
@@ -100,7 +100,6 @@ impl LaggingBoard {
         ensures clock { self.new.clock ≡ self.old.clock + result * length }
     {
         let clock = self.board.clock.get();
-        let length = u64::from(length);
         let rounds = most.min(self.ahead.next - clock) / length;
         self.board.clock = Clock::new(clock + rounds * length);
         rounds

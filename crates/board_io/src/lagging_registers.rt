@@ -1,14 +1,14 @@
 // The I/O registers of a board that lags.
 ghost use Rattle.std.specs.Prelude.{◌≡◌, ◌≤◌, true, false};
-ghost use Rattle.board_io.specs.Lagging.{is_spdr, is_udr, is_plain_read, is_plain_write, is_port};
+ghost use Rattle.board_io.specs.Lagging.{ReadsStill, is_spdr, is_still_port, is_still_read, is_udr, is_plain_read, is_plain_write, is_port};
 ghost use Rattle.board_io.specs.Table.{rule_of};
 
-use crate::LaggingBoard;
+use crate::{Board, LaggingBoard};
 use crate::names::{ETIMSK, TIMSK};
 use crate::rules::{LAST, Rule, listed_rule};
 use avr_base::StopCause;
 use data_space::Bus;
-use serial_ports::{SpiReg, UsartReg};
+use serial_ports::{Spi, SpiReg, UsartReg};
 
 // Whether a register of USART0 is UDR0. A read of it takes a byte from the receive buffer.
 #[inline]
@@ -76,6 +76,56 @@ fn is_plain_write(rule: Rule, at: u8) -> bool
         | Rule::Timer3(_)
         | Rule::Usart0(_)
         | Rule::Spi(_) => false,
+    }
+}
+
+// Whether a read of a register of the serial peripheral interface changes nothing. A read of SPSR notes the flags that are
+// set.
+fn is_still_port(reg: SpiReg, port: &Spi) -> bool
+    ensures { result ≡ is_still_port reg port.now }
+{
+    match reg {
+        SpiReg::Control => true,
+        SpiReg::Status => !port.spif & !port.wcol & !port.noted_spif & !port.noted_wcol,
+        SpiReg::Spdr => false,
+    }
+}
+
+impl Board {
+    // Whether a read by a rule changes nothing, and gives the same as long as the timers alone move.
+    fn reads_still(&self, rule: Rule) -> bool
+        ensures { result ≡ is_still_read rule self.now }
+    {
+        match rule {
+            Rule::Pin(_)
+            | Rule::Kept(_)
+            | Rule::Guarded(..)
+            | Rule::WatchdogControl
+            | Rule::ResetFlags
+            | Rule::CpuControl => true,
+            Rule::Reserved
+            | Rule::TimerFlags
+            | Rule::ExtendedTimerFlags
+            | Rule::Timer0(_)
+            | Rule::Timer1(_)
+            | Rule::Timer2(_)
+            | Rule::Timer3(_) => false,
+            Rule::Usart0(reg) => !is_udr(reg),
+            Rule::Spi(reg) => is_still_port(reg, &self.spi),
+        }
+    }
+}
+
+impl LaggingBoard {
+    /// Whether a load at a data address below 0x0100 changes nothing, and gives the same byte in each cycle before the next
+    /// event.
+    pub fn reads_still(&self, at: u16) -> bool
+        ensures { result ≡ true → ReadsStill self.now at }
+    {
+        if at > LAST {
+            return false;
+        }
+        self.board.reads_still(listed_rule(at))
     }
 }
 

@@ -1,5 +1,5 @@
 -- The effect of an instruction, by its class: one that ends takes a cycle or more.
-use Rattle.std.proofs.Common.{◌≡◌, ◌≤◌, ℕ, true, false, List, refl, sym, subst}
+use Rattle.std.proofs.Common.{◌≡◌, ◌≤◌, ℕ, Bool, true, false, List, refl, sym, subst}
 use Rattle.std.proofs.lemmas.Bool.{false≢true}
 use Rattle.std.specs.Prelude.{Result, IfOk}
 use Rattle.avr_base.specs.declared.stop.StopCause.{StopCause}
@@ -26,6 +26,15 @@ plain_no_sei _ e = refl
 pub plain_awake : (o : Op) → is_plain o ≡ true → is_sleep o ≡ false
 plain_awake op.Sleep e = absurd (false≢true e)
 plain_awake _ e = refl
+
+-- whether an instruction of this class works on registers and flags alone
+abbrev pub is_arith : Class → Bool
+is_arith class.Arith = true
+is_arith _ = false
+
+pub arith_awake : (o : Op) → is_arith (class_of o) ≡ true → is_sleep o ≡ false
+arith_awake op.Sleep e = absurd (false≢true e)
+arith_awake _ e = refl
 
 abbrev pub Takes : Result Done StopCause → Type 0
 Takes r = IfOk r (λ d. 1 ≤ d.cycles)

@@ -6,7 +6,7 @@ pub mod Steady
 pub mod Takes
 pub mod Wakes
 pub mod Strides
-pub mod Rounds
+pub mod Until
 pub mod Untouched
 pub mod Clocks
 pub mod Sei
@@ -15,5 +15,8 @@ pub mod Ran
 pub mod Executes
 pub mod Steps
 pub mod Sprints
-pub mod Spins
+pub mod Cores
+pub mod Stills
+pub mod Rounds
+pub mod Counting
 pub mod Saved

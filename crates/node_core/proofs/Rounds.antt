@@ -1,44 +1,181 @@
--- A round of a run: a rest, room for rows, a stride, and the devices' part of the cycle in which the stride ended.
-use Rattle.std.proofs.Common.{◌≡◌, ℕ, ◌+◌, ◌++◌, false, List, is_some, ap, ◌∙◌, subst}
-use Rattle.board_io.specs.declared.cycle.OnAir.{OnAir}
+-- Rounds of a loop that waits: where a round leads from a core back to it, so do many at once.
+use Rattle.std.proofs.Common.{◌≡◌, ℕ, zero, suc, ◌+◌, ◌*◌, ◌≤◌, ◌<◌, ◌^◌, add-zero, true, false, None, refl, sym, subst, ap, ◌∙◌, arith}
+use Rattle.std.specs.Prelude.{Ok}
+use Rattle.avr_base.specs.Lines.{due_of}
+use Rattle.board_io.specs.declared.board.Board.{Board}
+use Rattle.board_io.specs.Board.{clock_at, unclocked}
+use Rattle.board_io.specs.Cycle.{board_quiet, timers_leap}
+use Rattle.board_io.specs.Lagging.{IsIdle}
+use Rattle.board_io.specs.Lines.{lines_of}
+use Rattle.board_io.proofs.Lags.{leap_add, leap_clock, lines_clock}
+use Rattle.board_io.proofs.Leaps.{leap_quiet, leap_zero}
+use Rattle.data_space.specs.declared.cpu.Cpu.{Cpu}
+use Rattle.data_space.specs.Sequence.{Outcome, done}
+use Rattle.serial_ports.specs.Script.{script_byte}
+use Rattle.node_core.specs.declared.bus.NodeBus.{NodeBus}
 use Rattle.node_core.specs.declared.machine.Machine.{Machine}
-use Rattle.node_core.specs.declared.row.Row.{Row}
-use Rattle.node_core.specs.Cycle.{air_after, asks_in, begun_in, begun_rows, device_rows, devices_cycle, node_kind, sends_in}
-use Rattle.node_core.specs.Midway.{IsMidway, IsRested}
+use Rattle.node_core.specs.Bus.{with_board}
+use Rattle.node_core.specs.Inside.{IsCalm, MayAct}
+use Rattle.node_core.specs.Interrupts.{due}
+use Rattle.node_core.specs.Leaps.{IsStillStep, Walk, stays, goes, bus_later}
+use Rattle.node_core.specs.Midway.{IsSprinted, IsStepped}
 use Rattle.node_core.specs.Shown.{shown}
 use Rattle.node_core.specs.State.{NodeState}
-use Rattle.world_core.specs.NodeRun.{Comes, Timed}
-use Rattle.node_core.proofs.Runs.{rested_comes}
-use Rattle.node_core.proofs.Strides.{IsOnAir, ended, ended_air, ended_rows, joined}
+use Rattle.node_core.proofs.Sprints.{IsSprinting, begins}
+use Rattle.node_core.proofs.Sprints as sprint
+use Rattle.node_core.proofs.Steps.{gone, runs_on}
 
--- from v on the node came through quiet cycles to the beginning of cycle c; in it, up to its sample, it came to w with
--- rows k, and this happened on the air
-pub record IsRound (v : Timed NodeState Row) (c : ℕ) (w : NodeState) (k : List Row) (air : OnAir) : Type 0 where
-  pub state : NodeState
-  pub rows : List Row
-  pub comes : Comes node_kind v c state rows
-  pub going : is_some state.stop ≡ false
-  pub happened : IsOnAir (asks_in c state) (sends_in c state) air
-  pub after : w ≡ begun_in c state
-  pub told : k ≡ rows ++ begun_rows c state
+-- none at all
+pub none_at_all : (t : ℕ) (m x : Machine) → MayAct t m → x ≡ m → IsSprinted t (t + 0) false m x
+none_at_all t m x may same =
+    subst (λ (y : Machine). IsSprinted t (t + 0) false m y) (sym same)
+    (subst (λ (u : ℕ). IsSprinted t u false m m) (sym (add-zero t)) (sprint.stands t m may.going may.free may.awake may.now may.few))
 
--- a rest of n cycles from cycle t on, and room for rows
-module _ (v : Timed NodeState Row) (t n : ℕ) (old resting : Machine) (room : List Row) (before : Comes node_kind v t (shown old) old.rows.items) (rest : IsRested t n old resting) (kept : room ≡ resting.rows.items) where
-  pub rested_there : Comes node_kind v (t + n) (shown resting) room
-  rested_there =
-      rested_comes v t n (shown old) (shown resting) old.rows.items room before rest.quiet rest.state rest.rows (kept ∙ ap (λ x. x.items) rest.same)
+-- a node that executes instructions from cycle t on, where nothing happens in n cycles
+pub record IsOpen (t n : ℕ) (m : Machine) : Type 0 where
+  pub owed : m.owed ≡ false
+  pub going : m.stop ≡ None
+  pub free : m.wait ≡ 0
+  pub awake : m.asleep ≡ false
+  pub behind : m.to ≤ t
+  pub now : m.bus.board.clock ≡ t
+  pub few : m.count ≤ 2 ^ 40 + t
+  pub idle : IsIdle t n (unclocked m.bus.board)
+  pub script : (i : ℕ) → i < n → script_byte m.script (t + i) ≡ None
 
-  -- behind it a stride to the middle of cycle c, whose end comes to w and k
-  pub round : (c : ℕ) (u w : NodeState) (l k : List Row) (a air : OnAir) → IsMidway (record { cycle = t + n; asking = false; state = shown resting; rows = room }) c u l
-      → w ≡ devices_cycle c u → k ≡ l ++ device_rows c u → a ≡ air_after c u → a ≡ air → IsRound v c w k air
-  round c u w l k a air midway state rows told is =
-      let mid : IsMidway v c u l = joined v (t + n) c (shown resting) u room l rested_there midway in
-      record {
-        state = mid.state;
-        rows = mid.rows;
-        comes = mid.comes;
-        going = mid.going;
-        happened = subst (IsOnAir (asks_in c mid.state) (sends_in c mid.state)) is (ended_air v c u l mid a told);
-        after = ended v c u l mid w state;
-        told = ended_rows v c u l mid k rows;
-      }
+-- it n cycles and c instructions later, with this core
+abbrev pub later : ℕ → ℕ → ℕ → Cpu → Machine → Machine
+later t n c cpu m = record m { cpu = cpu; bus = bus_later (t + n) t n m.bus; count = m.count + c }
+
+module _ (t all : ℕ) (m : Machine) (open_ : IsOpen t all m) where
+  abbrev leapt : ℕ → Board
+  leapt n = timers_leap t n (unclocked m.bus.board)
+
+  start : IsSprinting t (t + 0) m (later t 0 0 m.cpu m)
+  start =
+      let o = open_ in
+      let at : t ≡ t + 0 = omega arith in
+      let board : m.bus.board ≡ clock_at (t + 0) (timers_leap t 0 m.bus.board) =
+      (λ i. clock_at ((o.now ∙ at) i) m.bus.board) ∙ ap (clock_at (t + 0)) (sym (leap_zero t m.bus.board)) in
+      let count : m.count ≡ m.count + 0 = omega arith in
+      let same : m ≡ later t 0 0 m.cpu m = λ i. let x : Machine = record m { bus = with_board m.bus (board i); count = count i } in x in
+      subst (λ (x : Machine). IsSprinting t (t + 0) m x) same
+      (subst (λ (u : ℕ). IsSprinting t u m m) at (begins t m o.going o.free o.awake o.behind o.now o.few))
+
+  none_at : (n c : ℕ) (cpu : Cpu) → n < all → due_of cpu.sreg.bits (lines_of m.bus.board) ≡ None → due (shown (later t n c cpu m)) ≡ None
+  none_at n c cpu l none =
+      let lines : lines_of (leapt n) ≡ lines_of (unclocked m.bus.board) = open_.idle.same n l in
+      ap (λ (b : Board). due_of cpu.sreg.bits (lines_of b)) (sym (leap_clock 0 t n m.bus.board))
+      ∙ (ap (due_of cpu.sreg.bits) (lines ∙ lines_clock 0 m.bus.board) ∙ none)
+
+  stepped : (n c k : ℕ) (from to : Cpu) → IsStillStep k m from to
+      → IsStepped (t + n) k (later t n c from m) (let x : Machine = record (later t n c from m) { cpu = to; owed = false; count = m.count + c + 1 } in x)
+  stepped n c k from to s =
+      let o = open_ in
+      let x : Machine = later t n c from m in
+      let a : Outcome NodeBus = record { result = Ok (done k); cpu = to; bus = x.bus } in
+      let behind = o.behind in
+      let still : m.to ≤ t + n = omega (arith, behind) in
+      gone (t + n) x s.op s.fetched (runs_on (shown x) s.op s.wakes) refl still a m.program.bytes refl (s.does (t + n) t n) (done k) refl false
+      s.settled refl s.some o.awake o.going o.free
+
+  next : (n c k : ℕ) (from to : Cpu) → n + k ≤ all → IsStillStep k m from to → IsSprinting t (t + n) m (later t n c from m) → IsSprinting t (t + (n + k)) m (later t (n + k) (c + 1) to m)
+  next n c k from to l s h =
+      let some = s.some in
+      let x : Machine = later t n c from m in
+      let w : Machine = record x { cpu = to; owed = false; count = m.count + c + 1 } in
+      let bus : NodeBus = bus_later (t + (n + k)) t (n + k) m.bus in
+      let on : t + n + k ≡ t + (n + k) = omega arith in
+      let count : m.count + c + 1 ≡ m.count + (c + 1) = omega arith in
+      let there : timers_leap (t + n) k (leapt n) ≡ leapt (n + k) = sym (leap_add t n k (unclocked m.bus.board)) in
+      let board : clock_at 0 (timers_leap t (n + k) m.bus.board) ≡ timers_leap (t + n) k (shown w).bus.board =
+      sym (leap_clock 0 t (n + k) m.bus.board) ∙ (sym there ∙ ap (timers_leap (t + n) k) (leap_clock 0 t n m.bus.board)) in
+      let calm : IsCalm (t + n) k (shown w) = record {
+        ends = λ j lt.
+            (let same : t + (n + j) ≡ t + n + j = omega arith in
+            ap (board_quiet (t + n + j)) (sym (leap_clock 0 t n m.bus.board))
+            ∙ (leap_quiet (t + n + j) t n (unclocked m.bus.board)
+            ∙ subst (λ (u : ℕ). board_quiet u (unclocked m.bus.board) ≡ true) same (open_.idle.quiet (n + j) (omega (arith, l, lt)))));
+        none = λ j lt.
+            (let same : t + (n + j) ≡ t + n + j = omega arith in
+            subst (λ (u : ℕ). script_byte m.script u ≡ None) same (open_.script (n + j) (omega (arith, l, lt))));
+      } in
+      let state : (let y : Machine = record w { bus = bus } in shown y)
+      ≡ (let s : NodeState = record (shown w) { bus = with_board (shown w).bus (timers_leap (t + n) k (shown w).bus.board) } in s) =
+      λ z. (let s : NodeState = record (shown w) { bus = with_board (shown w).bus (board z) } in s) in
+      let went = sprint.goes t (t + n) m x h k w (none_at n c from (omega (arith, l, some)) s.none) (stepped n c k from to s) bus calm state (sym on) in
+      subst (λ (u : ℕ). IsSprinting t u m (later t (n + k) (c + 1) to m)) on
+      (subst (λ (y : Machine). IsSprinting t (t + n + k) m y)
+      (λ z. let y : Machine = record m { cpu = to; bus = bus; owed = sym open_.owed z; count = count z } in y) went)
+
+  walk : (head : Cpu) (length count : ℕ) (cpu : Cpu) → Walk m head length count cpu → (n c : ℕ) → n + length ≤ all → IsSprinting t (t + n) m (later t n c head m)
+      → IsSprinting t (t + (n + length)) m (later t (n + length) (c + count) cpu m)
+  walk head _ _ _ stays n c l h =
+      let on : n ≡ n + 0 = omega arith in
+      let more : c ≡ c + 0 = omega arith in
+      subst (λ (i : ℕ). IsSprinting t (t + i) m (later t i (c + 0) head m)) on (subst (λ (j : ℕ). IsSprinting t (t + n) m (later t n j head m)) more h)
+  walk head _ _ _ (goes length count k from to w s) n c l h =
+      let on : n + length + k ≡ n + (length + k) = omega arith in
+      let more : c + count + 1 ≡ c + (count + 1) = omega arith in
+      let here = walk head length count from w n c (omega (arith, l)) h in
+      let there = next (n + length) (c + count) k from to (omega (arith, l)) s here in
+      subst (λ (i : ℕ). IsSprinting t (t + i) m (later t i (c + (count + 1)) to m)) on
+      (subst (λ (j : ℕ). IsSprinting t (t + (n + length + k)) m (later t (n + length + k) j to m)) more there)
+
+  -- k rounds, each from the core that the one before it left
+  module _ (k length count : ℕ) (after : ℕ → Cpu) (first : after 0 ≡ m.cpu) (round : (j : ℕ) → j < k → Walk m (after j) length count (after (suc j))) where
+    rounds : (i : ℕ) → i ≤ k → i * length ≤ all → IsSprinting t (t + i * length) m (later t (i * length) (i * count) (after i) m)
+    rounds zero few l =
+        let on : 0 ≡ 0 * length = omega arith in
+        let more : 0 ≡ 0 * count = omega arith in
+        subst (λ (n : ℕ). IsSprinting t (t + n) m (later t n (0 * count) (after 0) m)) on
+        (subst (λ (c : ℕ). IsSprinting t (t + 0) m (later t 0 c (after 0) m)) more
+        (subst (λ (cpu : Cpu). IsSprinting t (t + 0) m (later t 0 0 cpu m)) (sym first) start))
+    rounds (suc i) few l =
+        let on : i * length + length ≡ suc i * length = omega arith in
+        let more : i * count + count ≡ suc i * count = omega arith in
+        let here = rounds i (omega (arith, few)) (omega (arith, l, on)) in
+        let there = walk (after i) length count (after (suc i)) (round i (omega (arith, few))) (i * length) (i * count) (omega (arith, l, on)) here in
+        subst (λ (n : ℕ). IsSprinting t (t + n) m (later t n (suc i * count) (after (suc i)) m)) on
+        (subst (λ (c : ℕ). IsSprinting t (t + (i * length + length)) m (later t (i * length + length) c (after (suc i)) m)) more there)
+
+    pub all_rounds : k * length ≡ all → (bus : NodeBus) → bus.sram ≡ m.bus.sram → unclocked bus.board ≡ leapt all → bus.board.clock ≡ t + all
+        → IsSprinted t (t + all) false m (let x : Machine = record m { cpu = after k; bus = bus; count = m.count + k * count } in x)
+    all_rounds e bus sram board clock =
+        let b : bus.board ≡ clock_at (t + all) (timers_leap t all m.bus.board) =
+        (λ i. clock_at (clock i) bus.board) ∙ ap (clock_at (t + all)) (board ∙ leap_clock 0 t all m.bus.board) in
+        let same : (let x : Machine = record m { cpu = after k; bus = bus; count = m.count + k * count } in x) ≡ later t all (k * count) (after k) m =
+        λ i. (let x : Machine = record m { cpu = after k; bus = (let n : NodeBus = record { sram = sram i; board = b i } in n); count = m.count + k * count } in x) in
+        let there : IsSprinting t (t + all) m (later t all (k * count) (after k) m) =
+        subst (λ (n : ℕ). IsSprinting t (t + n) m (later t n (k * count) (after k) m)) e (rounds k (omega arith) (omega (arith, e))) in
+        subst (λ (x : Machine). IsSprinted t (t + all) false m x) (sym same) (sprint.stays t (t + all) m (later t all (k * count) (after k) m) there)
+
+-- rounds that the board passed, of a node that is m still
+module _ (t k length count : ℕ) (m x : Machine) (same : x ≡ m) (may : MayAct t m) (behind : m.to ≤ t) (owed : m.owed ≡ false) (none : (i : ℕ) → i < k * length → script_byte m.script (t + i) ≡ None)
+    (after : ℕ → Cpu) (first : after 0 ≡ m.cpu) (round : (j : ℕ) → j < k → Walk m (after j) length count (after (suc j))) (board : Board)
+    (idle : IsIdle x.bus.board.clock (k * length) (unclocked x.bus.board)) (state : unclocked board ≡ timers_leap x.bus.board.clock (k * length) (unclocked x.bus.board))
+    (clock : board.clock ≡ x.bus.board.clock + k * length) where
+  now : x.bus.board.clock ≡ t
+  now = ap (λ (y : Machine). y.bus.board.clock) same ∙ may.now
+
+  open_here : IsOpen t (k * length) m
+  open_here = record {
+    owed = owed;
+    going = may.going;
+    free = may.free;
+    awake = may.awake;
+    behind = behind;
+    now = may.now;
+    few = may.few;
+    idle = subst (λ (y : Machine). IsIdle t (k * length) (unclocked y.bus.board)) same (subst (λ (u : ℕ). IsIdle u (k * length) (unclocked x.bus.board)) now idle);
+    script = none;
+  }
+
+  pub leapt_over : IsSprinted t (t + k * length) false m (let z : Machine = record x { cpu = after k; bus = (let b : NodeBus = record { sram = x.bus.sram; board = board } in b); count = x.count + k * count } in z)
+  leapt_over =
+      let bus : NodeBus = record { sram = x.bus.sram; board = board } in
+      let there = all_rounds t (k * length) m open_here k length count after first round refl bus (ap (λ (y : Machine). y.bus.sram) same)
+      (state ∙ (ap (λ (u : ℕ). timers_leap u (k * length) (unclocked x.bus.board)) now ∙ ap (λ (y : Machine). timers_leap t (k * length) (unclocked y.bus.board)) same))
+      (clock ∙ ap (λ (u : ℕ). u + k * length) now) in
+      subst (λ (z : Machine). IsSprinted t (t + k * length) false m z)
+      (λ i. let z : Machine = record (sym same i) { cpu = after k; bus = bus; count = (sym same i).count + k * count } in z) there

@@ -9,3 +9,4 @@ pub mod Reached
 pub mod Midway
 pub mod Numbers
 pub mod Restored
+pub mod Leaps

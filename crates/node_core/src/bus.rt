@@ -1,5 +1,6 @@
 // The data space of a node beside the core.
-ghost use Rattle.std.specs.Prelude.{◌≡◌, ◌≤◌, IfOk};
+ghost use Rattle.std.specs.Prelude.{◌≡◌, ◌≤◌, true, IfOk};
+ghost use Rattle.node_core.specs.Leaps.{LoadsStill};
 
 use avr_base::{NoMemory, StopCause};
 use board_io::LaggingBoard;
@@ -31,6 +32,17 @@ impl NodeBus {
             sram,
             board: LaggingBoard::new(byte_time),
         })
+    }
+
+    /// Whether a load at a data address that is not the core's changes nothing, and gives the same byte in each cycle before
+    /// the next event.
+    pub fn reads_still(&self, at: u16) -> bool
+        ensures { result ≡ true → LoadsStill self.now at }
+    {
+        if at > 0x10FF {
+            return false;
+        }
+        at >= 0x0100 || self.board.reads_still(at)
     }
 }
 

@@ -4,9 +4,11 @@
 #![tactic(auto)]
 
 mod bus;
+mod countdowns;
 mod execute;
 mod interrupts;
 mod law;
+mod leaps;
 mod machine;
 mod node;
 mod numbers;
@@ -15,7 +17,6 @@ mod restore;
 mod rests;
 mod row;
 mod rows;
-mod spin;
 mod sprint;
 mod stride;
 

@@ -62,7 +62,7 @@ fn is_other(mode: Sleep) -> bool
 }
 
 // Whether an instruction is owed before the next interrupt is entered. SEI and RETI leave I set, so without it none is.
-fn owes(op: &Op, before: u8, after: u8) -> bool
+pub fn owes(op: &Op, before: u8, after: u8) -> bool
     requires { is_sei op.now ≡ true → 128 ≤ after }
     ensures { result ≡ owes op.now before after }
 {
@@ -86,7 +86,7 @@ fn pending(board: &LaggingBoard) -> Option<Vector>
 
 // The interrupt that is due, by SREG and the board.
 #[inline(always)]
-fn due(sreg: Sreg, board: &LaggingBoard) -> Option<Vector>
+pub fn due(sreg: Sreg, board: &LaggingBoard) -> Option<Vector>
     ensures { result ≡ due_of sreg.bits (lines_of board.now) }
 {
     if sreg.has(Sreg::I) {

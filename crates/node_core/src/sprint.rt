@@ -26,6 +26,9 @@ pub enum Step {
     Left,
 }
 
+// SREG with the flag I on: where it was so, no instruction turned it on.
+const I_ON: u8 = 0x80;
+
 // Whether the flag I, the highest of SREG, was turned on.
 #[inline]
 fn turned_on(before: u8, after: u8) -> bool
@@ -69,8 +72,7 @@ impl Machine {
         if cycle < self.to || self.owed || self.bus.board.lines().bits != 0 {
             return Sprinted { at, inside: false };
         }
-        // as if I had been on: so nothing is owed yet
-        let mut before = 128;
+        let mut before = I_ON;
         loop {
             let pc = self.cpu.pc;
             let now = self.cpu.sreg.bits;
@@ -87,9 +89,12 @@ impl Machine {
                         return Sprinted { at, inside: true };
                     }
                     at += u64::from(taken);
-                    if self.cpu.pc == pc {
+                    if self.cpu.pc <= pc {
                         self.owed = turned_on(before, self.cpu.sreg.bits);
-                        at += self.spin(pc, at, end);
+                        if !self.owed {
+                            at += self.leap(at, end);
+                            before = I_ON;
+                        }
                     }
                 }
                 Step::Left => {

@@ -1,8 +1,7 @@
 use Rattle.std.proofs.Common.{◌≡◌, ℕ, ◌+◌, ◌*◌, ◌/◌, ◌≤◌, sym, ap, subst, ◌∙◌, arith}
 use Rattle.std.proofs.Math.Nat.{div-mul-le_self}
 use Rattle.board_io.specs.Board.{clock_at, unclocked}
-use Rattle.board_io.specs.Cycle.{timers_leap}
-use Rattle.board_io.specs.Lagging.{IsAhead, IsIdle, caught_up}
+use Rattle.board_io.specs.Lagging.{IsAhead, caught_up}
 use Rattle.board_io.specs.Lines.{lines_of}
 use Rattle.board_io.specs.declared.board.Board.{Board}
 use Rattle.board_io.proofs.Lags.{idle, later, lines_stay, passed, passed_clock}
@@ -10,20 +9,17 @@ use Rattle.board_io.proofs.lagging.LaggingBoard.pass_rounds.Goals as goal
 
 -- the cycles that were passed
 abbrev passed_by : goal.After-self-1 → ℕ
-passed_by c = c.min.result / c.from-length.result * c.from-length.result
+passed_by c = c.min.result / c.args.length * c.args.length
 
 below : (c : goal.After-self-1) → c.self.inside.board.clock + passed_by c ≤ c.self.inside.ahead.next
 below c =
     let at = c.get-clock.ensures.value in
     let next = c.self.invariant.next in
-    let whole = div-mul-le_self c.min.result c.from-length.result in
+    let whole = div-mul-le_self c.min.result c.args.length in
     omega (arith, at, next, whole, c.min.ensures)
 
 here : (c : goal.After-self-1) → c.self.inside.board.clock + passed_by c ≡ c.new-self-inside.result
 here c = ap (λ (t : ℕ). t + passed_by c) (sym c.get-clock.ensures.value) ∙ sym c.new-self-inside.ensures
-
-same : (c : goal.After-self-1) → passed_by c ≡ c.min.result / c.from-length.result * c.args.length
-same c = ap (λ (n : ℕ). c.min.result / c.from-length.result * n) c.from-length.ensures
 
 pub invariant_of-self : goal.invariant_of-self
 invariant_of-self c =
@@ -33,16 +29,13 @@ invariant_of-self c =
 
 pub returns-clause-idle : goal.returns-clause-idle
 returns-clause-idle c =
-    subst (λ (n : ℕ). IsIdle c.args.self.now.clock n (unclocked c.args.self.now)) (same c)
-    (idle c.self.inside.ahead c.self.inside.board c.self.invariant (passed_by c) c.args.self.now c.self.view_is (below c))
+    idle c.self.inside.ahead c.self.inside.board c.self.invariant (passed_by c) c.args.self.now c.self.view_is (below c)
 
 pub returns-clause-state : goal.returns-clause-state
 returns-clause-state c =
     let a = c.self.inside.ahead in
     let b : Board = c.self.inside.board in
-    ap (λ (t : ℕ). unclocked (caught_up a.settled (clock_at t b))) (sym (here c))
-    ∙ (passed a b c.self.invariant (passed_by c) c.args.self.now c.self.view_is
-    ∙ ap (λ (n : ℕ). timers_leap c.args.self.now.clock n (unclocked c.args.self.now)) (same c))
+    ap (λ (t : ℕ). unclocked (caught_up a.settled (clock_at t b))) (sym (here c)) ∙ passed a b c.self.invariant (passed_by c) c.args.self.now c.self.view_is
 
 pub returns-clause-lines : goal.returns-clause-lines
 returns-clause-lines c =
@@ -55,5 +48,4 @@ pub returns-clause-clock : goal.returns-clause-clock
 returns-clause-clock c =
     let a = c.self.inside.ahead in
     let b : Board = c.self.inside.board in
-    ap (λ (t : ℕ). (caught_up a.settled (clock_at t b)).clock) (sym (here c))
-    ∙ (passed_clock a b c.self.invariant (passed_by c) c.args.self.now c.self.view_is ∙ ap (λ (n : ℕ). c.args.self.now.clock + n) (same c))
+    ap (λ (t : ℕ). (caught_up a.settled (clock_at t b)).clock) (sym (here c)) ∙ passed_clock a b c.self.invariant (passed_by c) c.args.self.now c.self.view_is

@@ -102,8 +102,8 @@ returns-then-not-passes_clear-clause-sprinted c =
     let told = subst (λ (d : Bool). IsSprinted t at true old (let z : Machine = record (owing d y) { wait = n - 1 } in z)) (sym c.turned_on-self.ensures) broken in
     subst (λ (z : Machine). IsSprinted t at true old (let v : Machine = record z { wait = n - 1 } in v)) (sym (c.if-passes_whole.ensures.same refl)) told
 
-pub spin-at-requires-clause-behind : goal.spin-at-requires-clause-behind
-spin-at-requires-clause-behind c =
+pub leap-at-requires-clause-behind : goal.leap-at-requires-clause-behind
+leap-at-requires-clause-behind c =
     let h = c.loop-taken.invariant.runs in
     let p = c.in-Plain.ensures true in
     let behind = h.behind in
@@ -111,16 +111,16 @@ spin-at-requires-clause-behind c =
     let same : c.passes_clear.new.self.to ≡ c.step.new.self.to = ap (λ (x : Machine). x.to) c.passes_clear.ensures.others in
     omega (arith, behind, to, same)
 
-pub spin-at-requires-clause-none : goal.spin-at-requires-clause-none
-spin-at-requires-clause-none c i l =
+pub leap-at-requires-clause-none : goal.leap-at-requires-clause-none
+leap-at-requires-clause-none c i l =
     let p = c.in-Plain.ensures true in
     let h = c.loop-taken.invariant.runs in
     let from = h.from in
     silent c.args.cycle (c.loop-taken.at + c.from-at-in-Plain.result) c.args.end c.args.self.now c.passes_clear.new.self
     (ap (λ (x : Machine). x.script) c.passes_clear.ensures.others ∙ (p.script ∙ h.script)) (omega (arith, from)) c.requires.none i l
 
-pub spin-at-requires-clause-may : goal.spin-at-requires-clause-may
-spin-at-requires-clause-may c =
+pub leap-at-requires-clause-may : goal.leap-at-requires-clause-may
+leap-at-requires-clause-may c =
     let t : ℕ = c.args.cycle in
     let at : ℕ = c.loop-taken.at in
     let n : ℕ = c.in-Plain.taken in
@@ -164,8 +164,8 @@ loop-taken-preserved c =
     let within = e.within refl in
     record { within = omega (arith, within, next); clear = e.clear refl; runs = here }
 
-pub loop-taken-preserved-then-self-pc : goal.loop-taken-preserved-then-self-pc
-loop-taken-preserved-then-self-pc c =
+pub loop-taken-preserved-else-not-self : goal.loop-taken-preserved-else-not-self
+loop-taken-preserved-else-not-self c =
     let t : ℕ = c.args.cycle in
     let at : ℕ = c.loop-taken.at in
     let n : ℕ = c.in-Plain.taken in
@@ -183,17 +183,40 @@ loop-taken-preserved-then-self-pc c =
     let more = c.from-at-in-Plain.ensures in
     let next : at + n ≡ at + c.from-at-in-Plain.result = omega (arith, more) in
     let here = subst (λ (u : ℕ). IsSprinting t u old (owing (turned_on s y.cpu.sreg.bits) y)) next there in
-    let q = c.spin-at.ensures in
-    let x : Machine = c.spin-at.new.self in
+    let within = e.within refl in
+    record { within = omega (arith, within, next); clear = e.clear refl; runs = here }
+
+pub loop-taken-preserved-then-not-self : goal.loop-taken-preserved-then-not-self
+loop-taken-preserved-then-not-self c =
+    let t : ℕ = c.args.cycle in
+    let at : ℕ = c.loop-taken.at in
+    let n : ℕ = c.in-Plain.taken in
+    let old : Machine = c.args.self.now in
+    let m : Machine = c.loop-taken.self in
+    let s : ℕ = m.cpu.sreg.bits in
+    let b : Bool = turned_on c.loop-taken.before s in
+    let w : Machine = c.step.new.self in
+    let y : Machine = c.passes_clear.new.self in
+    let run = c.loop-taken.invariant.runs in
+    let none : due (shown m) ≡ None = clear_due m c.loop-taken.invariant.clear in
+    let p = c.in-Plain.ensures b in
+    let e = c.if-not-passes_clear.ensures in
+    let there = steps_on t at n s old m w y b run none p (e.calm refl) (e.state refl) e.others (e.clock refl) in
+    let more = c.from-at-in-Plain.ensures in
+    let next : at + n ≡ at + c.from-at-in-Plain.result = omega (arith, more) in
+    let here = subst (λ (u : ℕ). IsSprinting t u old (owing (turned_on s y.cpu.sreg.bits) y)) next there in
+    let within = e.within refl in
+    let q = c.leap-at.ensures in
+    let x : Machine = c.leap-at.new.self in
     let y0 : Machine = record y { owed = c.turned_on-self-then-self-pc.result } in
     let from = at + c.from-at-in-Plain.result in
     let begun = subst (λ (d : Bool). IsSprinting t from old (owing d y)) (sym c.turned_on-self-then-self-pc.ensures) here in
-    let gone = joins t from old y0 begun (from + c.spin-at.result) x q.sprinted (ap (λ (z : Machine). z.to) q.others) in
-    let told = told_on s x y0 c.turned_on-self-then-self-pc.ensures (ap (λ (z : Machine). z.owed) q.others) (ap (λ (z : Machine). z.cpu) q.others) in
+    let gone = joins t from old y0 begun (from + c.leap-at.result) x q.sprinted (ap (λ (z : Machine). z.to) q.others) in
+    let told = owes_so false x (ap (λ (z : Machine). z.owed) q.others ∙ c.if-not-self.true) in
     record {
       within = q.within;
       clear = ap (λ (l : Lines). l.bits) q.lines ∙ e.clear refl;
-      runs = subst (IsSprinting t (from + c.spin-at.result) old) told gone;
+      runs = subst (IsSprinting t (from + c.leap-at.result) old) told gone;
     }
 
 pub loop-taken-smaller : goal.loop-taken-smaller
@@ -205,12 +228,21 @@ loop-taken-smaller c =
     let within = e.within refl in
     omega (arith, some, more, within)
 
-pub loop-taken-smaller-then-self-pc : goal.loop-taken-smaller-then-self-pc
-loop-taken-smaller-then-self-pc c =
+pub loop-taken-smaller-else-not-self : goal.loop-taken-smaller-else-not-self
+loop-taken-smaller-else-not-self c =
     let p = c.in-Plain.ensures true in
     let some = p.some in
     let more = c.from-at-in-Plain.ensures in
-    let s = c.spin-at.ensures in
+    let e = c.if-not-passes_clear.ensures in
+    let within = e.within refl in
+    omega (arith, some, more, within)
+
+pub loop-taken-smaller-then-not-self : goal.loop-taken-smaller-then-not-self
+loop-taken-smaller-then-not-self c =
+    let p = c.in-Plain.ensures true in
+    let some = p.some in
+    let more = c.from-at-in-Plain.ensures in
+    let s = c.leap-at.ensures in
     let within = s.within in
     omega (arith, some, more, within)
 

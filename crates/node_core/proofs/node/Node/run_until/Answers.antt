@@ -6,7 +6,7 @@ use Rattle.node_core.specs.State.{NodeState}
 use Rattle.node_core.specs.Shown.{shown}
 use Rattle.node_core.specs.Inside.{IsWhole}
 use Rattle.node_core.specs.Cycle.{asks_after, node_kind, sends_after}
-use Rattle.node_core.proofs.Rounds.{rested_there, round}
+use Rattle.node_core.proofs.Until.{rested_there, round}
 use Rattle.node_core.proofs.Runs.{begun_comes, rested_comes, whole_between}
 use Rattle.node_core.proofs.Strides.{IsOnAir, air_told}
 use Rattle.node_core.proofs.Steady.{steady}
