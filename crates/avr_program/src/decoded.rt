@@ -1,7 +1,7 @@
 // A flash and its instructions.
 ghost use Rattle.std.specs.Prelude.{◌≡◌, ◌≤◌, IfOk, map, vec_len};
 ghost use Rattle.std.specs.List.{range_with_len};
-ghost use Rattle.avr_program.specs.Program.{op_of};
+ghost use Rattle.avr_program.specs.Program.{op_of, slot_of};
 
 use avr_base::NoMemory;
 use avr_decoder::{Op, decode};
@@ -9,17 +9,24 @@ use ihex_loader::Flash;
 use std::alloc::{AllocError, Global};
 use std::marker::Model;
 
+/// An instruction, filled up to eight bytes, so that the host finds the one at an address by a shift.
+#[derive(Clone, Copy)]
+pub struct Slot {
+    pub op: Op,
+    pub fill: u16,
+}
+
 /// The flash of a node, and the instructions at its word addresses from 0 on, as far as the image gave words: of an
-/// instruction 6 bytes. A contract sees it as its flash.
+/// instruction 8 bytes. A contract sees it as its flash.
 pub struct Decoded {
     flash: Flash,
-    ops: Vec<Op>,
+    slots: Vec<Slot>,
 }
 
 // By hand, so that an exit that lets go of one, here and in the crates above, has one call to prove.
 impl Drop for Decoded {
     fn drop(self) {
-        let Decoded { flash: _, ops: _ } = self;
+        let Decoded { flash: _, slots: _ } = self;
     }
 }
 
@@ -27,13 +34,13 @@ impl Model for Decoded {
     ghost use Rattle.std.specs.Prelude.{◌≡◌, map, vec_len};
     ghost use Rattle.std.specs.List.{range_with_len};
     ghost use Rattle.ihex_loader.specs.Flash.{Image};
-    ghost use Rattle.avr_program.specs.Program.{op_of};
+    ghost use Rattle.avr_program.specs.Program.{slot_of};
 
     ghost Value = { Image };
 
     ghost view = { λ p. p.flash };
 
-    ghost invariant = { λ p. p.ops.items ≡ map (op_of p.flash.bytes) (range_with_len 0 (vec_len p.ops)) };
+    ghost invariant = { λ p. p.slots.items ≡ map (slot_of p.flash.bytes) (range_with_len 0 (vec_len p.slots)) };
 }
 
 // The instruction at a word address.
@@ -51,15 +58,16 @@ fn words(flash: &Flash) -> u32
 }
 
 // The instructions of the words that the image gave.
-fn ops_of(alloc: Global, flash: &Flash) -> Result<Vec<Op>, AllocError>
-    ensures { IfOk result (λ ops. ops.items ≡ map (op_of flash.now.bytes) (range_with_len 0 (vec_len ops))) }
+fn slots_of(alloc: Global, flash: &Flash) -> Result<Vec<Slot>, AllocError>
+    ensures { IfOk result (λ slots. slots.items ≡ map (slot_of flash.now.bytes) (range_with_len 0 (vec_len slots))) }
 {
     let words = words(flash);
-    let mut ops = Vec::with_capacity(alloc, words as usize)?;
+    let mut slots = Vec::with_capacity(alloc, words as usize)?;
     for pc in 0..words {
-        ops.push(op_in(flash, pc as u16))?;
+        let op = op_in(flash, pc as u16);
+        slots.push(Slot { op, fill: 0 })?;
     }
-    Ok(ops)
+    Ok(slots)
 }
 
 impl Decoded {
@@ -67,8 +75,8 @@ impl Decoded {
     pub fn new(alloc: Global, flash: Flash) -> Result<Decoded, NoMemory>
         ensures { IfOk result (λ decoded. decoded ≡ flash) }
     {
-        let ops = ops_of(alloc, &flash)?;
-        Ok(Decoded { flash, ops })
+        let slots = slots_of(alloc, &flash)?;
+        Ok(Decoded { flash, slots })
     }
 
     /// Its flash.
@@ -93,8 +101,8 @@ impl Decoded {
         ensures { result ≡ op_of self.now.bytes pc }
     {
         let at = usize::from(pc);
-        if at < self.ops.len() {
-            self.ops[at]
+        if at < self.slots.len() {
+            self.slots[at].op
         } else {
             self.decoded_at(pc)
         }
