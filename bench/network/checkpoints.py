@@ -8,17 +8,14 @@ slow simulator beside this file.
 Always the same bytes. The network of `make 0` takes some minutes.
 """
 import re
-import sys
 from pathlib import Path
 
-sys.path.append(str(Path(__file__).resolve().parent.parent))
-
+from case_lines import CaseFile, Files, folder_of_words
 from draw import hex_text, late, ring
-from facts import Files, two
+from facts import two
 from network import Refused, outcome
-from samples import fnv, image, words_of
+from samples import image, words_of
 from states import EPOCH, MOST_STATE
-from stored_parts import put_part
 
 NAME = "checkpoints.txt"
 HEAD = """\
@@ -26,7 +23,6 @@ HEAD = """\
 #
 # Source: what is stored is what bench/network/network.py gives, by the definitions of the network and of a state's text. The
 # state of stopped.toml was worked by hand too."""
-MOST_SHOWN = 20
 PWM = ":0A00000008E00AB90CB901E00FBDD9\n:00000001FF\n"
 # A node that enables the transmitter, begins a frame of 160 cycles in cycle 2, and selects PWM in cycle 4.
 STOPPED_BY_HAND = {
@@ -56,29 +52,13 @@ def are_words(words):
     return re.fullmatch("[0-9]{1,7}", words[2]) is not None and int(words[2]) > 0
 
 
-class Cases:
+class Cases(CaseFile):
     def __init__(self, folder):
-        self.data_folder, self.data, self.expected, self.held, self.known = folder / "data", [], [], {}, {}
-        for line in HEAD.splitlines():
-            self.line(line)
-
-    def line(self, text):
-        self.data.append(text)
-        self.expected.append(text)
-
-    def about(self, text):
-        self.line("")
-        self.line(f"# {text}")
+        super().__init__(folder, HEAD.splitlines())
+        self.known = {}
 
     def file(self, name, content):
-        content = content.encode() if isinstance(content, str) else content
-        (self.data_folder / name).write_bytes(content)
-        self.held[name] = content
-        self.line(f"file {name}")
-
-    def blank(self, name, length):
-        self.held[name] = b"\n" * length
-        self.line(f"blank {name} {length}")
+        self.file_beside("file", name, content.encode() if isinstance(content, str) else content)
 
     def outcome(self, words, failing):
         if not are_words(words):
@@ -105,12 +85,6 @@ class Cases:
         self.shown("out", written.decode())
         self.shown("err", error and error + "\n")
         return written
-
-    def shown(self, name, text):
-        lines = text.splitlines()
-        self.expected.append(f"{name}: {len(text)} bytes, {text.count(chr(10))} lines")
-        most = lines if len(lines) <= MOST_SHOWN else [*lines[:2], f".. {len(text)} bytes {fnv(text.encode())}", *lines[-2:]]
-        self.expected += [f"| {line}" for line in most]
 
     def cut(self, scenario, epochs, keeps=True):
         """The run's part up to the epochs' end, the state there, and the rest from it."""
@@ -223,14 +197,5 @@ def cases(folder):
     return it
 
 
-def main():
-    if len(sys.argv) != 2:
-        sys.exit(__doc__)
-    folder = Path(sys.argv[1])
-    it = cases(folder)
-    (folder / "data" / NAME).write_text("\n".join(it.data) + "\n")
-    put_part(folder, f"calls={NAME}", it.expected)
-
-
 if __name__ == "__main__":
-    main()
+    cases(folder_of_words(__doc__)).write("calls", NAME)

@@ -6,15 +6,11 @@
 
 Always the same bytes.
 """
-import shutil
-import sys
 from pathlib import Path
 
-sys.path.append(str(Path(__file__).resolve().parent.parent))
-
+from case_lines import CaseFile, Files, folder_of_words
 from draw import aimed, drawn, hex_text, late, ring
 from network import MOST_IMAGE, MOST_SCENARIO, Refused, open_network
-from stored_parts import put_part
 
 HERE = Path(__file__).resolve().parent
 EXAMPLES = HERE.parent.parent / "examples"
@@ -27,52 +23,16 @@ LINES = """\
 """
 
 
-class Files:
-    """Files in memory, of which one read may fail."""
-
-    def __init__(self, held, failing):
-        self.held, self.failing, self.reads = held, failing, 0
-
-    def read(self, name):
-        number, self.reads = self.reads, self.reads + 1
-        if number == self.failing or name not in self.held:
-            raise Refused(3, f"avrora: cannot read {name}")
-        return self.held[name]
-
-
-class CaseFile:
-    def __init__(self, source):
-        self.data, self.expected, self.held = [], [], {}
-        for line in LINES.splitlines() + ["#"] + [f"# Source: {line}" for line in source] + [""]:
-            self.line(line)
-
-    def line(self, text):
-        self.data.append(text)
-        self.expected.append(text)
-
-    def about(self, text):
-        self.line("")
-        self.line(f"# {text}")
+class Networks(CaseFile):
+    def __init__(self, folder, source):
+        super().__init__(folder, LINES.splitlines() + ["#"] + [f"# Source: {line}" for line in source] + [""])
 
     def file(self, name, text):
         assert name not in self.held and (not text or text.endswith("\n")), name
-        self.held[name] = text.encode()
-        self.line(f"file {name}")
-        self.data += ["|" + line for line in text.splitlines()]
+        self.file_in_bars(name, text)
 
-    def copy(self, name, source, folder):
-        shutil.copyfile(source, folder / name)
-        self.held[name] = source.read_bytes()
-        self.line(f"copy {name}")
-
-    def bytes(self, name, content, folder):
-        (folder / name).write_bytes(content)
-        self.held[name] = content
-        self.line(f"copy {name}")
-
-    def blank(self, name, length):
-        self.held[name] = b"\n" * length
-        self.line(f"blank {name} {length}")
+    def copy(self, name, source):
+        self.file_beside("copy", name, source.read_bytes())
 
     def run(self, name, kind=None, number=None, known=None):
         """A run, with what the simulator gives, or with the trace that is known."""
@@ -115,7 +75,7 @@ def two(head="", link="", byte_time=512, latency=100, cycles=500, images=("a.hex
 
 
 def worked(folder):
-    it = CaseFile(["drawn up by hand; the traces are those of bench/network/network.py."])
+    it = Networks(folder, ["drawn up by hand; the traces are those of bench/network/network.py."])
     it.file("a.hex", hex_text(ring(0x11, 1)))
     it.file("b.hex", hex_text(ring(0x22, 8)))
 
@@ -181,13 +141,13 @@ def worked(folder):
         it.file(f"open{place}.toml", two("version = 3", f"open = {spans}"))
         it.run(f"open{place}.toml")
     it.about("Compiled C: three nodes that write on USART0, send once and sample once; one of them was sent a byte.")
-    it.copy("report.hex", HERE / "report.hex", folder)
+    it.copy("report.hex", HERE / "report.hex")
     report = [f'image = "report.hex"'] * 3
     it.file("report.toml", "cycles = 120_000\n" + "".join(f"[[node]]\n{image}\n" for image in report)
             + "[[link]]\nfrom = 0\nto = 1\n[[link]]\nfrom = 1\nto = 2\n[[input]]\nnode = 0\nat = 1_000\nhex = \"7E\"\n")
     it.run("report.toml")
     it.about("Inputs that say when the nodes send and sample (bench/network/net.c), faster than the nodes read them, and too late.")
-    it.copy("net.hex", HERE / "net.hex", folder)
+    it.copy("net.hex", HERE / "net.hex")
     order = "[[input]]\nnode = 0\nat = 200\nevery = 600\nhex = \"E080C0A1\"\n[[input]]\nnode = 1\nat = 380\nevery = 600\nhex = \"4041E0c2\"\n"
     it.file("orders.toml", two(images=("net.hex", "net.hex"), cycles=4_000, byte_time=256, rest=order))
     it.run("orders.toml")
@@ -216,11 +176,11 @@ def worked(folder):
 
 
 def examples(folder):
-    it = CaseFile(["the networks of examples/; the traces are those of bench/network/network.py."])
+    it = Networks(folder, ["the networks of examples/; the traces are those of bench/network/network.py."])
     for name in ("relay", "flood"):
         it.line("")
-        it.copy(f"{name}.hex", EXAMPLES / f"{name}.hex", folder)
-        it.copy(f"{name}.toml", EXAMPLES / f"{name}.toml", folder)
+        it.copy(f"{name}.hex", EXAMPLES / f"{name}.hex")
+        it.copy(f"{name}.toml", EXAMPLES / f"{name}.toml")
         it.run(f"{name}.toml")
     it.about("The image of each node is read in order of number, also where it is that of the node before.")
     for number in (0, 1, 5, 6):
@@ -256,7 +216,7 @@ TEXTS = {
 
 
 def refusals(folder):
-    it = CaseFile(["drawn up by hand from docs/FORMATS.md; the answers are those of bench/network/network.py."])
+    it = Networks(folder, ["drawn up by hand from docs/FORMATS.md; the answers are those of bench/network/network.py."])
     it.file("a.hex", hex_text(ring(0x11, 1)))
     it.file("b.hex", hex_text(ring(0x22, 8)))
     it.file("two.toml", two())
@@ -277,7 +237,7 @@ def refusals(folder):
         it.run(f"{fault}.toml")
         assert it.expected[-2].endswith(f": scenario refused: {fault}"), it.expected[-2]
     it.run("TwiceLinked.toml", "read", 1)
-    it.bytes("bytes.toml", b"cycles = 500 # \xff\n", folder)
+    it.file_beside("copy", "bytes.toml", b"cycles = 500 # \xff\n")
     it.run("bytes.toml")
     it.file("empty.toml", "")
     it.run("empty.toml")
@@ -338,10 +298,10 @@ def refusals(folder):
 MOST_TRACE = 3_500
 
 
-def drawn_networks(_folder):
+def drawn_networks(folder):
     """The first networks whose traces are short and in which something is heard, and of each one in which a byte is just
     heard, or just not."""
-    it = CaseFile(["drawn by bench/network/draw.py; the traces are those of bench/network/network.py."])
+    it = Networks(folder, ["drawn by bench/network/draw.py; the traces are those of bench/network/network.py."])
     found, number = 0, 1_000
     while found < 28:
         base = drawn(number, cycles_most=3_000)
@@ -386,14 +346,9 @@ def ran(it):
 
 
 def main():
-    if len(sys.argv) != 2:
-        sys.exit(__doc__)
-    folder = Path(sys.argv[1])
-    data = folder / "data"
+    folder = folder_of_words(__doc__)
     for name, make in (("worked", worked), ("examples", examples), ("refusals", refusals), ("drawn", drawn_networks)):
-        it = make(data)
-        (data / f"{name}.txt").write_text("\n".join(it.data) + "\n")
-        put_part(folder, f"networks={name}.txt", it.expected)
+        make(folder).write("networks", f"{name}.txt")
 
 
 if __name__ == "__main__":

@@ -8,15 +8,12 @@ Always the same bytes. A failing call's status and its line follow from docs/FOR
 its length and the bytes that it takes at a call, where the rows of an epoch are written before the next epoch runs.
 """
 import re
-import sys
 from pathlib import Path
 
-sys.path.append(str(Path(__file__).resolve().parent.parent))
-
+from case_lines import CaseFile, Files, fnv, folder_of_words
 from draw import foreign, hex_text, ring
-from facts import Files, two
+from facts import two
 from network import Refused, open_network
-from stored_parts import put_part
 from watch import frame_lines, profile_lines, read_window, sender
 
 HERE = Path(__file__).resolve().parent
@@ -37,15 +34,8 @@ HEAD = """\
 """
 
 
-def hash_of(text):
-    value = 0xCBF2_9CE4_8422_2325
-    for byte in text:
-        value = (value ^ byte) * 0x100_0000_01B3 % 2**64
-    return value
-
-
 def shown(status, out, err):
-    taken = f"{len(out)} bytes {hash_of(out)}" if out else "nothing"
+    taken = f"{len(out)} bytes {fnv(out)}" if out else "nothing"
     return f"status {status}, out {taken}, err {err or 'nothing'}"
 
 
@@ -73,29 +63,15 @@ def stop_causes():
 CAUSES = stop_causes()
 
 
-class CaseFile:
-    def __init__(self, source):
-        self.data, self.expected, self.held = [], [], {}
-        for line in HEAD.splitlines() + ["#", f"# Source: {source}"]:
-            self.line(line)
-
-    def line(self, text):
-        self.data.append(text)
-        self.expected.append(text)
-
-    def about(self, text):
-        self.line("")
-        self.line(f"# {text}")
+class Series(CaseFile):
+    def __init__(self, folder, source):
+        super().__init__(folder, HEAD.splitlines() + ["#", f"# Source: {source}"])
 
     def file(self, name, text):
-        self.held[name] = text.encode()
-        self.line(f"file {name}")
-        self.data += ["|" + line for line in text.splitlines()]
+        self.file_in_bars(name, text)
 
-    def copy(self, name, content, folder):
-        (folder / name).write_bytes(content)
-        self.held[name] = content
-        self.line(f"copy {name}")
+    def copy(self, name, content):
+        self.file_beside("copy", name, content)
 
     def rows(self, texts):
         """The texts of the calls from number 0 on: equal ones behind one another are one row."""
@@ -252,7 +228,7 @@ def trace_of(it, name):
 
 
 def case_file(folder):
-    it = CaseFile("drawn up by hand from docs/FORMATS.md; outputs and refusals are those of bench/network/network.py.")
+    it = Series(folder, "drawn up by hand from docs/FORMATS.md; outputs and refusals are those of bench/network/network.py.")
     it.line("")
     it.file("a.hex", hex_text(ring(0x11, 1)))
     it.file("b.hex", hex_text(ring(0x22, 8)))
@@ -270,10 +246,10 @@ def case_file(folder):
     it.file("frames.toml", 'cycles = 9000\nbyte_time = 512\nnode = [{image = "frame.hex"}]\n')
     it.line("")
     it.line("# What is due where nothing fails: traces, and lines.")
-    it.copy("two.trace", trace_of(it, "two.toml"), folder)
-    it.copy("node.trace", trace_of(it, "node.toml"), folder)
+    it.copy("two.trace", trace_of(it, "two.toml"))
+    it.copy("node.trace", trace_of(it, "node.toml"))
     epochs = trace_of(it, "epochs.toml")
-    it.copy("epochs.trace", epochs, folder)
+    it.copy("epochs.trace", epochs)
     it.file("loop.listing", "0000 ldi r16, 0x01\n0001 rjmp .-2\n")
     it.file("node.profile", watched(it, "node.toml", "monitor"))
     it.file("frames.lines", watched(it, "frames.toml", "sniff"))
@@ -293,15 +269,5 @@ def case_file(folder):
     return it
 
 
-def main():
-    if len(sys.argv) != 2:
-        sys.exit(__doc__)
-    folder = Path(sys.argv[1])
-    data = folder / "data"
-    it = case_file(data)
-    (data / "faults.txt").write_text("\n".join(it.data) + "\n")
-    put_part(folder, "faults=faults.txt", it.expected)
-
-
 if __name__ == "__main__":
-    main()
+    case_file(folder_of_words(__doc__)).write("faults", "faults.txt")

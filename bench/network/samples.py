@@ -12,6 +12,7 @@ import sys
 import tempfile
 from pathlib import Path
 
+from case_lines import fnv
 from network import Folder, Network, open_network
 
 CYCLES, BYTE_TIME = 1_000_000, 512
@@ -92,13 +93,6 @@ def run(number, nodes):
     network.heard = heard
     network.run()
     return network
-
-
-def fnv(text):
-    value = 0xCBF29CE484222325
-    for byte in text:
-        value = (value ^ byte) * 0x100000001B3 % 2**64
-    return value
 
 
 def tell(number, nodes):

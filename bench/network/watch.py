@@ -21,12 +21,9 @@ from bisect import bisect_right
 from collections import Counter
 from pathlib import Path
 
-sys.path.append(str(Path(__file__).resolve().parent.parent))
-
+from case_lines import CaseFile
 from draw import DDRB, SPCR, SPDR, SPH, SPL, SPSR, drawn, hex_text, ldi, out, word
 from network import Folder, open_network
-from samples import fnv
-from stored_parts import put_part
 
 TOP = Path(__file__).resolve().parent.parent.parent
 OWNS = ("instr", "enter", "stop")
@@ -211,38 +208,23 @@ HEAD = """\
 # definitions of an owner and of a frame."""
 
 
-class Cases:
+class Cases(CaseFile):
     def __init__(self, folder):
-        self.folder, self.data, self.expected = folder, [], []
-        for line in HEAD.splitlines():
-            self.line(line)
+        super().__init__(folder, HEAD.splitlines())
 
-    def line(self, text):
-        self.data.append(text)
-        self.expected.append(text)
-
-    def about(self, text):
-        self.line("")
-        self.line(f"# {text}")
-
-    def file(self, name, text=None):
-        if text is not None:
-            (self.folder / "data" / name).write_text(text)
-        self.line(f"file {name}")
+    def file(self, name, text):
+        self.file_beside("file", name, text.encode())
 
     def call(self, words, status, lines, error="", faults=""):
         self.line(f"call {words}{faults}")
         self.expected.append(f"status {status}")
-        for name, texts in (("out", lines), ("err", [error] if error else [])):
-            text = "".join(t + "\n" for t in texts)
-            self.expected.append(f"{name}: {len(text)} bytes, {len(texts)} lines")
-            shown = texts if len(texts) <= 20 else [*texts[:2], f".. {len(text)} bytes {fnv(text.encode())}", *texts[-2:]]
-            self.expected += [f"| {t}" for t in shown]
+        self.shown("out", "".join(line + "\n" for line in lines))
+        self.shown("err", error and error + "\n")
 
     def ran(self, command, name):
-        network = open_network(Folder(self.folder / "data"), name)
+        network = open_network(Folder(self.data_folder), name)
         network.run()
-        window = read_window((self.folder / "data" / name).read_text())
+        window = read_window(self.held[name].decode())
         nodes = len(network.nodes)
         self.call(f"{command} {name}", 0, profile_lines(network.rows, nodes, window) if command == "monitor" else frame_lines(network.sends, nodes))
 
@@ -255,7 +237,7 @@ def cases(folder):
     it = Cases(folder)
     it.line("")
     for name in ("sleeper.hex", "a.hex", "sum.hex"):
-        it.file(name)
+        it.line(f"file {name}")
     it.about("An interrupt ends a sleep, and its service goes to sleep again.")
     it.file("watch_sleeper.toml", lone("sleeper.hex", 130, (100, 130)))
     it.ran("monitor", "watch_sleeper.toml")
@@ -264,9 +246,7 @@ def cases(folder):
         it.file(name, lone("sleeper.hex", 130, window))
         it.ran("monitor", name)
     it.about("A node that stops before the window, in it, and after it, beside one that goes on.")
-    stopper = hex_text([ldi(16, 1)] * 20 + [word("break_")])
-    (folder / "data" / "watch_stopper.hex").write_text(stopper)
-    it.file("watch_stopper.hex")
+    it.file("watch_stopper.hex", hex_text([ldi(16, 1)] * 20 + [word("break_")]))
     pair = 'node = [{image = "watch_stopper.hex"}, {image = "a.hex"}]\n'
     for name, window in (("watch_before.toml", (30, 40)), ("watch_inside.toml", (10, 30)), ("watch_after.toml", (0, 10))):
         it.file(name, f"cycles = 60\nwindow = [{window[0]}, {window[1]}]\n{pair}")
@@ -283,15 +263,13 @@ def cases(folder):
         ("watch_cut", "AA AA 7E 03 01 02"),
         ("watch_long", "AA AA 7E 21 AA AA 7E 20 " + " ".join(f"{n:02X}" for n in range(32))),
     ):
-        (folder / "data" / f"{name}.hex").write_text(hex_text(sender(bytes.fromhex(listed))))
-        it.file(f"{name}.hex")
+        it.file(f"{name}.hex", hex_text(sender(bytes.fromhex(listed))))
         it.file(f"{name}.toml", lone(f"{name}.hex", 60_000, (0, 0)))
         it.ran("sniff", f"{name}.toml")
     it.about("A frame whose bytes lie in two epochs, of two nodes the second.")
     rng = random.Random("epochs")
     late = sender([0xAA] * 236 + [0xAA, 0xAA, 0x7E, 8] + [rng.randrange(256) for _ in range(8)])
-    (folder / "data" / "watch_late.hex").write_text(hex_text(late))
-    it.file("watch_late.hex")
+    it.file("watch_late.hex", hex_text(late))
     it.file("watch_late.toml", 'cycles = 290000\nbyte_time = 512\nnode = [{image = "a.hex"}, {image = "watch_late.hex"}]\n')
     it.ran("sniff", "watch_late.toml")
     it.about("What is refused: as for `run --plain`.")
@@ -312,10 +290,7 @@ def cases(folder):
 def main():
     words = sys.argv[1:]
     if len(words) == 2 and words[0] == "cases":
-        folder = Path(words[1])
-        it = cases(folder)
-        (folder / "data" / "watch.txt").write_text("\n".join(it.data) + "\n")
-        put_part(folder, "calls=watch.txt", it.expected)
+        cases(Path(words[1])).write("calls", "watch.txt")
         sys.exit(0)
     if len(words) in (2, 3, 4) and words[0] == "compare":
         sys.exit(compare(str(Path(words[1]).resolve()), int((words[2:3] or [100])[0]), int((words[3:4] or [0])[0])))

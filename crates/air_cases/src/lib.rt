@@ -1,6 +1,6 @@
-//! The language of the case files in which the air is told: a line has words, each with the numbers that it needs.
-//! `words` reads a line, and `setting` the words that say a topology and a world. What the other words do, and what is
-//! answered, is each file's library; a word that it does not know ends its run. They are:
+//! The language of the case files in which the air is told: a line has words, each with the numbers that it needs. `words`
+//! reads a line, `setting` the words that say a topology and a world, and `answer` those that are answers. What the other words do
+//! or ask is each file's library; a word that it does not know ends its run. They are:
 //!
 //! - `topo`: nodes, limit, latency and byte time of a topology; it has no links and no spans yet.
 //! - `links`: links, each by the node that is heard and the node that hears.
@@ -37,8 +37,8 @@
 //! - `log`: begins a record of sends, with room for so many.
 //! - `push`: posts sends to the record, each by its node, cycle and byte.
 //! - `new`: asks whether these numbers are a topology: of `Topo::new`.
-//! - `with_latencies`: the same, of `Topo::with_latencies`.
-//! - `with_spans`: the same, of `Topo::with_spans`.
+//! - `with_latencies`: asks whether they are one with the links' own latencies: of `Topo::with_latencies`.
+//! - `with_spans`: asks whether they are one with these latencies and the spans: of `Topo::with_spans`.
 //! - `world`: asks whether the lists are a world.
 //! - `linked`: asks whether one node hears another.
 //! - `latency_of`: asks how long a byte takes from one node to another.
@@ -64,12 +64,16 @@
 //! - `state`: the answer: the state or the record that is given.
 #![tactic(auto)]
 
+mod answer;
 mod asking;
 mod fault;
+mod lines;
 mod setting;
 mod words;
 
+pub use answer::Answer;
 pub use asking::{count_below, is_asked, own_sends, send_number};
-pub use fault::CaseFault;
+pub use fault::Fault;
+pub use lines::{Answers, Lines, run_lines};
 pub use setting::{Setting, copy_of, samples_of, send_of, sends_of};
 pub use words::{Section, byte_of, sections_of};

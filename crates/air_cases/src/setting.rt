@@ -1,5 +1,5 @@
 // What the lines of a case file have set: a topology, with the sends and samples of a world.
-use crate::{CaseFault, Section, byte_of};
+use crate::{Fault, Section, byte_of};
 use list_world::ListWorld;
 use std::alloc::Global;
 use world_core::{Ask, Heard, Link, Send, Span, Topo, TopoFault, WorldFault};
@@ -27,17 +27,17 @@ pub struct Setting {
     pub asks: Vec<Ask>,
 }
 
-fn link_of(numbers: &[u64]) -> Result<Link, CaseFault> {
+fn link_of(numbers: &[u64]) -> Result<Link, Fault> {
     match numbers {
         [from, to] => Ok(Link {
             from: byte_of(*from)?,
             to: byte_of(*to)?,
         }),
-        _ => Err(CaseFault::Unreadable),
+        _ => Err(Fault::Unreadable),
     }
 }
 
-fn links_of(alloc: Global, numbers: &[u64]) -> Result<Vec<Link>, CaseFault> {
+fn links_of(alloc: Global, numbers: &[u64]) -> Result<Vec<Link>, Fault> {
     let mut links = Vec::new(alloc);
     for numbers in numbers.chunks(2) {
         links.push(link_of(numbers)?)?;
@@ -45,18 +45,18 @@ fn links_of(alloc: Global, numbers: &[u64]) -> Result<Vec<Link>, CaseFault> {
     Ok(links)
 }
 
-fn span_of(numbers: &[u64]) -> Result<Span, CaseFault> {
+fn span_of(numbers: &[u64]) -> Result<Span, Fault> {
     match numbers {
         [link, from, until] => Ok(Span {
-            link: u32::try_from(*link).map_err(|_| CaseFault::Unreadable)?,
+            link: u32::try_from(*link).map_err(|_| Fault::Unreadable)?,
             from: *from,
             until: *until,
         }),
-        _ => Err(CaseFault::Unreadable),
+        _ => Err(Fault::Unreadable),
     }
 }
 
-fn spans_of(alloc: Global, numbers: &[u64]) -> Result<Vec<Span>, CaseFault> {
+fn spans_of(alloc: Global, numbers: &[u64]) -> Result<Vec<Span>, Fault> {
     let mut spans = Vec::new(alloc);
     for numbers in numbers.chunks(3) {
         spans.push(span_of(numbers)?)?;
@@ -65,9 +65,9 @@ fn spans_of(alloc: Global, numbers: &[u64]) -> Result<Vec<Span>, CaseFault> {
 }
 
 // So many spans of the first link: each of one cycle, from cycles 0, 2, 4 and so on.
-fn many_spans(alloc: Global, numbers: &[u64]) -> Result<Vec<Span>, CaseFault> {
+fn many_spans(alloc: Global, numbers: &[u64]) -> Result<Vec<Span>, Fault> {
     let [count] = numbers else {
-        return Err(CaseFault::Unreadable);
+        return Err(Fault::Unreadable);
     };
     let mut spans = Vec::new(alloc);
     for number in 0..(*count).min(10_000) {
@@ -81,19 +81,19 @@ fn many_spans(alloc: Global, numbers: &[u64]) -> Result<Vec<Span>, CaseFault> {
 }
 
 /// A send by its node, cycle and byte.
-pub fn send_of(numbers: &[u64]) -> Result<Send, CaseFault> {
+pub fn send_of(numbers: &[u64]) -> Result<Send, Fault> {
     match numbers {
         [node, cycle, byte] => Ok(Send {
             node: byte_of(*node)?,
             cycle: *cycle,
             byte: byte_of(*byte)?,
         }),
-        _ => Err(CaseFault::Unreadable),
+        _ => Err(Fault::Unreadable),
     }
 }
 
 /// A list of sends, each by its node, cycle and byte.
-pub fn sends_of(alloc: Global, numbers: &[u64]) -> Result<Vec<Send>, CaseFault> {
+pub fn sends_of(alloc: Global, numbers: &[u64]) -> Result<Vec<Send>, Fault> {
     let mut sends = Vec::new(alloc);
     for numbers in numbers.chunks(3) {
         sends.push(send_of(numbers)?)?;
@@ -101,17 +101,17 @@ pub fn sends_of(alloc: Global, numbers: &[u64]) -> Result<Vec<Send>, CaseFault> 
     Ok(sends)
 }
 
-fn ask_of(numbers: &[u64]) -> Result<Ask, CaseFault> {
+fn ask_of(numbers: &[u64]) -> Result<Ask, Fault> {
     match numbers {
         [node, cycle] => Ok(Ask {
             node: byte_of(*node)?,
             cycle: *cycle,
         }),
-        _ => Err(CaseFault::Unreadable),
+        _ => Err(Fault::Unreadable),
     }
 }
 
-fn asks_of(alloc: Global, numbers: &[u64]) -> Result<Vec<Ask>, CaseFault> {
+fn asks_of(alloc: Global, numbers: &[u64]) -> Result<Vec<Ask>, Fault> {
     let mut asks = Vec::new(alloc);
     for numbers in numbers.chunks(2) {
         asks.push(ask_of(numbers)?)?;
@@ -119,7 +119,7 @@ fn asks_of(alloc: Global, numbers: &[u64]) -> Result<Vec<Ask>, CaseFault> {
     Ok(asks)
 }
 
-fn sample_of(numbers: &[u64]) -> Result<(Ask, Heard), CaseFault> {
+fn sample_of(numbers: &[u64]) -> Result<(Ask, Heard), Fault> {
     match numbers {
         [node, cycle, status, byte, age] => {
             let ask = Ask {
@@ -133,12 +133,12 @@ fn sample_of(numbers: &[u64]) -> Result<(Ask, Heard), CaseFault> {
             };
             Ok((ask, heard))
         }
-        _ => Err(CaseFault::Unreadable),
+        _ => Err(Fault::Unreadable),
     }
 }
 
 /// A list of samples, each by its node and cycle, and the status, byte and age that it heard.
-pub fn samples_of(alloc: Global, numbers: &[u64]) -> Result<Vec<(Ask, Heard)>, CaseFault> {
+pub fn samples_of(alloc: Global, numbers: &[u64]) -> Result<Vec<(Ask, Heard)>, Fault> {
     let mut samples = Vec::new(alloc);
     for numbers in numbers.chunks(5) {
         samples.push(sample_of(numbers)?)?;
@@ -147,7 +147,7 @@ pub fn samples_of(alloc: Global, numbers: &[u64]) -> Result<Vec<(Ask, Heard)>, C
 }
 
 /// A list of numbers.
-pub fn copy_of(alloc: Global, numbers: &[u64]) -> Result<Vec<u64>, CaseFault> {
+pub fn copy_of(alloc: Global, numbers: &[u64]) -> Result<Vec<u64>, Fault> {
     let mut list = Vec::new(alloc);
     list.extend_from_slice(numbers)?;
     Ok(list)
@@ -170,7 +170,7 @@ impl Setting {
     }
 
     // Sets the numbers of a topology that has no links and no spans yet.
-    fn set_topo(&mut self, alloc: Global, numbers: &[u64]) -> Result<(), CaseFault> {
+    fn set_topo(&mut self, alloc: Global, numbers: &[u64]) -> Result<(), Fault> {
         match numbers {
             [nodes, limit, latency, byte_time] => {
                 self.nodes = byte_of(*nodes)?;
@@ -182,12 +182,12 @@ impl Setting {
                 self.spans = Vec::new(alloc);
                 Ok(())
             }
-            _ => Err(CaseFault::Unreadable),
+            _ => Err(Fault::Unreadable),
         }
     }
 
     /// Sets what the section says, or answers false where it says nothing of a world.
-    pub fn set(&mut self, alloc: Global, section: &Section<'_>) -> Result<bool, CaseFault> {
+    pub fn set(&mut self, alloc: Global, section: &Section<'_>) -> Result<bool, Fault> {
         let numbers = section.numbers.as_slice();
         match section.word {
             "topo" => self.set_topo(alloc, numbers)?,
@@ -203,7 +203,7 @@ impl Setting {
     }
 
     /// The topology of these numbers and lists, of all its links' latencies and spans, or why there is none.
-    pub fn topo(&self) -> Result<Result<Topo, TopoFault>, CaseFault> {
+    pub fn topo(&self) -> Result<Result<Topo, TopoFault>, Fault> {
         let links = self.links.clone()?;
         let own = self.own.clone()?;
         let spans = self.spans.clone()?;
@@ -219,15 +219,15 @@ impl Setting {
     }
 
     /// A copy of the topology, where there is one.
-    pub fn lawful_topo(&self) -> Result<Topo, CaseFault> {
+    pub fn lawful_topo(&self) -> Result<Topo, Fault> {
         match self.topo()? {
-            Ok(topo) => topo.copy().map_err(|_| CaseFault::NoMemory),
-            Err(_) => Err(CaseFault::Unreadable),
+            Ok(topo) => topo.copy().map_err(|_| Fault::NoMemory),
+            Err(_) => Err(Fault::Unreadable),
         }
     }
 
     /// The world of the topology, the sends and the samples, or why there is none.
-    pub fn listed_world(&self) -> Result<Result<ListWorld, WorldFault>, CaseFault> {
+    pub fn listed_world(&self) -> Result<Result<ListWorld, WorldFault>, Fault> {
         let topo = self.lawful_topo()?;
         let sends = self.sends.clone()?;
         let asks = self.asks.clone()?;
@@ -235,7 +235,7 @@ impl Setting {
     }
 
     /// The world, where there is one.
-    pub fn world(&self) -> Result<ListWorld, CaseFault> {
-        self.listed_world()?.map_err(|_| CaseFault::Unreadable)
+    pub fn world(&self) -> Result<ListWorld, Fault> {
+        self.listed_world()?.map_err(|_| Fault::Unreadable)
     }
 }

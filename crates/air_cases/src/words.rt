@@ -1,5 +1,5 @@
 // The words of a case file.
-use crate::CaseFault;
+use crate::Fault;
 use std::alloc::Global;
 
 /// A word of the file, and the numbers that stand behind it.
@@ -12,8 +12,8 @@ pub struct Section<'l> {
 }
 
 /// A number that is to be one of a byte.
-pub fn byte_of(n: u64) -> Result<u8, CaseFault> {
-    u8::try_from(n).map_err(|_| CaseFault::Unreadable)
+pub fn byte_of(n: u64) -> Result<u8, Fault> {
+    u8::try_from(n).map_err(|_| Fault::Unreadable)
 }
 
 // The number that a word is: decimal, or hexadecimal behind `0x`.
@@ -30,7 +30,7 @@ fn is_gap(c: char) -> bool {
 }
 
 // Puts a word behind the sections before it.
-fn add<'l>(alloc: Global, sections: &mut Vec<Section<'l>>, word: &'l str) -> Result<(), CaseFault> {
+fn add<'l>(alloc: Global, sections: &mut Vec<Section<'l>>, word: &'l str) -> Result<(), Fault> {
     let Some(n) = number(word) else {
         sections.push(Section {
             word,
@@ -43,13 +43,13 @@ fn add<'l>(alloc: Global, sections: &mut Vec<Section<'l>>, word: &'l str) -> Res
             section.numbers.push(n)?;
             Ok(())
         }
-        None => Err(CaseFault::Unreadable),
+        None => Err(Fault::Unreadable),
     }
 }
 
 /// The words of a line with their numbers. What stands behind `#` says nothing, and all but letters, digits and `_`
 /// stands between two words.
-pub fn sections_of<'l>(alloc: Global, line: &'l str) -> Result<Vec<Section<'l>>, CaseFault> {
+pub fn sections_of<'l>(alloc: Global, line: &'l str) -> Result<Vec<Section<'l>>, Fault> {
     let mut sections = Vec::new(alloc);
     let text = match line.split_once('#') {
         Some((text, _)) => text,

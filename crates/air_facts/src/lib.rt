@@ -2,18 +2,16 @@
 //! or by `bench/air_cases.py`. `world_core` and `sync_core` are asked all of them.
 #![tactic(auto)]
 
-mod answer;
-mod fault;
 mod logs;
 mod plain;
 mod questions;
 mod run;
 mod setting;
 
-use case_files::{Failed, tell_run, text_of};
 use run::run_file;
 use sim_io::Sink;
 use std::fs::Files;
+use stored_cases::{Failed, tell_run, text_of};
 
 /// Asks all questions of a file, and writes how many there were; or the first line that is not as the file says.
 pub fn do_file<R: Files + AllocGlobal, O: Sink>(

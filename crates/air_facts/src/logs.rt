@@ -2,10 +2,8 @@
 ghost use Rattle.std.specs.Prelude.{◌<◌, ◌↔◌, IsTrue};
 ghost use Rattle.std.specs.List.{All};
 
-use crate::answer::Answer;
-use crate::fault::Fault;
 use crate::plain::are_inside;
-use air_cases::own_sends;
+use air_cases::{Answer, Fault, own_sends};
 use std::alloc::Global;
 use world_core::{Send, SendLog, Topo};
 

@@ -2,16 +2,14 @@
 ghost use Rattle.std.specs.Prelude.{◌≡◌, ◌↔◌, ◌≤◌, IfOk, IsTrue};
 ghost use Rattle.world_core.specs.Topology.{IsShort};
 
-use crate::answer::Answer;
-use crate::fault::Fault;
 use crate::logs::listens;
 use crate::plain::{are_inside, is_consistent};
 use crate::setting::Setting;
-use air_cases::{Section, byte_of, is_asked};
+use air_cases::{Answer, Fault, Section, byte_of, is_asked};
 use list_world::{ListWorld, heard_of};
 use std::alloc::Global;
 use sync_core::{Core, ReplayFault, Step, replay};
-use world_core::{Ask, Sampled, Topo, TopoFault, World, WorldFault};
+use world_core::{Ask, Topo, TopoFault, World, WorldFault};
 
 fn of_topo(got: Result<Topo, TopoFault>) -> Answer {
     match got {
@@ -159,14 +157,6 @@ fn leads_to(alloc: Global, setting: &Setting) -> Result<Answer, Fault> {
     }
 }
 
-fn of_sample(got: Sampled) -> Result<Answer, Fault> {
-    match got {
-        Sampled::Heard(heard) => Ok(Answer::Heard(heard)),
-        Sampled::NotYet { node, clock } => Ok(Answer::Waits(u64::from(node), clock)),
-        Sampled::NoMemory => Err(Fault::NoMemory),
-    }
-}
-
 // What a sample of the world is answered after the steps.
 fn sampled(alloc: Global, setting: &Setting, node: u8, cycle: u64) -> Result<Answer, Fault> {
     let world = setting.world.world()?;
@@ -177,7 +167,7 @@ fn sampled(alloc: Global, setting: &Setting, node: u8, cycle: u64) -> Result<Ans
         return Err(Fault::Unreadable);
     }
     match replayed(alloc, world, &setting.steps) {
-        Ok(mut core) => of_sample(core.sample(node, cycle)),
+        Ok(mut core) => Answer::of_sampled(core.sample(node, cycle)),
         Err(ReplayFault::Illegal { place }) => Ok(Answer::Illegal(place as u64)),
         Err(ReplayFault::NoMemory) => Err(Fault::NoMemory),
     }

@@ -1,7 +1,6 @@
 // What the lines of a case file have set: a topology and a world, steps, and a state.
-use crate::fault::Fault;
 use crate::logs::push;
-use air_cases::{Section, byte_of, copy_of, samples_of, send_of, sends_of};
+use air_cases::{Fault, Section, byte_of, copy_of, samples_of, send_of, sends_of};
 use std::alloc::Global;
 use sync_core::Step;
 use world_core::{Ask, Heard, Send, SendLog};

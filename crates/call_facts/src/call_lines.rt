@@ -1,6 +1,8 @@
 // One line of a file of calls.
 use crate::calling::{Faults, Stream};
+use crate::files::named_number;
 use std::alloc::{AllocError, Global};
+use stored_cases::numbers_of;
 
 /// A call: its words, and where its outside fails.
 #[derive(Drop)]
@@ -12,8 +14,6 @@ pub struct Call<'l> {
 /// What a line says.
 #[derive(Drop)]
 pub enum Line<'l> {
-    /// Nothing.
-    Comment,
     /// That the store holds a file.
     File(&'l str),
     /// That it holds a text of so many blank lines.
@@ -30,18 +30,6 @@ pub enum Line<'l> {
     Other,
 }
 
-// The numbers of a text; `None` where a word is none.
-fn numbers(alloc: Global, text: &str) -> Result<Option<Vec<u64>>, AllocError> {
-    let mut all = Vec::new(alloc);
-    for word in text.split_whitespace() {
-        match word.parse::<u64>() {
-            Ok(n) => all.push(n)?,
-            Err(_) => return Ok(None),
-        }
-    }
-    Ok(Some(all))
-}
-
 // The words of a text; `""` is the empty word.
 fn words(alloc: Global, text: &str) -> Result<Vec<&str>, AllocError> {
     let mut all = Vec::new(alloc);
@@ -53,7 +41,7 @@ fn words(alloc: Global, text: &str) -> Result<Vec<&str>, AllocError> {
 
 // `ROOM STEP FAIL ..`
 fn stream_of(alloc: Global, text: &str) -> Result<Option<Stream>, AllocError> {
-    let Some(all) = numbers(alloc, text)? else {
+    let Some(all) = numbers_of(alloc, text)? else {
         return Ok(None);
     };
     let [room, step, fail @ ..] = all.as_slice() else {
@@ -88,7 +76,7 @@ fn named_stream(alloc: Global, line: &str, name: &str) -> Result<Option<Stream>,
 
 // `call WORD .. | reads FAIL .. | out ROOM STEP FAIL .. | err ROOM STEP FAIL ..`, where what is ample is left out.
 fn read_call<'l>(alloc: Global, line: &'l str) -> Result<Line<'l>, AllocError> {
-    let Some(reads) = numbers(alloc, part(line, "reads"))? else {
+    let Some(reads) = numbers_of(alloc, part(line, "reads"))? else {
         return Ok(Line::Other);
     };
     let Some(out) = named_stream(alloc, line, "out")? else {
@@ -105,8 +93,8 @@ fn read_call<'l>(alloc: Global, line: &'l str) -> Result<Line<'l>, AllocError> {
 
 // `NAME N`
 fn read_blank(rest: &str) -> Option<Line<'_>> {
-    let (name, length) = rest.split_once(' ')?;
-    Some(Line::Blank(name, length.parse().ok()?))
+    let (name, length) = named_number(rest)?;
+    Some(Line::Blank(name, length))
 }
 
 // `NAME N TEXT`
@@ -116,11 +104,8 @@ fn read_lines(rest: &str) -> Option<Line<'_>> {
     Some(Line::Lines(name, count.parse().ok()?, text))
 }
 
-/// Reads a line.
+/// Reads what a line of a file of calls says.
 pub fn read_line<'l>(alloc: Global, line: &'l str) -> Result<Line<'l>, AllocError> {
-    if line.is_empty() || line.starts_with('#') {
-        return Ok(Line::Comment);
-    }
     if line == "statuses" {
         return Ok(Line::Statuses);
     }

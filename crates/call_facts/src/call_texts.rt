@@ -1,9 +1,9 @@
 // What is written of a call.
 use crate::calling::Outcome;
 use arrayvec::ArrayString;
-use case_files::{Digest, write_line};
 use commands::Status;
 use sim_io::{Sink, SinkFault, put_decimal, write_all};
+use stored_cases::{Digest, write_line, write_number};
 
 // Of a text of more lines than this only the first two and the last two are written, and between them a number for all
 // of it.
@@ -55,31 +55,26 @@ fn write_text<O: Sink>(name: &str, text: &[u8], out: &mut O) -> Result<(), SinkF
     Ok(())
 }
 
-fn write_status<O: Sink>(name: &str, status: u8, out: &mut O) -> Result<(), SinkFault> {
-    let mut line = ArrayString::<8>::new();
-    line.push_str(" ");
-    put_decimal(status, &mut line);
-    line.push_str("\n");
-    write_all(out, name.as_bytes())?;
-    write_all(out, line.as_str().as_bytes())
+fn write_status<O: Sink>(name: &str, status: Status, out: &mut O) -> Result<(), SinkFault> {
+    write_number(name, u64::from(status.number()), out)
 }
 
-/// The name and the number of each status.
+/// Writes the name and the number of each status.
 pub fn write_statuses<O: Sink>(out: &mut O) -> Result<(), SinkFault> {
-    write_status("Done", Status::Done.number(), out)?;
-    write_status("SinkFailed", Status::SinkFailed.number(), out)?;
-    write_status("BadWords", Status::BadWords.number(), out)?;
-    write_status("ReadFailed", Status::ReadFailed.number(), out)?;
-    write_status("BadScenario", Status::BadScenario.number(), out)?;
-    write_status("BadImage", Status::BadImage.number(), out)?;
-    write_status("NoMemory", Status::NoMemory.number(), out)?;
-    write_status("BadSource", Status::BadSource.number(), out)?;
-    write_status("BadState", Status::BadState.number(), out)
+    write_status("Done", Status::Done, out)?;
+    write_status("SinkFailed", Status::SinkFailed, out)?;
+    write_status("BadWords", Status::BadWords, out)?;
+    write_status("ReadFailed", Status::ReadFailed, out)?;
+    write_status("BadScenario", Status::BadScenario, out)?;
+    write_status("BadImage", Status::BadImage, out)?;
+    write_status("NoMemory", Status::NoMemory, out)?;
+    write_status("BadSource", Status::BadSource, out)?;
+    write_status("BadState", Status::BadState, out)
 }
 
-/// The status, the output and the error stream.
+/// Writes the status of a call, and the output and the error stream under their sizes; of a long one its first and last lines.
 pub fn write_outcome<O: Sink>(outcome: &Outcome, out: &mut O) -> Result<(), SinkFault> {
-    write_status("status", outcome.status, out)?;
+    write_number("status", u64::from(outcome.status), out)?;
     write_text("out", outcome.out.taken(), out)?;
     write_text("err", outcome.err.taken(), out)
 }

@@ -23,7 +23,7 @@ pub struct Stream {
 }
 
 impl Stream {
-    /// One that takes all.
+    /// A stream that takes all, and of which no call fails.
     pub fn ample(alloc: Global) -> Self {
         Stream {
             room: AMPLE,
@@ -53,7 +53,7 @@ pub struct Faults {
 }
 
 impl Faults {
-    /// Nowhere.
+    /// An outside that fails nowhere.
     pub fn none(alloc: Global) -> Self {
         Faults {
             reads: Vec::new(alloc),
@@ -74,7 +74,15 @@ pub struct Outcome {
     pub err: MemSink,
 }
 
-/// Makes a call with these words over what is held. It fails where there is no memory for the store and the streams.
+/// Whether two calls came to the same status, and wrote the same to both streams.
+pub fn are_same(one: &Outcome, other: &Outcome) -> bool {
+    one.status == other.status
+        && one.out.taken() == other.out.taken()
+        && one.err.taken() == other.err.taken()
+}
+
+/// Makes a call with these words over what is held, on one thread. It fails where there is no memory for the store and the
+/// streams.
 pub fn called(
     alloc: Global,
     words: &[&str],
@@ -92,7 +100,7 @@ pub fn called(
     })
 }
 
-/// Makes a call with these words where no file gets memory.
+/// Makes a call with these words where no file gets memory. It fails where there is none for the streams.
 pub fn called_without_memory(alloc: Global, words: &[&str]) -> Result<Outcome, AllocError> {
     let mut store = Starved;
     let mut out = Stream::ample(alloc).sink(alloc)?;
@@ -105,8 +113,8 @@ pub fn called_without_memory(alloc: Global, words: &[&str]) -> Result<Outcome, A
     })
 }
 
-/// Makes a call with these words over what is held, with the nodes of `run` and `make` on threads of their own. It
-/// fails where there is no memory for the store and the streams.
+/// Makes a call with these words over what is held, with the nodes of `run` and `make` on threads of their own. It fails where
+/// there is no memory for the store and the streams.
 pub fn called_on_threads<R: Threads + Wait + AllocGlobal + Sync>(
     rt: &R,
     words: &[&str],

@@ -1,5 +1,6 @@
-// One line of a case file.
+// The series of calls that a line of a case file tells.
 use std::alloc::{AllocError, Global};
+use stored_cases::words_of;
 
 /// What fails in a series of calls, one place after another.
 #[derive(Clone, Copy)]
@@ -26,29 +27,6 @@ pub struct Series<'l> {
     pub words: Vec<&'l str>,
 }
 
-/// What a line says.
-#[derive(Drop)]
-pub enum Line<'l> {
-    /// Nothing.
-    Comment,
-    /// That a file of this name follows, line by line.
-    File(&'l str),
-    /// The next line of that file.
-    Content(&'l str),
-    /// That the file of this name, which lies beside the case file, is held.
-    Copy(&'l str),
-    /// That these calls are made.
-    Series(Series<'l>),
-}
-
-fn words_of(alloc: Global, text: &str) -> Result<Vec<&str>, AllocError> {
-    let mut all = Vec::new(alloc);
-    for word in text.split_whitespace() {
-        all.push(word)?;
-    }
-    Ok(all)
-}
-
 fn place_of<'l>(words: &[&'l str]) -> Option<Place<'l>> {
     match words {
         ["reads"] => Some(Place::Read),
@@ -63,8 +41,8 @@ fn place_of<'l>(words: &[&'l str]) -> Option<Place<'l>> {
     }
 }
 
-// `PLACE: WORD ..`
-fn read_series(alloc: Global, line: &str) -> Result<Option<Line<'_>>, AllocError> {
+/// The series of a line `PLACE: WORD ..`; `None` where it is no such line.
+pub fn read_series(alloc: Global, line: &str) -> Result<Option<Series<'_>>, AllocError> {
     let Some((place, words)) = line.split_once(':') else {
         return Ok(None);
     };
@@ -73,20 +51,5 @@ fn read_series(alloc: Global, line: &str) -> Result<Option<Line<'_>>, AllocError
         return Ok(None);
     };
     let words = words_of(alloc, words)?;
-    Ok(Some(Line::Series(Series { place, words })))
-}
-
-/// Reads a line; `None` where it is none.
-pub fn read_line(alloc: Global, line: &str) -> Result<Option<Line<'_>>, AllocError> {
-    if line.is_empty() || line.starts_with('#') {
-        return Ok(Some(Line::Comment));
-    }
-    if let Some(content) = line.strip_prefix('|') {
-        return Ok(Some(Line::Content(content)));
-    }
-    match line.split_once(' ') {
-        Some(("file", name)) => Ok(Some(Line::File(name))),
-        Some(("copy", name)) => Ok(Some(Line::Copy(name))),
-        _ => read_series(alloc, line),
-    }
+    Ok(Some(Series { place, words }))
 }

@@ -10,14 +10,14 @@ pub struct Held {
 }
 
 impl Held {
-    /// No file.
+    /// Holds no file.
     pub fn none(alloc: Global) -> Self {
         Held {
             files: Vec::new(alloc),
         }
     }
 
-    /// Holds one more. Of two files of one name the first is read.
+    /// Holds a file of this name. Of two files of one name the first is read.
     pub fn add(&mut self, alloc: Global, name: &str, bytes: Vec<u8>) -> Result<(), AllocError> {
         let name = String::from_str(alloc, name)?;
         self.files.push((name, bytes))?;
@@ -69,7 +69,7 @@ impl Held {
         None
     }
 
-    /// A copy of the files, of which each of this name has its first bytes alone, at most `length` of them.
+    /// A copy, in which each file of this name has its first bytes alone, this many at most.
     pub fn cut(&self, alloc: Global, name: &str, length: usize) -> Result<Held, AllocError> {
         let mut files = Vec::new(alloc);
         for (held, bytes) in self.files.iter() {
@@ -85,7 +85,7 @@ impl Held {
         Ok(Held { files })
     }
 
-    /// A copy of the files.
+    /// A copy, in which each file has all its bytes.
     pub fn copy(&self, alloc: Global) -> Result<Held, AllocError> {
         let mut copy = Held::none(alloc);
         for (name, bytes) in self.files.iter() {
@@ -95,7 +95,7 @@ impl Held {
         Ok(copy)
     }
 
-    /// A store of them, of which the reads with these numbers fail, from 0.
+    /// A store of the files that are held, of which the reads with these numbers fail, from 0.
     pub fn store(&self, alloc: Global, fail: &[u64]) -> Result<MemStore, AllocError> {
         let mut files = Vec::new(alloc);
         for (name, bytes) in self.files.iter() {

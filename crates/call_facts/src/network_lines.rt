@@ -1,4 +1,4 @@
-// One line of a case file.
+// The run that a line of a case file tells.
 
 /// Where a run's read or stream fails.
 #[derive(Clone, Copy)]
@@ -13,28 +13,6 @@ pub enum Limits {
     Err(usize),
 }
 
-/// What a line says.
-#[derive(Clone, Copy)]
-pub enum Line<'l> {
-    /// Nothing.
-    Comment,
-    /// That a file of this name follows, line by line.
-    File(&'l str),
-    /// The next line of that file.
-    Content(&'l str),
-    /// That the file of this name, which lies beside the case file, is held.
-    Copy(&'l str),
-    /// That a file of so many blank lines is held.
-    Blank(&'l str, usize),
-    /// That this scenario is run.
-    Run(&'l str, Limits),
-}
-
-fn read_blank(rest: &str) -> Option<Line<'_>> {
-    let (name, length) = rest.split_once(' ')?;
-    Some(Line::Blank(name, length.parse::<usize>().ok()?))
-}
-
 // `KIND N`
 fn read_limits(rest: &str) -> Option<Limits> {
     let (kind, number) = rest.split_once(' ')?;
@@ -47,27 +25,11 @@ fn read_limits(rest: &str) -> Option<Limits> {
     }
 }
 
-// `NAME` or `NAME KIND N`
-fn read_run(rest: &str) -> Option<Line<'_>> {
-    match rest.split_once(' ') {
-        None => Some(Line::Run(rest, Limits::Ample)),
-        Some((name, limits)) => Some(Line::Run(name, read_limits(limits)?)),
-    }
-}
-
-/// Reads a line; `None` where it is none.
-pub fn read_line(line: &str) -> Option<Line<'_>> {
-    if line.is_empty() || line.starts_with('#') {
-        return Some(Line::Comment);
-    }
-    if let Some(content) = line.strip_prefix('|') {
-        return Some(Line::Content(content));
-    }
-    match line.split_once(' ')? {
-        ("file", name) => Some(Line::File(name)),
-        ("copy", name) => Some(Line::Copy(name)),
-        ("blank", rest) => read_blank(rest),
-        ("run", rest) => read_run(rest),
-        _ => None,
+/// The scenario that a line `run NAME` or `run NAME KIND N` runs, and where that fails; `None` where it is no such line.
+pub fn read_run(line: &str) -> Option<(&str, Limits)> {
+    let run = line.strip_prefix("run ")?;
+    match run.split_once(' ') {
+        None => Some((run, Limits::Ample)),
+        Some((name, limits)) => Some((name, read_limits(limits)?)),
     }
 }

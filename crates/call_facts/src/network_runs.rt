@@ -17,7 +17,7 @@ fn faults_of(alloc: Global, limits: Limits) -> Result<Faults, AllocError> {
     Ok(faults)
 }
 
-/// Runs these words over what is held.
+/// Makes a call with these words over what is held, of which a read or a stream fails.
 pub fn made<R: Threads + Wait + AllocGlobal + Sync>(
     rt: &R,
     words: &[&str],

@@ -1,17 +1,7 @@
 // What is written of a run.
-use crate::calling::Outcome;
-use arrayvec::ArrayString;
-use sim_io::{Sink, SinkFault, put_decimal, write_all};
-
-// `NAME N`
-fn write_number<O: Sink>(name: &str, number: u64, out: &mut O) -> Result<(), SinkFault> {
-    let mut line = ArrayString::<32>::new();
-    line.push_str(" ");
-    put_decimal(number, &mut line);
-    line.push_str("\n");
-    write_all(out, name.as_bytes())?;
-    write_all(out, line.as_str().as_bytes())
-}
+use crate::calling::{Outcome, are_same};
+use sim_io::{Sink, SinkFault, write_all};
+use stored_cases::write_number;
 
 // How many bytes a stream took, and what they are; a last line that has no end gets one.
 fn write_stream<O: Sink>(name: &str, taken: &[u8], out: &mut O) -> Result<(), SinkFault> {
@@ -24,23 +14,20 @@ fn write_stream<O: Sink>(name: &str, taken: &[u8], out: &mut O) -> Result<(), Si
     }
 }
 
-/// The status, the output and the error stream.
+/// Writes the status of a run, and all of the output and of the error stream behind their lengths.
 pub fn write_outcome<O: Sink>(outcome: &Outcome, out: &mut O) -> Result<(), SinkFault> {
     write_number("status", u64::from(outcome.status), out)?;
     write_stream("out", outcome.out.taken(), out)?;
     write_stream("err", outcome.err.taken(), out)
 }
 
-/// The outcome of `run --plain`, where it is another than that of `run`.
+/// Writes whether the outcome of `run --plain` is that of `run`, and where it is not, what it is.
 pub fn write_plain<O: Sink>(
     outcome: &Outcome,
     plain: &Outcome,
     out: &mut O,
 ) -> Result<(), SinkFault> {
-    let same = plain.status == outcome.status
-        && plain.out.taken() == outcome.out.taken()
-        && plain.err.taken() == outcome.err.taken();
-    if same {
+    if are_same(outcome, plain) {
         return write_all(out, b"plain: the same\n");
     }
     write_all(out, b"plain: another\n")?;

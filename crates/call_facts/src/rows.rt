@@ -13,7 +13,7 @@ pub struct Rows {
 }
 
 impl Rows {
-    /// No call.
+    /// The rows of no call.
     pub fn new(alloc: Global) -> Self {
         Rows {
             first: 0,
@@ -22,7 +22,7 @@ impl Rows {
         }
     }
 
-    /// One call more, with its number and what it came to.
+    /// Adds a call, with its number and what it came to, and writes the row above it where that is complete.
     pub fn add<O: Sink>(
         &mut self,
         number: u64,

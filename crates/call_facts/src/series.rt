@@ -6,11 +6,11 @@ use crate::held::Held;
 use crate::rows::Rows;
 use crate::shown::Due;
 use crate::trying::{Told, tried};
-use case_files::Failed;
 use sim_io::Sink;
 use std::alloc::{AllocError, Global};
 use std::sync::Wait;
 use std::thread::Threads;
+use stored_cases::Failed;
 
 // No series has more calls.
 const MOST_CALLS: u64 = 100_000;

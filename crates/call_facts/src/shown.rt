@@ -1,9 +1,9 @@
 // What is told of a call.
 use crate::calling::Outcome;
 use arrayvec::ArrayString;
-use case_files::Digest;
 use sim_io::put_decimal;
 use std::alloc::{AllocError, Global};
+use stored_cases::Digest;
 
 /// What a call is to write where nothing fails, to the stream that may fail.
 #[derive(Clone, Copy)]
@@ -56,7 +56,7 @@ fn put_err(taken: &[u8], due: Due<'_>, text: &mut Vec<u8>) -> Result<(), AllocEr
     Ok(())
 }
 
-/// `status N, out .., err ..`
+/// What is told of a call, `status N, out .., err ..`: how much of what is due each stream took, or what it took.
 pub fn text_of(alloc: Global, outcome: &Outcome, due: Due<'_>) -> Result<Vec<u8>, AllocError> {
     let mut text = Vec::new(alloc);
     let mut status = ArrayString::<32>::new();

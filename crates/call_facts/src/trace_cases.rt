@@ -1,11 +1,11 @@
-// Traces of whole nodes, one after another: for each line FILE CYCLES of a text file the trace of `node FILE CYCLES`,
-// under a line that names it.
-use case_files::{Failed, text_of};
+// Traces of whole nodes, one after another: for each line FILE CYCLES of a text file the trace of `node FILE CYCLES`, under a
+// line that names it.
 use commands::{Status, avrora_alone};
 use memory_io::MemSink;
 use sim_io::{DirStore, Sink, SinkFault, write_all};
 use std::alloc::Global;
 use std::fs::Files;
+use stored_cases::{Failed, is_told, text_of, write_line};
 
 // More bytes than the line on the error stream has.
 const AMPLE: usize = 1_000;
@@ -15,8 +15,7 @@ fn write_heading<O: Sink>(file: &str, cycles: &str, out: &mut O) -> Result<(), S
     write_all(out, b"== ")?;
     write_all(out, file.as_bytes())?;
     write_all(out, b" ")?;
-    write_all(out, cycles.as_bytes())?;
-    write_all(out, b"\n")
+    write_line(cycles, out)
 }
 
 // One run over the real files, under its heading. It fails where the run does not end well.
@@ -44,7 +43,8 @@ fn quiet(alloc: Global) -> Result<MemSink, Failed> {
     }
 }
 
-/// Does a file of runs, line after line, up to the first run that does not end well or the first line that is none.
+/// Writes the traces of a file of runs of one node, line after line, up to the first run that does not end well or the first
+/// line that is none.
 pub fn do_traces<R: Files + AllocGlobal, O: Sink>(
     rt: &R,
     name: &str,
@@ -52,7 +52,7 @@ pub fn do_traces<R: Files + AllocGlobal, O: Sink>(
 ) -> Result<(), Failed> {
     let text = text_of(rt, name)?;
     for line in text.as_str().lines() {
-        if line.is_empty() || line.starts_with('#') {
+        if !is_told(line) {
             continue;
         }
         match line.split_once(' ') {

@@ -1,5 +1,5 @@
 // A call, and what is told of it.
-use crate::calling::{Faults, Outcome, called, called_on_threads};
+use crate::calling::{Faults, Outcome, are_same, called, called_on_threads};
 use crate::held::Held;
 use crate::shown::{Due, text_of};
 use std::alloc::{AllocError, Global};
@@ -15,13 +15,7 @@ pub struct Told {
     pub text: Vec<u8>,
 }
 
-fn are_same(one: &Outcome, other: &Outcome) -> bool {
-    one.status == other.status
-        && one.out.taken() == other.out.taken()
-        && one.err.taken() == other.err.taken()
-}
-
-// What `run FILE` comes to on one thread. `None` for any other call, which cannot be asked for so.
+// The call on one thread, where it can be asked for.
 fn plain(
     alloc: Global,
     words: &[&str],
@@ -34,8 +28,7 @@ fn plain(
     }
 }
 
-/// Makes a call, with each node of `run FILE` on a thread of its own. It is told to be another on one thread where it
-/// is.
+/// Makes a call, with each node of `run FILE` on a thread of its own. It is told to be another on one thread where it is.
 pub fn tried<R: Threads + Wait + AllocGlobal + Sync>(
     rt: &R,
     words: &[&str],

@@ -4,7 +4,6 @@
 //! with its exit status.
 #![tactic(auto)]
 
-use case_files::{Failed, write_line};
 use commands::run_program;
 use sim_io::{Sink, StdSink, write_all};
 use std::env::{self, Env};
@@ -13,6 +12,7 @@ use std::io;
 use std::process::ExitCode;
 use std::sync::Wait;
 use std::thread::Threads;
+use stored_cases::{Failed, write_line};
 
 // A file of cases of a node's parts.
 fn do_parts<R: Files + AllocGlobal, O: Sink>(
@@ -47,7 +47,7 @@ fn do_air<R: Threads + Wait + Files + AllocGlobal + Sync, O: Sink>(
         "air" => air_facts::do_file(rt, file, out),
         "record" => record_facts::do_record(rt, file, out),
         "sessions" => record_facts::do_sessions(rt, file, out),
-        "trials" => air_trials::do_trial(rt, file, out),
+        "trials" => sync_facts::do_trial(rt, file, out),
         _ => do_parts(rt, kind, file, out),
     }
 }

@@ -4,7 +4,7 @@ use avr_timers::TimerFlags;
 use board_io::Sleep;
 use std::alloc::{AllocError, Global};
 
-/// An answer.
+/// What a device answers to a line.
 #[derive(Clone, Copy)]
 pub enum Answer {
     /// That it is done.
@@ -30,7 +30,7 @@ pub enum Answer {
 }
 
 impl Answer {
-    /// Done, or the stop.
+    /// The answer to a write: that it is done, or the stop.
     pub fn of_put(put: Result<(), StopCause>) -> Self {
         match put {
             Ok(()) => Answer::Done,
@@ -38,7 +38,7 @@ impl Answer {
         }
     }
 
-    /// The byte, or the stop.
+    /// The answer to a read: the byte, or the stop.
     pub fn of_get(got: Result<u8, StopCause>) -> Self {
         match got {
             Ok(b) => Answer::Byte(b),
@@ -46,7 +46,7 @@ impl Answer {
         }
     }
 
-    /// A number, or that there is none.
+    /// A number as an answer, or that there is none.
     pub fn perhaps(number: Option<u64>) -> Self {
         match number {
             Some(n) => Answer::Number(n),
@@ -54,7 +54,7 @@ impl Answer {
         }
     }
 
-    /// A byte, or that there is none.
+    /// A byte as an answer, or that there is none.
     pub fn perhaps_byte(byte: Option<u8>) -> Self {
         match byte {
             Some(b) => Answer::Byte(b),
@@ -73,7 +73,7 @@ fn flags_text(alloc: Global, flags: TimerFlags) -> Result<String, AllocError> {
     format!(in alloc; "flags{over}{a}{b}{c}{icr}")
 }
 
-/// The text that a line gives.
+/// The text of an answer, as a line has it behind ` gives `.
 pub fn text_of(alloc: Global, answer: Answer) -> Result<String, AllocError> {
     match answer {
         Answer::Done => String::from_str(alloc, "done"),

@@ -9,18 +9,8 @@ use crate::timers::{do_timer8, do_timer16};
 use crate::transfers::do_spi;
 use avr_timers::{Prescaler, Timer8, Timer16};
 use serial_ports::{Radio, Spi, Usart};
-use std::alloc::{AllocError, Global};
-
-/// What a line comes to.
-#[derive(Clone, Copy)]
-pub enum Verdict {
-    /// It is empty, or a comment.
-    Comment,
-    /// What it says is what the device answers.
-    Right,
-    /// It is not, or the line is none of the forms.
-    Wrong,
-}
+use std::alloc::Global;
+use stored_cases::{Failed, Judge, Verdict, is_told, words_of};
 
 /// One device of each kind, and a timer of each kind that was kept.
 #[derive(Drop)]
@@ -38,7 +28,7 @@ pub struct Bench {
 }
 
 impl Bench {
-    /// All at reset.
+    /// A bench whose devices are all at reset.
     pub fn new(alloc: Global) -> Self {
         Bench {
             alloc,
@@ -91,22 +81,18 @@ impl Bench {
     }
 }
 
-/// Does what a line says, `DEVICE WORD .. gives ANSWER`. Without an answer it is to be done.
-pub fn judge(alloc: Global, bench: &mut Bench, line: &str) -> Result<Verdict, AllocError> {
-    if line.is_empty() || line.starts_with('#') {
-        return Ok(Verdict::Comment);
-    }
-    let (does, gives) = line.split_once(" gives ").unwrap_or((line, "done"));
-    let mut words = Vec::new(alloc);
-    for word in does.split_whitespace() {
-        words.push(word)?;
-    }
-    let Some(answer) = bench.answer(words.as_slice()) else {
-        return Ok(Verdict::Wrong);
-    };
-    if text_of(alloc, answer)?.as_str() == gives {
-        Ok(Verdict::Right)
-    } else {
-        Ok(Verdict::Wrong)
+impl Judge for Bench {
+    /// Does what a line says, `DEVICE WORD .. gives ANSWER`. Without an answer it is to be done. A line that does nothing is a
+    /// wrong one.
+    fn judge(&mut self, alloc: Global, line: &str) -> Result<Verdict, Failed> {
+        if !is_told(line) {
+            return Ok(Verdict::NoCase);
+        }
+        let (does, gives) = line.split_once(" gives ").unwrap_or((line, "done"));
+        let words = words_of(alloc, does)?;
+        let Some(answer) = self.answer(words.as_slice()) else {
+            return Ok(Verdict::Wrong);
+        };
+        Ok(Verdict::of(text_of(alloc, answer)?.as_str() == gives))
     }
 }

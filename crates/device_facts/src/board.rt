@@ -33,7 +33,7 @@ pub struct CoreAndBoard {
 }
 
 impl CoreAndBoard {
-    /// Both at reset.
+    /// A core and a board at reset.
     pub fn new() -> Self {
         CoreAndBoard {
             cpu: Cpu::default(),
@@ -146,7 +146,7 @@ fn is_asked(what: &str) -> bool {
     matches!(what, "lines" | "enter" | "sleep" | "selected")
 }
 
-/// The board.
+/// What a line does to the board, and its answer; `None` where it is none of the forms.
 pub fn do_board(devices: &mut CoreAndBoard, words: &[&str]) -> Option<Answer> {
     match words {
         ["new"] => {

@@ -59,7 +59,7 @@ fn do_clock(words: &[&str]) -> Option<Answer> {
     }
 }
 
-/// Counters and prescaled clocks.
+/// What a line asks of counters and prescaled clocks; `None` where it is none of the forms.
 pub fn do_clocks(words: &[&str]) -> Option<Answer> {
     match do_counter(words) {
         Some(answer) => Some(answer),
@@ -74,7 +74,7 @@ fn vector(found: Option<Vector>) -> Answer {
     }
 }
 
-/// Which interrupt waits on these lines.
+/// Which interrupt waits on the lines that a line has; `None` where it is none of the form.
 pub fn do_interrupts(words: &[&str]) -> Option<Answer> {
     match words {
         ["pending", bits] => Some(vector(pending(Lines { bits: long(bits)? }))),

@@ -28,7 +28,7 @@ impl Model for NodeBoard {
 }
 
 impl NodeBoard {
-    /// At reset, in cycle 0.
+    /// A board at reset, in cycle 0.
     pub fn new() -> Self {
         NodeBoard {
             board: LaggingBoard::new(512),
@@ -90,7 +90,7 @@ impl NodeBoard {
     }
 }
 
-/// The board as a node runs it.
+/// What a line does to the board as a node runs it, and its answer; `None` where it is none of the forms.
 pub fn do_lagging(node: &mut NodeBoard, words: &[&str]) -> Option<Answer> {
     match words {
         ["new"] => {

@@ -14,31 +14,16 @@ mod serial;
 mod timers;
 mod transfers;
 
-use bench::{Bench, Verdict, judge};
-use case_files::{Failed, Tally, tell_wrong, text_of};
+use bench::Bench;
 use sim_io::Sink;
 use std::fs::Files;
+use stored_cases::{Failed, judge_file};
 
-/// The lines of one file, on devices at reset. A line that does nothing is a wrong one.
+/// Judges the lines of one file on devices at reset, and writes how many there were and each that is wrong.
 pub fn do_file<R: Files + AllocGlobal, O: Sink>(
     rt: &R,
     file: &str,
     out: &mut O,
 ) -> Result<(), Failed> {
-    let text = text_of(rt, file)?;
-    let mut bench = Bench::new(rt.alloc());
-    let mut tally = Tally::none();
-    let mut number: u64 = 0;
-    for line in text.as_str().lines() {
-        number = number.saturating_add(1);
-        match judge(rt.alloc(), &mut bench, line)? {
-            Verdict::Comment => {}
-            Verdict::Right => tally.count(true),
-            Verdict::Wrong => {
-                tally.count(false);
-                tell_wrong(rt.alloc(), file, number, "wrong", line, out)?;
-            }
-        }
-    }
-    tally.tell(rt.alloc(), file, out)
+    judge_file(rt, file, &mut Bench::new(rt.alloc()), out)
 }

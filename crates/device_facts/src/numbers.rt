@@ -1,23 +1,14 @@
 // Numbers as the lines write them.
 ghost use Rattle.std.specs.Prelude.{◌<◌, ◌^◌, IfSome};
 
-fn digit(c: u8) -> Option<u8> {
-    match c {
-        b'0'..=b'9' => Some(c - b'0'),
-        b'A'..=b'F' => Some(c - b'A' + 10),
-        _ => None,
-    }
-}
+use stored_cases::hex_pair;
 
-/// A byte of two hexadecimal digits.
+/// The byte that a word of two hexadecimal digits is.
 pub fn byte(word: &str) -> Option<u8> {
-    let [high, low] = word.as_bytes() else {
-        return None;
-    };
-    Some(digit(*high)?.wrapping_mul(16).wrapping_add(digit(*low)?))
+    hex_pair(word.as_bytes())
 }
 
-/// An address of four hexadecimal digits.
+/// The address that a word of four hexadecimal digits is.
 pub fn address(word: &str) -> Option<u16> {
     let (high, low) = word.split_at_checked(2)?;
     Some(
@@ -27,12 +18,12 @@ pub fn address(word: &str) -> Option<u16> {
     )
 }
 
-/// A decimal number of 16 bits.
+/// The number below 2^16 that a word is, in decimal digits.
 pub fn short(word: &str) -> Option<u16> {
     word.parse().ok()
 }
 
-/// A decimal number of 32 bits, as a cycle is.
+/// The number below 2^32 that a word is, in decimal digits, as a cycle is.
 pub fn cycle(word: &str) -> Option<u64>
     // so cycles and their sums meet what the devices ask of them
     ensures { IfSome result (λ n. n < 2 ^ 32) }
@@ -41,12 +32,12 @@ pub fn cycle(word: &str) -> Option<u64>
     Some(u64::from(n))
 }
 
-/// A decimal number of 64 bits.
+/// The number below 2^64 that a word is, in decimal digits.
 pub fn long(word: &str) -> Option<u64> {
     word.parse().ok()
 }
 
-/// A decimal number, or `none`.
+/// The number below 2^64 that a word is, or that it is `none`.
 pub fn perhaps(word: &str) -> Option<Option<u64>> {
     if word == "none" {
         return Some(None);

@@ -45,7 +45,7 @@ fn heard(status: &str, b: &str, age: &str) -> Option<Heard> {
     })
 }
 
-/// The radio.
+/// What a line does to the radio, and its answer; `None` where it is none of the forms.
 pub fn do_radio(radio: &mut Radio, words: &[&str]) -> Option<Answer> {
     match words {
         ["new", byte_time] => {

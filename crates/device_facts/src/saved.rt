@@ -44,7 +44,7 @@ fn prescaler(which: &str) -> Option<Prescaler> {
     }
 }
 
-/// A timer of eight bits.
+/// What comes of `restore`, `outside` or `numbers` with the numbers of a saved timer of eight bits; `None` of another line.
 pub fn saved_timer8(timer: &mut Timer8, words: &[&str]) -> Option<Answer> {
     match words {
         ["restore", which, numbers @ ..] => {
@@ -59,7 +59,7 @@ pub fn saved_timer8(timer: &mut Timer8, words: &[&str]) -> Option<Answer> {
     }
 }
 
-/// A timer of sixteen bits.
+/// What comes of `restore`, `outside` or `numbers` with the numbers of a saved timer of sixteen bits; `None` of another line.
 pub fn saved_timer16(timer: &mut Timer16, words: &[&str]) -> Option<Answer> {
     match words {
         ["restore", numbers @ ..] => Some(taken(timer, Timer16::from_numbers(&all(numbers)?))),
@@ -69,7 +69,7 @@ pub fn saved_timer16(timer: &mut Timer16, words: &[&str]) -> Option<Answer> {
     }
 }
 
-/// USART0.
+/// What comes of `restore`, `outside` or `numbers` with the numbers of a saved USART0; `None` of another line.
 pub fn saved_usart(port: &mut Usart, words: &[&str]) -> Option<Answer> {
     match words {
         ["restore", at, numbers @ ..] => {
@@ -82,7 +82,7 @@ pub fn saved_usart(port: &mut Usart, words: &[&str]) -> Option<Answer> {
     }
 }
 
-/// The SPI.
+/// What comes of `restore`, `outside` or `numbers` with the numbers of a saved SPI; `None` of another line.
 pub fn saved_spi(port: &mut Spi, words: &[&str]) -> Option<Answer> {
     match words {
         ["restore", at, numbers @ ..] => {
@@ -103,7 +103,7 @@ fn made_radio(byte_time: u16, numbers: &[u64; 5]) -> Option<Radio> {
     Radio::from_numbers(u64::from(byte_time), numbers)
 }
 
-/// The radio.
+/// What comes of `restore`, `outside` or `numbers` with the numbers of a saved radio; `None` of another line.
 pub fn saved_radio(radio: &mut Radio, words: &[&str]) -> Option<Answer> {
     match words {
         ["restore", byte_time, numbers @ ..] => {

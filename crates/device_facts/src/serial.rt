@@ -38,7 +38,7 @@ fn line(port: &Usart, name: &str) -> Option<Answer> {
     }
 }
 
-/// USART0.
+/// What a line does to USART0, and its answer; `None` where it is none of the forms.
 pub fn do_usart(port: &mut Usart, words: &[&str]) -> Option<Answer> {
     match words {
         ["new"] => {
@@ -68,7 +68,8 @@ fn three(alloc: Global, at: u64, every: u16) -> Option<Script> {
     Some(Script::new(at, u64::from(every), bytes))
 }
 
-/// A script: the cycle of its first byte, and how many cycles one comes after another.
+/// What a script of three bytes brings, of which a line has the cycle of the first, and how many cycles one comes after
+/// another; `None` where the line is none of the forms.
 pub fn do_script(alloc: Global, words: &[&str]) -> Option<Answer> {
     match words {
         [at, every, "byte", c] => {

@@ -50,7 +50,7 @@ fn ticks8(timer: &mut Timer8, from: &str, n: &str) -> Option<Answer> {
     Some(Answer::Done)
 }
 
-/// A timer of eight bits.
+/// What a line does to a timer of eight bits, and its answer; `None` where it is none of the forms.
 pub fn do_timer8(timer: &mut Timer8, words: &[&str]) -> Option<Answer> {
     match words {
         ["new", which] => {
@@ -101,7 +101,7 @@ fn ticks16(timer: &mut Timer16, from: &str, n: &str) -> Option<Answer> {
     Some(Answer::Done)
 }
 
-/// A timer of sixteen bits.
+/// What a line does to a timer of sixteen bits, and its answer; `None` where it is none of the forms.
 pub fn do_timer16(timer: &mut Timer16, words: &[&str]) -> Option<Answer> {
     match words {
         ["new"] => {

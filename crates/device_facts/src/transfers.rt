@@ -30,7 +30,7 @@ fn enter(port: &mut Spi) -> Answer {
     Answer::Truth(asks)
 }
 
-/// The SPI.
+/// What a line does to the SPI, and its answer; `None` where it is none of the forms.
 pub fn do_spi(port: &mut Spi, words: &[&str]) -> Option<Answer> {
     match words {
         ["new"] => {

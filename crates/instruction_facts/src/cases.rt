@@ -14,39 +14,7 @@ use crate::texts::{
 use avr_base::Sreg;
 use ihex_loader::{Flash, flash_of};
 use std::alloc::{AllocError, Global};
-
-/// What a line comes to.
-#[derive(Clone, Copy)]
-pub enum Verdict {
-    /// A comment, an empty line, or a part of the machine.
-    NoCase,
-    /// What the case says is what is given.
-    Right,
-    /// It is not.
-    Wrong,
-    /// The line is none of the forms.
-    Unread,
-}
-
-impl Verdict {
-    fn of(right: bool) -> Self {
-        if right {
-            Verdict::Right
-        } else {
-            Verdict::Wrong
-        }
-    }
-
-    /// As the report says it.
-    pub fn word(self) -> &'static str {
-        match self {
-            Verdict::NoCase => "no case",
-            Verdict::Right => "right",
-            Verdict::Wrong => "wrong",
-            Verdict::Unread => "not read",
-        }
-    }
-}
+use stored_cases::{Failed, Judge, Verdict, is_told};
 
 /// The machine on which the cases run that stand below.
 #[derive(Drop)]
@@ -291,22 +259,24 @@ fn judge_case(
     Ok(judge_rule(what, numbers.as_slice(), gives))
 }
 
-/// Judges one line, and keeps it where it is a part of the machine.
-pub fn judge(alloc: Global, bench: &mut Bench, line: &str) -> Result<Verdict, AllocError> {
-    if line.is_empty() || line.starts_with('#') {
-        return Ok(Verdict::NoCase);
-    }
-    match line.split_once(" gives ") {
-        Some((given, gives)) => {
-            let verdict = match front(given) {
-                ("image", text) => judge_image(alloc, bench, text, gives)?,
-                _ => judge_case(alloc, bench, given, gives)?,
-            };
-            Ok(verdict.unwrap_or(Verdict::Unread))
+impl Judge for Bench {
+    /// Judges one line, `CASE gives ANSWER`, or keeps one that is a part of the machine for those below it.
+    fn judge(&mut self, alloc: Global, line: &str) -> Result<Verdict, Failed> {
+        if !is_told(line) {
+            return Ok(Verdict::NoCase);
         }
-        None => match bench.set(alloc, line)? {
-            Some(()) => Ok(Verdict::NoCase),
-            None => Ok(Verdict::Unread),
-        },
+        match line.split_once(" gives ") {
+            Some((given, gives)) => {
+                let verdict = match front(given) {
+                    ("image", text) => judge_image(alloc, self, text, gives)?,
+                    _ => judge_case(alloc, self, given, gives)?,
+                };
+                Ok(verdict.unwrap_or(Verdict::Unread))
+            }
+            None => match self.set(alloc, line)? {
+                Some(()) => Ok(Verdict::NoCase),
+                None => Ok(Verdict::Unread),
+            },
+        }
     }
 }

@@ -16,7 +16,7 @@ pub struct Report {
 }
 
 impl Report {
-    /// `stop`, `sleep` (of one cycle), or a number.
+    /// The report that a word tells: `stop`, `sleep` (of one cycle), or a number.
     pub fn read(word: &str) -> Option<Self> {
         if word == "stop" {
             return Some(STOP);
@@ -52,7 +52,7 @@ fn of_stop(cause: StopCause) -> Option<Report> {
     }
 }
 
-/// The instruction of a word and the word behind it, where it is of the class that `class` names.
+/// Executes the instruction of a word and the word behind it, where it is of the class that `class` names.
 pub fn execute(
     class: &str,
     word: u16,
@@ -85,7 +85,7 @@ pub fn execute(
     }
 }
 
-/// A store, and then a load at the same address: both stop, or the byte that was loaded.
+/// Stores a byte, and loads it again: the report is the byte that was loaded, or that both stop.
 pub fn keep(at: u16, byte: u8, m: &mut Machine) -> Option<Report> {
     let stored = store(&mut m.cpu, &mut m.memory, at, byte);
     match load(&mut m.cpu, &mut m.memory, at) {
@@ -95,7 +95,7 @@ pub fn keep(at: u16, byte: u8, m: &mut Machine) -> Option<Report> {
     }
 }
 
-/// A push, which reports 0.
+/// Pushes a byte: the report is 0, or a stop.
 pub fn push_byte(byte: u8, m: &mut Machine) -> Option<Report> {
     match push(&mut m.cpu, &mut m.memory, byte) {
         Ok(()) => Some(of_number(0)),
@@ -103,7 +103,7 @@ pub fn push_byte(byte: u8, m: &mut Machine) -> Option<Report> {
     }
 }
 
-/// A pop, which reports its byte.
+/// Pops a byte: the report is the byte, or a stop.
 pub fn pop_byte(m: &mut Machine) -> Option<Report> {
     match pop(&mut m.cpu, &mut m.memory) {
         Ok(byte) => Some(of_number(u16::from(byte))),
@@ -111,21 +111,21 @@ pub fn pop_byte(m: &mut Machine) -> Option<Report> {
     }
 }
 
-/// A byte put into register `d`, and read back.
+/// Puts a byte into register `d`, and reads it back; `None` where there is no such register.
 pub fn keep_in_register(d: u8, byte: u8, m: &mut Machine) -> Option<Report> {
     let d = Reg::new(d)?;
     m.cpu.set_reg(d, byte);
     Some(of_number(u16::from(m.cpu.reg(d))))
 }
 
-/// A word put into the pair of register `d`, and read back.
+/// Puts a word into the pair of register `d`, and reads it back; `None` where there is no such register.
 pub fn keep_in_pair(d: u8, word: u16, m: &mut Machine) -> Option<Report> {
     let d = Reg::new(d)?;
     m.cpu.set_pair(d, word);
     Some(of_number(m.cpu.pair(d)))
 }
 
-/// The program counter moved on by `words`, which reports 0.
+/// Moves the program counter on by so many words: the report is 0.
 pub fn advance(words: u16, m: &mut Machine) -> Report {
     m.cpu.advance(words);
     of_number(0)

@@ -2,7 +2,7 @@
 use arith_step::{MulKind, add, adiw, asr, com, dec, inc, logic, lsr, mul, neg, ror, sbiw, sub};
 use avr_base::Sreg;
 
-/// A rule on one byte, by its name. Of `logic`, which has no result, the result is 0.
+/// The result and the flags of a rule on one byte, by its name. Of `logic`, which has no result, the result is 0.
 pub fn on_byte(rule: &str, a: u8, s: Sreg) -> Option<(u16, Sreg)> {
     let (r, t) = match rule {
         "logic" => (0, logic(a, s)),
@@ -18,7 +18,7 @@ pub fn on_byte(rule: &str, a: u8, s: Sreg) -> Option<(u16, Sreg)> {
     Some((u16::from(r), t))
 }
 
-/// The kind of product of a name.
+/// The kind of product that has this name.
 pub fn product(name: &str) -> Option<MulKind> {
     match name {
         "mul" => Some(MulKind::Mul),

@@ -15,33 +15,19 @@ mod sweeps;
 mod texts;
 mod words;
 
-use case_files::{Failed, Tally, tell_wrong, text_of};
-use cases::{Bench, Verdict, judge};
+use cases::Bench;
 use sim_io::Sink;
 pub use sources::do_sources;
 use std::fs::Files;
+use stored_cases::{Failed, judge_file};
 pub use words::do_all_words;
 
-/// The cases of one file. A line that is no case, nor says on what machine the next ones run, is a wrong one.
+/// Judges the cases of one file, and writes how many there were and each that is wrong. A line that is no case, nor says on
+/// what machine the next ones run, is a wrong one.
 pub fn do_file<R: Files + AllocGlobal, O: Sink>(
     rt: &R,
     file: &str,
     out: &mut O,
 ) -> Result<(), Failed> {
-    let text = text_of(rt, file)?;
-    let mut bench = Bench::new(rt.alloc())?;
-    let mut tally = Tally::none();
-    let mut number: u64 = 0;
-    for line in text.as_str().lines() {
-        number = number.saturating_add(1);
-        match judge(rt.alloc(), &mut bench, line)? {
-            Verdict::NoCase => {}
-            Verdict::Right => tally.count(true),
-            verdict => {
-                tally.count(false);
-                tell_wrong(rt.alloc(), file, number, verdict.word(), line, out)?;
-            }
-        }
-    }
-    tally.tell(rt.alloc(), file, out)
+    judge_file(rt, file, &mut Bench::new(rt.alloc())?, out)
 }

@@ -1,27 +1,20 @@
 // Numbers as the cases write them.
 use std::alloc::{AllocError, Global};
+use stored_cases::hex_digit;
 
-fn digit(c: u8) -> Option<u16> {
-    match c {
-        b'0'..=b'9' => Some(u16::from(c - b'0')),
-        b'A'..=b'F' => Some(u16::from(c - b'A') + 10),
-        _ => None,
-    }
-}
-
-/// One to four hexadecimal digits.
+/// The number that a word of one to four hexadecimal digits is.
 pub fn hex(word: &str) -> Option<u16> {
     if word.is_empty() || word.len() > 4 {
         return None;
     }
     let mut n: u16 = 0;
     for c in word.bytes() {
-        n = n.wrapping_mul(16).wrapping_add(digit(c)?);
+        n = n.wrapping_mul(16).wrapping_add(u16::from(hex_digit(c)?));
     }
     Some(n)
 }
 
-/// A hexadecimal number below 256.
+/// The number below 256 that a word of hexadecimal digits is.
 pub fn hex_byte(word: &str) -> Option<u8> {
     u8::try_from(hex(word)?).ok()
 }

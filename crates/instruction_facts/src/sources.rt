@@ -2,36 +2,18 @@
 // of it, and the source is what stands between them, without the last LF. In it a line `* N TEXT` stands for N lines of
 // the text, and in the line that ends it `N*WORD` for a word N times.
 use asm_text::{AsmFault, assemble};
-use case_files::{Failed, Tally, bytes_of, write_line};
 use sim_io::{Sink, write_all};
 use std::alloc::{AllocError, Global};
 use std::fs::Files;
+use stored_cases::{Failed, Tally, TextCase, bytes_of, write_line};
 
-// A case as far as it was read: its name, and its source with a LF behind each line.
-#[derive(Drop)]
-struct Case<'t> {
-    name: &'t [u8],
-    source: Vec<u8>,
-}
-
-impl<'t> Case<'t> {
-    // The source without its last LF.
-    fn source(&self) -> &[u8] {
-        match self.source.as_slice() {
-            [source @ .., _] => source,
-            [] => &[],
-        }
+// Adds a line to a source, as often as it says.
+fn add(source: &mut TextCase<'_>, line: &[u8]) -> Result<(), AllocError> {
+    let (times, text) = repeated(line);
+    for _ in 0..times {
+        source.add(text)?;
     }
-
-    // A line, as often as it says.
-    fn add(&mut self, line: &[u8]) -> Result<(), AllocError> {
-        let (times, text) = repeated(line);
-        for _ in 0..times {
-            self.source.extend_from_slice(text)?;
-            self.source.push(b'\n')?;
-        }
-        Ok(())
-    }
+    Ok(())
 }
 
 // A line `* N TEXT` stands for N lines of the text.
@@ -104,21 +86,22 @@ fn spelled_out(alloc: Global, line: &[u8]) -> Result<Vec<u8>, AllocError> {
 // Judges a case by the line that ends it; what came of one that is wrong is written.
 fn is_right<O: Sink>(
     alloc: Global,
-    case: &Case<'_>,
+    case: &TextCase<'_>,
     line: &[u8],
     out: &mut O,
 ) -> Result<bool, Failed> {
-    let got = answer(alloc, case.source())?;
+    let got = answer(alloc, case.text())?;
     if got.as_str().as_bytes() == spelled_out(alloc, line)?.as_slice() {
         return Ok(true);
     }
-    write_all(out, case.name)?;
+    write_all(out, case.name())?;
     write_all(out, b": ")?;
     write_line(got.as_str(), out)?;
     Ok(false)
 }
 
-/// The sources of one file, each with its words or its fault.
+/// Assembles the sources of one file, and writes how many there were, and what came of each that does not give its words or its
+/// fault.
 pub fn do_sources<R: Files + AllocGlobal, O: Sink>(
     rt: &R,
     file: &str,
@@ -127,18 +110,15 @@ pub fn do_sources<R: Files + AllocGlobal, O: Sink>(
     let alloc = rt.alloc();
     let bytes = bytes_of(rt, file)?;
     let mut tally = Tally::none();
-    let mut open: Option<Case<'_>> = None;
+    let mut open: Option<TextCase<'_>> = None;
     for line in bytes.as_slice().split(|b| *b == b'\n') {
-        if let Some(name) = line.strip_prefix(b"== ") {
-            open = Some(Case {
-                name,
-                source: Vec::new(alloc),
-            });
+        if let Some(begun) = TextCase::begun_by(alloc, line) {
+            open = Some(begun);
         } else if let Some(mut case) = open.take() {
             if line.starts_with(b"->") {
                 tally.count(is_right(alloc, &case, line, out)?);
             } else {
-                case.add(line)?;
+                add(&mut case, line)?;
                 open = Some(case);
             }
         }

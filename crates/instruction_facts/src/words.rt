@@ -3,9 +3,9 @@ use arrayvec::ArrayString;
 use asm_text::assemble;
 use avr_decoder::{Op, decode, width};
 use avr_disassembler::text;
-use case_files::{Failed, Tally, write_line};
 use sim_io::Sink;
 use std::alloc::Global;
+use stored_cases::{Failed, Tally, write_line};
 
 // The word behind each one.
 const NEXT: u16 = 0x1234;

@@ -4,19 +4,20 @@
 #![tactic(auto)]
 
 mod answer;
-mod fault;
+mod holding;
 mod parts;
 mod sessions;
 mod stand;
 mod steps;
 mod team;
 
-use case_files::{Failed, tell_run, text_of};
 use sim_io::Sink;
 use std::fs::Files;
 use std::sync::Wait;
+use stored_cases::{Failed, tell_run, text_of};
 
-/// Takes all steps of a file on the record alone.
+/// Takes all steps of a file on the clock words and the record alone, and writes how many answers there were, or the first line
+/// that is not as the file says.
 pub fn do_record<R: Files + AllocGlobal, O: Sink>(
     rt: &R,
     file: &str,
@@ -31,7 +32,8 @@ pub fn do_record<R: Files + AllocGlobal, O: Sink>(
     )
 }
 
-/// Takes all steps of a file on a shared record.
+/// Takes all steps of a file on one shared record, each line of steps in a session of its own, and writes how many answers
+/// there were, or the first line that is not as the file says.
 pub fn do_sessions<R: Files + Wait + AllocGlobal, O: Sink>(
     rt: &R,
     file: &str,

@@ -3,16 +3,14 @@ ghost use Rattle.std.specs.Prelude.{◌≡◌};
 ghost use Rattle.std.specs.List.{All};
 ghost use Rattle.neighbour_sync.specs.Parts.{AreParts};
 
-use crate::answer::{Answer, answer_of};
-use crate::fault::Fault;
 use crate::team::Team;
-use air_cases::Section;
+use air_cases::{Answers, Fault, Section};
 use list_world::ListWorld;
 use neighbour_sync::{Air, Clocks, NodeAir, Session, Shared, cut_when_passed, open_air};
 use std::alloc::Global;
 use std::marker::Brand;
 use std::sync::Wait;
-use world_core::{Ask, Heard, Send, World};
+use world_core::World;
 
 /// A world, its words, its record, and the parts of its nodes.
 #[derive(Drop)]
@@ -39,26 +37,15 @@ fn run_steps<N: Session, R: Wait>(
     requires world { N.world ≡ world.now }
     requires floor { floor ≡ N.floor }
 {
-    let mut got = None;
-    let mut count = 0u32;
+    let mut answers = Answers::none();
     for section in line {
-        if let Some(want) = answer_of(section)? {
-            match got {
-                None => return Err(Fault::Unreadable),
-                Some(got) if got != want => return Err(Fault::Differs { got, want }),
-                Some(_) => count = count.saturating_add(1),
+        if !answers.compare(section)? {
+            if let Some(got) = team.step(rt, alloc, shared, world, floor, section)? {
+                answers.open(got);
             }
-            got = None;
-        } else if got.is_some() {
-            return Err(Fault::Unreadable);
-        } else {
-            got = team.step(rt, alloc, shared, world, floor, section)?;
         }
     }
-    if got.is_some() {
-        return Err(Fault::Unreadable);
-    }
-    Ok(count)
+    answers.end()
 }
 
 // Takes the steps of a line in one session.
@@ -123,7 +110,8 @@ impl Parts {
         (parts, ran)
     }
 
-    /// The record is cut. That would wait for ever where a node is behind.
+    /// Cuts the record at a cycle. It is `Forbidden` where that would wait for ever, since a node is behind, and where the
+    /// cycle is no floor.
     pub fn cut<R: Wait>(&mut self, rt: &R, floor: u64) -> Result<(), Fault> {
         if floor < self.air.floor() || floor > self.world.topo().limit() {
             return Err(Fault::Forbidden);
@@ -135,30 +123,8 @@ impl Parts {
         Ok(())
     }
 
-    /// The record is to hold these sends, in this order.
-    pub fn expect_sends(&self, sends: &[Send]) -> Result<(), Fault> {
-        if self.air.sends() == sends {
-            Ok(())
-        } else {
-            Err(Fault::OtherSends)
-        }
-    }
-
-    /// The record is to hold these samples, in this order.
-    pub fn expect_samples(&self, samples: &[(Ask, Heard)]) -> Result<(), Fault> {
-        if self.air.samples() == samples {
-            Ok(())
-        } else {
-            Err(Fault::OtherSamples)
-        }
-    }
-
-    /// The record is to be cut up to this cycle.
-    pub fn expect_floor(&self, floor: u64) -> Result<(), Fault> {
-        if self.air.floor() == floor {
-            Ok(())
-        } else {
-            Err(Fault::OtherFloor(self.air.floor()))
-        }
+    /// The record of the air.
+    pub fn air(&self) -> &Air {
+        &self.air
     }
 }

@@ -2,13 +2,12 @@
 ghost use Rattle.std.specs.Prelude.{◌≡◌};
 ghost use Rattle.std.specs.List.{All};
 
-use crate::answer::Answer;
-use crate::fault::Fault;
-use air_cases::{count_below, is_asked, send_number};
+use crate::answer::{of_cut, of_posted};
+use air_cases::{Answer, Fault, count_below, is_asked, send_number};
 use list_world::ListWorld;
 use neighbour_sync::{Air, Clocks, NodeSeat};
 use std::alloc::Global;
-use world_core::{Ask, EPOCH, Heard, Send, World};
+use world_core::{Ask, EPOCH, World};
 
 /// All that steps on the record of a world.
 #[derive(Drop)]
@@ -56,7 +55,7 @@ impl Stand {
         })
     }
 
-    /// A node raises its clock.
+    /// Raises the clock of a node to a cycle. It is `Forbidden` where there is no such node, or a contract forbids it.
     pub fn raise(&mut self, node: u8, clock: u64) -> Result<(), Fault> {
         let place = usize::from(node);
         if place >= self.seats.len() {
@@ -69,7 +68,8 @@ impl Stand {
         }
     }
 
-    /// A node posts its send of this number.
+    /// Posts a node's send of this number, from 0, and gives the record's answer. It is `Forbidden` where there is none, or it
+    /// lies an epoch above the floor.
     pub fn post(&mut self, alloc: Global, node: u8, number: u64) -> Result<Answer, Fault> {
         let Some(send) = send_number(alloc, &self.world, node, number)? else {
             return Err(Fault::Forbidden);
@@ -77,49 +77,29 @@ impl Stand {
         if send.cycle.saturating_sub(self.air.floor()) >= EPOCH {
             return Err(Fault::Forbidden);
         }
-        Ok(Answer::of_posted(self.air.post(&self.clocks, send, number)))
+        Ok(of_posted(self.air.post(&self.clocks, send, number)))
     }
 
-    /// A node samples the air.
+    /// Samples the air for a node in a cycle. It is `Forbidden` where the world has no such sample, or the cycle is below the
+    /// floor.
     pub fn sample(&mut self, node: u8, cycle: u64) -> Result<Answer, Fault> {
         if cycle < self.air.floor() || !is_asked(self.world.asks(), &Ask { node, cycle }) {
             return Err(Fault::Forbidden);
         }
-        Ok(Answer::of_sampled(self.air.sample(&self.clocks, node, cycle)))
+        Answer::of_sampled(self.air.sample(&self.clocks, node, cycle))
     }
 
-    /// The record is cut.
+    /// Cuts the record at a cycle, if no node is behind it, and gives the answer. It is `Forbidden` where the cycle is no
+    /// floor.
     pub fn cut(&mut self, floor: u64) -> Result<Answer, Fault> {
         if floor < self.air.floor() || floor > self.world.topo().limit() {
             return Err(Fault::Forbidden);
         }
-        Ok(Answer::of_cut(self.air.cut(&self.clocks, floor)))
+        Ok(of_cut(self.air.cut(&self.clocks, floor)))
     }
 
-    /// The record is to hold these sends, in this order.
-    pub fn expect_sends(&self, sends: &[Send]) -> Result<(), Fault> {
-        if self.air.sends() == sends {
-            Ok(())
-        } else {
-            Err(Fault::OtherSends)
-        }
-    }
-
-    /// The record is to hold these samples, in this order.
-    pub fn expect_samples(&self, samples: &[(Ask, Heard)]) -> Result<(), Fault> {
-        if self.air.samples() == samples {
-            Ok(())
-        } else {
-            Err(Fault::OtherSamples)
-        }
-    }
-
-    /// The record is to be cut up to this cycle.
-    pub fn expect_floor(&self, floor: u64) -> Result<(), Fault> {
-        if self.air.floor() == floor {
-            Ok(())
-        } else {
-            Err(Fault::OtherFloor(self.air.floor()))
-        }
+    /// The record of the air.
+    pub fn air(&self) -> &Air {
+        &self.air
     }
 }

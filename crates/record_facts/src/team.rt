@@ -3,9 +3,8 @@ ghost use Rattle.std.specs.Prelude.{◌≡◌, ◌<◌, ◌≤◌, IfOk, true, v
 ghost use Rattle.std.specs.List.{All, Contains};
 ghost use Rattle.world_core.specs.Sends.{sends_below, IsSendNumber};
 
-use crate::answer::Answer;
-use crate::fault::Fault;
-use air_cases::{Section, byte_of, count_below, is_asked, send_number};
+use crate::answer::{of_passed, of_tried};
+use air_cases::{Answer, Fault, Section, byte_of, count_below, is_asked, send_number};
 use list_world::ListWorld;
 use neighbour_sync::{NodeAir, Session, Shared};
 use std::alloc::Global;
@@ -77,14 +76,15 @@ fn may_sample(world: &ListWorld, floor: u64, node: u8, cycle: u64) -> bool
     cycle >= floor && is_asked(world.asks(), &Ask { node, cycle })
 }
 
-// A node tries to sample in this cycle.
-fn try_node<N: Session, R: Wait>(
+// A node samples in this cycle: it tries to, or waits until it may. It would wait for ever where it cannot sample at once.
+fn sample_node<N: Session, R: Wait>(
     rt: &R,
     shared: &Shared<ListWorld, N>,
     world: &ListWorld,
     floor: u64,
     node: &mut NodeAir,
     cycle: u64,
+    waits: bool,
 ) -> Result<Answer, Fault>
     requires world { N.world ≡ world.now }
     requires floor { floor ≡ N.floor }
@@ -94,31 +94,15 @@ fn try_node<N: Session, R: Wait>(
     if !may_sample(world, floor, node.number(), cycle) {
         return Err(Fault::Forbidden);
     }
-    Ok(Answer::of_tried(node.try_sample(rt, shared, cycle)))
-}
-
-// A node samples in this cycle. It would wait for ever where it cannot sample at once.
-fn wait_node<N: Session, R: Wait>(
-    rt: &R,
-    shared: &Shared<ListWorld, N>,
-    world: &ListWorld,
-    floor: u64,
-    node: &mut NodeAir,
-    cycle: u64,
-) -> Result<Answer, Fault>
-    requires world { N.world ≡ world.now }
-    requires floor { floor ≡ N.floor }
-    requires session { (node.old.table ≡ N.table) × (node.old.world ≡ N.world) }
-    ensures same { (node.new.table ≡ node.old.table) × (node.new.world ≡ node.old.world) }
-{
-    if !may_sample(world, floor, node.number(), cycle) {
-        return Err(Fault::Forbidden);
+    if waits {
+        of_passed(node.sample_when_passed(rt, shared, cycle))
+    } else {
+        of_tried(node.try_sample(rt, shared, cycle))
     }
-    Ok(Answer::of_passed(node.sample_when_passed(rt, shared, cycle)))
 }
 
 impl<N: Session> Team<N> {
-    /// These nodes.
+    /// The team of these nodes, which are the session's.
     pub fn new(nodes: Vec<NodeAir>) -> Team<N>
         requires { All (λ n. (n.table ≡ N.table) × (n.world ≡ N.world)) nodes.items }
     {
@@ -128,7 +112,7 @@ impl<N: Session> Team<N> {
         }
     }
 
-    /// The nodes, which are the session's as ever.
+    /// Gives the nodes back, which are still the session's.
     pub fn into_nodes(self) -> Vec<NodeAir>
         ensures { All (λ n. (n.table ≡ N.table) × (n.world ≡ N.world)) result.items }
     {
@@ -147,7 +131,7 @@ impl<N: Session> Team<N> {
         }
     }
 
-    /// Takes a step. It gives the answer to it, and `None` where it has none.
+    /// Takes the step that a section says, `WORD NODE NUMBER ..`. It gives the answer to it, and `None` where it has none.
     pub fn step<R: Wait>(
         &mut self,
         rt: &R,
@@ -179,11 +163,11 @@ impl<N: Session> Team<N> {
                 Ok(Some(answer))
             }
             ("try", [cycle]) => {
-                let answer = try_node(rt, shared, world, floor, node, *cycle)?;
+                let answer = sample_node(rt, shared, world, floor, node, *cycle, false)?;
                 Ok(Some(answer))
             }
             ("wait", [cycle]) => {
-                let answer = wait_node(rt, shared, world, floor, node, *cycle)?;
+                let answer = sample_node(rt, shared, world, floor, node, *cycle, true)?;
                 Ok(Some(answer))
             }
             ("halt", []) => {

@@ -3,24 +3,31 @@
 use crate::running::run_trial;
 use crate::trials::read_trial;
 use crate::writing::write_run;
-use case_files::{Failed, bytes_of, text_of, write_line};
 use sim_io::Sink;
 use std::fs::Files;
+use stored_cases::{Failed, LineCases, bytes_of, do_lines};
 
-fn do_line<R: Files + AllocGlobal, O: Sink>(rt: &R, line: &str, out: &mut O) -> Result<(), Failed> {
-    let alloc = rt.alloc();
-    write_line(line, out)?;
-    if line.is_empty() || line.starts_with('#') {
-        return Ok(());
+// Runs of one node.
+#[derive(Drop)]
+struct Nodes;
+
+impl LineCases for Nodes {
+    fn do_case<R: Files + AllocGlobal, O: Sink>(
+        &mut self,
+        rt: &R,
+        line: &str,
+        out: &mut O,
+    ) -> Result<(), Failed> {
+        let alloc = rt.alloc();
+        let Some(trial) = read_trial(alloc, line)? else {
+            return Err(Failed);
+        };
+        let image = bytes_of(rt, trial.image)?;
+        let Some(run) = run_trial(alloc, image.as_slice(), trial) else {
+            return Err(Failed);
+        };
+        Ok(write_run(&run, out)?)
     }
-    let Some(trial) = read_trial(alloc, line)? else {
-        return Err(Failed);
-    };
-    let image = bytes_of(rt, trial.image)?;
-    let Some(run) = run_trial(alloc, image.as_slice(), trial) else {
-        return Err(Failed);
-    };
-    Ok(write_run(&run, out)?)
 }
 
 /// Makes the runs of a file, line after line; the lines are written too.
@@ -29,9 +36,5 @@ pub fn do_nodes<R: Files + AllocGlobal, O: Sink>(
     file: &str,
     out: &mut O,
 ) -> Result<(), Failed> {
-    let text = text_of(rt, file)?;
-    for line in text.as_str().lines() {
-        do_line(rt, line, out)?;
-    }
-    Ok(())
+    do_lines(rt, file, &mut Nodes, out)
 }

@@ -3,12 +3,12 @@ ghost use Rattle.std.specs.Prelude.{◌≤◌, length, IfOk};
 
 use crate::running::rows_in;
 use arrayvec::ArrayString;
-use case_files::{Failed, bytes_of, text_of, write_line};
 use node_core::Row;
 use node_monitors::{Profile, Spent};
-use sim_io::{Sink, SinkFault, put_decimal, put_hex4, write_all};
+use sim_io::{Sink, SinkFault, put_decimal, put_hex4};
 use std::alloc::Global;
 use std::fs::Files;
+use stored_cases::{Failed, LineCases, bytes_of, do_lines, write_line, write_number};
 
 // More rows than any run here makes.
 const MOST: usize = 1_000_000;
@@ -43,18 +43,6 @@ fn profile_of(alloc: Global, from: u32, until: u32, rows: &[Row]) -> Option<Prof
     Profile::of(alloc, 0, (u64::from(from), u64::from(until)), rows).ok()
 }
 
-// `KIND NUMBER`.
-fn write_number<O: Sink>(kind: &str, number: u64, out: &mut O) -> Result<(), SinkFault>
-    requires { length kind.now ≤ 8 }
-{
-    let mut line = ArrayString::<32>::new();
-    line.push_str(kind);
-    line.push_str(" ");
-    put_decimal(number, &mut line);
-    line.push_str("\n");
-    write_all(out, line.as_str().as_bytes())
-}
-
 // `KIND WORD COUNT CYCLES`.
 fn write_spent<O: Sink>(kind: &str, spent: Spent, out: &mut O) -> Result<(), SinkFault>
     requires { length kind.now ≤ 8 }
@@ -67,8 +55,7 @@ fn write_spent<O: Sink>(kind: &str, spent: Spent, out: &mut O) -> Result<(), Sin
     put_decimal(spent.count, &mut line);
     line.push_str(" ");
     put_decimal(spent.cycles, &mut line);
-    line.push_str("\n");
-    write_all(out, line.as_str().as_bytes())
+    write_line(line.as_str(), out)
 }
 
 fn write_profile<O: Sink>(profile: &Profile, out: &mut O) -> Result<(), SinkFault> {
@@ -84,23 +71,30 @@ fn write_profile<O: Sink>(profile: &Profile, out: &mut O) -> Result<(), SinkFaul
     write_number("charge", profile.charge(), out)
 }
 
-fn do_line<R: Files + AllocGlobal, O: Sink>(rt: &R, line: &str, out: &mut O) -> Result<(), Failed> {
-    let alloc = rt.alloc();
-    write_line(line, out)?;
-    if line.is_empty() || line.starts_with('#') {
-        return Ok(());
+// Profiles of one node.
+#[derive(Drop)]
+struct Profiles;
+
+impl LineCases for Profiles {
+    fn do_case<R: Files + AllocGlobal, O: Sink>(
+        &mut self,
+        rt: &R,
+        line: &str,
+        out: &mut O,
+    ) -> Result<(), Failed> {
+        let alloc = rt.alloc();
+        let Some(case) = read_case(line) else {
+            return Err(Failed);
+        };
+        let image = bytes_of(rt, case.image)?;
+        let Some(rows) = rows_in(alloc, image.as_slice(), case.limit, case.from, case.until) else {
+            return Err(Failed);
+        };
+        let Some(profile) = profile_of(alloc, case.from, case.until, rows.as_slice()) else {
+            return Err(Failed);
+        };
+        Ok(write_profile(&profile, out)?)
     }
-    let Some(case) = read_case(line) else {
-        return Err(Failed);
-    };
-    let image = bytes_of(rt, case.image)?;
-    let Some(rows) = rows_in(alloc, image.as_slice(), case.limit, case.from, case.until) else {
-        return Err(Failed);
-    };
-    let Some(profile) = profile_of(alloc, case.from, case.until, rows.as_slice()) else {
-        return Err(Failed);
-    };
-    Ok(write_profile(&profile, out)?)
 }
 
 /// Makes the profiles of a file, line after line; the lines are written too.
@@ -109,9 +103,5 @@ pub fn do_profiles<R: Files + AllocGlobal, O: Sink>(
     file: &str,
     out: &mut O,
 ) -> Result<(), Failed> {
-    let text = text_of(rt, file)?;
-    for line in text.as_str().lines() {
-        do_line(rt, line, out)?;
-    }
-    Ok(())
+    do_lines(rt, file, &mut Profiles, out)
 }

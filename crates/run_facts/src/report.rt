@@ -1,9 +1,9 @@
 // What was read of a text, line for line.
-use case_files::{Failed, write_line};
 use scenario_file::{ScenarioText, read};
 use serial_ports::Script;
 use sim_io::{Name, Sink, write_all};
 use std::alloc::Global;
+use stored_cases::{Failed, write_line};
 use world_core::{Link, Topo};
 
 // Where a link is asked whether it is open.

@@ -2,13 +2,13 @@
 // heard, how long its trace is with a hash of it, and the first byte of each node. And the words of a node's program.
 ghost use Rattle.std.specs.Prelude.{◌≤◌, IfSome};
 
-use case_files::{Digest, Failed, text_of, write_line};
 use fleet_plain::run_plain;
 use node_core::{Kind, Row};
 use sample_maker::{count, make};
 use sim_io::Sink;
 use std::alloc::Global;
 use std::fs::Files;
+use stored_cases::{Digest, Failed, LineCases, do_lines, write_line};
 
 // A number, and how many nodes its sample has.
 #[derive(Clone, Copy)]
@@ -85,24 +85,32 @@ fn write_words<O: Sink>(alloc: Global, number: u16, out: &mut O) -> Result<(), F
     Ok(write_line(text.as_str(), out)?)
 }
 
-fn do_line<O: Sink>(alloc: Global, line: &str, out: &mut O) -> Result<(), Failed> {
-    write_line(line, out)?;
-    if line.is_empty() || line.starts_with('#') {
-        return Ok(());
-    }
-    if let Some(number) = line.strip_prefix("words ") {
-        return match number.parse::<u16>() {
-            Ok(number) => write_words(alloc, number, out),
-            Err(_) => Err(Failed),
+// Samples, and words of their programs.
+#[derive(Drop)]
+struct Samples;
+
+impl LineCases for Samples {
+    fn do_case<R: Files + AllocGlobal, O: Sink>(
+        &mut self,
+        rt: &R,
+        line: &str,
+        out: &mut O,
+    ) -> Result<(), Failed> {
+        let alloc = rt.alloc();
+        if let Some(number) = line.strip_prefix("words ") {
+            return match number.parse::<u16>() {
+                Ok(number) => write_words(alloc, number, out),
+                Err(_) => Err(Failed),
+            };
+        }
+        let Some(case) = read_case(line) else {
+            return Err(Failed);
         };
+        let Some(rows) = rows_of(alloc, case) else {
+            return Err(Failed);
+        };
+        write_rows(alloc, case.nodes, rows.as_slice(), out)
     }
-    let Some(case) = read_case(line) else {
-        return Err(Failed);
-    };
-    let Some(rows) = rows_of(alloc, case) else {
-        return Err(Failed);
-    };
-    write_rows(alloc, case.nodes, rows.as_slice(), out)
 }
 
 /// Runs the samples of a file, line after line; the lines are written too.
@@ -111,9 +119,5 @@ pub fn do_samples<R: Files + AllocGlobal, O: Sink>(
     file: &str,
     out: &mut O,
 ) -> Result<(), Failed> {
-    let text = text_of(rt, file)?;
-    for line in text.as_str().lines() {
-        do_line(rt.alloc(), line, out)?;
-    }
-    Ok(())
+    do_lines(rt, file, &mut Samples, out)
 }

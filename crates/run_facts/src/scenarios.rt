@@ -3,38 +3,14 @@
 // A file of cases is lines of bytes. A line `== NAME` begins a case; its text is what stands between it and the next
 // such line, without the last LF.
 use crate::report::report;
-use case_files::{Failed, bytes_of};
 use sim_io::Sink;
 use std::alloc::Global;
 use std::fs::Files;
+use stored_cases::{Failed, TextCase, bytes_of};
 
-// A case as far as it was read: its name, and its text with a LF behind each line.
-#[derive(Drop)]
-struct Case {
-    name: Vec<u8>,
-    text: Vec<u8>,
-}
-
-impl Case {
-    // The text without its last LF.
-    fn text(&self) -> &[u8] {
-        match self.text.as_slice() {
-            [text @ .., _] => text,
-            [] => &[],
-        }
-    }
-}
-
-fn name_of(line: &[u8]) -> Option<&[u8]> {
-    match line {
-        [b'=', b'=', b' ', name @ ..] => Some(name),
-        _ => None,
-    }
-}
-
-fn finish<O: Sink>(alloc: Global, case: Option<Case>, out: &mut O) -> Result<(), Failed> {
+fn finish<O: Sink>(alloc: Global, case: Option<TextCase<'_>>, out: &mut O) -> Result<(), Failed> {
     match case {
-        Some(case) => report(alloc, case.name.as_slice(), case.text(), out),
+        Some(case) => report(alloc, case.name(), case.text(), out),
         None => Ok(()),
     }
 }
@@ -47,17 +23,13 @@ pub fn do_scenarios<R: Files + AllocGlobal, O: Sink>(
 ) -> Result<(), Failed> {
     let alloc = rt.alloc();
     let bytes = bytes_of(rt, file)?;
-    let mut case: Option<Case> = None;
+    let mut case: Option<TextCase<'_>> = None;
     for line in bytes.as_slice().split(|b| *b == b'\n') {
-        if let Some(name) = name_of(line) {
+        if let Some(begun) = TextCase::begun_by(alloc, line) {
             finish(alloc, case, out)?;
-            case = Some(Case {
-                name: name.to_vec(alloc)?,
-                text: Vec::new(alloc),
-            });
+            case = Some(begun);
         } else if let Some(open) = &mut case {
-            open.text.extend_from_slice(line)?;
-            open.text.push(b'\n')?;
+            open.add(line)?;
         }
     }
     finish(alloc, case, out)

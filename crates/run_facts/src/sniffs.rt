@@ -3,10 +3,10 @@
 ghost use Rattle.std.specs.Prelude.{◌≤◌, length};
 
 use air_sniffer::{Frame, Sniffer};
-use case_files::{Failed, text_of, write_line};
 use sim_io::{Sink, write_all};
 use std::alloc::Global;
 use std::fs::Files;
+use stored_cases::{Failed, LineCases, do_lines, write_line};
 use world_core::Send;
 
 // Node 0 sends the bytes of this line from cycle 0 on, 512 cycles apart, and node 1 sends AA one cycle behind each.
@@ -93,17 +93,25 @@ fn other_cuts(alloc: Global, sends: &[Send], whole: &str) -> Result<u32, Failed>
     Ok(others)
 }
 
-fn do_line<O: Sink>(alloc: Global, line: &str, out: &mut O) -> Result<(), Failed> {
-    write_line(line, out)?;
-    if line.is_empty() || line.starts_with('#') {
-        return Ok(());
+// Sends that a sniffer gets.
+#[derive(Drop)]
+struct Sniffs;
+
+impl LineCases for Sniffs {
+    fn do_case<R: Files + AllocGlobal, O: Sink>(
+        &mut self,
+        rt: &R,
+        line: &str,
+        out: &mut O,
+    ) -> Result<(), Failed> {
+        let alloc = rt.alloc();
+        let sends = sends_of(alloc, line)?;
+        let whole = frames_cut(alloc, &sends, sends.len())?;
+        let others = other_cuts(alloc, &sends, whole.as_str())?;
+        write_all(out, whole.as_str().as_bytes())?;
+        let count = format!(in alloc; "{} cuts, {others} of them other", sends.len())?;
+        Ok(write_line(count.as_str(), out)?)
     }
-    let sends = sends_of(alloc, line)?;
-    let whole = frames_cut(alloc, &sends, sends.len())?;
-    let others = other_cuts(alloc, &sends, whole.as_str())?;
-    write_all(out, whole.as_str().as_bytes())?;
-    let count = format!(in alloc; "{} cuts, {others} of them other", sends.len())?;
-    Ok(write_line(count.as_str(), out)?)
 }
 
 /// Gives a sniffer the sends of each line of a file; the lines are written too.
@@ -112,9 +120,5 @@ pub fn do_sniffs<R: Files + AllocGlobal, O: Sink>(
     file: &str,
     out: &mut O,
 ) -> Result<(), Failed> {
-    let text = text_of(rt, file)?;
-    for line in text.as_str().lines() {
-        do_line(rt.alloc(), line, out)?;
-    }
-    Ok(())
+    do_lines(rt, file, &mut Sniffs, out)
 }

@@ -1,5 +1,6 @@
 // One line of a file of trials.
 use std::alloc::{AllocError, Global};
+use stored_cases::{hex_pair, words_of};
 
 /// A run: an image, the cycle limit, how many cycles its instructions and entries are told, and the bytes that arrive
 /// at USART0: the cycle of the first, how many cycles one comes after another, and the bytes; and whether two bytes of
@@ -15,21 +16,6 @@ pub struct Trial<'l> {
     pub sram: bool,
 }
 
-fn digit(c: u8) -> Option<u8> {
-    match c {
-        b'0'..=b'9' => Some(c - b'0'),
-        b'A'..=b'F' => Some(c - b'A' + 10),
-        _ => None,
-    }
-}
-
-fn pair(digits: &[u8]) -> Option<u8> {
-    let [high, low] = digits else {
-        return None;
-    };
-    Some(digit(*high)?.wrapping_mul(16).wrapping_add(digit(*low)?))
-}
-
 // Pairs of hexadecimal digits; `-` is none.
 fn bytes_of(alloc: Global, word: &str) -> Result<Option<Vec<u8>>, AllocError> {
     let mut bytes = Vec::new(alloc);
@@ -37,7 +23,7 @@ fn bytes_of(alloc: Global, word: &str) -> Result<Option<Vec<u8>>, AllocError> {
         return Ok(Some(bytes));
     }
     for digits in word.as_bytes().chunks(2) {
-        match pair(digits) {
+        match hex_pair(digits) {
             Some(byte) => bytes.push(byte)?,
             None => return Ok(None),
         }
@@ -61,12 +47,9 @@ fn numbered<'l>(words: &[&'l str], bytes: Vec<u8>, sram: bool) -> Option<Trial<'
     })
 }
 
-/// `IMAGE LIMIT TOLD FROM EVERY BYTES`, and perhaps `sram`.
+/// The trial of a line `IMAGE LIMIT TOLD FROM EVERY BYTES`, and perhaps `sram`; `None` where it is no such line.
 pub fn read_trial<'l>(alloc: Global, line: &'l str) -> Result<Option<Trial<'l>>, AllocError> {
-    let mut words = Vec::new(alloc);
-    for word in line.split_whitespace() {
-        words.push(word)?;
-    }
+    let words = words_of(alloc, line)?;
     let (words, sram) = match words.as_slice() {
         [front @ .., last] if *last == "sram" => (front, true),
         all => (all, false),

@@ -1,7 +1,7 @@
 // Changes of a text.
 use crate::state::Text;
-use case_files::Failed;
 use std::alloc::Global;
+use stored_cases::{Failed, words_of};
 
 // The place of the line of this number, counted from 1.
 fn line_of(text: &Text, number: &str) -> Result<usize, Failed> {
@@ -170,10 +170,7 @@ fn change_line(alloc: Global, text: &mut Text, words: &[&str]) -> Result<(), Fai
 /// Makes a change: `part LINE PLACE TEXT`, `byte LINE PLACE DIGITS`, `line LINE TEXT`, `drop LINE`, `twice LINE`, `swap
 /// LINE LINE`, `before LINE TEXT`, `behind TEXT` of a last line, or `cut` of the last LF.
 pub fn apply(alloc: Global, text: &mut Text, edit: &str) -> Result<(), Failed> {
-    let mut words = Vec::new(alloc);
-    for word in edit.split_whitespace() {
-        words.push(word)?;
-    }
+    let words = words_of(alloc, edit)?;
     match words.as_slice() {
         [] => Ok(()),
         ["cut"] => {

@@ -1,10 +1,10 @@
 // The network whose states are read.
 use avr_program::Program;
-use case_files::Failed;
 use ihex_loader::load;
 use node_runner::Scenario;
 use scenario_file::{ScenarioText, no_script};
 use std::alloc::Global;
+use stored_cases::Failed;
 use world_core::{Link, Topo};
 
 // A program of no instructions.

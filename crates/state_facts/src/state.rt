@@ -1,6 +1,6 @@
 // The state that the cases change.
-use case_files::Failed;
 use std::alloc::Global;
+use stored_cases::Failed;
 
 /// A text, line by line.
 #[derive(Drop)]
@@ -11,7 +11,7 @@ pub struct Text {
 }
 
 impl Text {
-    /// Its bytes.
+    /// The bytes of the text: each line with a LF.
     pub fn bytes(&self, alloc: Global) -> Result<Vec<u8>, Failed> {
         let mut bytes = Vec::new(alloc);
         for line in &self.lines {

@@ -2,13 +2,13 @@
 use crate::halting::{Halting, Turn};
 use crate::reading::{Asked, Case};
 use arrayvec::ArrayString;
-use case_files::Failed;
 use memory_io::{MemSink, MemStore};
 use sim_io::{
     DirStore, Name, ReadFault, Sink, SinkFault, StdSink, Store, make_room, read_whole, write_all,
 };
 use std::alloc::Global;
 use std::fs::{self, Files};
+use stored_cases::Failed;
 
 // A line of an answer and, behind a space, a text that is not empty; one that ends with LF has no other.
 fn answer<O: Sink>(what: &str, text: &[u8], out: &mut O) -> Result<(), Failed> {

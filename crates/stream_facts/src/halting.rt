@@ -27,7 +27,7 @@ pub struct Halting<'t, T> {
 }
 
 impl<'t, T> Halting<'t, T> {
-    /// No call was made yet.
+    /// A reader or writer over this one, of which no call was made yet.
     pub fn new(inner: T, step: usize, turns: &'t [Turn]) -> Self {
         Halting {
             inner,

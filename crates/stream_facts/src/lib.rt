@@ -6,11 +6,26 @@ mod cases;
 mod halting;
 mod reading;
 
-use case_files::{Failed, text_of, write_line};
-use cases::do_case;
 use reading::read_line;
 use sim_io::Sink;
 use std::fs::Files;
+use stored_cases::{Failed, LineCases, do_lines};
+
+// Reads and writes of stores, sinks, pages and streams.
+#[derive(Drop)]
+struct Streams;
+
+impl LineCases for Streams {
+    fn do_case<R: Files + AllocGlobal, O: Sink>(
+        &mut self,
+        rt: &R,
+        line: &str,
+        out: &mut O,
+    ) -> Result<(), Failed> {
+        let case = read_line(rt.alloc(), line)?;
+        cases::do_case(rt, &case, out)
+    }
+}
 
 /// Does a file, line after line; the lines are written too.
 pub fn do_file<R: Files + AllocGlobal, O: Sink>(
@@ -18,12 +33,5 @@ pub fn do_file<R: Files + AllocGlobal, O: Sink>(
     file: &str,
     out: &mut O,
 ) -> Result<(), Failed> {
-    let text = text_of(rt, file)?;
-    for line in text.as_str().lines() {
-        write_line(line, out)?;
-        if let Some(case) = read_line(rt.alloc(), line)? {
-            do_case(rt, &case, out)?;
-        }
-    }
-    Ok(())
+    do_lines(rt, file, &mut Streams, out)
 }

@@ -1,9 +1,9 @@
 // One line of a file of cases.
 use crate::halting::Turn;
-use case_files::Failed;
 use std::alloc::{AllocError, Global};
+use stored_cases::{Failed, numbers_of};
 
-/// A read: the file's name and the most bytes that it may have.
+/// A read: the file's name, and the most bytes that it may have.
 #[derive(Clone, Copy)]
 pub struct Asked<'l> {
     pub name: &'l str,
@@ -30,14 +30,10 @@ pub enum Case<'l> {
 }
 
 fn numbers(alloc: Global, text: &str) -> Result<Vec<u64>, Failed> {
-    let mut all = Vec::new(alloc);
-    for word in text.split_whitespace() {
-        match word.parse::<u64>() {
-            Ok(n) => all.push(n)?,
-            Err(_) => return Err(Failed),
-        }
+    match numbers_of(alloc, text)? {
+        Some(all) => Ok(all),
+        None => Err(Failed),
     }
-    Ok(all)
 }
 
 // A number and what stands behind it.
@@ -82,11 +78,8 @@ fn turns(alloc: Global, text: &str) -> Result<Vec<Turn>, Failed> {
     Ok(all)
 }
 
-/// Reads a line; `None` where it is empty or a comment. Behind the bar stands the text that is moved.
-pub fn read_line<'l>(alloc: Global, line: &'l str) -> Result<Option<Case<'l>>, Failed> {
-    if line.is_empty() || line.starts_with('#') {
-        return Ok(None);
-    }
+/// Reads what a line asks for: `KIND NUMBER ..`, and behind a bar the text that is moved.
+pub fn read_line<'l>(alloc: Global, line: &'l str) -> Result<Case<'l>, Failed> {
     let (head, text) = line.split_once('|').unwrap_or((line, ""));
     let text = text.trim();
     let (kind, rest) = head.trim().split_once(' ').unwrap_or((head, ""));
@@ -107,5 +100,5 @@ pub fn read_line<'l>(alloc: Global, line: &'l str) -> Result<Option<Case<'l>>, F
         }
         _ => return Err(Failed),
     };
-    Ok(Some(case))
+    Ok(case)
 }

@@ -7,7 +7,6 @@
 mod gates;
 mod runs;
 
-use case_files::{Failed, write_line};
 use gates::{BothBegin, FirstIsLate, LastTurn, SecondIsLate, Told};
 use runs::{write_call, write_rows};
 use sim_io::{Sink, write_all};
@@ -15,6 +14,7 @@ use std::fs::Files;
 use std::sync::Wait;
 use std::sync::atomic::{AtomicBool, AtomicU64, Ordering};
 use std::thread::Threads;
+use stored_cases::{Failed, write_line};
 
 static RUN: [&str; 2] = ["run", "gates.toml"];
 
@@ -28,6 +28,12 @@ fn write_seen<O: Sink>(what: &str, seen: bool, out: &mut O) -> Result<(), Failed
     Ok(write_line(if seen { ": yes" } else { ": no" }, out)?)
 }
 
+// Whether each of two nodes began while the other was held.
+fn write_both_began<O: Sink>(told: &Told, out: &mut O) -> Result<(), Failed> {
+    let seen = !told.gave_up() && told.has(0, 0) && told.has(1, 0);
+    write_seen("both began", seen, out)
+}
+
 // Each of two nodes begins while the other has not ended.
 fn both_begin<R: Threads + Wait + Files + AllocGlobal + Sync, O: Sink>(
     rt: &R,
@@ -39,25 +45,19 @@ fn both_begin<R: Threads + Wait + Files + AllocGlobal + Sync, O: Sink>(
     )?;
     let told = Told::none();
     write_rows(rt, &BothBegin(&told), out)?;
-    write_seen(
-        "both began",
-        !told.gave_up() && told.has(0, 0) && told.has(1, 0),
-        out,
-    )?;
+    write_both_began(&told, out)?;
     let told = Told::none();
     write_call(rt, &RUN, None, &BothBegin(&told), out)?;
-    write_seen(
-        "both began",
-        !told.gave_up() && told.has(0, 0) && told.has(1, 0),
-        out,
-    )?;
+    write_both_began(&told, out)?;
     let told = Told::none();
     write_call(rt, &MAKE, None, &BothBegin(&told), out)?;
-    write_seen(
-        "both began",
-        !told.gave_up() && told.has(0, 0) && told.has(1, 0),
-        out,
-    )
+    write_both_began(&told, out)
+}
+
+// Whether node 1 waited at its sample while node 0 was held.
+fn write_waited<O: Sink>(gate: &FirstIsLate<'_>, out: &mut O) -> Result<(), Failed> {
+    let waited = !gate.went_on.load(Ordering::SeqCst) && gate.told.has(1, 2);
+    write_seen("it waited", waited && !gate.told.gave_up(), out)
 }
 
 // Node 1 does not pass its sample while node 0 is held.
@@ -72,16 +72,14 @@ fn first_is_late<R: Threads + Wait + Files + AllocGlobal + Sync, O: Sink>(
         went_on: &went_on,
     };
     write_rows(rt, &gate, out)?;
-    let waited = !went_on.load(Ordering::SeqCst) && told.has(1, 2);
-    write_seen("it waited", waited && !told.gave_up(), out)?;
+    write_waited(&gate, out)?;
     let (told, went_on) = (Told::none(), AtomicBool::new(false));
     let gate = FirstIsLate {
         told: &told,
         went_on: &went_on,
     };
     write_call(rt, &RUN, None, &gate, out)?;
-    let waited = !went_on.load(Ordering::SeqCst) && told.has(1, 2);
-    write_seen("it waited", waited && !told.gave_up(), out)
+    write_waited(&gate, out)
 }
 
 // Node 0 comes to its turn 3 while node 1 is held.
@@ -115,7 +113,7 @@ fn epochs<R: Threads + Wait + Files + AllocGlobal + Sync, O: Sink>(
     write_seen("turn 256 was told", last.load(Ordering::SeqCst) >= 256, out)
 }
 
-/// All of them, one after another.
+/// Does the runs beside all gates, one after another, and writes what was seen.
 pub fn do_all<R: Threads + Wait + Files + AllocGlobal + Sync, O: Sink>(
     rt: &R,
     out: &mut O,

@@ -1,17 +1,16 @@
 // The runs that gates look at: one network through `run_threads`, and the same by the words of the command line.
-use arrayvec::ArrayString;
 use avr_program::Program;
-use case_files::Failed;
 use commands::avrora;
 use fleet_threads::{Gate, run_threads};
 use ihex_loader::{Flash, load};
 use memory_io::MemSink;
 use node_runner::Scenario;
 use scenario_file::{ScenarioText, no_script};
-use sim_io::{DirStore, Sink, SinkFault, put_decimal, write_all};
-use std::fs::{self, Files};
+use sim_io::{DirStore, Sink, write_all};
+use std::fs::Files;
 use std::sync::Wait;
 use std::thread::Threads;
+use stored_cases::{Failed, bytes_of, write_number};
 use world_core::{Link, Topo};
 
 // More than any stream of a run takes.
@@ -19,9 +18,7 @@ const AMPLE: usize = 1_000_000;
 
 // The flash of an image.
 fn flash_in<R: Files + AllocGlobal>(rt: &R, name: &str) -> Result<Flash, Failed> {
-    let Ok(text) = fs::read(rt, name) else {
-        return Err(Failed);
-    };
+    let text = bytes_of(rt, name)?;
     match load(rt.alloc(), text.as_slice()) {
         Ok(flash) => Ok(flash),
         Err(_) => Err(Failed),
@@ -57,17 +54,8 @@ pub fn write_rows<R: Threads + Wait + Files + AllocGlobal + Sync, G: Gate + Sync
     Ok(trace_writer::write(rows.as_slice(), out)?)
 }
 
-// `status N`
-fn write_status<O: Sink>(status: u8, out: &mut O) -> Result<(), SinkFault> {
-    let mut line = ArrayString::<32>::new();
-    line.push_str("status ");
-    put_decimal(status, &mut line);
-    line.push_str("\n");
-    write_all(out, line.as_str().as_bytes())
-}
-
-/// Writes the status that these words come to over the files beside the program, and what stands on both streams. The
-/// write to the output with the number `fails`, from 0, fails, if there is one.
+/// Writes the status that these words come to over the files beside the program, and what stands on both streams. The write to
+/// the output with the number `fails`, from 0, fails, if there is one.
 pub fn write_call<R: Threads + Wait + Files + AllocGlobal + Sync, G: Gate + Sync, O: Sink>(
     rt: &R,
     words: &[&str],
@@ -84,7 +72,7 @@ pub fn write_call<R: Threads + Wait + Files + AllocGlobal + Sync, G: Gate + Sync
     let mut said = MemSink::new(alloc, AMPLE, AMPLE, Vec::new(alloc))?;
     let mut store = DirStore::new(rt);
     let status = avrora(rt, alloc, words, &mut store, &mut taken, &mut said, gate);
-    write_status(status.number(), out)?;
+    write_number("status", u64::from(status.number()), out)?;
     write_all(out, taken.taken())?;
     Ok(write_all(out, said.taken())?)
 }

@@ -1,9 +1,0 @@
-use Rattle.std.proofs.Common.{◌≡◌}
-use Rattle.air_trials.proofs.nodes.send_all.Given as goal
-
-abbrev pub invariant-loop-place : goal.invariant-loop-place
-invariant-loop-place g l = record {
-  table : l.node.table ≡ l.fn.node.table;
-  world : l.node.world ≡ l.fn.node.world;
-  number : l.node.number ≡ l.fn.node.number;
-}

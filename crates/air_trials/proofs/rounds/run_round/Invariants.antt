@@ -1,4 +1,0 @@
-use Rattle.air_trials.proofs.rounds.run_round.Given as goal
-
-abbrev pub ghosts-in_session : goal.ghosts-in_session
-ghosts-in_session g a = record { table = a.air.table; world = a.air.world; floor = a.air.floor }
