@@ -61,22 +61,16 @@ pub fn execute(
     m: &mut Machine,
 ) -> Option<Report> {
     let op = decode(word, next);
-    let (named, reported) = match op.class() {
-        Class::Arith => ("arith", Ok(arith_step::exec(op, &mut m.cpu))),
-        Class::Flow => (
-            "flow",
-            bus_step::exec_flow(op, flash, &mut m.cpu, &mut m.memory),
-        ),
-        Class::Memory => (
-            "memory",
-            bus_step::exec_memory(op, flash, &mut m.cpu, &mut m.memory),
-        ),
-        Class::Halting(cause) => ("halting", Err(cause)),
+    let named = match op.class() {
+        Class::Arith => "arith",
+        Class::Flow => "flow",
+        Class::Memory => "memory",
+        Class::Halting(_) => "halting",
     };
     if class != named {
         return None;
     }
-    match reported {
+    match node_core::execute(&op, flash, &mut m.cpu, &mut m.memory) {
         Ok(done) => Some(Report {
             value: Some(u16::from(done.cycles)),
             sleep: done.sleep,

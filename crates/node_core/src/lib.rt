@@ -5,7 +5,7 @@
 
 mod bus;
 mod countdowns;
-mod execute;
+mod instructions;
 mod interrupts;
 mod law;
 mod leaps;
@@ -21,6 +21,7 @@ mod sprint;
 mod stride;
 
 pub use bus::NodeBus;
+pub use instructions::execute;
 pub use law::steady_law;
 pub use node::{Node, Reached};
 pub use restore::RestoreFault;

@@ -13,7 +13,7 @@ ghost use Rattle.board_io.specs.Lines.{lines_of};
 ghost use Rattle.ihex_loader.specs.Flash.{word_at};
 ghost use Rattle.avr_base.specs.Lines.{due_of, pending_of};
 
-use crate::execute::execute;
+use crate::instructions::execute;
 use crate::interrupts::enter;
 use crate::machine::Machine;
 use crate::rows::{is_within, put_row, tell, tell_instruction, unless_told};

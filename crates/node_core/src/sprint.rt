@@ -4,7 +4,7 @@ ghost use Rattle.node_core.specs.Inside.{MayAct};
 ghost use Rattle.node_core.specs.Midway.{IsSprinted, IsStep, turned_on};
 ghost use Rattle.serial_ports.specs.Script.{script_byte};
 
-use crate::execute::execute_plain;
+use crate::instructions::execute_plain;
 use crate::machine::Machine;
 use avr_base::StopCause;
 

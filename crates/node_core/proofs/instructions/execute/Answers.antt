@@ -1,6 +1,6 @@
 use Rattle.std.proofs.Common.{sym, ap}
 use Rattle.node_core.proofs.Executes.{takes}
-use Rattle.node_core.proofs.execute.execute.Goals as goal
+use Rattle.node_core.proofs.instructions.execute.Goals as goal
 
 pub returns-in-Some-clause-takes : goal.returns-in-Some-clause-takes
 returns-in-Some-clause-takes g c =
