@@ -1,7 +1,8 @@
 #!/usr/bin/env python3
 """Writes the tables of docs/SPEED.md from what the scripts beside it printed.
 
-    bench/run.sh >run.out; bench/networks.sh >networks.out; bench/threads.sh >threads1.out; ..
+    bench/run.sh >run.out; bench/networks.sh >networks.out; bench/threads.sh >threads0.out
+    bench/threads.sh PROGRAM 2 >threads2.out; bench/threads.sh PROGRAM 4 >threads4.out
     bench/tables.py run.out networks.out threads*.out
 
 Each table stands between `<!-- table: bench/SCRIPT -->` and `<!-- end -->`; one of whose script no output is given stays as it
@@ -17,6 +18,7 @@ SPEED = Path(__file__).resolve().parent.parent / "docs" / "SPEED.md"
 NODE = re.compile(r"(simavr, )?(\w+): \d+ cycles in (under )?([\d.]+) s, .*, (\d+) KiB at most")
 HOST = re.compile(r"(\w+): (\d+) host instructions an instruction")
 NETWORK = re.compile(r"(.+): \d+ cycles of nodes and (\d+) rows in (under )?([\d.]+) s: ([\d.]+) million cycles and ([\d.]+) .*, (\d+) KiB at most")
+BUSY = re.compile(r"\d+ processors, (\d+) busy programs beside, load .*")
 THREADS = re.compile(r"(.+): one thread ([\d.]+) s, a thread a node ([\d.]+) s, ([\d.]+) times as fast, yardstick [\d.]+, part ([\d.]+), .* rows")
 
 
@@ -47,7 +49,9 @@ def network_cells(row):
 
 
 def threads_cells(row):
-    return [span(row["plain"], 2, " s"), span(row["threads"], 2, " s"), span(row["gain"], 1), span(row["part"], 2)]
+    """On one thread, by threads, how many times as fast, the part; how many times as fast beside two and four busy programs."""
+    alone = [span(row["plain"], 2, " s"), span(row["threads"], 2, " s"), span(row["gain"], 1), span(row["part"], 2)]
+    return alone + [span(row[busy], 1) if busy in row else "" for busy in ("gain beside 2", "gain beside 4")]
 
 
 # The script of a table, how its cells are made, and how many cells before them say what the row is.
@@ -56,7 +60,7 @@ TABLES = {"bench/run.sh": (node_cells, 2), "bench/networks.sh": (network_cells, 
 
 def read(paths):
     """The figures of each script, by the row's name."""
-    found = {script: Figures() for script in TABLES}
+    found, busy = {script: Figures() for script in TABLES}, "0"
     for line in (line.strip() for path in paths for line in Path(path).read_text().splitlines()):
         if it := NODE.fullmatch(line):
             found["bench/run.sh"].add(it[2], "peer" if it[1] else "time", 0.0 if it[3] else it[4])
@@ -67,7 +71,12 @@ def read(paths):
         elif it := NETWORK.fullmatch(line):
             for name, place in (("cycles", 5), ("rows", 6), ("kib", 7)):
                 found["bench/networks.sh"].add(it[1], name, it[place])
+        elif it := BUSY.fullmatch(line):
+            busy = it[1]
         elif it := THREADS.fullmatch(line):
+            if busy != "0":
+                found["bench/threads.sh"].add(it[1], f"gain beside {busy}", it[4])
+                continue
             for name, place in (("plain", 2), ("threads", 3), ("gain", 4), ("part", 5)):
                 found["bench/threads.sh"].add(it[1], name, it[place])
     return found

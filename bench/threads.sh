@@ -73,9 +73,10 @@ report "ring of 8, latency 3,072" ring8.toml
 network 64 ring 600000 "latency = 3072" "byte_time = 3072" >ring64.toml
 report "ring of 64, latency 3,072" ring64.toml
 sed 's/^cycles.*/cycles = 5000000/' make0.toml >make5.toml
-report "the network of make 0, five times as long" make5.toml
+report "make 0, five times as long" make5.toml
+# It sleeps between its samples.
 network 8 flood 10000000 "latency = 300" "byte_time = 1024" >flood8.toml
-report "a ring of 8 with the program of flood, which sleeps between samples" flood8.toml
+report "ring of 8 with the program of flood" flood8.toml
 network 8 ring 2000000 "latency = 1" "byte_time = 256" >close8.toml
 report "ring of 8, latency 1, byte time 256" close8.toml
 network 64 ring 200000 "latency = 1" "byte_time = 256" >close64.toml

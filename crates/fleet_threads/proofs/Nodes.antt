@@ -1,5 +1,5 @@
 -- The nodes of an epoch, as one after another is begun and comes back.
-use Rattle.std.proofs.Common.{◌≡◌, ℕ, ◌+◌, ◌<◌, ◌≤◌, [], ◌∷◌, ◌++◌, Some, length, vec_len, vec_capacity, sym, subst, ◌∙◌, ap, arith, rules, append-nil}
+use Rattle.std.proofs.Common.{◌≡◌, ℕ, ◌+◌, ◌<◌, ◌≤◌, [], ◌∷◌, ◌++◌, Some, length, vec_len, vec_capacity, refl, sym, subst, ◌∙◌, ap, arith, rules, append-nil}
 use Rattle.std.specs.Prelude.{Vec}
 use Rattle.std.specs.List.{All}
 use Rattle.std.specs.declared.alloc.Global.{Global}
@@ -32,6 +32,17 @@ module _ (t : TableId) (w : WorldFacts) (sc : ScenarioOf) (floor end : ℕ) wher
     kept = cap;
     rest = all;
     others = e;
+  }
+
+  -- no node is left to be begun, and none is without a thread
+  pub nobody_left : (ns ws : Vec Member Global) → ns.items ≡ [] → ws.items ≡ [] → AreBack t w sc floor end ns ws ns ws
+  nobody_left ns ws none nobody = record {
+    all = subst (All (IsBack t w sc floor end)) (sym none) (λ k d lt. absurd (omega arith));
+    order = refl;
+    len = refl;
+    kept = refl;
+    rest = subst (All (IsBack t w sc floor end)) (sym nobody) (λ k d lt. absurd (omega arith));
+    others = refl;
   }
 
   -- by the clauses of `pop`: the node m is taken

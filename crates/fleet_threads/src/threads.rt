@@ -1,5 +1,5 @@
 // A thread for each node of an epoch.
-ghost use Rattle.std.specs.Prelude.{◌≡◌, true, IfErr, IfOk};
+ghost use Rattle.std.specs.Prelude.{◌≡◌, true, [], IfErr, IfOk};
 ghost use Rattle.std.specs.List.{All};
 ghost use Rattle.std.specs.Thread.{IsSync};
 ghost use Rattle.fleet_threads.specs.Member.{IsUnderWay, IsBack, IsOver, numbers};
@@ -181,9 +181,17 @@ fn begin<'s, E, N: Session + Send + Sync, R: Threads + Wait + Sync, G: Gate + Sy
     }
 }
 
-// Starts the last node, goes on with the others, and joins it. When all are started, those that have no thread are run
-// here. A node whose thread has taken it to the end of the epoch stays there when it is worked on once more. (That `R`
-// and `G` may be shared is a condition, since the bounds of a function that calls itself are not told to its proof.)
+// Whether all other nodes have threads: none is left to be begun, and none was found no thread for.
+fn is_alone(left: &[Member], waiting: &[Member]) -> bool
+    ensures { result ≡ true → (left.now ≡ []) × (waiting.now ≡ []) }
+{
+    left.is_empty() && waiting.is_empty()
+}
+
+// Starts the last node, goes on with the others, and joins it. Where all but one have threads, this thread, which would only
+// wait to join them, is that one's. Else those that have no thread are run here in turns.
+// A node whose thread has taken it to the end of the epoch stays there when it is worked on once more. (That `R` and `G` may
+// be shared is a condition, since the bounds of a function that calls itself are not told to its proof.)
 fn run_from<'s, E, N: Session + Send + Sync, R: Threads + Wait + Sync, G: Gate + Sync>(
     scope: &Scope<'s, E>,
     rt: &'s R,
@@ -203,6 +211,10 @@ fn run_from<'s, E, N: Session + Send + Sync, R: Threads + Wait + Sync, G: Gate +
         rotate(rt, shared, gate, scenario, end, waiting);
         return;
     };
+    if is_alone(members, waiting) {
+        members.push_reserved(work(rt, shared, gate, scenario, end, member));
+        return;
+    }
     match begin(scope, rt, shared, gate, scenario, refused, end, member) {
         Ok(child) => {
             run_from(

@@ -1,16 +1,14 @@
 -- What words and record show is a consistent state.
-use Rattle.std.proofs.Common.{◌≡◌, ℕ, ◌<◌, ◌≤◌, List, length, sym, subst, ◌∙◌, ap, arith}
+use Rattle.std.proofs.Common.{◌≡◌, ℕ, ◌≤◌, List, sym, subst, arith}
 use Rattle.std.specs.Prelude.{slice_index}
-use Rattle.std.specs.List.{All}
 use Rattle.std.proofs.lemmas.List.{get_or_past}
 use native.Mathlib.Decide.{dec_le}
 use Rattle.atomic_table.specs.Table.{State}
 use Rattle.world_core.specs.Sends.{sends_below}
 use Rattle.world_core.specs.Posted.{sent_of}
-use Rattle.world_core.specs.Consistent.{IsConsistent, clock_of}
+use Rattle.world_core.specs.Consistent.{IsConsistent}
 use Rattle.world_core.proofs.Steps.{none_below}
 use Rattle.neighbour_sync.specs.declared.rule.View.{View}
-use Rattle.neighbour_sync.specs.Layout.{clock_at}
 use Rattle.neighbour_sync.specs.Record.{AirRecord}
 use Rattle.neighbour_sync.specs.Shows.{shown, AreShown}
 

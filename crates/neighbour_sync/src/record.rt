@@ -14,11 +14,12 @@ use world_core::{Ask, EPOCH, Heard, NoMemory, Sampled, Send, SendLog, Topo, Worl
 /// recorded sample is what the one order of all cycles gives, and no send that is still to be posted can alter it. Its
 /// room is that of the sends of an epoch: it is cut at the end of each.
 pub struct Air {
+    // What each sample touches stands first, together: the topology has 12 KB.
     seat: AirSeat,
-    topo: Topo,
-    log: SendLog,
     samples: Vec<(Ask, Heard)>,
     floor: u64,
+    log: SendLog,
+    topo: Topo,
 }
 
 // By hand, so that an exit that lets go of one, here and in the crates above, has one call to prove.
@@ -26,10 +27,10 @@ impl Drop for Air {
     fn drop(self) {
         let Air {
             seat: _,
-            topo: _,
-            log: _,
             samples: _,
             floor: _,
+            log: _,
+            topo: _,
         } = self;
     }
 }
@@ -79,10 +80,10 @@ impl Air {
         let log = SendLog::new(alloc, room_for(&topo))?;
         Ok(Air {
             seat,
-            topo,
-            log,
             samples: Vec::new(alloc),
             floor: 0,
+            log,
+            topo,
         })
     }
 

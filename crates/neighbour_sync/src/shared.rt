@@ -3,6 +3,7 @@ ghost use Rattle.std.specs.Prelude.{◌≡◌};
 
 use crate::session::Session;
 use crate::{Air, Clocks, Posted};
+use crossbeam_utils::CachePadded;
 use std::marker::{Model, PhantomData};
 use std::sync::{Mutex, Wait};
 use world_core::{Sampled, Send, World};
@@ -53,12 +54,14 @@ impl<N: Session> Locked<N> {
     }
 }
 
-/// The record of a session under a lock, and the clock words beside it. Threads share it by reference. Whoever takes
-/// the lock knows that record, words and world belong together.
+/// The record of a session under a lock, and the clock words beside it. Threads share it by reference. Whoever takes the
+/// lock knows that record, words and world belong together.
+/// The lock is padded on both sides: threads that wait for it read its word again and again, and would take a line with
+/// the record away from the one that has the lock, and one with `clocks` from all that look at a clock.
 #[derive(Drop)]
 pub struct Shared<W: World, N: Session> {
     clocks: Clocks<W>,
-    lock: Mutex<Locked<N>>,
+    lock: CachePadded<Mutex<CachePadded<Locked<N>>>>,
     ghost clocks_are: { (clocks.table ≡ N.table) × (clocks.world ≡ N.world) },
 }
 
@@ -80,7 +83,7 @@ impl<W: World, N: Session> Shared<W, N> {
         };
         Shared {
             clocks,
-            lock: Mutex::new(locked),
+            lock: CachePadded::new(Mutex::new(CachePadded::new(locked))),
         }
     }
 
@@ -92,7 +95,7 @@ impl<W: World, N: Session> Shared<W, N> {
         ensures sound { IsSound result.1 }
     {
         let Shared { clocks, lock } = self;
-        let Locked { air, of: _ } = lock.into_inner();
+        let Locked { air, of: _ } = lock.into_inner().into_inner().into_inner();
         // The call's clause says that the record is sound.
         let _sound = air.samples();
         (clocks, air)
