@@ -21,8 +21,8 @@ pub enum Fault {
     OtherFloor(u64),
     /// The step is one that a contract forbids, or would wait for ever on one thread.
     Forbidden,
-    /// The line is none of a case file, or has no world to speak of, or asks what may not be asked: of a topology that is
-    /// refused, or of sends that lie outside it.
+    /// The line is none of a case file, or has no world to speak of, or asks what may not be asked: of a topology that
+    /// is refused, or of sends that lie outside it.
     Unreadable,
     /// Want of memory.
     NoMemory,

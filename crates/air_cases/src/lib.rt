@@ -1,6 +1,6 @@
-//! The language of the case files in which the air is told: a line has words, each with the numbers that it needs. `words`
-//! reads a line, `setting` the words that say a topology and a world, and `answer` those that are answers. What the other words do
-//! or ask is each file's library; a word that it does not know ends its run. They are:
+//! The language of the case files in which the air is told: a line has words, each with the numbers that it needs.
+//! `words` reads a line, `setting` the words that say a topology and a world, and `answer` those that are answers. What
+//! the other words do or ask is each file's library; a word that it does not know ends its run. They are:
 //!
 //! - `topo`: nodes, limit, latency and byte time of a topology; it has no links and no spans yet.
 //! - `links`: links, each by the node that is heard and the node that hears.

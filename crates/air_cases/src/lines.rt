@@ -59,8 +59,8 @@ pub trait Lines {
     fn line(&mut self, line: &str) -> Result<u32, Fault>;
 }
 
-/// Does all lines of a file. It gives how many answers were as the file has them, or the number of the first line, from 1, that
-/// stops the run, and why.
+/// Does all lines of a file. It gives how many answers were as the file has them, or the number of the first line, from
+/// 1, that stops the run, and why.
 pub fn run_lines<L: Lines>(lines: &mut L, text: &str) -> Result<u32, (u32, Fault)> {
     let mut number = 0u32;
     let mut count = 0u32;

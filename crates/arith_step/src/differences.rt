@@ -4,7 +4,7 @@ ghost use Rattle.avr_base.specs.Flags.{Z, has_flag};
 ghost use Rattle.arith_step.specs.Whole.{one_if, signs_of};
 ghost use Rattle.arith_step.specs.Bytes.{complemented, decremented, negated, subtracted};
 
-use crate::flags::{T_AND_I, carries_at, result, signs_at};
+use crate::flags::{T_AND_I, carries_at, signs_without_overflow, with_result};
 use avr_base::Sreg;
 
 // The flag Z.
@@ -25,7 +25,7 @@ fn difference(a: u8, b: u8, borrow: bool) -> u32
 fn difference_signs(r: u8, keep_z: bool, s: Sreg) -> u8
     ensures { result ≡ signs_of (nat_le 128 r) (if keep_z then has_flag s.bits Z && r == 0 else r == 0) false }
 {
-    let signs = signs_at(r);
+    let signs = signs_without_overflow(r);
     if keep_z {
         signs & (s.bits | !ZERO)
     } else {
@@ -54,7 +54,7 @@ pub fn com(a: u8, s: Sreg) -> (u8, Sreg)
     ensures { result ≡ complemented a s }
 {
     let r = 255 - a;
-    (r, result(s.with(Sreg::C, true), r, false))
+    (r, with_result(s.with(Sreg::C, true), r, false))
 }
 
 /// NEG: `0 - a` modulo 256, with the flags of that difference; T and I stay.
@@ -72,5 +72,5 @@ pub fn dec(a: u8, s: Sreg) -> (u8, Sreg)
     ensures { result ≡ decremented a s }
 {
     let r = a.wrapping_sub(1);
-    (r, result(s, r, r == 127))
+    (r, with_result(s, r, r == 127))
 }

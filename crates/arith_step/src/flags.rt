@@ -46,7 +46,7 @@ pub const H_T_AND_I: u8 = 0xE0;
 
 /// N, Z and S of a result that is a byte, at their bits of SREG, where V is 0.
 #[inline]
-pub fn signs_at(r: u8) -> u8
+pub fn signs_without_overflow(r: u8) -> u8
     ensures listed { result ≡ slice_index_or SIGNS r 0 }
     ensures value { result ≡ signs_of (nat_le 128 r) (r == 0) false }
 {
@@ -76,13 +76,13 @@ fn turned(signs: u8) -> u8
 fn signs_of(r: u8, v: bool) -> u8
     ensures { result ≡ signs_of (nat_le 128 r) (r == 0) v }
 {
-    let signs = signs_at(r);
+    let signs = signs_without_overflow(r);
     if v { turned(signs) } else { signs }
 }
 
 /// SREG `s` with N, Z, V and S of a result `r` that is a byte, which overflowed where `v`; C, H, T and I stay.
 #[inline]
-pub fn result(s: Sreg, r: u8, v: bool) -> Sreg
+pub fn with_result(s: Sreg, r: u8, v: bool) -> Sreg
     ensures { result.bits ≡ with_result 128 r v s.bits }
 {
     Sreg {

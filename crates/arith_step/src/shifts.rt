@@ -3,7 +3,7 @@ ghost use Rattle.std.specs.Prelude.{◌≡◌, false, nat_le};
 ghost use Rattle.avr_base.specs.Flags.{has_flag};
 ghost use Rattle.arith_step.specs.Bytes.{shifted};
 
-use crate::flags::{H_T_AND_I, signs_at};
+use crate::flags::{H_T_AND_I, signs_without_overflow};
 use avr_base::Sreg;
 
 #[inline]
@@ -15,7 +15,7 @@ fn shift(top: bool, a: u8, s: Sreg) -> (u8, Sreg)
     let r = a / 2 + 128 * top;
     let c = a % 2;
     let v = c ^ top;
-    let flags = signs_at(r) ^ c ^ (v * 0x18);
+    let flags = signs_without_overflow(r) ^ c ^ (v * 0x18);
     let bits = (s.bits & H_T_AND_I) | flags;
     (r, Sreg { bits })
 }

@@ -3,7 +3,7 @@ ghost use Rattle.std.specs.Prelude.{◌≡◌, ◌+ℤ◌, pos};
 ghost use Rattle.arith_step.specs.Whole.{one_if, signed};
 ghost use Rattle.arith_step.specs.Bytes.{added, incremented, logical};
 
-use crate::flags::{T_AND_I, carries_at, result, signs_at};
+use crate::flags::{T_AND_I, carries_at, signs_without_overflow, with_result};
 use avr_base::Sreg;
 
 /// ADD and ADC: `a + b + carry` modulo 256, and the flags C, Z, N, V, S and H of that sum in `s`; T and I stay.
@@ -14,7 +14,7 @@ pub fn add(a: u8, b: u8, carry: bool, s: Sreg) -> (u8, Sreg)
 {
     let sum = u32::from(a) + u32::from(b) + u32::from(carry);
     let r = (sum % 256) as u8;
-    let flags = signs_at(r) ^ carries_at(a, b, sum);
+    let flags = signs_without_overflow(r) ^ carries_at(a, b, sum);
     let bits = (s.bits & T_AND_I) | flags;
     (r, Sreg { bits })
 }
@@ -25,7 +25,7 @@ pub fn add(a: u8, b: u8, carry: bool, s: Sreg) -> (u8, Sreg)
 pub fn logic(r: u8, s: Sreg) -> Sreg
     ensures { result ≡ logical r s }
 {
-    result(s, r, false)
+    with_result(s, r, false)
 }
 
 /// INC: `a + 1` modulo 256, and N, Z, V and S of that sum; C, H, T and I stay.
@@ -35,5 +35,5 @@ pub fn inc(a: u8, s: Sreg) -> (u8, Sreg)
     ensures { result ≡ incremented a s }
 {
     let r = a.wrapping_add(1);
-    (r, result(s, r, r == 128))
+    (r, with_result(s, r, r == 128))
 }

@@ -14,7 +14,7 @@ use Rattle.asm_words.specs.Text.{is_label}
 use Rattle.asm_words.specs.Encoded.{part, part_of, with_part, with_parts, is_undefined}
 use Rattle.asm_words.specs.Fields.{register_bits, number_bits, displaced_of}
 use Rattle.asm_words.specs.Number.{digits_of, number, register}
-use Rattle.asm_words.specs.Target.{hop_of}
+use Rattle.asm_words.specs.Target.{offset_of}
 use Rattle.asm_words.specs.declared.form.Field.{Field}
 use Rattle.asm_words.specs.declared.form.Field.TheVariants.{Register, Number, Displaced, Jump, Branch}
 use Rattle.asm_words.specs.declared.form.RegisterField.TheVariants.{Middle, Split, UpperMiddle}
@@ -109,11 +109,11 @@ module _ (at : ℕ) (labels : Labels) where
   three_all = refl
 
   pub jump_all : all_from (gives Jump (λ n. operand.Offset (signed 12 n)) (λ n. n)) 0 4096 ≡ true
-  unfolding digits operand_text offset_text part_of digits_of number is_label hop_of
+  unfolding digits operand_text offset_text part_of digits_of number is_label offset_of
   jump_all = refl
 
   pub branch_all : all_from (gives Branch (λ n. operand.Offset (signed 7 n)) (λ n. 8 * n)) 0 128 ≡ true
-  unfolding digits operand_text offset_text part_of digits_of number is_label hop_of
+  unfolding digits operand_text offset_text part_of digits_of number is_label offset_of
   branch_all = refl
 
   pub past_y_all : all_from (gives Displaced (λ n. operand.PastY n) (λ n. n / 32 * 8192 + n / 8 % 4 * 1024 + n % 8 + 8)) 0 64 ≡ true

@@ -14,7 +14,7 @@ use Rattle.asm_words.specs.Encoded.{encoded, part_of, piece}
 use Rattle.asm_words.specs.Fields.{register_bits, number_bits, pointer, flash_pointer, displaced_of}
 use Rattle.asm_words.specs.Number.{digits_of, number, register}
 use Rattle.asm_words.specs.Opcodes.{bare, one_plain, one_alias, two_registers, two_narrow, two_signed, two_constant, two_memory, two_bits}
-use Rattle.asm_words.specs.Target.{hop_of}
+use Rattle.asm_words.specs.Target.{offset_of}
 use Rattle.asm_words.specs.declared.instruction.Piece.{Piece}
 use Rattle.asm_words.specs.declared.instruction.WordFault.{WordFault}
 use Rattle.asm_laws.specs.Printed.{Labels, assembled, one_word}
@@ -32,19 +32,19 @@ comes_back at labels next w = elim (by_patterns w) [ true ↦ true | false ↦ i
 
 module _ (at : ℕ) (labels : Labels) (next : ℕ) where
   words_0 : all_from (comes_back at labels next) 0 1024 ≡ true
-  unfolding digits op_at rows_at bits_at shown operand_text pointer_text hex2 hex4 offset_text is_label encoded part_of register_bits number_bits pointer flash_pointer displaced_of digits_of number register bare one_plain one_alias two_registers two_narrow two_signed two_constant two_memory two_bits hop_of
+  unfolding digits op_at rows_at bits_at shown operand_text pointer_text hex2 hex4 offset_text is_label encoded part_of register_bits number_bits pointer flash_pointer displaced_of digits_of number register bare one_plain one_alias two_registers two_narrow two_signed two_constant two_memory two_bits offset_of
   words_0 = refl
 
   words_36864 : all_from (comes_back at labels next) 36864 2048 ≡ true
-  unfolding digits op_at rows_at bits_at shown operand_text pointer_text hex2 hex4 offset_text is_label encoded part_of register_bits number_bits pointer flash_pointer displaced_of digits_of number register bare one_plain one_alias two_registers two_narrow two_signed two_constant two_memory two_bits hop_of
+  unfolding digits op_at rows_at bits_at shown operand_text pointer_text hex2 hex4 offset_text is_label encoded part_of register_bits number_bits pointer flash_pointer displaced_of digits_of number register bare one_plain one_alias two_registers two_narrow two_signed two_constant two_memory two_bits offset_of
   words_36864 = refl
 
   words_38912 : all_from (comes_back at labels next) 38912 1024 ≡ true
-  unfolding digits op_at rows_at bits_at shown operand_text pointer_text hex2 hex4 offset_text is_label encoded part_of register_bits number_bits pointer flash_pointer displaced_of digits_of number register bare one_plain one_alias two_registers two_narrow two_signed two_constant two_memory two_bits hop_of
+  unfolding digits op_at rows_at bits_at shown operand_text pointer_text hex2 hex4 offset_text is_label encoded part_of register_bits number_bits pointer flash_pointer displaced_of digits_of number register bare one_plain one_alias two_registers two_narrow two_signed two_constant two_memory two_bits offset_of
   words_38912 = refl
 
   words_63488 : all_from (comes_back at labels next) 63488 2048 ≡ true
-  unfolding digits op_at rows_at bits_at shown operand_text pointer_text hex2 hex4 offset_text is_label encoded part_of register_bits number_bits pointer flash_pointer displaced_of digits_of number register bare one_plain one_alias two_registers two_narrow two_signed two_constant two_memory two_bits hop_of
+  unfolding digits op_at rows_at bits_at shown operand_text pointer_text hex2 hex4 offset_text is_label encoded part_of register_bits number_bits pointer flash_pointer displaced_of digits_of number register bare one_plain one_alias two_registers two_narrow two_signed two_constant two_memory two_bits offset_of
   words_63488 = refl
 
 when_one : (b c : Bool) → elim b [ true ↦ true | false ↦ c ] ≡ true → b ≡ false → c ≡ true

@@ -5,12 +5,12 @@ use Rattle.std.proofs.lemmas.Bool.{not-true, not-false, cases_Bool}
 use Rattle.std.proofs.lemmas.Bool.Decides.{nat_tests}
 use Rattle.avr_base.proofs.Computed.{all_from, all_from-at}
 use Rattle.avr_decoder.specs.Opcodes.{op_at, rows_at}
-use Rattle.asm_words.specs.Encoded.{encoded, part, part_of, register_part, hop_part, reach_part, with_part, with_parts, is_undefined}
+use Rattle.asm_words.specs.Encoded.{encoded, part, part_of, register_part, offset_part, reach_part, with_part, with_parts, is_undefined}
 use Rattle.asm_words.specs.Fields.{register_bits, number_bits, pointer, displaced_of}
 use Rattle.asm_words.specs.Number.{digit, digits_of, is_digit, number, register}
 use Rattle.asm_words.specs.Opcodes.{bare, one_plain, one_alias, two_registers, two_narrow, two_signed, two_constant, two_memory, two_bits}
-use Rattle.asm_words.specs.Target.{hop, hop_of, reach}
-use Rattle.asm_words.specs.declared.target.Hop.{Hop}
+use Rattle.asm_words.specs.Target.{offset, offset_of, reach}
+use Rattle.asm_words.specs.declared.target.JumpOffset.{JumpOffset}
 use Rattle.asm_words.specs.declared.form.RegisterField.TheVariants.{Middle, Split, Both}
 use Rattle.asm_words.specs.declared.instruction.WordFault.{WordFault}
 use Rattle.asm_words.specs.declared.instruction.WordFault.TheVariants.{OutOfReach}
@@ -53,7 +53,7 @@ forward_bits false words bits e h =
     let near : nat_le 64 words ≡ false = sym e in
     grind (arith, nat_tests)
 
-reach_bits : (back : Bool) (words bits : ℕ) → reach 64 (hop back words) ≡ Ok bits → bits < 128
+reach_bits : (back : Bool) (words bits : ℕ) → reach 64 (offset back words) ≡ Ok bits → bits < 128
 reach_bits true words bits h = back_bits (nat_lt 64 words) words bits h
 reach_bits false words bits h = forward_bits (nat_le 64 words) words bits refl h
 
@@ -69,26 +69,26 @@ reached : (opcode flag : ℕ) (r : Result ℕ WordFault) → ((bits : ℕ) → r
 reached opcode flag (Err f) small e all = refl
 reached opcode flag (Ok bits) small e all = rw (e, sure (opcode + flag) bits all (small bits refl)) refl
 
-branch : (opcode flag : ℕ) (r : Result Hop WordFault) → (opcode + flag) % 65536 ≡ opcode + flag → all_from (is_sure (opcode + flag)) 0 128 ≡ true
-    → with_part (opcode + flag) (hop_part 64 8 r) ≡ with_parts opcode (Ok (part flag None)) (hop_part 64 8 r)
+branch : (opcode flag : ℕ) (r : Result JumpOffset WordFault) → (opcode + flag) % 65536 ≡ opcode + flag → all_from (is_sure (opcode + flag)) 0 128 ≡ true
+    → with_part (opcode + flag) (offset_part 64 8 r) ≡ with_parts opcode (Ok (part flag None)) (offset_part 64 8 r)
 branch opcode flag (Err f) e all = refl
 branch opcode flag (Ok h) e all = reached opcode flag (reach 64 h) (λ bits r. reach_bits h.is_back h.words bits r) e all
 
 pub brcs_is : IsBranch (codes "brcs") (codes "brbs") (codes "0")
 unfolding op_at rows_at encoded part_of number_bits digits_of number one_plain one_alias two_registers two_narrow two_signed two_constant two_memory two_bits
-brcs_is target at labels = branch 0xF000 0 (hop_of target at labels) refl refl
+brcs_is target at labels = branch 0xF000 0 (offset_of target at labels) refl refl
 
 pub brcc_is : IsBranch (codes "brcc") (codes "brbc") (codes "0")
 unfolding op_at rows_at encoded part_of number_bits digits_of number one_plain one_alias two_registers two_narrow two_signed two_constant two_memory two_bits
-brcc_is target at labels = branch 0xF400 0 (hop_of target at labels) refl refl
+brcc_is target at labels = branch 0xF400 0 (offset_of target at labels) refl refl
 
 pub breq_is : IsBranch (codes "breq") (codes "brbs") (codes "1")
 unfolding op_at rows_at encoded part_of number_bits digits_of number one_plain one_alias two_registers two_narrow two_signed two_constant two_memory two_bits
-breq_is target at labels = branch 0xF000 1 (hop_of target at labels) refl refl
+breq_is target at labels = branch 0xF000 1 (offset_of target at labels) refl refl
 
 pub brne_is : IsBranch (codes "brne") (codes "brbc") (codes "1")
 unfolding op_at rows_at encoded part_of number_bits digits_of number one_plain one_alias two_registers two_narrow two_signed two_constant two_memory two_bits
-brne_is target at labels = branch 0xF400 1 (hop_of target at labels) refl refl
+brne_is target at labels = branch 0xF400 1 (offset_of target at labels) refl refl
 
 -- a register that is read has a number below 32
 one_digit : (b : Bool) (a n : ℕ) → b ≡ (not (is_digit 10 a)) → (if b then None else Some (digit a)) ≡ Some n → n < 32

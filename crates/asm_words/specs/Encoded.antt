@@ -8,9 +8,9 @@ use Rattle.asm_words.specs.Line.{Texts, Zero, One, Two, Many}
 use Rattle.asm_words.specs.Number.{number, register}
 use Rattle.asm_words.specs.Fields.{register_bits, number_bits, pointer, flash_pointer, displaced_of}
 use Rattle.asm_words.specs.Opcodes.{bare, one, two, is_known}
-use Rattle.asm_words.specs.Target.{hop_of, reach}
+use Rattle.asm_words.specs.Target.{offset_of, reach}
 use Rattle.asm_words.specs.declared.labels.Label.{Label}
-use Rattle.asm_words.specs.declared.target.Hop.{Hop}
+use Rattle.asm_words.specs.declared.target.JumpOffset.{JumpOffset}
 use Rattle.asm_words.specs.declared.form.Field.{Field}
 use Rattle.asm_words.specs.declared.form.Field.TheVariants as field
 use Rattle.asm_words.specs.declared.form.RegisterField.{RegisterField}
@@ -58,9 +58,9 @@ reach_part scale (Err f) = Err f
 reach_part scale (Ok bits) = Ok (part (scale * bits) None)
 
 -- a relative target, in a field that reaches half words back and whose lowest place has this value
-abbrev pub hop_part : ℕ → ℕ → Result Hop WordFault → Result Part WordFault
-hop_part half scale (Err f) = Err f
-hop_part half scale (Ok h) = reach_part scale (reach half h)
+abbrev pub offset_part : ℕ → ℕ → Result JumpOffset WordFault → Result Part WordFault
+offset_part half scale (Err f) = Err f
+offset_part half scale (Ok h) = reach_part scale (reach half h)
 
 -- what an operand gives in a field of an instruction at a word address
 unfoldable pub part_of : Field → List ℕ → ℕ → (List ℕ → Option Label) → Result Part WordFault
@@ -71,8 +71,8 @@ part_of field.FlashPointer text at labels = bits_part (flash_pointer text)
 part_of field.Displaced text at labels = bits_part (displaced_of text)
 part_of field.Data text at labels = data_part (number text)
 part_of field.Place text at labels = place_part text labels
-part_of field.Jump text at labels = hop_part 2048 1 (hop_of text at labels)
-part_of field.Branch text at labels = hop_part 64 8 (hop_of text at labels)
+part_of field.Jump text at labels = offset_part 2048 1 (offset_of text at labels)
+part_of field.Branch text at labels = offset_part 64 8 (offset_of text at labels)
 
 -- a mnemonic that has no form with so many operands, or that is none
 abbrev pub no_form : List ℕ → WordFault

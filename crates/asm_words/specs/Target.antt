@@ -3,40 +3,40 @@ use Rattle.std.specs.Prelude.{ℕ, ◌+◌, ◌-◌, ◌*◌, ◌/◌, ◌%◌, 
 use Rattle.asm_words.specs.Text.{is_label}
 use Rattle.asm_words.specs.Number.{number}
 use Rattle.asm_words.specs.declared.labels.Label.{Label}
-use Rattle.asm_words.specs.declared.target.Hop.{Hop}
+use Rattle.asm_words.specs.declared.target.JumpOffset.{JumpOffset}
 use Rattle.asm_words.specs.declared.instruction.WordFault.{WordFault}
 use Rattle.asm_words.specs.declared.instruction.WordFault.TheVariants.{BadOperand, NoLabel, OutOfReach}
 
-abbrev pub hop : Bool → ℕ → Hop
-hop is_back words = record { is_back = is_back; words = words }
+abbrev pub offset : Bool → ℕ → JumpOffset
+offset is_back words = record { is_back = is_back; words = words }
 
 -- a distance in bytes: no instruction begins at an odd one
-abbrev pub distance : Bool → Option ℕ → Result Hop WordFault
+abbrev pub distance : Bool → Option ℕ → Result JumpOffset WordFault
 distance is_back None = Err BadOperand
-distance is_back (Some n) = if n % 2 == 1 then Err OutOfReach else Ok (hop is_back (n / 2))
+distance is_back (Some n) = if n % 2 == 1 then Err OutOfReach else Ok (offset is_back (n / 2))
 
 -- from the instruction behind the one at a word address to another address
-abbrev pub hop_to : ℕ → ℕ → Hop
-hop_to at address = if nat_lt at address then hop false (address - at - 1) else hop true (at + 1 - address)
+abbrev pub offset_to : ℕ → ℕ → JumpOffset
+offset_to at address = if nat_lt at address then offset false (address - at - 1) else offset true (at + 1 - address)
 
-abbrev pub label_hop : Option Label → ℕ → Result Hop WordFault
-label_hop None at = Err NoLabel
-label_hop (Some label) at = Ok (hop_to at label.address)
+abbrev pub label_offset : Option Label → ℕ → Result JumpOffset WordFault
+label_offset None at = Err NoLabel
+label_offset (Some label) at = Ok (offset_to at label.address)
 
-abbrev pub hop_to_label : List ℕ → ℕ → (List ℕ → Option Label) → Result Hop WordFault
-hop_to_label text at labels = if not (is_label text) then Err BadOperand else label_hop (labels text) at
+abbrev pub offset_to_label : List ℕ → ℕ → (List ℕ → Option Label) → Result JumpOffset WordFault
+offset_to_label text at labels = if not (is_label text) then Err BadOperand else label_offset (labels text) at
 
 -- a relative target: . and + or -, 46, 43 and 45, and the bytes from the next instruction, or a label
-unfoldable pub hop_of : List ℕ → ℕ → (List ℕ → Option Label) → Result Hop WordFault
-hop_of [] at labels = hop_to_label [] at labels
-hop_of (a ∷ []) at labels = hop_to_label (a ∷ []) at labels
-hop_of (a ∷ b ∷ digits) at labels =
+unfoldable pub offset_of : List ℕ → ℕ → (List ℕ → Option Label) → Result JumpOffset WordFault
+offset_of [] at labels = offset_to_label [] at labels
+offset_of (a ∷ []) at labels = offset_to_label (a ∷ []) at labels
+offset_of (a ∷ b ∷ digits) at labels =
     if a == 46 && b == 43 then distance false (number digits)
     else if a == 46 && b == 45 then distance true (number digits)
-    else hop_to_label (a ∷ b ∷ digits) at labels
+    else offset_to_label (a ∷ b ∷ digits) at labels
 
--- the bits of a hop in a field of two's complement that reaches half words back and one less forward
-abbrev pub reach : ℕ → Hop → Result ℕ WordFault
+-- the bits of an offset in a field of two's complement that reaches half words back and one less forward
+abbrev pub reach : ℕ → JumpOffset → Result ℕ WordFault
 reach half h =
     if h.is_back then (if nat_lt half h.words then Err OutOfReach else Ok ((2 * half - h.words) % (2 * half)))
     else if nat_le half h.words then Err OutOfReach

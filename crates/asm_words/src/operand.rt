@@ -4,8 +4,8 @@ ghost use Rattle.asm_words.specs.Number.{number, register};
 ghost use Rattle.asm_words.specs.Fields.{register_bits, number_bits};
 ghost use Rattle.asm_words.specs.Labels.{label_at};
 ghost use Rattle.asm_words.specs.Opcodes.{has_word};
-ghost use Rattle.asm_words.specs.Target.{hop_of};
-ghost use Rattle.asm_words.specs.Encoded.{bits_part, data_part, number_part, register_part, hop_part, place_label, place_part, part_of};
+ghost use Rattle.asm_words.specs.Target.{offset_of};
+ghost use Rattle.asm_words.specs.Encoded.{bits_part, data_part, number_part, register_part, offset_part, place_label, place_part, part_of};
 
 use crate::field::{displaced_by, flash_pointer, number_bits, pointer, register_bits};
 use crate::form::{Field, NumberField, RegisterField};
@@ -13,7 +13,7 @@ use crate::instruction::WordFault;
 use crate::is_label;
 use crate::labels::{Label, find_label};
 use crate::number::{number, register};
-use crate::target::{reach, read_hop};
+use crate::target::{reach, read_offset};
 use std::collections::BTreeMap;
 
 /// What an operand gives.
@@ -97,7 +97,7 @@ fn place_part<'t>(text: &'t [u8], labels: &BTreeMap<&'t [u8], Label>) -> Result<
     data_part(number(text))
 }
 
-fn hop_part<'t>(
+fn offset_part<'t>(
     half: u32,
     scale: u32,
     text: &'t [u8],
@@ -108,12 +108,12 @@ fn hop_part<'t>(
     requires small { half ≤ 2048 }
     requires scale { scale ≤ 8 }
     requires at { at ≤ 65536 }
-    ensures value { result ≡ hop_part half scale (hop_of text.entry.now at (label_at labels.now)) }
+    ensures value { result ≡ offset_part half scale (offset_of text.entry.now at (label_at labels.now)) }
     ensures first { IfOk result (λ p. p.second ≡ None) }
 {
-    match read_hop(text, at, labels) {
+    match read_offset(text, at, labels) {
         Err(fault) => Err(fault),
-        Ok(hop) => match reach(half, hop) {
+        Ok(offset) => match reach(half, offset) {
             Err(fault) => Err(fault),
             Ok(bits) => Ok(Part {
                 bits: (scale * bits) as u16,
@@ -143,7 +143,7 @@ pub fn read_operand<'t>(
         Field::Displaced => bits_part(displaced_by(text)),
         Field::Data => data_part(number(text)),
         Field::Place => place_part(text, labels),
-        Field::Jump => hop_part(2048, 1, text, at, labels),
-        Field::Branch => hop_part(64, 8, text, at, labels),
+        Field::Jump => offset_part(2048, 1, text, at, labels),
+        Field::Branch => offset_part(64, 8, text, at, labels),
     }
 }

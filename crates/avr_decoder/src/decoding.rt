@@ -7,7 +7,8 @@ ghost use Rattle.avr_decoder.specs.declared.op.Op.TheVariants.{Undefined};
 use crate::Op;
 use crate::fields::{
     address, branch_offset, constant, displacement, flag, jump_offset, low_address, low_three,
-    middle, pair_d, pair_r, short_constant, short_d, short_r, split, upper_d, upper_r, word_pair,
+    pair_d, pair_r, reg_8_4, reg_9_3_0, short_constant, short_d, short_r, upper_d, upper_r,
+    word_pair,
 };
 
 // The numbers of the pointers' pairs of registers: r27:r26, r29:r28 and r31:r30.
@@ -124,8 +125,8 @@ fn carry_or_sum(word: u16, next: u16) -> Op
     requires high { word / 1024 ≤ 3 }
     ensures { result ≡ op_at word next }
 {
-    let d = middle(word);
-    let r = split(word);
+    let d = reg_8_4(word);
+    let r = reg_9_3_0(word);
     match word >> 10 {
         1 => Op::Cpc { d, r },
         2 => Op::Sbc { d, r },
@@ -141,8 +142,8 @@ fn two_registers(word: u16, next: u16) -> Op
     requires high { word / 1024 ≤ 11 }
     ensures { result ≡ op_at word next }
 {
-    let d = middle(word);
-    let r = split(word);
+    let d = reg_8_4(word);
+    let r = reg_9_3_0(word);
     match word >> 10 {
         4 => Op::Cpse { d, r },
         5 => Op::Cp { d, r },
@@ -164,7 +165,7 @@ fn displaced(word: u16, next: u16) -> Op
     ensures { result ≡ op_at word next }
 {
     let q = displacement(word);
-    let register = middle(word);
+    let register = reg_8_4(word);
     if word / 512 % 2 == 0 {
         if word / 8 % 2 == 0 {
             Op::LddZ { d: register, q }
@@ -187,9 +188,15 @@ fn in_or_out(word: u16, next: u16) -> Op
 {
     let a = address(word);
     if word >> 11 == 0x16 {
-        Op::InIo { d: middle(word), a }
+        Op::InIo {
+            d: reg_8_4(word),
+            a,
+        }
     } else {
-        Op::OutIo { a, r: middle(word) }
+        Op::OutIo {
+            a,
+            r: reg_8_4(word),
+        }
     }
 }
 
@@ -232,8 +239,8 @@ fn page_9(word: u16, next: u16) -> Op
             b: low_three(word),
         },
         _ => Op::Mul {
-            d: middle(word),
-            r: split(word),
+            d: reg_8_4(word),
+            r: reg_9_3_0(word),
         },
     }
 }
@@ -258,7 +265,7 @@ fn load(word: u16, next: u16) -> Op
     requires { word / 512 ≡ 72 }
     ensures { result ≡ op_at word next }
 {
-    let d = middle(word);
+    let d = reg_8_4(word);
     match word % 16 {
         0x0 => Op::Lds { d, k: next },
         0x1 => moving(word, Z_PAIR, Op::LdZInc { d }),
@@ -284,7 +291,7 @@ fn store(word: u16, next: u16) -> Op
     requires { word / 512 ≡ 73 }
     ensures { result ≡ op_at word next }
 {
-    let r = middle(word);
+    let r = reg_8_4(word);
     match word % 16 {
         0x0 => Op::Sts { k: next, r },
         0x1 => moving(word, Z_PAIR, Op::StZInc { r }),
@@ -306,7 +313,7 @@ fn single(word: u16, next: u16) -> Op
     requires { word / 512 ≡ 74 }
     ensures { result ≡ op_at word next }
 {
-    let d = middle(word);
+    let d = reg_8_4(word);
     match word % 16 {
         0x0 => Op::Com { d },
         0x1 => Op::Neg { d },
@@ -398,7 +405,7 @@ fn register_bit(word: u16, next: u16) -> Op
     if word / 8 % 2 == 1 {
         return Op::Reserved { word };
     }
-    let register = middle(word);
+    let register = reg_8_4(word);
     let b = low_three(word);
     match word >> 9 {
         0x7C => Op::Bld { d: register, b },

@@ -8,7 +8,7 @@ use avr_base::Reg;
 /// Bits 8 to 4: the register `d`, or the `r` of a store.
 #[inline]
 #[tactic(auto, unfolding(crate::specs::Opcodes::bits_at))]
-pub fn middle(word: u16) -> Reg
+pub fn reg_8_4(word: u16) -> Reg
     ensures { result ≡ spelled d (codes "000011rdddddrrrr") word }
 {
     Reg::numbered((word / 16 % 32) as u8)
@@ -17,7 +17,7 @@ pub fn middle(word: u16) -> Reg
 /// Bit 9 and the low four: the `r` of two registers.
 #[inline]
 #[tactic(auto, unfolding(crate::specs::Opcodes::bits_at))]
-pub fn split(word: u16) -> Reg
+pub fn reg_9_3_0(word: u16) -> Reg
     ensures { result ≡ spelled r (codes "000011rdddddrrrr") word }
 {
     Reg::numbered((word / 512 % 2 * 16 + word % 16) as u8)

@@ -4,8 +4,8 @@ use Rattle.avr_timers.specs.Clock.{cycles}
 use Rattle.avr_timers.specs.Registers16.{compare_of, control_b, get_of}
 use Rattle.avr_timers.specs.Timer as counter
 use Rattle.avr_timers.specs.Timer16.{counter_of, timer_cycle, with_counter}
-use Rattle.avr_timers.specs.declared.registers16.Chan.{Chan}
-use Rattle.avr_timers.specs.declared.registers16.Chan.TheVariants.{A, B, C}
+use Rattle.avr_timers.specs.declared.registers16.Channel.{Channel}
+use Rattle.avr_timers.specs.declared.registers16.Channel.TheVariants.{A, B, C}
 use Rattle.avr_timers.specs.declared.registers16.Reg16.{Reg16}
 use Rattle.avr_timers.specs.declared.registers16.Reg16.TheVariants.{ControlA, ControlB, ControlC, CountL, CountH, IcrL, IcrH, CompL, CompH}
 use Rattle.avr_timers.specs.declared.timer16.Timer16.{Timer16}
@@ -39,7 +39,7 @@ is_count IcrH = false
 is_count (CompL chan) = false
 is_count (CompH chan) = false
 
-same_compare : (chan : Chan) (tm : Timer16) (c : TimerCounter) → compare_of (with_counter tm c) chan ≡ compare_of tm chan
+same_compare : (chan : Channel) (tm : Timer16) (c : TimerCounter) → compare_of (with_counter tm c) chan ≡ compare_of tm chan
 same_compare A tm c = refl
 same_compare B tm c = refl
 same_compare C tm c = refl

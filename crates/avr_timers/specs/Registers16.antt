@@ -7,20 +7,20 @@ use Rattle.device_base.specs.Bits.{any_bit, bit}
 use Rattle.avr_timers.specs.declared.prescaler.Prescaler.TheVariants.{Shared}
 use Rattle.avr_timers.specs.Prescaler.{is_pin}
 use Rattle.avr_timers.specs.declared.mode.Mode16.{Mode16}
-use Rattle.avr_timers.specs.declared.registers16.Chan.{Chan}
-use Rattle.avr_timers.specs.declared.registers16.Chan.TheVariants.{A, B, C}
+use Rattle.avr_timers.specs.declared.registers16.Channel.{Channel}
+use Rattle.avr_timers.specs.declared.registers16.Channel.TheVariants.{A, B, C}
 use Rattle.avr_timers.specs.declared.registers16.Reg16.{Reg16}
 use Rattle.avr_timers.specs.declared.registers16.Reg16.TheVariants.{ControlA, ControlB, ControlC, CountL, CountH, IcrL, IcrH, CompL, CompH}
 use Rattle.avr_timers.specs.declared.timer16.Timer16.{Timer16}
 use Rattle.avr_timers.specs.Mode.{mode_of, number_of}
 use Rattle.avr_timers.specs.Timer16.{clears_at_icr}
 
-abbrev pub compare_of : Timer16 → Chan → ℕ
+abbrev pub compare_of : Timer16 → Channel → ℕ
 compare_of tm A = tm.compare_a
 compare_of tm B = tm.compare_b
 compare_of tm C = tm.compare_c
 
-abbrev pub with_compare : Timer16 → Chan → ℕ → Timer16
+abbrev pub with_compare : Timer16 → Channel → ℕ → Timer16
 with_compare tm A value = record tm { compare_a = value }
 with_compare tm B value = record tm { compare_b = value }
 with_compare tm C value = record tm { compare_c = value }

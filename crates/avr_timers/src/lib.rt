@@ -26,7 +26,7 @@ pub use flags::TimerFlags;
 pub use mode::Mode16;
 pub use prescaler::Prescaler;
 pub use registers8::Reg8;
-pub use registers16::{Chan, Reg16};
+pub use registers16::{Channel, Reg16};
 pub use timer_counter::TimerCounter;
 pub use timer8::Timer8;
 pub use timer16::Timer16;

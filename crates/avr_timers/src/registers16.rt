@@ -7,7 +7,7 @@ use device_base::{any_bit, bit};
 
 /// The channel of a compare value.
 #[derive(Clone, Copy)]
-pub enum Chan {
+pub enum Channel {
     /// OCRA, the top in mode 4.
     A,
     /// OCRB.
@@ -34,9 +34,9 @@ pub enum Reg16 {
     /// The high byte of ICR.
     IcrH,
     /// The low byte of a compare value.
-    CompL(Chan),
+    CompL(Channel),
     /// The high byte of a compare value.
-    CompH(Chan),
+    CompH(Channel),
 }
 
 impl Timer16 {
@@ -53,24 +53,24 @@ impl Timer16 {
     }
 
     // The compare value of a channel.
-    fn compare(&self, chan: Chan) -> u16
+    fn compare(&self, chan: Channel) -> u16
         ensures { result ≡ compare_of self.now chan }
     {
         match chan {
-            Chan::A => self.compare_a,
-            Chan::B => self.compare_b,
-            Chan::C => self.compare_c,
+            Channel::A => self.compare_a,
+            Channel::B => self.compare_b,
+            Channel::C => self.compare_c,
         }
     }
 
     // Sets the compare value of a channel.
-    fn set_compare(&mut self, chan: Chan, value: u16)
+    fn set_compare(&mut self, chan: Channel, value: u16)
         ensures { self.new ≡ with_compare self.old chan value }
     {
         match chan {
-            Chan::A => self.compare_a = value,
-            Chan::B => self.compare_b = value,
-            Chan::C => self.compare_c = value,
+            Channel::A => self.compare_a = value,
+            Channel::B => self.compare_b = value,
+            Channel::C => self.compare_c = value,
         }
     }
 
@@ -107,8 +107,8 @@ impl Timer16 {
         }
     }
 
-    /// What the register `reg` reads as after the `n` cycles from `cycle` on, of which the timer is not told: a read that
-    /// does not move it, but for TEMP.
+    /// What the register `reg` reads as after the `n` cycles from `cycle` on, of which the timer is not told: a read
+    /// that does not move it, but for TEMP.
     #[inline(always)]
     pub fn get_later(&mut self, cycle: u64, n: u64, reg: Reg16) -> u8
         requires { cycle + n ≤ 2 ^ 41 }

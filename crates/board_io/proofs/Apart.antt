@@ -4,7 +4,7 @@ use Rattle.std.specs.Prelude.{bit_and}
 use Rattle.std.proofs.lemmas.Bool.{and_parts, eq-eqb}
 use Rattle.std.proofs.lemmas.List.{get_or-set_other}
 use Rattle.avr_base.specs.declared.stop.StopCause.{StopCause}
-use Rattle.board_io.specs.declared.ahead.Ahead.{Ahead}
+use Rattle.board_io.specs.declared.ahead.Forecast.{Forecast}
 use Rattle.board_io.specs.declared.board.Board.{Board}
 use Rattle.board_io.specs.declared.rules.Rule.{Rule}
 use Rattle.board_io.specs.declared.rules.Rule.TheVariants.{Reserved, Pin, Kept, Guarded, WatchdogControl, ResetFlags, CpuControl, TimerFlags, ExtendedTimerFlags, Timer0, Timer1, Timer2, Timer3, Usart0, Spi}
@@ -44,7 +44,7 @@ record IsLike (b c : Board) : Type 0 where
 itself : (b : Board) → IsLike b b
 itself b = record { clock = refl; quiet = λ t. refl; calm = λ t i. refl; lines = refl }
 
-like_ahead : (a : Ahead) (b c : Board) → IsLike b c → IsAhead a b → IsAhead a c
+like_ahead : (a : Forecast) (b c : Board) → IsLike b c → IsAhead a b → IsAhead a c
 like_ahead a b c like h =
     let e = like.clock in
     let s = h.settled in
@@ -126,7 +126,7 @@ module _ (rule : Rule) (b : Board) (at s : ℕ) (e : is_plain_read rule ≡ true
   read_by (Ok x) c v is h = read_ok x c v h is
   read_by (Err cause) c v is h = (subst (λ (w : Board). get_by rule w at ≡ Err cause) is (got (Err cause) h.0), ap (caught_up s) h.1 ∙ is)
 
-  pub read_ahead_by : (r : Result ℕ StopCause) (a : Ahead) (c : Board) → IsGot (get_by rule b at) b r c → IsAhead a b → IsAhead a c
+  pub read_ahead_by : (r : Result ℕ StopCause) (a : Forecast) (c : Board) → IsGot (get_by rule b at) b r c → IsAhead a b → IsAhead a c
   read_ahead_by (Ok x) a c h k = like_ahead a b c (got (Ok (x, c)) h).1 k
   read_ahead_by (Err cause) a c h k = subst (IsAhead a) (sym h.1) k
 
@@ -154,10 +154,10 @@ like_t3 b tm e = subst (λ (u : Timer16). IsLike b (let c : Board = record b { t
     temp_like : (x : ℕ) → IsLike b (let c : Board = record b { t3 = with_temp x b.t3 } in c)
     temp_like x = record { clock = refl; quiet = λ t. refl; calm = λ t i. refl; lines = refl }
 
-pub ahead_t1 : (a : Ahead) (b : Board) (tm : Timer16) → tm ≡ with_temp tm.temp b.t1 → IsAhead a b → IsAhead a (let c : Board = record b { t1 = tm } in c)
+pub ahead_t1 : (a : Forecast) (b : Board) (tm : Timer16) → tm ≡ with_temp tm.temp b.t1 → IsAhead a b → IsAhead a (let c : Board = record b { t1 = tm } in c)
 ahead_t1 a b tm e h = like_ahead a b (let c : Board = record b { t1 = tm } in c) (like_t1 b tm e) h
 
-pub ahead_t3 : (a : Ahead) (b : Board) (tm : Timer16) → tm ≡ with_temp tm.temp b.t3 → IsAhead a b → IsAhead a (let c : Board = record b { t3 = tm } in c)
+pub ahead_t3 : (a : Forecast) (b : Board) (tm : Timer16) → tm ≡ with_temp tm.temp b.t3 → IsAhead a b → IsAhead a (let c : Board = record b { t3 = tm } in c)
 ahead_t3 a b tm e h = like_ahead a b (let c : Board = record b { t3 = tm } in c) (like_t3 b tm e) h
 
 module _ (rule : Rule) (b v : Board) (at s x : ℕ) (is : caught_up s b ≡ v) where
@@ -251,7 +251,7 @@ module _ (rule : Rule) (b : Board) (at x s : ℕ) (e : is_plain_write rule at �
   write_by (Ok u) c v is h = write_ok c v h is
   write_by (Err cause) c v is h = (subst (λ (w : Board). put_by rule w at x ≡ Err cause) is (done (Err cause) h.0), ap (caught_up s) h.1 ∙ is)
 
-  pub write_ahead_by : (r : Result (Unit {0}) StopCause) (a : Ahead) (c : Board) → IsPut (put_by rule b at x) b r c → IsAhead a b → IsAhead a c
+  pub write_ahead_by : (r : Result (Unit {0}) StopCause) (a : Forecast) (c : Board) → IsPut (put_by rule b at x) b r c → IsAhead a b → IsAhead a c
   write_ahead_by (Ok u) a c h k = like_ahead a b c (done (Ok c) h).1 k
   write_ahead_by (Err cause) a c h k = subst (IsAhead a) (sym h.1) k
 

@@ -1,7 +1,7 @@
 -- An access to USART0 or to the serial peripheral interface is the same on a board whose timers lag, and leaves these.
 use Rattle.std.proofs.Common.{◌≡◌, ℕ, ◌+◌, ◌-◌, ◌<◌, true, false, Result, Ok, Err, refl, sym, ap, ◌∙◌, subst}
 use Rattle.avr_base.specs.declared.stop.StopCause.{StopCause}
-use Rattle.board_io.specs.declared.ahead.Ahead.{Ahead}
+use Rattle.board_io.specs.declared.ahead.Forecast.{Forecast}
 use Rattle.board_io.specs.declared.board.Board.{Board}
 use Rattle.board_io.specs.declared.rules.Rule.{Rule}
 use Rattle.board_io.specs.declared.rules.Rule.TheVariants.{Reserved, Pin, Kept, Guarded, WatchdogControl, ResetFlags, CpuControl, TimerFlags, ExtendedTimerFlags, Timer0, Timer1, Timer2, Timer3, Usart0, Spi}
@@ -115,5 +115,5 @@ module _ (rule : Rule) (b : Board) (at s : ℕ) (e : is_port rule ≡ true) wher
   done_timers x (Err cause) c h = subst (IsBeside b) (sym h.1) (itself b)
 
 -- so what was known of the timers is known still
-pub calm_beside : (a : Ahead) (b c : Board) → IsBeside b c → IsAhead a b → (i : ℕ) → a.settled + i < a.next → sets_flag_at a.settled c i ≡ false
+pub calm_beside : (a : Forecast) (b c : Board) → IsBeside b c → IsAhead a b → (i : ℕ) → a.settled + i < a.next → sets_flag_at a.settled c i ≡ false
 calm_beside a b c k h i below = k.calm a.settled i ∙ h.calm i below

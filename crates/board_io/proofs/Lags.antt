@@ -1,11 +1,11 @@
 -- A board that lags: what its value is, and what stays known of it.
 use Rattle.std.proofs.Common.{◌≡◌, ℕ, ◌+◌, ◌-◌, ◌<◌, ◌≤◌, true, false, Option, Some, None, refl, sym, ap, ◌∙◌, subst, arith}
-use Rattle.board_io.specs.declared.ahead.Ahead.{Ahead}
+use Rattle.board_io.specs.declared.ahead.Forecast.{Forecast}
 use Rattle.board_io.specs.declared.board.Board.{Board}
 use Rattle.board_io.specs.Board.{clock_at, sleep_mode, unclocked}
 use Rattle.board_io.specs.Cycle.{air_of, board_air, board_answered, board_begun, board_quiet, board_serial, moved, moved_by, timers_cycle, timers_leap, transfer_end, usart_cycle, with_moved}
-use Rattle.serial_ports.specs.declared.radio.Moved.{Moved}
-use Rattle.serial_ports.specs.declared.radio.Moved.TheVariants.{Answer, Send, Ask}
+use Rattle.serial_ports.specs.declared.radio.TransferOutcome.{TransferOutcome}
+use Rattle.serial_ports.specs.declared.radio.TransferOutcome.TheVariants.{Answer, Send, Ask}
 use Rattle.serial_ports.specs.declared.radio.Radio.{Radio}
 use Rattle.world_core.specs.declared.air.Heard.{Heard}
 use Rattle.board_io.specs.Lagging.{IsAhead, IsIdle, caught_up}
@@ -60,11 +60,11 @@ moved_by_clock u t (Some byte) b = refl
 moved_same : (u t : ℕ) (b : Board) → moved t (clock_at u b) ≡ moved t b
 moved_same u t b = moved_by_clock u t (ended_byte b.spi.shift_register t) b
 
-moved_clock : (m : Option (Moved × Radio)) (u : ℕ) (b : Board) → with_moved m (clock_at u b) ≡ clock_at u (with_moved m b)
+moved_clock : (m : Option (TransferOutcome × Radio)) (u : ℕ) (b : Board) → with_moved m (clock_at u b) ≡ clock_at u (with_moved m b)
 moved_clock None u b = refl
 moved_clock (Some m) u b = ended_clock m.0 m.1 u b
   where
-    ended_clock : (m : Moved) (r : Radio) (u : ℕ) (b : Board) → transfer_end m r (clock_at u b) ≡ clock_at u (transfer_end m r b)
+    ended_clock : (m : TransferOutcome) (r : Radio) (u : ℕ) (b : Board) → transfer_end m r (clock_at u b) ≡ clock_at u (transfer_end m r b)
     ended_clock (Answer miso) r u b = refl
     ended_clock (Send byte miso) r u b = refl
     ended_clock Ask r u b = refl
@@ -73,7 +73,7 @@ pub begun_clock : (u t : ℕ) (a : Option ℕ) (b : Board) → board_begun t a (
 unfolding board_begun
 begun_clock u t a b =
     let c : Board = usart_cycle t a (timers_cycle t b) in
-    ap (λ (m : Option (Moved × Radio)). with_moved m (clock_at u c)) (moved_same u t b) ∙ moved_clock (moved t b) u c
+    ap (λ (m : Option (TransferOutcome × Radio)). with_moved m (clock_at u c)) (moved_same u t b) ∙ moved_clock (moved t b) u c
 
 pub serial_clock : (u t : ℕ) (b : Board) → board_serial t (clock_at u b) ≡ board_serial t b
 unfolding board_serial
@@ -94,7 +94,7 @@ caught_zero t b e = let none : b.clock - t ≡ 0 = omega (arith, e) in ap (λ (n
 pub caught_clock : (t : ℕ) (b : Board) → (caught_up t b).clock ≡ b.clock
 caught_clock t b = clock_leap t (b.clock - t) b
 
-pub clock_now : (a : Ahead) (b v : Board) → caught_up a.settled b ≡ v → b.clock ≡ v.clock
+pub clock_now : (a : Forecast) (b v : Board) → caught_up a.settled b ≡ v → b.clock ≡ v.clock
 clock_now a b v e = sym (caught_clock a.settled b) ∙ ap (λ (w : Board). w.clock) e
 
 bits_same : (l m : Lines) → l.bits ≡ m.bits → l ≡ m
@@ -107,7 +107,7 @@ idle_clock n v h = record {
 }
 
 -- ---- a board that lags
-module _ (a : Ahead) (b : Board) (h : IsAhead a b) where
+module _ (a : Forecast) (b : Board) (h : IsAhead a b) where
   same : (i : ℕ) → a.settled + i ≤ a.next → (lines_of (timers_leap a.settled i b)).bits ≡ a.lines
   same i le = ap (λ (l : Lines). l.bits) (lines_calm a.settled i b (λ j l. h.calm j (omega (arith, le, l)))) ∙ h.lines
 

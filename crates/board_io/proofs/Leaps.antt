@@ -4,7 +4,7 @@ use Rattle.std.proofs.lemmas.Bool.{and_parts}
 use Rattle.board_io.specs.declared.board.Board.{Board}
 use Rattle.board_io.specs.declared.cycle.OnAir.TheVariants.{Quiet}
 use Rattle.board_io.specs.Cycle.{air_of, board_air, board_asks, board_begun, board_quiet, board_sends, board_serial, is_asks, moved, moved_by, sent_by, timers_cycle, timers_leap, usart_cycle, with_moved}
-use Rattle.serial_ports.specs.declared.radio.Moved.{Moved}
+use Rattle.serial_ports.specs.declared.radio.TransferOutcome.{TransferOutcome}
 use Rattle.serial_ports.specs.declared.radio.Radio.{Radio}
 use Rattle.avr_timers.specs.Clock.{cycles}
 use Rattle.serial_ports.specs.declared.transmission.Transmission.{Transmission}
@@ -64,7 +64,7 @@ quiet_cycle t b e = ap (λ (u : Usart). let c : Board = record (timers_cycle t b
 pub begun_quiet : (t : ℕ) (b : Board) → board_quiet t b ≡ true → board_begun t None b ≡ timers_leap t 1 b
 unfolding board_begun
 begun_quiet t b e =
-    ap (λ (m : Option (Moved × Radio)). with_moved m (usart_cycle t None (timers_cycle t b))) (none_moved t b e) ∙ (quiet_cycle t b e ∙ sym (leap_one t b))
+    ap (λ (m : Option (TransferOutcome × Radio)). with_moved m (usart_cycle t None (timers_cycle t b))) (none_moved t b e) ∙ (quiet_cycle t b e ∙ sym (leap_one t b))
 
 -- and has no frame, sends nothing and asks nothing
 pub serial_quiet : (t : ℕ) (b : Board) → board_quiet t b ≡ true → board_serial t b ≡ None

@@ -3,7 +3,7 @@ use Rattle.std.proofs.Common.{◌≡◌, ℕ, suc, ◌+◌, ◌-◌, ◌≤◌, 
 use Rattle.board_io.specs.declared.board.Board.{Board}
 use Rattle.board_io.specs.declared.cycle.OnAir.{OnAir}
 use Rattle.board_io.specs.Cycle.{air_of, board_air, board_begun, board_serial, moved, moved_by, ports_begun, timers_cycle, timers_leap, usart_cycle, with_moved}
-use Rattle.serial_ports.specs.declared.radio.Moved.{Moved}
+use Rattle.serial_ports.specs.declared.radio.TransferOutcome.{TransferOutcome}
 use Rattle.serial_ports.specs.declared.radio.Radio.{Radio}
 use Rattle.serial_ports.specs.Transmission.{ended_byte}
 use Rattle.board_io.proofs.Leaps.{leap_next}
@@ -18,7 +18,7 @@ moved_timers t b = by_timers t (ended_byte b.spi.shift_register t) b
 pub begun_ports : (t : ℕ) (a : Option ℕ) (b c new : Board) → c ≡ timers_cycle t b → new ≡ ports_begun t a c → new ≡ board_begun t a b
 unfolding ports_begun board_begun
 begun_ports t a b c new ticked is =
-    is ∙ (ap (ports_begun t a) ticked ∙ ap (λ (m : Option (Moved × Radio)). with_moved m (usart_cycle t a (timers_cycle t b))) (moved_timers t b))
+    is ∙ (ap (ports_begun t a) ticked ∙ ap (λ (m : Option (TransferOutcome × Radio)). with_moved m (usart_cycle t a (timers_cycle t b))) (moved_timers t b))
 
 pub serial_ports : (t : ℕ) (b c : Board) (r : Option ℕ) → c ≡ timers_cycle t b → r ≡ board_serial t c → r ≡ board_serial t b
 unfolding board_serial

@@ -15,8 +15,8 @@ use Rattle.board_io.specs.Names.{IVSEL, SPI_STC, SRE, TIMER0_COMP, TIMER0_OVF, T
 use Rattle.board_io.specs.Registers.{get_by, io_get, io_put, put_by, with_spi, with_t0, with_t1, with_t2, with_t3, with_usart}
 use Rattle.board_io.specs.Table.{rule_of}
 use Rattle.serial_ports.proofs.RadioLaws.{transfer_free, transfer_gap, transfer_sends}
-use Rattle.serial_ports.specs.declared.radio.Moved.{Moved}
-use Rattle.serial_ports.specs.declared.radio.Moved.TheVariants.{Answer, Send, Ask}
+use Rattle.serial_ports.specs.declared.radio.TransferOutcome.{TransferOutcome}
+use Rattle.serial_ports.specs.declared.radio.TransferOutcome.TheVariants.{Answer, Send, Ask}
 use Rattle.serial_ports.specs.declared.radio.Radio.{Radio}
 use Rattle.serial_ports.specs.Radio.{radio_transfer}
 use Rattle.device_base.specs.Bits.{any_bit}
@@ -32,7 +32,7 @@ use Rattle.serial_ports.specs.UsartRegisters as usart
 use Rattle.world_core.specs.declared.air.Heard.{Heard}
 
 -- ---- a cycle
-end_radio : (m : Moved) (r : Radio) (b : Board) → (transfer_end m r b).radio ≡ r
+end_radio : (m : TransferOutcome) (r : Radio) (b : Board) → (transfer_end m r b).radio ≡ r
 end_radio (Answer miso) r b = refl
 end_radio (Send byte miso) r b = refl
 end_radio Ask r b = refl
@@ -51,7 +51,7 @@ free_by t (Some x) b c e =
     let g = transfer_free t (selected b) x b.radio in
     omega (arith, f, g)
 
-sent_is : (m : Moved) (x : ℕ) → sent_by (air_by m) ≡ Some x → (miso : ℕ) × (m ≡ Send x miso)
+sent_is : (m : TransferOutcome) (x : ℕ) → sent_by (air_by m) ≡ Some x → (miso : ℕ) × (m ≡ Send x miso)
 sent_is (Answer miso) x e = absurd (cc)
 sent_is (Send byte miso) x e = (miso, cc)
 sent_is Ask x e = absurd (cc)

@@ -1,6 +1,6 @@
 -- What serving an interrupt does to a board whose timers lag: it clears a flag, now as well as later.
 use Rattle.std.proofs.Common.{◌≤◌, ◌≡◌, ℕ, ◌+◌, ◌-◌, ◌<◌, ◌==◌, ◌||◌, if◌then◌else◌, Bool, true, false, refl, sym, ap, ◌∙◌, arith}
-use Rattle.board_io.specs.declared.ahead.Ahead.{Ahead}
+use Rattle.board_io.specs.declared.ahead.Forecast.{Forecast}
 use Rattle.board_io.specs.declared.board.Board.{Board}
 use Rattle.board_io.specs.Cycle.{board_quiet, timers_leap}
 use Rattle.board_io.specs.Lagging.{IsAhead, caught_up}
@@ -81,7 +81,7 @@ module _ (s n : ℕ) (b : Board) (none : (i : ℕ) → i < n → sets_flag_at s 
   served word =
       pick (word == TIMER2_COMP) _ _ _ _ (is_t2 (record no_flags { ocf_a = true })) (pick (word == TIMER2_OVF) _ _ _ _ (is_t2 (record no_flags { tov = true })) (pick (word == TIMER1_COMPA) _ _ _ _ (is_t1 (record no_flags { ocf_a = true })) (pick (word == TIMER1_COMPB) _ _ _ _ (is_t1 (record no_flags { ocf_b = true })) (pick (word == TIMER1_OVF) _ _ _ _ (is_t1 (record no_flags { tov = true })) (pick (word == TIMER0_COMP) _ _ _ _ (is_t0 (record no_flags { ocf_a = true })) (pick (word == TIMER0_OVF) _ _ _ _ (is_t0 (record no_flags { tov = true })) (pick (word == SPI_STC) _ _ _ _ is_spi (pick (word == USART0_TX) _ _ _ _ is_usart (pick (word == TIMER1_COMPC) _ _ _ _ (is_t1 (record no_flags { ocf_c = true })) (pick (word == TIMER3_COMPA) _ _ _ _ (is_t3 (record no_flags { ocf_a = true })) (pick (word == TIMER3_COMPB) _ _ _ _ (is_t3 (record no_flags { ocf_b = true })) (pick (word == TIMER3_COMPC) _ _ _ _ (is_t3 (record no_flags { ocf_c = true })) (pick (word == TIMER3_OVF) _ _ _ _ (is_t3 (record no_flags { tov = true })) is_none)))))))))))))
 
-module _ (a : Ahead) (b : Board) (h : IsAhead a b) (word : ℕ) where
+module _ (a : Forecast) (b : Board) (h : IsAhead a b) (word : ℕ) where
   is : IsServed a.settled (b.clock - a.settled) b (calm_now a b h) (entered_of word b) (entered_of word (caught_up a.settled b))
   is = served a.settled (b.clock - a.settled) b (calm_now a b h) word
 
@@ -89,7 +89,7 @@ module _ (a : Ahead) (b : Board) (h : IsAhead a b) (word : ℕ) where
   calm_first m i below l = h.calm i (omega (arith, below, l))
 
   -- what is known of it stays known, but for its lines
-  pub served_ahead : (lines clear : ℕ) → lines ≡ (lines_of (entered_of word b)).bits → clear ≤ a.next → (0 < clear → lines ≡ 0) → IsAhead (let c : Ahead = record a { lines = lines; clear = clear } in c) (entered_of word b)
+  pub served_ahead : (lines clear : ℕ) → lines ≡ (lines_of (entered_of word b)).bits → clear ≤ a.next → (0 < clear → lines ≡ 0) → IsAhead (let c : Forecast = record a { lines = lines; clear = clear } in c) (entered_of word b)
   served_ahead lines clear e within down =
       let k = is in
       let at = k.clock in

@@ -7,8 +7,8 @@ use Rattle.board_io.specs.declared.board.Board.{Board}
 use Rattle.board_io.specs.declared.cycle.OnAir.{OnAir}
 use Rattle.board_io.specs.declared.cycle.OnAir.TheVariants.{Quiet, Sent, Asks}
 use Rattle.board_io.specs.Board.{selected}
-use Rattle.serial_ports.specs.declared.radio.Moved.{Moved}
-use Rattle.serial_ports.specs.declared.radio.Moved.TheVariants.{Answer, Send, Ask}
+use Rattle.serial_ports.specs.declared.radio.TransferOutcome.{TransferOutcome}
+use Rattle.serial_ports.specs.declared.radio.TransferOutcome.TheVariants.{Answer, Send, Ask}
 use Rattle.serial_ports.specs.declared.radio.Radio.{Radio}
 use Rattle.serial_ports.specs.Radio.{radio_transfer, radio_answered}
 use Rattle.avr_timers.specs.Clock.{cycles}
@@ -46,20 +46,20 @@ abbrev pub usart_cycle : ℕ → Option ℕ → Board → Board
 usart_cycle t arrival b = record b { usart = usart.usart_cycle t (received arrival b.usart) }
 
 -- what the radio makes of the byte of the transfer that ends in cycle t; nothing where none ends
-abbrev pub moved_by : ℕ → Option ℕ → Board → Option (Moved × Radio)
+abbrev pub moved_by : ℕ → Option ℕ → Board → Option (TransferOutcome × Radio)
 moved_by t None b = None
 moved_by t (Some byte) b = Some (radio_transfer t (selected b) byte b.radio)
 
-abbrev pub moved : ℕ → Board → Option (Moved × Radio)
+abbrev pub moved : ℕ → Board → Option (TransferOutcome × Radio)
 moved t b = moved_by t (ended_byte b.spi.shift_register t) b
 
 -- the end of a transfer whose answer is known; a sample waits for what it hears
-abbrev pub transfer_end : Moved → Radio → Board → Board
+abbrev pub transfer_end : TransferOutcome → Radio → Board → Board
 transfer_end (Answer miso) radio b = record b { radio = radio; spi = spi.spi_finished miso b.spi }
 transfer_end (Send byte miso) radio b = record b { radio = radio; spi = spi.spi_finished miso b.spi }
 transfer_end Ask radio b = record b { radio = radio }
 
-abbrev pub with_moved : Option (Moved × Radio) → Board → Board
+abbrev pub with_moved : Option (TransferOutcome × Radio) → Board → Board
 with_moved None b = b
 with_moved (Some m) b = transfer_end m.0 m.1 b
 
@@ -76,12 +76,12 @@ unfoldable pub board_serial : ℕ → Board → Option ℕ
 board_serial t b = usart.frame_ended t b.usart
 
 -- what the radio does on the air, by what a transfer comes to
-abbrev pub air_by : Moved → OnAir
+abbrev pub air_by : TransferOutcome → OnAir
 air_by (Answer miso) = Quiet
 air_by (Send byte miso) = Sent byte
 air_by Ask = Asks
 
-abbrev pub air_of : Option (Moved × Radio) → OnAir
+abbrev pub air_of : Option (TransferOutcome × Radio) → OnAir
 air_of None = Quiet
 air_of (Some m) = air_by m.0
 

@@ -2,7 +2,7 @@
 -- `next` nothing of it ends and no timer sets a flag, so that flags and lines can be told without a leap of the timers.
 use Rattle.std.specs.Prelude.{◌≡◌, ℕ, ◌+◌, ◌-◌, ◌^◌, ◌<◌, ◌≤◌, ◌==◌, ◌&&◌, not, Bool, true, false, Ok}
 use Rattle.board_io.specs.declared.board.Board.{Board}
-use Rattle.board_io.specs.declared.ahead.Ahead.{Ahead}
+use Rattle.board_io.specs.declared.ahead.Forecast.{Forecast}
 use Rattle.board_io.specs.Board.{clock_at}
 use Rattle.board_io.specs.Cycle.{board_quiet, timers_leap}
 use Rattle.board_io.specs.Registers.{io_get}
@@ -22,7 +22,7 @@ abbrev pub caught_up : ℕ → Board → Board
 caught_up settled b = timers_leap settled (b.clock - settled) b
 
 -- what is kept of a board that lags is true of it
-pub record IsAhead (a : Ahead) (b : Board) : Type 0 where
+pub record IsAhead (a : Forecast) (b : Board) : Type 0 where
   pub settled : a.settled ≤ b.clock
   pub next : b.clock ≤ a.next
   pub early : a.next ≤ 2 ^ 40
@@ -135,7 +135,8 @@ is_still_read (Timer3 reg) b = false
 is_still_read (Usart0 reg) b = not (is_udr reg)
 is_still_read (Spi reg) b = is_still_port reg b.spi
 
--- a load at a data address gives this byte and changes nothing, whatever the clock shows and how far ever the timers ran
+-- a load at a data address gives this byte and changes nothing, whatever the clock shows and how far ever the timers
+-- ran
 pub record ReadsStill (b : Board) (at : ℕ) : Type 0 where
   pub byte : ℕ
   pub gives : (u t n : ℕ) → io_get (clock_at u (timers_leap t n b)) at ≡ Ok (byte, clock_at u (timers_leap t n b))

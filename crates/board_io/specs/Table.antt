@@ -8,7 +8,7 @@ use Rattle.board_io.specs.declared.rules.Rule.{Rule}
 use Rattle.board_io.specs.declared.rules.Rule.TheVariants.{Reserved, Pin, Kept, Guarded, WatchdogControl, ResetFlags, CpuControl, TimerFlags, ExtendedTimerFlags, Timer0, Timer1, Timer2, Timer3, Usart0, Spi}
 use Rattle.board_io.specs.Names.{ACIC, ACIE, ADEN, ADSC, AS0, EEMWE, EERE, EERIE, EEWE, MCUCSR, PORF, PORTA, PORTB, PORTC, PORTD, PORTE, PORTF, PORTG, PSR0, PSR321, RXEN1, TICIE1, TICIE3, TSM, TWAR, TWDR, TWEN, TWSR, TXEN1, UCSR1A, UCSR1C, XDIVEN}
 use Rattle.serial_ports.specs.declared.spi_registers.SpiReg.TheVariants as spi
-use Rattle.avr_timers.specs.declared.registers16.Chan.TheVariants.{A, B, C}
+use Rattle.avr_timers.specs.declared.registers16.Channel.TheVariants.{A, B, C}
 use Rattle.avr_timers.specs.declared.registers16.Reg16.TheVariants as reg16
 use Rattle.avr_timers.specs.declared.registers8.Reg8.TheVariants as reg8
 use Rattle.serial_ports.specs.declared.usart_registers.UsartReg.TheVariants as usart

@@ -10,14 +10,15 @@ const LAST: u64 = 1 << 40;
 
 /// What is known of a board whose timers have done the cycles below one.
 #[derive(Clone, Copy)]
-pub struct Ahead {
+pub struct Forecast {
     /// That cycle.
     pub settled: u64,
     /// Below this cycle, 2^40 at most, no frame and no transfer ends, and up to its beginning the lines stay.
     pub next: u64,
     /// The interrupt lines.
     pub lines: u64,
-    /// `next` where no line is up, else 0: so one comparison tells whether cycles pass in which no interrupt can be due.
+    /// `next` where no line is up, else 0: so one comparison tells whether cycles pass in which no interrupt can be
+    /// due.
     pub clear: u64,
 }
 
@@ -35,7 +36,7 @@ impl Board {
 
     /// What is known of it from the cycle of its clock on, which its timers have come to.
     #[inline(never)]
-    pub fn ahead(&self) -> Ahead
+    pub fn ahead(&self) -> Forecast
         requires { self.now.clock ≤ 2 ^ 40 }
         ensures settled { result.settled ≡ self.now.clock }
         ensures ahead { IsAhead result self.now }
@@ -45,7 +46,7 @@ impl Board {
         let same = self.same_lines(settled, calm + 1);
         let next = settled + (same - 1);
         let lines = self.lines().bits;
-        Ahead {
+        Forecast {
             settled,
             next,
             lines,
@@ -54,7 +55,7 @@ impl Board {
     }
 
     /// What is known of it, where of its timers what `before` tells is known still.
-    pub fn ahead_beside(&self, before: Ahead) -> Ahead
+    pub fn ahead_beside(&self, before: Forecast) -> Forecast
         requires settled { before.settled ≤ self.now.clock }
         requires next { self.now.clock ≤ before.next }
         requires early { before.next ≤ 2 ^ 40 }
@@ -66,7 +67,7 @@ impl Board {
         let calm = self.quiet(clock, before.next - clock);
         let next = clock + calm;
         let lines = self.lines().bits;
-        Ahead {
+        Forecast {
             settled: before.settled,
             next,
             lines,

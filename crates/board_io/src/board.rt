@@ -92,7 +92,7 @@ impl Board {
     }
 
     /// Sets the cycle in which its registers are accessed from now on.
-    pub fn at(&mut self, cycle: u64)
+    pub fn set_clock(&mut self, cycle: u64)
         requires { cycle ≤ 2 ^ 41 }
         ensures { self.new ≡ clock_at cycle self.old }
     {

@@ -6,7 +6,7 @@ ghost use Rattle.avr_timers.specs.Timer8 as timer8;
 
 use crate::Board;
 use avr_timers::{Timer8, Timer16};
-use serial_ports::{Moved, ended_byte};
+use serial_ports::{TransferOutcome, ended_byte};
 use world_core::Heard;
 
 /// What the radio of a node does on the air in a cycle.
@@ -25,16 +25,16 @@ pub enum OnAir {
 
 /// What the devices did in a cycle.
 #[derive(Clone, Copy)]
-pub struct Begun {
+pub struct CycleOutput {
     /// The byte of the frame of USART0 that ended in it.
     pub serial: Option<u8>,
     /// What the radio did.
     pub air: OnAir,
 }
 
-impl Begun {
+impl CycleOutput {
     /// Nothing.
-    pub const NOTHING: Begun = Begun {
+    pub const NOTHING: CycleOutput = CycleOutput {
         serial: None,
         air: OnAir::Quiet,
     };
@@ -94,22 +94,22 @@ impl Board {
     }
 
     // The end of a transfer, by what the radio, which has it already, makes of its byte.
-    fn end_transfer(&mut self, moved: Moved) -> OnAir
+    fn end_transfer(&mut self, moved: TransferOutcome) -> OnAir
         requires { is_some self.old.spi.shift_register ≡ true }
         ensures state { self.new ≡ transfer_end moved self.old.radio self.old }
         ensures air { result ≡ air_by moved }
         ensures waits { is_asks result ≡ true → is_some self.new.spi.shift_register ≡ true }
     {
         match moved {
-            Moved::Answer(miso) => {
+            TransferOutcome::Answer(miso) => {
                 self.spi.finish(miso);
                 OnAir::Quiet
             }
-            Moved::Send { byte, miso } => {
+            TransferOutcome::Send { byte, miso } => {
                 self.spi.finish(miso);
                 OnAir::Sent { byte }
             }
-            Moved::Ask => OnAir::Asks,
+            TransferOutcome::Ask => OnAir::Asks,
         }
     }
 
@@ -130,11 +130,11 @@ impl Board {
         }
     }
 
-    /// The part of USART0, with the byte that arrives, and of the serial peripheral interface and the radio in the cycle
-    /// `cycle`, which follows that of the timers. It looks at no timer.
+    /// The part of USART0, with the byte that arrives, and of the serial peripheral interface and the radio in the
+    /// cycle `cycle`, which follows that of the timers. It looks at no timer.
     #[inline(always)]
     #[tactic(auto, unfolding(crate::specs::Cycle::ports_begun, crate::specs::Cycle::board_serial, crate::specs::Cycle::board_air))]
-    pub fn begin_ports(&mut self, cycle: u64, arrival: Option<u8>) -> Begun
+    pub fn begin_ports(&mut self, cycle: u64, arrival: Option<u8>) -> CycleOutput
         requires { cycle ≤ 2 ^ 41 }
         ensures state { self.new ≡ ports_begun cycle arrival self.old }
         ensures serial { result.serial ≡ board_serial cycle self.old }
@@ -143,14 +143,14 @@ impl Board {
     {
         let serial = self.tick_usart(cycle, arrival);
         let air = self.exchange(cycle);
-        Begun { serial, air }
+        CycleOutput { serial, air }
     }
 
     /// The devices' part of the cycle `cycle`: the timers, then USART0 with the byte that arrives, then the serial
     /// peripheral interface and the radio. Where the radio samples the air the cycle is left there, and `answer`, with
     /// what is heard, does the rest.
     #[tactic(auto, using(crate::proofs::Ports::begun_ports, crate::proofs::Ports::serial_ports, crate::proofs::Ports::air_ports))]
-    pub fn begin(&mut self, cycle: u64, arrival: Option<u8>) -> Begun
+    pub fn begin(&mut self, cycle: u64, arrival: Option<u8>) -> CycleOutput
         requires { cycle ≤ 2 ^ 41 }
         ensures state { self.new ≡ board_begun cycle arrival self.old }
         ensures serial { result.serial ≡ board_serial cycle self.old }

@@ -2,8 +2,8 @@
 ghost use Rattle.std.specs.Prelude.{◌≡◌, ◌≤◌, ◌<◌, ◌+◌, ◌-◌, ◌*◌, ◌^◌, true, false, is_some};
 ghost use Rattle.board_io.specs.Lagging.{IsIdle};
 
-use crate::ahead::{Ahead, clear_until};
-use crate::{Begun, Board, Clock, Sleep};
+use crate::ahead::{Forecast, clear_until};
+use crate::{Board, Clock, CycleOutput, Sleep};
 use avr_base::{Lines, Vector};
 use std::marker::Model;
 use world_core::Heard;
@@ -14,7 +14,7 @@ use world_core::Heard;
 #[derive(Drop)]
 pub struct LaggingBoard {
     pub(crate) board: Board,
-    pub(crate) ahead: Ahead,
+    pub(crate) ahead: Forecast,
 }
 
 impl Model for LaggingBoard {
@@ -75,7 +75,7 @@ impl LaggingBoard {
     /// Passes cycles, of at most `most`, in which no frame and no transfer ends and each of which begins with the lines
     /// of now, as far as what runs now tells: how many it were.
     #[inline]
-    pub fn pass(&mut self, most: u64) -> u64
+    pub fn leap_up_to(&mut self, most: u64) -> u64
         ensures within { result ≤ most }
         ensures idle { IsIdle self.old.clock result (unclocked self.old) }
         ensures state { unclocked self.new ≡ timers_leap self.old.clock result (unclocked self.old) }
@@ -91,7 +91,7 @@ impl LaggingBoard {
     /// Passes whole rounds of `length` cycles, of at most `most` cycles in all, in none of which a frame or a transfer
     /// ends or the lines change, as far as what runs now tells: how many rounds.
     #[inline]
-    pub fn pass_rounds(&mut self, most: u64, length: u64) -> u64
+    pub fn leap_rounds(&mut self, most: u64, length: u64) -> u64
         requires { 0 < length }
         ensures within { result * length ≤ most }
         ensures idle { IsIdle self.old.clock (result * length) (unclocked self.old) }
@@ -108,7 +108,7 @@ impl LaggingBoard {
     /// Passes the `n` cycles from `cycle` on, which is that of its clock, if no frame and no transfer ends in any of
     /// them and each begins with the lines of now, as far as what runs now tells: whether it passed them.
     #[inline]
-    pub fn passes(&mut self, cycle: u64, n: u8) -> bool
+    pub fn leap_whole(&mut self, cycle: u64, n: u8) -> bool
         requires now { self.old.clock ≡ cycle }
         ensures idle { result ≡ true → IsIdle cycle n (unclocked self.old) }
         ensures state { result ≡ true → unclocked self.new ≡ timers_leap cycle n (unclocked self.old) }
@@ -125,10 +125,11 @@ impl LaggingBoard {
         true
     }
 
-    /// Passes the `n` cycles from `cycle` on, which is that of its clock, if no interrupt line is up, no frame and no transfer
-    /// ends in any of them and no line comes up before they are over, as far as what runs now tells: whether it passed them.
+    /// Passes the `n` cycles from `cycle` on, which is that of its clock, if no interrupt line is up, no frame and no
+    /// transfer ends in any of them and no line comes up before they are over, as far as what runs now tells: whether
+    /// it passed them.
     #[inline(always)]
-    pub fn passes_clear(&mut self, cycle: u64, n: u8) -> bool
+    pub fn leap_clear(&mut self, cycle: u64, n: u8) -> bool
         requires now { self.old.clock ≡ cycle }
         requires some { 0 < n }
         ensures idle { result ≡ true → IsIdle cycle n (unclocked self.old) }
@@ -148,7 +149,7 @@ impl LaggingBoard {
 
     // The devices' part of a cycle in which something may end.
     #[inline(never)]
-    fn begin_caught_up(&mut self, cycle: u64, arrival: Option<u8>) -> Begun
+    fn begin_caught_up(&mut self, cycle: u64, arrival: Option<u8>) -> CycleOutput
         requires now { self.old.clock ≡ cycle }
         requires early { cycle < 2 ^ 40 }
         ensures state { unclocked self.new ≡ board_begun cycle arrival (unclocked self.old) }
@@ -161,7 +162,7 @@ impl LaggingBoard {
         let n = cycle + 1 - settled;
         self.board.leap(settled, n);
         let begun = self.board.begin_ports(cycle, arrival);
-        self.board.at(cycle + 1);
+        self.board.set_clock(cycle + 1);
         self.ahead = self.board.ahead();
         begun
     }
@@ -169,7 +170,7 @@ impl LaggingBoard {
     /// The devices' part of the cycle `cycle`, which is that of its clock: as [`Board::begin`] does it. Its clock goes
     /// on to the next cycle.
     #[inline]
-    pub fn begin(&mut self, cycle: u64, arrival: Option<u8>) -> Begun
+    pub fn begin(&mut self, cycle: u64, arrival: Option<u8>) -> CycleOutput
         requires now { self.old.clock ≡ cycle }
         requires early { cycle < 2 ^ 40 }
         ensures state { unclocked self.new ≡ board_begun cycle arrival (unclocked self.old) }
@@ -178,8 +179,8 @@ impl LaggingBoard {
         ensures air { result.air ≡ board_air cycle (unclocked self.old) }
         ensures waits { is_asks result.air ≡ true → is_some self.new.spi.shift_register ≡ true }
     {
-        if arrival.is_none() && self.passes(cycle, 1) {
-            return Begun::NOTHING;
+        if arrival.is_none() && self.leap_whole(cycle, 1) {
+            return CycleOutput::NOTHING;
         }
         self.begin_caught_up(cycle, arrival)
     }

@@ -3,9 +3,9 @@ ghost use Rattle.std.specs.Prelude.{◌≡◌, ◌≤◌, true, false};
 ghost use Rattle.board_io.specs.Lagging.{ReadsStill, is_spdr, is_still_port, is_still_read, is_udr, is_plain_read, is_plain_write, is_port};
 ghost use Rattle.board_io.specs.Table.{rule_of};
 
-use crate::{Board, LaggingBoard};
 use crate::names::{ETIMSK, TIMSK};
 use crate::rules::{LAST, Rule, listed_rule};
+use crate::{Board, LaggingBoard};
 use avr_base::StopCause;
 use data_space::Bus;
 use serial_ports::{Spi, SpiReg, UsartReg};
@@ -79,8 +79,8 @@ fn is_plain_write(rule: Rule, at: u8) -> bool
     }
 }
 
-// Whether a read of a register of the serial peripheral interface changes nothing. A read of SPSR notes the flags that are
-// set.
+// Whether a read of a register of the serial peripheral interface changes nothing. A read of SPSR notes the flags that
+// are set.
 fn is_still_port(reg: SpiReg, port: &Spi) -> bool
     ensures { result ≡ is_still_port reg port.now }
 {
@@ -117,8 +117,8 @@ impl Board {
 }
 
 impl LaggingBoard {
-    /// Whether a load at a data address below 0x0100 changes nothing, and gives the same byte in each cycle before the next
-    /// event.
+    /// Whether a load at a data address below 0x0100 changes nothing, and gives the same byte in each cycle before the
+    /// next event.
     pub fn reads_still(&self, at: u16) -> bool
         ensures { result ≡ true → ReadsStill self.now at }
     {

@@ -18,6 +18,6 @@ mod saved;
 
 pub use board::{Board, Sleep};
 pub use clock::Clock;
-pub use cycle::{Begun, OnAir};
+pub use cycle::{CycleOutput, OnAir};
 pub use lagging::LaggingBoard;
 pub use saved::first_refused;

@@ -150,7 +150,7 @@ impl Board {
             TIMER3_COMPA | TIMER3_COMPB | TIMER3_COMPC | TIMER3_OVF => self
                 .t3
                 .clear(served_flag(v)),
-            SPI_STC => self.spi.clear(),
+            SPI_STC => self.spi.clear_spif(),
             USART0_TX => self.usart.clear_txc(),
             _ => {}
         }

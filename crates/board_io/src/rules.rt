@@ -7,7 +7,7 @@ use crate::names::{
     PORTF, PORTG, PSR0, PSR321, RXEN1, TICIE1, TICIE3, TSM, TWEN, TXEN1, XDIVEN,
 };
 use avr_base::StopCause;
-use avr_timers::{Chan, Reg8, Reg16};
+use avr_timers::{Channel, Reg8, Reg16};
 use serial_ports::{SpiReg, UsartReg};
 
 /// How a read and a write of an I/O register go (ATmega128 datasheet, the register descriptions).
@@ -126,10 +126,10 @@ static RULES: [Rule; 160] = [
     Rule::Timer2(Reg8::Control), // 0x45 TCCR2
     Rule::Timer1(Reg16::IcrL), // 0x46 ICR1L
     Rule::Timer1(Reg16::IcrH), // 0x47 ICR1H
-    Rule::Timer1(Reg16::CompL(Chan::B)), // 0x48 OCR1BL
-    Rule::Timer1(Reg16::CompH(Chan::B)), // 0x49 OCR1BH
-    Rule::Timer1(Reg16::CompL(Chan::A)), // 0x4A OCR1AL
-    Rule::Timer1(Reg16::CompH(Chan::A)), // 0x4B OCR1AH
+    Rule::Timer1(Reg16::CompL(Channel::B)), // 0x48 OCR1BL
+    Rule::Timer1(Reg16::CompH(Channel::B)), // 0x49 OCR1BH
+    Rule::Timer1(Reg16::CompL(Channel::A)), // 0x4A OCR1AL
+    Rule::Timer1(Reg16::CompH(Channel::A)), // 0x4B OCR1AH
     Rule::Timer1(Reg16::CountL), // 0x4C TCNT1L
     Rule::Timer1(Reg16::CountH), // 0x4D TCNT1H
     Rule::Timer1(Reg16::ControlB), // 0x4E TCCR1B
@@ -174,8 +174,8 @@ static RULES: [Rule; 160] = [
     Rule::Reserved, // 0x75
     Rule::Reserved, // 0x76
     Rule::Reserved, // 0x77
-    Rule::Timer1(Reg16::CompL(Chan::C)), // 0x78 OCR1CL
-    Rule::Timer1(Reg16::CompH(Chan::C)), // 0x79 OCR1CH
+    Rule::Timer1(Reg16::CompL(Channel::C)), // 0x78 OCR1CL
+    Rule::Timer1(Reg16::CompH(Channel::C)), // 0x79 OCR1CH
     Rule::Timer1(Reg16::ControlC), // 0x7A TCCR1C
     Rule::Reserved, // 0x7B
     Rule::ExtendedTimerFlags, // 0x7C ETIFR
@@ -184,12 +184,12 @@ static RULES: [Rule; 160] = [
     Rule::Reserved, // 0x7F
     Rule::Timer3(Reg16::IcrL), // 0x80 ICR3L
     Rule::Timer3(Reg16::IcrH), // 0x81 ICR3H
-    Rule::Timer3(Reg16::CompL(Chan::C)), // 0x82 OCR3CL
-    Rule::Timer3(Reg16::CompH(Chan::C)), // 0x83 OCR3CH
-    Rule::Timer3(Reg16::CompL(Chan::B)), // 0x84 OCR3BL
-    Rule::Timer3(Reg16::CompH(Chan::B)), // 0x85 OCR3BH
-    Rule::Timer3(Reg16::CompL(Chan::A)), // 0x86 OCR3AL
-    Rule::Timer3(Reg16::CompH(Chan::A)), // 0x87 OCR3AH
+    Rule::Timer3(Reg16::CompL(Channel::C)), // 0x82 OCR3CL
+    Rule::Timer3(Reg16::CompH(Channel::C)), // 0x83 OCR3CH
+    Rule::Timer3(Reg16::CompL(Channel::B)), // 0x84 OCR3BL
+    Rule::Timer3(Reg16::CompH(Channel::B)), // 0x85 OCR3BH
+    Rule::Timer3(Reg16::CompL(Channel::A)), // 0x86 OCR3AL
+    Rule::Timer3(Reg16::CompH(Channel::A)), // 0x87 OCR3AH
     Rule::Timer3(Reg16::CountL), // 0x88 TCNT3L
     Rule::Timer3(Reg16::CountH), // 0x89 TCNT3H
     Rule::Timer3(Reg16::ControlB), // 0x8A TCCR3B

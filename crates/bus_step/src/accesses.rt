@@ -9,7 +9,7 @@ use data_space::{Bus, Cpu, Done, load, pop, push, store};
 
 /// The data address of the register at the I/O address `a`, which is 0 to 63 in an opcode.
 #[inline(always)]
-pub fn io(a: u8) -> u16
+pub fn io_address(a: u8) -> u16
     ensures { result ≡ a + 0x20 }
 {
     u16::from(a) + IO_START
@@ -18,7 +18,7 @@ pub fn io(a: u8) -> u16
 /// Ends an instruction of `words` words: the program counter goes on by them, modulo 65,536. The answer has its
 /// `cycles`.
 #[inline(always)]
-pub fn end(words: u16, cycles: u8, cpu: &mut Cpu) -> Done
+pub fn retire(words: u16, cycles: u8, cpu: &mut Cpu) -> Done
     ensures core { cpu.new ≡ advanced words cpu.old }
     ensures reported { result ≡ record { cycles = cycles; sleep = false } }
 {
@@ -61,7 +61,7 @@ pub fn load_at<B: Bus>(
 {
     let byte = load(cpu, bus, at)?;
     cpu.set_reg(d, byte);
-    Ok(end(words, cycles, cpu))
+    Ok(retire(words, cycles, cpu))
 }
 
 /// LD rD, P+: two cycles. Where the read stops (`Err`), the pointer stays as it was.
@@ -80,7 +80,7 @@ pub fn load_post_increment<B: Bus>(
     let byte = load(cpu, bus, at)?;
     cpu.set_reg(d, byte);
     cpu.set_pair(p, next);
-    Ok(end(1, 2, cpu))
+    Ok(retire(1, 2, cpu))
 }
 
 /// LD rD, -P: two cycles. Where the read stops (`Err`), the pointer stays as it was.
@@ -100,7 +100,7 @@ pub fn load_pre_decrement<B: Bus>(
     match load(cpu, bus, at) {
         Ok(byte) => {
             cpu.set_reg(d, byte);
-            Ok(end(1, 2, cpu))
+            Ok(retire(1, 2, cpu))
         }
         Err(cause) => {
             *cpu = as_it_was;
@@ -124,7 +124,7 @@ pub fn store_at<B: Bus>(
     ensures { record { result = result; cpu = cpu.new; bus = bus.new } ≡ stores B.put_gives at byte words cycles cpu.old bus.old }
 {
     store(cpu, bus, at, byte)?;
-    Ok(end(words, cycles, cpu))
+    Ok(retire(words, cycles, cpu))
 }
 
 /// ST P+, rR: two cycles. The store may be to the pointer itself, which is one higher than it was all the same. Where
@@ -144,7 +144,7 @@ pub fn store_post_increment<B: Bus>(
     let byte = cpu.reg(r);
     store(cpu, bus, at, byte)?;
     cpu.set_pair(p, next);
-    Ok(end(1, 2, cpu))
+    Ok(retire(1, 2, cpu))
 }
 
 /// ST -P, rR: two cycles. Where the write stops (`Err`), the pointer stays as it was.
@@ -163,7 +163,7 @@ pub fn store_pre_decrement<B: Bus>(
     cpu.set_pair(p, at);
     let byte = cpu.reg(r);
     match store(cpu, bus, at, byte) {
-        Ok(()) => Ok(end(1, 2, cpu)),
+        Ok(()) => Ok(retire(1, 2, cpu)),
         Err(cause) => {
             *cpu = as_it_was;
             Err(cause)
@@ -179,7 +179,7 @@ pub fn push_reg<B: Bus>(r: Reg, cpu: &mut Cpu, bus: &mut B) -> Result<Done, Stop
 {
     let byte = cpu.reg(r);
     push(cpu, bus, byte)?;
-    Ok(end(1, 2, cpu))
+    Ok(retire(1, 2, cpu))
 }
 
 /// POP rD: two cycles. Where the read stops (`Err`), the stack pointer stays as it was.
@@ -190,7 +190,7 @@ pub fn pop_reg<B: Bus>(d: Reg, cpu: &mut Cpu, bus: &mut B) -> Result<Done, StopC
 {
     let byte = pop(cpu, bus)?;
     cpu.set_reg(d, byte);
-    Ok(end(1, 2, cpu))
+    Ok(retire(1, 2, cpu))
 }
 
 /// SBI and CBI: bit `b` (0 to 7) of the register at the I/O address `a` becomes `on`, by a read and a write of the
@@ -208,7 +208,7 @@ pub fn set_bit<B: Bus>(
     ensures { record { result = result; cpu = cpu.new; bus = bus.new } ≡ sets_bit B.get_gives B.put_gives a b on cpu.old bus.old }
 {
     let byte = ByteBits {
-        byte: load(cpu, bus, io(a))?,
+        byte: load(cpu, bus, io_address(a))?,
     };
-    store_at(io(a), byte.with(b, on), 1, 2, cpu, bus)
+    store_at(io_address(a), byte.with(b, on), 1, 2, cpu, bus)
 }

@@ -3,7 +3,7 @@ ghost use Rattle.std.specs.Prelude.{◌≡◌, ◌<◌, false};
 ghost use Rattle.data_space.specs.Core.{advanced};
 ghost use Rattle.bus_step.specs.MemoryShapes.{extended_z, loads_extended, loads_extended_post_increment, loads_program, loads_program_post_increment, with_extended_z};
 
-use crate::accesses::{displaced, end};
+use crate::accesses::{displaced, retire};
 use avr_base::Reg;
 use data_space::{Cpu, Done};
 use ihex_loader::Flash;
@@ -48,7 +48,7 @@ pub fn load_program(d: Reg, flash: &Flash, cpu: &mut Cpu) -> Done
 {
     let at = u32::from(cpu.pair(z()));
     cpu.set_reg(d, flash.byte(at));
-    end(1, 3, cpu)
+    retire(1, 3, cpu)
 }
 
 /// LPM rD, Z+: Z goes on by one, modulo 65,536. Three cycles.
@@ -62,7 +62,7 @@ pub fn load_program_post_increment(d: Reg, flash: &Flash, cpu: &mut Cpu) -> Done
     let at = u32::from(cpu.pair(z()));
     cpu.set_reg(d, flash.byte(at));
     cpu.set_pair(z(), next);
-    end(1, 3, cpu)
+    retire(1, 3, cpu)
 }
 
 /// ELPM rD, Z: the byte of the flash at the byte address in RAMPZ and Z, 0 to 131,071. Three cycles.
@@ -73,7 +73,7 @@ pub fn load_extended(d: Reg, flash: &Flash, cpu: &mut Cpu) -> Done
 {
     let at = extended_z(cpu);
     cpu.set_reg(d, flash.byte(at));
-    end(1, 3, cpu)
+    retire(1, 3, cpu)
 }
 
 /// ELPM rD, Z+: RAMPZ and Z together go on by one, modulo 131,072. Three cycles.
@@ -86,5 +86,5 @@ pub fn load_extended_post_increment(d: Reg, flash: &Flash, cpu: &mut Cpu) -> Don
     let at = extended_z(cpu);
     cpu.set_reg(d, flash.byte(at));
     set_extended_z((at + 1) % FLASH, cpu);
-    end(1, 3, cpu)
+    retire(1, 3, cpu)
 }

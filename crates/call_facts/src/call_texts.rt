@@ -72,7 +72,8 @@ pub fn write_statuses<O: Sink>(out: &mut O) -> Result<(), SinkFault> {
     write_status("BadState", Status::BadState, out)
 }
 
-/// Writes the status of a call, and the output and the error stream under their sizes; of a long one its first and last lines.
+/// Writes the status of a call, and the output and the error stream under their sizes; of a long one its first and last
+/// lines.
 pub fn write_outcome<O: Sink>(outcome: &Outcome, out: &mut O) -> Result<(), SinkFault> {
     write_number("status", u64::from(outcome.status), out)?;
     write_text("out", outcome.out.taken(), out)?;

@@ -81,8 +81,8 @@ pub fn are_same(one: &Outcome, other: &Outcome) -> bool {
         && one.err.taken() == other.err.taken()
 }
 
-/// Makes a call with these words over what is held, on one thread. It fails where there is no memory for the store and the
-/// streams.
+/// Makes a call with these words over what is held, on one thread. It fails where there is no memory for the store and
+/// the streams.
 pub fn called(
     alloc: Global,
     words: &[&str],
@@ -113,8 +113,8 @@ pub fn called_without_memory(alloc: Global, words: &[&str]) -> Result<Outcome, A
     })
 }
 
-/// Makes a call with these words over what is held, with the nodes of `run` and `make` on threads of their own. It fails where
-/// there is no memory for the store and the streams.
+/// Makes a call with these words over what is held, with the nodes of `run` and `make` on threads of their own. It
+/// fails where there is no memory for the store and the streams.
 pub fn called_on_threads<R: Threads + Wait + AllocGlobal + Sync>(
     rt: &R,
     words: &[&str],

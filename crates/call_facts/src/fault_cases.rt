@@ -1,6 +1,6 @@
-// Calls that fail at every place: each read, each write to the output, each write to the error stream, a file that ends at each
-// of its bytes, and images that nobody wrote as a program. For each call the status and what stands on the two streams; `run
-// FILE`, by threads, is run a second time as `run --plain FILE`, which has to come to the same.
+// Calls that fail at every place: each read, each write to the output, each write to the error stream, a file that ends
+// at each of its bytes, and images that nobody wrote as a program. For each call the status and what stands on the two
+// streams; `run FILE`, by threads, is run a second time as `run --plain FILE`, which has to come to the same.
 use crate::fault_lines::read_series;
 use crate::files::{takes_content, takes_file};
 use crate::held::Held;

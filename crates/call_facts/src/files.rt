@@ -13,8 +13,8 @@ pub fn hold_file<R: Files + AllocGlobal>(
     Ok(held.add(rt.alloc(), name, bytes)?)
 }
 
-/// Holds a file as a line says, or answers false where it says nothing of files: `file NAME` holds an empty file, to which
-/// [`takes_content`] adds, `copy NAME` the real file of that name, and `blank NAME N` one of so many blank lines.
+/// Holds a file as a line says, or answers false where it says nothing of files: `file NAME` holds an empty file, to
+/// which [`takes_content`] adds, `copy NAME` the real file of that name, and `blank NAME N` one of so many blank lines.
 pub fn takes_file<R: Files + AllocGlobal>(
     rt: &R,
     line: &str,
@@ -35,8 +35,8 @@ pub fn takes_file<R: Files + AllocGlobal>(
     Ok(true)
 }
 
-/// Adds what stands behind the bar of a line `|TEXT` to the last file that is held, as a line. It answers false where a line
-/// has no bar in front.
+/// Adds what stands behind the bar of a line `|TEXT` to the last file that is held, as a line. It answers false where a
+/// line has no bar in front.
 pub fn takes_content(line: &str, held: &mut Held) -> Result<bool, Failed> {
     match line.strip_prefix('|') {
         Some(content) => {

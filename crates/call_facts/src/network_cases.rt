@@ -1,5 +1,5 @@
-// Runs of whole networks: for each that a text file tells, the status, the trace and the error stream of `run FILE`, with
-// each node on a thread of its own, and whether those of `run --plain FILE` are the same.
+// Runs of whole networks: for each that a text file tells, the status, the trace and the error stream of `run FILE`,
+// with each node on a thread of its own, and whether those of `run --plain FILE` are the same.
 use crate::files::{takes_content, takes_file};
 use crate::held::Held;
 use crate::network_lines::read_run;

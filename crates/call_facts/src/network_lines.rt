@@ -25,7 +25,8 @@ fn read_limits(rest: &str) -> Option<Limits> {
     }
 }
 
-/// The scenario that a line `run NAME` or `run NAME KIND N` runs, and where that fails; `None` where it is no such line.
+/// The scenario that a line `run NAME` or `run NAME KIND N` runs, and where that fails; `None` where it is no such
+/// line.
 pub fn read_run(line: &str) -> Option<(&str, Limits)> {
     let run = line.strip_prefix("run ")?;
     match run.split_once(' ') {

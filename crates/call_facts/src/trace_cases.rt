@@ -1,5 +1,5 @@
-// Traces of whole nodes, one after another: for each line FILE CYCLES of a text file the trace of `node FILE CYCLES`, under a
-// line that names it.
+// Traces of whole nodes, one after another: for each line FILE CYCLES of a text file the trace of `node FILE CYCLES`,
+// under a line that names it.
 use commands::{Status, avrora_alone};
 use memory_io::MemSink;
 use sim_io::{DirStore, Sink, SinkFault, write_all};
@@ -43,8 +43,8 @@ fn quiet(alloc: Global) -> Result<MemSink, Failed> {
     }
 }
 
-/// Writes the traces of a file of runs of one node, line after line, up to the first run that does not end well or the first
-/// line that is none.
+/// Writes the traces of a file of runs of one node, line after line, up to the first run that does not end well or the
+/// first line that is none.
 pub fn do_traces<R: Files + AllocGlobal, O: Sink>(
     rt: &R,
     name: &str,

@@ -28,7 +28,8 @@ fn plain(
     }
 }
 
-/// Makes a call, with each node of `run FILE` on a thread of its own. It is told to be another on one thread where it is.
+/// Makes a call, with each node of `run FILE` on a thread of its own. It is told to be another on one thread where it
+/// is.
 pub fn tried<R: Threads + Wait + AllocGlobal + Sync>(
     rt: &R,
     words: &[&str],

@@ -82,8 +82,8 @@ impl Bench {
 }
 
 impl Judge for Bench {
-    /// Does what a line says, `DEVICE WORD .. gives ANSWER`. Without an answer it is to be done. A line that does nothing is a
-    /// wrong one.
+    /// Does what a line says, `DEVICE WORD .. gives ANSWER`. Without an answer it is to be done. A line that does
+    /// nothing is a wrong one.
     fn judge(&mut self, alloc: Global, line: &str) -> Result<Verdict, Failed> {
         if !is_told(line) {
             return Ok(Verdict::NoCase);

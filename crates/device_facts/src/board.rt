@@ -96,7 +96,7 @@ fn do_registers(devices: &mut CoreAndBoard, words: &[&str]) -> Option<Answer> {
         ["get", at] => Some(devices.get(byte(at)?)),
         ["bus", at, b] => Some(Answer::of_put(devices.board.put(address(at)?, byte(b)?))),
         ["at", c] => {
-            devices.board.at(cycle(c)?);
+            devices.board.set_clock(cycle(c)?);
             Some(Answer::Done)
         }
         _ => None,

@@ -72,7 +72,7 @@ impl NodeBoard {
             if self.cycle >= to {
                 break;
             }
-            self.cycle += self.board.pass(to - self.cycle);
+            self.cycle += self.board.leap_up_to(to - self.cycle);
             if self.cycle >= to {
                 break;
             }

@@ -4,7 +4,7 @@ ghost use Rattle.std.specs.Prelude.{◌≤◌, ◌^◌};
 use crate::answers::Answer;
 use crate::numbers::{byte, cycle, short};
 use crate::saved::saved_radio;
-use serial_ports::{Moved, Radio};
+use serial_ports::{Radio, TransferOutcome};
 use world_core::Heard;
 
 // What a sample hears where nothing else is said: one byte.
@@ -19,9 +19,9 @@ fn moved(radio: &mut Radio, at: u64, selected: bool, mosi: u8, heard: Heard) -> 
     requires { at ≤ 2 ^ 41 }
 {
     match radio.transfer(at, selected, mosi) {
-        Moved::Answer(b) => Answer::Byte(b),
-        Moved::Send { byte, miso } => Answer::Sent(byte, miso),
-        Moved::Ask => {
+        TransferOutcome::Answer(b) => Answer::Byte(b),
+        TransferOutcome::Send { byte, miso } => Answer::Sent(byte, miso),
+        TransferOutcome::Ask => {
             radio.answer(heard);
             Answer::Asks
         }

@@ -44,7 +44,8 @@ fn prescaler(which: &str) -> Option<Prescaler> {
     }
 }
 
-/// What comes of `restore`, `outside` or `numbers` with the numbers of a saved timer of eight bits; `None` of another line.
+/// What comes of `restore`, `outside` or `numbers` with the numbers of a saved timer of eight bits; `None` of another
+/// line.
 pub fn saved_timer8(timer: &mut Timer8, words: &[&str]) -> Option<Answer> {
     match words {
         ["restore", which, numbers @ ..] => {
@@ -59,7 +60,8 @@ pub fn saved_timer8(timer: &mut Timer8, words: &[&str]) -> Option<Answer> {
     }
 }
 
-/// What comes of `restore`, `outside` or `numbers` with the numbers of a saved timer of sixteen bits; `None` of another line.
+/// What comes of `restore`, `outside` or `numbers` with the numbers of a saved timer of sixteen bits; `None` of another
+/// line.
 pub fn saved_timer16(timer: &mut Timer16, words: &[&str]) -> Option<Answer> {
     match words {
         ["restore", numbers @ ..] => Some(taken(timer, Timer16::from_numbers(&all(numbers)?))),

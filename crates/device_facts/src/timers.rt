@@ -2,7 +2,7 @@
 use crate::answers::Answer;
 use crate::numbers::{byte, cycle};
 use crate::saved::{saved_timer8, saved_timer16};
-use avr_timers::{Chan, Prescaler, Reg8, Reg16, Timer8, Timer16, TimerFlags};
+use avr_timers::{Channel, Prescaler, Reg8, Reg16, Timer8, Timer16, TimerFlags};
 
 fn flag(name: &str) -> Option<TimerFlags> {
     let none = TimerFlags::NONE;
@@ -83,12 +83,12 @@ fn reg16(name: &str) -> Option<Reg16> {
         "count_h" => Some(Reg16::CountH),
         "icr_l" => Some(Reg16::IcrL),
         "icr_h" => Some(Reg16::IcrH),
-        "a_l" => Some(Reg16::CompL(Chan::A)),
-        "a_h" => Some(Reg16::CompH(Chan::A)),
-        "b_l" => Some(Reg16::CompL(Chan::B)),
-        "b_h" => Some(Reg16::CompH(Chan::B)),
-        "c_l" => Some(Reg16::CompL(Chan::C)),
-        "c_h" => Some(Reg16::CompH(Chan::C)),
+        "a_l" => Some(Reg16::CompL(Channel::A)),
+        "a_h" => Some(Reg16::CompH(Channel::A)),
+        "b_l" => Some(Reg16::CompL(Channel::B)),
+        "b_h" => Some(Reg16::CompH(Channel::B)),
+        "c_l" => Some(Reg16::CompL(Channel::C)),
+        "c_h" => Some(Reg16::CompH(Channel::C)),
         _ => None,
     }
 }

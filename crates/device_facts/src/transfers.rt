@@ -25,7 +25,7 @@ fn end(port: &mut Spi, miso: u8) -> Answer {
 fn enter(port: &mut Spi) -> Answer {
     let asks = port.line();
     if asks {
-        port.clear();
+        port.clear_spif();
     }
     Answer::Truth(asks)
 }

@@ -16,8 +16,8 @@ use Rattle.board_io.specs.Cycle.{board_answered, board_begun, moved_by, received
 use Rattle.board_io.specs.Lines.{entered_of, no_flags}
 use Rattle.board_io.specs.Registers.{get_by, io_get, io_put, put_by, with_spi, with_t0, with_t1, with_t2, with_t3, with_usart}
 use Rattle.board_io.specs.Table.{rule_of, start_of}
-use Rattle.serial_ports.specs.declared.radio.Moved.{Moved}
-use Rattle.serial_ports.specs.declared.radio.Moved.TheVariants.{Answer, Send, Ask}
+use Rattle.serial_ports.specs.declared.radio.TransferOutcome.{TransferOutcome}
+use Rattle.serial_ports.specs.declared.radio.TransferOutcome.TheVariants.{Answer, Send, Ask}
 use Rattle.serial_ports.specs.declared.radio.Radio.{Radio}
 use Rattle.serial_ports.specs.Radio.{radio_transfer}
 use Rattle.avr_base.proofs.Computed.{all_from, all_from-at}
@@ -102,7 +102,7 @@ received_kept : (arrival : Option ℕ) (u : Usart) → IsUsart u → IsUsart (re
 received_kept None u h = h
 received_kept (Some x) u h = arrived_kept x u h
 
-end_kept : (m : Moved) (r : Radio) (b : Board) → IsRadio r → IsBoard b → IsBoard (transfer_end m r b)
+end_kept : (m : TransferOutcome) (r : Radio) (b : Board) → IsRadio r → IsBoard b → IsBoard (transfer_end m r b)
 end_kept (Answer miso) r b f h = set_ports b h r _ f (finished_kept miso b.spi h.spi)
 end_kept (Send byte miso) r b f h = set_ports b h r _ f (finished_kept miso b.spi h.spi)
 end_kept Ask r b f h = set_ports b h r b.spi f h.spi
@@ -110,7 +110,7 @@ end_kept Ask r b f h = set_ports b h r b.spi f h.spi
 moved_kept : (t : ℕ) (byte : Option ℕ) (b c : Board) → IsRadio b.radio → IsBoard c → IsBoard (with_moved (moved_by t byte b) c)
 moved_kept t None b c f h = h
 moved_kept t (Some x) b c f h =
-    let m : Moved × Radio = radio_transfer t (selected b) x b.radio in
+    let m : TransferOutcome × Radio = radio_transfer t (selected b) x b.radio in
     end_kept m.0 m.1 c (radio_kept t x (selected b) b.radio f) h
 
 pub begun_kept : (t : ℕ) (arrival : Option ℕ) (b : Board) → IsBoard b → IsBoard (board_begun t arrival b)

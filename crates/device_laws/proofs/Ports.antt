@@ -6,8 +6,8 @@ use Rattle.std.specs.Int.Bits.{and_self}
 use Rattle.std.proofs.lemmas.Nat.{and_assoc}
 use Rattle.avr_base.specs.declared.stop.StopCause.TheVariants as stop
 use Rattle.avr_base.proofs.Computed.{all_from, all_from-at}
-use Rattle.serial_ports.specs.declared.radio.Moved.{Moved}
-use Rattle.serial_ports.specs.declared.radio.Moved.TheVariants.{Answer, Send, Ask}
+use Rattle.serial_ports.specs.declared.radio.TransferOutcome.{TransferOutcome}
+use Rattle.serial_ports.specs.declared.radio.TransferOutcome.TheVariants.{Answer, Send, Ask}
 use Rattle.serial_ports.specs.declared.radio.Radio.{Radio}
 use Rattle.serial_ports.specs.declared.radio.RadioState.{RadioState}
 use Rattle.serial_ports.specs.declared.radio.RadioState.TheVariants.{Idle, ToSend, ToSample, Status, Byte, Age}
@@ -257,7 +257,7 @@ state_kept : (state : RadioState) (r : Radio) → IsRadio r → IsRadio (in_stat
 state_kept state r h = record { byte_time = h.byte_time }
 
 -- what a transfer leaves of the radio
-abbrev LeavesRadio : Moved × Radio → Type 0
+abbrev LeavesRadio : TransferOutcome × Radio → Type 0
 LeavesRadio m = IsRadio m.1
 
 idle_by : (r : Radio) (first second : Bool) → IsRadio r

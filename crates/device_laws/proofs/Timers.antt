@@ -17,8 +17,8 @@ use Rattle.avr_timers.specs.Timer8 as timer8
 use Rattle.avr_timers.specs.declared.mode.Mode16.{Mode16}
 use Rattle.avr_timers.specs.declared.registers16.Reg16.{Reg16}
 use Rattle.avr_timers.specs.declared.registers16.Reg16.TheVariants as reg16
-use Rattle.avr_timers.specs.declared.registers16.Chan.{Chan}
-use Rattle.avr_timers.specs.declared.registers16.Chan.TheVariants as chan
+use Rattle.avr_timers.specs.declared.registers16.Channel.{Channel}
+use Rattle.avr_timers.specs.declared.registers16.Channel.TheVariants as chan
 use Rattle.avr_timers.specs.declared.timer16.Timer16.{Timer16}
 use Rattle.avr_timers.specs.Registers16.{get_of as get_16, put_of as put_16, with_compare, with_control_a, with_control_b}
 use Rattle.avr_timers.specs.Timer16 as timer16
@@ -126,7 +126,7 @@ control_c : (tm tm' : Timer16) (forced : Bool) → IsTimer16 tm → (if forced t
 control_c tm tm' true h e = absurd (cc)
 control_c tm tm' false h e = subst IsTimer16 (same_ok _ _ _ refl e) h
 
-compare_kept : (tm : Timer16) (c : Chan) (value : ℕ) → IsTimer16 tm → IsTimer16 (with_compare tm c value)
+compare_kept : (tm : Timer16) (c : Channel) (value : ℕ) → IsTimer16 tm → IsTimer16 (with_compare tm c value)
 compare_kept tm chan.A value h = record { select = h.select }
 compare_kept tm chan.B value h = record { select = h.select }
 compare_kept tm chan.C value h = record { select = h.select }

@@ -87,7 +87,7 @@ fn advance(runner: &mut Runner, log: &mut SendLog, topo: &Topo, end: u64) -> Res
     match runner.event(quantum) {
         Event::Sent { send } => {
             log.push(send);
-            runner.noted();
+            runner.note_posted();
             Ok(())
         }
         Event::NoMemory => Err(NoMemory),

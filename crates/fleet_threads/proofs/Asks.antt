@@ -3,9 +3,9 @@ use Rattle.std.proofs.Common.{◌≡◌, ℕ, ◌∷◌, [], ◌++◌, List, tru
 use Rattle.world_core.specs.declared.air.Heard.{Heard as HeardValue}
 use Rattle.world_core.specs.declared.world.WorldFacts.{WorldFacts}
 use Rattle.neighbour_sync.specs.Seats.{NodeFacts, node_asked}
-use Rattle.neighbour_sync.specs.declared.answers.Tried.{Tried}
-use Rattle.neighbour_sync.specs.declared.answers.Tried.TheVariants.{Heard, NotYet, Halted, NoMemory}
-use Rattle.neighbour_sync.specs.declared.answers.Passed.TheVariants.{Heard as PassedHeard, Halted as PassedHalted, NoMemory as PassedNoMemory}
+use Rattle.neighbour_sync.specs.declared.answers.SampleAttempt.{SampleAttempt}
+use Rattle.neighbour_sync.specs.declared.answers.SampleAttempt.TheVariants.{Heard, NotYet, Halted, NoMemory}
+use Rattle.neighbour_sync.specs.declared.answers.SampleOutcome.TheVariants.{Heard as PassedHeard, Halted as PassedHalted, NoMemory as PassedNoMemory}
 use Rattle.neighbour_sync.specs.Looks.{looked}
 use Rattle.neighbour_sync.specs.Tries.{IsTried}
 use Rattle.neighbour_sync.specs.Waits.{IsPassed}
@@ -29,7 +29,7 @@ look_halt old new e = record {
   told = ap (λ (a : NodeFacts). a.told) e;
 }
 
-pub tried : (w : WorldFacts) (old : NodeFacts) (s : ℕ) (r : Tried) (new : NodeFacts) → IsTried w old s r new → IsAnswered w old s r new
+pub tried : (w : WorldFacts) (old : NodeFacts) (s : ℕ) (r : SampleAttempt) (new : NodeFacts) → IsTried w old s r new → IsAnswered w old s r new
 tried w old s (Heard h) new t = (t.0, look old new t.1.0 (0 ∷ []) t.1.2)
 tried w old s (NotYet k c) new t = look old new (t.1.0 ++ (k, c) ∷ []) (0 ∷ []) t.1.1
 tried w old s Halted new t = look_halt old new t

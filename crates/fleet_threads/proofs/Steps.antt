@@ -19,8 +19,8 @@ use Rattle.node_core.specs.Cycle.{node_kind}
 use Rattle.world_core.specs.Order.{Fleet, facts_of, node_at}
 use Rattle.world_core.proofs.OrderRows.{stopped_count}
 use Rattle.world_core.proofs.OrderSteps.{asked}
-use Rattle.neighbour_sync.specs.declared.answers.Tried.{Tried}
-use Rattle.neighbour_sync.specs.declared.answers.Tried.TheVariants.{Heard, NotYet, Halted, NoMemory as NoAnswer}
+use Rattle.neighbour_sync.specs.declared.answers.SampleAttempt.{SampleAttempt}
+use Rattle.neighbour_sync.specs.declared.answers.SampleAttempt.TheVariants.{Heard, NotYet, Halted, NoMemory as NoAnswer}
 use Rattle.node_runner.specs.declared.runner.Event.TheVariants.{Ask, Sent, Turn, Ended, NoMemory}
 use Rattle.node_runner.specs.Scenario.{ScenarioOf, fleet_of}
 use Rattle.node_runner.specs.Place.{Place, is_live, state_at, noted_of, sends_passed}
@@ -51,7 +51,7 @@ pub turn_of : (end now cycle turn : ℕ) → cycle ≡ now → turn ≡ min (end
 turn_of end now cycle turn e is = is ∙ ap (λ (n : ℕ). min (end - n) 1024) e
 
 -- whatever it is answered, a seat has looked at words
-pub has_looked : (w : WorldFacts) (a b : NodeFacts) (s : ℕ) (r : Tried) → IsAnswered w a s r b → HasLooked a b
+pub has_looked : (w : WorldFacts) (a b : NodeFacts) (s : ℕ) (r : SampleAttempt) → IsAnswered w a s r b → HasLooked a b
 has_looked w a b s (Heard h) e = e.1
 has_looked w a b s (NotYet k c) e = e
 has_looked w a b s Halted e = e

@@ -3,8 +3,8 @@ use Rattle.std.specs.Prelude.{◌≡◌, ℕ}
 use Rattle.world_core.specs.declared.world.WorldFacts.{WorldFacts}
 use Rattle.world_core.specs.Settled.{truth}
 use Rattle.neighbour_sync.specs.Seats.{NodeFacts}
-use Rattle.neighbour_sync.specs.declared.answers.Tried.{Tried}
-use Rattle.neighbour_sync.specs.declared.answers.Tried.TheVariants.{Heard, NotYet, Halted, NoMemory}
+use Rattle.neighbour_sync.specs.declared.answers.SampleAttempt.{SampleAttempt}
+use Rattle.neighbour_sync.specs.declared.answers.SampleAttempt.TheVariants.{Heard, NotYet, Halted, NoMemory}
 
 -- it may have looked at words, and nothing else has changed
 pub record HasLooked (old new : NodeFacts) : Type 0 where
@@ -15,7 +15,7 @@ pub record HasLooked (old new : NodeFacts) : Type 0 where
   pub told : new.told ≡ old.told
 
 -- what is heard is the true answer
-abbrev pub IsAnswered : WorldFacts → NodeFacts → ℕ → Tried → NodeFacts → Type 0
+abbrev pub IsAnswered : WorldFacts → NodeFacts → ℕ → SampleAttempt → NodeFacts → Type 0
 IsAnswered w old s (Heard h) new = (h ≡ truth w old.number s) × HasLooked old new
 IsAnswered w old s (NotYet k c) new = HasLooked old new
 IsAnswered w old s Halted new = HasLooked old new

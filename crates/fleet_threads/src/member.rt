@@ -4,7 +4,7 @@ ghost use Rattle.std.specs.List.{Contains};
 ghost use Rattle.fleet_threads.specs.Answers.{IsAnswered};
 
 use crate::gate::Gate;
-use neighbour_sync::{NodeAir, Passed, Session, Shared, Tried};
+use neighbour_sync::{NodeAir, SampleAttempt, SampleOutcome, Session, Shared};
 use node_runner::{Event, Runner, Scenario};
 use std::sync::Wait;
 
@@ -51,7 +51,7 @@ fn ask<N: Session, R: Wait>(
     sampling: Sampling,
     air: &mut NodeAir,
     cycle: u64,
-) -> Tried
+) -> SampleAttempt
     requires session { (air.old.table ≡ N.table) × (air.old.world ≡ N.world) }
     requires asked { Contains N.world.asks record { node = air.old.number; cycle = cycle } }
     requires floor { N.floor ≤ cycle }
@@ -60,9 +60,9 @@ fn ask<N: Session, R: Wait>(
     match sampling {
         Sampling::Tries => air.try_sample(rt, shared, cycle),
         Sampling::Waits => match air.sample_when_passed(rt, shared, cycle) {
-            Passed::Heard(heard) => Tried::Heard(heard),
-            Passed::Halted => Tried::Halted,
-            Passed::NoMemory => Tried::NoMemory,
+            SampleOutcome::Heard(heard) => SampleAttempt::Heard(heard),
+            SampleOutcome::Halted => SampleAttempt::Halted,
+            SampleOutcome::NoMemory => SampleAttempt::NoMemory,
         },
     }
 }
@@ -154,9 +154,9 @@ impl Member {
     {
         let cycle = self.runner.cycle();
         match ask(rt, shared, sampling, &mut self.air, cycle) {
-            Tried::Heard(heard) => self.runner.answer(heard),
-            Tried::NotYet { .. } => {}
-            Tried::Halted | Tried::NoMemory => self.halt(shared, scenario, end),
+            SampleAttempt::Heard(heard) => self.runner.answer(heard),
+            SampleAttempt::NotYet { .. } => {}
+            SampleAttempt::Halted | SampleAttempt::NoMemory => self.halt(shared, scenario, end),
         }
     }
 
@@ -182,7 +182,7 @@ impl Member {
                 let number = self.runner.count();
                 let sent = send.cycle;
                 self.air.post(rt, shared, send, number);
-                self.runner.noted();
+                self.runner.note_posted();
                 self.look_ahead(shared, scenario, end, sent);
             }
             Event::NoMemory => self.halt(shared, scenario, end),

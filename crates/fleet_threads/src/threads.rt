@@ -110,7 +110,7 @@ fn round<N: Session, R: Wait, G: Gate>(
 }
 
 // Between two rounds: where no node got on in the last one, a node that has a thread gets the processor.
-fn breathe(backoff: &Backoff, moved: bool) {
+fn back_off(backoff: &Backoff, moved: bool) {
     if moved {
         backoff.reset();
     } else {
@@ -139,7 +139,7 @@ fn rotate<N: Session, R: Wait, G: Gate>(
         if made.over {
             return;
         }
-        breathe(&backoff, made.moved);
+        back_off(&backoff, made.moved);
     }
     unreachable!()
 }
@@ -188,10 +188,10 @@ fn is_alone(left: &[Member], waiting: &[Member]) -> bool
     left.is_empty() && waiting.is_empty()
 }
 
-// Starts the last node, goes on with the others, and joins it. Where all but one have threads, this thread, which would only
-// wait to join them, is that one's. Else those that have no thread are run here in turns.
-// A node whose thread has taken it to the end of the epoch stays there when it is worked on once more. (That `R` and `G` may
-// be shared is a condition, since the bounds of a function that calls itself are not told to its proof.)
+// Starts the last node, goes on with the others, and joins it. Where all but one have threads, this thread, which would
+// only wait to join them, is that one's. Else those that have no thread are run here in turns. A node whose thread has
+// taken it to the end of the epoch stays there when it is worked on once more. (That `R` and `G` may be shared is a
+// condition, since the bounds of a function that calls itself are not told to its proof.)
 fn run_from<'s, E, N: Session + Send + Sync, R: Threads + Wait + Sync, G: Gate + Sync>(
     scope: &Scope<'s, E>,
     rt: &'s R,

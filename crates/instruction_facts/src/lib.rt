@@ -22,8 +22,8 @@ use std::fs::Files;
 use stored_cases::{Failed, judge_file};
 pub use words::do_all_words;
 
-/// Judges the cases of one file, and writes how many there were and each that is wrong. A line that is no case, nor says on
-/// what machine the next ones run, is a wrong one.
+/// Judges the cases of one file, and writes how many there were and each that is wrong. A line that is no case, nor
+/// says on what machine the next ones run, is a wrong one.
 pub fn do_file<R: Files + AllocGlobal, O: Sink>(
     rt: &R,
     file: &str,

@@ -100,8 +100,8 @@ fn is_right<O: Sink>(
     Ok(false)
 }
 
-/// Assembles the sources of one file, and writes how many there were, and what came of each that does not give its words or its
-/// fault.
+/// Assembles the sources of one file, and writes how many there were, and what came of each that does not give its
+/// words or its fault.
 pub fn do_sources<R: Files + AllocGlobal, O: Sink>(
     rt: &R,
     file: &str,

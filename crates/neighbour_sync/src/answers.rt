@@ -3,7 +3,7 @@ use world_core::Heard;
 
 /// The answer to one try.
 #[derive(Clone, Copy)]
-pub enum Tried {
+pub enum SampleAttempt {
     /// What the node hears, which is recorded.
     Heard(Heard),
     /// That cannot be told yet: node `node` may still send what would be heard, since its clock is at the cycle
@@ -22,7 +22,7 @@ pub enum Tried {
 
 /// The answer to a node that waits for its sample.
 #[derive(Clone, Copy)]
-pub enum Passed {
+pub enum SampleOutcome {
     /// What the node hears, which is recorded.
     Heard(Heard),
     /// A node has told all nodes to halt, and this one has recorded nothing.

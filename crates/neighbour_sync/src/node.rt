@@ -1,6 +1,6 @@
 // What a node does with the shared air.
 use crate::NodeSeat;
-use crate::answers::{Passed, Tried};
+use crate::answers::{SampleAttempt, SampleOutcome};
 use crate::session::Session;
 use crate::shared::Shared;
 use crate::steps::{record, see_posted, try_once};
@@ -117,7 +117,7 @@ impl NodeAir {
         rt: &R,
         shared: &Shared<W, N>,
         cycle: u64,
-    ) -> Tried
+    ) -> SampleAttempt
         requires session { (self.old.table ≡ N.table) × (self.old.world ≡ N.world) }
         requires asked { Contains N.world.asks record { node = self.old.number; cycle = cycle } }
         requires floor { N.floor ≤ cycle }
@@ -152,7 +152,7 @@ impl NodeAir {
         rt: &R,
         shared: &Shared<W, N>,
         cycle: u64,
-    ) -> Passed
+    ) -> SampleOutcome
         requires session { (self.old.table ≡ N.table) × (self.old.world ≡ N.world) }
         requires asked { Contains N.world.asks record { node = self.old.number; cycle = cycle } }
         requires floor { N.floor ≤ cycle }
@@ -160,10 +160,10 @@ impl NodeAir {
     {
         for _ in rt.forever() {
             match self.try_sample(rt, shared, cycle) {
-                Tried::Heard(heard) => return Passed::Heard(heard),
-                Tried::NotYet { node, .. } => self.sleep(rt, shared, node, cycle),
-                Tried::Halted => return Passed::Halted,
-                Tried::NoMemory => return Passed::NoMemory,
+                SampleAttempt::Heard(heard) => return SampleOutcome::Heard(heard),
+                SampleAttempt::NotYet { node, .. } => self.sleep(rt, shared, node, cycle),
+                SampleAttempt::Halted => return SampleOutcome::Halted,
+                SampleAttempt::NoMemory => return SampleOutcome::NoMemory,
             }
         }
         unreachable!()

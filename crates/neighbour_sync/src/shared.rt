@@ -54,10 +54,10 @@ impl<N: Session> Locked<N> {
     }
 }
 
-/// The record of a session under a lock, and the clock words beside it. Threads share it by reference. Whoever takes the
-/// lock knows that record, words and world belong together.
-/// The lock is padded on both sides: threads that wait for it read its word again and again, and would take a line with
-/// the record away from the one that has the lock, and one with `clocks` from all that look at a clock.
+/// The record of a session under a lock, and the clock words beside it. Threads share it by reference. Whoever takes
+/// the lock knows that record, words and world belong together. The lock is padded on both sides: threads that wait for
+/// it read its word again and again, and would take a line with the record away from the one that has the lock, and one
+/// with `clocks` from all that look at a clock.
 #[derive(Drop)]
 pub struct Shared<W: World, N: Session> {
     clocks: Clocks<W>,

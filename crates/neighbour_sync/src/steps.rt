@@ -6,7 +6,7 @@ ghost use Rattle.neighbour_sync.specs.Seats.{node_told};
 ghost use Rattle.neighbour_sync.specs.Record.{epoch};
 ghost use Rattle.neighbour_sync.specs.Tries.{IsTried};
 
-use crate::answers::Tried;
+use crate::answers::SampleAttempt;
 use crate::looking::first_behind;
 use crate::session::Session;
 use crate::shared::Shared;
@@ -55,7 +55,7 @@ pub fn try_once<W: World, N: Session, R: Wait>(
     seat: &mut NodeSeat,
     topo: &Topo,
     cycle: u64,
-) -> Tried
+) -> SampleAttempt
     requires session { (seat.old.table ≡ N.table) × (seat.old.world ≡ N.world) }
     requires topo { topo.now ≡ seat.old.world.topo }
     requires asked { Contains N.world.asks record { node = seat.old.number; cycle = cycle } }
@@ -65,18 +65,18 @@ pub fn try_once<W: World, N: Session, R: Wait>(
     let clocks = shared.clocks();
     let node = seat.number();
     if clocks.halted(seat) {
-        return Tried::Halted;
+        return SampleAttempt::Halted;
     }
     for _ in rt.forever() {
         if let Some(behind) = first_behind(clocks, seat, topo, cycle) {
-            return Tried::NotYet {
+            return SampleAttempt::NotYet {
                 node: behind.node,
                 clock: behind.clock,
             };
         }
         match shared.sample(rt, node, cycle) {
-            Sampled::Heard(heard) => return Tried::Heard(heard),
-            Sampled::NoMemory => return Tried::NoMemory,
+            Sampled::Heard(heard) => return SampleAttempt::Heard(heard),
+            Sampled::NoMemory => return SampleAttempt::NoMemory,
             // The record is asked again once this node has seen for itself that nobody is behind.
             Sampled::NotYet { .. } => {}
         }

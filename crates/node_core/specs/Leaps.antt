@@ -1,5 +1,5 @@
--- Loops that wait: rounds of instructions that leave a node as it is but for the cycle, the count of instructions and what the
--- timers count.
+-- Loops that wait: rounds of instructions that leave a node as it is but for the cycle, the count of instructions and
+-- what the timers count.
 use Rattle.std.specs.Prelude.{◌≡◌, ◌≤◌, ◌<◌, ◌+◌, ◌-◌, ◌*◌, ℕ, suc, nat_le, if◌then◌else◌, slice_index, Bool, true, false, None, List, Ok}
 use Rattle.avr_base.specs.Lines.{due_of}
 use Rattle.avr_decoder.specs.declared.op.Op.{Op}

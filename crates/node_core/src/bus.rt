@@ -34,8 +34,8 @@ impl NodeBus {
         })
     }
 
-    /// Whether a load at a data address that is not the core's changes nothing, and gives the same byte in each cycle before
-    /// the next event.
+    /// Whether a load at a data address that is not the core's changes nothing, and gives the same byte in each cycle
+    /// before the next event.
     pub fn reads_still(&self, at: u16) -> bool
         ensures { result ≡ true → LoadsStill self.now at }
     {

@@ -135,9 +135,10 @@ impl Machine {
         None
     }
 
-    /// Where a loop begins at the program counter that lowers a register by one and leaves all else as it is but for the
-    /// cycle and the count of instructions, its rounds from `cycle` on that end by `end` and before the next event are taken
-    /// at once, while the register does not come to 0. How many cycles it were, 0 where there is no such loop.
+    /// Where a loop begins at the program counter that lowers a register by one and leaves all else as it is but for
+    /// the cycle and the count of instructions, its rounds from `cycle` on that end by `end` and before the next event
+    /// are taken at once, while the register does not come to 0. How many cycles it were, 0 where there is no such
+    /// loop.
     #[inline(never)]
     pub fn count_down(&mut self, cycle: u64, end: u64) -> u64
         requires may { MayAct cycle self.old }
@@ -158,7 +159,7 @@ impl Machine {
         };
         let Lowering { d, spare } = lowering;
         let most = (end - cycle).min(u64::from(spare) * round.length);
-        let rounds = self.bus.board.pass_rounds(most, round.length);
+        let rounds = self.bus.board.leap_rounds(most, round.length);
         let value = self.cpu.reg(d);
         self.cpu.set_reg(d, value - rounds as u8);
         self.count += rounds * round.count;

@@ -10,8 +10,8 @@ use arith_step::{MulKind, adiw, asr, com, dec, inc, lsr, neg, ror, sbiw};
 use avr_base::{Reg, Sreg, StopCause};
 use avr_decoder::{Class, Op};
 use bus_step::accesses::{
-    displaced, end, io, load_at, load_post_increment, load_pre_decrement, pop_reg, push_reg,
-    set_bit, store_at, store_post_increment, store_pre_decrement,
+    displaced, io_address, load_at, load_post_increment, load_pre_decrement, pop_reg, push_reg,
+    retire, set_bit, store_at, store_post_increment, store_pre_decrement,
 };
 use bus_step::calls::{call, call_at_z, call_near, ret, reti, z_pointer};
 use bus_step::flash::{
@@ -21,13 +21,14 @@ use bus_step::jumps::{bit, branch, jump, relative_to, skip, skip_by_io, sleep};
 use data_space::{Bus, Cpu, Done};
 use ihex_loader::Flash;
 
-/// Executes an instruction (AVR Instruction Set Manual, its operation, flags and cycles) over the core and a data space. `None`
-/// for SEI and its like (BSET), RETI and SLEEP, after which a node looks up, and for one that halts the node; these change nothing.
+/// Executes an instruction (AVR Instruction Set Manual, its operation, flags and cycles) over the core and a data
+/// space. `None` for SEI and its like (BSET), RETI and SLEEP, after which a node looks up, and for one that halts the
+/// node; these change nothing.
 ///
-/// The program counter, a word address, goes on modulo 65,536. A flag number and a bit number count modulo 8; the pair of
-/// r31 is r31 and r0. A call pushes the low byte of the return address first, and ICALL reads Z after that. A skip leaves out
-/// one word or two, by the width of the word behind it. Where rD is half of the pointer that moves, which no opcode means,
-/// the later of the two changes stays.
+/// The program counter, a word address, goes on modulo 65,536. A flag number and a bit number count modulo 8; the pair
+/// of r31 is r31 and r0. A call pushes the low byte of the return address first, and ICALL reads Z after that. A skip
+/// leaves out one word or two, by the width of the word behind it. Where rD is half of the pointer that moves, which no
+/// opcode means, the later of the two changes stays.
 ///
 /// An `Err` is the stop of an access. What the accesses before it did stays, with the stack pointer that they left;
 /// nothing else of the instruction happens, so the program counter is still the instruction's.
@@ -48,51 +49,55 @@ pub fn execute_plain<B: Bus>(
     let y = Reg::numbered(28);
     let z = Reg::numbered(30);
     match op {
-        Op::Add { d, r } => Some(Ok(end(1, add(d, cpu.reg(r), false, cpu), cpu))),
-        Op::Adc { d, r } => Some(Ok(end(1, add(d, cpu.reg(r), cpu.sreg.has(Sreg::C), cpu), cpu))),
-        Op::Sub { d, r } => Some(Ok(end(1, subtract(d, cpu.reg(r), cpu), cpu))),
-        Op::Subi { d, k } => Some(Ok(end(1, subtract(d, k, cpu), cpu))),
-        Op::Sbc { d, r } => Some(Ok(end(1, subtract_with_carry(d, cpu.reg(r), cpu), cpu))),
-        Op::Sbci { d, k } => Some(Ok(end(1, subtract_with_carry(d, k, cpu), cpu))),
-        Op::Cp { d, r } => Some(Ok(end(1, compare(d, cpu.reg(r), cpu), cpu))),
-        Op::Cpi { d, k } => Some(Ok(end(1, compare(d, k, cpu), cpu))),
-        Op::Cpc { d, r } => Some(Ok(end(1, compare_with_carry(d, cpu.reg(r), cpu), cpu))),
-        Op::And { d, r } => Some(Ok(end(1, put_bits(d, cpu.reg(d) & cpu.reg(r), cpu), cpu))),
-        Op::Andi { d, k } => Some(Ok(end(1, put_bits(d, cpu.reg(d) & k, cpu), cpu))),
-        Op::Or { d, r } => Some(Ok(end(1, put_bits(d, cpu.reg(d) | cpu.reg(r), cpu), cpu))),
-        Op::Ori { d, k } => Some(Ok(end(1, put_bits(d, cpu.reg(d) | k, cpu), cpu))),
-        Op::Eor { d, r } => Some(Ok(end(1, put_bits(d, cpu.reg(d) ^ cpu.reg(r), cpu), cpu))),
-        Op::Com { d } => Some(Ok(end(1, put_byte(d, com(cpu.reg(d), cpu.sreg), cpu), cpu))),
-        Op::Neg { d } => Some(Ok(end(1, put_byte(d, neg(cpu.reg(d), cpu.sreg), cpu), cpu))),
-        Op::Inc { d } => Some(Ok(end(1, put_byte(d, inc(cpu.reg(d), cpu.sreg), cpu), cpu))),
-        Op::Dec { d } => Some(Ok(end(1, put_byte(d, dec(cpu.reg(d), cpu.sreg), cpu), cpu))),
-        Op::Lsr { d } => Some(Ok(end(1, put_byte(d, lsr(cpu.reg(d), cpu.sreg), cpu), cpu))),
-        Op::Ror { d } => Some(Ok(end(1, put_byte(d, ror(cpu.reg(d), cpu.sreg), cpu), cpu))),
-        Op::Asr { d } => Some(Ok(end(1, put_byte(d, asr(cpu.reg(d), cpu.sreg), cpu), cpu))),
-        Op::Swap { d } => Some(Ok(end(1, swap(d, cpu), cpu))),
-        Op::Adiw { d, k } => Some(Ok(end(
+        Op::Add { d, r } => Some(Ok(retire(1, add(d, cpu.reg(r), false, cpu), cpu))),
+        Op::Adc { d, r } => Some(Ok(retire(
+            1,
+            add(d, cpu.reg(r), cpu.sreg.has(Sreg::C), cpu),
+            cpu,
+        ))),
+        Op::Sub { d, r } => Some(Ok(retire(1, subtract(d, cpu.reg(r), cpu), cpu))),
+        Op::Subi { d, k } => Some(Ok(retire(1, subtract(d, k, cpu), cpu))),
+        Op::Sbc { d, r } => Some(Ok(retire(1, subtract_with_carry(d, cpu.reg(r), cpu), cpu))),
+        Op::Sbci { d, k } => Some(Ok(retire(1, subtract_with_carry(d, k, cpu), cpu))),
+        Op::Cp { d, r } => Some(Ok(retire(1, compare(d, cpu.reg(r), cpu), cpu))),
+        Op::Cpi { d, k } => Some(Ok(retire(1, compare(d, k, cpu), cpu))),
+        Op::Cpc { d, r } => Some(Ok(retire(1, compare_with_carry(d, cpu.reg(r), cpu), cpu))),
+        Op::And { d, r } => Some(Ok(retire(1, put_bits(d, cpu.reg(d) & cpu.reg(r), cpu), cpu))),
+        Op::Andi { d, k } => Some(Ok(retire(1, put_bits(d, cpu.reg(d) & k, cpu), cpu))),
+        Op::Or { d, r } => Some(Ok(retire(1, put_bits(d, cpu.reg(d) | cpu.reg(r), cpu), cpu))),
+        Op::Ori { d, k } => Some(Ok(retire(1, put_bits(d, cpu.reg(d) | k, cpu), cpu))),
+        Op::Eor { d, r } => Some(Ok(retire(1, put_bits(d, cpu.reg(d) ^ cpu.reg(r), cpu), cpu))),
+        Op::Com { d } => Some(Ok(retire(1, put_byte(d, com(cpu.reg(d), cpu.sreg), cpu), cpu))),
+        Op::Neg { d } => Some(Ok(retire(1, put_byte(d, neg(cpu.reg(d), cpu.sreg), cpu), cpu))),
+        Op::Inc { d } => Some(Ok(retire(1, put_byte(d, inc(cpu.reg(d), cpu.sreg), cpu), cpu))),
+        Op::Dec { d } => Some(Ok(retire(1, put_byte(d, dec(cpu.reg(d), cpu.sreg), cpu), cpu))),
+        Op::Lsr { d } => Some(Ok(retire(1, put_byte(d, lsr(cpu.reg(d), cpu.sreg), cpu), cpu))),
+        Op::Ror { d } => Some(Ok(retire(1, put_byte(d, ror(cpu.reg(d), cpu.sreg), cpu), cpu))),
+        Op::Asr { d } => Some(Ok(retire(1, put_byte(d, asr(cpu.reg(d), cpu.sreg), cpu), cpu))),
+        Op::Swap { d } => Some(Ok(retire(1, swap(d, cpu), cpu))),
+        Op::Adiw { d, k } => Some(Ok(retire(
             1,
             put_word(d, adiw(cpu.pair(d), k, cpu.sreg), cpu),
             cpu,
         ))),
-        Op::Sbiw { d, k } => Some(Ok(end(
+        Op::Sbiw { d, k } => Some(Ok(retire(
             1,
             put_word(d, sbiw(cpu.pair(d), k, cpu.sreg), cpu),
             cpu,
         ))),
-        Op::Mul { d, r } => Some(Ok(end(1, multiply(MulKind::Mul, d, r, cpu), cpu))),
-        Op::Muls { d, r } => Some(Ok(end(1, multiply(MulKind::Muls, d, r, cpu), cpu))),
-        Op::Mulsu { d, r } => Some(Ok(end(1, multiply(MulKind::Mulsu, d, r, cpu), cpu))),
-        Op::Fmul { d, r } => Some(Ok(end(1, multiply(MulKind::Fmul, d, r, cpu), cpu))),
-        Op::Fmuls { d, r } => Some(Ok(end(1, multiply(MulKind::Fmuls, d, r, cpu), cpu))),
-        Op::Fmulsu { d, r } => Some(Ok(end(1, multiply(MulKind::Fmulsu, d, r, cpu), cpu))),
-        Op::Mov { d, r } => Some(Ok(end(1, copy(d, cpu.reg(r), cpu), cpu))),
-        Op::Ldi { d, k } => Some(Ok(end(1, copy(d, k, cpu), cpu))),
-        Op::Movw { d, r } => Some(Ok(end(1, copy_pair(d, r, cpu), cpu))),
-        Op::Bclr { s } => Some(Ok(end(1, set_flag(s % 8, false, cpu), cpu))),
-        Op::Bld { d, b } => Some(Ok(end(1, load_bit(d, b % 8, cpu), cpu))),
-        Op::Bst { d, b } => Some(Ok(end(1, store_bit(d, b % 8, cpu), cpu))),
-        Op::Nop | Op::Wdr => Some(Ok(end(1, 1, cpu))),
+        Op::Mul { d, r } => Some(Ok(retire(1, multiply(MulKind::Mul, d, r, cpu), cpu))),
+        Op::Muls { d, r } => Some(Ok(retire(1, multiply(MulKind::Muls, d, r, cpu), cpu))),
+        Op::Mulsu { d, r } => Some(Ok(retire(1, multiply(MulKind::Mulsu, d, r, cpu), cpu))),
+        Op::Fmul { d, r } => Some(Ok(retire(1, multiply(MulKind::Fmul, d, r, cpu), cpu))),
+        Op::Fmuls { d, r } => Some(Ok(retire(1, multiply(MulKind::Fmuls, d, r, cpu), cpu))),
+        Op::Fmulsu { d, r } => Some(Ok(retire(1, multiply(MulKind::Fmulsu, d, r, cpu), cpu))),
+        Op::Mov { d, r } => Some(Ok(retire(1, copy(d, cpu.reg(r), cpu), cpu))),
+        Op::Ldi { d, k } => Some(Ok(retire(1, copy(d, k, cpu), cpu))),
+        Op::Movw { d, r } => Some(Ok(retire(1, copy_pair(d, r, cpu), cpu))),
+        Op::Bclr { s } => Some(Ok(retire(1, set_flag(s % 8, false, cpu), cpu))),
+        Op::Bld { d, b } => Some(Ok(retire(1, load_bit(d, b % 8, cpu), cpu))),
+        Op::Bst { d, b } => Some(Ok(retire(1, store_bit(d, b % 8, cpu), cpu))),
+        Op::Nop | Op::Wdr => Some(Ok(retire(1, 1, cpu))),
         Op::Jmp { k } => Some(Ok(jump(3, k, cpu))),
         Op::Rjmp { k } => Some(Ok(jump(2, relative_to(k, cpu), cpu))),
         Op::Ijmp => Some(Ok(jump(2, z_pointer(cpu), cpu))),
@@ -111,7 +116,7 @@ pub fn execute_plain<B: Bus>(
         Op::LddY { d, q } => Some(load_at(d, displaced(y, q, cpu), 1, 2, cpu, bus)),
         Op::LddZ { d, q } => Some(load_at(d, displaced(z, q, cpu), 1, 2, cpu, bus)),
         Op::Lds { d, k } => Some(load_at(d, k, 2, 2, cpu, bus)),
-        Op::InIo { d, a } => Some(load_at(d, io(a), 1, 1, cpu, bus)),
+        Op::InIo { d, a } => Some(load_at(d, io_address(a), 1, 1, cpu, bus)),
         Op::LdXInc { d } => Some(load_post_increment(d, x, cpu, bus)),
         Op::LdYInc { d } => Some(load_post_increment(d, y, cpu, bus)),
         Op::LdZInc { d } => Some(load_post_increment(d, z, cpu, bus)),
@@ -122,7 +127,7 @@ pub fn execute_plain<B: Bus>(
         Op::StdY { q, r } => Some(store_at(displaced(y, q, cpu), cpu.reg(r), 1, 2, cpu, bus)),
         Op::StdZ { q, r } => Some(store_at(displaced(z, q, cpu), cpu.reg(r), 1, 2, cpu, bus)),
         Op::Sts { k, r } => Some(store_at(k, cpu.reg(r), 2, 2, cpu, bus)),
-        Op::OutIo { a, r } => Some(store_at(io(a), cpu.reg(r), 1, 1, cpu, bus)),
+        Op::OutIo { a, r } => Some(store_at(io_address(a), cpu.reg(r), 1, 1, cpu, bus)),
         Op::StXInc { r } => Some(store_post_increment(x, r, cpu, bus)),
         Op::StYInc { r } => Some(store_post_increment(y, r, cpu, bus)),
         Op::StZInc { r } => Some(store_post_increment(z, r, cpu, bus)),
@@ -155,7 +160,7 @@ fn execute_other<B: Bus>(
     ensures outcome { record { result = result; cpu = cpu.new; bus = bus.new } ≡ executed_over B.get_gives B.put_gives flash.now.bytes op cpu.old bus.old }
 {
     match op {
-        Op::Bset { s } => Ok(end(1, set_flag(s % 8, true, cpu), cpu)),
+        Op::Bset { s } => Ok(retire(1, set_flag(s % 8, true, cpu), cpu)),
         Op::Reti => reti(cpu, bus),
         Op::Sleep => Ok(sleep(cpu)),
         _ => match op.class() {
@@ -165,7 +170,8 @@ fn execute_other<B: Bus>(
     }
 }
 
-/// Executes an instruction of any class, as [`execute_plain`] does. One that halts the node is an `Err`, and changes nothing.
+/// Executes an instruction of any class, as [`execute_plain`] does. One that halts the node is an `Err`, and changes
+/// nothing.
 #[inline(always)]
 pub fn execute<B: Bus>(
     op: &Op,

@@ -67,8 +67,8 @@ fn is_still(op: &Op, bus: &NodeBus) -> bool
 }
 
 impl Machine {
-    // Executes the instruction at the program counter of `core` on it, if it is still and nothing is due: how many cycles
-    // it takes, 0 where it is another.
+    // Executes the instruction at the program counter of `core` on it, if it is still and nothing is due: how many
+    // cycles it takes, 0 where it is another.
     pub fn step_still(&mut self, core: &mut Cpu) -> u8
         ensures same { self.new ≡ self.old }
         ensures step { 0 < result → IsStillStep result self.old core.old core.new }
@@ -114,9 +114,9 @@ impl Machine {
         None
     }
 
-    // Where a loop begins at the program counter that leaves all as it is but for the cycle and the count of instructions, as
-    // a poll does, its rounds from `cycle` on that end by `end` and before the next event are taken at once. How many cycles
-    // it were, 0 where there is no such loop.
+    // Where a loop begins at the program counter that leaves all as it is but for the cycle and the count of
+    // instructions, as a poll does, its rounds from `cycle` on that end by `end` and before the next event are taken at
+    // once. How many cycles it were, 0 where there is no such loop.
     #[inline(never)]
     fn poll(&mut self, cycle: u64, end: u64) -> u64
         requires may { MayAct cycle self.old }
@@ -133,13 +133,13 @@ impl Machine {
             return 0;
         }
         let Some(round) = self.round() else { return 0 };
-        let rounds = self.bus.board.pass_rounds(end - cycle, round.length);
+        let rounds = self.bus.board.leap_rounds(end - cycle, round.length);
         self.count += rounds * round.count;
         rounds * round.length
     }
 
-    /// The rounds from `cycle` on of a loop that waits, where one begins at the program counter: those that end by `end` and
-    /// before the next event, at once. How many cycles it were, 0 where there is no such loop.
+    /// The rounds from `cycle` on of a loop that waits, where one begins at the program counter: those that end by
+    /// `end` and before the next event, at once. How many cycles it were, 0 where there is no such loop.
     pub fn leap(&mut self, cycle: u64, end: u64) -> u64
         requires may { MayAct cycle self.old }
         requires behind { self.old.to ≤ cycle }

@@ -112,8 +112,8 @@ impl Machine {
         self.stop = Some(cause);
     }
 
-    // The row and the sleep of an instruction that was executed, which most are without: behind the window only SLEEP has
-    // one of the two. The answer is that of `instruct`.
+    // The row and the sleep of an instruction that was executed, which most are without: behind the window only SLEEP
+    // has one of the two. The answer is that of `instruct`.
     #[inline(never)]
     fn end_instruction(&mut self, cycle: u64, pc: u16, done: Done) -> u8
         requires room { vec_len self.old.rows < vec_capacity self.old.rows }
@@ -137,8 +137,8 @@ impl Machine {
         unless_told(told, done.cycles)
     }
 
-    // What is left of the first cycle of an instruction that did not stop, by whether another is owed. The answer is that of
-    // `instruct`.
+    // What is left of the first cycle of an instruction that did not stop, by whether another is owed. The answer is
+    // that of `instruct`.
     #[inline(always)]
     fn end(&mut self, cycle: u64, pc: u16, owed: bool, done: Done) -> u8
         requires going { self.old.stop ≡ None }
@@ -195,8 +195,8 @@ impl Machine {
         }
     }
 
-    // The first cycle of an interrupt, of which so many cycles more follow: how many it takes, or 0 where the node stopped
-    // or has a row more.
+    // The first cycle of an interrupt, of which so many cycles more follow: how many it takes, or 0 where the node
+    // stopped or has a row more.
     fn enter(&mut self, cycle: u64, wait: u8, vector: Vector) -> u8
         requires short { wait ≤ 7 }
         requires going { self.old.stop ≡ None }
@@ -234,8 +234,8 @@ impl Machine {
         due(self.cpu.sreg, &self.bus.board)
     }
 
-    // The processor's part of a cycle in which it neither waits nor sleeps: how many cycles its instruction or its entry
-    // takes, or 0 where the node stopped, executed SLEEP, or has a row more.
+    // The processor's part of a cycle in which it neither waits nor sleeps: how many cycles its instruction or its
+    // entry takes, or 0 where the node stopped, executed SLEEP, or has a row more.
     #[inline(never)]
     pub fn act(&mut self, cycle: u64) -> u8
         requires { MayAct cycle self.old }

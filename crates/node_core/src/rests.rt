@@ -17,7 +17,7 @@ impl Machine {
     {
         let wait = self.wait;
         let calm = self.script.quiet(cycle, most.min(u64::from(wait)));
-        let n = self.bus.board.pass(calm);
+        let n = self.bus.board.leap_up_to(calm);
         self.wait = wait - n as u8;
         n
     }
@@ -34,7 +34,7 @@ impl Machine {
         ensures within { result ≤ most }
     {
         let calm = self.script.quiet(cycle, most);
-        self.bus.board.pass(calm)
+        self.bus.board.leap_up_to(calm)
     }
 
     /// Cycles in which the node only waits or sleeps, from `cycle` on and of at most `most`: how many it were, 0 where

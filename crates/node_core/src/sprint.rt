@@ -8,7 +8,8 @@ use crate::instructions::execute_plain;
 use crate::machine::Machine;
 use avr_base::StopCause;
 
-/// Where a sprint ended: at the beginning of the cycle `at`, or in the middle of it, of which the processor's part is done.
+/// Where a sprint ended: at the beginning of the cycle `at`, or in the middle of it, of which the processor's part is
+/// done.
 #[derive(Clone, Copy)]
 pub struct Sprinted {
     pub at: u64,
@@ -38,8 +39,8 @@ fn turned_on(before: u8, after: u8) -> bool
 }
 
 impl Machine {
-    // The first cycle of an instruction behind the window, where nothing is due. Of one that goes on, the effect and the count
-    // are written; whether it owes another is told at the end of the sprint.
+    // The first cycle of an instruction behind the window, where nothing is due. Of one that goes on, the effect and
+    // the count are written; whether it owes another is told at the end of the sprint.
     #[inline(always)]
     fn step(&mut self, cycle: u64) -> Step
         requires may { MayAct cycle self.old }

@@ -29,11 +29,11 @@ impl Machine {
         if cycle + u64::from(taken) > end {
             return false;
         }
-        self.bus.board.passes(cycle, taken)
+        self.bus.board.leap_whole(cycle, taken)
     }
 
-    /// The devices' part of the cycles of such an instruction, if no interrupt line is up before or after them either: whether
-    /// it was so.
+    /// The devices' part of the cycles of such an instruction, if no interrupt line is up before or after them either:
+    /// whether it was so.
     #[inline(always)]
     pub fn passes_clear(&mut self, cycle: u64, end: u64, taken: u8) -> bool
         requires now { self.old.bus.board.clock ≡ cycle }
@@ -51,12 +51,12 @@ impl Machine {
         if cycle + u64::from(taken) > end {
             return false;
         }
-        self.bus.board.passes_clear(cycle, taken)
+        self.bus.board.leap_clear(cycle, taken)
     }
 
-    // The devices' part of the cycle `cycle`, in which an instruction begins that takes `taken` cycles, and its other cycles,
-    // if they end by `end`, up to which no byte arrives, and the devices end nothing in them: whether it was so. Not where
-    // `taken` is 0.
+    // The devices' part of the cycle `cycle`, in which an instruction begins that takes `taken` cycles, and its other
+    // cycles, if they end by `end`, up to which no byte arrives, and the devices end nothing in them: whether it was
+    // so. Not where `taken` is 0.
     #[inline(always)]
     fn finish_instruction(&mut self, cycle: u64, end: u64, taken: u8) -> bool
         requires going { 0 < taken → IsGoing taken (shown self.old) }

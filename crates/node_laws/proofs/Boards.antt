@@ -28,7 +28,7 @@ use Rattle.avr_timers.specs.declared.registers8.Reg8.{Reg8}
 use Rattle.avr_timers.specs.declared.registers8.Reg8.TheVariants as reg8
 use Rattle.avr_timers.specs.declared.registers16.Reg16.{Reg16}
 use Rattle.avr_timers.specs.declared.registers16.Reg16.TheVariants as reg16
-use Rattle.avr_timers.specs.declared.registers16.Chan.TheVariants as chan
+use Rattle.avr_timers.specs.declared.registers16.Channel.TheVariants as chan
 use Rattle.avr_timers.specs.Registers8 as registers8
 use Rattle.avr_timers.specs.Registers16 as registers16
 use Rattle.avr_timers.specs.Registers16.{control_b}
@@ -39,8 +39,8 @@ use Rattle.avr_timers.specs.declared.timer8.Timer8.{Timer8}
 use Rattle.avr_timers.specs.Timer8 as timer8
 use Rattle.avr_timers.specs.declared.timer16.Timer16.{Timer16}
 use Rattle.avr_timers.specs.Timer16 as timer16
-use Rattle.serial_ports.specs.declared.radio.Moved.{Moved}
-use Rattle.serial_ports.specs.declared.radio.Moved.TheVariants.{Answer, Send, Ask}
+use Rattle.serial_ports.specs.declared.radio.TransferOutcome.{TransferOutcome}
+use Rattle.serial_ports.specs.declared.radio.TransferOutcome.TheVariants.{Answer, Send, Ask}
 use Rattle.serial_ports.specs.declared.radio.Radio.{Radio}
 use Rattle.serial_ports.specs.Radio.{radio_transfer}
 use Rattle.serial_ports.specs.declared.usart_receive_buffer.ReceiveBuffer.{ReceiveBuffer}
@@ -143,11 +143,11 @@ with_ports : (t : ℕ) (b : Board) (r : Radio) (s : Spi) → RestWithin t b → 
 with_ports t b r s h f g = record { t0 = h.t0; t1 = h.t1; t2 = h.t2; t3 = h.t3; usart = h.usart; spi = g; radio = f; kept = h.kept }
 
 -- what is left of cycle t, by what the radio makes of the transfer that ends in it
-abbrev Known : ℕ → Option (Moved × Radio) → Board → Type 0
+abbrev Known : ℕ → Option (TransferOutcome × Radio) → Board → Type 0
 Known t None b = SpiWithin (t + 1) b.spi × RadioWithin b.radio
 Known t (Some m) b = MovedWithin m.0 m.1 × (b.spi.control ≤ 255)
 
-ended_by : (t : ℕ) (m : Moved) (r : Radio) (h : Heard) (b : Board) → HeardWithin h → MovedWithin m r → b.spi.control ≤ 255 → RestWithin (t + 1) b
+ended_by : (t : ℕ) (m : TransferOutcome) (r : Radio) (h : Heard) (b : Board) → HeardWithin h → MovedWithin m r → b.spi.control ≤ 255 → RestWithin (t + 1) b
     → BoardWithin (t + 1) (if is_asks (air_by m) then board_answered h (transfer_end m r b) else transfer_end m r b)
 unfolding board_answered
 ended_by t (Answer miso) r h b heard known control rest = with_ports (t + 1) b r _ rest known.1 (finished_within (t + 1) miso b.spi control known.0)
@@ -155,7 +155,7 @@ ended_by t (Send byte miso) r h b heard known control rest = with_ports (t + 1) 
 ended_by t Ask r h b heard known control rest =
     with_ports (t + 1) b _ _ rest (heard_within h r heard known) (finished_within (t + 1) 0 b.spi control (omega arith))
 
-moved_within : (t : ℕ) (o : Option (Moved × Radio)) (h : Heard) (b : Board) → HeardWithin h → Known t o b → RestWithin (t + 1) b
+moved_within : (t : ℕ) (o : Option (TransferOutcome × Radio)) (h : Heard) (b : Board) → HeardWithin h → Known t o b → RestWithin (t + 1) b
     → BoardWithin (t + 1) (if is_asks (air_of o) then board_answered h (with_moved o b) else with_moved o b)
 moved_within t None h b heard known rest = with_ports (t + 1) b b.radio b.spi rest known.1 known.0
 moved_within t (Some m) h b heard known rest = ended_by t m.0 m.1 h b heard known.0 known.1 rest
@@ -194,7 +194,7 @@ cycle_within t arrival h b early heard states w =
     } in
     moved_within t (moved t b) h c heard (known_by t (ended_byte b.spi.shift_register t) b c refl early states w refl refl) rest
 
-send_is : (m : Moved) → SentWithin m → ByteWithin (sent_by (air_by m))
+send_is : (m : TransferOutcome) → SentWithin m → ByteWithin (sent_by (air_by m))
 send_is (Answer miso) h = tt
 send_is (Send byte miso) h = h
 send_is Ask h = tt

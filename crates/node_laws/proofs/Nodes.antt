@@ -35,8 +35,8 @@ use Rattle.node_core.specs.Interrupts.{due, entry, vectored}
 use Rattle.node_core.specs.State.{NodeState, reset}
 use Rattle.node_core.specs.declared.bus.NodeBus.{NodeBus}
 use Rattle.serial_ports.specs.Script.{ScriptBytes, script_byte}
-use Rattle.serial_ports.specs.declared.radio.Moved.{Moved}
-use Rattle.serial_ports.specs.declared.radio.Moved.TheVariants.{Answer, Send, Ask}
+use Rattle.serial_ports.specs.declared.radio.TransferOutcome.{TransferOutcome}
+use Rattle.serial_ports.specs.declared.radio.TransferOutcome.TheVariants.{Answer, Send, Ask}
 use Rattle.serial_ports.specs.declared.radio.Radio.{Radio}
 use Rattle.world_core.specs.NodeKind.{ticked}
 use Rattle.world_core.specs.declared.air.Heard.{Heard}
@@ -243,12 +243,12 @@ module _ (t : ℕ) (s : NodeState) (h : StepWithin t t s) where
 
 -- the devices' part
 
-end_clock : (m : Moved) (r : Radio) (b : Board) → (transfer_end m r b).clock ≡ b.clock
+end_clock : (m : TransferOutcome) (r : Radio) (b : Board) → (transfer_end m r b).clock ≡ b.clock
 end_clock (Answer miso) r b = refl
 end_clock (Send byte miso) r b = refl
 end_clock Ask r b = refl
 
-moved_clock : (o : Option (Moved × Radio)) (b : Board) → (with_moved o b).clock ≡ b.clock
+moved_clock : (o : Option (TransferOutcome × Radio)) (b : Board) → (with_moved o b).clock ≡ b.clock
 moved_clock None b = refl
 moved_clock (Some m) b = end_clock m.0 m.1 b
 

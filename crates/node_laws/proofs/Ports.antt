@@ -18,8 +18,8 @@ use Rattle.serial_ports.specs.declared.spi_registers.SpiReg.TheVariants as spire
 use Rattle.serial_ports.specs.declared.spi.Spi.{Spi}
 use Rattle.serial_ports.specs.SpiRegisters as spi_registers
 use Rattle.serial_ports.specs.Spi as spi
-use Rattle.serial_ports.specs.declared.radio.Moved.{Moved}
-use Rattle.serial_ports.specs.declared.radio.Moved.TheVariants.{Answer, Send, Ask}
+use Rattle.serial_ports.specs.declared.radio.TransferOutcome.{TransferOutcome}
+use Rattle.serial_ports.specs.declared.radio.TransferOutcome.TheVariants.{Answer, Send, Ask}
 use Rattle.serial_ports.specs.declared.radio.Radio.{Radio}
 use Rattle.serial_ports.specs.declared.radio.RadioState.{RadioState}
 use Rattle.serial_ports.specs.declared.radio.RadioState.TheVariants.{Idle, ToSend, ToSample, Status, Byte, Age}
@@ -269,18 +269,18 @@ put_spi_within t s s' spireg.Spdr b small early h e =
 -- the radio
 
 -- what a transfer leaves of it, and the byte that it answers; a sample is answered in the same cycle
-abbrev pub MovedWithin : Moved → Radio → Type 0
+abbrev pub MovedWithin : TransferOutcome → Radio → Type 0
 MovedWithin (Answer miso) r = (miso ≤ 255) × RadioWithin r
 MovedWithin (Send byte miso) r = (miso ≤ 255) × RadioWithin r
 MovedWithin Ask r = r.free ≤ 2 ^ 41
 
 -- the byte that it sends is the byte of the transfer
-abbrev pub SentWithin : Moved → Type 0
+abbrev pub SentWithin : TransferOutcome → Type 0
 SentWithin (Answer miso) = Unit {0}
 SentWithin (Send byte miso) = byte ≤ 255
 SentWithin Ask = Unit {0}
 
-abbrev Leaves : Moved × Radio → Type 0
+abbrev Leaves : TransferOutcome × Radio → Type 0
 Leaves m = MovedWithin m.0 m.1 × SentWithin m.0
 
 idle_by : (r : Radio) (first second : Bool) → r.free ≤ 2 ^ 41

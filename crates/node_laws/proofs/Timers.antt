@@ -16,8 +16,8 @@ use Rattle.avr_timers.specs.Timer8 as timer8
 use Rattle.avr_timers.specs.declared.mode.Mode16.{Mode16}
 use Rattle.avr_timers.specs.declared.registers16.Reg16.{Reg16}
 use Rattle.avr_timers.specs.declared.registers16.Reg16.TheVariants as reg16
-use Rattle.avr_timers.specs.declared.registers16.Chan.{Chan}
-use Rattle.avr_timers.specs.declared.registers16.Chan.TheVariants as chan
+use Rattle.avr_timers.specs.declared.registers16.Channel.{Channel}
+use Rattle.avr_timers.specs.declared.registers16.Channel.TheVariants as chan
 use Rattle.avr_timers.specs.declared.timer16.Timer16.{Timer16}
 use Rattle.avr_timers.specs.Registers16.{get_of as get_16, put_of as put_16, with_compare, with_control_a, with_control_b, word_with}
 use Rattle.avr_timers.specs.Timer16 as timer16
@@ -95,7 +95,7 @@ module _ (tm : Timer16) (h : Timer16Within tm) where
   with_icr : (x : ℕ) → x ≤ 65535 → Timer16Within (record tm { icr = x })
   with_icr x small = record { count = h.count; compare_a = h.compare_a; compare_b = h.compare_b; compare_c = h.compare_c; icr = small; temp = h.temp }
 
-  with_chan : (c : Chan) (x : ℕ) → x ≤ 65535 → Timer16Within (with_compare tm c x)
+  with_chan : (c : Channel) (x : ℕ) → x ≤ 65535 → Timer16Within (with_compare tm c x)
   with_chan chan.A x small = record { count = h.count; compare_a = small; compare_b = h.compare_b; compare_c = h.compare_c; icr = h.icr; temp = h.temp }
   with_chan chan.B x small = record { count = h.count; compare_a = h.compare_a; compare_b = small; compare_c = h.compare_c; icr = h.icr; temp = h.temp }
   with_chan chan.C x small = record { count = h.count; compare_a = h.compare_a; compare_b = h.compare_b; compare_c = small; icr = h.icr; temp = h.temp }

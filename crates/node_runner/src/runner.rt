@@ -20,7 +20,7 @@ use world_core::{Heard, Send};
 pub enum Event {
     /// It samples the air in this cycle, and waits for [`Runner::answer`].
     Ask { cycle: u64 },
-    /// It sent a byte, and waits for [`Runner::noted`].
+    /// It sent a byte, and waits for [`Runner::note_posted`].
     Sent { send: Send },
     /// All cycles of the call passed, and none sent or sampled; the limit is not reached.
     Turn { cycle: u64 },
@@ -131,7 +131,7 @@ impl Runner {
     }
 
     /// Takes note that the send of the last event was posted.
-    pub fn noted(&mut self)
+    pub fn note_posted(&mut self)
         requires { self.old.unnoted ≡ true }
         ensures place { self.new ≡ record self.old { unnoted = false } }
         ensures count { noted_of self.new ≡ noted_of self.old + 1 }

@@ -1,6 +1,6 @@
 // What the record and the nodes of a session answer, as a case file has it.
 use air_cases::{Answer, Fault};
-use neighbour_sync::{Behind, Passed, Posted, Tried};
+use neighbour_sync::{Behind, Posted, SampleAttempt, SampleOutcome};
 
 /// The answer to a post.
 pub fn of_posted(posted: Posted) -> Answer {
@@ -20,20 +20,20 @@ pub fn of_cut(cut: Result<(), Behind>) -> Answer {
 }
 
 /// The answer to a node of a session that tried to sample.
-pub fn of_tried(tried: Tried) -> Result<Answer, Fault> {
+pub fn of_tried(tried: SampleAttempt) -> Result<Answer, Fault> {
     match tried {
-        Tried::Heard(heard) => Ok(Answer::Heard(heard)),
-        Tried::NotYet { node, clock } => Ok(Answer::Waits { node, clock }),
-        Tried::Halted => Ok(Answer::Halted),
-        Tried::NoMemory => Err(Fault::NoMemory),
+        SampleAttempt::Heard(heard) => Ok(Answer::Heard(heard)),
+        SampleAttempt::NotYet { node, clock } => Ok(Answer::Waits { node, clock }),
+        SampleAttempt::Halted => Ok(Answer::Halted),
+        SampleAttempt::NoMemory => Err(Fault::NoMemory),
     }
 }
 
 /// The answer to a node of a session that waited for its sample.
-pub fn of_passed(passed: Passed) -> Result<Answer, Fault> {
+pub fn of_passed(passed: SampleOutcome) -> Result<Answer, Fault> {
     match passed {
-        Passed::Heard(heard) => Ok(Answer::Heard(heard)),
-        Passed::Halted => Ok(Answer::Halted),
-        Passed::NoMemory => Err(Fault::NoMemory),
+        SampleOutcome::Heard(heard) => Ok(Answer::Heard(heard)),
+        SampleOutcome::Halted => Ok(Answer::Halted),
+        SampleOutcome::NoMemory => Err(Fault::NoMemory),
     }
 }

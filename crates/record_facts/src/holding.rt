@@ -31,8 +31,8 @@ fn expect_floor(air: &Air, floor: u64) -> Result<(), Fault> {
     }
 }
 
-/// Compares the record with what a section says of its sends, its samples or its floor. It answers false where the section says
-/// nothing of these.
+/// Compares the record with what a section says of its sends, its samples or its floor. It answers false where the
+/// section says nothing of these.
 pub fn is_compared(alloc: Global, air: &Air, section: &Section<'_>) -> Result<bool, Fault> {
     match (section.word, section.numbers.as_slice()) {
         ("record", numbers) => expect_sends(air, &sends_of(alloc, numbers)?)?,

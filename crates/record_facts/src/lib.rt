@@ -16,8 +16,8 @@ use std::fs::Files;
 use std::sync::Wait;
 use stored_cases::{Failed, tell_run, text_of};
 
-/// Takes all steps of a file on the clock words and the record alone, and writes how many answers there were, or the first line
-/// that is not as the file says.
+/// Takes all steps of a file on the clock words and the record alone, and writes how many answers there were, or the
+/// first line that is not as the file says.
 pub fn do_record<R: Files + AllocGlobal, O: Sink>(
     rt: &R,
     file: &str,
@@ -32,8 +32,8 @@ pub fn do_record<R: Files + AllocGlobal, O: Sink>(
     )
 }
 
-/// Takes all steps of a file on one shared record, each line of steps in a session of its own, and writes how many answers
-/// there were, or the first line that is not as the file says.
+/// Takes all steps of a file on one shared record, each line of steps in a session of its own, and writes how many
+/// answers there were, or the first line that is not as the file says.
 pub fn do_sessions<R: Files + Wait + AllocGlobal, O: Sink>(
     rt: &R,
     file: &str,

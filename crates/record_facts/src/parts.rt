@@ -110,8 +110,8 @@ impl Parts {
         (parts, ran)
     }
 
-    /// Cuts the record at a cycle. It is `Forbidden` where that would wait for ever, since a node is behind, and where the
-    /// cycle is no floor.
+    /// Cuts the record at a cycle. It is `Forbidden` where that would wait for ever, since a node is behind, and where
+    /// the cycle is no floor.
     pub fn cut<R: Wait>(&mut self, rt: &R, floor: u64) -> Result<(), Fault> {
         if floor < self.air.floor() || floor > self.world.topo().limit() {
             return Err(Fault::Forbidden);

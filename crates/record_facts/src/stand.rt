@@ -68,8 +68,8 @@ impl Stand {
         }
     }
 
-    /// Posts a node's send of this number, from 0, and gives the record's answer. It is `Forbidden` where there is none, or it
-    /// lies an epoch above the floor.
+    /// Posts a node's send of this number, from 0, and gives the record's answer. It is `Forbidden` where there is
+    /// none, or it lies an epoch above the floor.
     pub fn post(&mut self, alloc: Global, node: u8, number: u64) -> Result<Answer, Fault> {
         let Some(send) = send_number(alloc, &self.world, node, number)? else {
             return Err(Fault::Forbidden);
@@ -80,8 +80,8 @@ impl Stand {
         Ok(of_posted(self.air.post(&self.clocks, send, number)))
     }
 
-    /// Samples the air for a node in a cycle. It is `Forbidden` where the world has no such sample, or the cycle is below the
-    /// floor.
+    /// Samples the air for a node in a cycle. It is `Forbidden` where the world has no such sample, or the cycle is
+    /// below the floor.
     pub fn sample(&mut self, node: u8, cycle: u64) -> Result<Answer, Fault> {
         if cycle < self.air.floor() || !is_asked(self.world.asks(), &Ask { node, cycle }) {
             return Err(Fault::Forbidden);
@@ -89,8 +89,8 @@ impl Stand {
         Answer::of_sampled(self.air.sample(&self.clocks, node, cycle))
     }
 
-    /// Cuts the record at a cycle, if no node is behind it, and gives the answer. It is `Forbidden` where the cycle is no
-    /// floor.
+    /// Cuts the record at a cycle, if no node is behind it, and gives the answer. It is `Forbidden` where the cycle is
+    /// no floor.
     pub fn cut(&mut self, floor: u64) -> Result<Answer, Fault> {
         if floor < self.air.floor() || floor > self.world.topo().limit() {
             return Err(Fault::Forbidden);

@@ -76,7 +76,8 @@ fn may_sample(world: &ListWorld, floor: u64, node: u8, cycle: u64) -> bool
     cycle >= floor && is_asked(world.asks(), &Ask { node, cycle })
 }
 
-// A node samples in this cycle: it tries to, or waits until it may. It would wait for ever where it cannot sample at once.
+// A node samples in this cycle: it tries to, or waits until it may. It would wait for ever where it cannot sample at
+// once.
 fn sample_node<N: Session, R: Wait>(
     rt: &R,
     shared: &Shared<ListWorld, N>,
@@ -131,7 +132,8 @@ impl<N: Session> Team<N> {
         }
     }
 
-    /// Takes the step that a section says, `WORD NODE NUMBER ..`. It gives the answer to it, and `None` where it has none.
+    /// Takes the step that a section says, `WORD NODE NUMBER ..`. It gives the answer to it, and `None` where it has
+    /// none.
     pub fn step<R: Wait>(
         &mut self,
         rt: &R,

@@ -40,8 +40,8 @@ fn turn(node: &mut Node, limit: u64)
     }
 }
 
-/// The run of an image from reset on, as the trial says; `None` where it may not be, the image is refused, or there is no
-/// memory.
+/// The run of an image from reset on, as the trial says; `None` where it may not be, the image is refused, or there is
+/// no memory.
 pub fn run_trial<'l>(alloc: Global, image: &[u8], trial: Trial<'l>) -> Option<Run> {
     if trial.every == 0 || trial.bytes.len() > 65_536 {
         return None;

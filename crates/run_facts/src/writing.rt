@@ -21,7 +21,8 @@ fn write_sram<O: Sink>(low: u8, high: u8, out: &mut O) -> Result<(), SinkFault> 
     write_line(line.as_str(), out)
 }
 
-/// Writes the rows of a run but those of instructions, the row of its end, a line `N rows, cycle C`, and its two bytes of SRAM.
+/// Writes the rows of a run but those of instructions, the row of its end, a line `N rows, cycle C`, and its two bytes
+/// of SRAM.
 pub fn write_run<O: Sink>(run: &Run, out: &mut O) -> Result<(), SinkFault> {
     for row in run.rows.iter() {
         if !is_instruction(row) {

@@ -3,14 +3,14 @@
 use Rattle.std.proofs.Common.{◌≡◌, ℕ, ◌+◌, ◌≤◌, ◌==◌, nat_le, if◌then◌else◌, Bool, true, false, refl, arith}
 use Rattle.std.proofs.lemmas.Bool.{cond_both, leb-true}
 use Rattle.serial_ports.specs.Radio.{idle_transfer, in_state, radio_transfer, selected_transfer, send_transfer}
-use Rattle.serial_ports.specs.declared.radio.Moved.{Moved}
-use Rattle.serial_ports.specs.declared.radio.Moved.TheVariants.{Answer, Send, Ask}
+use Rattle.serial_ports.specs.declared.radio.TransferOutcome.{TransferOutcome}
+use Rattle.serial_ports.specs.declared.radio.TransferOutcome.TheVariants.{Answer, Send, Ask}
 use Rattle.serial_ports.specs.declared.radio.Radio.{Radio}
 use Rattle.serial_ports.specs.declared.radio.RadioState.{RadioState}
 use Rattle.serial_ports.specs.declared.radio.RadioState.TheVariants.{Idle, ToSend, ToSample, Status, Byte, Age}
 
 -- what a transfer in cycle t keeps of a radio, with what it comes to and the radio after it
-abbrev Keeps : ℕ → Radio → Moved × Radio → Type 0
+abbrev Keeps : ℕ → Radio → TransferOutcome × Radio → Type 0
 Keeps t r p = (p.1.byte_time ≡ r.byte_time) × (r.free ≤ p.1.free) × ((x m : ℕ) → p.0 ≡ Send x m → (r.free ≤ t) × (t + r.byte_time ≡ p.1.free))
 
 keeps_answer : (t k : ℕ) (state : RadioState) (r : Radio) → Keeps t r (Answer k, in_state state r)

@@ -18,7 +18,7 @@ mod usart_numbers;
 mod usart_receive_buffer;
 mod usart_registers;
 
-pub use radio::{Moved, Radio, RadioState};
+pub use radio::{Radio, RadioState, TransferOutcome};
 pub use script::Script;
 pub use spi::Spi;
 pub use spi_registers::SpiReg;

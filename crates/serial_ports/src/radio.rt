@@ -31,7 +31,7 @@ pub enum RadioState {
 
 /// What a transfer of one byte comes to.
 #[derive(Clone, Copy)]
-pub enum Moved {
+pub enum TransferOutcome {
     /// It is answered by this byte.
     Answer(u8),
     /// A byte is sent over the air.
@@ -58,7 +58,7 @@ pub struct Radio {
 
 impl Radio {
     ghost use Rattle.serial_ports.specs.Radio.{idle_transfer, in_state, radio_answered, radio_transfer, reset_radio, selected_transfer, send_transfer};
-    ghost use Rattle.serial_ports.specs.declared.radio.Moved.TheVariants.{Answer, Send};
+    ghost use Rattle.serial_ports.specs.declared.radio.TransferOutcome.TheVariants.{Answer, Send};
 
     /// A radio after reset, idle, whose bytes are on the air for `byte_time` cycles, at most 4,096.
     pub fn new(byte_time: u64) -> Radio
@@ -73,30 +73,30 @@ impl Radio {
     }
 
     // Answers a transfer, and enters the state that says what the byte of the next one is.
-    fn enter(&mut self, state: RadioState, answer: u8) -> Moved
+    fn enter(&mut self, state: RadioState, answer: u8) -> TransferOutcome
         ensures answered { result ≡ Answer answer }
         ensures turned { self.new ≡ in_state state self.old }
     {
         self.state = state;
-        Moved::Answer(answer)
+        TransferOutcome::Answer(answer)
     }
 
     // What a command comes to.
-    fn command(&mut self, mosi: u8) -> Moved
+    fn command(&mut self, mosi: u8) -> TransferOutcome
         ensures { (result, self.new) ≡ idle_transfer mosi self.old }
     {
         match mosi {
             1 => self.enter(RadioState::ToSend, 0),
             2 => {
                 self.state = RadioState::ToSample;
-                Moved::Ask
+                TransferOutcome::Ask
             }
             _ => self.enter(RadioState::Idle, 0),
         }
     }
 
     // What a byte to send comes to, in the cycle `cycle`.
-    fn send(&mut self, cycle: u64, byte: u8) -> Moved
+    fn send(&mut self, cycle: u64, byte: u8) -> TransferOutcome
         requires { cycle ≤ 2 ^ 41 }
         ensures { (result, self.new) ≡ send_transfer cycle byte self.old }
     {
@@ -105,11 +105,11 @@ impl Radio {
         }
         self.free = cycle + u64::from(self.byte_time);
         self.state = RadioState::Idle;
-        Moved::Send { byte, miso: 0 }
+        TransferOutcome::Send { byte, miso: 0 }
     }
 
     // What a byte comes to for a radio that is selected.
-    fn selected(&mut self, cycle: u64, mosi: u8) -> Moved
+    fn selected(&mut self, cycle: u64, mosi: u8) -> TransferOutcome
         requires { cycle ≤ 2 ^ 41 }
         ensures { (result, self.new) ≡ selected_transfer cycle mosi self.old.state self.old }
     {
@@ -127,7 +127,7 @@ impl Radio {
     /// selected is answered 0xFF and makes it idle. A byte is sent only where the one before it is over, and keeps the
     /// radio busy for the byte time.
     #[tactic(auto, unfolding(crate::specs::Radio::radio_transfer))]
-    pub fn transfer(&mut self, cycle: u64, selected: bool, mosi: u8) -> Moved
+    pub fn transfer(&mut self, cycle: u64, selected: bool, mosi: u8) -> TransferOutcome
         requires { cycle ≤ 2 ^ 41 }
         ensures moved { (result, self.new) ≡ radio_transfer cycle selected mosi self.old }
         ensures gap { self.new.byte_time ≡ self.old.byte_time }

@@ -108,7 +108,7 @@ impl Spi {
     }
 
     /// Clears SPIF, as entry to its vector does. Nothing else changes.
-    pub fn clear(&mut self)
+    pub fn clear_spif(&mut self)
         ensures { self.new ≡ record self.old { spif = false } }
     {
         self.spif = false;

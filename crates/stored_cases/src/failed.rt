@@ -3,8 +3,8 @@ use avr_base::NoMemory;
 use sim_io::SinkFault;
 use std::alloc::{AllocError, AllocFailed};
 
-/// Why a stored run writes no more: a line that is none, a case that is wrong, a file that cannot be read, want of memory, or
-/// an output that fails.
+/// Why a stored run writes no more: a line that is none, a case that is wrong, a file that cannot be read, want of
+/// memory, or an output that fails.
 #[derive(Drop)]
 pub struct Failed;
 

@@ -50,8 +50,8 @@ fn tell_wrong<O: Sink>(
     Ok(write_line(text.as_str(), out)?)
 }
 
-/// Judges the lines of a real file. It writes each that is wrong or not read with its number, from 1, and at last how many cases
-/// there were, and how many of them were such. It fails where one was, or where there was none.
+/// Judges the lines of a real file. It writes each that is wrong or not read with its number, from 1, and at last how
+/// many cases there were, and how many of them were such. It fails where one was, or where there was none.
 pub fn judge_file<R: Files + AllocGlobal, J: Judge, O: Sink>(
     rt: &R,
     file: &str,

@@ -1,6 +1,6 @@
-//! What the crates of stored cases share: why a run stops, the files of cases with their lines, words and numbers, how many
-//! cases there were and which of them were wrong, the lines that are written, and a number for a text that is too long to be
-//! written. `command_facts` runs all cases in one program.
+//! What the crates of stored cases share: why a run stops, the files of cases with their lines, words and numbers, how
+//! many cases there were and which of them were wrong, the lines that are written, and a number for a text that is too
+//! long to be written. `command_facts` runs all cases in one program.
 #![tactic(auto)]
 
 mod digest;

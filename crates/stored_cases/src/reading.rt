@@ -33,7 +33,8 @@ pub fn words_of(alloc: Global, text: &str) -> Result<Vec<&str>, AllocError> {
     Ok(all)
 }
 
-/// The decimal numbers of a text, each below 2^64, between which white space stands; `None` where a word is no such number.
+/// The decimal numbers of a text, each below 2^64, between which white space stands; `None` where a word is no such
+/// number.
 pub fn numbers_of(alloc: Global, text: &str) -> Result<Option<Vec<u64>>, AllocError> {
     let mut all = Vec::new(alloc);
     for word in text.split_whitespace() {

@@ -54,8 +54,8 @@ fn run<R: Threads + Sync>(rt: &R, words: Words) -> (u64, bool)
     )
 }
 
-/// What comes of a node that raises its clock through a million cycles, and one that looks at it, on two threads. `None` where
-/// there was no memory.
+/// What comes of a node that raises its clock through a million cycles, and one that looks at it, on two threads.
+/// `None` where there was no memory.
 pub fn on_threads<R: Threads + AllocGlobal + Sync>(rt: &R) -> Option<String> {
     let (raised, seen) = run(rt, open(rt.alloc(), CYCLES)?);
     format!(in rt.alloc(); "raised to {raised}, and seen to rise: {seen}").ok()

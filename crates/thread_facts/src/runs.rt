@@ -54,8 +54,8 @@ pub fn write_rows<R: Threads + Wait + Files + AllocGlobal + Sync, G: Gate + Sync
     Ok(trace_writer::write(rows.as_slice(), out)?)
 }
 
-/// Writes the status that these words come to over the files beside the program, and what stands on both streams. The write to
-/// the output with the number `fails`, from 0, fails, if there is one.
+/// Writes the status that these words come to over the files beside the program, and what stands on both streams. The
+/// write to the output with the number `fails`, from 0, fails, if there is one.
 pub fn write_call<R: Threads + Wait + Files + AllocGlobal + Sync, G: Gate + Sync, O: Sink>(
     rt: &R,
     words: &[&str],

@@ -8,7 +8,7 @@ use Rattle.std.proofs.lemmas.List.Kept.{AllPairs-filter}
 use Rattle.world_core.specs.declared.air.Send.{Send}
 use Rattle.world_core.specs.Topology.{Topology, reach}
 use Rattle.world_core.specs.Kept.{is_kept}
-use Rattle.world_core.specs.declared.ways.Way.{Way}
+use Rattle.world_core.specs.declared.ways.JumpPointer.{JumpPointer}
 use Rattle.world_core.specs.Chain.{Rises, IsChain, AreNewest, IsLog}
 
 all_kept : (p : Send → Bool) (l : List Send) → ((x : Send) → p x ≡ true) → filter p l ≡ l
@@ -36,7 +36,7 @@ pub shorter : (p : Send → Bool) (l : List Send) → length (filter p l) ≤ le
 shorter p [] = omega arith
 shorter p (x ∷ xs) = shorter_case (p x) x (filter p xs) xs (shorter p xs)
 
-pub log_cut : (p : Send → Bool) (l m : List Send) (b : List Way) (last : List ℕ) (ways : List Way) (ends : List ℕ) → IsLog l b last → m ≡ filter p l → IsChain m ways → AreNewest m ends → IsLog m ways ends
+pub log_cut : (p : Send → Bool) (l m : List Send) (b : List JumpPointer) (last : List ℕ) (ways : List JumpPointer) (ends : List ℕ) → IsLog l b last → m ≡ filter p l → IsChain m ways → AreNewest m ends → IsLog m ways ends
 log_cut p l m b last ways ends g e chain places = record {
   chain = chain;
   places = places;

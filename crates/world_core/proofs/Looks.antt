@@ -8,7 +8,7 @@ use Rattle.world_core.specs.declared.air.Send.{Send}
 use Rattle.world_core.specs.Topology.{Topology, is_linked, is_open, is_in_time, latency_of}
 use Rattle.world_core.specs.Heard.{is_audible}
 use Rattle.world_core.specs.Sends.{sends_of}
-use Rattle.world_core.specs.declared.ways.Way.{Way}
+use Rattle.world_core.specs.declared.ways.JumpPointer.{JumpPointer}
 use Rattle.world_core.specs.Chain.{no_send, send_at, way_at, newest, Rises, IsChain, IsPlaceOf}
 use Rattle.world_core.specs.Over.{IsYoung}
 use Rattle.world_core.proofs.Chained.{take_newest, newest_le, newest_node, none_pass, pass_one}
@@ -75,7 +75,7 @@ pub whole : (l : List Send) (k n : ℕ) → n ≡ newest l k (length l) → send
 whole l k n e =
     ap (λ (m : ℕ). sends_of k (take m l)) e ∙ sym (take_newest l k (length l) (omega arith)) ∙ ap (sends_of k) (take_all (length l) l (omega arith))
 
-pub back_is : (l : List Send) (ways : List Way) (k place : ℕ) → IsChain l ways → place ≤ length l → 0 < place → IsPlaceOf l k place
+pub back_is : (l : List Send) (ways : List JumpPointer) (k place : ℕ) → IsChain l ways → place ≤ length l → 0 < place → IsPlaceOf l k place
     → (way_at ways (place - 1)).before ≡ newest l k (place - 1)
 back_is l ways k place ch le pos own =
     let q : suc (place - 1) ≡ place = omega arith in
@@ -110,13 +110,13 @@ pub young_place : (t : Topology) (l : List Send) (k j s place : ℕ) → IsYoung
 young_place t l k j s place y i e = let q : place - 1 ≡ i = omega arith in subst (λ (n : ℕ). (send_at l n).node ≡ k) q y.own
 
 -- ---- one step back over a send that is too young
-pub back_place : (l : List Send) (ways : List Way) (k place : ℕ) → IsChain l ways → place ≤ length l → 0 < place → IsPlaceOf l k place
+pub back_place : (l : List Send) (ways : List JumpPointer) (k place : ℕ) → IsChain l ways → place ≤ length l → 0 < place → IsPlaceOf l k place
     → ((way_at ways (place - 1)).before < place) × IsPlaceOf l k (way_at ways (place - 1)).before
 back_place l ways k place ch le pos own =
     let e = back_is l ways k place ch le pos own in
     ((let h = newest_le l k (place - 1) in omega arith), (λ i f. newest_node l k (place - 1) i (f ∙ e)))
 
-pub back_young : (t : Topology) (l : List Send) (ways : List Way) (k j s place : ℕ) → IsChain l ways → place ≤ length l → IsYoung t l k j s place
+pub back_young : (t : Topology) (l : List Send) (ways : List JumpPointer) (k j s place : ℕ) → IsChain l ways → place ≤ length l → IsYoung t l k j s place
     → filter (is_audible t j s) (sends_of k (take (way_at ways (place - 1)).before l)) ≡ filter (is_audible t j s) (sends_of k (take place l))
 back_young t l ways k j s place ch le y =
     let n : ℕ = place - 1 in

@@ -2,7 +2,7 @@
 use Rattle.std.specs.Prelude.{◌≡◌, ℕ, zero, suc, ◌<◌, ◌≤◌, ◌==◌, if◌then◌else◌, List, length, slice_index, slice_index_or}
 use Rattle.std.specs.List.{All, AllPairs}
 use Rattle.world_core.specs.declared.air.Send.{Send}
-use Rattle.world_core.specs.declared.ways.Way.{Way}
+use Rattle.world_core.specs.declared.ways.JumpPointer.{JumpPointer}
 
 abbrev pub no_send : Send
 no_send = record { node = 0; cycle = 0; byte = 0 }
@@ -11,7 +11,7 @@ no_send = record { node = 0; cycle = 0; byte = 0 }
 abbrev pub send_at : List Send → ℕ → Send
 send_at sends i = slice_index_or sends i no_send
 
-abbrev pub way_at : List Way → ℕ → Way
+abbrev pub way_at : List JumpPointer → ℕ → JumpPointer
 way_at ways i = slice_index_or ways i (record { before = 0; far = 0; depth = 0 })
 
 -- 1 + the place of the last send of node k among the first n, and 0 where there is none
@@ -24,11 +24,11 @@ abbrev pub Rises : List Send → Type 0
 Rises = AllPairs (λ x y. x.node ≡ y.node → x.cycle < y.cycle)
 
 -- each way's far place is an earlier one
-abbrev pub AreBack : List Way → Type 0
+abbrev pub AreBack : List JumpPointer → Type 0
 AreBack ways = (i : ℕ) → i < length ways → (way_at ways i).far ≤ i
 
 -- for each send, 1 + the place of the send before it of the same node, and an earlier place
-pub record IsChain (sends : List Send) (ways : List Way) : Type 0 where
+pub record IsChain (sends : List Send) (ways : List JumpPointer) : Type 0 where
   pub places : length ways ≡ length sends
   pub back : (i : ℕ) → i < length sends → (way_at ways i).before ≡ newest sends (send_at sends i).node i
   pub fars : AreBack ways
@@ -41,7 +41,7 @@ IsPlaceOf sends k place = (i : ℕ) → suc i ≡ place → (send_at sends i).no
 abbrev pub AreNewest : List Send → List ℕ → Type 0
 AreNewest sends ends = (k : ℕ) → k < 64 → slice_index ends k ≡ newest sends k (length sends)
 
-pub record IsLog (sends : List Send) (ways : List Way) (ends : List ℕ) : Type 0 where
+pub record IsLog (sends : List Send) (ways : List JumpPointer) (ends : List ℕ) : Type 0 where
   pub chain : IsChain sends ways
   pub places : AreNewest sends ends
   pub rises : Rises sends

@@ -7,7 +7,7 @@ ghost use Rattle.world_core.specs.Sends.{sends_of};
 ghost use Rattle.world_core.specs.Chain.{newest, Rises, IsChain, AreNewest, IsPlaceOf};
 ghost use Rattle.world_core.specs.Over.{heard_over, IsYoung};
 
-use crate::ways::Way;
+use crate::ways::JumpPointer;
 use crate::{Heard, Send, Topo, heard_with};
 
 // Whether at this place, counted from 1, stands a send of node `from` that is too young to be heard.
@@ -28,7 +28,7 @@ fn is_young(topo: &Topo, sends: &[Send], place: usize, from: u8, node: u8, cycle
 fn older(
     topo: &Topo,
     sends: &[Send],
-    ways: &[Way],
+    ways: &[JumpPointer],
     place: usize,
     from: u8,
     node: u8,
@@ -54,7 +54,7 @@ fn older(
 fn gather(
     topo: &Topo,
     sends: &[Send],
-    ways: &[Way],
+    ways: &[JumpPointer],
     last: usize,
     from: u8,
     node: u8,
@@ -94,7 +94,7 @@ fn gather(
 pub fn listen(
     topo: &Topo,
     sends: &[Send],
-    ways: &[Way],
+    ways: &[JumpPointer],
     last: &[usize],
     node: u8,
     cycle: u64,

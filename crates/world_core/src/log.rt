@@ -1,6 +1,6 @@
 // The record of sends.
 use crate::listen::listen;
-use crate::ways::{Way, chained, keep, no_places, way_from};
+use crate::ways::{JumpPointer, chained, keep, no_places, way_from};
 use crate::{Heard, NoMemory, Send, Topo};
 use std::alloc::Global;
 use std::marker::Model;
@@ -10,7 +10,7 @@ use std::marker::Model;
 pub struct SendLog {
     sends: Vec<Send>,
     // for each send how to go back from it
-    ways: Vec<Way>,
+    ways: Vec<JumpPointer>,
     // for each node the place of its last send, counted from 1, or 0
     last: [usize; 64],
     room: usize,

@@ -10,7 +10,7 @@ use crate::Span;
 
 /// Which span of a link has begun last by a cycle.
 #[derive(Clone, Copy)]
-pub enum Begun {
+pub enum LastSpan {
     /// The link has no spans, and is always open.
     Always,
     /// It has spans, and none has begun.
@@ -60,21 +60,21 @@ fn is_before(spans: &[Span], number: usize, place: u64) -> bool
 }
 
 // The span of the link at this place that has begun last by the cycle.
-fn last_begun(spans: &[Span], place: u64, cycle: u64) -> Begun
+fn last_begun(spans: &[Span], place: u64, cycle: u64) -> LastSpan
     requires apart { AllPairs IsSpanOrder spans.now }
     requires spans { All (λ x. x.from < x.until) spans.now }
     ensures { IsLastBegun spans.now place cycle result }
 {
     let count = count_begun(spans, place, cycle);
     if is_before(spans, count, place) {
-        return Begun::Until {
+        return LastSpan::Until {
             until: spans[count - 1].until,
         };
     }
     if is_of(spans, count, place) {
-        return Begun::NotYet;
+        return LastSpan::NotYet;
     }
-    Begun::Always
+    LastSpan::Always
 }
 
 /// Whether the link at this place is open in this cycle.
@@ -84,9 +84,9 @@ pub fn is_open_at(spans: &[Span], place: u64, cycle: u64) -> bool
     ensures { result ≡ is_open_in spans.now place cycle }
 {
     match last_begun(spans, place, cycle) {
-        Begun::Always => true,
-        Begun::NotYet => false,
-        Begun::Until { until } => cycle < until,
+        LastSpan::Always => true,
+        LastSpan::NotYet => false,
+        LastSpan::Until { until } => cycle < until,
     }
 }
 
@@ -101,9 +101,9 @@ pub fn is_reached(spans: &[Span], place: u64, latency: u64, byte_time: u64, cycl
         return false;
     }
     match last_begun(spans, place, cycle - latency) {
-        Begun::Always => true,
-        Begun::NotYet => false,
-        Begun::Until { until } => is_in_reach(until, latency, byte_time, cycle),
+        LastSpan::Always => true,
+        LastSpan::NotYet => false,
+        LastSpan::Until { until } => is_in_reach(until, latency, byte_time, cycle),
     }
 }
 

@@ -12,7 +12,7 @@ use crate::{Send, Topo};
 
 /// How to go back from a send. A place counts from 1, and 0 is none.
 #[derive(Clone, Copy)]
-pub struct Way {
+pub struct JumpPointer {
     /// The place of the send before it of the same node.
     pub before: usize,
     /// An earlier place, to be tried first in a search.
@@ -22,7 +22,7 @@ pub struct Way {
 }
 
 // How many sends of the node there are up to this place.
-fn depth_at(ways: &[Way], place: usize) -> usize
+fn depth_at(ways: &[JumpPointer], place: usize) -> usize
     requires { place ≤ length ways.now }
 {
     if place == 0 {
@@ -32,7 +32,7 @@ fn depth_at(ways: &[Way], place: usize) -> usize
 }
 
 // The place far back for a send behind the one at this place.
-fn far_from(ways: &[Way], before: usize) -> usize
+fn far_from(ways: &[JumpPointer], before: usize) -> usize
     requires before { before ≤ length ways.now }
     requires back { AreBack ways.now }
     ensures { result ≤ before }
@@ -55,13 +55,13 @@ fn far_from(ways: &[Way], before: usize) -> usize
 }
 
 /// How to go back from a send behind the one at this place.
-pub fn way_from(ways: &[Way], before: usize) -> Way
+pub fn way_from(ways: &[JumpPointer], before: usize) -> JumpPointer
     requires before { before ≤ length ways.now }
     requires back { AreBack ways.now }
     ensures before { result.before ≡ before }
     ensures far { result.far ≤ before }
 {
-    Way {
+    JumpPointer {
         before,
         far: far_from(ways, before),
         depth: depth_at(ways, before).saturating_add(1),
@@ -95,7 +95,7 @@ pub fn keep(sends: &mut Vec<Send>, topo: &Topo, floor: u64)
 }
 
 /// For each node the place of its last send, counted from 1, or 0. The ways back of all sends go into `ways`.
-pub fn chained(sends: &[Send], ways: &mut Vec<Way>) -> [usize; 64]
+pub fn chained(sends: &[Send], ways: &mut Vec<JumpPointer>) -> [usize; 64]
     requires nodes { All (λ x. x.node < 64) sends.now }
     requires room { length sends.now ≤ vec_capacity ways.old }
     ensures chain { IsChain sends.now ways.new.items }

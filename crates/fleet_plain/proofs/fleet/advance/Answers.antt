@@ -15,8 +15,8 @@ returns-in-Sent-clause-step c =
     let old : Place = c.args.runner.now in
     let limit = subst (λ (t : Topology). c.args.end ≤ t.limit) c.requires.topo c.requires.end in
     let few : c.min-quantum.result ≡ min (c.args.end - old.cycle) 1024 = search rules in
-    adv_sent c.args.end c.min-quantum.result old c.args.log.now.sends limit c.requires.at c.requires.live (sym c.asking.ensures ∙ c.if-asking.false) few c.in-Sent.send c.event.new.self c.noted.new.self c.push.new.self.sends
-    c.in-Sent.ensures.event c.in-Sent.ensures.count c.noted.ensures.place c.noted.ensures.count (ap (λ (l : LogFacts). l.sends) c.push.ensures)
+    adv_sent c.args.end c.min-quantum.result old c.args.log.now.sends limit c.requires.at c.requires.live (sym c.asking.ensures ∙ c.if-asking.false) few c.in-Sent.send c.event.new.self c.note_posted.new.self c.push.new.self.sends
+    c.in-Sent.ensures.event c.in-Sent.ensures.count c.note_posted.ensures.place c.note_posted.ensures.count (ap (λ (l : LogFacts). l.sends) c.push.ensures)
 
 pub returns-in-Ask-clause-step : goal.returns-in-Ask-clause-step
 returns-in-Ask-clause-step c =

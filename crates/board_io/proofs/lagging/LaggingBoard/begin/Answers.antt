@@ -11,21 +11,21 @@ none_is : (a : Option ℕ) → is_some a ≡ false → a ≡ None
 none_is None e = refl
 none_is (Some byte) e = absurd (false≢true (sym e))
 
-pub returns-then-passes-clause-state : goal.returns-then-passes-clause-state
-returns-then-passes-clause-state c =
+pub returns-then-leap_whole-clause-state : goal.returns-then-leap_whole-clause-state
+returns-then-leap_whole-clause-state c =
     let t = c.args.cycle in
     let v : Board = unclocked c.args.self.now in
-    let quiet = quiet_now t c.args.self.now (c.passes.ensures.idle c.if-passes.true) in
-    c.passes.ensures.state c.if-passes.true
+    let quiet = quiet_now t c.args.self.now (c.leap_whole.ensures.idle c.if-leap_whole.true) in
+    c.leap_whole.ensures.state c.if-leap_whole.true
     ∙ (sym (begun_quiet t v quiet) ∙ ap (λ (a : Option ℕ). board_begun t a v) (sym (none_is c.args.arrival (c.is_none.ensures ∙ ap not c.if-is_none.true))))
 
-pub returns-then-passes-clause-clock : goal.returns-then-passes-clause-clock
-returns-then-passes-clause-clock c = c.passes.ensures.clock c.if-passes.true
+pub returns-then-leap_whole-clause-clock : goal.returns-then-leap_whole-clause-clock
+returns-then-leap_whole-clause-clock c = c.leap_whole.ensures.clock c.if-leap_whole.true
 
-pub returns-then-passes-clause-serial : goal.returns-then-passes-clause-serial
-returns-then-passes-clause-serial c =
-    sym (serial_quiet c.args.cycle (unclocked c.args.self.now) (quiet_now c.args.cycle c.args.self.now (c.passes.ensures.idle c.if-passes.true)))
+pub returns-then-leap_whole-clause-serial : goal.returns-then-leap_whole-clause-serial
+returns-then-leap_whole-clause-serial c =
+    sym (serial_quiet c.args.cycle (unclocked c.args.self.now) (quiet_now c.args.cycle c.args.self.now (c.leap_whole.ensures.idle c.if-leap_whole.true)))
 
-pub returns-then-passes-clause-air : goal.returns-then-passes-clause-air
-returns-then-passes-clause-air c =
-    sym (air_quiet c.args.cycle (unclocked c.args.self.now) (quiet_now c.args.cycle c.args.self.now (c.passes.ensures.idle c.if-passes.true)))
+pub returns-then-leap_whole-clause-air : goal.returns-then-leap_whole-clause-air
+returns-then-leap_whole-clause-air c =
+    sym (air_quiet c.args.cycle (unclocked c.args.self.now) (quiet_now c.args.cycle c.args.self.now (c.leap_whole.ensures.idle c.if-leap_whole.true)))

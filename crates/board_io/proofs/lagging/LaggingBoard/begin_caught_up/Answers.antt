@@ -29,13 +29,13 @@ pub returns-clause-state : goal.returns-clause-state
 returns-clause-state c =
     let t = c.args.cycle in
     ap unclocked
-    (caught_zero c.ahead-self-inside.result.settled c.at.new.self c.ahead-self-inside.ensures.settled
-    ∙ (c.at.ensures ∙ ap (clock_at (t + 1)) (begun_ports t c.args.arrival c.args.self.now c.leap.new.self c.begin_ports-begun.new.self (ticked c) c.begin_ports-begun.ensures.state)))
+    (caught_zero c.ahead-self-inside.result.settled c.set_clock.new.self c.ahead-self-inside.ensures.settled
+    ∙ (c.set_clock.ensures ∙ ap (clock_at (t + 1)) (begun_ports t c.args.arrival c.args.self.now c.leap.new.self c.begin_ports-begun.new.self (ticked c) c.begin_ports-begun.ensures.state)))
     ∙ sym (begun_clock 0 t c.args.arrival c.args.self.now)
 
 pub returns-clause-clock : goal.returns-clause-clock
 returns-clause-clock c =
-    ap (λ (b : Board). b.clock) (caught_zero c.ahead-self-inside.result.settled c.at.new.self c.ahead-self-inside.ensures.settled ∙ c.at.ensures)
+    ap (λ (b : Board). b.clock) (caught_zero c.ahead-self-inside.result.settled c.set_clock.new.self c.ahead-self-inside.ensures.settled ∙ c.set_clock.ensures)
 
 pub returns-clause-serial : goal.returns-clause-serial
 returns-clause-serial c =
@@ -49,5 +49,5 @@ returns-clause-air c =
 
 pub returns-clause-waits : goal.returns-clause-waits
 returns-clause-waits c asks =
-    let value = caught_zero c.ahead-self-inside.result.settled c.at.new.self c.ahead-self-inside.ensures.settled ∙ c.at.ensures in
+    let value = caught_zero c.ahead-self-inside.result.settled c.set_clock.new.self c.ahead-self-inside.ensures.settled ∙ c.set_clock.ensures in
     ap (λ (b : Board). is_some b.spi.shift_register) value ∙ c.begin_ports-begun.ensures.waits asks

@@ -7,16 +7,16 @@ use Rattle.fleet_threads.proofs.member.Member.run.Goals as goal
 pub look_ahead-requires-clause-none : goal.look_ahead-requires-clause-none
 look_ahead-requires-clause-none g c =
     let old : Member = c.args.self.now in
-    let new : Member = record { runner = c.noted.new.self; air = c.post.new.self; turn = c.saturating_add-self.result; gap = old.gap; halted = old.halted } in
+    let new : Member = record { runner = c.note_posted.new.self; air = c.post.new.self; turn = c.saturating_add-self.result; gap = old.gap; halted = old.halted } in
     let few : c.min-quantum.result ≡ min (c.args.end - old.runner.cycle) 1024 = turn_of c.args.end old.runner.cycle c.cycle.result c.min-quantum.result c.cycle.ensures.value c.min-quantum.ensures in
-    ahead _ _ _ _ _ old c.requires.member c.requires.live _ c.requires.calm few _ _ c.in-Sent.ensures.event c.in-Sent.ensures.count new c.count-number.result _ c.count-number.ensures c.noted.ensures.place c.noted.ensures.count c.post.ensures.told c.post.ensures.same refl refl
+    ahead _ _ _ _ _ old c.requires.member c.requires.live _ c.requires.calm few _ _ c.in-Sent.ensures.event c.in-Sent.ensures.count new c.count-number.result _ c.count-number.ensures c.note_posted.ensures.place c.note_posted.ensures.count c.post.ensures.told c.post.ensures.same refl refl
 
 pub look_ahead-requires-clause-member : goal.look_ahead-requires-clause-member
 look_ahead-requires-clause-member g c =
     let old : Member = c.args.self.now in
-    let new : Member = record { runner = c.noted.new.self; air = c.post.new.self; turn = c.saturating_add-self.result; gap = old.gap; halted = old.halted } in
+    let new : Member = record { runner = c.note_posted.new.self; air = c.post.new.self; turn = c.saturating_add-self.result; gap = old.gap; halted = old.halted } in
     let few : c.min-quantum.result ≡ min (c.args.end - old.runner.cycle) 1024 = turn_of c.args.end old.runner.cycle c.cycle.result c.min-quantum.result c.cycle.ensures.value c.min-quantum.ensures in
-    (sent _ _ _ _ _ old c.requires.member c.requires.live _ c.requires.calm few _ _ c.in-Sent.ensures.event c.in-Sent.ensures.count new c.count-number.result c.count-number.ensures c.noted.ensures.place c.noted.ensures.count c.post.ensures.told c.post.ensures.same refl).0
+    (sent _ _ _ _ _ old c.requires.member c.requires.live _ c.requires.calm few _ _ c.in-Sent.ensures.event c.in-Sent.ensures.count new c.count-number.result c.count-number.ensures c.note_posted.ensures.place c.note_posted.ensures.count c.post.ensures.told c.post.ensures.same refl).0
 
 pub halt-requires : goal.halt-requires
 halt-requires g c =
@@ -56,6 +56,6 @@ returns-in-NoMemory g c =
 pub returns-in-Sent : goal.returns-in-Sent
 returns-in-Sent g c =
     let old : Member = c.args.self.now in
-    let new : Member = record { runner = c.noted.new.self; air = c.post.new.self; turn = c.saturating_add-self.result; gap = old.gap; halted = old.halted } in
+    let new : Member = record { runner = c.note_posted.new.self; air = c.post.new.self; turn = c.saturating_add-self.result; gap = old.gap; halted = old.halted } in
     let few : c.min-quantum.result ≡ min (c.args.end - old.runner.cycle) 1024 = turn_of c.args.end old.runner.cycle c.cycle.result c.min-quantum.result c.cycle.ensures.value c.min-quantum.ensures in
-    (c.look_ahead.ensures.0, c.look_ahead.ensures.1 ∙ (sent _ _ _ _ _ old c.requires.member c.requires.live _ c.requires.calm few _ _ c.in-Sent.ensures.event c.in-Sent.ensures.count new c.count-number.result c.count-number.ensures c.noted.ensures.place c.noted.ensures.count c.post.ensures.told c.post.ensures.same refl).1)
+    (c.look_ahead.ensures.0, c.look_ahead.ensures.1 ∙ (sent _ _ _ _ _ old c.requires.member c.requires.live _ c.requires.calm few _ _ c.in-Sent.ensures.event c.in-Sent.ensures.count new c.count-number.result c.count-number.ensures c.note_posted.ensures.place c.note_posted.ensures.count c.post.ensures.told c.post.ensures.same refl).1)

@@ -28,8 +28,8 @@ returns-clause-sprinted c =
     let d : ℕ = down.lowering.d in
     let length : ℕ = down.round.length in
     let h = c.in-Some.ensures.lowers in
-    let k : ℕ = c.pass_rounds-rounds.result in
-    let p = c.pass_rounds-rounds.ensures in
+    let k : ℕ = c.leap_rounds-rounds.result in
+    let p = c.leap_rounds-rounds.ensures in
     let within = p.within in
     let most = c.min-most.ensures in
     let spare : c.from.result * length ≡ down.lowering.spare * length = ap (λ (n : ℕ). n * length) c.from.ensures in
@@ -38,6 +38,6 @@ returns-clause-sprinted c =
     let core : c.set_reg.new.self ≡ after k =
     c.set_reg.ensures ∙ ((λ i. with_reg d (c.reg-value.ensures i - k) x.cpu) ∙ ap (λ (y : Machine). with_reg d (slice_index y.cpu.r d - k) y.cpu) same) in
     let there = leapt_over t k length down.round.count m x same r.may r.behind c.if-self.false (λ i l. r.none i (omega (arith, l, within, most)))
-    after (stands_first d m.cpu) (λ j l. h.walks j (omega (arith, l, few))) c.pass_rounds-rounds.new.self p.idle p.state p.clock in
+    after (stands_first d m.cpu) (λ j l. h.walks j (omega (arith, l, few))) c.leap_rounds-rounds.new.self p.idle p.state p.clock in
     subst (λ (y : Cpu). IsSprinted t (t + k * length) false m
-    (let z : Machine = record x { cpu = y; bus = (let b : NodeBus = record { sram = x.bus.sram; board = c.pass_rounds-rounds.new.self } in b); count = x.count + k * down.round.count } in z)) (sym core) there
+    (let z : Machine = record x { cpu = y; bus = (let b : NodeBus = record { sram = x.bus.sram; board = c.leap_rounds-rounds.new.self } in b); count = x.count + k * down.round.count } in z)) (sym core) there

@@ -13,11 +13,11 @@ pub returns-clause-rested : goal.returns-clause-rested
 returns-clause-rested c =
     let s : NodeState = shown c.args.self.now in
     let r = c.requires in
-    let n = c.pass.result in
-    let within = c.pass.ensures.within in
-    let calm : IsCalm c.args.cycle n s = calm_of c.args.cycle n c.args.self.now r.now c.pass.ensures.idle (λ i l. c.quiet-calm.ensures.none i (omega (arith, within, l))) in
-    let lines = lines_stay c.args.cycle n c.args.self.now r.now c.pass.ensures.idle in
-    let board = c.pass.ensures.state ∙ ap (λ (t : ℕ). timers_leap t n (unclocked c.args.self.now.bus.board)) r.now in
+    let n = c.leap_up_to.result in
+    let within = c.leap_up_to.ensures.within in
+    let calm : IsCalm c.args.cycle n s = calm_of c.args.cycle n c.args.self.now r.now c.leap_up_to.ensures.idle (λ i l. c.quiet-calm.ensures.none i (omega (arith, within, l))) in
+    let lines = lines_stay c.args.cycle n c.args.self.now r.now c.leap_up_to.ensures.idle in
+    let board = c.leap_up_to.ensures.state ∙ ap (λ (t : ℕ). timers_leap t n (unclocked c.args.self.now.bus.board)) r.now in
     let wait : s.wait ≡ s.wait - n = omega (arith, r.free) in
     record {
       quiet = all_quiet c.args.cycle s (ap is_some r.going) n calm (sleeps c.args.cycle n s r.free r.asleep r.none lines);
@@ -27,5 +27,5 @@ returns-clause-rested c =
       same = refl;
       stop = c.requires.going;
       count = refl;
-      clock = c.pass.ensures.clock ∙ ap (λ (t : ℕ). t + c.pass.result) c.requires.now;
+      clock = c.leap_up_to.ensures.clock ∙ ap (λ (t : ℕ). t + c.leap_up_to.result) c.requires.now;
     }

@@ -13,11 +13,11 @@ use Rattle.node_core.proofs.machine.Machine.wait_out.Goals as goal
 pub returns-clause-rested : goal.returns-clause-rested
 returns-clause-rested c =
     let s : NodeState = shown c.args.self.now in
-    let n = c.pass-n.result in
-    let within = c.pass-n.ensures.within in
+    let n = c.leap_up_to-n.result in
+    let within = c.leap_up_to-n.ensures.within in
     let calm : IsCalm c.args.cycle n s =
-    calm_of c.args.cycle n c.args.self.now c.requires.now c.pass-n.ensures.idle (λ i l. c.quiet-calm.ensures.none i (omega (arith, within, l))) in
-    let board = c.pass-n.ensures.state ∙ ap (λ (t : ℕ). timers_leap t n (unclocked c.args.self.now.bus.board)) c.requires.now in
+    calm_of c.args.cycle n c.args.self.now c.requires.now c.leap_up_to-n.ensures.idle (λ i l. c.quiet-calm.ensures.none i (omega (arith, within, l))) in
+    let board = c.leap_up_to-n.ensures.state ∙ ap (λ (t : ℕ). timers_leap t n (unclocked c.args.self.now.bus.board)) c.requires.now in
     record {
       quiet = all_quiet c.args.cycle s (ap is_some c.requires.going) n calm (waits c.args.cycle n s (omega arith));
       state = ap (λ (b : Board). let u : NodeState = record s { wait = s.wait - n; bus = with_board s.bus b } in u) board
@@ -26,5 +26,5 @@ returns-clause-rested c =
       same = refl;
       stop = c.requires.going;
       count = refl;
-      clock = c.pass-n.ensures.clock ∙ ap (λ (t : ℕ). t + c.pass-n.result) c.requires.now;
+      clock = c.leap_up_to-n.ensures.clock ∙ ap (λ (t : ℕ). t + c.leap_up_to-n.result) c.requires.now;
     }

@@ -3,7 +3,7 @@ use Rattle.std.specs.Prelude.{slice_index, slice_set, vec_len}
 use Rattle.std.specs.List.{All}
 use Rattle.world_core.specs.declared.air.Send.{Send}
 use Rattle.world_core.specs.Sends.{sends_of}
-use Rattle.world_core.specs.declared.ways.Way.{Way}
+use Rattle.world_core.specs.declared.ways.JumpPointer.{JumpPointer}
 use Rattle.world_core.specs.Chain.{IsLog, IsAfter, LogFacts}
 use Rattle.world_core.proofs.Chained.{newest_le}
 use Rattle.world_core.proofs.Building.{log_push, after_own}
@@ -20,10 +20,10 @@ way_from-way-requires-clause-before c =
     let p = g.chain.places in
     omega arith
 
-log_at : (l m : List Send) (x : Send) (b c : List Way) (last : List ℕ) (w : Way) (k n : ℕ) → length last ≡ 64 → x.node < 64 → w.before ≡ slice_index last x.node → w.far ≤ length l → All (IsAfter x) l → IsLog l b last → k ≡ x.node → n ≡ suc (length l)
+log_at : (l m : List Send) (x : Send) (b c : List JumpPointer) (last : List ℕ) (w : JumpPointer) (k n : ℕ) → length last ≡ 64 → x.node < 64 → w.before ≡ slice_index last x.node → w.far ≤ length l → All (IsAfter x) l → IsLog l b last → k ≡ x.node → n ≡ suc (length l)
     → m ≡ l ++ x ∷ [] → c ≡ b ++ w ∷ [] → IsLog m c (slice_set last k n)
 log_at l m x b c last w k n size lt before far after g e f p q =
-    subst (λ (v : ℕ × ℕ × List Send × List Way). IsLog v.2 v.3 (slice_set last v.0 v.1)) (λ i. (sym e i, sym f i, sym p i, sym q i))
+    subst (λ (v : ℕ × ℕ × List Send × List JumpPointer). IsLog v.2 v.3 (slice_set last v.0 v.1)) (λ i. (sym e i, sym f i, sym p i, sym q i))
     (log_push l x b last w size lt before far after g)
 
 pub invariant_of-self : goal.invariant_of-self
@@ -31,7 +31,7 @@ invariant_of-self c =
     let l = c.self.inside.sends.items in
     let g = c.self.invariant.0 in
     let x = c.args.send in
-    let way : Way = c.way_from-way.result in
+    let way : JumpPointer = c.way_from-way.result in
     let after : All (IsAfter x) l = after_own x l (subst (λ (f : LogFacts). All (λ (y : Send). y.cycle < x.cycle) (sends_of x.node f.sends)) (sym c.self.view_is) c.requires.after) in
     let len : c.len.result ≡ suc (length l) =
     let a : vec_len c.self.inside.sends ≡ length l = search rules in

@@ -5,7 +5,7 @@ use Rattle.board_io.specs.Lagging.{IsAhead, caught_up}
 use Rattle.board_io.specs.Lines.{lines_of}
 use Rattle.board_io.specs.declared.board.Board.{Board}
 use Rattle.board_io.proofs.Lags.{idle, later, lines_stay, passed, passed_clock}
-use Rattle.board_io.proofs.lagging.LaggingBoard.pass_rounds.Goals as goal
+use Rattle.board_io.proofs.lagging.LaggingBoard.leap_rounds.Goals as goal
 
 -- the cycles that were passed
 abbrev passed_by : goal.After-self-1 → ℕ

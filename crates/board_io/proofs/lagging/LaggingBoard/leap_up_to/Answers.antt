@@ -4,7 +4,7 @@ use Rattle.board_io.specs.Lagging.{IsAhead, caught_up}
 use Rattle.board_io.specs.Lines.{lines_of}
 use Rattle.board_io.specs.declared.board.Board.{Board}
 use Rattle.board_io.proofs.Lags.{idle, later, lines_stay, passed, passed_clock}
-use Rattle.board_io.proofs.lagging.LaggingBoard.pass.Goals as goal
+use Rattle.board_io.proofs.lagging.LaggingBoard.leap_up_to.Goals as goal
 
 pub invariant_of-self : goal.invariant_of-self
 invariant_of-self c =

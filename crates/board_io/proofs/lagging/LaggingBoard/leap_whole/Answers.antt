@@ -5,7 +5,7 @@ use Rattle.board_io.specs.Lagging.{IsAhead, IsIdle, caught_up}
 use Rattle.board_io.specs.Lines.{lines_of}
 use Rattle.board_io.specs.declared.board.Board.{Board}
 use Rattle.board_io.proofs.Lags.{caught_clock, idle, later, lines_stay, passed, passed_clock}
-use Rattle.board_io.proofs.lagging.LaggingBoard.passes.Goals as goal
+use Rattle.board_io.proofs.lagging.LaggingBoard.leap_whole.Goals as goal
 
 pub overflow_add-end : goal.overflow_add-end
 overflow_add-end c =

@@ -1,7 +1,7 @@
 use Rattle.std.proofs.Common.{◌≡◌, Bool, true, subst, ◌∙◌, ap, arith}
 use Rattle.node_runner.specs.Place.{Place, IsRunner}
 use Rattle.node_runner.proofs.Events.{place, few_noted}
-use Rattle.node_runner.proofs.runner.Runner.noted.Goals as goal
+use Rattle.node_runner.proofs.runner.Runner.note_posted.Goals as goal
 
 pub overflow_add-self : goal.overflow_add-self
 overflow_add-self c =

@@ -1,6 +1,6 @@
 use Rattle.std.proofs.Common.{◌==◌, nat_le, bit_and, bit_or, ap, ◌∙◌, arith}
 use Rattle.arith_step.proofs.Signs.{put_at_once}
-use Rattle.arith_step.proofs.flags.result.Goals as goal
+use Rattle.arith_step.proofs.flags.with_result.Goals as goal
 
 pub returns : goal.returns
 returns c =

@@ -6,7 +6,7 @@ use Rattle.board_io.specs.Lines.{lines_of}
 use Rattle.board_io.specs.declared.board.Board.{Board}
 use Rattle.avr_base.specs.declared.interrupts.Lines.{Lines}
 use Rattle.board_io.proofs.Lags.{caught_clock, idle, later, lines_are, lines_stay, passed, passed_clock}
-use Rattle.board_io.proofs.lagging.LaggingBoard.passes_clear.Goals as goal
+use Rattle.board_io.proofs.lagging.LaggingBoard.leap_clear.Goals as goal
 
 pub overflow_add-end : goal.overflow_add-end
 overflow_add-end c =
