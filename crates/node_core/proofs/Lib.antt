@@ -19,4 +19,5 @@ pub mod Cores
 pub mod Stills
 pub mod Rounds
 pub mod Counting
+pub mod Borrows
 pub mod Saved

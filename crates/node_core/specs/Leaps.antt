@@ -88,6 +88,13 @@ pub record IsLowering (o : Op) (from : Cpu) (l : Lowering) : Type 0 where
   pub steps : (m : Machine) (n : ℕ) (to : Cpu) → o ≡ op_now (shown (let x : Machine = record m { cpu = from } in x)) → IsStillStep n m from to
       → (j : ℕ) → j < l.spare → IsStillStep n m (with_reg l.d (slice_index from.r l.d - j) from) (with_reg l.d (slice_index from.r l.d - suc j) to)
 
+-- so do two, one behind the other
+pub record IsLongLowering (o p : Op) (from : Cpu) (l : Lowering) : Type 0 where
+  pub spare : l.spare ≤ slice_index from.r l.d
+  pub steps : (m : Machine) (n k : ℕ) (mid to : Cpu) → o ≡ op_now (shown (let x : Machine = record m { cpu = from } in x)) → p ≡ op_now (shown (let x : Machine = record m { cpu = mid } in x))
+      → IsStillStep n m from mid → IsStillStep k m mid to → from.sreg.bits < 256
+      → (j : ℕ) → j < l.spare → Walk m (with_reg l.d (slice_index from.r l.d - j) from) (n + k) 2 (with_reg l.d (slice_index from.r l.d - suc j) to)
+
 -- what an instruction does has nothing to do with register d
 pub record IsBeside (d : ℕ) (o : Op) : Type 0 where
   pub apart : (flash : List ℕ) (cpu : Cpu) (y : ℕ) (bus : NodeBus)

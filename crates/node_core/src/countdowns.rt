@@ -3,7 +3,7 @@ ghost use Rattle.std.specs.Prelude.{◌≡◌, ◌≤◌, ◌<◌, ◌+◌, ◌-
 ghost use Rattle.data_space.specs.Core.{with_reg};
 ghost use Rattle.board_io.specs.Lines.{lines_of};
 ghost use Rattle.node_core.specs.Inside.{MayAct};
-ghost use Rattle.node_core.specs.Leaps.{IsBeside, IsCountdown, IsLowering, spared};
+ghost use Rattle.node_core.specs.Leaps.{IsBeside, IsCountdown, IsLongLowering, IsLowering, spared};
 ghost use Rattle.node_core.specs.Midway.{IsSprinted};
 ghost use Rattle.serial_ports.specs.Script.{script_byte};
 
@@ -64,6 +64,24 @@ fn lowered_by(op: &Op, core: &Cpu) -> Option<Lowering>
     }
 }
 
+// SUBI by one and SBCI of 0 of another register behind it, which borrows nothing while the first is not lowered below 0: as
+// of a number of several bytes.
+fn long_lowered_by(op: &Op, next: &Op, core: &Cpu) -> Option<Lowering>
+    ensures { IfSome result (λ l. IsLongLowering op.now next.now core.now l) }
+{
+    let Op::Subi { d, k } = *op else {
+        return None;
+    };
+    let Op::Sbci { d: e, k: none } = *next else {
+        return None;
+    };
+    if k != 1 || none != 0 || e.get() == d.get() {
+        return None;
+    }
+    let spare = core.reg(d).saturating_sub(1);
+    Some(Lowering { d, spare })
+}
+
 // Whether what an instruction does has nothing to do with the register `d`.
 fn is_beside(op: &Op, d: Reg) -> bool
     ensures { result ≡ true → IsBeside d op.now }
@@ -79,7 +97,29 @@ fn is_beside(op: &Op, d: Reg) -> bool
 }
 
 impl Machine {
-    // Executes on `core` the first instruction of a round that lowers a register.
+    // Executes on `core` the first two instructions of a round that lowers a register.
+    fn lower_long(&mut self, core: &mut Cpu) -> Option<Countdown>
+        ensures same { self.new ≡ self.old }
+        ensures lowers { IfSome result (λ c. IsCountdown self.old core.old core.new c) }
+        ensures one { IfSome result (λ c. c.round.count ≤ 2) }
+    {
+        let op = self.program.op(core.pc);
+        let from = *core;
+        let first = self.step_still(core);
+        let next = self.program.op(core.pc);
+        let second = self.step_still(core);
+        if first == 0 || second == 0 {
+            return None;
+        }
+        let Some(lowering) = long_lowered_by(&op, &next, &from) else {
+            return None;
+        };
+        let length = u64::from(first) + u64::from(second);
+        let round = Round { length, count: 2 };
+        Some(Countdown { lowering, round })
+    }
+
+    // Executes on `core` the first instruction of a round that lowers a register, or the first two.
     fn lower(&mut self, core: &mut Cpu) -> Option<Countdown>
         ensures same { self.new ≡ self.old }
         ensures lowers { IfSome result (λ c. IsCountdown self.old core.old core.new c) }
@@ -87,7 +127,7 @@ impl Machine {
     {
         let op = self.program.op(core.pc);
         let Some(lowering) = lowered_by(&op, core) else {
-            return None;
+            return self.lower_long(core);
         };
         let length = u64::from(self.step_still(core));
         if length == 0 {

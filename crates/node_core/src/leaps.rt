@@ -72,6 +72,7 @@ impl Machine {
     pub fn step_still(&mut self, core: &mut Cpu) -> u8
         ensures same { self.new ≡ self.old }
         ensures step { 0 < result → IsStillStep result self.old core.old core.new }
+        ensures flags { 0 < result → core.old.sreg.bits < 256 }
     {
         let op = self.program.op(core.pc);
         if !is_still(&op, &self.bus) || due(core.sreg, &self.bus.board).is_some() {
@@ -94,7 +95,6 @@ impl Machine {
         ensures same { self.new ≡ self.old }
         ensures round { IfSome result (λ r. IsRound self.old r) }
     {
-        let head = self.cpu;
         let mut core = self.cpu;
         let mut round = Round {
             length: 0,
@@ -107,8 +107,8 @@ impl Machine {
             }
             round.length += u64::from(taken);
             round.count += 1;
-            if core.pc == head.pc {
-                return if core == head { Some(round) } else { None };
+            if core.pc == self.cpu.pc {
+                return if core == self.cpu { Some(round) } else { None };
             }
         }
         None
@@ -129,7 +129,8 @@ impl Machine {
         ensures lines { lines_of self.new.bus.board ≡ lines_of self.old.bus.board }
         ensures within { cycle + result ≤ end }
     {
-        if self.owed {
+        let op = self.program.op(self.cpu.pc);
+        if self.owed || !is_still(&op, &self.bus) {
             return 0;
         }
         let Some(round) = self.round() else { return 0 };
@@ -140,6 +141,7 @@ impl Machine {
 
     /// The rounds from `cycle` on of a loop that waits, where one begins at the program counter: those that end by
     /// `end` and before the next event, at once. How many cycles it were, 0 where there is no such loop.
+    #[inline(never)]
     pub fn leap(&mut self, cycle: u64, end: u64) -> u64
         requires may { MayAct cycle self.old }
         requires behind { self.old.to ≤ cycle }
@@ -157,7 +159,7 @@ impl Machine {
             | Op::Sbic { .. }
             | Op::InIo { .. }
             | Op::Lds { .. } => self.poll(cycle, end),
-            Op::Dec { .. } | Op::Sbiw { .. } => self.count_down(cycle, end),
+            Op::Dec { .. } | Op::Sbiw { .. } | Op::Subi { .. } => self.count_down(cycle, end),
             _ => 0,
         }
     }

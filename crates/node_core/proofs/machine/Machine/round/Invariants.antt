@@ -5,7 +5,6 @@ use Rattle.node_core.proofs.machine.Machine.round.Given as goal
 abbrev pub invariant-loop-round : goal.invariant-loop-round
 invariant-loop-round l = record {
   same : l.self ≡ l.fn.self;
-  head : l.head ≡ l.fn.self.cpu;
   walk : Walk l.fn.self l.fn.self.cpu l.round.length l.round.count l.core;
   few : l.round.count ≤ l.round.length;
   bound : l.round.length ≤ 255 * l.round.count;
