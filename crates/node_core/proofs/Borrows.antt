@@ -126,7 +126,7 @@ module _ (a : ℕ) (s : Sreg) (f : s.bits < 256) (two : 1 < a) (byte : a < 256) 
   no_carry =
       let none : nat_lt a (1 + one_if false) ≡ false = grind (arith, nat_tests) in
       ap (λ (c : Bool). has_flag (with_sign (nat_le 128 ((a + 256 - (1 + one_if false)) % 256)) ((a + 256 - (1 + one_if false)) % 256 == 0)
-          (overflows 128 (signed 128 a -ℤ pos 1 -ℤ pos (one_if false))) (with_carries c (nat_lt (a % 16) (1 % 16 + one_if false)) s.bits)) C) none
+      (overflows 128 (signed 128 a -ℤ pos 1 -ℤ pos (one_if false))) (with_carries c (nat_lt (a % 16) (1 % 16 + one_if false)) s.bits)) C) none
       ∙ carry_of _ _ _ _ s.bits f
 
   not_zero : has_flag first.1.bits Z ≡ false
@@ -134,7 +134,7 @@ module _ (a : ℕ) (s : Sreg) (f : s.bits < 256) (two : 1 < a) (byte : a < 256) 
   not_zero =
       let none : ((a + 256 - (1 + one_if false)) % 256 == 0) ≡ false = grind (arith, nat_tests) in
       ap (λ (z : Bool). has_flag (with_sign (nat_le 128 ((a + 256 - (1 + one_if false)) % 256)) z
-          (overflows 128 (signed 128 a -ℤ pos 1 -ℤ pos (one_if false))) (with_carries (nat_lt a (1 + one_if false)) (nat_lt (a % 16) (1 % 16 + one_if false)) s.bits)) Z) none
+      (overflows 128 (signed 128 a -ℤ pos 1 -ℤ pos (one_if false))) (with_carries (nat_lt a (1 + one_if false)) (nat_lt (a % 16) (1 % 16 + one_if false)) s.bits)) Z) none
       ∙ zero_of _ _ _ _ s.bits f
 
 -- SBCI of 0 where neither is set: a byte and its flags, which of those before keep T and I

@@ -1,7 +1,7 @@
 -- What holds of the inside of a node between two calls: an instruction takes at least a cycle, so its count cannot
 -- wrap; the clock of its board shows the next cycle of the devices; in the middle of a sample there is room for the row
 -- of what is heard, and the transfer that samples runs.
-use Rattle.std.specs.Prelude.{◌≡◌, ℕ, ◌+◌, ◌^◌, ◌≤◌, ◌<◌, Bool, true, false, Option, Some, None, is_some, if◌then◌else◌, vec_len, vec_capacity}
+use Rattle.std.specs.Prelude.{◌≡◌, ℕ, ◌+◌, ◌^◌, ◌≤◌, ◌<◌, Bool, true, false, None, is_some, if◌then◌else◌, vec_len, vec_capacity}
 use Rattle.node_core.specs.declared.machine.Machine.{Machine}
 use Rattle.node_core.specs.Bus.{with_board}
 use Rattle.node_core.specs.State.{NodeState}

@@ -129,8 +129,7 @@ impl Machine {
         ensures lines { lines_of self.new.bus.board ≡ lines_of self.old.bus.board }
         ensures within { cycle + result ≤ end }
     {
-        let op = self.program.op(self.cpu.pc);
-        if self.owed || !is_still(&op, &self.bus) {
+        if self.owed {
             return 0;
         }
         let Some(round) = self.round() else { return 0 };

@@ -27,6 +27,9 @@ pub enum Step {
     Left,
 }
 
+// How many words a loop that waits has at most.
+const SHORT: u16 = 8;
+
 // SREG with the flag I on: where it was so, no instruction turned it on.
 const I_ON: u8 = 0x80;
 
@@ -90,7 +93,7 @@ impl Machine {
                         return Sprinted { at, inside: true };
                     }
                     at += u64::from(taken);
-                    if self.cpu.pc <= pc {
+                    if self.cpu.pc <= pc && pc - self.cpu.pc < SHORT {
                         self.owed = turned_on(before, self.cpu.sreg.bits);
                         if !self.owed {
                             at += self.leap(at, end);

@@ -5,7 +5,7 @@ ghost use Rattle.world_core.specs.Sends.{sends_of};
 ghost use Rattle.neighbour_sync.specs.Record.{epoch};
 
 use list_world::ListWorld;
-use neighbour_sync::{NodeAir, Passed, Session, Shared};
+use neighbour_sync::{NodeAir, SampleOutcome, Session, Shared};
 use std::sync::Wait;
 use world_core::{Ask, EPOCH, Send, World};
 
@@ -60,7 +60,7 @@ pub fn sample_all<N: Session, R: Wait>(
         let ask = asks[place];
         if ask.node == node.number() && ask.cycle >= floor {
             let answer = node.sample_when_passed(rt, shared, ask.cycle);
-            if matches!(answer, Passed::Heard(air) if air.status == 1) {
+            if matches!(answer, SampleOutcome::Heard(air) if air.status == 1) {
                 heard = heard.saturating_add(1);
             }
         }

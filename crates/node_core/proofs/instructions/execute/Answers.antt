@@ -1,4 +1,3 @@
-use Rattle.std.proofs.Common.{sym, ap}
 use Rattle.node_core.proofs.Executes.{takes}
 use Rattle.node_core.proofs.instructions.execute.Goals as goal
 

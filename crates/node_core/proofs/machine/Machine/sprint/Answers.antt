@@ -1,8 +1,6 @@
 use Rattle.std.proofs.Common.{◌≡◌, ℕ, ◌+◌, ◌-◌, Bool, None, true, false, refl, sym, subst, ap, ◌∙◌, arith}
 use Rattle.std.specs.Prelude.{vec_len, vec_capacity}
-use Rattle.board_io.specs.Lines.{lines_of}
 use Rattle.avr_base.specs.declared.interrupts.Lines.{Lines}
-use Rattle.serial_ports.specs.Script.{ScriptBytes, script_byte}
 use Rattle.node_core.specs.declared.machine.Machine.{Machine}
 use Rattle.node_core.specs.Shown.{shown}
 use Rattle.node_core.specs.Interrupts.{due}
@@ -139,7 +137,7 @@ leap-at-requires-clause-may c =
     let next : at + n ≡ at + c.from-at-in-Plain.result = omega (arith, more) in
     let here = subst (λ (u : ℕ). IsSprinting t u old (owing (turned_on s y.cpu.sreg.bits) y)) next there in
     let within = e.within refl in
-    subst (λ (d : Bool). MayAct (at + c.from-at-in-Plain.result) (owing d y)) (sym c.turned_on-self-then-self-pc.ensures)
+    subst (λ (d : Bool). MayAct (at + c.from-at-in-Plain.result) (owing d y)) (sym c.turned_on-self-then-pc-self-lt-SHORT.ensures)
     (may t (at + c.from-at-in-Plain.result) old (owing (turned_on s y.cpu.sreg.bits) y) here (omega (arith, within, next, c.requires.early)) c.requires.may.room)
 
 pub loop-taken-preserved : goal.loop-taken-preserved
@@ -208,9 +206,9 @@ loop-taken-preserved-then-not-self c =
     let within = e.within refl in
     let q = c.leap-at.ensures in
     let x : Machine = c.leap-at.new.self in
-    let y0 : Machine = record y { owed = c.turned_on-self-then-self-pc.result } in
+    let y0 : Machine = record y { owed = c.turned_on-self-then-pc-self-lt-SHORT.result } in
     let from = at + c.from-at-in-Plain.result in
-    let begun = subst (λ (d : Bool). IsSprinting t from old (owing d y)) (sym c.turned_on-self-then-self-pc.ensures) here in
+    let begun = subst (λ (d : Bool). IsSprinting t from old (owing d y)) (sym c.turned_on-self-then-pc-self-lt-SHORT.ensures) here in
     let gone = joins t from old y0 begun (from + c.leap-at.result) x q.sprinted (ap (λ (z : Machine). z.to) q.others) in
     let told = owes_so false x (ap (λ (z : Machine). z.owed) q.others ∙ c.if-not-self.true) in
     record {

@@ -1,4 +1,4 @@
-use Rattle.std.proofs.Common.{◌≡◌, Bool, sym}
+use Rattle.std.proofs.Common.{sym}
 use Rattle.data_space.specs.Sequence.{Outcome}
 use Rattle.node_core.specs.declared.bus.NodeBus.{NodeBus}
 use Rattle.node_core.proofs.Steps.{plain_goes, plain_stops}
