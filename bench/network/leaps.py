@@ -1,0 +1,165 @@
+#!/usr/bin/env python3
+"""Writes the stored cases of loops that wait, and what the stored run of `command_facts` is to give of them, by the slow simulator beside this file.
+
+    bench/network/leaps.py FOLDER        FOLDER is crates/command_facts
+
+Behind its window a node takes many rounds of such a loop at once. The rows that each case must come to were worked out by hand
+first. A word of the flash that no case names is no opcode, and stops the node.
+"""
+from case_lines import folder_of_words
+from draw import OCR0, SPH, TCCR0, TIMSK, UCSRA, UCSRB, UDR, hex_text, ldi, out, word
+from facts import Networks
+
+TCNT0, SREG, FLAG = 0x32, 0x3F, 0x100
+C, Z = 0, 1
+NOP, RETI, SEI = word("nop"), word("reti"), word("bset", s=7)
+JMP_50 = [word("jmp", k=0), 0x50]
+
+
+def put(at, byte):
+    return [ldi(16, byte), out(at, 16)]
+
+
+def load(at, d):
+    return [word("in_", d=d, A=at)]
+
+
+def lds(at, d):
+    return [word("lds", d=d), at]
+
+
+def back(words):
+    """RJMP to so many words before it."""
+    return [word("rjmp", k=-1 - words)]
+
+
+def where(flag, on, words):
+    """A branch to so many words before it, where a flag is so."""
+    return [word("brbs" if on else "brbc", s=flag, k=-1 - words)]
+
+
+def image(parts):
+    """Words at their addresses, in rising order."""
+    words = []
+    for at, part in parts:
+        words += [0xFFFF] * (at - len(words)) + part
+    return hex_text(words)
+
+
+class Leaps(Networks):
+    def case(self, name, about, rows, cycles, *parts, window=None, arrives=None):
+        """A run of one node, of words at their addresses, which comes to these rows."""
+        if about:
+            self.about(about)
+        self.file(f"{name}.hex", image(parts))
+        lines = [f"cycles = {cycles}"] + ([f"window = {list(window)}"] if window else []) + [f'node = [{{image = "{name}.hex"}}]']
+        if arrives:
+            lines.append(f'input = [{{node = 0, at = {arrives[0]}, every = 1, hex = "{arrives[1]}"}}]')
+        self.file(f"{name}.toml", "\n".join(lines) + "\n")
+        _, given = self.run(f"{name}.toml")
+        assert given.decode().splitlines() == rows, (name, rows, given.decode())
+
+
+def polls(it):
+    # UDR0 is written in cycle 2: its frame of ten bits of 16 cycles ends in 162, and the byte of cycle 3 leaves the buffer. SBIS begins
+    # in 4 + 3 j, so in 163 first behind that, and skips in two cycles: 4 + 53 * 2 + 1 instructions. Below 100 it begins 32 times, as
+    # RJMP does; below 110 36 times, and RJMP 35 times.
+    send = [ldi(16, 0x08), out(UCSRB, 16), out(UDR, 16), out(UDR, 16), word("sbis", A=UCSRA, b=5), *back(1)]
+    it.case("sbis", "A poll by SBIS, up to the end of a frame, to that of the run before it, and to a window.",
+            ["162 0 serial 08", "165 0 stop 0006 reserved opcode", "300 0 end 111 stopped"], 300, (0, send))
+    it.case("sbis_cut", "", ["100 0 end 68 running"], 100, (0, send))
+    it.case("sbis_late", "", ["100 0 instr 0004 sbis 0x0B, 5", "101 0 instr 0005 rjmp .-4", "103 0 instr 0004 sbis 0x0B, 5", "110 0 end 75 running"],
+            110, (0, send), window=(100, 104))
+    # SBIC begins in 3 j, RJMP in 3 j + 1: below 262,150 that is 87,384 and 87,383 times
+    it.case("sbic", "By SBIC, over the end of an epoch.", ["262150 0 end 174767 running"], 262_150, (0, [word("sbic", A=UCSRA, b=5)] + back(1)))
+    # IN begins in 2 + 4 j, in 102 first behind an arrival in 100. SBRS skips in 103 and 104, UDR0 is read in 105 and written in 106: the
+    # frame ends in 266. 2 + 25 * 3 + 4 instructions, and RJMP to itself from 107 on, 97 times below 300.
+    it.case("in_sbrs", "By IN, SBRS and RJMP, up to a byte that arrives.", ["266 0 serial 41", "300 0 end 178 running"], 300,
+            (0, [ldi(16, 0x18), out(UCSRB, 16)] + load(UCSRA, 17) + [word("sbrs", r=17, b=7)] + back(2) + load(UDR, 18) + [out(UDR, 18)] + back(0)),
+            arrives=(100, "41"))
+    # LDS begins in 2 + 5 j, in 102 first behind it; SBRS skips in 104 and 105. 2 + 20 * 3 + 2 instructions.
+    it.case("lds_sbrs", "By LDS.", ["106 0 stop 0006 reserved opcode", "200 0 end 64 stopped"], 200,
+            (0, [ldi(16, 0x10), out(UCSRB, 16)] + lds(UCSRA + 0x20, 17) + [word("sbrs", r=17, b=7)] + back(3)), arrives=(100, "41"))
+
+
+def flags(it):
+    # TCCR0 is written in 10, so the clock of cycle 10 + n finds the count n, and OCF0 is set in 10 + OCR0. LDS begins in 12 + 5 j,
+    # AND in 14 + 5 j, BREQ in 15 + 5 j: the entry is in the first of these behind 10 + OCR0. It takes four cycles, the handler
+    # seven, what is left of the round 3, 2 or none, and the last round, whose BREQ goes on, four. Ten instructions come before.
+    handler = [ldi(20, 1), word("sts", r=20), FLAG, RETI]
+    for ocr, entry, back_to, stop, count in ((198, 209, "005B", 227, 10 + 39 * 3 + 1 + 3 + 2 + 3), (199, 210, "005C", 227, 10 + 39 * 3 + 2 + 3 + 1 + 3),
+                                             (200, 212, "0059", 227, 10 + 40 * 3 + 3 + 3), (201, 212, "0059", 227, 10 + 40 * 3 + 3 + 3),
+                                             (202, 214, "005B", 232, 10 + 40 * 3 + 1 + 3 + 2 + 3)):
+        words = put(SPH, 0x10) + put(TIMSK, 0x02) + put(OCR0, ocr) + [ldi(16, 1), out(TCCR0, 16), SEI]
+        words += lds(FLAG, 24) + [word("and_", d=24, r=24)] + where(Z, True, 3)
+        it.case(f"flag{ocr}", "A flag in the SRAM, polled by LDS, TST and BREQ, which a handler sets: its interrupt comes due in each place of the loop."
+                if ocr == 198 else "",
+                [f"{entry} 0 enter 001E {back_to}", f"{stop} 0 stop 005D reserved opcode", f"300 0 end {count} stopped"], 300,
+                (0, JMP_50), (0x1E, handler), (0x50, words), window=(entry, entry + 1))
+
+
+def delays(it):
+    # DEC begins in 1 + 3 j: of 200 rounds the last in 598, of 256 in 766. Its BRNE takes one cycle.
+    dec = [word("dec", d=16)] + where(Z, False, 1)
+    it.case("dec", "Delays: by a byte, by one that begins at 0, by a pair, by three bytes.",
+            ["600 0 stop 0003 reserved opcode", "700 0 end 401 stopped"], 700, (0, [ldi(16, 200)] + dec))
+    it.case("dec_all", "", ["768 0 stop 0003 reserved opcode", "1000 0 end 513 stopped"], 1000, (0, [ldi(16, 0)] + dec))
+    # SBIW begins in 2 + 4 j, of 1,000 rounds the last in 3998
+    it.case("sbiw", "", ["4001 0 stop 0004 reserved opcode", "5000 0 end 2002 stopped"], 5000,
+            (0, [ldi(24, 1000 % 256), ldi(25, 1000 // 256), word("sbiw", d=0, K=1)] + where(Z, False, 1)))
+    # SUBI begins in 3 + 5 j, of 1,110 rounds the last in 5548; below 5003 a thousand times, as the other three do
+    subi = [ldi(18, 1110 % 256), ldi(24, 1110 // 256), ldi(25, 0)]
+    subi += [word("subi", d=2, K=1), word("sbci", d=8, K=0), word("sbci", d=9, K=0)] + where(Z, False, 3)
+    end = ["5552 0 stop 0007 reserved opcode", "6000 0 end 4443 stopped"]
+    it.case("subi", "", end, 6000, (0, subi))
+    it.case("subi_cut", "One that the run ends in, one that a window begins in.", ["5003 0 end 4003 running"], 5003, (0, subi))
+    it.case("subi_late", "", ["5000 0 instr 0005 sbci r25, 0x00", "5001 0 instr 0006 brbc 1, .-8", "5003 0 instr 0003 subi r18, 0x01", *end],
+            6000, (0, subi), window=(5000, 5004))
+
+
+def seen(it):
+    # What a handler finds of a delay: it sends SREG, without I, and the register, and turns its interrupt off. TCCR0 is written in 13, so
+    # OCF0 is set in 13 + OCR0. DEC begins in 15 + 3 j, BRNE in 16 + 3 j, at words 5C and 5D. An entry in cycle e writes UDR0 in
+    # e + 5 and e + 6: the frames end in e + 165 and e + 325. The handler takes 12 cycles with the entry, so 200 rounds end in 626.
+    handler = load(SREG, 21) + [out(UDR, 21), out(UDR, 20), out(TIMSK, 1), RETI]
+    start = put(SPH, 0x10) + put(TIMSK, 0x02) + put(UCSRB, 0x08)
+    for ocr, entry, sreg, value in ((100, 114, "14", 200 - 33), (101, 115, "14", 200 - 34), (220, 234, "18", 127), (250, 264, "00", 200 - 83)):
+        words = start + put(OCR0, ocr) + [ldi(20, 200), ldi(16, 1), out(TCCR0, 16), SEI, word("dec", d=20)] + where(Z, False, 1)
+        it.case(f"seen{ocr}", "What a handler finds of a delay: with bit 7 set, between DEC and BRNE, just below 128, far below." if ocr == 100 else "",
+                [f"{entry + 165} 0 serial {sreg}", f"{entry + 325} 0 serial {value:02X}", "626 0 stop 005E reserved opcode", "700 0 end 418 stopped"], 700,
+                (0, JMP_50), (0x1E, handler), (0x50, words))
+    # The same of two bytes, the higher 80, whose bit 7 N and S are of: SUBI begins in 16 + 4 j, the entry in 116 finds 25 rounds done. The
+    # handler goes on in 128, and each of the three begins 218 times more below 1000: 14 + 25 * 3 + 5 + 218 * 3.
+    words = start + put(OCR0, 101) + [ldi(20, 200), ldi(22, 0x80), ldi(16, 1), out(TCCR0, 16)]
+    words += [SEI, word("subi", d=4, K=1), word("sbci", d=6, K=0)] + where(Z, False, 2)
+    it.case("seen_long", "Of one by two bytes.", ["281 0 serial 14", "441 0 serial AF", "1000 0 end 748 running"], 1000, (0, JMP_50), (0x1E, handler), (0x50, words))
+
+
+def look_alike(it):
+    # IN begins in 10 + 4 j and finds 41, 42 and 00, each once
+    it.case("udr0", "Loops that only look so. A read of UDR0 takes a byte.", ["21 0 stop 000D reserved opcode", "100 0 end 19 stopped"], 100,
+            (0, [ldi(16, 0x10), out(UCSRB, 16)] + 8 * [NOP] + load(UDR, 17) + [word("and_", d=17, r=17)] + where(Z, False, 2)), arrives=(2, "4142"))
+    # TCCR0 is written in 1, so in 2 + 4 j TCNT0 reads 1 + 4 j: in 102 it is 101
+    it.case("tcnt0", "TCNT0 counts.", ["105 0 stop 0005 reserved opcode", "300 0 end 80 stopped"], 300,
+            (0, [ldi(16, 1), out(TCCR0, 16)] + load(TCNT0, 17) + [word("cpi", d=1, K=101)] + where(C, True, 2)))
+    it.case("no_bit", "A mask of no bit never ends.", ["100 0 end 75 running"], 100,
+            (0, load(UCSRA, 17) + [word("andi", d=1, K=0)] + where(Z, True, 2)))
+    # the loop has the address of LDS as an instruction, MOVW: it begins in 5 + 4 j, AND in 2 + 4 j, BREQ in 3 + 4 j
+    it.case("word_off", "A branch to the second word of LDS; to itself, one word behind SBIS; to the word before it.", ["100 0 end 75 running"], 100,
+            (0, lds(FLAG, 24) + [word("and_", d=24, r=24)] + where(Z, True, 2)))
+    it.case("behind", "", ["100 0 end 51 running"], 100, (0, [word("sbis", A=UCSRA, b=7)] + back(0)))
+    it.case("before", "", ["100 0 end 75 running"], 100, (0, [NOP, word("sbis", A=UCSRA, b=7)] + back(2)))
+    # SUBI begins in 1 + 4 j, of 200 rounds the last in 797
+    it.case("same_byte", "SBCI of the byte that SUBI lowered.", ["800 0 stop 0004 reserved opcode", "900 0 end 601 stopped"], 900,
+            (0, [ldi(16, 200), word("subi", d=0, K=1), word("sbci", d=0, K=0)] + where(Z, False, 2)))
+
+
+def main():
+    it = Leaps(folder_of_words(__doc__), ["worked out by hand, as bench/network/leaps.py has it at each; the traces are also those of bench/network/network.py."])
+    for part in (polls, flags, delays, seen, look_alike):
+        part(it)
+    it.write("networks", "leaps.txt")
+
+
+if __name__ == "__main__":
+    main()
