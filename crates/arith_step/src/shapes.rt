@@ -10,7 +10,7 @@ use avr_base::{ByteBits, Reg, Sreg};
 use data_space::Cpu;
 
 // The register r0, the lower one of the pair that products go to.
-#[inline(always)]
+#[inline]
 fn r0() -> Reg
     ensures { result ≡ 0 }
 {
@@ -18,7 +18,7 @@ fn r0() -> Reg
 }
 
 /// Puts a byte into rD and the flags that it was computed with into SREG. One cycle.
-#[inline(always)]
+#[inline]
 pub fn put_byte(d: Reg, computed: (u8, Sreg), cpu: &mut Cpu) -> u8
     ensures core { cpu.new ≡ to_reg d computed cpu.old }
     ensures cycles { result ≡ 1 }
@@ -29,7 +29,7 @@ pub fn put_byte(d: Reg, computed: (u8, Sreg), cpu: &mut Cpu) -> u8
 }
 
 /// Puts a word into the pair whose lower register is rD, and the flags that it was computed with into SREG. Two cycles.
-#[inline(always)]
+#[inline]
 pub fn put_word(d: Reg, computed: (u16, Sreg), cpu: &mut Cpu) -> u8
     ensures core { cpu.new ≡ to_pair d computed cpu.old }
     ensures cycles { result ≡ 2 }
@@ -40,7 +40,7 @@ pub fn put_word(d: Reg, computed: (u16, Sreg), cpu: &mut Cpu) -> u8
 }
 
 /// ADD, and ADC where `carry` is the flag C: rD becomes rD + `b` + `carry` modulo 256. One cycle.
-#[inline(always)]
+#[inline]
 #[tactic(auto, unfolding(crate::specs::Shapes::adds))]
 pub fn add(d: Reg, b: u8, carry: bool, cpu: &mut Cpu) -> u8
     ensures core { cpu.new ≡ adds d b carry cpu.old }
@@ -51,7 +51,7 @@ pub fn add(d: Reg, b: u8, carry: bool, cpu: &mut Cpu) -> u8
 }
 
 /// SUB and SUBI: rD becomes rD - `b` modulo 256. One cycle.
-#[inline(always)]
+#[inline]
 #[tactic(auto, unfolding(crate::specs::Shapes::subtracts))]
 pub fn subtract(d: Reg, b: u8, cpu: &mut Cpu) -> u8
     ensures core { cpu.new ≡ subtracts d b cpu.old }
@@ -62,7 +62,7 @@ pub fn subtract(d: Reg, b: u8, cpu: &mut Cpu) -> u8
 }
 
 /// SBC and SBCI: rD becomes rD - `b` - C modulo 256; Z stays set only where it was and the result is 0. One cycle.
-#[inline(always)]
+#[inline]
 #[tactic(auto, unfolding(crate::specs::Shapes::subtracts_with_carry))]
 pub fn subtract_with_carry(d: Reg, b: u8, cpu: &mut Cpu) -> u8
     ensures core { cpu.new ≡ subtracts_with_carry d b cpu.old }
@@ -73,7 +73,7 @@ pub fn subtract_with_carry(d: Reg, b: u8, cpu: &mut Cpu) -> u8
 }
 
 /// CP and CPI: the flags of rD - `b`; no register changes. One cycle.
-#[inline(always)]
+#[inline]
 #[tactic(auto, unfolding(crate::specs::Shapes::compares))]
 pub fn compare(d: Reg, b: u8, cpu: &mut Cpu) -> u8
     ensures core { cpu.new ≡ compares d b cpu.old }
@@ -85,7 +85,7 @@ pub fn compare(d: Reg, b: u8, cpu: &mut Cpu) -> u8
 
 /// CPC: the flags of rD - `b` - C, where Z stays set only where it was and the result is 0; no register changes. One
 /// cycle.
-#[inline(always)]
+#[inline]
 #[tactic(auto, unfolding(crate::specs::Shapes::compares_with_carry))]
 pub fn compare_with_carry(d: Reg, b: u8, cpu: &mut Cpu) -> u8
     ensures core { cpu.new ≡ compares_with_carry d b cpu.old }
@@ -96,7 +96,7 @@ pub fn compare_with_carry(d: Reg, b: u8, cpu: &mut Cpu) -> u8
 }
 
 /// AND, OR, EOR, and the forms with a constant: rD becomes `bits`; V is cleared, C, H, T and I stay. One cycle.
-#[inline(always)]
+#[inline]
 #[tactic(auto, unfolding(crate::specs::Shapes::becomes_bits))]
 pub fn put_bits(d: Reg, bits: u8, cpu: &mut Cpu) -> u8
     ensures core { cpu.new ≡ becomes_bits d bits cpu.old }
@@ -106,7 +106,7 @@ pub fn put_bits(d: Reg, bits: u8, cpu: &mut Cpu) -> u8
 }
 
 /// MUL, MULS, MULSU and their fractional forms: r1:r0 becomes the product of rD and rR, with C and Z. Two cycles.
-#[inline(always)]
+#[inline]
 #[tactic(auto, unfolding(crate::specs::Shapes::multiplies))]
 pub fn multiply(kind: MulKind, d: Reg, r: Reg, cpu: &mut Cpu) -> u8
     ensures core { cpu.new ≡ multiplies kind d r cpu.old }
@@ -117,7 +117,7 @@ pub fn multiply(kind: MulKind, d: Reg, r: Reg, cpu: &mut Cpu) -> u8
 }
 
 /// BSET and BCLR: flag `s` (0 to 7) of SREG becomes `on`. One cycle.
-#[inline(always)]
+#[inline]
 #[tactic(auto, unfolding(crate::specs::Shapes::sets_flag))]
 pub fn set_flag(s: u8, on: bool, cpu: &mut Cpu) -> u8
     requires { s < 8 }
@@ -129,7 +129,7 @@ pub fn set_flag(s: u8, on: bool, cpu: &mut Cpu) -> u8
 }
 
 /// BLD: bit `b` (0 to 7) of rD becomes T. One cycle.
-#[inline(always)]
+#[inline]
 #[tactic(auto, unfolding(crate::specs::Shapes::loads_bit))]
 pub fn load_bit(d: Reg, b: u8, cpu: &mut Cpu) -> u8
     requires { b < 8 }
@@ -142,7 +142,7 @@ pub fn load_bit(d: Reg, b: u8, cpu: &mut Cpu) -> u8
 }
 
 /// BST: T becomes bit `b` (0 to 7) of rD. One cycle.
-#[inline(always)]
+#[inline]
 pub fn store_bit(d: Reg, b: u8, cpu: &mut Cpu) -> u8
     requires { b < 8 }
     ensures core { cpu.new ≡ stores_bit d b cpu.old }
@@ -153,7 +153,7 @@ pub fn store_bit(d: Reg, b: u8, cpu: &mut Cpu) -> u8
 }
 
 /// SWAP: the high and the low four bits of rD change places; no flag changes. One cycle.
-#[inline(always)]
+#[inline]
 #[tactic(auto, unfolding(crate::specs::Shapes::swaps))]
 pub fn swap(d: Reg, cpu: &mut Cpu) -> u8
     ensures core { cpu.new ≡ swaps d cpu.old }
@@ -165,7 +165,7 @@ pub fn swap(d: Reg, cpu: &mut Cpu) -> u8
 }
 
 /// MOV and LDI: rD becomes `value`; no flag changes. One cycle.
-#[inline(always)]
+#[inline]
 pub fn copy(d: Reg, value: u8, cpu: &mut Cpu) -> u8
     ensures core { cpu.new ≡ with_reg d value cpu.old }
     ensures cycles { result ≡ 1 }
@@ -175,7 +175,7 @@ pub fn copy(d: Reg, value: u8, cpu: &mut Cpu) -> u8
 }
 
 /// MOVW: the pair whose lower register is rD becomes that of rR; no flag changes. One cycle.
-#[inline(always)]
+#[inline]
 pub fn copy_pair(d: Reg, r: Reg, cpu: &mut Cpu) -> u8
     ensures core { cpu.new ≡ with_pair d (pair_at r cpu.old) cpu.old }
     ensures cycles { result ≡ 1 }

@@ -8,7 +8,7 @@ use avr_base::{ByteBits, IO_START, Reg, StopCause};
 use data_space::{Bus, Cpu, Done, load, pop, push, store};
 
 /// The data address of the register at the I/O address `a`, which is 0 to 63 in an opcode.
-#[inline(always)]
+#[inline]
 pub fn io_address(a: u8) -> u16
     ensures { result ≡ a + 0x20 }
 {
@@ -17,7 +17,7 @@ pub fn io_address(a: u8) -> u16
 
 /// Ends an instruction of `words` words: the program counter goes on by them, modulo 65,536. The answer has its
 /// `cycles`.
-#[inline(always)]
+#[inline]
 pub fn retire(words: u16, cycles: u8, cpu: &mut Cpu) -> Done
     ensures core { cpu.new ≡ advanced words cpu.old }
     ensures reported { result ≡ record { cycles = cycles; sleep = false } }
@@ -30,7 +30,7 @@ pub fn retire(words: u16, cycles: u8, cpu: &mut Cpu) -> Done
 }
 
 /// The data address `q` bytes behind the pointer `p`, modulo 65,536.
-#[inline(always)]
+#[inline]
 pub fn displaced(p: Reg, q: u8, cpu: &Cpu) -> u16
     ensures { result ≡ displaced p q cpu.now }
 {
@@ -38,7 +38,7 @@ pub fn displaced(p: Reg, q: u8, cpu: &Cpu) -> u16
 }
 
 // The data address before a pointer.
-#[inline(always)]
+#[inline]
 fn decremented(p: Reg, cpu: &Cpu) -> u16
     ensures { result ≡ decremented p cpu.now }
 {
@@ -47,7 +47,7 @@ fn decremented(p: Reg, cpu: &Cpu) -> u16
 
 /// Loads the byte at the data address `at` into rD, by an instruction of `words` words and `cycles` cycles. `Err` where
 /// the read stops.
-#[inline(always)]
+#[inline]
 #[tactic(auto, unfolding(crate::specs::MemoryShapes::loads))]
 pub fn load_at<B: Bus>(
     d: Reg,
@@ -65,7 +65,7 @@ pub fn load_at<B: Bus>(
 }
 
 /// LD rD, P+: two cycles. Where the read stops (`Err`), the pointer stays as it was.
-#[inline(always)]
+#[inline]
 #[tactic(auto, unfolding(crate::specs::MemoryShapes::loads_post_increment))]
 pub fn load_post_increment<B: Bus>(
     d: Reg,
@@ -84,7 +84,7 @@ pub fn load_post_increment<B: Bus>(
 }
 
 /// LD rD, -P: two cycles. Where the read stops (`Err`), the pointer stays as it was.
-#[inline(always)]
+#[inline]
 #[tactic(auto, unfolding(crate::specs::MemoryShapes::loads_pre_decrement))]
 pub fn load_pre_decrement<B: Bus>(
     d: Reg,
@@ -111,7 +111,7 @@ pub fn load_pre_decrement<B: Bus>(
 
 /// Stores a byte at the data address `at`, by an instruction of `words` words and `cycles` cycles. `Err` where the
 /// write stops.
-#[inline(always)]
+#[inline]
 #[tactic(auto, unfolding(crate::specs::MemoryShapes::stores))]
 pub fn store_at<B: Bus>(
     at: u16,
@@ -129,7 +129,7 @@ pub fn store_at<B: Bus>(
 
 /// ST P+, rR: two cycles. The store may be to the pointer itself, which is one higher than it was all the same. Where
 /// the write stops (`Err`), the pointer stays as it was.
-#[inline(always)]
+#[inline]
 #[tactic(auto, unfolding(crate::specs::MemoryShapes::stores_post_increment))]
 pub fn store_post_increment<B: Bus>(
     p: Reg,
@@ -148,7 +148,7 @@ pub fn store_post_increment<B: Bus>(
 }
 
 /// ST -P, rR: two cycles. Where the write stops (`Err`), the pointer stays as it was.
-#[inline(always)]
+#[inline]
 #[tactic(auto, unfolding(crate::specs::MemoryShapes::stores_pre_decrement))]
 pub fn store_pre_decrement<B: Bus>(
     p: Reg,
@@ -172,7 +172,7 @@ pub fn store_pre_decrement<B: Bus>(
 }
 
 /// PUSH rR: two cycles. Where the write stops (`Err`), the stack pointer stays as it was.
-#[inline(always)]
+#[inline]
 #[tactic(auto, unfolding(crate::specs::MemoryShapes::pushes))]
 pub fn push_reg<B: Bus>(r: Reg, cpu: &mut Cpu, bus: &mut B) -> Result<Done, StopCause>
     ensures { record { result = result; cpu = cpu.new; bus = bus.new } ≡ pushes B.put_gives r cpu.old bus.old }
@@ -183,7 +183,7 @@ pub fn push_reg<B: Bus>(r: Reg, cpu: &mut Cpu, bus: &mut B) -> Result<Done, Stop
 }
 
 /// POP rD: two cycles. Where the read stops (`Err`), the stack pointer stays as it was.
-#[inline(always)]
+#[inline]
 #[tactic(auto, unfolding(crate::specs::MemoryShapes::pops))]
 pub fn pop_reg<B: Bus>(d: Reg, cpu: &mut Cpu, bus: &mut B) -> Result<Done, StopCause>
     ensures { record { result = result; cpu = cpu.new; bus = bus.new } ≡ pops B.get_gives d cpu.old bus.old }
@@ -195,7 +195,7 @@ pub fn pop_reg<B: Bus>(d: Reg, cpu: &mut Cpu, bus: &mut B) -> Result<Done, StopC
 
 /// SBI and CBI: bit `b` (0 to 7) of the register at the I/O address `a` becomes `on`, by a read and a write of the
 /// whole register. Two cycles. `Err` where one of the two stops.
-#[inline(always)]
+#[inline]
 #[tactic(auto, unfolding(crate::specs::MemoryShapes::sets_bit))]
 pub fn set_bit<B: Bus>(
     a: u8,

@@ -8,7 +8,7 @@ use avr_base::{Reg, Sreg, StopCause};
 use data_space::{Bus, Cpu, Done, pop_word, push_word};
 
 /// The pointer Z, r31:r30.
-#[inline(always)]
+#[inline]
 pub fn z_pointer(cpu: &Cpu) -> u16
     ensures { result ≡ pair_at 30 cpu.now }
 {
@@ -16,7 +16,7 @@ pub fn z_pointer(cpu: &Cpu) -> u16
 }
 
 // Pushes the address `words` on.
-#[inline(always)]
+#[inline]
 fn push_return<B: Bus>(words: u16, cpu: &mut Cpu, bus: &mut B) -> Result<(), StopCause>
     ensures { record { result = result; cpu = cpu.new; bus = bus.new } ≡ pushes_return B.put_gives words cpu.old bus.old }
 {
@@ -26,7 +26,7 @@ fn push_return<B: Bus>(words: u16, cpu: &mut Cpu, bus: &mut B) -> Result<(), Sto
 
 /// CALL: the program goes on at the word address `k`, after four cycles. `Err` where a push of the return address
 /// stops.
-#[inline(always)]
+#[inline]
 #[tactic(auto, unfolding(crate::specs::FlowShapes::calls))]
 pub fn call<B: Bus>(k: u16, cpu: &mut Cpu, bus: &mut B) -> Result<Done, StopCause>
     ensures { record { result = result; cpu = cpu.new; bus = bus.new } ≡ calls B.put_gives 4 2 (λ _. k) cpu.old bus.old }
@@ -37,7 +37,7 @@ pub fn call<B: Bus>(k: u16, cpu: &mut Cpu, bus: &mut B) -> Result<Done, StopCaus
 
 /// RCALL: the program goes on `k` words behind the next word, after three cycles. `Err` where a push of the return
 /// address stops.
-#[inline(always)]
+#[inline]
 #[tactic(auto, unfolding(crate::specs::FlowShapes::calls))]
 pub fn call_near<B: Bus>(k: i16, cpu: &mut Cpu, bus: &mut B) -> Result<Done, StopCause>
     ensures { record { result = result; cpu = cpu.new; bus = bus.new } ≡ calls B.put_gives 3 1 (relative k) cpu.old bus.old }
@@ -48,7 +48,7 @@ pub fn call_near<B: Bus>(k: i16, cpu: &mut Cpu, bus: &mut B) -> Result<Done, Sto
 
 /// ICALL: the program goes on at the word address in Z, after three cycles. The stack may lie on Z, which is read after
 /// the pushes. `Err` where one of them stops.
-#[inline(always)]
+#[inline]
 #[tactic(auto, unfolding(crate::specs::FlowShapes::calls))]
 pub fn call_at_z<B: Bus>(cpu: &mut Cpu, bus: &mut B) -> Result<Done, StopCause>
     ensures { record { result = result; cpu = cpu.new; bus = bus.new } ≡ calls B.put_gives 3 1 (pair_at 30) cpu.old bus.old }
@@ -58,7 +58,7 @@ pub fn call_at_z<B: Bus>(cpu: &mut Cpu, bus: &mut B) -> Result<Done, StopCause>
 }
 
 /// RET: the program goes on at the word address that is popped, after four cycles. `Err` where a read of it stops.
-#[inline(always)]
+#[inline]
 #[tactic(auto, unfolding(crate::specs::FlowShapes::returns))]
 pub fn ret<B: Bus>(cpu: &mut Cpu, bus: &mut B) -> Result<Done, StopCause>
     ensures { record { result = result; cpu = cpu.new; bus = bus.new } ≡ returns B.get_gives cpu.old bus.old }
@@ -69,7 +69,7 @@ pub fn ret<B: Bus>(cpu: &mut Cpu, bus: &mut B) -> Result<Done, StopCause>
 
 /// RETI: the program goes on at the word address that is popped, with the flag I set, after four cycles. `Err` where a
 /// read of it stops.
-#[inline(always)]
+#[inline]
 #[tactic(auto, unfolding(crate::specs::FlowShapes::returns_enabling))]
 pub fn reti<B: Bus>(cpu: &mut Cpu, bus: &mut B) -> Result<Done, StopCause>
     ensures { record { result = result; cpu = cpu.new; bus = bus.new } ≡ returns_enabling B.get_gives cpu.old bus.old }

@@ -14,7 +14,7 @@ const FLASH: u32 = 0x2_0000;
 const HALF: u32 = 0x1_0000;
 
 // The pointer Z, by its lower register.
-#[inline(always)]
+#[inline]
 fn z() -> Reg
     ensures { result ≡ 30 }
 {
@@ -22,7 +22,7 @@ fn z() -> Reg
 }
 
 // The byte address that RAMPZ and Z name.
-#[inline(always)]
+#[inline]
 fn extended_z(cpu: &Cpu) -> u32
     ensures value { result ≡ extended_z cpu.now }
     ensures within { result < 131072 }
@@ -31,7 +31,7 @@ fn extended_z(cpu: &Cpu) -> u32
     half + u32::from(cpu.pair(z()))
 }
 
-#[inline(always)]
+#[inline]
 fn set_extended_z(at: u32, cpu: &mut Cpu)
     requires { at < 131072 }
     ensures { cpu.new ≡ with_extended_z at cpu.old }
@@ -41,7 +41,7 @@ fn set_extended_z(at: u32, cpu: &mut Cpu)
 }
 
 /// LPM rD, Z: the byte of the flash at the byte address in Z. Three cycles.
-#[inline(always)]
+#[inline]
 pub fn load_program(d: Reg, flash: &Flash, cpu: &mut Cpu) -> Done
     ensures core { cpu.new ≡ advanced 1 (loads_program flash.now.bytes d cpu.old) }
     ensures reported { result ≡ record { cycles = 3; sleep = false } }
@@ -52,7 +52,7 @@ pub fn load_program(d: Reg, flash: &Flash, cpu: &mut Cpu) -> Done
 }
 
 /// LPM rD, Z+: Z goes on by one, modulo 65,536. Three cycles.
-#[inline(always)]
+#[inline]
 #[tactic(auto, unfolding(crate::specs::MemoryShapes::loads_program_post_increment))]
 pub fn load_program_post_increment(d: Reg, flash: &Flash, cpu: &mut Cpu) -> Done
     ensures core { cpu.new ≡ advanced 1 (loads_program_post_increment flash.now.bytes d cpu.old) }
@@ -66,7 +66,7 @@ pub fn load_program_post_increment(d: Reg, flash: &Flash, cpu: &mut Cpu) -> Done
 }
 
 /// ELPM rD, Z: the byte of the flash at the byte address in RAMPZ and Z, 0 to 131,071. Three cycles.
-#[inline(always)]
+#[inline]
 pub fn load_extended(d: Reg, flash: &Flash, cpu: &mut Cpu) -> Done
     ensures core { cpu.new ≡ advanced 1 (loads_extended flash.now.bytes d cpu.old) }
     ensures reported { result ≡ record { cycles = 3; sleep = false } }
@@ -77,7 +77,7 @@ pub fn load_extended(d: Reg, flash: &Flash, cpu: &mut Cpu) -> Done
 }
 
 /// ELPM rD, Z+: RAMPZ and Z together go on by one, modulo 131,072. Three cycles.
-#[inline(always)]
+#[inline]
 #[tactic(auto, unfolding(crate::specs::MemoryShapes::loads_extended_post_increment))]
 pub fn load_extended_post_increment(d: Reg, flash: &Flash, cpu: &mut Cpu) -> Done
     ensures core { cpu.new ≡ advanced 1 (loads_extended_post_increment flash.now.bytes d cpu.old) }

@@ -11,7 +11,7 @@ use data_space::{Bus, Cpu, Done, load};
 use ihex_loader::Flash;
 
 // What an instruction other than SLEEP reports.
-#[inline(always)]
+#[inline]
 fn took(cycles: u8) -> Done
     ensures { result ≡ done cycles }
 {
@@ -22,7 +22,7 @@ fn took(cycles: u8) -> Done
 }
 
 /// The word address `k` words behind the next word, modulo 65,536.
-#[inline(always)]
+#[inline]
 pub fn relative_to(k: i16, cpu: &Cpu) -> u16
     ensures { result ≡ relative k cpu.now }
 {
@@ -30,7 +30,7 @@ pub fn relative_to(k: i16, cpu: &Cpu) -> u16
 }
 
 /// Whether bit `b` (0 to 7) of a byte is `on`.
-#[inline(always)]
+#[inline]
 pub fn bit(on: bool, b: u8, byte: u8) -> bool
     requires { b < 8 }
     ensures { result ≡ bit_is on b byte }
@@ -40,7 +40,7 @@ pub fn bit(on: bool, b: u8, byte: u8) -> bool
 }
 
 /// The program goes on at the word address `pc`, after so many cycles.
-#[inline(always)]
+#[inline]
 pub fn jump(cycles: u8, pc: u16, cpu: &mut Cpu) -> Done
     ensures { (result, cpu.new) ≡ jumped cycles pc cpu.old }
 {
@@ -50,7 +50,7 @@ pub fn jump(cycles: u8, pc: u16, cpu: &mut Cpu) -> Done
 
 /// A branch: where `on` the program goes on `k` words behind the next word, after two cycles; else with the next word,
 /// after one.
-#[inline(always)]
+#[inline]
 #[tactic(auto, unfolding(crate::specs::FlowShapes::branched))]
 pub fn branch(on: bool, k: i16, cpu: &mut Cpu) -> Done
     ensures { (result, cpu.new) ≡ branched on k cpu.old }
@@ -64,7 +64,7 @@ pub fn branch(on: bool, k: i16, cpu: &mut Cpu) -> Done
 }
 
 // The words by which the program goes on that leaves out the next instruction where `on`.
-#[inline(always)]
+#[inline]
 #[tactic(auto, unfolding(crate::specs::FlowShapes::skipping))]
 fn words_on(on: bool, flash: &Flash, cpu: &Cpu) -> u8
     ensures { result ≡ skipping flash.now.bytes on cpu.now }
@@ -78,7 +78,7 @@ fn words_on(on: bool, flash: &Flash, cpu: &Cpu) -> u8
 
 /// A skip: where `on` it leaves out the next instruction, of one word or two, and takes as many cycles more; else one
 /// cycle.
-#[inline(always)]
+#[inline]
 pub fn skip(on: bool, flash: &Flash, cpu: &mut Cpu) -> Done
     ensures { (result, cpu.new) ≡ skipped flash.now.bytes on cpu.old }
 {
@@ -89,7 +89,7 @@ pub fn skip(on: bool, flash: &Flash, cpu: &mut Cpu) -> Done
 
 /// SBIS and SBIC: a skip where bit `b` (0 to 7) of the register at the I/O address `a` is `on`. `Err` where its read
 /// stops.
-#[inline(always)]
+#[inline]
 #[tactic(auto, unfolding(crate::specs::FlowShapes::skips_by_io))]
 pub fn skip_by_io<B: Bus>(
     a: u8,
@@ -108,7 +108,7 @@ pub fn skip_by_io<B: Bus>(
 
 /// SLEEP: the program goes on with the next word, after one cycle. The answer says that it was SLEEP, which the caller
 /// acts on.
-#[inline(always)]
+#[inline]
 pub fn sleep(cpu: &mut Cpu) -> Done
     ensures core { cpu.new ≡ advanced 1 cpu.old }
     ensures reported { result ≡ record { cycles = 1; sleep = true } }

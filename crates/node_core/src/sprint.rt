@@ -63,7 +63,7 @@ impl Machine {
 
     /// Executes instructions from `cycle` on, behind the window and up to `end`, below which no byte arrives, while no
     /// interrupt line is up and the devices end nothing. It ends before an instruction after which a node looks up.
-    #[inline(never)]
+    #[inline(always)]
     pub fn sprint(&mut self, cycle: u64, end: u64) -> Sprinted
         requires may { MayAct cycle self.old }
         requires within { cycle ≤ end }
@@ -93,7 +93,7 @@ impl Machine {
                         return Sprinted { at, inside: true };
                     }
                     at += u64::from(taken);
-                    if self.cpu.pc <= pc && pc - self.cpu.pc < SHORT {
+                    if pc.wrapping_sub(self.cpu.pc) < SHORT {
                         self.owed = turned_on(before, self.cpu.sreg.bits);
                         if !self.owed {
                             at += self.leap(at, end);
