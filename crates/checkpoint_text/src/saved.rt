@@ -2,7 +2,7 @@
 ghost use Rattle.std.specs.Prelude.{◌≡◌, ◌<◌, ◌≤◌, ◌+◌, ◌++◌, ◌==◌, [], min, true, false, length, IfOk, OnOk};
 ghost use Rattle.std.specs.List.{All};
 ghost use Rattle.node_runner.specs.Scenario.{IsScenario};
-ghost use Rattle.node_runner.specs.Flight.{epoch};
+ghost use Rattle.world_core.specs.Kept.{epoch};
 ghost use Rattle.node_runner.specs.Run.{rows_upto};
 ghost use Rattle.checkpoint_text.specs.Onward.{CanResume, IsFit, onward};
 ghost use Rattle.checkpoint_text.specs.NodeOf.{node_of};

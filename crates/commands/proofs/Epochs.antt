@@ -1,5 +1,6 @@
 -- Where epochs end.
 use Rattle.std.proofs.Common.{◌≡◌, ℕ, suc, ◌+◌, ◌*◌, ◌<◌, ◌≤◌, min, arith}
+use Rattle.world_core.specs.Kept.{epoch}
 use Rattle.node_runner.specs.Scenario.{ScenarioOf}
 use Rattle.commands.specs.Parts.{EndsEpoch}
 
@@ -10,21 +11,21 @@ epoch_zero sc c e = record { count = 0; at = omega arith }
 pub epoch_limit : (sc : ScenarioOf) (c : ℕ) → c ≡ sc.topo.limit → EndsEpoch sc c
 epoch_limit sc c e = record { count = sc.topo.limit; at = omega arith }
 
-pub epoch_below : (sc : ScenarioOf) (n c : ℕ) → n * 262144 < sc.topo.limit → c ≡ n * 262144 → EndsEpoch sc c
+pub epoch_below : (sc : ScenarioOf) (n c : ℕ) → n * epoch < sc.topo.limit → c ≡ n * epoch → EndsEpoch sc c
 epoch_below sc n c h e = record { count = n; at = omega arith }
 
-module _ (sc : ScenarioOf) (c next end : ℕ) (at : EndsEpoch sc c) (last : EndsEpoch sc end) (more : c < end) (is : next ≡ min (c + 262144) sc.topo.limit) where
+module _ (sc : ScenarioOf) (c next end : ℕ) (at : EndsEpoch sc c) (last : EndsEpoch sc end) (more : c < end) (is : next ≡ min (c + epoch) sc.topo.limit) where
   pub epoch_next : EndsEpoch sc next
   epoch_next =
-      let a : c ≡ min (at.count * 262144) sc.topo.limit = at.at in
-      let b : end ≡ min (last.count * 262144) sc.topo.limit = last.at in
+      let a : c ≡ min (at.count * epoch) sc.topo.limit = at.at in
+      let b : end ≡ min (last.count * epoch) sc.topo.limit = last.at in
       record { count = suc at.count; at = omega arith }
 
   pub epoch_within : next ≤ end
   epoch_within =
-      let a : c ≡ min (at.count * 262144) sc.topo.limit = at.at in
-      let b : end ≡ min (last.count * 262144) sc.topo.limit = last.at in
+      let a : c ≡ min (at.count * epoch) sc.topo.limit = at.at in
+      let b : end ≡ min (last.count * epoch) sc.topo.limit = last.at in
       omega arith
 
 pub epoch_last : (sc : ScenarioOf) (end : ℕ) → EndsEpoch sc end → end ≤ sc.topo.limit
-epoch_last sc end last = let b : end ≡ min (last.count * 262144) sc.topo.limit = last.at in omega arith
+epoch_last sc end last = let b : end ≡ min (last.count * epoch) sc.topo.limit = last.at in omega arith

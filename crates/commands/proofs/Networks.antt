@@ -3,7 +3,7 @@ use Rattle.std.proofs.Common.{◌≡◌, ℕ, ◌*◌, ◌<◌, ◌≤◌, nat_l
 use Rattle.std.proofs.lemmas.Bool.Decides.{nat_tests}
 use Rattle.ihex_loader.specs.Flash.{Image}
 use Rattle.scenario_file.specs.Scenario.{ScenarioParts}
-use Rattle.node_runner.specs.Flight.{epoch}
+use Rattle.world_core.specs.Kept.{epoch}
 use Rattle.node_runner.specs.Scenario.{ScenarioOf}
 use Rattle.state_text.specs.declared.fault.StateFault.TheVariants.{PastEnd}
 use Rattle.command_plans.specs.declared.trouble.StateCause.TheVariants as cause

@@ -3,7 +3,7 @@ use Rattle.std.proofs.Common.{◌≡◌, ◌≢◌, ◌⊎◌, ℕ, ◌*◌, nat
 use Rattle.sim_io.specs.Outside.{Rose}
 use Rattle.command_words.specs.Words.{Asked, Node, Run, RunPlain, Monitor, Sniff, Check, Disasm, Asm, Make, Head, Save, Resume, asked_by, shown}
 use Rattle.command_words.specs.declared.command.Command.{Command}
-use Rattle.node_runner.specs.Flight.{epoch}
+use Rattle.world_core.specs.Kept.{epoch}
 use Rattle.node_runner.specs.Scenario.{ScenarioOf}
 use Rattle.checkpoint_text.specs.State.{state_in}
 use Rattle.state_text.specs.Text.{StateOf}

@@ -2,7 +2,7 @@
 use Rattle.std.specs.Prelude.{ℕ, ◌*◌, List}
 use Rattle.ihex_loader.specs.Flash.{Image}
 use Rattle.ihex_loader.specs.Hex.{hex_of}
-use Rattle.node_runner.specs.Flight.{epoch}
+use Rattle.world_core.specs.Kept.{epoch}
 use Rattle.node_runner.specs.Scenario.{ScenarioOf, fleet_of}
 use Rattle.run_reports.specs.Profiles.{profiles_text}
 use Rattle.run_reports.specs.Frames.{frames_text}

@@ -1,7 +1,7 @@
 -- What the parts of a call owe to one another: the job that a value of the code stands for, and what is known once it
 -- was read. These are the contracts of functions inside this crate, and no part of what the top clause says.
 use Rattle.std.specs.Prelude.{◌≡◌, false, ◌≤◌, ◌<◌, ◌-◌, ◌*◌, ℕ, min, true, is_some, length, List, Result, Ok, Err}
-use Rattle.node_runner.specs.Flight.{epoch}
+use Rattle.world_core.specs.Kept.{epoch}
 use Rattle.node_runner.specs.Scenario.{ScenarioOf}
 use Rattle.checkpoint_text.specs.Onward.{SavedAt}
 use Rattle.command_words.specs.Words.{asked_by}

@@ -1,7 +1,7 @@
 -- What each command reads, in order, and what it is to write then.
 use Rattle.std.specs.Prelude.{ℕ, ◌*◌, nat_lt, if◌then◌else◌, List, Option, Some, None, Result, Ok, Err}
 use Rattle.command_words.specs.Words.{Asked, Node, Run, RunPlain, Monitor, Sniff, Check, Disasm, Asm, Make, Head, Save, Resume, asked_by}
-use Rattle.node_runner.specs.Flight.{epoch}
+use Rattle.world_core.specs.Kept.{epoch}
 use Rattle.node_runner.specs.Scenario.{ScenarioOf}
 use Rattle.checkpoint_text.specs.State.{state_in}
 use Rattle.state_text.specs.Text.{StateOf}

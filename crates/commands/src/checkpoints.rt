@@ -6,7 +6,7 @@ ghost use Rattle.command_plans.specs.Ends.{reads, stream};
 ghost use Rattle.command_plans.specs.Parts.{ReadAs, Written};
 ghost use Rattle.commands.specs.Parts.{EndsEpoch, IsFresh};
 ghost use Rattle.commands.specs.Plan.{state_plan};
-ghost use Rattle.node_runner.specs.Flight.{epoch};
+ghost use Rattle.world_core.specs.Kept.{epoch};
 ghost use Rattle.node_runner.specs.Scenario.{IsScenario};
 ghost use Rattle.state_text.specs.Text.{state_text};
 ghost use Rattle.trace_writer.specs.Line.{rows_text};

@@ -5,7 +5,7 @@ ghost use Rattle.command_plans.specs.Ends.{reads, stream};
 ghost use Rattle.command_plans.specs.Parts.{Stopped};
 ghost use Rattle.commands.specs.Plan.{cut_plan, network_plan, plan_of};
 ghost use Rattle.commands.specs.Parts.{HasRead, JobRead, Prepares};
-ghost use Rattle.node_runner.specs.Flight.{epoch};
+ghost use Rattle.world_core.specs.Kept.{epoch};
 
 use crate::checkpoints::read_saved;
 use crate::job::Job;

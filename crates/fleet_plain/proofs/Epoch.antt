@@ -9,9 +9,9 @@ use Rattle.node_core.specs.declared.row.Row.{Row}
 use Rattle.node_runner.specs.Scenario.{ScenarioOf, IsScenario, fleet_of}
 use Rattle.node_runner.specs.Place.{Place, is_live, state_at, rows_of, HasEnded}
 use Rattle.node_runner.proofs.Places.{still_calm, still_over}
-use Rattle.world_core.specs.Kept.{is_kept, kept_room_of}
+use Rattle.world_core.specs.Kept.{epoch, is_kept, kept_room_of}
 use Rattle.world_core.specs.Chain.{LogFacts}
-use Rattle.node_runner.specs.Flight.{epoch, IsAt, place_at}
+use Rattle.node_runner.specs.Flight.{IsAt, place_at}
 use Rattle.node_runner.specs.Gather.{end_row_of, taken}
 use Rattle.node_runner.specs.Run.{rows_upto}
 use Rattle.node_runner.proofs.Epoch.{next_rows as gathered_rows}

@@ -14,7 +14,7 @@ use Rattle.world_core.specs.Topology.{is_needed, latency_of}
 use Rattle.world_core.specs.Heard.{heard}
 use Rattle.world_core.specs.Sends.{sends_below, IsSendNumber}
 use Rattle.world_core.specs.Posted.{sent_of, AllPostedFor}
-use Rattle.world_core.specs.Kept.{kept_room_of}
+use Rattle.world_core.specs.Kept.{epoch, kept_room_of}
 use Rattle.world_core.specs.Lawful.{IsLawful}
 use Rattle.world_core.specs.Settled.{truth, IsRecorded}
 use Rattle.world_core.proofs.Counts.{sends_below-le}
@@ -32,7 +32,7 @@ use Rattle.world_core.proofs.OrderRows.{stopped_count}
 use Rattle.node_runner.specs.Scenario.{ScenarioOf, IsScenario, fleet_of}
 use Rattle.node_runner.specs.Place.{Place, is_live, state_at, sends_passed}
 use Rattle.node_runner.proofs.Sound.{sound, scenario_lawful}
-use Rattle.node_runner.specs.Flight.{epoch, place_at, IsAt, IsTaken, Advanced, PostsNothing, PostsOne, rank}
+use Rattle.node_runner.specs.Flight.{place_at, IsAt, IsTaken, Advanced, PostsNothing, PostsOne, rank}
 use Rattle.node_runner.proofs.Near.{near_link}
 use Rattle.node_runner.proofs.Places.{still_over, live_taken, bool_cases, home, away}
 use Rattle.fleet_plain.specs.Flight.{InFlight, HearsRight, CanPost, IsLow}

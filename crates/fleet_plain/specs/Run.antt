@@ -2,11 +2,10 @@
 use Rattle.std.specs.Prelude.{◌≡◌, ℕ, ◌≤◌, false, List}
 use Rattle.std.specs.List.{All}
 use Rattle.world_core.specs.declared.air.Send.{Send}
-use Rattle.world_core.specs.Kept.{kept_room_of}
+use Rattle.world_core.specs.Kept.{epoch, kept_room_of}
 use Rattle.world_core.specs.Chain.{LogFacts}
 use Rattle.node_runner.specs.Scenario.{ScenarioOf, IsScenario}
 use Rattle.node_runner.specs.Place.{Place, is_live}
-use Rattle.node_runner.specs.Flight.{epoch}
 use Rattle.node_runner.specs.Run.{RunAt, kept_at}
 use Rattle.fleet_plain.specs.Flight.{InFlight}
 

@@ -2,10 +2,10 @@
 ghost use Rattle.std.specs.Prelude.{◌≡◌, ◌<◌, ◌≤◌, ◌+◌, true, false, length, OnOk};
 ghost use Rattle.std.specs.List.{All};
 ghost use Rattle.world_core.specs.Topology.{IsInside};
-ghost use Rattle.world_core.specs.Kept.{kept_room_of};
+ghost use Rattle.world_core.specs.Kept.{epoch, kept_room_of};
 ghost use Rattle.node_runner.specs.Place.{is_live};
 ghost use Rattle.node_runner.specs.Scenario.{IsScenario};
-ghost use Rattle.node_runner.specs.Flight.{epoch, IsAt, Advanced};
+ghost use Rattle.node_runner.specs.Flight.{IsAt, Advanced};
 ghost use Rattle.fleet_plain.specs.Flight.{InFlight, HearsRight, CanPost, IsLow, IsTurn};
 
 use avr_base::NoMemory;

@@ -1,9 +1,9 @@
 // A run in epochs, and the whole run.
 ghost use Rattle.std.specs.Prelude.{◌≡◌, ◌<◌, ◌≤◌, ◌+◌, ◌++◌, ◌==◌, ℕ, length, min, true, false, IfOk, OnOk};
-ghost use Rattle.world_core.specs.Kept.{kept_room_of};
+ghost use Rattle.world_core.specs.Kept.{epoch, kept_room_of};
 ghost use Rattle.world_core.specs.Order.{run_rows};
 ghost use Rattle.node_runner.specs.Scenario.{fleet_of, IsScenario};
-ghost use Rattle.node_runner.specs.Flight.{epoch, place_at};
+ghost use Rattle.node_runner.specs.Flight.{place_at};
 ghost use Rattle.node_runner.specs.Run.{kept_at, rows_upto};
 ghost use Rattle.fleet_plain.specs.Kept.{HasCome};
 ghost use Rattle.fleet_plain.specs.Run.{IsResting};

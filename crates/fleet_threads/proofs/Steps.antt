@@ -26,7 +26,8 @@ use Rattle.node_runner.specs.Scenario.{ScenarioOf, fleet_of}
 use Rattle.node_runner.specs.Place.{Place, is_live, state_at, noted_of, sends_passed}
 use Rattle.node_runner.specs.Event.{IsEvent}
 use Rattle.node_runner.proofs.Sound.{sound, scenario_lawful}
-use Rattle.node_runner.specs.Flight.{epoch, IsAt, Advanced}
+use Rattle.world_core.specs.Kept.{epoch}
+use Rattle.node_runner.specs.Flight.{IsAt, Advanced}
 use Rattle.node_runner.proofs.Advance.{adv_answer, adv_turn, adv_ask, adv_ended, adv_sent, sent_early, noted_plain}
 use Rattle.node_runner.proofs.Places.{live_taken, still_over, home}
 use Rattle.fleet_threads.specs.declared.member.Member.{Member}

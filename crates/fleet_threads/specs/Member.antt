@@ -7,7 +7,8 @@ use Rattle.world_core.specs.Sends.{sends_below}
 use Rattle.world_core.specs.Order.{facts_of}
 use Rattle.node_runner.specs.Scenario.{ScenarioOf, IsScenario, fleet_of}
 use Rattle.node_runner.specs.Place.{Place, is_live, sends_passed}
-use Rattle.node_runner.specs.Flight.{epoch, IsAt, IsTaken}
+use Rattle.world_core.specs.Kept.{epoch}
+use Rattle.node_runner.specs.Flight.{IsAt, IsTaken}
 use Rattle.fleet_threads.specs.declared.member.Member.{Member}
 
 -- an epoch of the scenario, from the cycle `floor` to the cycle `end`, in the world of its sends and samples

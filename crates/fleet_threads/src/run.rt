@@ -3,7 +3,7 @@ ghost use Rattle.std.specs.Prelude.{◌≡◌, ◌<◌, ◌≤◌, ◌+◌, ◌+
 ghost use Rattle.std.specs.List.{All};
 ghost use Rattle.world_core.specs.Order.{facts_of, run_rows};
 ghost use Rattle.node_runner.specs.Scenario.{fleet_of, IsScenario};
-ghost use Rattle.node_runner.specs.Flight.{epoch};
+ghost use Rattle.world_core.specs.Kept.{epoch};
 ghost use Rattle.node_runner.specs.Run.{rows_upto};
 ghost use Rattle.fleet_threads.specs.Member.{IsEpoch};
 ghost use Rattle.fleet_threads.specs.Run.{IsTied, IsFirst, air_of};
@@ -131,10 +131,9 @@ impl Model for ThreadRun {
 
 impl ThreadRun {
     ghost use Rattle.std.specs.Prelude.{◌≡◌, ◌<◌, ◌≤◌, ◌+◌, ◌++◌, ◌==◌, min, true, false, IfOk, OnOk};
-    ghost use Rattle.world_core.specs.Kept.{IsPostedTo};
+    ghost use Rattle.world_core.specs.Kept.{epoch, IsPostedTo};
     ghost use Rattle.world_core.specs.Order.{facts_of};
     ghost use Rattle.node_runner.specs.Scenario.{fleet_of, IsScenario};
-    ghost use Rattle.node_runner.specs.Flight.{epoch};
     ghost use Rattle.node_runner.specs.Run.{RunAt, rows_upto};
 
     /// The run before its first epoch: all nodes at reset.

@@ -11,7 +11,7 @@ use Rattle.world_core.specs.Topology.{Topology}
 use Rattle.world_core.specs.Heard.{heard}
 use Rattle.world_core.specs.Sends.{IsSendNumber}
 use Rattle.world_core.specs.Posted.{sent_of, AllPostedFor}
-use Rattle.world_core.specs.Kept.{is_kept, kept_room_of, IsPostedTo}
+use Rattle.world_core.specs.Kept.{epoch, is_kept, kept_room_of, IsPostedTo}
 use Rattle.world_core.specs.Settled.{truth}
 use Rattle.world_core.specs.Lawful.{IsLawful}
 use Rattle.world_core.proofs.Room.{kept_room}
@@ -19,7 +19,7 @@ use Rattle.world_core.proofs.Records.{record_opens, record_posted, record_sample
 use Rattle.world_core.specs.Chain.{LogFacts, log_of}
 use Rattle.neighbour_sync.specs.Seats.{AirFacts, air_counted}
 use Rattle.neighbour_sync.specs.Loads.{looked}
-use Rattle.neighbour_sync.specs.Record.{AirRecord, IsSound, epoch, with_send}
+use Rattle.neighbour_sync.specs.Record.{AirRecord, IsSound, with_send}
 use Rattle.neighbour_sync.specs.Held.{record_of, IsHeld}
 
 posted_sound : (r : AirRecord) (x : Send) → IsSound r → IsSendNumber r.world (sent_of r.sent x.node) x → x.cycle < r.floor + epoch → IsSound (with_send r x)

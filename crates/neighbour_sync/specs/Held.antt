@@ -4,10 +4,10 @@ use Rattle.world_core.specs.declared.air.Send.{Send}
 use Rattle.world_core.specs.declared.air.Ask.{Ask}
 use Rattle.world_core.specs.declared.air.Heard.{Heard}
 use Rattle.world_core.specs.Topology.{Topology}
-use Rattle.world_core.specs.Kept.{kept_room_of}
+use Rattle.world_core.specs.Kept.{epoch, kept_room_of}
 use Rattle.world_core.specs.Chain.{LogFacts}
 use Rattle.neighbour_sync.specs.Seats.{AirFacts}
-use Rattle.neighbour_sync.specs.Record.{AirRecord, IsSound, epoch}
+use Rattle.neighbour_sync.specs.Record.{AirRecord, IsSound}
 
 abbrev pub record_of : AirFacts → ℕ → List Send → List (Ask × Heard) → AirRecord
 record_of a floor sends samples = record { table = a.table; world = a.world; sent = a.sent; loads = a.loads; floor = floor; sends = sends; samples = samples }

@@ -10,7 +10,7 @@ use Rattle.world_core.specs.declared.air.Sampled.{Sampled}
 use Rattle.world_core.specs.declared.air.Sampled.TheVariants.{Heard, NotYet, NoMemory}
 use Rattle.world_core.specs.declared.world.WorldFacts.{WorldFacts}
 use Rattle.world_core.specs.Posted.{sent_of}
-use Rattle.world_core.specs.Kept.{is_kept}
+use Rattle.world_core.specs.Kept.{epoch, is_kept}
 use Rattle.world_core.specs.Settled.{truth, IsRecorded}
 use Rattle.world_core.specs.Lawful.{IsLawful}
 use Rattle.neighbour_sync.specs.declared.answers.Posted.{Posted}
@@ -27,10 +27,6 @@ pub record AirRecord : Type 0 where
   pub floor : ℕ
   pub sends : List Send
   pub samples : List (Ask × HeardValue)
-
--- how many cycles above the floor a send may be posted: an epoch
-abbrev pub epoch : ℕ
-epoch = 262144
 
 -- Whenever the record is at rest: its sends are those of the posted ones that may still be heard, and each of its
 -- samples is the true one and final.

@@ -40,7 +40,7 @@ impl NodeAir {
     ghost use Rattle.std.specs.List.{Contains};
     ghost use Rattle.world_core.specs.Sends.{sends_below, IsSendNumber};
     ghost use Rattle.neighbour_sync.specs.Seats.{node_raised, node_told, node_stopped};
-    ghost use Rattle.neighbour_sync.specs.Record.{epoch};
+    ghost use Rattle.world_core.specs.Kept.{epoch};
     ghost use Rattle.neighbour_sync.specs.Tries.{IsTried};
     ghost use Rattle.neighbour_sync.specs.Waits.{IsPassed};
 

@@ -1,8 +1,7 @@
 // The record.
 ghost use Rattle.std.specs.Prelude.{◌≡◌, nat_le};
 ghost use Rattle.std.specs.List.{filter};
-ghost use Rattle.world_core.specs.Kept.{kept_room_of};
-ghost use Rattle.neighbour_sync.specs.Record.{epoch};
+ghost use Rattle.world_core.specs.Kept.{epoch, kept_room_of};
 
 use crate::loading::{first_behind, first_below};
 use crate::{AirSeat, Behind, Clocks, Posted};
@@ -66,9 +65,9 @@ impl Air {
     ghost use Rattle.std.specs.Prelude.{◌≡◌, ◌+◌, ◌≤◌, ◌<◌, ◌∷◌, ◌++◌, [], ℕ, List, replicate, IfOk, IfErr};
     ghost use Rattle.std.specs.List.{Contains};
     ghost use Rattle.world_core.specs.Sends.{IsSendNumber};
-    ghost use Rattle.world_core.specs.Kept.{IsPostedTo};
+    ghost use Rattle.world_core.specs.Kept.{epoch, IsPostedTo};
     ghost use Rattle.neighbour_sync.specs.Loads.{AreReached, pair_of};
-    ghost use Rattle.neighbour_sync.specs.Record.{first_record, with_loads, cut_at, epoch, IsSound, IsPost, IsSample};
+    ghost use Rattle.neighbour_sync.specs.Record.{first_record, with_loads, cut_at, IsSound, IsPost, IsSample};
 
     /// The empty record, which takes its room for sends here.
     pub fn new<W: World>(alloc: Global, world: &W, seat: AirSeat) -> Result<Air, NoMemory>

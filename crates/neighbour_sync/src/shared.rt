@@ -31,7 +31,8 @@ impl<N: Session> Locked<N> {
     ghost use Rattle.std.specs.Prelude.{◌≡◌, ◌+◌, ◌≤◌, ◌<◌};
     ghost use Rattle.std.specs.List.{Contains};
     ghost use Rattle.world_core.specs.Sends.{IsSendNumber};
-    ghost use Rattle.neighbour_sync.specs.Record.{epoch, IsPost, IsSample};
+    ghost use Rattle.world_core.specs.Kept.{epoch};
+    ghost use Rattle.neighbour_sync.specs.Record.{IsPost, IsSample};
     ghost use Rattle.neighbour_sync.specs.Told.{IsTold};
 
     fn post<W: World>(&mut self, clocks: &Clocks<W>, send: Send, number: u64) -> Posted
@@ -69,7 +70,8 @@ impl<W: World, N: Session> Shared<W, N> {
     ghost use Rattle.std.specs.Prelude.{◌≡◌, ◌+◌, ◌≤◌, ◌<◌};
     ghost use Rattle.std.specs.List.{Contains};
     ghost use Rattle.world_core.specs.Sends.{IsSendNumber};
-    ghost use Rattle.neighbour_sync.specs.Record.{epoch, IsSound};
+    ghost use Rattle.world_core.specs.Kept.{epoch};
+    ghost use Rattle.neighbour_sync.specs.Record.{IsSound};
     ghost use Rattle.neighbour_sync.specs.Told.{IsTold};
     ghost use Rattle.neighbour_sync.specs.Parts.{AreParts};
 

@@ -3,7 +3,7 @@ ghost use Rattle.std.specs.Prelude.{◌≡◌, ◌+◌, ◌≤◌, ◌<◌};
 ghost use Rattle.std.specs.List.{Contains};
 ghost use Rattle.world_core.specs.Sends.{IsSendNumber};
 ghost use Rattle.neighbour_sync.specs.Seats.{node_told};
-ghost use Rattle.neighbour_sync.specs.Record.{epoch};
+ghost use Rattle.world_core.specs.Kept.{epoch};
 ghost use Rattle.neighbour_sync.specs.Tries.{IsTried};
 
 use crate::answers::SampleAttempt;

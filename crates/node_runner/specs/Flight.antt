@@ -7,10 +7,6 @@ use Rattle.world_core.specs.Order.{facts_of, node_at}
 use Rattle.node_runner.specs.Scenario.{ScenarioOf, fleet_of}
 use Rattle.node_runner.specs.Place.{Place, is_live, sends_passed}
 
--- how many cycles an epoch has
-abbrev pub epoch : ℕ
-epoch = 262144
-
 abbrev pub place_at : List Place → ℕ → Place → Place
 place_at ps k d = slice_index_or ps k d
 

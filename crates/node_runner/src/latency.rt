@@ -2,7 +2,7 @@
 ghost use Rattle.std.specs.Prelude.{◌≤◌};
 ghost use Rattle.std.specs.List.{All};
 ghost use Rattle.world_core.specs.Topology.{latency_of};
-ghost use Rattle.node_runner.specs.Flight.{epoch};
+ghost use Rattle.world_core.specs.Kept.{epoch};
 
 use world_core::{EPOCH, Topo};
 

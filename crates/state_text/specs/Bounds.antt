@@ -2,6 +2,7 @@
 use Rattle.std.specs.Prelude.{◌≡◌, ℕ, ◌+◌, ◌%◌, ◌^◌, ◌<◌, ◌==◌, ◌&&◌, ◌||◌, nat_le, nat_lt, Bool, true, List, [], ◌∷◌, length, take, Option, Some, None}
 use Rattle.std.specs.List.{AllByRecursion}
 use Rattle.world_core.specs.Topology.{Topology, reach}
+use Rattle.world_core.specs.Kept.{epoch}
 use Rattle.world_core.specs.declared.air.Send.{Send}
 use Rattle.state_text.specs.Text.{NodeOf, StateOf}
 
@@ -15,9 +16,9 @@ pub record Rules : Type 0 where
 abbrev pub rules : Topology → (ℕ → List ℕ → Bool) → (List ℕ → Bool) → Rules
 rules topo within readable = record { topo = topo; within = within; readable = readable }
 
--- the end of an epoch of 262,144 cycles, below the limit
+-- the end of an epoch, below the limit
 abbrev pub is_cut : Topology → ℕ → Bool
-is_cut t c = c % 262144 == 0 && (nat_le 262144 c && nat_lt c t.limit)
+is_cut t c = c % epoch == 0 && (nat_le epoch c && nat_lt c t.limit)
 
 -- a send of one of the nodes, before the state's cycle, that may still be heard in it
 abbrev pub is_kept : Topology → ℕ → Send → Bool

@@ -2,7 +2,7 @@
 ghost use Rattle.std.specs.Prelude.{◌≡◌, ◌+◌, ◌<◌, true};
 ghost use Rattle.std.specs.List.{All};
 ghost use Rattle.world_core.specs.Sends.{sends_of};
-ghost use Rattle.neighbour_sync.specs.Record.{epoch};
+ghost use Rattle.world_core.specs.Kept.{epoch};
 
 use list_world::ListWorld;
 use neighbour_sync::{NodeAir, SampleOutcome, Session, Shared};

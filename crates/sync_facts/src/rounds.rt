@@ -4,7 +4,7 @@ ghost use Rattle.std.specs.Prelude.{◌≡◌, ◌+◌, ◌≤◌, ◌<◌, [], 
 ghost use Rattle.std.specs.List.{All};
 ghost use Rattle.world_core.specs.Sends.{sends_of};
 ghost use Rattle.neighbour_sync.specs.Seats.{AreFirstNodes, first_node};
-ghost use Rattle.neighbour_sync.specs.Record.{epoch};
+ghost use Rattle.world_core.specs.Kept.{epoch};
 ghost use Rattle.neighbour_sync.specs.Parts.{AreParts};
 
 use crate::nodes::{are_early, sample_all, send_all};

@@ -30,6 +30,10 @@ pub record IsPart (w : WorldFacts) (f : ℕ) (gone : ℕ → ℕ) (sent : List �
   pub part : (k : ℕ) → sends_of k xs ≡ drop (gone k) (take (sent_of sent k) (sends_of k w.sends))
   pub over : (k : ℕ) → All (λ x. x.cycle + reach w.topo + w.topo.byte_time ≤ f) (take (gone k) (sends_of k w.sends))
 
--- room for what a record can hold whose sends lie below its floor and an epoch
+-- how many cycles an epoch has: a send is posted less than so many above the floor
+abbrev pub epoch : ℕ
+epoch = 1048576
+
+-- room for what a record can hold whose sends lie below its floor and so many cycles
 abbrev pub kept_room_of : Topology → ℕ → ℕ
-kept_room_of t epoch = t.nodes * ((reach t + t.byte_time + epoch) / t.byte_time + 1)
+kept_room_of t span = t.nodes * ((reach t + t.byte_time + span) / t.byte_time + 1)

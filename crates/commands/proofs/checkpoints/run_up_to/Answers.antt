@@ -1,4 +1,5 @@
 use Rattle.std.proofs.Common.{◌≡◌, ℕ, ◌+◌, ◌<◌, ◌≤◌, min, ap, ◌∙◌, sym, subst, arith}
+use Rattle.world_core.specs.Kept.{epoch}
 use Rattle.node_runner.specs.Scenario.{ScenarioOf}
 use Rattle.node_runner.specs.Run.{RunAt}
 use Rattle.commands.proofs.Epochs.{epoch_last, epoch_next, epoch_within, epoch_zero}
@@ -25,9 +26,9 @@ pub loop-run-preserved : goal.loop-run-preserved
 loop-run-preserved c =
     let network : ScenarioOf = c.args.network.now in
     let after = c.in_ok-epoch.ensures.after in
-    let floor : c.epoch.new.self.floor ≡ min (c.loop-run.run.floor + 262144) c.loop-run.run.scenario.topo.limit = ap (λ (r : RunAt). r.floor) after in
-    let end : c.epoch.new.self.floor ≡ min (c.loop-run.run.floor + 262144) network.topo.limit =
-    subst (λ (s : ScenarioOf). c.epoch.new.self.floor ≡ min (c.loop-run.run.floor + 262144) s.topo.limit) c.loop-run.invariant.same floor in
+    let floor : c.epoch.new.self.floor ≡ min (c.loop-run.run.floor + epoch) c.loop-run.run.scenario.topo.limit = ap (λ (r : RunAt). r.floor) after in
+    let end : c.epoch.new.self.floor ≡ min (c.loop-run.run.floor + epoch) network.topo.limit =
+    subst (λ (s : ScenarioOf). c.epoch.new.self.floor ≡ min (c.loop-run.run.floor + epoch) s.topo.limit) c.loop-run.invariant.same floor in
     record {
       same = ap (λ (r : RunAt). r.scenario) after ∙ c.loop-run.invariant.same;
       sound = ap (λ (r : RunAt). r.failed) after ∙ c.loop-run.invariant.sound;

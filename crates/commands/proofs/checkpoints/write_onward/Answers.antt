@@ -1,4 +1,5 @@
 use Rattle.std.proofs.Common.{◌≡◌, ℕ, ◌+◌, ◌<◌, ◌≤◌, min, List, ◌++◌, refl, sym, ap, ◌∙◌, subst, arith}
+use Rattle.world_core.specs.Kept.{epoch}
 use Rattle.sim_io.specs.Outside.{Rose, TookFront, extended}
 use Rattle.node_core.specs.declared.row.Row.{Row}
 use Rattle.trace_writer.specs.Line.{rows_text}
@@ -43,7 +44,7 @@ pub returns-in-Err : goal.returns-in-Err
 returns-in-Err g c =
     let network : ScenarioOf = c.args.network.now in
     let f = onward network c.args.saved.state in
-    let end : c.epoch.new.self.floor ≡ min (c.loop-saved.saved.floor + 262144) c.loop-saved.saved.scenario.topo.limit = ap (λ (a : SavedAt). a.floor) c.in-Ok.ensures.after in
+    let end : c.epoch.new.self.floor ≡ min (c.loop-saved.saved.floor + epoch) c.loop-saved.saved.scenario.topo.limit = ap (λ (a : SavedAt). a.floor) c.in-Ok.ensures.after in
     let most : c.epoch.new.self.floor ≤ c.loop-saved.saved.scenario.topo.limit = omega arith in
     let within : c.epoch.new.self.floor ≤ network.topo.limit = subst (λ (s : ScenarioOf). c.epoch.new.self.floor ≤ s.topo.limit) c.loop-saved.invariant.same most in
     let limit = c.loop-saved-test.ensures.within in
@@ -60,7 +61,7 @@ pub loop-saved-preserved : goal.loop-saved-preserved
 loop-saved-preserved g c =
     let network : ScenarioOf = c.args.network.now in
     let after = c.in-Ok.ensures.after in
-    let end : c.epoch.new.self.floor ≡ min (c.loop-saved.saved.floor + 262144) c.loop-saved.saved.scenario.topo.limit = ap (λ (a : SavedAt). a.floor) after in
+    let end : c.epoch.new.self.floor ≡ min (c.loop-saved.saved.floor + epoch) c.loop-saved.saved.scenario.topo.limit = ap (λ (a : SavedAt). a.floor) after in
     let limit = c.loop-saved-test.ensures.within in
     let rows = rows_told network c.args.saved.state c.loop-saved.saved.state c.loop-saved.saved.floor c.epoch.new.self.floor c.in-Ok.rows.items c.loop-saved.invariant.state c.in-Ok.ensures.rows in
     let took : g.O.Sink.taken c.write.new.sink ≡ extended (g.O.Sink.taken c.loop-saved.out) (rows_text c.in-Ok.rows.items) =

@@ -1,6 +1,7 @@
 use Rattle.std.proofs.Common.{◌≡◌, ℕ, ◌*◌, ◌<◌, List, length, refl, ap, ◌∙◌, sym, subst}
 use Rattle.std.specs.Prelude.{slice_index_or}
 use Rattle.world_core.specs.declared.air.Send.{Send}
+use Rattle.world_core.specs.Kept.{epoch}
 use Rattle.node_runner.specs.Place.{Place}
 use Rattle.node_runner.specs.Run.{RunAt, kept_at}
 use Rattle.node_runner.specs.Scenario.{ScenarioOf}
@@ -22,4 +23,4 @@ all_at sc end r ps same floor come k d lt =
     record { calm = moved.calm; state = moved.state }
 
 pub run_up_to-requires-clause-end : goal.run_up_to-requires-clause-end
-run_up_to-requires-clause-end g c = epoch_below c.args.network.now c.args.epochs (c.args.epochs * 262144) c.requires refl
+run_up_to-requires-clause-end g c = epoch_below c.args.network.now c.args.epochs (c.args.epochs * epoch) c.requires refl

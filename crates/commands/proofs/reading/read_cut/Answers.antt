@@ -1,5 +1,6 @@
 use Rattle.std.proofs.Common.{◌≡◌, ◌*◌, ◌<◌, ◌≤◌, ap, ◌∙◌, subst, arith}
 use Rattle.world_core.specs.Topology.{Topology}
+use Rattle.world_core.specs.Kept.{epoch}
 use Rattle.state_text.specs.declared.fault.StateFault.TheVariants.{PastEnd}
 use Rattle.command_plans.specs.Ends.{Refused, stream}
 use Rattle.command_plans.specs.Plan.{BadState}
@@ -18,7 +19,7 @@ returns-then-epochs-limit-clause-ok g c =
     let read = c.in-Ok.ensures.ok in
     let limit : c.limit.result ≡ c.in-Ok.network.topo.limit = c.limit.ensures.value ∙ ap (λ (t : Topology). t.limit) c.lawful_topo.ensures.value in
     let test = c.if-epochs-limit.true in
-    let below : c.args.epochs * 262144 < c.in-Ok.network.topo.limit = omega arith in
+    let below : c.args.epochs * epoch < c.in-Ok.network.topo.limit = omega arith in
     record { reached = cut_reached _ c.args.file.now c.args.epochs c.in-Ok.network read.reached below; same = read.same; silent = read.silent; narrow = read.narrow }
 
 pub returns-clause-err : goal.returns-clause-err
@@ -26,7 +27,7 @@ returns-clause-err g c =
     let read = c.in-Ok.ensures.ok in
     let limit : c.limit.result ≡ c.in-Ok.network.topo.limit = c.limit.ensures.value ∙ ap (λ (t : Topology). t.limit) c.lawful_topo.ensures.value in
     let test = c.if-epochs-limit.false in
-    let over : c.in-Ok.network.topo.limit ≤ c.args.epochs * 262144 = omega arith in
+    let over : c.in-Ok.network.topo.limit ≤ c.args.epochs * epoch = omega arith in
     record {
       end = Refused (BadState c.args.file.now (Faulty PastEnd));
       stops = (read.same, cut_refused _ c.args.file.now c.args.epochs c.in-Ok.network read.reached over);

@@ -1,4 +1,5 @@
 use Rattle.std.proofs.Common.{◌≡◌, ℕ, ◌+◌, ◌<◌, ◌≤◌, min, List, refl, sym, ap, ◌∙◌, subst, arith}
+use Rattle.world_core.specs.Kept.{epoch}
 use Rattle.sim_io.specs.Outside.{Rose, TookFront, extended}
 use Rattle.node_core.specs.declared.row.Row.{Row}
 use Rattle.trace_writer.specs.Line.{rows_text}
@@ -36,9 +37,9 @@ returns-in_default g c =
 pub returns-in-Err : goal.returns-in-Err
 returns-in-Err g c =
     let network : ScenarioOf = c.args.network.now in
-    let after : c.epoch.new.self.floor ≡ min (c.loop-run.run.floor + 262144) c.loop-run.run.scenario.topo.limit = ap (λ (r : RunAt). r.floor) c.in-Ok.ensures.after in
-    let end : c.epoch.new.self.floor ≡ min (c.loop-run.run.floor + 262144) network.topo.limit =
-    subst (λ (s : ScenarioOf). c.epoch.new.self.floor ≡ min (c.loop-run.run.floor + 262144) s.topo.limit) c.loop-run.invariant.same after in
+    let after : c.epoch.new.self.floor ≡ min (c.loop-run.run.floor + epoch) c.loop-run.run.scenario.topo.limit = ap (λ (r : RunAt). r.floor) c.in-Ok.ensures.after in
+    let end : c.epoch.new.self.floor ≡ min (c.loop-run.run.floor + epoch) network.topo.limit =
+    subst (λ (s : ScenarioOf). c.epoch.new.self.floor ≡ min (c.loop-run.run.floor + epoch) s.topo.limit) c.loop-run.invariant.same after in
     let within : c.epoch.new.self.floor ≤ c.args.end = epoch_within network c.loop-run.run.floor c.epoch.new.self.floor c.args.end c.loop-run.invariant.at c.requires.end (omega arith) end in
     let last : c.args.end ≤ network.topo.limit = epoch_last network c.args.end c.requires.end in
     let front : TookFront (g.O.Sink.taken c.loop-run.out) (rows_text c.in-Ok.rows.items) (g.O.Sink.taken c.write.new.sink) =
@@ -52,9 +53,9 @@ pub loop-run-preserved : goal.loop-run-preserved
 loop-run-preserved g c =
     let network : ScenarioOf = c.args.network.now in
     let after = c.in-Ok.ensures.after in
-    let floor : c.epoch.new.self.floor ≡ min (c.loop-run.run.floor + 262144) c.loop-run.run.scenario.topo.limit = ap (λ (r : RunAt). r.floor) after in
-    let end : c.epoch.new.self.floor ≡ min (c.loop-run.run.floor + 262144) network.topo.limit =
-    subst (λ (s : ScenarioOf). c.epoch.new.self.floor ≡ min (c.loop-run.run.floor + 262144) s.topo.limit) c.loop-run.invariant.same floor in
+    let floor : c.epoch.new.self.floor ≡ min (c.loop-run.run.floor + epoch) c.loop-run.run.scenario.topo.limit = ap (λ (r : RunAt). r.floor) after in
+    let end : c.epoch.new.self.floor ≡ min (c.loop-run.run.floor + epoch) network.topo.limit =
+    subst (λ (s : ScenarioOf). c.epoch.new.self.floor ≡ min (c.loop-run.run.floor + epoch) s.topo.limit) c.loop-run.invariant.same floor in
     let took : g.O.Sink.taken c.write.new.sink ≡ extended (g.O.Sink.taken c.loop-run.out) (rows_text c.in-Ok.rows.items) =
     c.in-Ok-write.ensures.taken ∙ ap (λ (l : List Row). extended (g.O.Sink.taken c.loop-run.out) (rows_text l)) c.as_slice.ensures.value in
     record {

@@ -1,4 +1,5 @@
 use Rattle.std.proofs.Common.{◌≡◌, ◌+◌, false, min, sym, subst, ap, ◌∙◌, arith}
+use Rattle.world_core.specs.Kept.{epoch}
 use Rattle.node_runner.specs.Scenario.{ScenarioOf}
 use Rattle.checkpoint_text.specs.Onward.{SavedAt, onward}
 use Rattle.checkpoint_text.specs.Paused.{IsPaused}
@@ -16,7 +17,7 @@ invariant_of-self-2 c =
     let i = c.self.inside in
     let same : c.args.scenario.now ≡ i.scenario.value = c.requires.same ∙ ap (λ (a : SavedAt). a.scenario) (sym c.self.view_is) in
     let below = c.self.invariant.within in
-    let e : c.min-end.result ≡ min (i.floor + 262144) i.limit = c.min-end.ensures in
+    let e : c.min-end.result ≡ min (i.floor + epoch) i.limit = c.min-end.ensures in
     record {
       scenario = c.self.invariant.scenario;
       limit = c.self.invariant.limit;

@@ -1,5 +1,6 @@
 use Rattle.std.proofs.Common.{◌≡◌, ℕ, ◌+◌, ◌++◌, ◌≤◌, List, false, min, sym, subst, ap, ◌∙◌, arith}
 use Rattle.world_core.specs.declared.air.Send.{Send}
+use Rattle.world_core.specs.Kept.{epoch}
 use Rattle.node_runner.specs.Scenario.{ScenarioOf, IsScenario, fleet_of}
 use Rattle.node_runner.specs.Run.{RunAt, kept_at, rows_upto}
 use Rattle.fleet_plain.specs.Kept.{AreOrdered}
@@ -19,7 +20,7 @@ invariant_of-self-2 c =
     let i = c.self.inside in
     let same : c.args.scenario.now ≡ i.scenario.value = c.requires.same ∙ ap (λ (r : RunAt). r.scenario) (sym c.self.view_is) in
     let below = c.self.invariant.within in
-    let e : c.min-end.result ≡ min (i.floor + 262144) i.limit = c.min-end.ensures in
+    let e : c.min-end.result ≡ min (i.floor + epoch) i.limit = c.min-end.ensures in
     let last = c.self.invariant.limit in
     let limit = ap (λ (s : ScenarioOf). s.topo.limit) same in
     let ordered : AreOrdered c.rows_to.new.log.sends c.in_ok-kept.kept.items = subst (λ (l : List Send). AreOrdered l c.in_ok-kept.kept.items) c.sends.ensures c.in_ok-kept.ensures in

@@ -1,4 +1,5 @@
 use Rattle.std.proofs.Common.{◌≡◌, ℕ, ◌+◌, ◌++◌, Option, IfSome, min, refl, sym, subst, ap, ◌∙◌, arith}
+use Rattle.world_core.specs.Kept.{epoch}
 use Rattle.node_runner.specs.Scenario.{ScenarioOf, fleet_of}
 use Rattle.node_runner.specs.Run.{RunAt, rows_upto}
 use Rattle.fleet_threads.specs.declared.parts.Parts.{Parts}
@@ -10,7 +11,7 @@ invariant_of-self-2 g c =
     let i = c.self.inside in
     let sc : ScenarioOf = c.args.scenario.now in
     let same : sc ≡ i.scenario.value = c.requires.same ∙ ap (λ (r : RunAt). r.scenario) (sym c.self.view_is) in
-    let e : c.min-end.result ≡ min (i.floor + 262144) i.limit = c.min-end.ensures in
+    let e : c.min-end.result ≡ min (i.floor + epoch) i.limit = c.min-end.ensures in
     record {
       scenario = c.self.invariant.scenario;
       limit = c.self.invariant.limit;
@@ -33,7 +34,7 @@ through-requires-clause-epoch g c κs within =
     let same : sc ≡ i.scenario.value = c.requires.same ∙ ap (λ (r : RunAt). r.scenario) (sym c.self.view_is) in
     let lim : i.limit ≡ sc.topo.limit = c.self.invariant.limit ∙ ap (λ (s : ScenarioOf). s.topo.limit) (sym same) in
     let below = c.self.invariant.within in
-    let e : c.min-end.result ≡ min (i.floor + 262144) i.limit = c.min-end.ensures in
+    let e : c.min-end.result ≡ min (i.floor + epoch) i.limit = c.min-end.ensures in
     record { sound = c.lawful_topo-lawful.ensures.sound; world = refl; rises = omega arith; span = omega arith; within = omega arith }
 
 pub returns-clause-rows : goal.returns-clause-rows
@@ -47,5 +48,5 @@ pub returns-clause-after : goal.returns-clause-after
 returns-clause-after g c =
     let view = c.self.view_is in
     let limit = c.self.invariant.limit ∙ ap (λ (r : RunAt). r.scenario.topo.limit) view in
-    let end = c.min-end.ensures ∙ (λ j. min (ap (λ (r : RunAt). r.floor) view j + 262144) (limit j)) in
+    let end = c.min-end.ensures ∙ (λ j. min (ap (λ (r : RunAt). r.floor) view j + epoch) (limit j)) in
     λ j. record { scenario = ap (λ (r : RunAt). r.scenario) view j; floor = end j; failed = sym c.requires.sound j }

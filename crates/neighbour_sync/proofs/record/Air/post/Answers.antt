@@ -3,7 +3,8 @@ use Rattle.world_core.specs.Sends.{IsSendNumber}
 use Rattle.world_core.specs.Posted.{sent_of}
 use Rattle.world_core.proofs.Records.{in_nodes, record_after}
 use Rattle.neighbour_sync.specs.declared.record.Air.TheInside.{Inside}
-use Rattle.neighbour_sync.specs.Record.{AirRecord, epoch}
+use Rattle.world_core.specs.Kept.{epoch}
+use Rattle.neighbour_sync.specs.Record.{AirRecord}
 use Rattle.neighbour_sync.specs.Held.{record_of}
 use Rattle.neighbour_sync.proofs.Keeps.{room_left, held_posted}
 use Rattle.neighbour_sync.proofs.record.Air.post.Goals as goal

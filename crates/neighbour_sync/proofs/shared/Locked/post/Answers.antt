@@ -1,7 +1,8 @@
 use Rattle.std.proofs.Common.{◌+◌, ◌<◌, ℕ, sym, subst, ◌∙◌}
 use Rattle.world_core.specs.declared.world.WorldFacts.{WorldFacts}
 use Rattle.world_core.specs.Sends.{IsSendNumber}
-use Rattle.neighbour_sync.specs.Record.{AirRecord, IsPost, epoch}
+use Rattle.world_core.specs.Kept.{epoch}
+use Rattle.neighbour_sync.specs.Record.{AirRecord, IsPost}
 use Rattle.neighbour_sync.proofs.shared.Locked.post.Goals as goal
 
 pub post-requires-clause-table : goal.post-requires-clause-table
