@@ -516,7 +516,7 @@ def drawn_logs(draw):
     return lines
 
 
-EPOCH = 262144
+EPOCH = 1048576
 
 
 class Record:

@@ -38,8 +38,8 @@ cp "$top"/bench/make0/* .
 report "the network of make 0" 8000000 run --plain make0.toml
 
 # The memory of a run does not grow with its cycles.
-network 2 ring 500000 "window = [0, 0]" >short.toml
-report "ring, 2 nodes, 10^6 cycles" 1000000 run --plain short.toml
+network 2 ring 5000000 "window = [0, 0]" >short.toml
+report "ring, 2 nodes, 10^7 cycles" 10000000 run --plain short.toml
 network 2 ring 50000000 "window = [0, 0]" >long.toml
 report "ring, 2 nodes, 10^8 cycles" 100000000 run --plain long.toml
 

@@ -1,10 +1,11 @@
 #!/usr/bin/env bash
 # Speed and memory of `save` and `resume`: bench/resume.sh [PROGRAM] (the program that ./avrora builds where absent). Each network
-# is cut behind its first epoch of 262,144 cycles. Of the fastest of five runs it prints the processor time in user mode that the
+# is cut behind its first epoch of 1,048,576 cycles. Of the fastest of five runs it prints the processor time in user mode that the
 # cycles behind the cut take with `resume`, and with `run --plain` (the whole run less `head`), and how many times as long that
 # is; where valgrind is installed, the same by host instructions. Then what a state of 64 nodes takes to write and to read, what
 # large and hostile texts take, and the memory of long runs.
 set -eu
+epoch=1048576
 . "$(dirname "$0")/program.sh"
 cp "$top"/bench/ring.hex "$top"/bench/sleep.hex "$top"/bench/make0/* "$work"
 cd "$work"
@@ -45,12 +46,12 @@ host() {
 
 # networks MOST: their files, of so many cycles of nodes.
 networks() {
-    network 8 ring $(($1 / 8 + 262144)) >ring8.toml
-    network 64 ring $(($1 / 64 + 262144)) >ring64.toml
-    network 8 ring $(($1 / 8 + 262144)) "latency = 100" "byte_time = 256" >ring8_100.toml
-    network 8 ring $(($1 / 8 + 262144)) "latency = 1" "byte_time = 256" >ring8_1.toml
-    sed "s/^cycles.*/cycles = $(($1 / 8 + 262144))/" make0.toml >made.toml
-    network 64 sleep $(($1 / 8 + 262144)) >sleep64.toml
+    network 8 ring $(($1 / 8 + epoch)) >ring8.toml
+    network 64 ring $(($1 / 64 + epoch)) >ring64.toml
+    network 8 ring $(($1 / 8 + epoch)) "latency = 100" "byte_time = 256" >ring8_100.toml
+    network 8 ring $(($1 / 8 + epoch)) "latency = 1" "byte_time = 256" >ring8_1.toml
+    sed "s/^cycles.*/cycles = $(($1 / 8 + epoch))/" make0.toml >made.toml
+    network 64 sleep $(($1 / 8 + epoch)) >sleep64.toml
 }
 
 all() {
@@ -70,7 +71,7 @@ if command -v valgrind >/dev/null; then
 fi
 
 # A state of 64 nodes, written and read: a run of no more than the first epoch, and of one cycle behind it.
-network 64 ring 262145 >cut.toml
+network 64 ring $((epoch + 1)) >cut.toml
 "$program" save cut.toml 1 >state
 read -r head _ < <(fastest head cut.toml 1)
 read -r save _ < <(fastest save cut.toml 1)
@@ -80,15 +81,15 @@ echo "a state of 64 nodes, $(wc -c <state) bytes: run to it $head s, with its te
 # Texts of 4 MiB: lines of nothing, one number, many numbers, and a state with as many sends as there is room for.
 head -c 4194304 </dev/zero | tr '\0' '\n' >lines.state
 { printf 'avrora state 1\ncycle '; head -c 4194282 </dev/zero | tr '\0' 1; echo; } >number.state
-{ printf 'avrora state 1\ncycle 262144\ncore 0'; yes ' 1' | tr -d '\n' | head -c 4194260; echo; } >numbers.state 2>/dev/null
-{ grep -v '^send\|^end' state; awk 'BEGIN { for (t = 256002; t < 262144; t++) for (k = 0; k < 64; k++) print "send " k, t, "55" }' | head -n 200000; echo end; } >sends.state 2>/dev/null
+{ printf 'avrora state 1\ncycle %d\ncore 0' $epoch; yes ' 1' | tr -d '\n' | head -c 4194260; echo; } >numbers.state 2>/dev/null
+{ grep -v '^send\|^end' state; awk -v e=$epoch 'BEGIN { for (t = e - 6142; t < e; t++) for (k = 0; k < 64; k++) print "send " k, t, "55" }' | head -n 200000; echo end; } >sends.state 2>/dev/null
 for name in lines number numbers sends; do
     read -r seconds kib < <(fastest resume cut.toml $name.state)
     echo "$name, $(wc -c <$name.state) bytes: $seconds s, $kib KiB at most; $(head -c 80 err)"
 done
 
 # The memory of a run does not grow with its cycles.
-for cycles in 1000000 100000000; do
+for cycles in 2000000 100000000; do
     network 2 ring $cycles >long.toml
     "$program" save long.toml 1 >state
     /usr/bin/env time -o time -f '%U %M' "$program" resume long.toml state >/dev/null

@@ -70,7 +70,7 @@ network 8 mixed 5000000 "latency = 3072" "byte_time = 3072" >apart.toml
 report "8 nodes that do not use the radio" apart.toml
 network 8 ring 5000000 "latency = 3072" "byte_time = 3072" >ring8.toml
 report "ring of 8, latency 3,072" ring8.toml
-network 64 ring 600000 "latency = 3072" "byte_time = 3072" >ring64.toml
+network 64 ring 2400000 "latency = 3072" "byte_time = 3072" >ring64.toml
 report "ring of 64, latency 3,072" ring64.toml
 sed 's/^cycles.*/cycles = 5000000/' make0.toml >make5.toml
 report "make 0, five times as long" make5.toml
@@ -79,7 +79,7 @@ network 8 flood 10000000 "latency = 300" "byte_time = 1024" >flood8.toml
 report "ring of 8 with the program of flood" flood8.toml
 network 8 ring 2000000 "latency = 1" "byte_time = 256" >close8.toml
 report "ring of 8, latency 1, byte time 256" close8.toml
-network 64 ring 200000 "latency = 1" "byte_time = 256" >close64.toml
+network 64 ring 1200000 "latency = 1" "byte_time = 256" >close64.toml
 report "ring of 64, latency 1, byte time 256" close64.toml
 network 8 sleep 100000000 "latency = 3072" "byte_time = 3072" >sleep8.toml
 report "8 nodes asleep but for a timer, 100 million cycles" sleep8.toml

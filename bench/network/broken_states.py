@@ -261,8 +261,8 @@ def largest():
     yield b"\n" * MOST_STATE
     yield b"\n" * (MOST_STATE + 1)
     yield b"avrora state 1\ncycle " + b"1" * (MOST_STATE - 22) + b"\n"
-    yield b"avrora state 1\ncycle 262144\ncore 0 " + b"0 " * (MOST_STATE // 2 - 20)
-    yield b"avrora state 1\ncycle 262144\ncore 0 " + b"9" * (MOST_STATE - 40) + b"\n"
+    yield b"avrora state 1\ncycle %d\ncore 0 " % EPOCH + b"0 " * (MOST_STATE // 2 - 20)
+    yield b"avrora state 1\ncycle %d\ncore 0 " % EPOCH + b"9" * (MOST_STATE - 40) + b"\n"
 
 
 # ---- the comparison

@@ -36,7 +36,7 @@ def state_by_hand():
     io = bytearray(224)
     for at, byte in ((0x54, 0x01), (0x71, 0xF8), (0x72, 0xFE), (0x73, 0xFF), (0x9B, 0x20), (0x9D, 0x06)):
         io[at - 0x20] = byte
-    lines = ["avrora state 1", "cycle 262144", *(f"{word} 0 {numbers}" for word, numbers in STOPPED_BY_HAND.items())]
+    lines = ["avrora state 1", f"cycle {EPOCH}", *(f"{word} 0 {numbers}" for word, numbers in STOPPED_BY_HAND.items())]
     return "\n".join(lines + [f"io 0 {io.hex().upper()}", "sram 0 " + "00" * 4096, "end", ""]).encode()
 
 
@@ -135,9 +135,9 @@ def broken(it, state):
     changes = {
         "cycle_5": (1, b"cycle 5"),
         "cycle_0": (1, b"cycle 0"),
-        "cycle_limit": (1, b"cycle 524288"),
+        "cycle_limit": (1, b"cycle %d" % (2 * EPOCH)),
         "cycle_wide": (1, b"cycle 4835703278458516698824704"),
-        "cycle_form": (1, b"cycle 0262144"),
+        "cycle_form": (1, b"cycle 0%d" % EPOCH),
         "title": (0, b"avrora state 2"),
         "rampz": (2, lines[2].replace(b" 4 0 0 0 0 6 4", b" 4 2 0 0 0 6 4")),
         "cause": (2, lines[2].replace(b" 6 4", b" 27 4")),
@@ -148,10 +148,10 @@ def broken(it, state):
         "cut_in_a_line": (2, lines[2][:30]),
         "io_bit": (5, lines[5][:5] + b"80" + lines[5][7:]),
         "lower_case": (6, lines[6][:7] + b"aA" + lines[6][9:]),
-        "send_of_nobody": (7, b"send 1 262143 55\nend"),
-        "send_too_old": (7, b"send 0 256000 55\nend"),
-        "send_at_the_cycle": (7, b"send 0 262144 55\nend"),
-        "send_twice": (7, b"send 0 262143 55\nsend 0 262143 55\nend"),
+        "send_of_nobody": (7, b"send 1 %d 55\nend" % (EPOCH - 1)),
+        "send_too_old": (7, b"send 0 %d 55\nend" % (EPOCH - 6_144)),
+        "send_at_the_cycle": (7, b"send 0 %d 55\nend" % EPOCH),
+        "send_twice": (7, b"send 0 %d 55\n" % (EPOCH - 1) * 2 + b"end"),
         "behind_end": (7, b"end\n"),
     }
     for name, (place, line) in changes.items():
@@ -160,7 +160,7 @@ def broken(it, state):
         it.file(f"{name}.state", b"\n".join(lines[:place] + [line] + rest) + b"\n" * (not rest))
         it.call(f"resume stopped.toml {name}.state")
     it.about("Another state of that scenario: a byte on the air, which nobody hears.")
-    it.file("on_the_air.state", b"\n".join(lines[:7] + [b"send 0 262143 55", b"end", b""]))
+    it.file("on_the_air.state", b"\n".join(lines[:7] + [b"send 0 %d 55" % (EPOCH - 1), b"end", b""]))
     it.call("resume stopped.toml on_the_air.state")
 
 
@@ -168,7 +168,7 @@ def cases(folder):
     it = Cases(folder)
     it.about("A node that stopped with a frame under way, whose end is behind the state's cycle.")
     it.file("pwm.hex", PWM)
-    it.file("stopped.toml", 'cycles = 300000\nnode = [{image = "pwm.hex"}]\n')
+    it.file("stopped.toml", f'cycles = {EPOCH + 40_000}\nnode = [{{image = "pwm.hex"}}]\n')
     it.cut("stopped.toml", 1)
     state = it.held["stopped_1.state"]
     assert state == state_by_hand()
@@ -191,8 +191,8 @@ def cases(folder):
     for k in range(8):
         it.file(f"make0_{k}.hex", image(words_of(0, k)))
     links = "".join(f"[[link]]\nfrom = {k}\nto = {(k + 1) % 8}\n" for k in range(8))
-    it.file("make0.toml", "cycles = 1000000\nlatency = 1\nbyte_time = 512\n" + "".join(f'[[node]]\nimage = "make0_{k}.hex"\n' for k in range(8)) + links)
-    for epochs in (1, 2, 3):
+    it.file("make0.toml", f"cycles = {2 * EPOCH + 20_000}\nlatency = 1\nbyte_time = 512\n" + "".join(f'[[node]]\nimage = "make0_{k}.hex"\n' for k in range(8)) + links)
+    for epochs in (1, 2):
         it.cut("make0.toml", epochs, keeps=epochs == 1)
     return it
 

@@ -3,6 +3,7 @@ import random
 from pathlib import Path
 
 from instructions import TABLE
+from states import EPOCH
 
 HERE = Path(__file__).resolve().parent
 SPL, SPH, DDRB, PORTB, MCUCR = 0x3D, 0x3E, 0x17, 0x18, 0x35
@@ -237,11 +238,8 @@ def drawn(number, nodes_most=8, cycles_most=8000):
     return Drawn(document, images)
 
 
-EPOCH = 262_144
-
-
 def late(number):
-    """A drawn network whose nodes sleep up to about cycle 262,144, and send and sample on both sides of it: there a run
+    """A drawn network whose nodes sleep up to about the end of an epoch, and send and sample on both sides of it: there a run
     drops what can no longer be heard."""
     rng = random.Random(f"late {number}")
     nodes = rng.randrange(2, 5)

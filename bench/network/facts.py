@@ -11,6 +11,7 @@ from pathlib import Path
 from case_lines import CaseFile, Files, folder_of_words
 from draw import aimed, drawn, hex_text, late, ring
 from network import MOST_IMAGE, MOST_SCENARIO, Refused, open_network
+from states import EPOCH
 
 HERE = Path(__file__).resolve().parent
 EXAMPLES = HERE.parent.parent / "examples"
@@ -156,15 +157,15 @@ def worked(folder):
     it.file("late.toml", two(images=("net.hex", "net.hex"), cycles=800, rest=order.replace("200", "800").replace("380", "1_099_511_627_776").replace("E080C0A1", "")))
     it.run("late.toml")
     it.about("More than an epoch of cycles.")
-    it.file("epochs.toml", 'cycles = 300_000\nwindow = [262_140, 262_150]\nnode = [{image = "loop.hex"}]\n')
+    it.file("epochs.toml", f'cycles = {EPOCH + 40_000}\nwindow = [{EPOCH - 4}, {EPOCH + 6}]\nnode = [{{image = "loop.hex"}}]\n')
     it.run("epochs.toml")
     it.about("A node that stops in the first epoch; in the second the others send to each other, and sample what it never sent.")
     links = "".join(f"[[link]]\nfrom = {j}\nto = {k}\n" for j in range(3) for k in range(3) if j != k)
-    orders = "".join(f"[[input]]\nnode = {k}\nat = {at}\nevery = 700\nhex = \"{order}\"\n" for k, at, order in ((1, 261_900, "E0C0E0"), (2, 262_000, "C0E0C1")))
-    it.file("stopped.toml", two(images=("pwm.hex", "net.hex", "net.hex"), links=False, cycles=265_000, rest=links + orders))
+    orders = "".join(f"[[input]]\nnode = {k}\nat = {at}\nevery = 700\nhex = \"{order}\"\n" for k, at, order in ((1, EPOCH - 244, "E0C0E0"), (2, EPOCH - 144, "C0E0C1")))
+    it.file("stopped.toml", two(images=("pwm.hex", "net.hex", "net.hex"), links=False, cycles=EPOCH + 3_000, rest=links + orders))
     it.run("stopped.toml")
     it.about("All nodes stop in the first of three epochs.")
-    it.file("all_stopped.toml", two(images=("erased.hex", "pwm.hex"), cycles=600_000))
+    it.file("all_stopped.toml", two(images=("erased.hex", "pwm.hex"), cycles=2 * EPOCH + 100_000))
     it.run("all_stopped.toml")
     it.about("Thirty million cycles: one instruction of one cycle, then one in each two.")
     it.file("long.toml", 'version = 3\ncycles = 30_000_000\nnode = [{image = "loop.hex"}]\n')
@@ -328,7 +329,7 @@ def drawn_networks(folder):
 
 def late_networks(it):
     """Networks that send and sample on both sides of the end of an epoch; many bytes are just heard, or just not."""
-    it.about("Networks that sleep up to about cycle 262,144, and send and sample on both sides of it.")
+    it.about(f"Networks that sleep up to about cycle {EPOCH:,}, and send and sample on both sides of it.")
     it.file("net.hex", (HERE / "net.hex").read_text())
     for number in range(4):
         base = late(number)

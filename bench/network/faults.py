@@ -14,10 +14,10 @@ from case_lines import CaseFile, Files, fnv, folder_of_words
 from draw import foreign, hex_text, ring
 from facts import two
 from network import Refused, open_network
+from states import EPOCH
 from watch import frame_lines, profile_lines, read_window, sender
 
 HERE = Path(__file__).resolve().parent
-EPOCH = 262_144
 LOOP = "ldi r16, 1\nhere:\nrjmp here\n"
 
 HEAD = """\

@@ -70,8 +70,8 @@ def polls(it):
     it.case("sbis_cut", "", ["100 0 end 68 running"], 100, (0, send))
     it.case("sbis_late", "", ["100 0 instr 0004 sbis 0x0B, 5", "101 0 instr 0005 rjmp .-4", "103 0 instr 0004 sbis 0x0B, 5", "110 0 end 75 running"],
             110, (0, send), window=(100, 104))
-    # SBIC begins in 3 j, RJMP in 3 j + 1: below 262,150 that is 87,384 and 87,383 times
-    it.case("sbic", "By SBIC, over the end of an epoch.", ["262150 0 end 174767 running"], 262_150, (0, [word("sbic", A=UCSRA, b=5)] + back(1)))
+    # SBIC begins in 3 j, RJMP in 3 j + 1: below 1,048,582 that is 349,528 and 349,527 times
+    it.case("sbic", "By SBIC, over the end of an epoch.", ["1048582 0 end 699055 running"], 1_048_582, (0, [word("sbic", A=UCSRA, b=5)] + back(1)))
     # IN begins in 2 + 4 j, in 102 first behind an arrival in 100. SBRS skips in 103 and 104, UDR0 is read in 105 and written in 106: the
     # frame ends in 266. 2 + 25 * 3 + 4 instructions, and RJMP to itself from 107 on, 97 times below 300.
     it.case("in_sbrs", "By IN, SBRS and RJMP, up to a byte that arrives.", ["266 0 serial 41", "300 0 end 178 running"], 300,

@@ -41,8 +41,8 @@ def of_folder(folder):
 def of_bench():
     for name, nodes, cycles, links, rest in (
         ("ring", 8, 1_250_000, True, ""), ("ring", 64, 600_000, True, "latency = 1\nbyte_time = 256\n"), ("sleep", 64, 3_000_000, False, ""),
-        ("mixed", 4, 900_000, False, "window = [524_288, 524_400]\n"), ("uart", 2, 800_000, False, ""), ("kernel", 2, 800_000, False, ""),
-        ("ticks", 2, 800_000, False, "window = [262_100, 262_200]\n"),
+        ("mixed", 4, 900_000, False, f"window = [{2 * EPOCH}, {2 * EPOCH + 112}]\n"), ("uart", 2, 800_000, False, ""), ("kernel", 2, 800_000, False, ""),
+        ("ticks", 2, 800_000, False, f"window = [{EPOCH - 44}, {EPOCH + 56}]\n"),
     ):
         text = f"cycles = {cycles}\n{rest}" + f'[[node]]\nimage = "{name}.hex"\n' * nodes
         if links:

@@ -22,6 +22,7 @@ from pathlib import Path
 
 from compare import written
 from draw import drawn
+from states import EPOCH
 
 # The most spans that a scenario may have.
 MOST_SPANS = 4_096
@@ -47,7 +48,7 @@ def network_of(number):
     """A drawn network: most are small and short, some have up to 64 nodes, some run for up to eight epochs."""
     rng = random.Random(f"stress {number}")
     nodes_most = rng.choice((4, 8, 16, 64))
-    cycles_most = rng.choice((20_000, 300_000, 2_000_000 if nodes_most <= 16 else 600_000))
+    cycles_most = rng.choice((20_000, EPOCH + 200_000, (8 if nodes_most <= 16 else 2) * EPOCH))
     it = drawn(rng.randrange(1 << 40), nodes_most, cycles_most)
     # the trace of each instruction would be most of the time
     it.document.pop("window", None)

@@ -24,6 +24,7 @@ from pathlib import Path
 from case_lines import CaseFile
 from draw import DDRB, SPCR, SPDR, SPH, SPL, SPSR, drawn, hex_text, ldi, out, word
 from network import Folder, open_network
+from states import EPOCH
 
 TOP = Path(__file__).resolve().parent.parent.parent
 OWNS = ("instr", "enter", "stop")
@@ -91,9 +92,15 @@ def frame_lines(sends, nodes):
 # ---- networks whose nodes send drawn bytes
 
 
-def sender(listed, forever=False):
-    """An image that sends these bytes by the radio, some 1,100 cycles apart, and then stands still, or begins again."""
-    words = [ldi(16, 0x10), out(SPH, 16), ldi(16, 0xFF), out(SPL, 16), ldi(16, 1), out(DDRB, 16), ldi(16, 0x50), out(SPCR, 16)]
+# r17 to r19 are counted down to 0.
+COUNTDOWN = [word("subi", d=1, K=1), word("sbci", d=2, K=0), word("sbci", d=3, K=0), word("brbc", s=1, k=-4)]
+
+
+def sender(listed, forever=False, rounds=0):
+    """An image that waits for so many rounds of five cycles, sends these bytes by the radio, some 1,100 cycles apart, and then stands
+    still, or begins again."""
+    words = [] if rounds == 0 else [ldi(17, rounds % 256), ldi(18, rounds // 256 % 256), ldi(19, rounds // 65_536), *COUNTDOWN]
+    words += [ldi(16, 0x10), out(SPH, 16), ldi(16, 0xFF), out(SPL, 16), ldi(16, 1), out(DDRB, 16), ldi(16, 0x50), out(SPCR, 16)]
     calls = []
     for byte in listed:
         calls += [ldi(16, 1), "exchange", ldi(16, byte), "exchange", "wait"]
@@ -181,7 +188,7 @@ def examples(program):
     with tempfile.TemporaryDirectory() as work:
         for path in sorted(folder.glob("*.hex")):
             (Path(work) / path.name).write_bytes(path.read_bytes())
-            text = f'cycles = 300000\nwindow = [0, 20000]\nnode = [{{image = "{path.name}"}}]\n'
+            text = f'cycles = {EPOCH + 40_000}\nwindow = [0, 20000]\nnode = [{{image = "{path.name}"}}]\n'
             (Path(work) / f"{path.stem}-alone.toml").write_text(text)
         for path in sorted(folder.glob("*.toml")):
             (Path(work) / path.name).write_bytes(path.read_bytes())
@@ -252,8 +259,8 @@ def cases(folder):
         it.file(name, f"cycles = 60\nwindow = [{window[0]}, {window[1]}]\n{pair}")
         it.ran("monitor", name)
     it.about("The window ends in the first of two epochs, and in the second.")
-    for name, window in (("watch_first.toml", (100, 120)), ("watch_second.toml", (262_140, 262_150))):
-        it.file(name, lone("a.hex", 262_160, window))
+    for name, window in (("watch_first.toml", (100, 120)), ("watch_second.toml", (EPOCH - 4, EPOCH + 6))):
+        it.file(name, lone("a.hex", EPOCH + 16, window))
         it.ran("monitor", name)
     it.about("Frames: one behind a byte of preamble too many, one of no bytes, one in another that breaks off, and one that breaks off at the end.")
     for name, listed in (
@@ -268,9 +275,9 @@ def cases(folder):
         it.ran("sniff", f"{name}.toml")
     it.about("A frame whose bytes lie in two epochs, of two nodes the second.")
     rng = random.Random("epochs")
-    late = sender([0xAA] * 236 + [0xAA, 0xAA, 0x7E, 8] + [rng.randrange(256) for _ in range(8)])
+    late = sender([0xAA, 0xAA, 0xAA, 0x7E, 8] + [rng.randrange(256) for _ in range(8)], rounds=(EPOCH - 9_000) // 5)
     it.file("watch_late.hex", hex_text(late))
-    it.file("watch_late.toml", 'cycles = 290000\nbyte_time = 512\nnode = [{image = "a.hex"}, {image = "watch_late.hex"}]\n')
+    it.file("watch_late.toml", f'cycles = {EPOCH + 30_000}\nbyte_time = 512\nnode = [{{image = "a.hex"}}, {{image = "watch_late.hex"}}]\n')
     it.ran("sniff", "watch_late.toml")
     it.about("What is refused: as for `run --plain`.")
     it.file("watch_badnode.toml", 'cycles = 500\nnode = [{image = "sum.hex"}]\n')

@@ -147,7 +147,7 @@ sys.exit(6)
 RESUMER = f"""#!{sys.executable}
 import sys
 sys.stderr.write(sys.argv[1] + " " + sys.argv[3] + "\\n" + open(sys.argv[2]).read())
-sys.stdout.write("262145 0 sent 41\\n")
+sys.stdout.write("1048577 0 sent 41\\n")
 """
 
 
@@ -181,22 +181,22 @@ class Window(unittest.TestCase):
             self.assertIn("is no window", err)
 
     def test_from_a_state(self):
-        state = f"avrora state 1\ncycle {262_144}\nend\n"
-        scenario = 'cycles = 300_000\nnode = [{image = "x"}]\n'
+        state = f"avrora state 1\ncycle {1_048_576}\nend\n"
+        scenario = 'cycles = 1_300_000\nnode = [{image = "x"}]\n'
         with contextlib.ExitStack() as files:
             net = files.enter_context(scratch("net.toml", scenario))
             saved = files.enter_context(scratch("net.state", state))
             avrora = files.enter_context(scratch("avrora", RESUMER))
             os.chmod(avrora, 0o755)
             words = ["window", "--avrora", avrora, "--state", saved, net]
-            status, out, err = run_tool(*words, "262_144", "262_150")
-            self.assertEqual((status, out), (0, "262145 0 sent 41\n"))
+            status, out, err = run_tool(*words, "1_048_576", "1_048_582")
+            self.assertEqual((status, out), (0, "1048577 0 sent 41\n"))
             said, text = err.split("\n", 1)
             self.assertEqual(said, f"resume {saved}")
             whole = tomllib.loads(scenario)
-            self.assertEqual(tomllib.loads(text), whole | {"cycles": 262_150, "window": [262_144, 262_150]})
-            status, out, err = run_tool(*words, "262_143", "262_150")
-            why = f"{saved}: it is of cycle 262,144, and the window begins before that"
+            self.assertEqual(tomllib.loads(text), whole | {"cycles": 1_048_582, "window": [1_048_576, 1_048_582]})
+            status, out, err = run_tool(*words, "1_048_575", "1_048_582")
+            why = f"{saved}: it is of cycle 1,048,576, and the window begins before that"
             self.assertEqual((status, out, err), (2, "", f"window: {why}\n"))
 
     def test_no_trace(self):

@@ -25,7 +25,7 @@ def node(k, core=None, timers=None, ports=None, io=None, sram=None):
     return "\n".join(lines)
 
 
-def state(*lines, cycle=262_144):
+def state(*lines, cycle=1_048_576):
     return "\n".join(["avrora state 1", f"cycle {cycle}", *lines, "end", ""])
 
 
@@ -36,8 +36,8 @@ BUSY = node(
     0,
     {1: 0x1F, 26: 0x34, 32: 0x81, 33: 0x10F0, 34: 0x6A, 36: 3, 37: 1, 40: 1234},
     {0: 0x0A, 1: 5, 2: 9, 5: 1, 12: 0x1B, 13: 0x0102, 17: 0x1000, 18: 0x12, 19: 1},
-    {0: 1, 1: 0x18, 2: 6, 3: 47, 6: 1, 7: 0x7A, 9: 1, 10: 262_150, 11: 0x41, 12: 1, 13: 0x42}
-    | {14: 0x50, 16: 0xFF, 17: 1, 18: 262_144, 19: 2, 20: 1, 22: 1, 24: 3, 25: 1, 26: 0x5A, 27: 3, 28: 263_144},
+    {0: 1, 1: 0x18, 2: 6, 3: 47, 6: 1, 7: 0x7A, 9: 1, 10: 1_048_582, 11: 0x41, 12: 1, 13: 0x42}
+    | {14: 0x50, 16: 0xFF, 17: 1, 18: 1_048_576, 19: 2, 20: 1, 22: 1, 24: 3, 25: 1, 26: 0x5A, 27: 3, 28: 1_049_576},
     {0x37: 1, 0x9B: 0x20},
     {0x10F1: 0xDE, 0x100: 0x48},
 )
@@ -51,11 +51,11 @@ class Shown(unittest.TestCase):
         return out
 
     def test_a_busy_node(self):
-        out = self.inspect("-", stdin=state(BUSY, "send 0 262140 5B"))
+        out = self.inspect("-", stdin=state(BUSY, "send 0 1048572 5B"))
         self.assertEqual(
             out.splitlines(),
             [
-                "cycle 262,144, 1 node, 1 byte that may still be heard",
+                "cycle 1,048,576, 1 node, 1 byte that may still be heard",
                 "node 0: awake, 1,234 instructions, 3 cycles left of what it does, an instruction is owed",
                 "  processor  PC 006A, SP 10F0, SREG 81 IthsvnzC, RAMPZ 0",
                 "  r0 to r15  00 1F" + " 00" * 14,
@@ -67,17 +67,17 @@ class Shown(unittest.TestCase):
                 "ICR 1000, the next clock is blocked, TEMP 12",
                 "  timer 2    halted, TCNT 00, OCR 00",
                 "  timer 3    halted, TCNT 0000, OCRA 0000, OCRB 0000, OCRC 0000, ICR 0000",
-                "  USART0     UCSR0B 18, UCSR0C 06, UBRR 47, U2X, sends 41 'A' until cycle 262,150 (in 6), "
+                "  USART0     UCSR0B 18, UCSR0C 06, UBRR 47, U2X, sends 41 'A' until cycle 1,048,582 (in 6), "
                 "then 42 'B', received 7A 'z'",
-                "  SPI        SPCR 50, SPDR FF, SPIF, SPSR showed SPIF, transfers 02 until cycle 262,144 (in 0)",
-                "  radio      2 answers left, of heard 1 5A 3, busy until cycle 263,144 (in 1,000)",
+                "  SPI        SPCR 50, SPDR FF, SPIF, SPSR showed SPIF, transfers 02 until cycle 1,048,576 (in 0)",
+                "  radio      2 answers left, of heard 1 5A 3, busy until cycle 1,049,576 (in 1,000)",
                 "  I/O        DDRB 01, UCSR1A 20",
-                "node 0 sent 5B '[' in cycle 262,140, 4 before",
+                "node 0 sent 5B '[' in cycle 1,048,572, 4 before",
             ],
         )
 
     def test_a_stopped_node(self):
-        out = self.inspect("-n", "1", "-", stdin=state(BUSY, STOPPED, "send 0 262140 5B"))
+        out = self.inspect("-n", "1", "-", stdin=state(BUSY, STOPPED, "send 0 1048572 5B"))
         self.assertEqual(out.splitlines()[1], "node 1: stopped: pwm mode, 4 instructions")
         self.assertIn("sends 07 until cycle 162, which is over\n", out)
         self.assertNotIn("node 0", out)
@@ -107,23 +107,23 @@ class Compared(unittest.TestCase):
         self.assertEqual(self.compare(state(BUSY), state(BUSY)), (0, ["nothing differs"]))
 
     def test_differences(self):
-        one = state(BUSY, "send 0 262140 5B")
+        one = state(BUSY, "send 0 1048572 5B")
         core = {1: 0x1F, 26: 0x34, 32: 0x80, 33: 0x10F0, 34: 0x6B, 40: 1235}
         other = node(0, core, {0: 0x0A, 1: 6, 2: 9, 5: 1}, None, {0x37: 3})
-        two = state(other, "send 0 262140 5C", cycle=524_288)
+        two = state(other, "send 0 1048572 5C", cycle=2_097_152)
         status, lines = self.compare(one, two)
         self.assertEqual(status, 1)
         for line in (
-            "cycle: 262144, 524288",
+            "cycle: 1048576, 2097152",
             "node 0 SREG: 81 IthsvnzC, 80 Ithsvnzc",
             "node 0 PC: 006A, 006B",
             "node 0 instructions: 1234, 1235",
             "node 0 TCNT0: 05, 06",
-            "node 0 frame end: 262150, 0",
+            "node 0 frame end: 1048582, 0",
             "node 0 0x0037 DDRB: 01, 03",
             "node 0 0x0100: 48, 00",
-            "node 0 sent 5B in cycle 262140: only in the first",
-            "node 0 sent 5C in cycle 262140: only in the second",
+            "node 0 sent 5B in cycle 1048572: only in the first",
+            "node 0 sent 5C in cycle 1048572: only in the second",
         ):
             self.assertIn(line, lines)
         self.assertNotIn("SP:", " ".join(lines))
