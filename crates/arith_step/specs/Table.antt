@@ -1,11 +1,8 @@
 -- The table of the instructions on registers (AVR Instruction Set Manual, the operation, flags and cycles of each):
 -- the operands of its row in the shape of instruction that it has. A flag number and a bit number are taken modulo 8.
-use Rattle.std.specs.Prelude.{ℕ, ◌%◌, Bool, true, false, if◌then◌else◌, bit_and, bit_or, bit_xor, slice_index, nat_le}
+use Rattle.std.specs.Prelude.{ℕ, ◌%◌, true, false, bit_and, bit_or, bit_xor, slice_index, nat_le}
 use Rattle.avr_decoder.specs.declared.op.Op.{Op}
 use Rattle.avr_decoder.specs.declared.op.Op.TheVariants as op
-use Rattle.avr_decoder.specs.Class.{class_of}
-use Rattle.avr_decoder.specs.declared.op.Class.{Class}
-use Rattle.avr_decoder.specs.declared.op.Class.TheVariants.{Arith}
 use Rattle.arith_step.specs.declared.products.MulKind.TheVariants as kind
 use Rattle.arith_step.specs.Bytes.{complemented, negated, incremented, decremented, shifted}
 use Rattle.arith_step.specs.Words.{added_word, subtracted_word}

@@ -1,7 +1,6 @@
 // A flash and its instructions.
-ghost use Rattle.std.specs.Prelude.{◌≡◌, ◌≤◌, IfOk, map, vec_len};
-ghost use Rattle.std.specs.List.{range_with_len};
-ghost use Rattle.avr_program.specs.Program.{op_of, slot_of};
+ghost use Rattle.std.specs.Prelude.{◌≡◌, IfOk};
+ghost use Rattle.avr_program.specs.Program.{op_of, slots_below};
 
 use avr_base::NoMemory;
 use avr_decoder::{Op, decode};
@@ -16,8 +15,10 @@ pub struct Slot {
     pub fill: u16,
 }
 
-/// The flash of a node, and the instructions at its word addresses from 0 on, as far as the image gave words: of an
-/// instruction 8 bytes. A contract sees it as its flash.
+// How many words a program memory has.
+const WORDS: usize = 65_536;
+
+/// The flash of a node, and the instruction at each of its word addresses. A contract sees it as its flash.
 pub struct Decoded {
     flash: Flash,
     slots: Vec<Slot>,
@@ -31,16 +32,15 @@ impl Drop for Decoded {
 }
 
 impl Model for Decoded {
-    ghost use Rattle.std.specs.Prelude.{◌≡◌, map, vec_len};
-    ghost use Rattle.std.specs.List.{range_with_len};
+    ghost use Rattle.std.specs.Prelude.{◌≡◌};
     ghost use Rattle.ihex_loader.specs.Flash.{Image};
-    ghost use Rattle.avr_program.specs.Program.{slot_of};
+    ghost use Rattle.avr_program.specs.Program.{slots_below};
 
     ghost Value = { Image };
 
     ghost view = { λ p. p.flash };
 
-    ghost invariant = { λ p. p.slots.items ≡ map (slot_of p.flash.bytes) (range_with_len 0 (vec_len p.slots)) };
+    ghost invariant = { λ p. p.slots.items ≡ slots_below 65536 p.flash.bytes };
 }
 
 // The instruction at a word address.
@@ -50,20 +50,12 @@ fn op_in(flash: &Flash, pc: u16) -> Op
     decode(flash.word(pc), flash.word(pc.wrapping_add(1)))
 }
 
-// How many words the image gave, up to the last one: the word of a single last byte too.
-fn words(flash: &Flash) -> u32
-    ensures { result ≤ 65536 }
-{
-    flash.used().div_ceil(2)
-}
-
-// The instructions of the words that the image gave.
+// The instruction at each word address.
 fn slots_of(alloc: Global, flash: &Flash) -> Result<Vec<Slot>, AllocError>
-    ensures { IfOk result (λ slots. slots.items ≡ map (slot_of flash.now.bytes) (range_with_len 0 (vec_len slots))) }
+    ensures { IfOk result (λ slots. slots.items ≡ slots_below 65536 flash.now.bytes) }
 {
-    let words = words(flash);
-    let mut slots = Vec::with_capacity(alloc, words as usize)?;
-    for pc in 0..words {
+    let mut slots = Vec::with_capacity(alloc, WORDS)?;
+    for pc in 0..WORDS {
         let op = op_in(flash, pc as u16);
         slots.push(Slot { op, fill: 0 })?;
     }
@@ -87,24 +79,11 @@ impl Decoded {
         &self.flash
     }
 
-    // The instruction at a word address behind those that the image gave.
-    #[inline(never)]
-    fn decoded_at(&self, pc: u16) -> Op
-        ensures { result ≡ op_of self.now.bytes pc }
-    {
-        op_in(&self.flash, pc)
-    }
-
-    /// The instruction whose first word is at the word address `pc`. After word 0xFFFF comes word 0.
+    /// What is at each word address.
     #[inline]
-    pub fn op(&self, pc: u16) -> Op
-        ensures { result ≡ op_of self.now.bytes pc }
+    pub fn slots(&self) -> &[Slot]
+        ensures { result.now ≡ slots_below 65536 self.now.bytes }
     {
-        let at = usize::from(pc);
-        if at < self.slots.len() {
-            self.slots[at].op
-        } else {
-            self.decoded_at(pc)
-        }
+        &self.slots
     }
 }

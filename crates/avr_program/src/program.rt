@@ -1,9 +1,9 @@
 // A program that nodes share.
 ghost use Rattle.std.specs.Prelude.{◌≡◌, IfOk};
 ghost use Rattle.ihex_loader.specs.Flash.{word_at};
-ghost use Rattle.avr_program.specs.Program.{op_of};
+ghost use Rattle.avr_program.specs.Program.{op_of, slots_below};
 
-use crate::decoded::Decoded;
+use crate::decoded::{Decoded, Slot};
 use avr_base::NoMemory;
 use avr_decoder::Op;
 use ihex_loader::Flash;
@@ -11,7 +11,8 @@ use std::alloc::Global;
 use std::marker::Model;
 use std::sync::Arc;
 
-/// The flash of a node, and its instructions, decoded once. Nodes with equal images hold one of them together, also in
+/// The flash of a node, and the instruction at each of its 65,536 word addresses, decoded once: 8 bytes an instruction,
+/// so 512 KiB a program beside the 128 KiB of the flash. Nodes with equal images hold one of them together, also in
 /// several threads: it is never written. A contract sees it as its flash.
 pub struct Program {
     decoded: Arc<Decoded>,
@@ -84,11 +85,29 @@ impl Program {
         self.flash().word(pc)
     }
 
+    /// What is at each word address, for many calls of `op_at` in a row.
+    #[inline]
+    pub fn slots(&self) -> &[Slot]
+        ensures { result.now ≡ slots_below 65536 self.now.bytes }
+    {
+        self.decoded.slots()
+    }
+
+    /// The instruction whose first word is at the word address `pc`, from its `slots`: one index. After word 0xFFFF
+    /// comes word 0.
+    #[inline(always)]
+    pub fn op_at<'a>(&self, slots: &'a [Slot], pc: u16) -> &'a Op
+        requires { slots.now ≡ slots_below 65536 self.now.bytes }
+        ensures { result.now ≡ op_of self.now.bytes pc }
+    {
+        &slots[usize::from(pc)].op
+    }
+
     /// The instruction whose first word is at the word address `pc`. After word 0xFFFF comes word 0.
     #[inline]
     pub fn op(&self, pc: u16) -> Op
         ensures { result ≡ op_of self.now.bytes pc }
     {
-        self.decoded.op(pc)
+        *self.op_at(self.slots(), pc)
     }
 }

@@ -125,22 +125,30 @@ impl LaggingBoard {
         true
     }
 
-    /// Passes the `n` cycles from `cycle` on, which is that of its clock, if no interrupt line is up, no frame and no
-    /// transfer ends in any of them and no line comes up before they are over, as far as what runs now tells: whether
-    /// it passed them.
+    /// The cycle that its clock shows.
     #[inline(always)]
-    pub fn leap_clear(&mut self, cycle: u64, n: u8) -> bool
-        requires now { self.old.clock ≡ cycle }
+    pub fn now(&self) -> u64
+        ensures value { result ≡ self.now.clock }
+        ensures early { result ≤ 2 ^ 40 }
+    {
+        self.board.clock.get()
+    }
+
+    /// Passes the `n` cycles from that of its clock on, if they are over by the beginning of the cycle `last`, no
+    /// interrupt line is up, no frame and no transfer ends in any of them and no line comes up before they are over, as
+    /// far as what runs now tells: whether it passed them.
+    #[inline(always)]
+    pub fn leap_clear(&mut self, last: u64, n: u8) -> bool
         requires some { 0 < n }
-        ensures idle { result ≡ true → IsIdle cycle n (unclocked self.old) }
-        ensures state { result ≡ true → unclocked self.new ≡ timers_leap cycle n (unclocked self.old) }
+        ensures within { result ≡ true → self.old.clock + n ≤ last }
+        ensures idle { result ≡ true → IsIdle self.old.clock n (unclocked self.old) }
+        ensures state { result ≡ true → unclocked self.new ≡ timers_leap self.old.clock n (unclocked self.old) }
         ensures clear { result ≡ true → (lines_of self.new).bits ≡ 0 }
-        ensures clock { result ≡ true → self.new.clock ≡ cycle + n }
+        ensures clock { result ≡ true → self.new.clock ≡ self.old.clock + n }
         ensures same { result ≡ false → self.new ≡ self.old }
     {
-        let clear = self.ahead.clear;
-        let end = cycle + u64::from(n);
-        if end > clear {
+        let end = self.board.clock.get() + u64::from(n);
+        if end > last || end > self.ahead.clear {
             return false;
         }
         self.board.clock = Clock::new(end);

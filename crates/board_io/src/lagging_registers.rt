@@ -222,6 +222,9 @@ impl Bus for LaggingBoard {
 
     ghost put_gives = { io_put };
 
+    // Get and put are called: twenty instructions may access a device, few do, and inlined into each of them they would
+    // crowd the node's loop.
+    #[inline(never)]
     #[tactic(auto, unfolding(crate::specs::Registers::io_get))]
     fn get(&mut self, at: u16) -> Result<u8, StopCause> {
         if at > LAST {
@@ -235,6 +238,7 @@ impl Bus for LaggingBoard {
         self.get_beside(at)
     }
 
+    #[inline(never)]
     #[tactic(auto, unfolding(crate::specs::Registers::io_put))]
     fn put(&mut self, at: u16, b: u8) -> Result<(), StopCause> {
         if at > LAST {

@@ -1,3 +1,4 @@
+pub mod Flags
 pub mod FlowKeeps
 pub mod FlowTakes
 pub mod MemoryKeeps

@@ -7,8 +7,9 @@ use Rattle.avr_base.specs.declared.stop.StopCause.{StopCause}
 use Rattle.avr_base.specs.Flags.{I, has_bit, with_flag}
 use Rattle.avr_decoder.specs.Words.{is_two_words}
 use Rattle.data_space.specs.declared.bus.Done.{Done}
+use Rattle.data_space.specs.declared.cpu.Core.{Core}
 use Rattle.data_space.specs.declared.cpu.Cpu.{Cpu}
-use Rattle.data_space.specs.Core.{advanced}
+use Rattle.data_space.specs.Core.{advanced, core_of}
 use Rattle.data_space.specs.Space.{Access, loaded}
 use Rattle.data_space.specs.Sequence.{done, popped_word, pushed_word, then_do}
 use Rattle.ihex_loader.specs.Flash.{word_at}
@@ -24,6 +25,10 @@ at_pc pc cpu = record cpu { pc = pc }
 -- the program address so many words, which may be negative, behind the next word
 abbrev pub relative : ℤ → Cpu → ℕ
 relative k cpu = (cpu.pc + 1 + cast_unsigned w16 k) % 65536
+
+-- what an instruction reports, and the SREG and program counter that it leaves
+abbrev pub reached : Done × Cpu → Done × Core
+reached ended = (ended.0, core_of ended.1)
 
 -- a jump: what it reports, and the core
 abbrev pub jumped : ℕ → ℕ → Cpu → Done × Cpu

@@ -1,9 +1,7 @@
 -- The table of the instructions on memory (AVR Instruction Set Manual, the operation, words and cycles of each): the
 -- operands of its row in the shape of instruction that it has. A bit number is taken modulo 8.
-use Rattle.std.specs.Prelude.{ℕ, ◌+◌, ◌%◌, Bool, true, false, List, Result, slice_index}
+use Rattle.std.specs.Prelude.{ℕ, ◌+◌, ◌%◌, true, false, List, Result, slice_index}
 use Rattle.avr_base.specs.declared.stop.StopCause.{StopCause}
-use Rattle.avr_decoder.specs.declared.op.Class.{Class}
-use Rattle.avr_decoder.specs.declared.op.Class.TheVariants.{Memory}
 use Rattle.avr_decoder.specs.declared.op.Op.{Op}
 use Rattle.avr_decoder.specs.declared.op.Op.TheVariants as op
 use Rattle.avr_decoder.specs.Words.{words_of}

@@ -1,11 +1,11 @@
 // The instructions that load from the flash. They have no access that could stop.
 ghost use Rattle.std.specs.Prelude.{◌≡◌, ◌<◌, false};
-ghost use Rattle.data_space.specs.Core.{advanced};
+ghost use Rattle.data_space.specs.Core.{advanced, general, registers_of, whole};
 ghost use Rattle.bus_step.specs.MemoryShapes.{extended_z, loads_extended, loads_extended_post_increment, loads_program, loads_program_post_increment, with_extended_z};
 
 use crate::accesses::{displaced, retire};
 use avr_base::Reg;
-use data_space::{Cpu, Done};
+use data_space::{Core, Done, Registers, pair, set_pair, set_reg};
 use ihex_loader::Flash;
 
 // Bytes of the flash, and of its half that Z alone can name.
@@ -23,68 +23,78 @@ fn z() -> Reg
 
 // The byte address that RAMPZ and Z name.
 #[inline]
-fn extended_z(cpu: &Cpu) -> u32
-    ensures value { result ≡ extended_z cpu.now }
+fn extended_z(regs: &Registers) -> u32
+    ensures value { result ≡ extended_z (general regs.now) }
     ensures within { result < 131072 }
 {
-    let half = if cpu.rampz { HALF } else { 0 };
-    half + u32::from(cpu.pair(z()))
+    let half = if regs.rampz { HALF } else { 0 };
+    half + u32::from(pair(regs, z()))
 }
 
 #[inline]
-fn set_extended_z(at: u32, cpu: &mut Cpu)
+fn set_extended_z(at: u32, regs: &mut Registers)
     requires { at < 131072 }
-    ensures { cpu.new ≡ with_extended_z at cpu.old }
+    ensures { regs.new ≡ registers_of (with_extended_z at (general regs.old)) }
 {
-    cpu.set_pair(z(), (at % HALF) as u16);
-    cpu.rampz = at >= HALF;
+    set_pair(regs, z(), (at % HALF) as u16);
+    regs.rampz = at >= HALF;
 }
 
 /// LPM rD, Z: the byte of the flash at the byte address in Z. Three cycles.
 #[inline]
-pub fn load_program(d: Reg, flash: &Flash, cpu: &mut Cpu) -> Done
-    ensures core { cpu.new ≡ advanced 1 (loads_program flash.now.bytes d cpu.old) }
+pub fn load_program(d: Reg, flash: &Flash, regs: &mut Registers, core: &mut Core) -> Done
+    ensures core { whole regs.new core.new ≡ advanced 1 (loads_program flash.now.bytes d (whole regs.old core.old)) }
     ensures reported { result ≡ record { cycles = 3; sleep = false } }
 {
-    let at = u32::from(cpu.pair(z()));
-    cpu.set_reg(d, flash.byte(at));
-    retire(1, 3, cpu)
+    let at = u32::from(pair(regs, z()));
+    set_reg(regs, d, flash.byte(at));
+    retire(1, 3, core)
 }
 
 /// LPM rD, Z+: Z goes on by one, modulo 65,536. Three cycles.
 #[inline]
 #[tactic(auto, unfolding(crate::specs::MemoryShapes::loads_program_post_increment))]
-pub fn load_program_post_increment(d: Reg, flash: &Flash, cpu: &mut Cpu) -> Done
-    ensures core { cpu.new ≡ advanced 1 (loads_program_post_increment flash.now.bytes d cpu.old) }
+pub fn load_program_post_increment(
+    d: Reg,
+    flash: &Flash,
+    regs: &mut Registers,
+    core: &mut Core,
+) -> Done
+    ensures core { whole regs.new core.new ≡ advanced 1 (loads_program_post_increment flash.now.bytes d (whole regs.old core.old)) }
     ensures reported { result ≡ record { cycles = 3; sleep = false } }
 {
-    let next = displaced(z(), 1, cpu);
-    let at = u32::from(cpu.pair(z()));
-    cpu.set_reg(d, flash.byte(at));
-    cpu.set_pair(z(), next);
-    retire(1, 3, cpu)
+    let next = displaced(z(), 1, regs);
+    let at = u32::from(pair(regs, z()));
+    set_reg(regs, d, flash.byte(at));
+    set_pair(regs, z(), next);
+    retire(1, 3, core)
 }
 
 /// ELPM rD, Z: the byte of the flash at the byte address in RAMPZ and Z, 0 to 131,071. Three cycles.
 #[inline]
-pub fn load_extended(d: Reg, flash: &Flash, cpu: &mut Cpu) -> Done
-    ensures core { cpu.new ≡ advanced 1 (loads_extended flash.now.bytes d cpu.old) }
+pub fn load_extended(d: Reg, flash: &Flash, regs: &mut Registers, core: &mut Core) -> Done
+    ensures core { whole regs.new core.new ≡ advanced 1 (loads_extended flash.now.bytes d (whole regs.old core.old)) }
     ensures reported { result ≡ record { cycles = 3; sleep = false } }
 {
-    let at = extended_z(cpu);
-    cpu.set_reg(d, flash.byte(at));
-    retire(1, 3, cpu)
+    let at = extended_z(regs);
+    set_reg(regs, d, flash.byte(at));
+    retire(1, 3, core)
 }
 
 /// ELPM rD, Z+: RAMPZ and Z together go on by one, modulo 131,072. Three cycles.
 #[inline]
 #[tactic(auto, unfolding(crate::specs::MemoryShapes::loads_extended_post_increment))]
-pub fn load_extended_post_increment(d: Reg, flash: &Flash, cpu: &mut Cpu) -> Done
-    ensures core { cpu.new ≡ advanced 1 (loads_extended_post_increment flash.now.bytes d cpu.old) }
+pub fn load_extended_post_increment(
+    d: Reg,
+    flash: &Flash,
+    regs: &mut Registers,
+    core: &mut Core,
+) -> Done
+    ensures core { whole regs.new core.new ≡ advanced 1 (loads_extended_post_increment flash.now.bytes d (whole regs.old core.old)) }
     ensures reported { result ≡ record { cycles = 3; sleep = false } }
 {
-    let at = extended_z(cpu);
-    cpu.set_reg(d, flash.byte(at));
-    set_extended_z((at + 1) % FLASH, cpu);
-    retire(1, 3, cpu)
+    let at = extended_z(regs);
+    set_reg(regs, d, flash.byte(at));
+    set_extended_z((at + 1) % FLASH, regs);
+    retire(1, 3, core)
 }

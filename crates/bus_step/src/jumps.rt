@@ -1,17 +1,17 @@
 // Jumps, branches and skips: each gives what the instruction reports. The core comes last, since the operands before it
 // are read from it.
 ghost use Rattle.std.specs.Prelude.{◌≡◌, ◌<◌, ◌≤◌, true, IfOk};
-ghost use Rattle.data_space.specs.Core.{advanced};
+ghost use Rattle.data_space.specs.Core.{advanced, core_of, lone, whole};
 ghost use Rattle.data_space.specs.Sequence.{done};
-ghost use Rattle.bus_step.specs.FlowShapes.{at_pc, bit_is, branched, jumped, relative, skipped, skipping, skips_by_io};
+ghost use Rattle.bus_step.specs.FlowShapes.{at_pc, reached, bit_is, branched, jumped, relative, skipped, skipping, skips_by_io};
 
 use avr_base::{ByteBits, IO_START, StopCause};
 use avr_decoder::width;
-use data_space::{Bus, Cpu, Done, load};
+use data_space::{Bus, Core, Done, Registers, load};
 use ihex_loader::Flash;
 
 // What an instruction other than SLEEP reports.
-#[inline]
+#[inline(always)]
 fn took(cycles: u8) -> Done
     ensures { result ≡ done cycles }
 {
@@ -22,15 +22,15 @@ fn took(cycles: u8) -> Done
 }
 
 /// The word address `k` words behind the next word, modulo 65,536.
-#[inline]
-pub fn relative_to(k: i16, cpu: &Cpu) -> u16
-    ensures { result ≡ relative k cpu.now }
+#[inline(always)]
+pub fn relative_to(k: i16, core: &Core) -> u16
+    ensures { result ≡ relative k (lone core.now) }
 {
-    cpu.pc.wrapping_add(1).wrapping_add(k.cast_unsigned())
+    core.pc.wrapping_add(1).wrapping_add(k.cast_unsigned())
 }
 
 /// Whether bit `b` (0 to 7) of a byte is `on`.
-#[inline]
+#[inline(always)]
 pub fn bit(on: bool, b: u8, byte: u8) -> bool
     requires { b < 8 }
     ensures { result ≡ bit_is on b byte }
@@ -40,37 +40,37 @@ pub fn bit(on: bool, b: u8, byte: u8) -> bool
 }
 
 /// The program goes on at the word address `pc`, after so many cycles.
-#[inline]
-pub fn jump(cycles: u8, pc: u16, cpu: &mut Cpu) -> Done
-    ensures { (result, cpu.new) ≡ jumped cycles pc cpu.old }
+#[inline(always)]
+pub fn jump(cycles: u8, pc: u16, core: &mut Core) -> Done
+    ensures { (result, core.new) ≡ reached (jumped cycles pc (lone core.old)) }
 {
-    cpu.pc = pc;
+    core.pc = pc;
     took(cycles)
 }
 
 /// A branch: where `on` the program goes on `k` words behind the next word, after two cycles; else with the next word,
 /// after one.
-#[inline]
+#[inline(always)]
 #[tactic(auto, unfolding(crate::specs::FlowShapes::branched))]
-pub fn branch(on: bool, k: i16, cpu: &mut Cpu) -> Done
-    ensures { (result, cpu.new) ≡ branched on k cpu.old }
+pub fn branch(on: bool, k: i16, core: &mut Core) -> Done
+    ensures { (result, core.new) ≡ reached (branched on k (lone core.old)) }
 {
     if on {
-        let pc = relative_to(k, cpu);
-        return jump(2, pc, cpu);
+        let pc = relative_to(k, core);
+        return jump(2, pc, core);
     }
-    cpu.advance(1);
+    core.advance(1);
     took(1)
 }
 
 // The words by which the program goes on that leaves out the next instruction where `on`.
-#[inline]
+#[inline(always)]
 #[tactic(auto, unfolding(crate::specs::FlowShapes::skipping))]
-fn words_on(on: bool, flash: &Flash, cpu: &Cpu) -> u8
-    ensures { result ≡ skipping flash.now.bytes on cpu.now }
+fn words_on(on: bool, flash: &Flash, core: &Core) -> u8
+    ensures { result ≡ skipping flash.now.bytes on (lone core.now) }
 {
     if on {
-        1 + width(flash.word(cpu.pc.wrapping_add(1)))
+        1 + width(flash.word(core.pc.wrapping_add(1)))
     } else {
         1
     }
@@ -78,42 +78,43 @@ fn words_on(on: bool, flash: &Flash, cpu: &Cpu) -> u8
 
 /// A skip: where `on` it leaves out the next instruction, of one word or two, and takes as many cycles more; else one
 /// cycle.
-#[inline]
-pub fn skip(on: bool, flash: &Flash, cpu: &mut Cpu) -> Done
-    ensures { (result, cpu.new) ≡ skipped flash.now.bytes on cpu.old }
+#[inline(always)]
+pub fn skip(on: bool, flash: &Flash, core: &mut Core) -> Done
+    ensures { (result, core.new) ≡ reached (skipped flash.now.bytes on (lone core.old)) }
 {
-    let words = words_on(on, flash, cpu);
-    cpu.advance(u16::from(words));
+    let words = words_on(on, flash, core);
+    core.advance(u16::from(words));
     took(words)
 }
 
 /// SBIS and SBIC: a skip where bit `b` (0 to 7) of the register at the I/O address `a` is `on`. `Err` where its read
 /// stops.
-#[inline]
-#[tactic(auto, unfolding(crate::specs::FlowShapes::skips_by_io))]
+#[inline(always)]
+#[tactic(auto, unfolding(crate::specs::FlowShapes::skips_by_io, crate::specs::FlowShapes::skipping))]
 pub fn skip_by_io<B: Bus>(
     a: u8,
     b: u8,
     on: bool,
     flash: &Flash,
-    cpu: &mut Cpu,
+    regs: &Registers,
+    core: &mut Core,
     bus: &mut B,
 ) -> Result<Done, StopCause>
     requires { b < 8 }
-    ensures { record { result = result; cpu = cpu.new; bus = bus.new } ≡ skips_by_io B.get_gives flash.now.bytes a b on cpu.old bus.old }
+    ensures { record { result = result; cpu = whole regs.now core.new; bus = bus.new } ≡ skips_by_io B.get_gives flash.now.bytes a b on (whole regs.now core.old) bus.old }
 {
-    let byte = load(cpu, bus, IO_START + u16::from(a))?;
-    Ok(skip(bit(on, b, byte), flash, cpu))
+    let byte = load(regs, core, bus, IO_START + u16::from(a))?;
+    Ok(skip(bit(on, b, byte), flash, core))
 }
 
 /// SLEEP: the program goes on with the next word, after one cycle. The answer says that it was SLEEP, which the caller
 /// acts on.
-#[inline]
-pub fn sleep(cpu: &mut Cpu) -> Done
-    ensures core { cpu.new ≡ advanced 1 cpu.old }
+#[inline(always)]
+pub fn sleep(core: &mut Core) -> Done
+    ensures core { core.new ≡ core_of (advanced 1 (lone core.old)) }
     ensures reported { result ≡ record { cycles = 1; sleep = true } }
 {
-    cpu.advance(1);
+    core.advance(1);
     Done {
         cycles: 1,
         sleep: true,

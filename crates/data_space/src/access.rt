@@ -1,9 +1,10 @@
-// Loads, stores, pushes and pops over the core and any bus.
-ghost use Rattle.std.specs.Prelude.{◌≡◌};
+// Loads, stores, pushes and pops over the core's registers and any bus.
+ghost use Rattle.std.specs.Prelude.{◌≡◌, ◌<◌};
+ghost use Rattle.data_space.specs.Core.{general, registers_of, whole};
 ghost use Rattle.data_space.specs.Space.{loaded, popped, pushed, stored};
 ghost use Rattle.data_space.specs.Sequence.{popped_word, pushed_word};
 
-use crate::{Bus, Cpu};
+use crate::{Bus, Core, Registers, reg, set_reg};
 use avr_base::{Reg, Sreg, StopCause};
 
 // The data addresses of the core's registers beside r0 to r31.
@@ -16,45 +17,77 @@ const SPH: u16 = 0x5E;
 const SREG: u16 = 0x5F;
 
 /// Loads the byte at the data address `at`: 0x0000 to 0x001F are r0 to r31, 0x005B, 0x005D, 0x005E and 0x005F are
-/// RAMPZ, SPL, SPH and SREG, all else is the bus. The core stays; an `Err` is the bus's stop, and changes nothing.
-#[inline]
+/// RAMPZ, SPL, SPH and SREG, all else is the bus. No register changes; an `Err` is the bus's stop, and changes nothing.
+#[inline(always)]
 #[tactic(auto, unfolding(crate::specs::Space::loaded))]
-pub fn load<B: Bus>(cpu: &mut Cpu, bus: &mut B, at: u16) -> Result<u8, StopCause>
-    ensures result { result ≡ (loaded B.get_gives at cpu.old bus.old).result }
-    ensures core { cpu.new ≡ (loaded B.get_gives at cpu.old bus.old).cpu }
-    ensures bus { bus.new ≡ (loaded B.get_gives at cpu.old bus.old).bus }
+pub fn load<B: Bus>(regs: &Registers, core: &Core, bus: &mut B, at: u16) -> Result<u8, StopCause>
+    ensures result { result ≡ (loaded B.get_gives at (whole regs.now core.now) bus.old).result }
+    ensures core { whole regs.now core.now ≡ (loaded B.get_gives at (whole regs.now core.now) bus.old).cpu }
+    ensures bus { bus.new ≡ (loaded B.get_gives at (whole regs.now core.now) bus.old).bus }
 {
     if at > SREG {
         return bus.get(at);
     }
+    load_low(regs, core.sreg, bus, at)
+}
+
+// A load at an address up to SREG's, where the core's registers lie. It does not read the program counter, which has
+// no data address.
+#[inline(never)]
+#[tactic(auto, unfolding(crate::specs::Space::loaded))]
+fn load_low<B: Bus>(regs: &Registers, sreg: Sreg, bus: &mut B, at: u16) -> Result<u8, StopCause>
+    ensures result { result ≡ (loaded B.get_gives at (whole regs.now (record { sreg = sreg; pc = 0 })) bus.old).result }
+    ensures bus { bus.new ≡ (loaded B.get_gives at (whole regs.now (record { sreg = sreg; pc = 0 })) bus.old).bus }
+{
     match at {
-        0..=0x1F => Ok(cpu.reg(Reg::numbered(at as u8))),
-        RAMPZ => Ok(u8::from(cpu.rampz)),
-        SPL => Ok((cpu.sp % 256) as u8),
-        SPH => Ok((cpu.sp / 256) as u8),
-        SREG => Ok(cpu.sreg.bits),
+        0..=0x1F => Ok(reg(regs, Reg::numbered(at as u8))),
+        RAMPZ => Ok(u8::from(regs.rampz)),
+        SPL => Ok((regs.sp % 256) as u8),
+        SPH => Ok((regs.sp / 256) as u8),
+        SREG => Ok(sreg.bits),
         _ => bus.get(at),
     }
 }
 
 /// Stores the byte `b` at the data address `at`, by the addresses of [`load`]; of RAMPZ only bit 0 is kept. An `Err`
 /// is the bus's stop, and changes nothing.
-#[inline]
+#[inline(always)]
 #[tactic(auto, unfolding(crate::specs::Space::stored))]
-pub fn store<B: Bus>(cpu: &mut Cpu, bus: &mut B, at: u16, b: u8) -> Result<(), StopCause>
-    ensures result { result ≡ (stored B.put_gives at b cpu.old bus.old).result }
-    ensures core { cpu.new ≡ (stored B.put_gives at b cpu.old bus.old).cpu }
-    ensures bus { bus.new ≡ (stored B.put_gives at b cpu.old bus.old).bus }
+pub fn store<B: Bus>(
+    regs: &mut Registers,
+    core: &mut Core,
+    bus: &mut B,
+    at: u16,
+    b: u8,
+) -> Result<(), StopCause>
+    ensures result { result ≡ (stored B.put_gives at b (whole regs.old core.old) bus.old).result }
+    ensures core { whole regs.new core.new ≡ (stored B.put_gives at b (whole regs.old core.old) bus.old).cpu }
+    ensures bus { bus.new ≡ (stored B.put_gives at b (whole regs.old core.old) bus.old).bus }
 {
     if at > SREG {
         return bus.put(at, b);
     }
+    if at == SREG {
+        core.sreg = Sreg { bits: b };
+        return Ok(());
+    }
+    store_low(regs, bus, at, b)
+}
+
+// A store at an address below SREG's.
+#[inline(never)]
+#[tactic(auto, unfolding(crate::specs::Space::stored))]
+fn store_low<B: Bus>(regs: &mut Registers, bus: &mut B, at: u16, b: u8) -> Result<(), StopCause>
+    requires { at < 0x5F }
+    ensures result { result ≡ (stored B.put_gives at b (general regs.old) bus.old).result }
+    ensures registers { regs.new ≡ registers_of (stored B.put_gives at b (general regs.old) bus.old).cpu }
+    ensures bus { bus.new ≡ (stored B.put_gives at b (general regs.old) bus.old).bus }
+{
     match at {
-        0..=0x1F => cpu.set_reg(Reg::numbered(at as u8), b),
-        RAMPZ => cpu.rampz = b % 2 == 1,
-        SPL => cpu.sp = cpu.sp / 256 * 256 + u16::from(b),
-        SPH => cpu.sp = 256 * u16::from(b) + cpu.sp % 256,
-        SREG => cpu.sreg = Sreg { bits: b },
+        0..=0x1F => set_reg(regs, Reg::numbered(at as u8), b),
+        RAMPZ => regs.rampz = b % 2 == 1,
+        SPL => regs.sp = regs.sp / 256 * 256 + u16::from(b),
+        SPH => regs.sp = 256 * u16::from(b) + regs.sp % 256,
         _ => return bus.put(at, b),
     }
     Ok(())
@@ -62,17 +95,22 @@ pub fn store<B: Bus>(cpu: &mut Cpu, bus: &mut B, at: u16, b: u8) -> Result<(), S
 
 /// Pushes `b`: stores it at the stack pointer, which is then one lower, modulo 65,536, also where the store was to the
 /// stack pointer itself. An `Err` is the store's stop, and changes nothing.
-#[inline]
+#[inline(always)]
 #[tactic(auto, unfolding(crate::specs::Space::pushed))]
-pub fn push<B: Bus>(cpu: &mut Cpu, bus: &mut B, b: u8) -> Result<(), StopCause>
-    ensures result { result ≡ (pushed B.put_gives b cpu.old bus.old).result }
-    ensures core { cpu.new ≡ (pushed B.put_gives b cpu.old bus.old).cpu }
-    ensures bus { bus.new ≡ (pushed B.put_gives b cpu.old bus.old).bus }
+pub fn push<B: Bus>(
+    regs: &mut Registers,
+    core: &mut Core,
+    bus: &mut B,
+    b: u8,
+) -> Result<(), StopCause>
+    ensures result { result ≡ (pushed B.put_gives b (whole regs.old core.old) bus.old).result }
+    ensures core { whole regs.new core.new ≡ (pushed B.put_gives b (whole regs.old core.old) bus.old).cpu }
+    ensures bus { bus.new ≡ (pushed B.put_gives b (whole regs.old core.old) bus.old).bus }
 {
-    let sp = cpu.sp;
-    match store(cpu, bus, sp, b) {
+    let sp = regs.sp;
+    match store(regs, core, bus, sp, b) {
         Ok(()) => {
-            cpu.sp = sp.wrapping_sub(1);
+            regs.sp = sp.wrapping_sub(1);
             Ok(())
         }
         Err(cause) => Err(cause),
@@ -81,20 +119,20 @@ pub fn push<B: Bus>(cpu: &mut Cpu, bus: &mut B, b: u8) -> Result<(), StopCause>
 
 /// Pops a byte: the stack pointer is one higher, modulo 65,536, and the byte is loaded there. An `Err` is the load's
 /// stop, and changes nothing.
-#[inline]
+#[inline(always)]
 #[tactic(auto, unfolding(crate::specs::Space::popped))]
-pub fn pop<B: Bus>(cpu: &mut Cpu, bus: &mut B) -> Result<u8, StopCause>
-    ensures result { result ≡ (popped B.get_gives cpu.old bus.old).result }
-    ensures core { cpu.new ≡ (popped B.get_gives cpu.old bus.old).cpu }
-    ensures bus { bus.new ≡ (popped B.get_gives cpu.old bus.old).bus }
+pub fn pop<B: Bus>(regs: &mut Registers, core: &Core, bus: &mut B) -> Result<u8, StopCause>
+    ensures result { result ≡ (popped B.get_gives (whole regs.old core.now) bus.old).result }
+    ensures core { whole regs.new core.now ≡ (popped B.get_gives (whole regs.old core.now) bus.old).cpu }
+    ensures bus { bus.new ≡ (popped B.get_gives (whole regs.old core.now) bus.old).bus }
 {
-    let before = *cpu;
-    let sp = cpu.sp.wrapping_add(1);
-    cpu.sp = sp;
-    match load(cpu, bus, sp) {
+    let before = regs.sp;
+    let sp = before.wrapping_add(1);
+    regs.sp = sp;
+    match load(regs, core, bus, sp) {
         Ok(b) => Ok(b),
         Err(cause) => {
-            *cpu = before;
+            regs.sp = before;
             Err(cause)
         }
     }
@@ -102,26 +140,31 @@ pub fn pop<B: Bus>(cpu: &mut Cpu, bus: &mut B) -> Result<u8, StopCause>
 
 /// Pushes a word, its low byte first, as calls and interrupts push the address to return to. An `Err` is the stop of a
 /// push: what the push before it did stays.
-#[inline]
+#[inline(always)]
 #[tactic(auto, unfolding(crate::specs::Sequence::pushed_word))]
-pub fn push_word<B: Bus>(cpu: &mut Cpu, bus: &mut B, word: u16) -> Result<(), StopCause>
-    ensures result { result ≡ (pushed_word B.put_gives word cpu.old bus.old).result }
-    ensures core { cpu.new ≡ (pushed_word B.put_gives word cpu.old bus.old).cpu }
-    ensures bus { bus.new ≡ (pushed_word B.put_gives word cpu.old bus.old).bus }
+pub fn push_word<B: Bus>(
+    regs: &mut Registers,
+    core: &mut Core,
+    bus: &mut B,
+    word: u16,
+) -> Result<(), StopCause>
+    ensures result { result ≡ (pushed_word B.put_gives word (whole regs.old core.old) bus.old).result }
+    ensures core { whole regs.new core.new ≡ (pushed_word B.put_gives word (whole regs.old core.old) bus.old).cpu }
+    ensures bus { bus.new ≡ (pushed_word B.put_gives word (whole regs.old core.old) bus.old).bus }
 {
-    push(cpu, bus, (word % 256) as u8)?;
-    push(cpu, bus, (word / 256) as u8)
+    push(regs, core, bus, (word % 256) as u8)?;
+    push(regs, core, bus, (word / 256) as u8)
 }
 
 /// Pops a word, its high byte first. An `Err` is the stop of a pop: what the pop before it did stays.
-#[inline]
+#[inline(always)]
 #[tactic(auto, unfolding(crate::specs::Sequence::popped_word))]
-pub fn pop_word<B: Bus>(cpu: &mut Cpu, bus: &mut B) -> Result<u16, StopCause>
-    ensures result { result ≡ (popped_word B.get_gives cpu.old bus.old).result }
-    ensures core { cpu.new ≡ (popped_word B.get_gives cpu.old bus.old).cpu }
-    ensures bus { bus.new ≡ (popped_word B.get_gives cpu.old bus.old).bus }
+pub fn pop_word<B: Bus>(regs: &mut Registers, core: &Core, bus: &mut B) -> Result<u16, StopCause>
+    ensures result { result ≡ (popped_word B.get_gives (whole regs.old core.now) bus.old).result }
+    ensures core { whole regs.new core.now ≡ (popped_word B.get_gives (whole regs.old core.now) bus.old).cpu }
+    ensures bus { bus.new ≡ (popped_word B.get_gives (whole regs.old core.now) bus.old).bus }
 {
-    let above = pop(cpu, bus)?;
-    let below = pop(cpu, bus)?;
+    let above = pop(regs, core, bus)?;
+    let below = pop(regs, core, bus)?;
     Ok(256 * u16::from(above) + u16::from(below))
 }

@@ -10,5 +10,5 @@ mod sram;
 
 pub use access::{load, pop, pop_word, push, push_word, store};
 pub use bus::{Bus, Done};
-pub use cpu::Cpu;
+pub use cpu::{Core, Cpu, Registers, pair, reg, set_pair, set_reg};
 pub use sram::Sram;

@@ -58,11 +58,15 @@ impl CoreAndBoard {
     }
 
     fn put(&mut self, at: u8, b: u8) -> Answer {
-        Answer::of_put(store(&mut self.cpu, &mut self.board, u16::from(at), b))
+        let (mut regs, mut core) = self.cpu.parts();
+        let stored = store(&mut regs, &mut core, &mut self.board, u16::from(at), b);
+        self.cpu = Cpu::of_parts(&regs, core);
+        Answer::of_put(stored)
     }
 
     fn get(&mut self, at: u8) -> Answer {
-        Answer::of_get(load(&mut self.cpu, &mut self.board, u16::from(at)))
+        let (regs, core) = self.cpu.parts();
+        Answer::of_get(load(&regs, &core, &mut self.board, u16::from(at)))
     }
 
     // One cycle of the devices, in which nothing arrives; where the radio asks the air, it is answered.

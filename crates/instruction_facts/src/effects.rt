@@ -3,7 +3,7 @@ use crate::machine::Machine;
 use crate::numbers::hex;
 use avr_base::{Reg, StopCause};
 use avr_decoder::{Class, decode};
-use data_space::{Sram, load, pop, push, store};
+use data_space::{Cpu, Sram, pair, reg, set_pair, set_reg};
 use ihex_loader::Flash;
 use std::alloc::{AllocError, Global};
 
@@ -81,8 +81,8 @@ pub fn execute(
 
 /// Stores a byte, and loads it again: the report is the byte that was loaded, or that both stop.
 pub fn keep(at: u16, byte: u8, m: &mut Machine) -> Option<Report> {
-    let stored = store(&mut m.cpu, &mut m.memory, at, byte);
-    match load(&mut m.cpu, &mut m.memory, at) {
+    let stored = m.store(at, byte);
+    match m.load(at) {
         Ok(read) if stored.is_ok() => Some(of_number(u16::from(read))),
         Err(cause) if stored.is_err() => of_stop(cause),
         _ => None,
@@ -91,7 +91,7 @@ pub fn keep(at: u16, byte: u8, m: &mut Machine) -> Option<Report> {
 
 /// Pushes a byte: the report is 0, or a stop.
 pub fn push_byte(byte: u8, m: &mut Machine) -> Option<Report> {
-    match push(&mut m.cpu, &mut m.memory, byte) {
+    match m.push(byte) {
         Ok(()) => Some(of_number(0)),
         Err(cause) => of_stop(cause),
     }
@@ -99,7 +99,7 @@ pub fn push_byte(byte: u8, m: &mut Machine) -> Option<Report> {
 
 /// Pops a byte: the report is the byte, or a stop.
 pub fn pop_byte(m: &mut Machine) -> Option<Report> {
-    match pop(&mut m.cpu, &mut m.memory) {
+    match m.pop() {
         Ok(byte) => Some(of_number(u16::from(byte))),
         Err(cause) => of_stop(cause),
     }
@@ -108,20 +108,26 @@ pub fn pop_byte(m: &mut Machine) -> Option<Report> {
 /// Puts a byte into register `d`, and reads it back; `None` where there is no such register.
 pub fn keep_in_register(d: u8, byte: u8, m: &mut Machine) -> Option<Report> {
     let d = Reg::new(d)?;
-    m.cpu.set_reg(d, byte);
-    Some(of_number(u16::from(m.cpu.reg(d))))
+    let (mut regs, core) = m.cpu.parts();
+    set_reg(&mut regs, d, byte);
+    m.cpu = Cpu::of_parts(&regs, core);
+    Some(of_number(u16::from(reg(&regs, d))))
 }
 
 /// Puts a word into the pair of register `d`, and reads it back; `None` where there is no such register.
 pub fn keep_in_pair(d: u8, word: u16, m: &mut Machine) -> Option<Report> {
     let d = Reg::new(d)?;
-    m.cpu.set_pair(d, word);
-    Some(of_number(m.cpu.pair(d)))
+    let (mut regs, core) = m.cpu.parts();
+    set_pair(&mut regs, d, word);
+    m.cpu = Cpu::of_parts(&regs, core);
+    Some(of_number(pair(&regs, d)))
 }
 
 /// Moves the program counter on by so many words: the report is 0.
 pub fn advance(words: u16, m: &mut Machine) -> Report {
-    m.cpu.advance(words);
+    let (regs, mut core) = m.cpu.parts();
+    core.advance(words);
+    m.cpu = Cpu::of_parts(&regs, core);
     of_number(0)
 }
 

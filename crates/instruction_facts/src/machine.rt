@@ -4,7 +4,7 @@ ghost use Rattle.avr_base.specs.declared.stop.StopCause.TheVariants.{PastMemory}
 
 use crate::numbers::{hex, hex_byte};
 use avr_base::StopCause;
-use data_space::{Bus, Cpu, store};
+use data_space::{Bus, Cpu};
 
 /// The bytes at data addresses `from` to `to`, each kept at the low byte of its address; all else is past the memory.
 #[derive(Clone, Copy, PartialEq, Eq)]
@@ -64,6 +64,36 @@ impl Machine {
         }
     }
 
+    /// Loads the byte at the data address `at`.
+    pub fn load(&mut self, at: u16) -> Result<u8, StopCause> {
+        let (regs, core) = self.cpu.parts();
+        data_space::load(&regs, &core, &mut self.memory, at)
+    }
+
+    /// Stores the byte `b` at the data address `at`.
+    pub fn store(&mut self, at: u16, b: u8) -> Result<(), StopCause> {
+        let (mut regs, mut core) = self.cpu.parts();
+        let stored = data_space::store(&mut regs, &mut core, &mut self.memory, at, b);
+        self.cpu = Cpu::of_parts(&regs, core);
+        stored
+    }
+
+    /// Pushes a byte.
+    pub fn push(&mut self, b: u8) -> Result<(), StopCause> {
+        let (mut regs, mut core) = self.cpu.parts();
+        let pushed = data_space::push(&mut regs, &mut core, &mut self.memory, b);
+        self.cpu = Cpu::of_parts(&regs, core);
+        pushed
+    }
+
+    /// Pops a byte.
+    pub fn pop(&mut self) -> Result<u8, StopCause> {
+        let (mut regs, core) = self.cpu.parts();
+        let popped = data_space::pop(&mut regs, &core, &mut self.memory);
+        self.cpu = Cpu::of_parts(&regs, core);
+        popped
+    }
+
     // One setting: `pc=WORD`, or `ADDRESS=BYTE` of the data space, where the core's registers lie too.
     fn set(&mut self, setting: &str) -> Option<()> {
         let (at, value) = setting.split_once('=')?;
@@ -71,7 +101,7 @@ impl Machine {
             self.cpu.pc = hex(value)?;
             return Some(());
         }
-        store(&mut self.cpu, &mut self.memory, hex(at)?, hex_byte(value)?).ok()
+        self.store(hex(at)?, hex_byte(value)?).ok()
     }
 
     /// The machine with the settings in a text. `None` where a word is none.

@@ -1,7 +1,7 @@
 -- The effect of an instruction, by its class: one that ends takes a cycle or more.
 use Rattle.std.proofs.Common.{◌≡◌, ◌≤◌, ℕ, Bool, true, false, List, refl, sym, subst}
 use Rattle.std.proofs.lemmas.Bool.{false≢true}
-use Rattle.std.specs.Prelude.{Result, IfOk}
+use Rattle.std.specs.Prelude.{Result, IfOk, IfSome, Option, Some}
 use Rattle.avr_base.specs.declared.stop.StopCause.{StopCause}
 use Rattle.avr_decoder.specs.Class.{class_of}
 use Rattle.avr_decoder.specs.declared.op.Class.{Class}
@@ -52,3 +52,12 @@ module _ {B : Type 0} (get : B → ℕ → Result (ℕ × B) StopCause) (put : B
 
   pub takes : (a : Outcome B) (flash : List ℕ) (o : Op) (cpu : Cpu) (bus : B) → a ≡ executed_over get put flash o cpu bus → Takes a.result
   takes a flash o cpu bus e = subst (λ (x : Outcome B). Takes x.result) (sym e) (executed_takes flash o cpu bus)
+
+  -- of a result that is there
+  pub some_takes : (x : Option (Result Done StopCause)) (r : Result Done StopCause) (from to : Cpu) (bus there : B) (flash : List ℕ) (o : Op) → x ≡ Some r
+      → IfSome x (λ y. (let a : Outcome B = record { result = y; cpu = to; bus = there } in a ≡ executed_over get put flash o from bus)) → Takes r
+  some_takes x r from to bus there flash o is some =
+      let left = λ (y : Result Done StopCause). (let a : Outcome B = record { result = y; cpu = to; bus = there } in a ≡ executed_over get put flash o from bus) in
+      let e : left r = subst (λ (z : Option (Result Done StopCause)). IfSome z left) is some in
+      let a : Outcome B = record { result = r; cpu = to; bus = there } in
+      takes a flash o from bus e

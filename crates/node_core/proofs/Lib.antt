@@ -1,4 +1,5 @@
 pub mod Cycles
+pub mod Quiet
 pub mod Radio
 pub mod Runs
 pub mod Idling

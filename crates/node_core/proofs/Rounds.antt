@@ -18,10 +18,10 @@ use Rattle.node_core.specs.Bus.{with_board}
 use Rattle.node_core.specs.Inside.{IsCalm, MayAct}
 use Rattle.node_core.specs.Interrupts.{due}
 use Rattle.node_core.specs.Leaps.{IsStillStep, Walk, stays, goes, bus_later}
-use Rattle.node_core.specs.Midway.{IsSprinted, IsStepped}
+use Rattle.node_core.specs.Midway.{IsSprinted, IsSprinting, IsStepped}
 use Rattle.node_core.specs.Shown.{shown}
 use Rattle.node_core.specs.State.{NodeState}
-use Rattle.node_core.proofs.Sprints.{IsSprinting, begins}
+use Rattle.node_core.proofs.Sprints.{begins}
 use Rattle.node_core.proofs.Sprints as sprint
 use Rattle.node_core.proofs.Steps.{gone, runs_on}
 

@@ -14,13 +14,16 @@ use Rattle.node_core.specs.declared.machine.Machine.{Machine}
 use Rattle.node_core.specs.declared.row.Row.{Row}
 use Rattle.node_core.specs.declared.row.Kind.TheVariants as kind
 use Rattle.avr_base.specs.declared.stop.StopCause.{StopCause}
+use Rattle.data_space.specs.declared.cpu.Core.{Core}
 use Rattle.data_space.specs.declared.cpu.Cpu.{Cpu}
+use Rattle.data_space.specs.declared.cpu.Registers.{Registers}
+use Rattle.data_space.specs.Core.{whole}
 use Rattle.serial_ports.specs.Script.{ScriptBytes, script_byte}
 use Rattle.node_core.specs.Bus.{with_board}
 use Rattle.node_core.specs.Cycle.{instructed, instructed_rows, node_kind, row}
 use Rattle.node_core.specs.Inside.{IsCalm, MayAct}
 use Rattle.node_core.specs.Interrupts.{due}
-use Rattle.node_core.specs.Midway.{IsActed, IsMidway, IsSprinted, IsStepped, IsStopping, owing, turned_on}
+use Rattle.node_core.specs.Midway.{IsActed, IsMidway, IsSprinted, IsSprinting, IsStepped, IsStopping, beside}
 use Rattle.node_core.specs.Shown.{shown}
 use Rattle.node_core.specs.State.{NodeState}
 use Rattle.node_core.proofs.Acts.{one_more, one_row}
@@ -45,18 +48,6 @@ clear_due m e = none_due m (by_flag (has_flag m.cpu.sreg.bits I))
     by_flag : (b : Bool) → cond b (pending_of (lines_of m.bus.board)) None ≡ None
     by_flag true = ap (λ (n : ℕ). vector_of (lowest_line n)) e ∙ none_up
     by_flag false = refl
-
-pub record IsSprinting (t at : ℕ) (old m : Machine) : Type 0 where
-  pub from : t ≤ at
-  pub comes : Comes node_kind (record { cycle = t; asking = false; state = shown old; rows = old.rows.items }) at (shown m) m.rows.items
-  pub going : m.stop ≡ None
-  pub free : m.wait ≡ 0
-  pub awake : m.asleep ≡ false
-  pub behind : m.to ≤ at
-  pub clock : m.bus.board.clock ≡ at
-  pub script : m.script ≡ old.script
-  pub count : m.count ≤ 2 ^ 40 + at
-  pub rows : m.rows ≡ old.rows
 
 -- at its beginning
 pub begins : (t : ℕ) (m : Machine) → m.stop ≡ None → m.wait ≡ 0 → m.asleep ≡ false → m.to ≤ t → m.bus.board.clock ≡ t → m.count ≤ 2 ^ 40 + t → IsSprinting t t m m
@@ -218,33 +209,20 @@ module _ (t at : ℕ) (old m : Machine) (h : IsSprinting t at old m) where
           rows = p.same ∙ h.rows;
         }
 
--- what is owed, said otherwise
-pub owes_so : (b : Bool) (m : Machine) → m.owed ≡ b → m ≡ owing b m
-owes_so b m e = λ i. let x : Machine = record m { owed = e i } in x
-
-pub told_on : (s : ℕ) (x y : Machine) → y.owed ≡ turned_on s y.cpu.sreg.bits → x.owed ≡ y.owed → x.cpu ≡ y.cpu → x ≡ owing (turned_on s x.cpu.sreg.bits) x
-told_on s x y told owed core = owes_so (turned_on s x.cpu.sreg.bits) x (owed ∙ (told ∙ sym (ap (λ (c : Cpu). turned_on s c.sreg.bits) core)))
-
--- a step whose cycles pass whole, whatever was owed before it
-pub steps_on : (t at n s : ℕ) (old m w x : Machine) (b : Bool) → IsSprinting t at old (owing b m) → due (shown m) ≡ None → IsStepped at n (owing b m) (owing (turned_on s w.cpu.sreg.bits) w)
+-- a step whose cycles pass whole
+pub steps_on : (t at n : ℕ) (old m w x : Machine) → IsSprinting t at old m → due (shown m) ≡ None → IsStepped at n m w
     → IsCalm at n (shown w) → shown x ≡ (let u : NodeState = record (shown w) { bus = with_board (shown w).bus (timers_leap at n (shown w).bus.board) } in u)
-    → x ≡ (let y : Machine = record w { bus = x.bus } in y) → x.bus.board.clock ≡ at + n → IsSprinting t (at + n) old (owing (turned_on s x.cpu.sreg.bits) x)
-steps_on t at n s old m w x b h none p calm state others clock =
-    let d : Bool = turned_on s w.cpu.sreg.bits in
-    let kept : (let y : Machine = record w { bus = x.bus } in shown y) ≡ shown x = ap shown (sym others) in
-    let bus : (let y : Machine = record w { bus = x.bus } in shown y).bus ≡ with_board (shown w).bus (timers_leap at n (shown w).bus.board) = ap (λ (u : NodeState). u.bus) (kept ∙ state) in
-    let is_calm : IsCalm at n (shown (owing d w)) = record { ends = calm.ends; none = calm.none } in
-    subst (λ (y : Machine). IsSprinting t (at + n) old (owing (turned_on s y.cpu.sreg.bits) y)) (sym others)
-    (goes t at old (owing b m) h n (owing d w) none p x.bus is_calm
-    (λ i. let u : NodeState = record (shown (owing d w)) { bus = bus i } in u) clock)
+    → x ≡ (let y : Machine = record w { bus = x.bus } in y) → x.bus.board.clock ≡ at + n → IsSprinting t (at + n) old x
+steps_on t at n old m w x h none p calm state others clock =
+    subst (IsSprinting t (at + n) old) (sym others) (goes t at old m h n w none p x.bus calm (ap shown (sym others) ∙ state) clock)
 
 -- one that stops
-pub stops : (t at : ℕ) (old m w new : Machine) (b r : Bool) (cause : StopCause) → IsSprinting t at old (owing b m) → due (shown m) ≡ None → IsStopping at cause (owing b m) (owing b w) → r ≡ b
-    → shown new ≡ (let u : NodeState = record (shown (owing r w)) { stop = Some cause } in u) → new.rows.items ≡ w.rows.items ++ row at (shown (owing r w)) (kind.Stop m.cpu.pc cause)
+pub stops : (t at : ℕ) (old m w new : Machine) (cause : StopCause) → IsSprinting t at old m → due (shown m) ≡ None → IsStopping at cause m w
+    → shown new ≡ (let u : NodeState = record (shown w) { stop = Some cause } in u) → new.rows.items ≡ w.rows.items ++ row at (shown w) (kind.Stop m.cpu.pc cause)
     → vec_capacity new.rows ≡ vec_capacity w.rows → new.bus.board.clock ≡ w.bus.board.clock → IsSprinted t at true old new
-stops t at old m w new b r cause h none q same state rows room clock =
-    ends t at old (owing b m) h new none record {
-      state = state ∙ (ap (λ (d : Bool). let u : NodeState = record (shown (owing d w)) { stop = Some cause } in u) same ∙ q.state);
+stops t at old m w new cause h none q state rows room clock =
+    ends t at old m h new none record {
+      state = state ∙ q.state;
       rows = rows ∙ (λ i. (ap (λ x. x.items) q.same) i ++ q.told i);
       going = λ l. absurd (omega arith);
       same = λ l. absurd (omega arith);
@@ -258,3 +236,30 @@ silent t at end old m same from none i l =
     let there : t + (at - t + i) ≡ at + i = omega (arith, from) in
     ap (λ (x : ScriptBytes). script_byte x (at + i)) same
     ∙ subst (λ (u : ℕ). script_byte old.script u ≡ None) there (none (at - t + i) (omega (arith, l, from)))
+
+-- ---- of a machine whose core stands beside it
+module _ (t n : ℕ) (old m s : Machine) (regs : Registers) (core : Core) (h : IsSprinting t m.bus.board.clock old m) where
+  -- the cycles of a step pass
+  pub passes : (y : Machine) → due (shown m) ≡ None → IsStepped m.bus.board.clock n m (beside regs core s) → IsCalm s.bus.board.clock n (shown s)
+      → shown y ≡ (let u : NodeState = record (shown s) { bus = with_board (shown s).bus (timers_leap s.bus.board.clock n (shown s).bus.board) } in u)
+      → y ≡ (let z : Machine = record s { bus = y.bus } in z) → y.bus.board.clock ≡ s.bus.board.clock + n → IsSprinting t y.bus.board.clock old (beside regs core y)
+  passes y none p calm state others clock =
+      let same : s.bus.board.clock ≡ m.bus.board.clock = p.clock in
+      let cpu : Cpu = whole regs core in
+      let there : y.bus.board.clock ≡ m.bus.board.clock + n = clock ∙ ap (λ (u : ℕ). u + n) same in
+      let here : IsCalm m.bus.board.clock n (shown (beside regs core s)) =
+      subst (λ (u : ℕ). IsCalm u n (shown (beside regs core s))) same (let k : IsCalm s.bus.board.clock n (shown (beside regs core s)) = record { ends = calm.ends; none = calm.none } in k) in
+      let after : shown (beside regs core y) ≡ (let u : NodeState = record (shown (beside regs core s)) { bus = with_board (shown s).bus (timers_leap m.bus.board.clock n (shown s).bus.board) } in u) =
+      (λ i. let u : NodeState = record (state i) { cpu = cpu } in u)
+      ∙ ap (λ (c : ℕ). (let u : NodeState = record (shown (beside regs core s)) { bus = with_board (shown s).bus (timers_leap c n (shown s).bus.board) } in u)) same in
+      subst (λ (c : ℕ). IsSprinting t c old (beside regs core y)) (sym there)
+      (steps_on t m.bus.board.clock n old m (beside regs core s) (beside regs core y) h none p here after (λ i. beside regs core (others i)) there)
+
+  -- a step whose cycles are still to pass, on a machine that is the same
+  pub carried : (y : Machine) → y ≡ s → IsStepped m.bus.board.clock n m (beside regs core s) → IsStepped y.bus.board.clock n m (beside regs core y)
+  carried y same p =
+      let clock : y.bus.board.clock ≡ m.bus.board.clock = ap (λ (x : Machine). x.bus.board.clock) same ∙ p.clock in
+      subst (λ (c : ℕ). IsStepped c n m (beside regs core y)) (sym clock) (subst (λ (x : Machine). IsStepped m.bus.board.clock n m (beside regs core x)) (sym same) p)
+
+  pub at_it : (y : Machine) → y ≡ s → IsStepped m.bus.board.clock n m (beside regs core s) → IsSprinting t y.bus.board.clock old m
+  at_it y same p = subst (λ (c : ℕ). IsSprinting t c old m) (sym (ap (λ (x : Machine). x.bus.board.clock) same ∙ p.clock)) h

@@ -1,7 +1,7 @@
 -- A step of a sprint: the processor's part of its cycle, of an instruction that goes on.
-use Rattle.std.proofs.Common.{◌≡◌, ℕ, ◌+◌, ◌-◌, ◌≤◌, ◌&&◌, ◌++◌, nat_le, nat_lt, Bool, true, false, cond, None, List, [], is_some, append-nil, refl, sym, subst, ap, ◌∙◌, arith}
+use Rattle.std.proofs.Common.{◌≡◌, ℕ, ◌+◌, ◌-◌, ◌≤◌, ◌&&◌, ◌++◌, nat_le, nat_lt, Bool, true, false, cond, Option, None, Some, List, [], is_some, append-nil, refl, sym, subst, ap, ◌∙◌, arith}
 use Rattle.std.proofs.lemmas.Bool.Decides.{nat_tests}
-use Rattle.std.specs.Prelude.{Result, Ok, Err, IfOk, ◌||◌}
+use Rattle.std.specs.Prelude.{Result, Ok, Err, IfOk, IfSome, IfNone, ◌||◌}
 use Rattle.avr_base.specs.declared.stop.StopCause.{StopCause}
 use Rattle.avr_decoder.specs.declared.op.Op.{Op}
 use Rattle.board_io.specs.Board.{sleep_mode}
@@ -11,18 +11,25 @@ use Rattle.data_space.specs.Sequence.{Outcome}
 use Rattle.world_core.specs.NodeRun.{Comes, Timed, passed_rows}
 use Rattle.world_core.proofs.QuietCycles.{comes_step}
 use Rattle.node_core.specs.declared.bus.NodeBus.{NodeBus}
+use Rattle.data_space.specs.declared.cpu.Core.{Core}
+use Rattle.data_space.specs.declared.cpu.Cpu.{Cpu}
+use Rattle.data_space.specs.declared.cpu.Registers.{Registers}
+use Rattle.data_space.specs.Core.{whole}
+use Rattle.node_core.specs.declared.instructions.After.{After}
+use Rattle.node_core.specs.declared.instructions.After.TheVariants as after
 use Rattle.node_core.specs.declared.machine.Machine.{Machine}
 use Rattle.node_core.specs.declared.row.Row.{Row}
 use Rattle.node_core.specs.declared.row.Kind.TheVariants as kind
 use Rattle.node_core.specs.Bus.{bus_at, bus_get, bus_put, with_board}
 use Rattle.node_core.specs.Cycle.{first_word, instructed, instructed_rows, is_idle, is_other, is_refused, is_sleep, node_kind, op_now, owes, row, second_word}
-use Rattle.node_core.specs.Execute.{executed, is_plain}
+use Rattle.node_core.specs.Execute.{after_of, executed, is_plain}
 use Rattle.node_core.specs.Inside.{IsCalm, MayAct}
 use Rattle.node_core.specs.Interrupts.{due}
-use Rattle.node_core.specs.Midway.{IsActed, IsMidway, IsStepped, IsStopping, owing, turned_on}
+use Rattle.node_core.specs.Midway.{IsActed, IsMidway, IsStep, IsStepped, IsStopping, beside, counted, owing, step_of, turned_on}
 use Rattle.node_core.specs.Shown.{shown}
 use Rattle.node_core.specs.State.{NodeState}
 use Rattle.node_core.proofs.Clocks.{executed_clock}
+use Rattle.node_core.proofs.Quiet.{is_store, quiet}
 use Rattle.node_core.proofs.Executes.{plain_awake, plain_no_sei, takes}
 use Rattle.node_core.proofs.Wakes.{wakes}
 use Rattle.node_core.proofs.Ran.{goes_on, ran, ran_rows}
@@ -76,28 +83,67 @@ module _ (t : ℕ) (m : Machine) (o : Op) (fetched : o ≡ op_now (shown m)) (ru
     clock = ap (λ (x : Outcome NodeBus). x.bus.board.clock) done ∙ executed_clock flash o m.cpu m.bus;
   }
 
--- ---- a plain instruction behind the window, whatever was owed before it
-module _ (t : ℕ) (m : Machine) (o : Op) (fetched : o ≡ op_now (shown m)) (plain : is_plain o ≡ true) (may : MayAct t m)
+-- ---- a plain instruction behind the window, where none is owed before it
+module _ (t : ℕ) (m : Machine) (o : Op) (fetched : o ≡ op_now (shown m)) (plain : is_plain o ≡ true) (may : MayAct t m) (off : m.owed ≡ false)
     (a : Outcome NodeBus) (flash : List ℕ) (kept : flash ≡ m.program.bytes) (done : a ≡ executed flash o m.cpu m.bus) where
   runs : is_refused (shown m) o ≡ false
   runs = runs_on (shown m) o (plain_awake o plain)
 
-  pub plain_goes : (d : Done) → a.result ≡ Ok d → m.to ≤ t → (b : Bool)
-      → IsStepped t d.cycles (owing b m) (let x : Machine = record m { cpu = a.cpu; bus = a.bus; count = m.count + 1 } in owing (turned_on m.cpu.sreg.bits a.cpu.sreg.bits) x)
-  plain_goes d ok behind b =
+  abbrev executed_one : Machine
+  executed_one = record m { cpu = a.cpu; bus = a.bus; count = m.count + 1 }
+
+  pub plain_goes : (d : Done) → a.result ≡ Ok d → m.to ≤ t → IsStepped t d.cycles m (owing (turned_on m.cpu.sreg.bits a.cpu.sreg.bits) executed_one)
+  plain_goes d ok behind =
       let some : IfOk {E = StopCause} (Ok d) (λ (e : Done). 1 ≤ e.cycles) = subst (λ (r : Result Done StopCause). IfOk r (λ (e : Done). 1 ≤ e.cycles)) ok (takes bus_get bus_put a flash o m.cpu m.bus done) in
-      gone t (owing b m) o fetched runs may.now behind a flash kept done d ok (turned_on m.cpu.sreg.bits a.cpu.sreg.bits)
+      gone t m o fetched runs may.now behind a flash kept done d ok (turned_on m.cpu.sreg.bits a.cpu.sreg.bits)
       (sym (ap (λ (s : Bool). s || turned_on m.cpu.sreg.bits a.cpu.sreg.bits) (plain_no_sei o plain)))
       (wakes a flash o m.cpu m.bus d done ok (plain_awake o plain)) some may.awake may.going may.free
 
-  pub plain_stops : (cause : StopCause) → a.result ≡ Err cause → (b : Bool)
-      → IsStopping t cause (owing b m) (let x : Machine = record m { cpu = a.cpu; bus = a.bus } in owing b x)
-  plain_stops cause stop b = record {
-    state = ran t (owing b m) o fetched runs may.now a flash kept done (Err cause) stop;
-    told = ran_rows t (owing b m) o fetched runs may.now a flash kept done [] (Err cause) stop;
+  -- one that stores nothing owes none
+  pub quiet_goes : (d : Done) → a.result ≡ Ok d → m.to ≤ t → is_store (after_of o) ≡ false → IsStepped t d.cycles m executed_one
+  quiet_goes d ok behind apart =
+      let none : turned_on m.cpu.sreg.bits a.cpu.sreg.bits ≡ false = ap (λ (x : Outcome NodeBus). turned_on m.cpu.sreg.bits x.cpu.sreg.bits) done ∙ quiet flash o m.cpu m.bus plain apart in
+      subst (λ (b : Bool). IsStepped t d.cycles m (owing b executed_one)) (none ∙ sym off) (plain_goes d ok behind)
+
+  pub plain_stops : (cause : StopCause) → a.result ≡ Err cause → IsStopping t cause m (let x : Machine = record m { cpu = a.cpu; bus = a.bus } in x)
+  plain_stops cause stop = record {
+    state = ran t m o fetched runs may.now a flash kept done (Err cause) stop;
+    told = ran_rows t m o fetched runs may.now a flash kept done [] (Err cause) stop;
     same = refl;
     clock = ap (λ (x : Outcome NodeBus). x.bus.board.clock) done ∙ executed_clock flash o m.cpu m.bus;
   }
+
+-- ---- an instruction behind the window, where none is owed before it, as a step of a sprint
+module _ (t : ℕ) (m : Machine) (o : Op) (fetched : o ≡ op_now (shown m)) (may : MayAct t m) (off : m.owed ≡ false) (behind : m.to ≤ t)
+    (to : Cpu) (there : NodeBus) (flash : List ℕ) (kept : flash ≡ m.program.bytes) where
+  abbrev reached : Machine
+  reached = record m { cpu = to; bus = there }
+
+  abbrev Left_so : Result Done StopCause → Type 0
+  Left_so r = (let a : Outcome NodeBus = record { result = r; cpu = to; bus = there } in a ≡ executed flash o m.cpu m.bus)
+
+  pub did : (k : After) (x : Option (Result Done StopCause)) → k ≡ after_of o → is_some x ≡ is_plain o → IfSome x Left_so → IfNone x ((to ≡ m.cpu) × (there ≡ m.bus))
+      → IsStep t (step_of k x) m (counted x reached)
+  did k None e which some none = λ i. let x : Machine = record m { cpu = none.0 i; bus = none.1 i } in x
+  did k (Some (Err cause)) e which some none =
+      let a : Outcome NodeBus = record { result = Err cause; cpu = to; bus = there } in plain_stops t m o fetched (sym which) may off a flash kept some cause refl
+  did after.Nothing (Some (Ok d)) e which some none =
+      let a : Outcome NodeBus = record { result = Ok d; cpu = to; bus = there } in quiet_goes t m o fetched (sym which) may off a flash kept some d refl behind (ap is_store (sym e))
+  did after.Jump (Some (Ok d)) e which some none =
+      let a : Outcome NodeBus = record { result = Ok d; cpu = to; bus = there } in quiet_goes t m o fetched (sym which) may off a flash kept some d refl behind (ap is_store (sym e))
+  did after.Store (Some (Ok d)) e which some none =
+      let a : Outcome NodeBus = record { result = Ok d; cpu = to; bus = there } in plain_goes t m o fetched (sym which) may off a flash kept some d refl behind
+
+-- what is not executed leaves the parts of the core as they were
+pub as_it_was : (regs to : Registers) (core on : Core) (bus there : NodeBus) (x : Option (Result Done StopCause)) → IfNone x ((to ≡ regs) × (on ≡ core) × (there ≡ bus))
+    → IfNone x ((whole to on ≡ whole regs core) × (there ≡ bus))
+as_it_was regs to core on bus there None e = ((λ i. whole (e.0 i) (e.1 i)), e.2)
+as_it_was regs to core on bus there (Some r) e = tt
+
+pub counted_beside : (regs : Registers) (core : Core) (s y : Machine) (x : Option (Result Done StopCause)) → y ≡ counted x s → counted x (beside regs core s) ≡ beside regs core y
+counted_beside regs core s y None e = sym (ap (beside regs core) e)
+counted_beside regs core s y (Some (Err cause)) e = sym (ap (beside regs core) e)
+counted_beside regs core s y (Some (Ok d)) e = sym (ap (beside regs core) e)
 
 -- ---- a run that came to such a cycle
 module _ (v : Timed NodeState Row) (t n : ℕ) (m new : Machine) (k : List Row) (first : Comes node_kind v t (shown m) k) (going : m.stop ≡ None)

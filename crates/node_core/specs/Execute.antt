@@ -13,6 +13,8 @@ use Rattle.arith_step.specs.Table.{arith_cpu, arith_done}
 use Rattle.bus_step.specs.FlowTable.{flow_effect}
 use Rattle.bus_step.specs.MemoryTable.{memory_effect}
 use Rattle.node_core.specs.declared.bus.NodeBus.{NodeBus}
+use Rattle.node_core.specs.declared.instructions.After.{After}
+use Rattle.node_core.specs.declared.instructions.After.TheVariants as after
 use Rattle.node_core.specs.Bus.{bus_get, bus_put}
 
 -- over any bus, by what its loads and stores give
@@ -44,3 +46,29 @@ is_plain (op.Bset s) = false
 is_plain op.Reti = false
 is_plain op.Sleep = false
 is_plain o = runs_on (class_of o)
+
+-- what an instruction may leave that a loop over instructions looks at: a jump may go back, a store may be to SREG
+abbrev pub after_of : Op → After
+after_of (op.Jmp k) = after.Jump
+after_of (op.Rjmp k) = after.Jump
+after_of op.Ijmp = after.Jump
+after_of (op.Brbs s k) = after.Jump
+after_of (op.Brbc s k) = after.Jump
+after_of (op.Call k) = after.Store
+after_of (op.Rcall k) = after.Store
+after_of op.Icall = after.Store
+after_of (op.StX r) = after.Store
+after_of (op.StdY q r) = after.Store
+after_of (op.StdZ q r) = after.Store
+after_of (op.Sts k r) = after.Store
+after_of (op.OutIo a r) = after.Store
+after_of (op.StXInc r) = after.Store
+after_of (op.StYInc r) = after.Store
+after_of (op.StZInc r) = after.Store
+after_of (op.StXDec r) = after.Store
+after_of (op.StYDec r) = after.Store
+after_of (op.StZDec r) = after.Store
+after_of (op.Push r) = after.Store
+after_of (op.Sbi a b) = after.Store
+after_of (op.Cbi a b) = after.Store
+after_of _ = after.Nothing

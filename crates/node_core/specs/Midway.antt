@@ -1,13 +1,19 @@
 -- A run of a node that stands in the middle of a cycle: of that cycle the processor's part is done, the devices' is
 -- not. What that part did, and what the cycles did in which the node only rested.
-use Rattle.std.specs.Prelude.{◌≡◌, ◌<◌, ◌≤◌, ◌+◌, ◌-◌, ◌^◌, ◌&&◌, nat_le, nat_lt, ℕ, Bool, None, Some, true, false, is_some, List, [], ◌++◌, vec_len, vec_capacity}
+use Rattle.std.specs.Prelude.{◌≡◌, ◌<◌, ◌≤◌, ◌+◌, ◌-◌, ◌^◌, ◌&&◌, nat_le, nat_lt, ℕ, Bool, Option, None, Some, Result, Ok, Err, true, false, is_some, List, [], ◌++◌, vec_len, vec_capacity}
 use Rattle.avr_base.specs.declared.stop.StopCause.{StopCause}
 use Rattle.node_core.specs.declared.row.Row.{Row}
 use Rattle.node_core.specs.declared.row.Kind.TheVariants as kind
 use Rattle.world_core.specs.NodeRun.{AllQuiet, Timed, Comes, passed, passed_rows}
+use Rattle.data_space.specs.declared.bus.Done.{Done}
+use Rattle.data_space.specs.declared.cpu.Core.{Core}
+use Rattle.data_space.specs.declared.cpu.Registers.{Registers}
+use Rattle.data_space.specs.Core.{whole}
+use Rattle.node_core.specs.declared.instructions.After.{After}
+use Rattle.node_core.specs.declared.instructions.After.TheVariants as after
 use Rattle.node_core.specs.declared.machine.Machine.{Machine}
 use Rattle.node_core.specs.declared.sprint.Step.{Step}
-use Rattle.node_core.specs.declared.sprint.Step.TheVariants.{Plain, Stopped, Left}
+use Rattle.node_core.specs.declared.sprint.Step.TheVariants.{Plain, Jumped, Stored, Stopped, Left}
 use Rattle.node_core.specs.Inside.{IsGoing}
 use Rattle.node_core.specs.Shown.{shown}
 use Rattle.node_core.specs.State.{NodeState}
@@ -67,15 +73,46 @@ pub record IsStopping (t : ℕ) (cause : StopCause) (old new : Machine) : Type 0
 abbrev pub turned_on : ℕ → ℕ → Bool
 turned_on before after = nat_lt before 128 && nat_le 128 after
 
--- a sprint tells at its end alone whether an instruction is owed
 abbrev pub owing : Bool → Machine → Machine
 owing b m = record m { owed = b }
 
--- what a step of a sprint did in cycle t, whatever was owed before it
+-- a machine whose core has these parts, which stand beside it
+abbrev pub beside : Registers → Core → Machine → Machine
+beside regs core m = record m { cpu = whole regs core }
+
+-- a step of a sprint, by what an instruction may leave and how it ended, if it is one that is executed
+abbrev pub step_of : After → Option (Result Done StopCause) → Step
+step_of k None = Left
+step_of k (Some (Err cause)) = Stopped cause
+step_of after.Nothing (Some (Ok d)) = Plain d.cycles
+step_of after.Jump (Some (Ok d)) = Jumped d.cycles
+step_of after.Store (Some (Ok d)) = Stored d.cycles
+
+abbrev pub counted : Option (Result Done StopCause) → Machine → Machine
+counted (Some (Ok d)) m = record m { count = m.count + 1 }
+counted _ m = m
+
+-- what a step of a sprint did in cycle t, of which nothing is owed before
 abbrev pub IsStep : ℕ → Step → Machine → Machine → Type 0
-IsStep t (Plain n) old new = (b : Bool) → IsStepped t n (owing b old) (owing (turned_on old.cpu.sreg.bits new.cpu.sreg.bits) new)
-IsStep t (Stopped cause) old new = (b : Bool) → IsStopping t cause (owing b old) (owing b new)
+IsStep t (Plain n) old new = IsStepped t n old new
+IsStep t (Jumped n) old new = IsStepped t n old new
+IsStep t (Stored n) old new = IsStepped t n old (owing (turned_on old.cpu.sreg.bits new.cpu.sreg.bits) new)
+IsStep t (Stopped cause) old new = IsStopping t cause old new
 IsStep t Left old new = new ≡ old
+
+-- from cycle t on it executed instruction after instruction behind the window, and stands at the beginning of cycle
+-- `at`
+pub record IsSprinting (t at : ℕ) (old m : Machine) : Type 0 where
+  pub from : t ≤ at
+  pub comes : Comes node_kind (record { cycle = t; asking = false; state = shown old; rows = old.rows.items }) at (shown m) m.rows.items
+  pub going : m.stop ≡ None
+  pub free : m.wait ≡ 0
+  pub awake : m.asleep ≡ false
+  pub behind : m.to ≤ at
+  pub clock : m.bus.board.clock ≡ at
+  pub script : m.script ≡ old.script
+  pub count : m.count ≤ 2 ^ 40 + at
+  pub rows : m.rows ≡ old.rows
 
 -- from cycle t on it executed instruction after instruction, and came to the beginning of cycle c, or, where it is
 -- inside, to the middle of it

@@ -1,6 +1,9 @@
 // One instruction over the core and a data space: the one table of all instructions.
-ghost use Rattle.std.specs.Prelude.{◌≡◌, ◌≤◌, false, is_some, IfOk, IfSome, IfNone};
-ghost use Rattle.node_core.specs.Execute.{executed_over, is_plain};
+ghost use Rattle.std.specs.Prelude.{◌≡◌, ◌≤◌, List, ℕ, Ok, Some, false, is_some, IfOk, IfSome, IfNone};
+ghost use Rattle.data_space.specs.Core.{advanced, core_of, lone, whole};
+ghost use Rattle.data_space.specs.Sequence.{done};
+ghost use Rattle.node_core.specs.declared.instructions.After.TheVariants as after;
+ghost use Rattle.node_core.specs.Execute.{after_of, executed_over, is_plain};
 
 use arith_step::shapes::{
     add, compare, compare_with_carry, copy, copy_pair, load_bit, multiply, put_bits, put_byte,
@@ -18,8 +21,63 @@ use bus_step::flash::{
     load_extended, load_extended_post_increment, load_program, load_program_post_increment,
 };
 use bus_step::jumps::{bit, branch, jump, relative_to, skip, skip_by_io, sleep};
-use data_space::{Bus, Cpu, Done};
+use data_space::{Bus, Core, Cpu, Done, Registers, pair, reg};
 use ihex_loader::Flash;
+
+/// What an instruction may leave that a loop over instructions looks at.
+#[derive(Clone, Copy)]
+pub enum After {
+    /// Nothing: the program goes on, and the flag I is off if it was off.
+    Nothing,
+    /// The program may go on further back.
+    Jump,
+    /// A store, which may be to SREG.
+    Store,
+}
+
+/// What an instruction leaves, and what it reports, where it is one of those that are executed.
+pub type Executed = (After, Option<Result<Done, StopCause>>);
+
+// The end of an instruction of one word on registers, after so many cycles.
+#[inline(always)]
+fn retired(cycles: u8, core: &mut Core) -> Executed
+    ensures core { core.new ≡ core_of (advanced 1 (lone core.old)) }
+    ensures reported { result ≡ (after.Nothing, Some (Ok (done cycles))) }
+{
+    ended(retire(1, cycles, core))
+}
+
+// An instruction that cannot stop, and stores nothing.
+#[inline(always)]
+fn ended(reported: Done) -> Executed
+    ensures { result ≡ (after.Nothing, Some (Ok reported)) }
+{
+    (After::Nothing, Some(Ok(reported)))
+}
+
+// A jump.
+#[inline(always)]
+fn jumped(reported: Done) -> Executed
+    ensures { result ≡ (after.Jump, Some (Ok reported)) }
+{
+    (After::Jump, Some(Ok(reported)))
+}
+
+// An instruction that may stop, and stores nothing.
+#[inline(always)]
+fn loaded(reported: Result<Done, StopCause>) -> Executed
+    ensures { result ≡ (after.Nothing, Some reported) }
+{
+    (After::Nothing, Some(reported))
+}
+
+// An instruction that may stop, and stores a byte.
+#[inline(always)]
+fn stored(reported: Result<Done, StopCause>) -> Executed
+    ensures { result ≡ (after.Store, Some reported) }
+{
+    (After::Store, Some(reported))
+}
 
 /// Executes an instruction (AVR Instruction Set Manual, its operation, flags and cycles) over the core and a data
 /// space. `None` for SEI and its like (BSET), RETI and SLEEP, after which a node looks up, and for one that halts the
@@ -33,136 +91,151 @@ use ihex_loader::Flash;
 /// An `Err` is the stop of an access. What the accesses before it did stays, with the stack pointer that they left;
 /// nothing else of the instruction happens, so the program counter is still the instruction's.
 #[inline(always)]
-#[tactic(auto, unfolding(crate::specs::Execute::executed_over, arith_step::specs::Table::effect, bus_step::specs::FlowTable::flow_effect, bus_step::specs::MemoryTable::memory_effect))]
+#[tactic(auto, unfolding(crate::specs::Execute::executed_over, arith_step::specs::Shapes::sets_flag, arith_step::specs::Shapes::swaps, arith_step::specs::Table::effect, bus_step::specs::FlowShapes::branched, bus_step::specs::FlowShapes::skipping, bus_step::specs::FlowTable::flow_effect, bus_step::specs::MemoryTable::memory_effect))]
 pub fn execute_plain<B: Bus>(
-    op: Op,
+    op: &Op,
     flash: &Flash,
-    cpu: &mut Cpu,
+    regs: &mut Registers,
+    core: &mut Core,
     bus: &mut B,
-) -> Option<Result<Done, StopCause>>
-    ensures which { is_some result ≡ is_plain op }
+) -> Executed
+    ensures after { result.0 ≡ after_of op.now }
+    ensures which { is_some result.1 ≡ is_plain op.now }
     // all that an instruction leaves in one clause: so each arm is proved once, not three times
-    ensures some { IfSome result (λ r. record { result = r; cpu = cpu.new; bus = bus.new } ≡ executed_over B.get_gives B.put_gives flash.now.bytes op cpu.old bus.old) }
-    ensures none { IfNone result ((cpu.new ≡ cpu.old) × (bus.new ≡ bus.old)) }
+    ensures some { IfSome result.1 (λ r. record { result = r; cpu = whole regs.new core.new; bus = bus.new } ≡ executed_over B.get_gives B.put_gives flash.now.bytes op.now (whole regs.old core.old) bus.old) }
+    ensures none { IfNone result.1 ((regs.new ≡ regs.old) × (core.new ≡ core.old) × (bus.new ≡ bus.old)) }
 {
     let x = Reg::numbered(26);
     let y = Reg::numbered(28);
     let z = Reg::numbered(30);
-    match op {
-        Op::Add { d, r } => Some(Ok(retire(1, add(d, cpu.reg(r), false, cpu), cpu))),
-        Op::Adc { d, r } => Some(Ok(retire(
+    match *op {
+        Op::Add { d, r } => retired(add(d, reg(regs, r), false, regs, core), core),
+        Op::Adc { d, r } => retired(
+            add(d, reg(regs, r), core.sreg.has(Sreg::C), regs, core),
+            core,
+        ),
+        Op::Sub { d, r } => retired(subtract(d, reg(regs, r), regs, core), core),
+        Op::Subi { d, k } => retired(subtract(d, k, regs, core), core),
+        Op::Sbc { d, r } => retired(subtract_with_carry(d, reg(regs, r), regs, core), core),
+        Op::Sbci { d, k } => retired(subtract_with_carry(d, k, regs, core), core),
+        Op::Cp { d, r } => retired(compare(d, reg(regs, r), regs, core), core),
+        Op::Cpi { d, k } => retired(compare(d, k, regs, core), core),
+        Op::Cpc { d, r } => retired(compare_with_carry(d, reg(regs, r), regs, core), core),
+        Op::And { d, r } => retired(put_bits(d, reg(regs, d) & reg(regs, r), regs, core), core),
+        Op::Andi { d, k } => retired(put_bits(d, reg(regs, d) & k, regs, core), core),
+        Op::Or { d, r } => retired(put_bits(d, reg(regs, d) | reg(regs, r), regs, core), core),
+        Op::Ori { d, k } => retired(put_bits(d, reg(regs, d) | k, regs, core), core),
+        Op::Eor { d, r } => retired(put_bits(d, reg(regs, d) ^ reg(regs, r), regs, core), core),
+        Op::Com { d } => retired(put_byte(d, com(reg(regs, d), core.sreg), regs, core), core),
+        Op::Neg { d } => retired(put_byte(d, neg(reg(regs, d), core.sreg), regs, core), core),
+        Op::Inc { d } => retired(put_byte(d, inc(reg(regs, d), core.sreg), regs, core), core),
+        Op::Dec { d } => retired(put_byte(d, dec(reg(regs, d), core.sreg), regs, core), core),
+        Op::Lsr { d } => retired(put_byte(d, lsr(reg(regs, d), core.sreg), regs, core), core),
+        Op::Ror { d } => retired(put_byte(d, ror(reg(regs, d), core.sreg), regs, core), core),
+        Op::Asr { d } => retired(put_byte(d, asr(reg(regs, d), core.sreg), regs, core), core),
+        Op::Swap { d } => retired(swap(d, regs), core),
+        Op::Adiw { d, k } => retired(
+            put_word(d, adiw(pair(regs, d), k, core.sreg), regs, core),
+            core,
+        ),
+        Op::Sbiw { d, k } => retired(
+            put_word(d, sbiw(pair(regs, d), k, core.sreg), regs, core),
+            core,
+        ),
+        Op::Mul { d, r } => retired(multiply(MulKind::Mul, d, r, regs, core), core),
+        Op::Muls { d, r } => retired(multiply(MulKind::Muls, d, r, regs, core), core),
+        Op::Mulsu { d, r } => retired(multiply(MulKind::Mulsu, d, r, regs, core), core),
+        Op::Fmul { d, r } => retired(multiply(MulKind::Fmul, d, r, regs, core), core),
+        Op::Fmuls { d, r } => retired(multiply(MulKind::Fmuls, d, r, regs, core), core),
+        Op::Fmulsu { d, r } => retired(multiply(MulKind::Fmulsu, d, r, regs, core), core),
+        Op::Mov { d, r } => retired(copy(d, reg(regs, r), regs), core),
+        Op::Ldi { d, k } => retired(copy(d, k, regs), core),
+        Op::Movw { d, r } => retired(copy_pair(d, r, regs), core),
+        Op::Bclr { s } => retired(set_flag(s % 8, false, core), core),
+        Op::Bld { d, b } => retired(load_bit(d, b % 8, regs, core), core),
+        Op::Bst { d, b } => retired(store_bit(d, b % 8, regs, core), core),
+        Op::Nop | Op::Wdr => retired(1, core),
+        Op::Jmp { k } => jumped(jump(3, k, core)),
+        Op::Rjmp { k } => jumped(jump(2, relative_to(k, core), core)),
+        Op::Ijmp => jumped(jump(2, z_pointer(regs), core)),
+        Op::Brbs { s, k } => jumped(branch(bit(true, s % 8, core.sreg.bits), k, core)),
+        Op::Brbc { s, k } => jumped(branch(bit(false, s % 8, core.sreg.bits), k, core)),
+        Op::Cpse { d, r } => ended(skip(reg(regs, d) == reg(regs, r), flash, core)),
+        Op::Sbrs { r, b } => ended(skip(bit(true, b % 8, reg(regs, r)), flash, core)),
+        Op::Sbrc { r, b } => ended(skip(bit(false, b % 8, reg(regs, r)), flash, core)),
+        Op::Sbis { a, b } => loaded(skip_by_io(a, b % 8, true, flash, regs, core, bus)),
+        Op::Sbic { a, b } => loaded(skip_by_io(a, b % 8, false, flash, regs, core, bus)),
+        Op::Call { k } => stored(call(k, regs, core, bus)),
+        Op::Rcall { k } => stored(call_near(k, regs, core, bus)),
+        Op::Icall => stored(call_at_z(regs, core, bus)),
+        Op::Ret => loaded(ret(regs, core, bus)),
+        Op::LdX { d } => loaded(load_at(d, pair(regs, x), 1, 2, regs, core, bus)),
+        Op::LddY { d, q } => loaded(load_at(d, displaced(y, q, regs), 1, 2, regs, core, bus)),
+        Op::LddZ { d, q } => loaded(load_at(d, displaced(z, q, regs), 1, 2, regs, core, bus)),
+        Op::Lds { d, k } => loaded(load_at(d, k, 2, 2, regs, core, bus)),
+        Op::InIo { d, a } => loaded(load_at(d, io_address(a), 1, 1, regs, core, bus)),
+        Op::LdXInc { d } => loaded(load_post_increment(d, x, regs, core, bus)),
+        Op::LdYInc { d } => loaded(load_post_increment(d, y, regs, core, bus)),
+        Op::LdZInc { d } => loaded(load_post_increment(d, z, regs, core, bus)),
+        Op::LdXDec { d } => loaded(load_pre_decrement(d, x, regs, core, bus)),
+        Op::LdYDec { d } => loaded(load_pre_decrement(d, y, regs, core, bus)),
+        Op::LdZDec { d } => loaded(load_pre_decrement(d, z, regs, core, bus)),
+        Op::StX { r } => stored(store_at(pair(regs, x), reg(regs, r), 1, 2, regs, core, bus)),
+        Op::StdY { q, r } => stored(store_at(
+            displaced(y, q, regs),
+            reg(regs, r),
             1,
-            add(d, cpu.reg(r), cpu.sreg.has(Sreg::C), cpu),
-            cpu,
-        ))),
-        Op::Sub { d, r } => Some(Ok(retire(1, subtract(d, cpu.reg(r), cpu), cpu))),
-        Op::Subi { d, k } => Some(Ok(retire(1, subtract(d, k, cpu), cpu))),
-        Op::Sbc { d, r } => Some(Ok(retire(1, subtract_with_carry(d, cpu.reg(r), cpu), cpu))),
-        Op::Sbci { d, k } => Some(Ok(retire(1, subtract_with_carry(d, k, cpu), cpu))),
-        Op::Cp { d, r } => Some(Ok(retire(1, compare(d, cpu.reg(r), cpu), cpu))),
-        Op::Cpi { d, k } => Some(Ok(retire(1, compare(d, k, cpu), cpu))),
-        Op::Cpc { d, r } => Some(Ok(retire(1, compare_with_carry(d, cpu.reg(r), cpu), cpu))),
-        Op::And { d, r } => Some(Ok(retire(1, put_bits(d, cpu.reg(d) & cpu.reg(r), cpu), cpu))),
-        Op::Andi { d, k } => Some(Ok(retire(1, put_bits(d, cpu.reg(d) & k, cpu), cpu))),
-        Op::Or { d, r } => Some(Ok(retire(1, put_bits(d, cpu.reg(d) | cpu.reg(r), cpu), cpu))),
-        Op::Ori { d, k } => Some(Ok(retire(1, put_bits(d, cpu.reg(d) | k, cpu), cpu))),
-        Op::Eor { d, r } => Some(Ok(retire(1, put_bits(d, cpu.reg(d) ^ cpu.reg(r), cpu), cpu))),
-        Op::Com { d } => Some(Ok(retire(1, put_byte(d, com(cpu.reg(d), cpu.sreg), cpu), cpu))),
-        Op::Neg { d } => Some(Ok(retire(1, put_byte(d, neg(cpu.reg(d), cpu.sreg), cpu), cpu))),
-        Op::Inc { d } => Some(Ok(retire(1, put_byte(d, inc(cpu.reg(d), cpu.sreg), cpu), cpu))),
-        Op::Dec { d } => Some(Ok(retire(1, put_byte(d, dec(cpu.reg(d), cpu.sreg), cpu), cpu))),
-        Op::Lsr { d } => Some(Ok(retire(1, put_byte(d, lsr(cpu.reg(d), cpu.sreg), cpu), cpu))),
-        Op::Ror { d } => Some(Ok(retire(1, put_byte(d, ror(cpu.reg(d), cpu.sreg), cpu), cpu))),
-        Op::Asr { d } => Some(Ok(retire(1, put_byte(d, asr(cpu.reg(d), cpu.sreg), cpu), cpu))),
-        Op::Swap { d } => Some(Ok(retire(1, swap(d, cpu), cpu))),
-        Op::Adiw { d, k } => Some(Ok(retire(
+            2,
+            regs,
+            core,
+            bus,
+        )),
+        Op::StdZ { q, r } => stored(store_at(
+            displaced(z, q, regs),
+            reg(regs, r),
             1,
-            put_word(d, adiw(cpu.pair(d), k, cpu.sreg), cpu),
-            cpu,
-        ))),
-        Op::Sbiw { d, k } => Some(Ok(retire(
-            1,
-            put_word(d, sbiw(cpu.pair(d), k, cpu.sreg), cpu),
-            cpu,
-        ))),
-        Op::Mul { d, r } => Some(Ok(retire(1, multiply(MulKind::Mul, d, r, cpu), cpu))),
-        Op::Muls { d, r } => Some(Ok(retire(1, multiply(MulKind::Muls, d, r, cpu), cpu))),
-        Op::Mulsu { d, r } => Some(Ok(retire(1, multiply(MulKind::Mulsu, d, r, cpu), cpu))),
-        Op::Fmul { d, r } => Some(Ok(retire(1, multiply(MulKind::Fmul, d, r, cpu), cpu))),
-        Op::Fmuls { d, r } => Some(Ok(retire(1, multiply(MulKind::Fmuls, d, r, cpu), cpu))),
-        Op::Fmulsu { d, r } => Some(Ok(retire(1, multiply(MulKind::Fmulsu, d, r, cpu), cpu))),
-        Op::Mov { d, r } => Some(Ok(retire(1, copy(d, cpu.reg(r), cpu), cpu))),
-        Op::Ldi { d, k } => Some(Ok(retire(1, copy(d, k, cpu), cpu))),
-        Op::Movw { d, r } => Some(Ok(retire(1, copy_pair(d, r, cpu), cpu))),
-        Op::Bclr { s } => Some(Ok(retire(1, set_flag(s % 8, false, cpu), cpu))),
-        Op::Bld { d, b } => Some(Ok(retire(1, load_bit(d, b % 8, cpu), cpu))),
-        Op::Bst { d, b } => Some(Ok(retire(1, store_bit(d, b % 8, cpu), cpu))),
-        Op::Nop | Op::Wdr => Some(Ok(retire(1, 1, cpu))),
-        Op::Jmp { k } => Some(Ok(jump(3, k, cpu))),
-        Op::Rjmp { k } => Some(Ok(jump(2, relative_to(k, cpu), cpu))),
-        Op::Ijmp => Some(Ok(jump(2, z_pointer(cpu), cpu))),
-        Op::Brbs { s, k } => Some(Ok(branch(bit(true, s % 8, cpu.sreg.bits), k, cpu))),
-        Op::Brbc { s, k } => Some(Ok(branch(bit(false, s % 8, cpu.sreg.bits), k, cpu))),
-        Op::Cpse { d, r } => Some(Ok(skip(cpu.reg(d) == cpu.reg(r), flash, cpu))),
-        Op::Sbrs { r, b } => Some(Ok(skip(bit(true, b % 8, cpu.reg(r)), flash, cpu))),
-        Op::Sbrc { r, b } => Some(Ok(skip(bit(false, b % 8, cpu.reg(r)), flash, cpu))),
-        Op::Sbis { a, b } => Some(skip_by_io(a, b % 8, true, flash, cpu, bus)),
-        Op::Sbic { a, b } => Some(skip_by_io(a, b % 8, false, flash, cpu, bus)),
-        Op::Call { k } => Some(call(k, cpu, bus)),
-        Op::Rcall { k } => Some(call_near(k, cpu, bus)),
-        Op::Icall => Some(call_at_z(cpu, bus)),
-        Op::Ret => Some(ret(cpu, bus)),
-        Op::LdX { d } => Some(load_at(d, cpu.pair(x), 1, 2, cpu, bus)),
-        Op::LddY { d, q } => Some(load_at(d, displaced(y, q, cpu), 1, 2, cpu, bus)),
-        Op::LddZ { d, q } => Some(load_at(d, displaced(z, q, cpu), 1, 2, cpu, bus)),
-        Op::Lds { d, k } => Some(load_at(d, k, 2, 2, cpu, bus)),
-        Op::InIo { d, a } => Some(load_at(d, io_address(a), 1, 1, cpu, bus)),
-        Op::LdXInc { d } => Some(load_post_increment(d, x, cpu, bus)),
-        Op::LdYInc { d } => Some(load_post_increment(d, y, cpu, bus)),
-        Op::LdZInc { d } => Some(load_post_increment(d, z, cpu, bus)),
-        Op::LdXDec { d } => Some(load_pre_decrement(d, x, cpu, bus)),
-        Op::LdYDec { d } => Some(load_pre_decrement(d, y, cpu, bus)),
-        Op::LdZDec { d } => Some(load_pre_decrement(d, z, cpu, bus)),
-        Op::StX { r } => Some(store_at(cpu.pair(x), cpu.reg(r), 1, 2, cpu, bus)),
-        Op::StdY { q, r } => Some(store_at(displaced(y, q, cpu), cpu.reg(r), 1, 2, cpu, bus)),
-        Op::StdZ { q, r } => Some(store_at(displaced(z, q, cpu), cpu.reg(r), 1, 2, cpu, bus)),
-        Op::Sts { k, r } => Some(store_at(k, cpu.reg(r), 2, 2, cpu, bus)),
-        Op::OutIo { a, r } => Some(store_at(io_address(a), cpu.reg(r), 1, 1, cpu, bus)),
-        Op::StXInc { r } => Some(store_post_increment(x, r, cpu, bus)),
-        Op::StYInc { r } => Some(store_post_increment(y, r, cpu, bus)),
-        Op::StZInc { r } => Some(store_post_increment(z, r, cpu, bus)),
-        Op::StXDec { r } => Some(store_pre_decrement(x, r, cpu, bus)),
-        Op::StYDec { r } => Some(store_pre_decrement(y, r, cpu, bus)),
-        Op::StZDec { r } => Some(store_pre_decrement(z, r, cpu, bus)),
-        Op::Push { r } => Some(push_reg(r, cpu, bus)),
-        Op::Pop { d } => Some(pop_reg(d, cpu, bus)),
-        Op::Sbi { a, b } => Some(set_bit(a, b % 8, true, cpu, bus)),
-        Op::Cbi { a, b } => Some(set_bit(a, b % 8, false, cpu, bus)),
-        Op::LpmR0 => Some(Ok(load_program(Reg::numbered(0), flash, cpu))),
-        Op::LpmZ { d } => Some(Ok(load_program(d, flash, cpu))),
-        Op::LpmZInc { d } => Some(Ok(load_program_post_increment(d, flash, cpu))),
-        Op::ElpmR0 => Some(Ok(load_extended(Reg::numbered(0), flash, cpu))),
-        Op::ElpmZ { d } => Some(Ok(load_extended(d, flash, cpu))),
-        Op::ElpmZInc { d } => Some(Ok(load_extended_post_increment(d, flash, cpu))),
-        _ => None,
+            2,
+            regs,
+            core,
+            bus,
+        )),
+        Op::Sts { k, r } => stored(store_at(k, reg(regs, r), 2, 2, regs, core, bus)),
+        Op::OutIo { a, r } => stored(store_at(io_address(a), reg(regs, r), 1, 1, regs, core, bus)),
+        Op::StXInc { r } => stored(store_post_increment(x, r, regs, core, bus)),
+        Op::StYInc { r } => stored(store_post_increment(y, r, regs, core, bus)),
+        Op::StZInc { r } => stored(store_post_increment(z, r, regs, core, bus)),
+        Op::StXDec { r } => stored(store_pre_decrement(x, r, regs, core, bus)),
+        Op::StYDec { r } => stored(store_pre_decrement(y, r, regs, core, bus)),
+        Op::StZDec { r } => stored(store_pre_decrement(z, r, regs, core, bus)),
+        Op::Push { r } => stored(push_reg(r, regs, core, bus)),
+        Op::Pop { d } => loaded(pop_reg(d, regs, core, bus)),
+        Op::Sbi { a, b } => stored(set_bit(a, b % 8, true, regs, core, bus)),
+        Op::Cbi { a, b } => stored(set_bit(a, b % 8, false, regs, core, bus)),
+        Op::LpmR0 => ended(load_program(Reg::numbered(0), flash, regs, core)),
+        Op::LpmZ { d } => ended(load_program(d, flash, regs, core)),
+        Op::LpmZInc { d } => ended(load_program_post_increment(d, flash, regs, core)),
+        Op::ElpmR0 => ended(load_extended(Reg::numbered(0), flash, regs, core)),
+        Op::ElpmZ { d } => ended(load_extended(d, flash, regs, core)),
+        Op::ElpmZInc { d } => ended(load_extended_post_increment(d, flash, regs, core)),
+        _ => (After::Nothing, None),
     }
 }
 
 // An instruction after which a node looks up, or that halts it.
-#[tactic(auto, unfolding(crate::specs::Execute::executed_over, arith_step::specs::Table::effect, bus_step::specs::FlowTable::flow_effect))]
+#[tactic(auto, unfolding(crate::specs::Execute::executed_over, arith_step::specs::Shapes::sets_flag, arith_step::specs::Table::effect, bus_step::specs::FlowTable::flow_effect))]
 fn execute_other<B: Bus>(
-    op: Op,
-    flash: &Flash,
-    cpu: &mut Cpu,
+    op: &Op,
+    regs: &mut Registers,
+    core: &mut Core,
     bus: &mut B,
 ) -> Result<Done, StopCause>
-    requires { is_plain op ≡ false }
-    ensures outcome { record { result = result; cpu = cpu.new; bus = bus.new } ≡ executed_over B.get_gives B.put_gives flash.now.bytes op cpu.old bus.old }
+    requires { is_plain op.now ≡ false }
+    ensures outcome { (flash : List ℕ) → record { result = result; cpu = whole regs.new core.new; bus = bus.new } ≡ executed_over B.get_gives B.put_gives flash op.now (whole regs.old core.old) bus.old }
 {
-    match op {
-        Op::Bset { s } => Ok(retire(1, set_flag(s % 8, true, cpu), cpu)),
-        Op::Reti => reti(cpu, bus),
-        Op::Sleep => Ok(sleep(cpu)),
+    match *op {
+        Op::Bset { s } => Ok(retire(1, set_flag(s % 8, true, core), core)),
+        Op::Reti => reti(regs, core, bus),
+        Op::Sleep => Ok(sleep(core)),
         _ => match op.class() {
             Class::Halting(cause) => Err(cause),
             Class::Arith | Class::Flow | Class::Memory => unreachable!(),
@@ -172,7 +245,7 @@ fn execute_other<B: Bus>(
 
 /// Executes an instruction of any class, as [`execute_plain`] does. One that halts the node is an `Err`, and changes
 /// nothing.
-#[inline(always)]
+#[inline(never)]
 pub fn execute<B: Bus>(
     op: &Op,
     flash: &Flash,
@@ -183,8 +256,11 @@ pub fn execute<B: Bus>(
     // so the cycles can be counted down
     ensures takes { IfOk result (λ d. 1 ≤ d.cycles) }
 {
-    match execute_plain(*op, flash, cpu, bus) {
-        Some(result) => result,
-        None => execute_other(*op, flash, cpu, bus),
-    }
+    let (mut regs, mut core) = cpu.parts();
+    let result = match execute_plain(op, flash, &mut regs, &mut core, bus) {
+        (_, Some(result)) => result,
+        (_, None) => execute_other(op, &mut regs, &mut core, bus),
+    };
+    *cpu = Cpu::of_parts(&regs, core);
+    result
 }

@@ -12,9 +12,13 @@ use data_space::{Cpu, push_word};
 pub fn enter(vector: Vector, cpu: &mut Cpu, bus: &mut NodeBus) -> Result<(), StopCause>
     ensures { record { result = result; cpu = cpu.new; bus = bus.new } ≡ entry vector.word cpu.old bus.old }
 {
-    let back = cpu.pc;
-    push_word(cpu, bus, back)?;
-    cpu.sreg = cpu.sreg.with(Sreg::I, false);
-    cpu.pc = vector.word;
-    Ok(())
+    let (mut regs, mut core) = cpu.parts();
+    let back = core.pc;
+    let pushed = push_word(&mut regs, &mut core, bus, back);
+    if pushed.is_ok() {
+        core.sreg = core.sreg.with(Sreg::I, false);
+        core.pc = vector.word;
+    }
+    *cpu = Cpu::of_parts(&regs, core);
+    pushed
 }

@@ -32,26 +32,21 @@ impl Machine {
         self.bus.board.leap_whole(cycle, taken)
     }
 
-    /// The devices' part of the cycles of such an instruction, if no interrupt line is up before or after them either:
-    /// whether it was so.
+    /// The devices' part of the cycles of such an instruction, which began in the cycle of the board's clock, if no
+    /// interrupt line is up before or after them either: whether it was so.
     #[inline(always)]
-    pub fn passes_clear(&mut self, cycle: u64, end: u64, taken: u8) -> bool
-        requires now { self.old.bus.board.clock ≡ cycle }
+    pub fn passes_clear(&mut self, end: u64, taken: u8) -> bool
         requires some { 0 < taken }
-        requires early { cycle ≤ 2 ^ 40 }
-        requires none { (i : ℕ) → cycle + i < end → script_byte self.old.script (cycle + i) ≡ None }
-        ensures calm { result ≡ true → IsCalm cycle taken (shown self.old) }
-        ensures state { result ≡ true → shown self.new ≡ record (shown self.old) { bus = with_board (shown self.old).bus (timers_leap cycle taken (shown self.old).bus.board) } }
+        requires none { (i : ℕ) → self.old.bus.board.clock + i < end → script_byte self.old.script (self.old.bus.board.clock + i) ≡ None }
+        ensures calm { result ≡ true → IsCalm self.old.bus.board.clock taken (shown self.old) }
+        ensures state { result ≡ true → shown self.new ≡ record (shown self.old) { bus = with_board (shown self.old).bus (timers_leap self.old.bus.board.clock taken (shown self.old).bus.board) } }
         ensures clear { result ≡ true → (lines_of self.new.bus.board).bits ≡ 0 }
         ensures same { result ≡ false → self.new ≡ self.old }
         ensures others { self.new ≡ record self.old { bus = self.new.bus } }
-        ensures clock { result ≡ true → self.new.bus.board.clock ≡ cycle + taken }
-        ensures within { result ≡ true → cycle + taken ≤ end }
+        ensures clock { result ≡ true → self.new.bus.board.clock ≡ self.old.bus.board.clock + taken }
+        ensures within { result ≡ true → self.old.bus.board.clock + taken ≤ end }
     {
-        if cycle + u64::from(taken) > end {
-            return false;
-        }
-        self.bus.board.leap_clear(cycle, taken)
+        self.bus.board.leap_clear(end, taken)
     }
 
     // The devices' part of the cycle `cycle`, in which an instruction begins that takes `taken` cycles, and its other

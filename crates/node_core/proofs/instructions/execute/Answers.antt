@@ -1,10 +1,13 @@
-use Rattle.node_core.proofs.Executes.{takes}
+use Rattle.std.proofs.Common.{◌≤◌, sym, subst}
+use Rattle.std.specs.Prelude.{Result, IfOk}
+use Rattle.avr_base.specs.declared.stop.StopCause.{StopCause}
+use Rattle.data_space.specs.declared.bus.Done.{Done}
+use Rattle.node_core.proofs.Executes.{Takes, some_takes, takes}
+use Rattle.node_core.proofs.instructions.execute.Goals.{in_default-Some, in_default-None}
 use Rattle.node_core.proofs.instructions.execute.Goals as goal
 
-pub returns-in-Some-clause-takes : goal.returns-in-Some-clause-takes
-returns-in-Some-clause-takes g c =
-    takes g.B.Bus.get_gives g.B.Bus.put_gives _ c.args.flash.now.bytes c.args.op.now c.args.cpu.now c.args.bus.now c.in-Some.ensures.some
-
-pub returns-in-None-clause-takes : goal.returns-in-None-clause-takes
-returns-in-None-clause-takes g c =
-    takes g.B.Bus.get_gives g.B.Bus.put_gives _ c.args.flash.now.bytes c.args.op.now c.execute_plain.new.cpu c.execute_plain.new.bus c.execute_other.ensures.outcome
+pub returns-clause-takes : goal.returns-clause-takes
+returns-clause-takes g c = elim c.match-execute_plain.branch [
+  | in_default-Some w ↦ subst Takes (sym w.result-is) (some_takes g.B.Bus.get_gives g.B.Bus.put_gives _ _ _ _ _ _ _ _ w.in_default-Some.is-1 c.execute_plain.ensures.some)
+  | in_default-None w ↦ subst Takes (sym w.result-is) (takes g.B.Bus.get_gives g.B.Bus.put_gives _ c.args.flash.now.bytes c.args.op.now _ _ (w.execute_other-result.ensures.outcome c.args.flash.now.bytes))
+]
