@@ -13,16 +13,11 @@ use Rattle.bus_step.proofs.MemoryTakes.{memory_takes}
 use Rattle.data_space.specs.declared.bus.Done.{Done}
 use Rattle.data_space.specs.declared.cpu.Cpu.{Cpu}
 use Rattle.data_space.specs.Sequence.{Outcome}
-use Rattle.node_core.specs.Cycle.{is_sei, is_sleep}
+use Rattle.node_core.specs.Cycle.{is_sleep}
 use Rattle.node_core.specs.Execute.{executed_over, executed_over_by, is_plain}
 use Rattle.node_core.proofs.Takes.{arith_takes}
 
--- a plain instruction neither sets I at once nor sleeps
-pub plain_no_sei : (o : Op) → is_plain o ≡ true → is_sei o ≡ false
-plain_no_sei (op.Bset s) e = absurd (false≢true e)
-plain_no_sei op.Reti e = absurd (false≢true e)
-plain_no_sei _ e = refl
-
+-- a plain instruction does not sleep
 pub plain_awake : (o : Op) → is_plain o ≡ true → is_sleep o ≡ false
 plain_awake op.Sleep e = absurd (false≢true e)
 plain_awake _ e = refl

@@ -1,10 +1,14 @@
 -- A sprint: what holds of it at the beginning of a cycle, and how a step takes it on or ends it.
-use Rattle.std.proofs.Common.{◌≡◌, ℕ, ◌+◌, ◌-◌, ◌≤◌, ◌<◌, ◌^◌, ◌++◌, Bool, cond, true, false, Option, Some, None, List, is_some, refl, sym, subst, ap, ◌∙◌, arith}
+use Rattle.std.proofs.Common.{◌≡◌, ℕ, ◌+◌, ◌-◌, ◌≤◌, ◌<◌, ◌^◌, ◌++◌, nat_lt, Bool, cond, true, false, Option, Some, None, List, is_some, refl, sym, subst, ap, ◌∙◌, arith}
 use Rattle.std.proofs.lemmas.Bool.{false≢true}
+use Rattle.std.proofs.lemmas.Bool.Decides.{nat_tests}
 use Rattle.std.specs.Prelude.{vec_len, vec_capacity}
 use Rattle.avr_base.specs.Flags.{I, has_flag}
 use Rattle.avr_base.specs.Lines.{due_of, lowest_line, pending_of, vector_of}
+use Rattle.board_io.specs.declared.board.Board.{Board}
+use Rattle.board_io.specs.Board.{unclocked}
 use Rattle.board_io.specs.Cycle.{timers_leap}
+use Rattle.board_io.specs.Lagging.{IsIdle}
 use Rattle.board_io.specs.Lines.{lines_of}
 use Rattle.board_io.proofs.Lags.{lines_clock}
 use Rattle.world_core.specs.NodeRun.{Comes, Timed}
@@ -23,7 +27,7 @@ use Rattle.node_core.specs.Bus.{with_board}
 use Rattle.node_core.specs.Cycle.{instructed, instructed_rows, node_kind, row}
 use Rattle.node_core.specs.Inside.{IsCalm, MayAct}
 use Rattle.node_core.specs.Interrupts.{due}
-use Rattle.node_core.specs.Midway.{IsActed, IsMidway, IsSprinted, IsSprinting, IsStepped, IsStopping, beside}
+use Rattle.node_core.specs.Midway.{IsActed, IsMidway, IsSprinted, IsSprinting, IsStepped, IsStopping, IsTurning, beside, over, owing}
 use Rattle.node_core.specs.Shown.{shown}
 use Rattle.node_core.specs.State.{NodeState}
 use Rattle.node_core.proofs.Acts.{one_more, one_row}
@@ -237,29 +241,70 @@ silent t at end old m same from none i l =
     ap (λ (x : ScriptBytes). script_byte x (at + i)) same
     ∙ subst (λ (u : ℕ). script_byte old.script u ≡ None) there (none (at - t + i) (omega (arith, l, from)))
 
--- ---- of a machine whose core stands beside it
-module _ (t n : ℕ) (old m s : Machine) (regs : Registers) (core : Core) (h : IsSprinting t m.bus.board.clock old m) where
-  -- the cycles of a step pass
-  pub passes : (y : Machine) → due (shown m) ≡ None → IsStepped m.bus.board.clock n m (beside regs core s) → IsCalm s.bus.board.clock n (shown s)
-      → shown y ≡ (let u : NodeState = record (shown s) { bus = with_board (shown s).bus (timers_leap s.bus.board.clock n (shown s).bus.board) } in u)
-      → y ≡ (let z : Machine = record s { bus = y.bus } in z) → y.bus.board.clock ≡ s.bus.board.clock + n → IsSprinting t y.bus.board.clock old (beside regs core y)
-  passes y none p calm state others clock =
-      let same : s.bus.board.clock ≡ m.bus.board.clock = p.clock in
-      let cpu : Cpu = whole regs core in
-      let there : y.bus.board.clock ≡ m.bus.board.clock + n = clock ∙ ap (λ (u : ℕ). u + n) same in
-      let here : IsCalm m.bus.board.clock n (shown (beside regs core s)) =
-      subst (λ (u : ℕ). IsCalm u n (shown (beside regs core s))) same (let k : IsCalm s.bus.board.clock n (shown (beside regs core s)) = record { ends = calm.ends; none = calm.none } in k) in
-      let after : shown (beside regs core y) ≡ (let u : NodeState = record (shown (beside regs core s)) { bus = with_board (shown s).bus (timers_leap m.bus.board.clock n (shown s).bus.board) } in u) =
-      (λ i. let u : NodeState = record (state i) { cpu = cpu } in u)
-      ∙ ap (λ (c : ℕ). (let u : NodeState = record (shown (beside regs core s)) { bus = with_board (shown s).bus (timers_leap c n (shown s).bus.board) } in u)) same in
-      subst (λ (c : ℕ). IsSprinting t c old (beside regs core y)) (sym there)
-      (steps_on t m.bus.board.clock n old m (beside regs core s) (beside regs core y) h none p here after (λ i. beside regs core (others i)) there)
+-- ---- a step of a sprint, of n cycles
+module _ (t end : ℕ) (first self : Machine) (regs : Registers) (core : Core) (owed_to : ℕ) (h : IsTurning t end first self regs core owed_to)
+    (n : ℕ) (to : Registers) (on : Core) (bus : NodeBus) (count : ℕ) (b : Bool)
+    (p : IsStepped self.bus.board.clock n (owing (nat_lt self.count owed_to) (beside regs core self)) (owing b (over to on bus count self))) where
+  abbrev m : Machine
+  m = owing (nat_lt self.count owed_to) (beside regs core self)
 
-  -- a step whose cycles are still to pass, on a machine that is the same
-  pub carried : (y : Machine) → y ≡ s → IsStepped m.bus.board.clock n m (beside regs core s) → IsStepped y.bus.board.clock n m (beside regs core y)
-  carried y same p =
-      let clock : y.bus.board.clock ≡ m.bus.board.clock = ap (λ (x : Machine). x.bus.board.clock) same ∙ p.clock in
-      subst (λ (c : ℕ). IsStepped c n m (beside regs core y)) (sym clock) (subst (λ (x : Machine). IsStepped m.bus.board.clock n m (beside regs core x)) (sym same) p)
+  abbrev on_board : Board → Machine
+  on_board board = record self { bus = with_board bus board; count = count }
 
-  pub at_it : (y : Machine) → y ≡ s → IsStepped m.bus.board.clock n m (beside regs core s) → IsSprinting t y.bus.board.clock old m
-  at_it y same p = subst (λ (c : ℕ). IsSprinting t c old m) (sym (ap (λ (x : Machine). x.bus.board.clock) same ∙ p.clock)) h
+  pub turn_free : due (shown m) ≡ None
+  turn_free = clear_due m h.clear
+
+  -- its cycles pass
+  module _ (silence : (i : ℕ) → t + i < end → script_byte first.script (t + i) ≡ None) (board : Board) (within : bus.board.clock + n ≤ end)
+      (idle : IsIdle bus.board.clock n (unclocked bus.board)) (state : unclocked board ≡ timers_leap bus.board.clock n (unclocked bus.board))
+      (clear : (lines_of board).bits ≡ 0) (clock : board.clock ≡ bus.board.clock + n) where
+    goes_past : IsSprinting t board.clock first (owing b (beside to on (on_board board)))
+    goes_past =
+        let at : ℕ = self.bus.board.clock in
+        let w : Machine = owing b (over to on bus count self) in
+        let same : bus.board.clock ≡ at = p.clock in
+        let there : board.clock ≡ at + n = clock ∙ ap (λ (u : ℕ). u + n) same in
+        let here : IsIdle at n (unclocked bus.board) = subst (λ (u : ℕ). IsIdle u n (unclocked bus.board)) same idle in
+        let next : unclocked board ≡ timers_leap at n (unclocked bus.board) = subst (λ (u : ℕ). unclocked board ≡ timers_leap u n (unclocked bus.board)) same state in
+        let from = h.runs.from in
+        let calm : IsCalm at n (shown w) = record {
+          ends = here.quiet;
+          none = λ i l. silent t at end first w (p.script ∙ h.runs.script) from silence i (omega (arith, l, within, same));
+        } in
+        subst (λ (u : ℕ). IsSprinting t u first (owing b (beside to on (on_board board)))) (sym there)
+        (goes t at first m h.runs n w turn_free p (with_board bus board) calm (λ i. let u : NodeState = record (shown w) { bus = with_board (shown w).bus (next i) } in u) there)
+
+    pub turned : (owed : ℕ) → owed ≤ count + 1 → nat_lt count owed ≡ b → IsTurning t end first (on_board board) to on owed
+    turned owed top is = record {
+      within = omega (arith, within, clock);
+      off = h.off;
+      clear = clear;
+      top = top;
+      runs = subst (λ (c : Bool). IsSprinting t board.clock first (owing c (beside to on (on_board board)))) (sym is) goes_past;
+    }
+
+    pub moved : self.bus.board.clock < board.clock
+    moved = let some = p.some in let same = p.clock in omega (arith, some, same, clock)
+
+  -- or are still to pass, on a board that is the same
+  module _ (board : Board) (same : board ≡ bus.board) where
+    pub stays_at : board.clock ≡ self.bus.board.clock
+    stays_at = ap (λ (x : Board). x.clock) same ∙ p.clock
+
+    pub at_it : IsSprinting t board.clock first m
+    at_it = subst (λ (c : ℕ). IsSprinting t c first m) (sym stays_at) h.runs
+
+    pub carried : IsStepped board.clock n m (owing b (beside to on (on_board board)))
+    carried =
+        subst (λ (c : ℕ). IsStepped c n m (owing b (beside to on (on_board board)))) (sym stays_at)
+        (subst (λ (x : Board). IsStepped self.bus.board.clock n m (owing b (beside to on (on_board x)))) (sym same) p)
+
+-- behind an instruction none is owed that was owed up to it
+pub not_owed : (n k : ℕ) → k ≤ n + 1 → nat_lt (n + 1) k ≡ false
+not_owed n k top = grind (arith, nat_tests, top)
+
+pub still_owed : (n : ℕ) → nat_lt n (n + 1) ≡ true
+still_owed n = grind (arith, nat_tests)
+
+pub none_owed : (n : ℕ) → nat_lt n 0 ≡ false
+none_owed n = grind (arith, nat_tests)

@@ -25,12 +25,12 @@ use Rattle.node_core.specs.Cycle.{first_word, instructed, instructed_rows, is_id
 use Rattle.node_core.specs.Execute.{after_of, executed, is_plain}
 use Rattle.node_core.specs.Inside.{IsCalm, MayAct}
 use Rattle.node_core.specs.Interrupts.{due}
-use Rattle.node_core.specs.Midway.{IsActed, IsMidway, IsStep, IsStepped, IsStopping, beside, counted, owing, step_of, turned_on}
+use Rattle.node_core.specs.Midway.{IsActed, IsMidway, IsStep, IsStepped, IsStopping, counted, owing, step_of, turned_on}
 use Rattle.node_core.specs.Shown.{shown}
 use Rattle.node_core.specs.State.{NodeState}
 use Rattle.node_core.proofs.Clocks.{executed_clock}
-use Rattle.node_core.proofs.Quiet.{is_store, quiet}
-use Rattle.node_core.proofs.Executes.{plain_awake, plain_no_sei, takes}
+use Rattle.node_core.proofs.Quiet.{enables, is_enabled, may_turn_on, quiet}
+use Rattle.node_core.proofs.Executes.{plain_awake, takes}
 use Rattle.node_core.proofs.Wakes.{wakes}
 use Rattle.node_core.proofs.Ran.{goes_on, ran, ran_rows}
 use Rattle.node_core.proofs.Strides.{passed_there}
@@ -83,67 +83,74 @@ module _ (t : ℕ) (m : Machine) (o : Op) (fetched : o ≡ op_now (shown m)) (ru
     clock = ap (λ (x : Outcome NodeBus). x.bus.board.clock) done ∙ executed_clock flash o m.cpu m.bus;
   }
 
--- ---- a plain instruction behind the window, where none is owed before it
-module _ (t : ℕ) (m : Machine) (o : Op) (fetched : o ≡ op_now (shown m)) (plain : is_plain o ≡ true) (may : MayAct t m) (off : m.owed ≡ false)
+-- ---- a plain instruction behind the window
+module _ (t : ℕ) (m : Machine) (o : Op) (fetched : o ≡ op_now (shown m)) (plain : is_plain o ≡ true) (may : MayAct t m)
     (a : Outcome NodeBus) (flash : List ℕ) (kept : flash ≡ m.program.bytes) (done : a ≡ executed flash o m.cpu m.bus) where
   runs : is_refused (shown m) o ≡ false
   runs = runs_on (shown m) o (plain_awake o plain)
 
-  abbrev executed_one : Machine
-  executed_one = record m { cpu = a.cpu; bus = a.bus; count = m.count + 1 }
-
-  pub plain_goes : (d : Done) → a.result ≡ Ok d → m.to ≤ t → IsStepped t d.cycles m (owing (turned_on m.cpu.sreg.bits a.cpu.sreg.bits) executed_one)
-  plain_goes d ok behind =
+  -- owing what is owed behind it
+  pub plain_goes : (b : Bool) → b ≡ owes o m.cpu.sreg.bits a.cpu.sreg.bits → (d : Done) → a.result ≡ Ok d → m.to ≤ t
+      → IsStepped t d.cycles m (let x : Machine = record m { cpu = a.cpu; bus = a.bus; owed = b; count = m.count + 1 } in x)
+  plain_goes b owed d ok behind =
       let some : IfOk {E = StopCause} (Ok d) (λ (e : Done). 1 ≤ e.cycles) = subst (λ (r : Result Done StopCause). IfOk r (λ (e : Done). 1 ≤ e.cycles)) ok (takes bus_get bus_put a flash o m.cpu m.bus done) in
-      gone t m o fetched runs may.now behind a flash kept done d ok (turned_on m.cpu.sreg.bits a.cpu.sreg.bits)
-      (sym (ap (λ (s : Bool). s || turned_on m.cpu.sreg.bits a.cpu.sreg.bits) (plain_no_sei o plain)))
+      gone t m o fetched runs may.now behind a flash kept done d ok b owed
       (wakes a flash o m.cpu m.bus d done ok (plain_awake o plain)) some may.awake may.going may.free
 
-  -- one that stores nothing owes none
-  pub quiet_goes : (d : Done) → a.result ≡ Ok d → m.to ≤ t → is_store (after_of o) ≡ false → IsStepped t d.cycles m executed_one
-  quiet_goes d ok behind apart =
-      let none : turned_on m.cpu.sreg.bits a.cpu.sreg.bits ≡ false = ap (λ (x : Outcome NodeBus). turned_on m.cpu.sreg.bits x.cpu.sreg.bits) done ∙ quiet flash o m.cpu m.bus plain apart in
-      subst (λ (b : Bool). IsStepped t d.cycles m (owing b executed_one)) (none ∙ sym off) (plain_goes d ok behind)
+  -- by what it leaves
+  pub enabled_owes : is_enabled (after_of o) ≡ true → true ≡ owes o m.cpu.sreg.bits a.cpu.sreg.bits
+  enabled_owes on = sym (ap (λ (s : Bool). s || turned_on m.cpu.sreg.bits a.cpu.sreg.bits) (enables o ∙ on))
+
+  pub stored_owes : is_enabled (after_of o) ≡ false → turned_on m.cpu.sreg.bits a.cpu.sreg.bits ≡ owes o m.cpu.sreg.bits a.cpu.sreg.bits
+  stored_owes off = sym (ap (λ (s : Bool). s || turned_on m.cpu.sreg.bits a.cpu.sreg.bits) (enables o ∙ off))
+
+  pub quiet_owes : is_enabled (after_of o) ≡ false → may_turn_on (after_of o) ≡ false → false ≡ owes o m.cpu.sreg.bits a.cpu.sreg.bits
+  quiet_owes off apart =
+      sym (ap (λ (x : Outcome NodeBus). turned_on m.cpu.sreg.bits x.cpu.sreg.bits) done ∙ quiet flash o m.cpu m.bus apart) ∙ stored_owes off
 
   pub plain_stops : (cause : StopCause) → a.result ≡ Err cause → IsStopping t cause m (let x : Machine = record m { cpu = a.cpu; bus = a.bus } in x)
   plain_stops cause stop = record {
     state = ran t m o fetched runs may.now a flash kept done (Err cause) stop;
     told = ran_rows t m o fetched runs may.now a flash kept done [] (Err cause) stop;
     same = refl;
+    count = refl;
     clock = ap (λ (x : Outcome NodeBus). x.bus.board.clock) done ∙ executed_clock flash o m.cpu m.bus;
   }
 
--- ---- an instruction behind the window, where none is owed before it, as a step of a sprint
-module _ (t : ℕ) (m : Machine) (o : Op) (fetched : o ≡ op_now (shown m)) (may : MayAct t m) (off : m.owed ≡ false) (behind : m.to ≤ t)
+-- ---- an instruction behind the window as a step of a sprint
+module _ (t : ℕ) (m : Machine) (o : Op) (fetched : o ≡ op_now (shown m)) (may : MayAct t m) (behind : m.to ≤ t)
     (to : Cpu) (there : NodeBus) (flash : List ℕ) (kept : flash ≡ m.program.bytes) where
-  abbrev reached : Machine
-  reached = record m { cpu = to; bus = there }
+  abbrev reached : ℕ → Machine
+  reached count = record m { cpu = to; bus = there; count = count }
 
   abbrev Left_so : Result Done StopCause → Type 0
   Left_so r = (let a : Outcome NodeBus = record { result = r; cpu = to; bus = there } in a ≡ executed flash o m.cpu m.bus)
 
+  module _ (d : Done) (plain : is_plain o ≡ true) (some : Left_so (Ok d)) where
+    abbrev a : Outcome NodeBus
+    a = record { result = Ok d; cpu = to; bus = there }
+
+    goes : (b : Bool) → b ≡ owes o m.cpu.sreg.bits to.sreg.bits → IsStepped t d.cycles m (owing b (reached (m.count + 1)))
+    goes b owed = plain_goes t m o fetched plain may a flash kept some b owed d refl behind
+
+    by_after : (k : After) → k ≡ after_of o → IsStep t (step_of k (Some (Ok d))) m (reached (m.count + 1))
+    by_after after.Nothing e = goes false (quiet_owes t m o fetched plain may a flash kept some (ap is_enabled (sym e)) (ap may_turn_on (sym e)))
+    by_after after.Jump e = goes false (quiet_owes t m o fetched plain may a flash kept some (ap is_enabled (sym e)) (ap may_turn_on (sym e)))
+    by_after after.Store e = goes (turned_on m.cpu.sreg.bits to.sreg.bits) (stored_owes t m o fetched plain may a flash kept some (ap is_enabled (sym e)))
+    by_after after.Enabled e = goes true (enabled_owes t m o fetched plain may a flash kept some (ap is_enabled (sym e)))
+
   pub did : (k : After) (x : Option (Result Done StopCause)) → k ≡ after_of o → is_some x ≡ is_plain o → IfSome x Left_so → IfNone x ((to ≡ m.cpu) × (there ≡ m.bus))
-      → IsStep t (step_of k x) m (counted x reached)
+      → IsStep t (step_of k x) m (reached (counted x m.count))
   did k None e which some none = λ i. let x : Machine = record m { cpu = none.0 i; bus = none.1 i } in x
   did k (Some (Err cause)) e which some none =
-      let a : Outcome NodeBus = record { result = Err cause; cpu = to; bus = there } in plain_stops t m o fetched (sym which) may off a flash kept some cause refl
-  did after.Nothing (Some (Ok d)) e which some none =
-      let a : Outcome NodeBus = record { result = Ok d; cpu = to; bus = there } in quiet_goes t m o fetched (sym which) may off a flash kept some d refl behind (ap is_store (sym e))
-  did after.Jump (Some (Ok d)) e which some none =
-      let a : Outcome NodeBus = record { result = Ok d; cpu = to; bus = there } in quiet_goes t m o fetched (sym which) may off a flash kept some d refl behind (ap is_store (sym e))
-  did after.Store (Some (Ok d)) e which some none =
-      let a : Outcome NodeBus = record { result = Ok d; cpu = to; bus = there } in plain_goes t m o fetched (sym which) may off a flash kept some d refl behind
+      let a : Outcome NodeBus = record { result = Err cause; cpu = to; bus = there } in plain_stops t m o fetched (sym which) may a flash kept some cause refl
+  did k (Some (Ok d)) e which some none = by_after d (sym which) some k e
 
 -- what is not executed leaves the parts of the core as they were
 pub as_it_was : (regs to : Registers) (core on : Core) (bus there : NodeBus) (x : Option (Result Done StopCause)) → IfNone x ((to ≡ regs) × (on ≡ core) × (there ≡ bus))
     → IfNone x ((whole to on ≡ whole regs core) × (there ≡ bus))
 as_it_was regs to core on bus there None e = ((λ i. whole (e.0 i) (e.1 i)), e.2)
 as_it_was regs to core on bus there (Some r) e = tt
-
-pub counted_beside : (regs : Registers) (core : Core) (s y : Machine) (x : Option (Result Done StopCause)) → y ≡ counted x s → counted x (beside regs core s) ≡ beside regs core y
-counted_beside regs core s y None e = sym (ap (beside regs core) e)
-counted_beside regs core s y (Some (Err cause)) e = sym (ap (beside regs core) e)
-counted_beside regs core s y (Some (Ok d)) e = sym (ap (beside regs core) e)
 
 -- ---- a run that came to such a cycle
 module _ (v : Timed NodeState Row) (t n : ℕ) (m new : Machine) (k : List Row) (first : Comes node_kind v t (shown m) k) (going : m.stop ≡ None)

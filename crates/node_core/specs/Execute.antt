@@ -1,6 +1,6 @@
 -- The effect of one instruction on the core and the data space (AVR Instruction Set Manual), by its class: the tables
 -- of arith_step and bus_step. An instruction that halts changes nothing.
-use Rattle.std.specs.Prelude.{ℕ, Bool, true, false, List, Result, Ok, Err}
+use Rattle.std.specs.Prelude.{ℕ, ◌==◌, if◌then◌else◌, Bool, true, false, List, Result, Ok, Err}
 use Rattle.avr_base.specs.declared.stop.StopCause.{StopCause}
 use Rattle.avr_decoder.specs.declared.op.Op.{Op}
 use Rattle.avr_decoder.specs.declared.op.Op.TheVariants as op
@@ -40,15 +40,16 @@ runs_on class.Flow = true
 runs_on class.Memory = true
 runs_on (class.Halting cause) = false
 
--- whether an instruction is neither one that sets a flag (SEI is one), nor RETI, nor SLEEP, nor one that halts
+-- whether an instruction is neither SLEEP nor one that halts
 abbrev pub is_plain : Op → Bool
-is_plain (op.Bset s) = false
-is_plain op.Reti = false
 is_plain op.Sleep = false
 is_plain o = runs_on (class_of o)
 
--- what an instruction may leave that a loop over instructions looks at: a jump may go back, a store may be to SREG
+-- what an instruction may leave that a loop over instructions looks at: a jump may go back, a store may be to SREG,
+-- SEI and RETI turn the flag I on
 abbrev pub after_of : Op → After
+after_of (op.Bset s) = if s == 7 then after.Enabled else after.Store
+after_of op.Reti = after.Enabled
 after_of (op.Jmp k) = after.Jump
 after_of (op.Rjmp k) = after.Jump
 after_of op.Ijmp = after.Jump

@@ -13,7 +13,9 @@ use Rattle.node_core.specs.declared.instructions.After.{After}
 use Rattle.node_core.specs.declared.instructions.After.TheVariants as after
 use Rattle.node_core.specs.declared.machine.Machine.{Machine}
 use Rattle.node_core.specs.declared.sprint.Step.{Step}
-use Rattle.node_core.specs.declared.sprint.Step.TheVariants.{Plain, Jumped, Stored, Stopped, Left}
+use Rattle.node_core.specs.declared.sprint.Step.TheVariants.{Plain, Jumped, Stored, Enabled, Stopped, Left}
+use Rattle.node_core.specs.declared.bus.NodeBus.{NodeBus}
+use Rattle.board_io.specs.Lines.{lines_of}
 use Rattle.node_core.specs.Inside.{IsGoing}
 use Rattle.node_core.specs.Shown.{shown}
 use Rattle.node_core.specs.State.{NodeState}
@@ -67,6 +69,7 @@ pub record IsStopping (t : ℕ) (cause : StopCause) (old new : Machine) : Type 0
   pub state : (let u : NodeState = record (shown new) { stop = Some cause } in u) ≡ instructed t (shown old)
   pub told : row t (shown new) (kind.Stop old.cpu.pc cause) ≡ instructed_rows t (shown old)
   pub same : new.rows ≡ old.rows
+  pub count : new.count ≡ old.count
   pub clock : new.bus.board.clock ≡ old.bus.board.clock
 
 -- whether the flag I was turned on
@@ -80,6 +83,10 @@ owing b m = record m { owed = b }
 abbrev pub beside : Registers → Core → Machine → Machine
 beside regs core m = record m { cpu = whole regs core }
 
+-- and whose data space and count are these
+abbrev pub over : Registers → Core → NodeBus → ℕ → Machine → Machine
+over regs core bus count m = record m { cpu = whole regs core; bus = bus; count = count }
+
 -- a step of a sprint, by what an instruction may leave and how it ended, if it is one that is executed
 abbrev pub step_of : After → Option (Result Done StopCause) → Step
 step_of k None = Left
@@ -87,16 +94,19 @@ step_of k (Some (Err cause)) = Stopped cause
 step_of after.Nothing (Some (Ok d)) = Plain d.cycles
 step_of after.Jump (Some (Ok d)) = Jumped d.cycles
 step_of after.Store (Some (Ok d)) = Stored d.cycles
+step_of after.Enabled (Some (Ok d)) = Enabled d.cycles
 
-abbrev pub counted : Option (Result Done StopCause) → Machine → Machine
-counted (Some (Ok d)) m = record m { count = m.count + 1 }
-counted _ m = m
+-- how many instructions were executed, by what the last reported
+abbrev pub counted : Option (Result Done StopCause) → ℕ → ℕ
+counted (Some (Ok d)) n = n + 1
+counted _ n = n
 
--- what a step of a sprint did in cycle t, of which nothing is owed before
+-- what a step of a sprint did in cycle t, and whether an instruction is owed behind it
 abbrev pub IsStep : ℕ → Step → Machine → Machine → Type 0
-IsStep t (Plain n) old new = IsStepped t n old new
-IsStep t (Jumped n) old new = IsStepped t n old new
+IsStep t (Plain n) old new = IsStepped t n old (owing false new)
+IsStep t (Jumped n) old new = IsStepped t n old (owing false new)
 IsStep t (Stored n) old new = IsStepped t n old (owing (turned_on old.cpu.sreg.bits new.cpu.sreg.bits) new)
+IsStep t (Enabled n) old new = IsStepped t n old (owing true new)
 IsStep t (Stopped cause) old new = IsStopping t cause old new
 IsStep t Left old new = new ≡ old
 
@@ -113,6 +123,15 @@ pub record IsSprinting (t at : ℕ) (old m : Machine) : Type 0 where
   pub script : m.script ≡ old.script
   pub count : m.count ≤ 2 ^ 40 + at
   pub rows : m.rows ≡ old.rows
+
+-- a sprint from cycle t on, of at most up to `end`, between two instructions: no line is up. Parts of the core stand
+-- beside the machine, which says of no instruction that it is owed; one is, up to this count of them
+pub record IsTurning (t end : ℕ) (first m : Machine) (regs : Registers) (core : Core) (owed_to : ℕ) : Type 0 where
+  pub within : m.bus.board.clock ≤ end
+  pub off : m.owed ≡ false
+  pub clear : (lines_of m.bus.board).bits ≡ 0
+  pub top : owed_to ≤ m.count + 1
+  pub runs : IsSprinting t m.bus.board.clock first (owing (nat_lt m.count owed_to) (beside regs core m))
 
 -- from cycle t on it executed instruction after instruction, and came to the beginning of cycle c, or, where it is
 -- inside, to the middle of it

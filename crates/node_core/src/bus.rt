@@ -53,7 +53,7 @@ impl Bus for NodeBus {
 
     ghost put_gives = { bus_put };
 
-    #[inline(always)]
+    #[inline]
     #[tactic(auto, unfolding(crate::specs::Bus::bus_get))]
     fn get(&mut self, at: u16) -> Result<u8, StopCause> {
         if at < 0x0100 {
@@ -65,7 +65,7 @@ impl Bus for NodeBus {
         Ok(self.sram.get(at))
     }
 
-    #[inline(always)]
+    #[inline]
     #[tactic(auto, unfolding(crate::specs::Bus::bus_put))]
     fn put(&mut self, at: u16, b: u8) -> Result<(), StopCause> {
         if at < 0x0100 {

@@ -2,6 +2,7 @@
 ghost use Rattle.std.specs.Prelude.{◌≡◌, ◌≤◌, List, ℕ, Ok, Some, false, is_some, IfOk, IfSome, IfNone};
 ghost use Rattle.data_space.specs.Core.{advanced, core_of, lone, whole};
 ghost use Rattle.data_space.specs.Sequence.{done};
+ghost use Rattle.avr_decoder.specs.declared.op.Op.TheVariants as op;
 ghost use Rattle.node_core.specs.declared.instructions.After.TheVariants as after;
 ghost use Rattle.node_core.specs.Execute.{after_of, executed_over, is_plain};
 
@@ -31,8 +32,10 @@ pub enum After {
     Nothing,
     /// The program may go on further back.
     Jump,
-    /// A store, which may be to SREG.
+    /// A store, which may be to SREG, or a flag that is set.
     Store,
+    /// The flag I on, by SEI or RETI: the next instruction is executed before any interrupt.
+    Enabled,
 }
 
 /// What an instruction leaves, and what it reports, where it is one of those that are executed.
@@ -71,7 +74,7 @@ fn loaded(reported: Result<Done, StopCause>) -> Executed
     (After::Nothing, Some(reported))
 }
 
-// An instruction that may stop, and stores a byte.
+// An instruction that may stop, and stores a byte or sets a flag.
 #[inline(always)]
 fn stored(reported: Result<Done, StopCause>) -> Executed
     ensures { result ≡ (after.Store, Some reported) }
@@ -79,9 +82,28 @@ fn stored(reported: Result<Done, StopCause>) -> Executed
     (After::Store, Some(reported))
 }
 
+// SEI or RETI.
+#[inline(always)]
+fn enabled(reported: Result<Done, StopCause>) -> Executed
+    ensures { result ≡ (after.Enabled, Some reported) }
+{
+    (After::Enabled, Some(reported))
+}
+
+// The end of BSET of flag `s`, which is SEI where that is I.
+#[inline(always)]
+fn flag_set(s: u8, reported: Done) -> Executed
+    ensures { result ≡ (after_of (op.Bset s), Some (Ok reported)) }
+{
+    if s == 7 {
+        enabled(Ok(reported))
+    } else {
+        stored(Ok(reported))
+    }
+}
+
 /// Executes an instruction (AVR Instruction Set Manual, its operation, flags and cycles) over the core and a data
-/// space. `None` for SEI and its like (BSET), RETI and SLEEP, after which a node looks up, and for one that halts the
-/// node; these change nothing.
+/// space. `None` for SLEEP and for one that halts the node; these change nothing.
 ///
 /// The program counter, a word address, goes on modulo 65,536. A flag number and a bit number count modulo 8; the pair
 /// of r31 is r31 and r0. A call pushes the low byte of the return address first, and ICALL reads Z after that. A skip
@@ -217,11 +239,13 @@ pub fn execute_plain<B: Bus>(
         Op::ElpmR0 => ended(load_extended(Reg::numbered(0), flash, regs, core)),
         Op::ElpmZ { d } => ended(load_extended(d, flash, regs, core)),
         Op::ElpmZInc { d } => ended(load_extended_post_increment(d, flash, regs, core)),
+        Op::Bset { s } => flag_set(s, retire(1, set_flag(s % 8, true, core), core)),
+        Op::Reti => enabled(reti(regs, core, bus)),
         _ => (After::Nothing, None),
     }
 }
 
-// An instruction after which a node looks up, or that halts it.
+// SLEEP, or an instruction that halts the node.
 #[tactic(auto, unfolding(crate::specs::Execute::executed_over, arith_step::specs::Shapes::sets_flag, arith_step::specs::Table::effect, bus_step::specs::FlowTable::flow_effect))]
 fn execute_other<B: Bus>(
     op: &Op,
@@ -233,8 +257,6 @@ fn execute_other<B: Bus>(
     ensures outcome { (flash : List ℕ) → record { result = result; cpu = whole regs.new core.new; bus = bus.new } ≡ executed_over B.get_gives B.put_gives flash op.now (whole regs.old core.old) bus.old }
 {
     match *op {
-        Op::Bset { s } => Ok(retire(1, set_flag(s % 8, true, core), core)),
-        Op::Reti => reti(regs, core, bus),
         Op::Sleep => Ok(sleep(core)),
         _ => match op.class() {
             Class::Halting(cause) => Err(cause),

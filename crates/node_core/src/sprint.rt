@@ -1,15 +1,18 @@
 // Instructions of a node, one behind another, while nothing is due.
-ghost use Rattle.std.specs.Prelude.{◌≡◌, ◌≤◌, ◌<◌, ◌+◌, ◌^◌, ℕ, None, false};
+ghost use Rattle.std.specs.Prelude.{◌≡◌, ◌≤◌, ◌<◌, ◌+◌, ◌^◌, nat_lt, ℕ, None};
 ghost use Rattle.node_core.specs.Inside.{MayAct};
 ghost use Rattle.node_core.specs.Interrupts.{due};
-ghost use Rattle.node_core.specs.Midway.{IsSprinted, IsSprinting, IsStep, IsStepped, beside, counted, step_of, turned_on};
+ghost use Rattle.node_core.specs.Midway.{IsSprinted, IsSprinting, IsStep, IsStepped, beside, counted, over, owing, step_of, turned_on};
 ghost use Rattle.node_core.specs.Shown.{shown};
 ghost use Rattle.node_core.specs.declared.machine.Machine.{Machine};
+ghost use Rattle.avr_program.specs.Program.{slots_below};
 ghost use Rattle.serial_ports.specs.Script.{script_byte};
 
+use crate::NodeBus;
 use crate::instructions::{After, execute_plain};
 use crate::machine::Machine;
 use avr_base::StopCause;
+use avr_program::{Program, Slot};
 use data_space::{Core, Cpu, Done, Registers};
 
 /// Where a sprint ended: at the beginning of the cycle `at`, or in the middle of it, of which the processor's part is
@@ -27,8 +30,10 @@ pub enum Step {
     Plain { taken: u8 },
     /// Such an instruction, after which the program may go on further back.
     Jumped { taken: u8 },
-    /// An instruction of so many cycles that stored a byte, maybe to SREG.
+    /// An instruction of so many cycles that stored a byte, maybe to SREG, or set a flag.
     Stored { taken: u8 },
+    /// SEI or RETI, of so many cycles.
+    Enabled { taken: u8 },
     /// The instruction stopped.
     Stopped { cause: StopCause },
     /// It left an instruction that is none of a sprint's.
@@ -49,57 +54,74 @@ fn turned_on(before: u8, after: u8) -> bool
     before < 128 && after >= 128
 }
 
-impl Machine {
-    // The first cycle of an instruction behind the window, where nothing is due and none is owed, over the parts of the
-    // core, which stand beside it. Of one that goes on, the effect and the count are written.
-    #[inline(always)]
-    fn step(&mut self, regs: &mut Registers, core: &mut Core) -> Step
-        requires may { MayAct self.old.bus.board.clock (beside regs.old core.old self.old) }
-        requires behind { self.old.to ≤ self.old.bus.board.clock }
-        requires off { self.old.owed ≡ false }
-        ensures did { IsStep self.old.bus.board.clock result (beside regs.old core.old self.old) (beside regs.new core.new self.new) }
-        ensures others { self.new ≡ record self.old { bus = self.new.bus; count = self.new.count } }
-    {
-        let op = self.program.op_at(self.program.slots(), core.pc);
-        let (after, executed) = execute_plain(op, self.program.flash(), regs, core, &mut self.bus);
-        self.told(after, executed)
-    }
-
-    // Counts an instruction that was executed, and says what the step did.
-    #[inline(always)]
-    fn told(&mut self, after: After, executed: Option<Result<Done, StopCause>>) -> Step
-        requires few { self.old.count ≤ 2 ^ 41 }
-        ensures step { result ≡ step_of after executed }
-        ensures count { self.new ≡ counted executed self.old }
-    {
-        match executed {
-            None => Step::Left,
-            Some(Err(cause)) => Step::Stopped { cause },
-            Some(Ok(done)) => {
-                let taken = done.cycles;
-                self.count += 1;
-                match after {
-                    After::Nothing => Step::Plain { taken },
-                    After::Jump => Step::Jumped { taken },
-                    After::Store => Step::Stored { taken },
-                }
+// Counts an instruction that was executed, and says what the step did.
+#[inline(always)]
+fn told(after: After, executed: Option<Result<Done, StopCause>>, count: &mut u64) -> Step
+    requires few { count.old ≤ 2 ^ 41 }
+    ensures step { result ≡ step_of after executed }
+    ensures count { count.new ≡ counted executed count.old }
+{
+    match executed {
+        None => Step::Left,
+        Some(Err(cause)) => Step::Stopped { cause },
+        Some(Ok(done)) => {
+            let taken = done.cycles;
+            *count += 1;
+            match after {
+                After::Nothing => Step::Plain { taken },
+                After::Jump => Step::Jumped { taken },
+                After::Store => Step::Stored { taken },
+                After::Enabled => Step::Enabled { taken },
             }
         }
     }
+}
 
+// The first cycle of an instruction behind the window, where nothing is due, over what it may change of a machine: the
+// parts of the core, which stand beside it, the data space and the count. Of one that goes on, the effect and the count
+// are written.
+#[inline(always)]
+fn one_step(
+    program: &Program,
+    slots: &[Slot],
+    regs: &mut Registers,
+    core: &mut Core,
+    bus: &mut NodeBus,
+    count: &mut u64,
+) -> Step
+    requires slots { slots.now ≡ slots_below 65536 program.now.bytes }
+    requires few { count.old ≤ 2 ^ 41 }
+    ensures { (m : Machine) → m.program ≡ program.now → MayAct bus.old.board.clock (over regs.old core.old bus.old count.old m) → m.to ≤ bus.old.board.clock
+        → IsStep bus.old.board.clock result (over regs.old core.old bus.old count.old m) (over regs.new core.new bus.new count.new m) }
+{
+    let op = program.op_at(slots, core.pc);
+    let (after, executed) = execute_plain(op, program.flash(), regs, core, bus);
+    told(after, executed, count)
+}
+
+impl Machine {
     // The end of a sprint behind an instruction of `taken` cycles, whose first cycle this is: of it the processor's part
-    // is done. Behind it, where the devices end nothing in its cycles and these end by `end`; else inside.
+    // is done, and `owed` says whether another is owed. Behind it, where the devices end nothing in its cycles and these
+    // end by `end`; else inside.
     #[inline(never)]
-    fn end_sprint(&mut self, regs: &Registers, core: Core, end: u64, taken: u8) -> Sprinted
+    fn end_sprint(
+        &mut self,
+        regs: &Registers,
+        core: Core,
+        end: u64,
+        taken: u8,
+        owed: bool,
+    ) -> Sprinted
         requires some { 0 < taken }
         requires early { self.old.bus.board.clock ≤ 2 ^ 40 }
         requires within { self.old.bus.board.clock ≤ end }
         requires none { (i : ℕ) → self.old.bus.board.clock + i < end → script_byte self.old.script (self.old.bus.board.clock + i) ≡ None }
         ensures sprinted { (t : ℕ) (first m : Machine) → IsSprinting t self.old.bus.board.clock first m → due (shown m) ≡ None
-            → IsStepped self.old.bus.board.clock taken m (beside regs.now core self.old) → IsSprinted t result.at result.inside first self.new }
+            → IsStepped self.old.bus.board.clock taken m (owing owed (beside regs.now core self.old)) → IsSprinted t result.at result.inside first self.new }
         ensures within { result.at ≤ end }
     {
         self.cpu = Cpu::of_parts(regs, core);
+        self.owed = owed;
         let at = self.bus.board.now();
         if self.passes_whole(at, end, taken) {
             return Sprinted {
@@ -111,9 +133,21 @@ impl Machine {
         Sprinted { at, inside: true }
     }
 
+    // The end of a sprint before an instruction: the parts of the core stand in it again, and it says whether the
+    // instruction is owed. The answer is the cycle.
+    fn gather(&mut self, regs: &Registers, core: Core, owed_to: u64) -> u64
+        ensures state { self.new ≡ owing (nat_lt self.old.count owed_to) (beside regs.now core self.old) }
+        ensures value { result ≡ self.old.bus.board.clock }
+        ensures early { result ≤ 2 ^ 40 }
+    {
+        self.cpu = Cpu::of_parts(regs, core);
+        self.owed = self.count < owed_to;
+        self.bus.board.now()
+    }
+
     /// Executes instructions from `cycle` on, behind the window and up to `end`, below which no byte arrives, while no
-    /// interrupt line is up and the devices end nothing. It ends before an instruction after which a node looks up, and
-    /// behind one that turned the flag I on.
+    /// interrupt line is up and the devices end nothing. It ends before SLEEP and before an instruction that halts the
+    /// node.
     #[inline(always)]
     pub fn sprint(&mut self, cycle: u64, end: u64) -> Sprinted
         requires may { MayAct cycle self.old }
@@ -132,53 +166,69 @@ impl Machine {
         // beside the machine, so that the host has SREG and the program counter in registers of its own
         let (mut regs, mut core) = self.cpu.parts();
         let mut unseen = 0;
+        // Up to this count of instructions one is owed before an interrupt, which shows once the sprint ends.
+        let mut owed_to = 0;
         loop {
-            let pc = core.pc;
-            let before = core.sreg.bits;
-            match self.step(&mut regs, &mut core) {
-                Step::Plain { taken } => {
-                    if !self.passes_clear(end, taken) {
-                        return self.end_sprint(&regs, core, end, taken);
-                    }
-                }
-                Step::Jumped { taken } => {
-                    if !self.passes_clear(end, taken) {
-                        return self.end_sprint(&regs, core, end, taken);
-                    }
-                    if pc.wrapping_sub(core.pc) < SHORT {
-                        if unseen > 0 {
-                            unseen -= 1;
-                        } else {
-                            self.cpu = Cpu::of_parts(&regs, core);
-                            let at = self.bus.board.now();
-                            if self.leap(at, end) == 0 {
-                                unseen = UNSEEN;
-                            }
-                            (regs, core) = self.cpu.parts();
+            let slots = self.program.slots();
+            loop {
+                let pc = core.pc;
+                let before = core.sreg.bits;
+                match one_step(
+                    &self.program,
+                    slots,
+                    &mut regs,
+                    &mut core,
+                    &mut self.bus,
+                    &mut self.count,
+                ) {
+                    Step::Plain { taken } => {
+                        if !self.bus.board.leap_clear(end, taken) {
+                            return self.end_sprint(&regs, core, end, taken, false);
                         }
                     }
-                }
-                Step::Stored { taken } => {
-                    if turned_on(before, core.sreg.bits) {
-                        self.owed = true;
-                        return self.end_sprint(&regs, core, end, taken);
+                    Step::Jumped { taken } => {
+                        if !self.bus.board.leap_clear(end, taken) {
+                            return self.end_sprint(&regs, core, end, taken, false);
+                        }
+                        if pc.wrapping_sub(core.pc) < SHORT {
+                            if unseen == 0 {
+                                break;
+                            }
+                            unseen -= 1;
+                        }
                     }
-                    if !self.passes_clear(end, taken) {
-                        return self.end_sprint(&regs, core, end, taken);
+                    Step::Stored { taken } => {
+                        let on = turned_on(before, core.sreg.bits);
+                        if !self.bus.board.leap_clear(end, taken) {
+                            return self.end_sprint(&regs, core, end, taken, on);
+                        }
+                        if on {
+                            owed_to = self.count + 1;
+                        }
                     }
-                }
-                Step::Left => {
-                    self.cpu = Cpu::of_parts(&regs, core);
-                    let at = self.bus.board.now();
-                    return Sprinted { at, inside: false };
-                }
-                Step::Stopped { cause } => {
-                    self.cpu = Cpu::of_parts(&regs, core);
-                    let at = self.bus.board.now();
-                    self.halt(at, pc, cause);
-                    return Sprinted { at, inside: true };
+                    Step::Enabled { taken } => {
+                        if !self.bus.board.leap_clear(end, taken) {
+                            return self.end_sprint(&regs, core, end, taken, true);
+                        }
+                        owed_to = self.count + 1;
+                    }
+                    Step::Left => {
+                        let at = self.gather(&regs, core, owed_to);
+                        return Sprinted { at, inside: false };
+                    }
+                    Step::Stopped { cause } => {
+                        let at = self.gather(&regs, core, owed_to);
+                        self.halt(at, pc, cause);
+                        return Sprinted { at, inside: true };
+                    }
                 }
             }
+            let at = self.gather(&regs, core, owed_to);
+            if self.leap(at, end) == 0 {
+                unseen = UNSEEN;
+            }
+            (regs, core) = self.cpu.parts();
+            owed_to = 0;
         }
     }
 }

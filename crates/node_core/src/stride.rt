@@ -3,7 +3,6 @@ ghost use Rattle.std.specs.Prelude.{◌≡◌, ◌≤◌, ◌<◌, ◌+◌, ◌-
 ghost use Rattle.node_core.specs.Inside.{IsCalm, IsGoing, IsPassed};
 ghost use Rattle.node_core.specs.Midway.{IsMidway};
 ghost use Rattle.board_io.specs.Cycle.{timers_leap};
-ghost use Rattle.board_io.specs.Lines.{lines_of};
 ghost use Rattle.node_core.specs.Bus.{with_board};
 ghost use Rattle.node_core.specs.Shown.{shown};
 ghost use Rattle.serial_ports.specs.Script.{script_byte};
@@ -30,23 +29,6 @@ impl Machine {
             return false;
         }
         self.bus.board.leap_whole(cycle, taken)
-    }
-
-    /// The devices' part of the cycles of such an instruction, which began in the cycle of the board's clock, if no
-    /// interrupt line is up before or after them either: whether it was so.
-    #[inline(always)]
-    pub fn passes_clear(&mut self, end: u64, taken: u8) -> bool
-        requires some { 0 < taken }
-        requires none { (i : ℕ) → self.old.bus.board.clock + i < end → script_byte self.old.script (self.old.bus.board.clock + i) ≡ None }
-        ensures calm { result ≡ true → IsCalm self.old.bus.board.clock taken (shown self.old) }
-        ensures state { result ≡ true → shown self.new ≡ record (shown self.old) { bus = with_board (shown self.old).bus (timers_leap self.old.bus.board.clock taken (shown self.old).bus.board) } }
-        ensures clear { result ≡ true → (lines_of self.new.bus.board).bits ≡ 0 }
-        ensures same { result ≡ false → self.new ≡ self.old }
-        ensures others { self.new ≡ record self.old { bus = self.new.bus } }
-        ensures clock { result ≡ true → self.new.bus.board.clock ≡ self.old.bus.board.clock + taken }
-        ensures within { result ≡ true → self.old.bus.board.clock + taken ≤ end }
-    {
-        self.bus.board.leap_clear(end, taken)
     }
 
     // The devices' part of the cycle `cycle`, in which an instruction begins that takes `taken` cycles, and its other

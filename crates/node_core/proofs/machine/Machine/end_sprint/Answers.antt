@@ -1,7 +1,7 @@
 use Rattle.std.proofs.Common.{◌≡◌, ℕ, ◌+◌, ◌-◌, true, false, refl, sym, subst, ap, ◌∙◌, arith}
 use Rattle.data_space.specs.declared.cpu.Cpu.{Cpu}
 use Rattle.node_core.specs.declared.machine.Machine.{Machine}
-use Rattle.node_core.specs.Midway.{IsSprinted, IsSprinting, IsStepped, beside}
+use Rattle.node_core.specs.Midway.{IsSprinted, IsSprinting, IsStepped, beside, owing}
 use Rattle.node_core.specs.Shown.{shown}
 use Rattle.node_core.specs.Inside.{IsCalm}
 use Rattle.node_core.proofs.Sprints.{breaks, stays, steps_on}
@@ -12,8 +12,8 @@ returns-then-passes_whole-clause-sprinted c t first m h none p =
     let at : ℕ = c.now-at.result in
     let clock : at ≡ c.args.self.now.bus.board.clock = c.now-at.ensures.value in
     let n : ℕ = c.args.taken in
-    let w : Machine = record c.args.self.now { cpu = c.of_parts-self.result } in
-    let q = subst (λ (k : Cpu). (let z : Machine = record c.args.self.now { cpu = k } in IsStepped at n m z)) (sym c.of_parts-self.ensures) (subst (λ (u : ℕ). IsStepped u n m (beside c.args.regs.now c.args.core c.args.self.now)) (sym clock) p) in
+    let w : Machine = record c.args.self.now { cpu = c.of_parts-self.result; owed = c.args.owed } in
+    let q = subst (λ (k : Cpu). (let z : Machine = record c.args.self.now { cpu = k; owed = c.args.owed } in IsStepped at n m z)) (sym c.of_parts-self.ensures) (subst (λ (u : ℕ). IsStepped u n m (owing c.args.owed (beside c.args.regs.now c.args.core c.args.self.now))) (sym clock) p) in
     let x : Machine = c.passes_whole.new.self in
     let e = c.if-passes_whole.ensures in
     let there = steps_on t at n first m w x (subst (λ (u : ℕ). IsSprinting t u first m) (sym clock) h) none q
@@ -27,7 +27,7 @@ returns-clause-sprinted c t first m h none p =
     let at : ℕ = c.now-at.result in
     let clock : at ≡ c.args.self.now.bus.board.clock = c.now-at.ensures.value in
     let n : ℕ = c.args.taken in
-    let w : Machine = record c.args.self.now { cpu = c.of_parts-self.result } in
-    let q = subst (λ (k : Cpu). (let z : Machine = record c.args.self.now { cpu = k } in IsStepped at n m z)) (sym c.of_parts-self.ensures) (subst (λ (u : ℕ). IsStepped u n m (beside c.args.regs.now c.args.core c.args.self.now)) (sym clock) p) in
+    let w : Machine = record c.args.self.now { cpu = c.of_parts-self.result; owed = c.args.owed } in
+    let q = subst (λ (k : Cpu). (let z : Machine = record c.args.self.now { cpu = k; owed = c.args.owed } in IsStepped at n m z)) (sym c.of_parts-self.ensures) (subst (λ (u : ℕ). IsStepped u n m (owing c.args.owed (beside c.args.regs.now c.args.core c.args.self.now))) (sym clock) p) in
     let broken = breaks t at first m (subst (λ (u : ℕ). IsSprinting t u first m) (sym clock) h) n w none q in
     subst (λ (z : Machine). IsSprinted t at true first (let v : Machine = record z { wait = n - 1 } in v)) (sym (c.if-passes_whole.ensures.same refl)) broken

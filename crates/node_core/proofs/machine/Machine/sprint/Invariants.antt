@@ -1,15 +1,36 @@
-use Rattle.std.proofs.Common.{◌≡◌, ◌≤◌, ◌-◌, false}
-use Rattle.board_io.specs.Lines.{lines_of}
-use Rattle.node_core.specs.Midway.{IsSprinting, beside}
+use Rattle.std.proofs.Common.{◌≡◌, ◌≤◌, ◌-◌}
+use Rattle.avr_program.specs.Program.{slots_below}
+use Rattle.node_core.specs.declared.machine.Machine.{Machine}
+use Rattle.node_core.specs.Midway.{IsTurning}
 use Rattle.node_core.proofs.machine.Machine.sprint.Given as goal
 
 abbrev pub invariant-loop-taken : goal.invariant-loop-taken
-invariant-loop-taken l = record {
-  within : l.self.bus.board.clock ≤ l.end;
-  off : l.self.owed ≡ false;
-  clear : (lines_of l.self.bus.board).bits ≡ 0;
-  runs : IsSprinting l.cycle l.self.bus.board.clock l.fn.self (beside l.regs l.core l.self);
-}
+invariant-loop-taken l = IsTurning l.cycle l.end l.fn.self l.self l.regs l.core l.owed_to
 
 abbrev pub decreases-loop-taken : goal.decreases-loop-taken
 decreases-loop-taken l = l.end - l.self.bus.board.clock
+
+-- in it the machine is lent in parts, of which two change: the data space and the count
+abbrev pub invariant-loop-taken-2 : goal.invariant-loop-taken-2
+invariant-loop-taken-2 l = record {
+  turning : (let m : Machine = record {
+    number = l.initial.self.1.0;
+    program = l.initial.self.1.1.0;
+    script = l.initial.self.1.1.1.0;
+    from = l.initial.self.1.1.1.1.0;
+    to = l.initial.self.1.1.1.1.1.0;
+    cpu = l.initial.self.1.1.1.1.1.1.0;
+    bus = l.self.1.1.1.1.1.1.1.0;
+    wait = l.initial.self.1.1.1.1.1.1.1.1.0;
+    owed = l.initial.self.1.1.1.1.1.1.1.1.1.0;
+    asleep = l.initial.self.1.1.1.1.1.1.1.1.1.1.0;
+    stop = l.initial.self.1.1.1.1.1.1.1.1.1.1.1.0;
+    count = l.self.1.1.1.1.1.1.1.1.1.1.1.1.0;
+    rows = l.initial.self.1.1.1.1.1.1.1.1.1.1.1.1.1.0;
+  } in IsTurning l.cycle l.end l.fn.self m l.regs l.core l.owed_to);
+  slots : l.slots ≡ slots_below 65536 l.initial.self.1.1.0.bytes;
+  on : l.initial.self.1.1.1.1.1.1.1.0.board.clock ≤ l.self.1.1.1.1.1.1.1.0.board.clock;
+}
+
+abbrev pub decreases-loop-taken-2 : goal.decreases-loop-taken-2
+decreases-loop-taken-2 l = l.end - l.self.1.1.1.1.1.1.1.0.board.clock

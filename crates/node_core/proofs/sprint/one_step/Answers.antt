@@ -1,0 +1,23 @@
+use Rattle.std.proofs.Common.{◌≡◌, ℕ, sym, subst, ap, ◌∙◌}
+use Rattle.node_core.specs.declared.machine.Machine.{Machine}
+use Rattle.node_core.specs.declared.sprint.Step.{Step}
+use Rattle.avr_program.specs.Program.{op_of}
+use Rattle.data_space.specs.Core.{whole}
+use Rattle.ihex_loader.specs.Flash.{Image}
+use Rattle.node_core.specs.Midway.{IsStep, over, step_of}
+use Rattle.node_core.proofs.Steps.{as_it_was, did}
+use Rattle.node_core.proofs.sprint.one_step.Goals as goal
+
+pub returns : goal.returns
+returns c first same may behind =
+    let e = c.execute_plain-after.ensures in
+    let x = c.execute_plain-after.new in
+    let a = c.args in
+    let m : Machine = over a.regs.now a.core.now a.bus.now a.count.now first in
+    let t : ℕ = a.bus.now.board.clock in
+    let o = c.execute_plain-after.result in
+    let fetched = c.op_at-op.ensures ∙ ap (λ (p : Image). op_of p.bytes a.core.now.pc) (sym same) in
+    let there = did t m c.op_at-op.result.now fetched may behind (whole x.regs x.core) x.bus c.flash.result.now.bytes (ap (λ (p : Image). p.bytes) (c.flash.ensures ∙ sym same))
+    o.0 o.1 e.after e.which e.some (as_it_was a.regs.now x.regs a.core.now x.core a.bus.now x.bus o.1 e.none) in
+    subst (λ (k : Step). IsStep t k m (over x.regs x.core x.bus c.told.new.count first)) (sym c.told.ensures.step)
+    (subst (λ (n : ℕ). IsStep t (step_of o.0 o.1) m (over x.regs x.core x.bus n first)) (sym c.told.ensures.count) there)
