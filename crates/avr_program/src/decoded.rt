@@ -18,6 +18,9 @@ pub struct Slot {
 // How many words a program memory has.
 const WORDS: usize = 65_536;
 
+// The word of erased flash.
+const ERASED: u16 = 0xFFFF;
+
 /// The flash of a node, and the instruction at each of its word addresses. A contract sees it as its flash.
 pub struct Decoded {
     flash: Flash,
@@ -43,11 +46,16 @@ impl Model for Decoded {
     ghost invariant = { λ p. p.slots.items ≡ slots_below 65536 p.flash.bytes };
 }
 
-// The instruction at a word address.
+// The instruction at a word address. Erased words, most of a flash, are no instruction: they need no decoding.
+#[tactic(auto, using(avr_decoder::proofs::Branches::bit_reserved))]
 fn op_in(flash: &Flash, pc: u16) -> Op
     ensures { result ≡ op_of flash.now.bytes pc }
 {
-    decode(flash.word(pc), flash.word(pc.wrapping_add(1)))
+    let word = flash.word(pc);
+    if word == ERASED {
+        return Op::Reserved { word };
+    }
+    decode(word, flash.word(pc.wrapping_add(1)))
 }
 
 // The instruction at each word address.
