@@ -241,12 +241,21 @@ silent t at end old m same from none i l =
     ap (λ (x : ScriptBytes). script_byte x (at + i)) same
     ∙ subst (λ (u : ℕ). script_byte old.script u ≡ None) there (none (at - t + i) (omega (arith, l, from)))
 
+-- ---- a machine whose core stands beside it, with what it owes
+abbrev pub turning : Machine → Registers → Core → ℕ → Machine
+turning self regs core owed_to = owing (nat_lt self.count owed_to) (beside regs core self)
+
+pub acts : (t end : ℕ) (first self : Machine) (regs : Registers) (core : Core) (owed_to : ℕ) (h : IsTurning t end first self regs core owed_to)
+    → end ≤ 2 ^ 40 → vec_len first.rows < vec_capacity first.rows → MayAct self.bus.board.clock (turning self regs core owed_to)
+acts t end first self regs core owed_to h early room =
+    let within = h.within in may t self.bus.board.clock first (turning self regs core owed_to) h.runs (omega (arith, within, early)) room
+
 -- ---- a step of a sprint, of n cycles
 module _ (t end : ℕ) (first self : Machine) (regs : Registers) (core : Core) (owed_to : ℕ) (h : IsTurning t end first self regs core owed_to)
     (n : ℕ) (to : Registers) (on : Core) (bus : NodeBus) (count : ℕ) (b : Bool)
-    (p : IsStepped self.bus.board.clock n (owing (nat_lt self.count owed_to) (beside regs core self)) (owing b (over to on bus count self))) where
+    (p : IsStepped self.bus.board.clock n (turning self regs core owed_to) (owing b (over to on bus count self))) where
   abbrev m : Machine
-  m = owing (nat_lt self.count owed_to) (beside regs core self)
+  m = turning self regs core owed_to
 
   abbrev on_board : Board → Machine
   on_board board = record self { bus = with_board bus board; count = count }

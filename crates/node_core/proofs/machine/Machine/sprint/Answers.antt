@@ -12,7 +12,7 @@ use Rattle.node_core.specs.declared.machine.Machine.{Machine}
 use Rattle.node_core.specs.Shown.{shown}
 use Rattle.node_core.specs.Midway.{IsSprinted, IsSprinting, IsStepped, IsStopping, IsTurning, beside, over, owing, turned_on}
 use Rattle.node_core.specs.declared.row.Kind.TheVariants as kind
-use Rattle.node_core.proofs.Sprints.{at_it, begins, carried, clear_due, joins, may, moved, none_owed, not_owed, silent, stands, stays, stays_at, still_owed, stops, turn_free, turned}
+use Rattle.node_core.proofs.Sprints.{acts, at_it, begins, carried, clear_due, joins, may, moved, none_owed, not_owed, silent, stands, stays, stays_at, still_owed, stops, turn_free, turned, turning}
 use Rattle.node_core.proofs.machine.Machine.sprint.Goals as goal
 
 pub returns-then-cycle-self-clause-sprinted : goal.returns-then-cycle-self-clause-sprinted
@@ -51,134 +51,101 @@ one_step-requires-clause-few c =
     let h = c.loop-taken-2.invariant.turning in
     let few = h.runs.count in
     let within = h.within in
-    let early = c.requires.early in
-    omega (arith, few, within, early)
+    omega (arith, few, within, c.requires.early)
 
 pub leap_clear-requires : goal.leap_clear-requires
 leap_clear-requires c =
-    let t : ℕ = c.args.cycle in
-    let old : Machine = c.args.self.now in
     let l = c.loop-taken-2 in
     let self : Machine = record c.loop-taken.self { bus = l.self.1.1.1.1.1.1.1.0; count = l.self.1.1.1.1.1.1.1.1.1.1.1.1.0 } in
-    let h : IsTurning t c.args.end old self l.regs l.core l.owed_to = l.invariant.turning in
+    let h = l.invariant.turning in
     let s = c.one_step.new in
-    let m : Machine = owing (nat_lt self.count l.owed_to) (beside l.regs l.core self) in
-    let early = h.within in
-    let ready = may t self.bus.board.clock old m h.runs (omega (arith, early, c.requires.early)) c.requires.may.room in
-    let p : IsStepped self.bus.board.clock c.in-Plain.taken m (owing false (over s.regs s.core s.bus s.count self)) = c.in-Plain.ensures m refl ready h.runs.behind in
+    let m : Machine = turning self l.regs l.core l.owed_to in
+    let p = c.in-Plain.ensures m refl (acts c.args.cycle c.args.end c.args.self.now self l.regs l.core l.owed_to h c.requires.early c.requires.may.room) h.runs.behind in
     record { some = p.some }
 
 pub end_sprint-requires-clause-some : goal.end_sprint-requires-clause-some
 end_sprint-requires-clause-some c =
-    let t : ℕ = c.args.cycle in
-    let old : Machine = c.args.self.now in
     let l = c.loop-taken-2 in
     let self : Machine = record c.loop-taken.self { bus = l.self.1.1.1.1.1.1.1.0; count = l.self.1.1.1.1.1.1.1.1.1.1.1.1.0 } in
-    let h : IsTurning t c.args.end old self l.regs l.core l.owed_to = l.invariant.turning in
+    let h = l.invariant.turning in
     let s = c.one_step.new in
-    let m : Machine = owing (nat_lt self.count l.owed_to) (beside l.regs l.core self) in
-    let early = h.within in
-    let ready = may t self.bus.board.clock old m h.runs (omega (arith, early, c.requires.early)) c.requires.may.room in
-    let p : IsStepped self.bus.board.clock c.in-Plain.taken m (owing false (over s.regs s.core s.bus s.count self)) = c.in-Plain.ensures m refl ready h.runs.behind in
+    let m : Machine = turning self l.regs l.core l.owed_to in
+    let p = c.in-Plain.ensures m refl (acts c.args.cycle c.args.end c.args.self.now self l.regs l.core l.owed_to h c.requires.early c.requires.may.room) h.runs.behind in
     p.some
 
 pub end_sprint-requires-clause-early : goal.end_sprint-requires-clause-early
 end_sprint-requires-clause-early c =
-    let t : ℕ = c.args.cycle in
-    let old : Machine = c.args.self.now in
     let l = c.loop-taken-2 in
     let self : Machine = record c.loop-taken.self { bus = l.self.1.1.1.1.1.1.1.0; count = l.self.1.1.1.1.1.1.1.1.1.1.1.1.0 } in
-    let h : IsTurning t c.args.end old self l.regs l.core l.owed_to = l.invariant.turning in
+    let h = l.invariant.turning in
     let s = c.one_step.new in
-    let m : Machine = owing (nat_lt self.count l.owed_to) (beside l.regs l.core self) in
-    let early = h.within in
-    let ready = may t self.bus.board.clock old m h.runs (omega (arith, early, c.requires.early)) c.requires.may.room in
-    let p : IsStepped self.bus.board.clock c.in-Plain.taken m (owing false (over s.regs s.core s.bus s.count self)) = c.in-Plain.ensures m refl ready h.runs.behind in
-    let at = stays_at t c.args.end old self l.regs l.core l.owed_to h c.in-Plain.taken s.regs s.core s.bus s.count false p c.leap_clear.new.self (c.if-not-leap_clear.ensures.same refl) in
-    omega (arith, at, early, c.requires.early)
+    let m : Machine = turning self l.regs l.core l.owed_to in
+    let p = c.in-Plain.ensures m refl (acts c.args.cycle c.args.end c.args.self.now self l.regs l.core l.owed_to h c.requires.early c.requires.may.room) h.runs.behind in
+    let at = stays_at c.args.cycle c.args.end c.args.self.now self l.regs l.core l.owed_to h c.in-Plain.taken s.regs s.core s.bus s.count false p c.leap_clear.new.self (c.if-not-leap_clear.ensures.same refl) in
+    let within = h.within in omega (arith, at, within, c.requires.early)
 
 pub end_sprint-requires-clause-within : goal.end_sprint-requires-clause-within
 end_sprint-requires-clause-within c =
-    let t : ℕ = c.args.cycle in
-    let old : Machine = c.args.self.now in
     let l = c.loop-taken-2 in
     let self : Machine = record c.loop-taken.self { bus = l.self.1.1.1.1.1.1.1.0; count = l.self.1.1.1.1.1.1.1.1.1.1.1.1.0 } in
-    let h : IsTurning t c.args.end old self l.regs l.core l.owed_to = l.invariant.turning in
+    let h = l.invariant.turning in
     let s = c.one_step.new in
-    let m : Machine = owing (nat_lt self.count l.owed_to) (beside l.regs l.core self) in
-    let early = h.within in
-    let ready = may t self.bus.board.clock old m h.runs (omega (arith, early, c.requires.early)) c.requires.may.room in
-    let p : IsStepped self.bus.board.clock c.in-Plain.taken m (owing false (over s.regs s.core s.bus s.count self)) = c.in-Plain.ensures m refl ready h.runs.behind in
-    let at = stays_at t c.args.end old self l.regs l.core l.owed_to h c.in-Plain.taken s.regs s.core s.bus s.count false p c.leap_clear.new.self (c.if-not-leap_clear.ensures.same refl) in
-    omega (arith, at, early)
+    let m : Machine = turning self l.regs l.core l.owed_to in
+    let p = c.in-Plain.ensures m refl (acts c.args.cycle c.args.end c.args.self.now self l.regs l.core l.owed_to h c.requires.early c.requires.may.room) h.runs.behind in
+    let at = stays_at c.args.cycle c.args.end c.args.self.now self l.regs l.core l.owed_to h c.in-Plain.taken s.regs s.core s.bus s.count false p c.leap_clear.new.self (c.if-not-leap_clear.ensures.same refl) in
+    let within = h.within in omega (arith, at, within)
 
 pub end_sprint-requires-clause-none : goal.end_sprint-requires-clause-none
 end_sprint-requires-clause-none c k late =
-    let t : ℕ = c.args.cycle in
-    let old : Machine = c.args.self.now in
     let l = c.loop-taken-2 in
     let self : Machine = record c.loop-taken.self { bus = l.self.1.1.1.1.1.1.1.0; count = l.self.1.1.1.1.1.1.1.1.1.1.1.1.0 } in
-    let h : IsTurning t c.args.end old self l.regs l.core l.owed_to = l.invariant.turning in
+    let h = l.invariant.turning in
     let s = c.one_step.new in
-    let m : Machine = owing (nat_lt self.count l.owed_to) (beside l.regs l.core self) in
-    let early = h.within in
-    let ready = may t self.bus.board.clock old m h.runs (omega (arith, early, c.requires.early)) c.requires.may.room in
-    let p : IsStepped self.bus.board.clock c.in-Plain.taken m (owing false (over s.regs s.core s.bus s.count self)) = c.in-Plain.ensures m refl ready h.runs.behind in
-    let at = stays_at t c.args.end old self l.regs l.core l.owed_to h c.in-Plain.taken s.regs s.core s.bus s.count false p c.leap_clear.new.self (c.if-not-leap_clear.ensures.same refl) in
+    let m : Machine = turning self l.regs l.core l.owed_to in
+    let p = c.in-Plain.ensures m refl (acts c.args.cycle c.args.end c.args.self.now self l.regs l.core l.owed_to h c.requires.early c.requires.may.room) h.runs.behind in
+    let at = stays_at c.args.cycle c.args.end c.args.self.now self l.regs l.core l.owed_to h c.in-Plain.taken s.regs s.core s.bus s.count false p c.leap_clear.new.self (c.if-not-leap_clear.ensures.same refl) in
     let from = h.runs.from in
-    silent t c.leap_clear.new.self.clock c.args.end old (record self { bus = with_board s.bus c.leap_clear.new.self; count = s.count }) h.runs.script (omega (arith, from, at)) c.requires.none k late
+    silent c.args.cycle c.leap_clear.new.self.clock c.args.end c.args.self.now (record self { bus = with_board s.bus c.leap_clear.new.self; count = s.count }) h.runs.script (omega (arith, from, at)) c.requires.none k late
 
 pub returns-then-not-leap_clear-clause-sprinted : goal.returns-then-not-leap_clear-clause-sprinted
 returns-then-not-leap_clear-clause-sprinted c =
-    let t : ℕ = c.args.cycle in
-    let old : Machine = c.args.self.now in
     let l = c.loop-taken-2 in
     let self : Machine = record c.loop-taken.self { bus = l.self.1.1.1.1.1.1.1.0; count = l.self.1.1.1.1.1.1.1.1.1.1.1.1.0 } in
-    let h : IsTurning t c.args.end old self l.regs l.core l.owed_to = l.invariant.turning in
+    let h = l.invariant.turning in
     let s = c.one_step.new in
-    let m : Machine = owing (nat_lt self.count l.owed_to) (beside l.regs l.core self) in
-    let early = h.within in
-    let ready = may t self.bus.board.clock old m h.runs (omega (arith, early, c.requires.early)) c.requires.may.room in
-    let p : IsStepped self.bus.board.clock c.in-Plain.taken m (owing false (over s.regs s.core s.bus s.count self)) = c.in-Plain.ensures m refl ready h.runs.behind in
+    let m : Machine = turning self l.regs l.core l.owed_to in
+    let p = c.in-Plain.ensures m refl (acts c.args.cycle c.args.end c.args.self.now self l.regs l.core l.owed_to h c.requires.early c.requires.may.room) h.runs.behind in
     let same = c.if-not-leap_clear.ensures.same refl in
-    c.end_sprint.ensures.sprinted t old m (at_it t c.args.end old self l.regs l.core l.owed_to h c.in-Plain.taken s.regs s.core s.bus s.count false p c.leap_clear.new.self same) (turn_free t c.args.end old self l.regs l.core l.owed_to h c.in-Plain.taken s.regs s.core s.bus s.count false p) (carried t c.args.end old self l.regs l.core l.owed_to h c.in-Plain.taken s.regs s.core s.bus s.count false p c.leap_clear.new.self same)
+    c.end_sprint.ensures.sprinted c.args.cycle c.args.self.now m (at_it c.args.cycle c.args.end c.args.self.now self l.regs l.core l.owed_to h c.in-Plain.taken s.regs s.core s.bus s.count false p c.leap_clear.new.self same) (turn_free c.args.cycle c.args.end c.args.self.now self l.regs l.core l.owed_to h c.in-Plain.taken s.regs s.core s.bus s.count false p) (carried c.args.cycle c.args.end c.args.self.now self l.regs l.core l.owed_to h c.in-Plain.taken s.regs s.core s.bus s.count false p c.leap_clear.new.self same)
 
 pub loop-taken-2-smaller-else-not-leap_clear : goal.loop-taken-2-smaller-else-not-leap_clear
 loop-taken-2-smaller-else-not-leap_clear c =
-    let t : ℕ = c.args.cycle in
-    let old : Machine = c.args.self.now in
     let l = c.loop-taken-2 in
     let self : Machine = record c.loop-taken.self { bus = l.self.1.1.1.1.1.1.1.0; count = l.self.1.1.1.1.1.1.1.1.1.1.1.1.0 } in
-    let h : IsTurning t c.args.end old self l.regs l.core l.owed_to = l.invariant.turning in
+    let h = l.invariant.turning in
     let s = c.one_step.new in
-    let m : Machine = owing (nat_lt self.count l.owed_to) (beside l.regs l.core self) in
-    let early = h.within in
-    let ready = may t self.bus.board.clock old m h.runs (omega (arith, early, c.requires.early)) c.requires.may.room in
-    let p : IsStepped self.bus.board.clock c.in-Plain.taken m (owing false (over s.regs s.core s.bus s.count self)) = c.in-Plain.ensures m refl ready h.runs.behind in
+    let m : Machine = turning self l.regs l.core l.owed_to in
+    let p = c.in-Plain.ensures m refl (acts c.args.cycle c.args.end c.args.self.now self l.regs l.core l.owed_to h c.requires.early c.requires.may.room) h.runs.behind in
     let e = c.if-not-leap_clear.ensures in
-    let moves = moved t c.args.end old self l.regs l.core l.owed_to h c.in-Plain.taken s.regs s.core s.bus s.count false p c.requires.none c.leap_clear.new.self (e.within refl) (e.idle refl) (e.state refl) (e.clear refl) (e.clock refl) in
+    let moves = moved c.args.cycle c.args.end c.args.self.now self l.regs l.core l.owed_to h c.in-Plain.taken s.regs s.core s.bus s.count false p c.requires.none c.leap_clear.new.self (e.within refl) (e.idle refl) (e.state refl) (e.clear refl) (e.clock refl) in
     let within = e.within refl in
     let on = e.clock refl in
     omega (arith, moves, within, on)
 
 pub loop-taken-2-preserved-else-not-leap_clear : goal.loop-taken-2-preserved-else-not-leap_clear
 loop-taken-2-preserved-else-not-leap_clear c =
-    let t : ℕ = c.args.cycle in
-    let old : Machine = c.args.self.now in
     let l = c.loop-taken-2 in
     let self : Machine = record c.loop-taken.self { bus = l.self.1.1.1.1.1.1.1.0; count = l.self.1.1.1.1.1.1.1.1.1.1.1.1.0 } in
-    let h : IsTurning t c.args.end old self l.regs l.core l.owed_to = l.invariant.turning in
+    let h = l.invariant.turning in
     let s = c.one_step.new in
-    let m : Machine = owing (nat_lt self.count l.owed_to) (beside l.regs l.core self) in
-    let early = h.within in
-    let ready = may t self.bus.board.clock old m h.runs (omega (arith, early, c.requires.early)) c.requires.may.room in
-    let p : IsStepped self.bus.board.clock c.in-Plain.taken m (owing false (over s.regs s.core s.bus s.count self)) = c.in-Plain.ensures m refl ready h.runs.behind in
+    let m : Machine = turning self l.regs l.core l.owed_to in
+    let p = c.in-Plain.ensures m refl (acts c.args.cycle c.args.end c.args.self.now self l.regs l.core l.owed_to h c.requires.early c.requires.may.room) h.runs.behind in
     let e = c.if-not-leap_clear.ensures in
-    let moves = moved t c.args.end old self l.regs l.core l.owed_to h c.in-Plain.taken s.regs s.core s.bus s.count false p c.requires.none c.leap_clear.new.self (e.within refl) (e.idle refl) (e.state refl) (e.clear refl) (e.clock refl) in
+    let moves = moved c.args.cycle c.args.end c.args.self.now self l.regs l.core l.owed_to h c.in-Plain.taken s.regs s.core s.bus s.count false p c.requires.none c.leap_clear.new.self (e.within refl) (e.idle refl) (e.state refl) (e.clear refl) (e.clock refl) in
     let more = p.count in
     let last = l.invariant.on in
     record {
-      turning = turned t c.args.end old self l.regs l.core l.owed_to h c.in-Plain.taken s.regs s.core s.bus s.count false p c.requires.none c.leap_clear.new.self (e.within refl) (e.idle refl) (e.state refl) (e.clear refl) (e.clock refl) l.owed_to
+      turning = turned c.args.cycle c.args.end c.args.self.now self l.regs l.core l.owed_to h c.in-Plain.taken s.regs s.core s.bus s.count false p c.requires.none c.leap_clear.new.self (e.within refl) (e.idle refl) (e.state refl) (e.clear refl) (e.clock refl) l.owed_to
           (let up = h.top in omega (arith, more, up)) (subst (λ (n : ℕ). nat_lt n l.owed_to ≡ false) (sym more) (not_owed self.count l.owed_to h.top));
       slots = l.invariant.slots;
       on = omega (arith, last, moves);
@@ -186,129 +153,97 @@ loop-taken-2-preserved-else-not-leap_clear c =
 
 pub leap_clear-requires-in-Jumped : goal.leap_clear-requires-in-Jumped
 leap_clear-requires-in-Jumped c =
-    let t : ℕ = c.args.cycle in
-    let old : Machine = c.args.self.now in
     let l = c.loop-taken-2 in
     let self : Machine = record c.loop-taken.self { bus = l.self.1.1.1.1.1.1.1.0; count = l.self.1.1.1.1.1.1.1.1.1.1.1.1.0 } in
-    let h : IsTurning t c.args.end old self l.regs l.core l.owed_to = l.invariant.turning in
+    let h = l.invariant.turning in
     let s = c.one_step.new in
-    let m : Machine = owing (nat_lt self.count l.owed_to) (beside l.regs l.core self) in
-    let early = h.within in
-    let ready = may t self.bus.board.clock old m h.runs (omega (arith, early, c.requires.early)) c.requires.may.room in
-    let p : IsStepped self.bus.board.clock c.in-Jumped.taken m (owing false (over s.regs s.core s.bus s.count self)) = c.in-Jumped.ensures m refl ready h.runs.behind in
+    let m : Machine = turning self l.regs l.core l.owed_to in
+    let p = c.in-Jumped.ensures m refl (acts c.args.cycle c.args.end c.args.self.now self l.regs l.core l.owed_to h c.requires.early c.requires.may.room) h.runs.behind in
     record { some = p.some }
 
 pub end_sprint-requires-then-not-leap_clear-2-clause-some : goal.end_sprint-requires-then-not-leap_clear-2-clause-some
 end_sprint-requires-then-not-leap_clear-2-clause-some c =
-    let t : ℕ = c.args.cycle in
-    let old : Machine = c.args.self.now in
     let l = c.loop-taken-2 in
     let self : Machine = record c.loop-taken.self { bus = l.self.1.1.1.1.1.1.1.0; count = l.self.1.1.1.1.1.1.1.1.1.1.1.1.0 } in
-    let h : IsTurning t c.args.end old self l.regs l.core l.owed_to = l.invariant.turning in
+    let h = l.invariant.turning in
     let s = c.one_step.new in
-    let m : Machine = owing (nat_lt self.count l.owed_to) (beside l.regs l.core self) in
-    let early = h.within in
-    let ready = may t self.bus.board.clock old m h.runs (omega (arith, early, c.requires.early)) c.requires.may.room in
-    let p : IsStepped self.bus.board.clock c.in-Jumped.taken m (owing false (over s.regs s.core s.bus s.count self)) = c.in-Jumped.ensures m refl ready h.runs.behind in
+    let m : Machine = turning self l.regs l.core l.owed_to in
+    let p = c.in-Jumped.ensures m refl (acts c.args.cycle c.args.end c.args.self.now self l.regs l.core l.owed_to h c.requires.early c.requires.may.room) h.runs.behind in
     p.some
 
 pub end_sprint-requires-then-not-leap_clear-2-clause-early : goal.end_sprint-requires-then-not-leap_clear-2-clause-early
 end_sprint-requires-then-not-leap_clear-2-clause-early c =
-    let t : ℕ = c.args.cycle in
-    let old : Machine = c.args.self.now in
     let l = c.loop-taken-2 in
     let self : Machine = record c.loop-taken.self { bus = l.self.1.1.1.1.1.1.1.0; count = l.self.1.1.1.1.1.1.1.1.1.1.1.1.0 } in
-    let h : IsTurning t c.args.end old self l.regs l.core l.owed_to = l.invariant.turning in
+    let h = l.invariant.turning in
     let s = c.one_step.new in
-    let m : Machine = owing (nat_lt self.count l.owed_to) (beside l.regs l.core self) in
-    let early = h.within in
-    let ready = may t self.bus.board.clock old m h.runs (omega (arith, early, c.requires.early)) c.requires.may.room in
-    let p : IsStepped self.bus.board.clock c.in-Jumped.taken m (owing false (over s.regs s.core s.bus s.count self)) = c.in-Jumped.ensures m refl ready h.runs.behind in
-    let at = stays_at t c.args.end old self l.regs l.core l.owed_to h c.in-Jumped.taken s.regs s.core s.bus s.count false p c.leap_clear-in-Jumped.new.self (c.if-not-leap_clear-2.ensures.same refl) in
-    omega (arith, at, early, c.requires.early)
+    let m : Machine = turning self l.regs l.core l.owed_to in
+    let p = c.in-Jumped.ensures m refl (acts c.args.cycle c.args.end c.args.self.now self l.regs l.core l.owed_to h c.requires.early c.requires.may.room) h.runs.behind in
+    let at = stays_at c.args.cycle c.args.end c.args.self.now self l.regs l.core l.owed_to h c.in-Jumped.taken s.regs s.core s.bus s.count false p c.leap_clear-in-Jumped.new.self (c.if-not-leap_clear-2.ensures.same refl) in
+    let within = h.within in omega (arith, at, within, c.requires.early)
 
 pub end_sprint-requires-then-not-leap_clear-2-clause-within : goal.end_sprint-requires-then-not-leap_clear-2-clause-within
 end_sprint-requires-then-not-leap_clear-2-clause-within c =
-    let t : ℕ = c.args.cycle in
-    let old : Machine = c.args.self.now in
     let l = c.loop-taken-2 in
     let self : Machine = record c.loop-taken.self { bus = l.self.1.1.1.1.1.1.1.0; count = l.self.1.1.1.1.1.1.1.1.1.1.1.1.0 } in
-    let h : IsTurning t c.args.end old self l.regs l.core l.owed_to = l.invariant.turning in
+    let h = l.invariant.turning in
     let s = c.one_step.new in
-    let m : Machine = owing (nat_lt self.count l.owed_to) (beside l.regs l.core self) in
-    let early = h.within in
-    let ready = may t self.bus.board.clock old m h.runs (omega (arith, early, c.requires.early)) c.requires.may.room in
-    let p : IsStepped self.bus.board.clock c.in-Jumped.taken m (owing false (over s.regs s.core s.bus s.count self)) = c.in-Jumped.ensures m refl ready h.runs.behind in
-    let at = stays_at t c.args.end old self l.regs l.core l.owed_to h c.in-Jumped.taken s.regs s.core s.bus s.count false p c.leap_clear-in-Jumped.new.self (c.if-not-leap_clear-2.ensures.same refl) in
-    omega (arith, at, early)
+    let m : Machine = turning self l.regs l.core l.owed_to in
+    let p = c.in-Jumped.ensures m refl (acts c.args.cycle c.args.end c.args.self.now self l.regs l.core l.owed_to h c.requires.early c.requires.may.room) h.runs.behind in
+    let at = stays_at c.args.cycle c.args.end c.args.self.now self l.regs l.core l.owed_to h c.in-Jumped.taken s.regs s.core s.bus s.count false p c.leap_clear-in-Jumped.new.self (c.if-not-leap_clear-2.ensures.same refl) in
+    let within = h.within in omega (arith, at, within)
 
 pub end_sprint-requires-then-not-leap_clear-2-clause-none : goal.end_sprint-requires-then-not-leap_clear-2-clause-none
 end_sprint-requires-then-not-leap_clear-2-clause-none c k late =
-    let t : ℕ = c.args.cycle in
-    let old : Machine = c.args.self.now in
     let l = c.loop-taken-2 in
     let self : Machine = record c.loop-taken.self { bus = l.self.1.1.1.1.1.1.1.0; count = l.self.1.1.1.1.1.1.1.1.1.1.1.1.0 } in
-    let h : IsTurning t c.args.end old self l.regs l.core l.owed_to = l.invariant.turning in
+    let h = l.invariant.turning in
     let s = c.one_step.new in
-    let m : Machine = owing (nat_lt self.count l.owed_to) (beside l.regs l.core self) in
-    let early = h.within in
-    let ready = may t self.bus.board.clock old m h.runs (omega (arith, early, c.requires.early)) c.requires.may.room in
-    let p : IsStepped self.bus.board.clock c.in-Jumped.taken m (owing false (over s.regs s.core s.bus s.count self)) = c.in-Jumped.ensures m refl ready h.runs.behind in
-    let at = stays_at t c.args.end old self l.regs l.core l.owed_to h c.in-Jumped.taken s.regs s.core s.bus s.count false p c.leap_clear-in-Jumped.new.self (c.if-not-leap_clear-2.ensures.same refl) in
+    let m : Machine = turning self l.regs l.core l.owed_to in
+    let p = c.in-Jumped.ensures m refl (acts c.args.cycle c.args.end c.args.self.now self l.regs l.core l.owed_to h c.requires.early c.requires.may.room) h.runs.behind in
+    let at = stays_at c.args.cycle c.args.end c.args.self.now self l.regs l.core l.owed_to h c.in-Jumped.taken s.regs s.core s.bus s.count false p c.leap_clear-in-Jumped.new.self (c.if-not-leap_clear-2.ensures.same refl) in
     let from = h.runs.from in
-    silent t c.leap_clear-in-Jumped.new.self.clock c.args.end old (record self { bus = with_board s.bus c.leap_clear-in-Jumped.new.self; count = s.count }) h.runs.script (omega (arith, from, at)) c.requires.none k late
+    silent c.args.cycle c.leap_clear-in-Jumped.new.self.clock c.args.end c.args.self.now (record self { bus = with_board s.bus c.leap_clear-in-Jumped.new.self; count = s.count }) h.runs.script (omega (arith, from, at)) c.requires.none k late
 
 pub returns-then-not-leap_clear-2-clause-sprinted : goal.returns-then-not-leap_clear-2-clause-sprinted
 returns-then-not-leap_clear-2-clause-sprinted c =
-    let t : ℕ = c.args.cycle in
-    let old : Machine = c.args.self.now in
     let l = c.loop-taken-2 in
     let self : Machine = record c.loop-taken.self { bus = l.self.1.1.1.1.1.1.1.0; count = l.self.1.1.1.1.1.1.1.1.1.1.1.1.0 } in
-    let h : IsTurning t c.args.end old self l.regs l.core l.owed_to = l.invariant.turning in
+    let h = l.invariant.turning in
     let s = c.one_step.new in
-    let m : Machine = owing (nat_lt self.count l.owed_to) (beside l.regs l.core self) in
-    let early = h.within in
-    let ready = may t self.bus.board.clock old m h.runs (omega (arith, early, c.requires.early)) c.requires.may.room in
-    let p : IsStepped self.bus.board.clock c.in-Jumped.taken m (owing false (over s.regs s.core s.bus s.count self)) = c.in-Jumped.ensures m refl ready h.runs.behind in
+    let m : Machine = turning self l.regs l.core l.owed_to in
+    let p = c.in-Jumped.ensures m refl (acts c.args.cycle c.args.end c.args.self.now self l.regs l.core l.owed_to h c.requires.early c.requires.may.room) h.runs.behind in
     let same = c.if-not-leap_clear-2.ensures.same refl in
-    c.end_sprint-then-not-leap_clear-2.ensures.sprinted t old m (at_it t c.args.end old self l.regs l.core l.owed_to h c.in-Jumped.taken s.regs s.core s.bus s.count false p c.leap_clear-in-Jumped.new.self same) (turn_free t c.args.end old self l.regs l.core l.owed_to h c.in-Jumped.taken s.regs s.core s.bus s.count false p) (carried t c.args.end old self l.regs l.core l.owed_to h c.in-Jumped.taken s.regs s.core s.bus s.count false p c.leap_clear-in-Jumped.new.self same)
+    c.end_sprint-then-not-leap_clear-2.ensures.sprinted c.args.cycle c.args.self.now m (at_it c.args.cycle c.args.end c.args.self.now self l.regs l.core l.owed_to h c.in-Jumped.taken s.regs s.core s.bus s.count false p c.leap_clear-in-Jumped.new.self same) (turn_free c.args.cycle c.args.end c.args.self.now self l.regs l.core l.owed_to h c.in-Jumped.taken s.regs s.core s.bus s.count false p) (carried c.args.cycle c.args.end c.args.self.now self l.regs l.core l.owed_to h c.in-Jumped.taken s.regs s.core s.bus s.count false p c.leap_clear-in-Jumped.new.self same)
 
 pub loop-taken-2-smaller-then-pc-core-lt-SHORT : goal.loop-taken-2-smaller-then-pc-core-lt-SHORT
 loop-taken-2-smaller-then-pc-core-lt-SHORT c =
-    let t : ℕ = c.args.cycle in
-    let old : Machine = c.args.self.now in
     let l = c.loop-taken-2 in
     let self : Machine = record c.loop-taken.self { bus = l.self.1.1.1.1.1.1.1.0; count = l.self.1.1.1.1.1.1.1.1.1.1.1.1.0 } in
-    let h : IsTurning t c.args.end old self l.regs l.core l.owed_to = l.invariant.turning in
+    let h = l.invariant.turning in
     let s = c.one_step.new in
-    let m : Machine = owing (nat_lt self.count l.owed_to) (beside l.regs l.core self) in
-    let early = h.within in
-    let ready = may t self.bus.board.clock old m h.runs (omega (arith, early, c.requires.early)) c.requires.may.room in
-    let p : IsStepped self.bus.board.clock c.in-Jumped.taken m (owing false (over s.regs s.core s.bus s.count self)) = c.in-Jumped.ensures m refl ready h.runs.behind in
+    let m : Machine = turning self l.regs l.core l.owed_to in
+    let p = c.in-Jumped.ensures m refl (acts c.args.cycle c.args.end c.args.self.now self l.regs l.core l.owed_to h c.requires.early c.requires.may.room) h.runs.behind in
     let e = c.if-not-leap_clear-2.ensures in
-    let moves = moved t c.args.end old self l.regs l.core l.owed_to h c.in-Jumped.taken s.regs s.core s.bus s.count false p c.requires.none c.leap_clear-in-Jumped.new.self (e.within refl) (e.idle refl) (e.state refl) (e.clear refl) (e.clock refl) in
+    let moves = moved c.args.cycle c.args.end c.args.self.now self l.regs l.core l.owed_to h c.in-Jumped.taken s.regs s.core s.bus s.count false p c.requires.none c.leap_clear-in-Jumped.new.self (e.within refl) (e.idle refl) (e.state refl) (e.clear refl) (e.clock refl) in
     let within = e.within refl in
     let on = e.clock refl in
     omega (arith, moves, within, on)
 
 pub loop-taken-2-preserved-then-pc-core-lt-SHORT : goal.loop-taken-2-preserved-then-pc-core-lt-SHORT
 loop-taken-2-preserved-then-pc-core-lt-SHORT c =
-    let t : ℕ = c.args.cycle in
-    let old : Machine = c.args.self.now in
     let l = c.loop-taken-2 in
     let self : Machine = record c.loop-taken.self { bus = l.self.1.1.1.1.1.1.1.0; count = l.self.1.1.1.1.1.1.1.1.1.1.1.1.0 } in
-    let h : IsTurning t c.args.end old self l.regs l.core l.owed_to = l.invariant.turning in
+    let h = l.invariant.turning in
     let s = c.one_step.new in
-    let m : Machine = owing (nat_lt self.count l.owed_to) (beside l.regs l.core self) in
-    let early = h.within in
-    let ready = may t self.bus.board.clock old m h.runs (omega (arith, early, c.requires.early)) c.requires.may.room in
-    let p : IsStepped self.bus.board.clock c.in-Jumped.taken m (owing false (over s.regs s.core s.bus s.count self)) = c.in-Jumped.ensures m refl ready h.runs.behind in
+    let m : Machine = turning self l.regs l.core l.owed_to in
+    let p = c.in-Jumped.ensures m refl (acts c.args.cycle c.args.end c.args.self.now self l.regs l.core l.owed_to h c.requires.early c.requires.may.room) h.runs.behind in
     let e = c.if-not-leap_clear-2.ensures in
-    let moves = moved t c.args.end old self l.regs l.core l.owed_to h c.in-Jumped.taken s.regs s.core s.bus s.count false p c.requires.none c.leap_clear-in-Jumped.new.self (e.within refl) (e.idle refl) (e.state refl) (e.clear refl) (e.clock refl) in
+    let moves = moved c.args.cycle c.args.end c.args.self.now self l.regs l.core l.owed_to h c.in-Jumped.taken s.regs s.core s.bus s.count false p c.requires.none c.leap_clear-in-Jumped.new.self (e.within refl) (e.idle refl) (e.state refl) (e.clear refl) (e.clock refl) in
     let more = p.count in
     let last = l.invariant.on in
     record {
-      turning = turned t c.args.end old self l.regs l.core l.owed_to h c.in-Jumped.taken s.regs s.core s.bus s.count false p c.requires.none c.leap_clear-in-Jumped.new.self (e.within refl) (e.idle refl) (e.state refl) (e.clear refl) (e.clock refl) l.owed_to
+      turning = turned c.args.cycle c.args.end c.args.self.now self l.regs l.core l.owed_to h c.in-Jumped.taken s.regs s.core s.bus s.count false p c.requires.none c.leap_clear-in-Jumped.new.self (e.within refl) (e.idle refl) (e.state refl) (e.clear refl) (e.clock refl) l.owed_to
           (let up = h.top in omega (arith, more, up)) (subst (λ (n : ℕ). nat_lt n l.owed_to ≡ false) (sym more) (not_owed self.count l.owed_to h.top));
       slots = l.invariant.slots;
       on = omega (arith, last, moves);
@@ -316,40 +251,32 @@ loop-taken-2-preserved-then-pc-core-lt-SHORT c =
 
 pub loop-taken-2-smaller-else-pc-core-lt-SHORT : goal.loop-taken-2-smaller-else-pc-core-lt-SHORT
 loop-taken-2-smaller-else-pc-core-lt-SHORT c =
-    let t : ℕ = c.args.cycle in
-    let old : Machine = c.args.self.now in
     let l = c.loop-taken-2 in
     let self : Machine = record c.loop-taken.self { bus = l.self.1.1.1.1.1.1.1.0; count = l.self.1.1.1.1.1.1.1.1.1.1.1.1.0 } in
-    let h : IsTurning t c.args.end old self l.regs l.core l.owed_to = l.invariant.turning in
+    let h = l.invariant.turning in
     let s = c.one_step.new in
-    let m : Machine = owing (nat_lt self.count l.owed_to) (beside l.regs l.core self) in
-    let early = h.within in
-    let ready = may t self.bus.board.clock old m h.runs (omega (arith, early, c.requires.early)) c.requires.may.room in
-    let p : IsStepped self.bus.board.clock c.in-Jumped.taken m (owing false (over s.regs s.core s.bus s.count self)) = c.in-Jumped.ensures m refl ready h.runs.behind in
+    let m : Machine = turning self l.regs l.core l.owed_to in
+    let p = c.in-Jumped.ensures m refl (acts c.args.cycle c.args.end c.args.self.now self l.regs l.core l.owed_to h c.requires.early c.requires.may.room) h.runs.behind in
     let e = c.if-not-leap_clear-2.ensures in
-    let moves = moved t c.args.end old self l.regs l.core l.owed_to h c.in-Jumped.taken s.regs s.core s.bus s.count false p c.requires.none c.leap_clear-in-Jumped.new.self (e.within refl) (e.idle refl) (e.state refl) (e.clear refl) (e.clock refl) in
+    let moves = moved c.args.cycle c.args.end c.args.self.now self l.regs l.core l.owed_to h c.in-Jumped.taken s.regs s.core s.bus s.count false p c.requires.none c.leap_clear-in-Jumped.new.self (e.within refl) (e.idle refl) (e.state refl) (e.clear refl) (e.clock refl) in
     let within = e.within refl in
     let on = e.clock refl in
     omega (arith, moves, within, on)
 
 pub loop-taken-2-preserved-else-pc-core-lt-SHORT : goal.loop-taken-2-preserved-else-pc-core-lt-SHORT
 loop-taken-2-preserved-else-pc-core-lt-SHORT c =
-    let t : ℕ = c.args.cycle in
-    let old : Machine = c.args.self.now in
     let l = c.loop-taken-2 in
     let self : Machine = record c.loop-taken.self { bus = l.self.1.1.1.1.1.1.1.0; count = l.self.1.1.1.1.1.1.1.1.1.1.1.1.0 } in
-    let h : IsTurning t c.args.end old self l.regs l.core l.owed_to = l.invariant.turning in
+    let h = l.invariant.turning in
     let s = c.one_step.new in
-    let m : Machine = owing (nat_lt self.count l.owed_to) (beside l.regs l.core self) in
-    let early = h.within in
-    let ready = may t self.bus.board.clock old m h.runs (omega (arith, early, c.requires.early)) c.requires.may.room in
-    let p : IsStepped self.bus.board.clock c.in-Jumped.taken m (owing false (over s.regs s.core s.bus s.count self)) = c.in-Jumped.ensures m refl ready h.runs.behind in
+    let m : Machine = turning self l.regs l.core l.owed_to in
+    let p = c.in-Jumped.ensures m refl (acts c.args.cycle c.args.end c.args.self.now self l.regs l.core l.owed_to h c.requires.early c.requires.may.room) h.runs.behind in
     let e = c.if-not-leap_clear-2.ensures in
-    let moves = moved t c.args.end old self l.regs l.core l.owed_to h c.in-Jumped.taken s.regs s.core s.bus s.count false p c.requires.none c.leap_clear-in-Jumped.new.self (e.within refl) (e.idle refl) (e.state refl) (e.clear refl) (e.clock refl) in
+    let moves = moved c.args.cycle c.args.end c.args.self.now self l.regs l.core l.owed_to h c.in-Jumped.taken s.regs s.core s.bus s.count false p c.requires.none c.leap_clear-in-Jumped.new.self (e.within refl) (e.idle refl) (e.state refl) (e.clear refl) (e.clock refl) in
     let more = p.count in
     let last = l.invariant.on in
     record {
-      turning = turned t c.args.end old self l.regs l.core l.owed_to h c.in-Jumped.taken s.regs s.core s.bus s.count false p c.requires.none c.leap_clear-in-Jumped.new.self (e.within refl) (e.idle refl) (e.state refl) (e.clear refl) (e.clock refl) l.owed_to
+      turning = turned c.args.cycle c.args.end c.args.self.now self l.regs l.core l.owed_to h c.in-Jumped.taken s.regs s.core s.bus s.count false p c.requires.none c.leap_clear-in-Jumped.new.self (e.within refl) (e.idle refl) (e.state refl) (e.clear refl) (e.clock refl) l.owed_to
           (let up = h.top in omega (arith, more, up)) (subst (λ (n : ℕ). nat_lt n l.owed_to ≡ false) (sym more) (not_owed self.count l.owed_to h.top));
       slots = l.invariant.slots;
       on = omega (arith, last, moves);
@@ -357,154 +284,109 @@ loop-taken-2-preserved-else-pc-core-lt-SHORT c =
 
 pub leap_clear-requires-in-Stored : goal.leap_clear-requires-in-Stored
 leap_clear-requires-in-Stored c =
-    let t : ℕ = c.args.cycle in
-    let old : Machine = c.args.self.now in
     let l = c.loop-taken-2 in
     let self : Machine = record c.loop-taken.self { bus = l.self.1.1.1.1.1.1.1.0; count = l.self.1.1.1.1.1.1.1.1.1.1.1.1.0 } in
-    let h : IsTurning t c.args.end old self l.regs l.core l.owed_to = l.invariant.turning in
+    let h = l.invariant.turning in
     let s = c.one_step.new in
-    let m : Machine = owing (nat_lt self.count l.owed_to) (beside l.regs l.core self) in
-    let early = h.within in
-    let ready = may t self.bus.board.clock old m h.runs (omega (arith, early, c.requires.early)) c.requires.may.room in
-    let p : IsStepped self.bus.board.clock c.in-Stored.taken m (owing c.turned_on-on.result (over s.regs s.core s.bus s.count self)) =
-    subst (λ (b : Bool). IsStepped self.bus.board.clock c.in-Stored.taken m (owing b (over s.regs s.core s.bus s.count self))) (sym c.turned_on-on.ensures) (c.in-Stored.ensures m refl ready h.runs.behind) in
+    let m : Machine = turning self l.regs l.core l.owed_to in
+    let p = subst (λ (b : Bool). IsStepped self.bus.board.clock c.in-Stored.taken m (owing b (over s.regs s.core s.bus s.count self))) (sym c.turned_on-on.ensures) (c.in-Stored.ensures m refl (acts c.args.cycle c.args.end c.args.self.now self l.regs l.core l.owed_to h c.requires.early c.requires.may.room) h.runs.behind) in
     record { some = p.some }
 
 pub end_sprint-requires-then-not-leap_clear-3-clause-some : goal.end_sprint-requires-then-not-leap_clear-3-clause-some
 end_sprint-requires-then-not-leap_clear-3-clause-some c =
-    let t : ℕ = c.args.cycle in
-    let old : Machine = c.args.self.now in
     let l = c.loop-taken-2 in
     let self : Machine = record c.loop-taken.self { bus = l.self.1.1.1.1.1.1.1.0; count = l.self.1.1.1.1.1.1.1.1.1.1.1.1.0 } in
-    let h : IsTurning t c.args.end old self l.regs l.core l.owed_to = l.invariant.turning in
+    let h = l.invariant.turning in
     let s = c.one_step.new in
-    let m : Machine = owing (nat_lt self.count l.owed_to) (beside l.regs l.core self) in
-    let early = h.within in
-    let ready = may t self.bus.board.clock old m h.runs (omega (arith, early, c.requires.early)) c.requires.may.room in
-    let p : IsStepped self.bus.board.clock c.in-Stored.taken m (owing c.turned_on-on.result (over s.regs s.core s.bus s.count self)) =
-    subst (λ (b : Bool). IsStepped self.bus.board.clock c.in-Stored.taken m (owing b (over s.regs s.core s.bus s.count self))) (sym c.turned_on-on.ensures) (c.in-Stored.ensures m refl ready h.runs.behind) in
+    let m : Machine = turning self l.regs l.core l.owed_to in
+    let p = subst (λ (b : Bool). IsStepped self.bus.board.clock c.in-Stored.taken m (owing b (over s.regs s.core s.bus s.count self))) (sym c.turned_on-on.ensures) (c.in-Stored.ensures m refl (acts c.args.cycle c.args.end c.args.self.now self l.regs l.core l.owed_to h c.requires.early c.requires.may.room) h.runs.behind) in
     p.some
 
 pub end_sprint-requires-then-not-leap_clear-3-clause-early : goal.end_sprint-requires-then-not-leap_clear-3-clause-early
 end_sprint-requires-then-not-leap_clear-3-clause-early c =
-    let t : ℕ = c.args.cycle in
-    let old : Machine = c.args.self.now in
     let l = c.loop-taken-2 in
     let self : Machine = record c.loop-taken.self { bus = l.self.1.1.1.1.1.1.1.0; count = l.self.1.1.1.1.1.1.1.1.1.1.1.1.0 } in
-    let h : IsTurning t c.args.end old self l.regs l.core l.owed_to = l.invariant.turning in
+    let h = l.invariant.turning in
     let s = c.one_step.new in
-    let m : Machine = owing (nat_lt self.count l.owed_to) (beside l.regs l.core self) in
-    let early = h.within in
-    let ready = may t self.bus.board.clock old m h.runs (omega (arith, early, c.requires.early)) c.requires.may.room in
-    let p : IsStepped self.bus.board.clock c.in-Stored.taken m (owing c.turned_on-on.result (over s.regs s.core s.bus s.count self)) =
-    subst (λ (b : Bool). IsStepped self.bus.board.clock c.in-Stored.taken m (owing b (over s.regs s.core s.bus s.count self))) (sym c.turned_on-on.ensures) (c.in-Stored.ensures m refl ready h.runs.behind) in
-    let at = stays_at t c.args.end old self l.regs l.core l.owed_to h c.in-Stored.taken s.regs s.core s.bus s.count c.turned_on-on.result p c.leap_clear-in-Stored.new.self (c.if-not-leap_clear-3.ensures.same refl) in
-    omega (arith, at, early, c.requires.early)
+    let m : Machine = turning self l.regs l.core l.owed_to in
+    let p = subst (λ (b : Bool). IsStepped self.bus.board.clock c.in-Stored.taken m (owing b (over s.regs s.core s.bus s.count self))) (sym c.turned_on-on.ensures) (c.in-Stored.ensures m refl (acts c.args.cycle c.args.end c.args.self.now self l.regs l.core l.owed_to h c.requires.early c.requires.may.room) h.runs.behind) in
+    let at = stays_at c.args.cycle c.args.end c.args.self.now self l.regs l.core l.owed_to h c.in-Stored.taken s.regs s.core s.bus s.count c.turned_on-on.result p c.leap_clear-in-Stored.new.self (c.if-not-leap_clear-3.ensures.same refl) in
+    let within = h.within in omega (arith, at, within, c.requires.early)
 
 pub end_sprint-requires-then-not-leap_clear-3-clause-within : goal.end_sprint-requires-then-not-leap_clear-3-clause-within
 end_sprint-requires-then-not-leap_clear-3-clause-within c =
-    let t : ℕ = c.args.cycle in
-    let old : Machine = c.args.self.now in
     let l = c.loop-taken-2 in
     let self : Machine = record c.loop-taken.self { bus = l.self.1.1.1.1.1.1.1.0; count = l.self.1.1.1.1.1.1.1.1.1.1.1.1.0 } in
-    let h : IsTurning t c.args.end old self l.regs l.core l.owed_to = l.invariant.turning in
+    let h = l.invariant.turning in
     let s = c.one_step.new in
-    let m : Machine = owing (nat_lt self.count l.owed_to) (beside l.regs l.core self) in
-    let early = h.within in
-    let ready = may t self.bus.board.clock old m h.runs (omega (arith, early, c.requires.early)) c.requires.may.room in
-    let p : IsStepped self.bus.board.clock c.in-Stored.taken m (owing c.turned_on-on.result (over s.regs s.core s.bus s.count self)) =
-    subst (λ (b : Bool). IsStepped self.bus.board.clock c.in-Stored.taken m (owing b (over s.regs s.core s.bus s.count self))) (sym c.turned_on-on.ensures) (c.in-Stored.ensures m refl ready h.runs.behind) in
-    let at = stays_at t c.args.end old self l.regs l.core l.owed_to h c.in-Stored.taken s.regs s.core s.bus s.count c.turned_on-on.result p c.leap_clear-in-Stored.new.self (c.if-not-leap_clear-3.ensures.same refl) in
-    omega (arith, at, early)
+    let m : Machine = turning self l.regs l.core l.owed_to in
+    let p = subst (λ (b : Bool). IsStepped self.bus.board.clock c.in-Stored.taken m (owing b (over s.regs s.core s.bus s.count self))) (sym c.turned_on-on.ensures) (c.in-Stored.ensures m refl (acts c.args.cycle c.args.end c.args.self.now self l.regs l.core l.owed_to h c.requires.early c.requires.may.room) h.runs.behind) in
+    let at = stays_at c.args.cycle c.args.end c.args.self.now self l.regs l.core l.owed_to h c.in-Stored.taken s.regs s.core s.bus s.count c.turned_on-on.result p c.leap_clear-in-Stored.new.self (c.if-not-leap_clear-3.ensures.same refl) in
+    let within = h.within in omega (arith, at, within)
 
 pub end_sprint-requires-then-not-leap_clear-3-clause-none : goal.end_sprint-requires-then-not-leap_clear-3-clause-none
 end_sprint-requires-then-not-leap_clear-3-clause-none c k late =
-    let t : ℕ = c.args.cycle in
-    let old : Machine = c.args.self.now in
     let l = c.loop-taken-2 in
     let self : Machine = record c.loop-taken.self { bus = l.self.1.1.1.1.1.1.1.0; count = l.self.1.1.1.1.1.1.1.1.1.1.1.1.0 } in
-    let h : IsTurning t c.args.end old self l.regs l.core l.owed_to = l.invariant.turning in
+    let h = l.invariant.turning in
     let s = c.one_step.new in
-    let m : Machine = owing (nat_lt self.count l.owed_to) (beside l.regs l.core self) in
-    let early = h.within in
-    let ready = may t self.bus.board.clock old m h.runs (omega (arith, early, c.requires.early)) c.requires.may.room in
-    let p : IsStepped self.bus.board.clock c.in-Stored.taken m (owing c.turned_on-on.result (over s.regs s.core s.bus s.count self)) =
-    subst (λ (b : Bool). IsStepped self.bus.board.clock c.in-Stored.taken m (owing b (over s.regs s.core s.bus s.count self))) (sym c.turned_on-on.ensures) (c.in-Stored.ensures m refl ready h.runs.behind) in
-    let at = stays_at t c.args.end old self l.regs l.core l.owed_to h c.in-Stored.taken s.regs s.core s.bus s.count c.turned_on-on.result p c.leap_clear-in-Stored.new.self (c.if-not-leap_clear-3.ensures.same refl) in
+    let m : Machine = turning self l.regs l.core l.owed_to in
+    let p = subst (λ (b : Bool). IsStepped self.bus.board.clock c.in-Stored.taken m (owing b (over s.regs s.core s.bus s.count self))) (sym c.turned_on-on.ensures) (c.in-Stored.ensures m refl (acts c.args.cycle c.args.end c.args.self.now self l.regs l.core l.owed_to h c.requires.early c.requires.may.room) h.runs.behind) in
+    let at = stays_at c.args.cycle c.args.end c.args.self.now self l.regs l.core l.owed_to h c.in-Stored.taken s.regs s.core s.bus s.count c.turned_on-on.result p c.leap_clear-in-Stored.new.self (c.if-not-leap_clear-3.ensures.same refl) in
     let from = h.runs.from in
-    silent t c.leap_clear-in-Stored.new.self.clock c.args.end old (record self { bus = with_board s.bus c.leap_clear-in-Stored.new.self; count = s.count }) h.runs.script (omega (arith, from, at)) c.requires.none k late
+    silent c.args.cycle c.leap_clear-in-Stored.new.self.clock c.args.end c.args.self.now (record self { bus = with_board s.bus c.leap_clear-in-Stored.new.self; count = s.count }) h.runs.script (omega (arith, from, at)) c.requires.none k late
 
 pub returns-then-not-leap_clear-3-clause-sprinted : goal.returns-then-not-leap_clear-3-clause-sprinted
 returns-then-not-leap_clear-3-clause-sprinted c =
-    let t : ℕ = c.args.cycle in
-    let old : Machine = c.args.self.now in
     let l = c.loop-taken-2 in
     let self : Machine = record c.loop-taken.self { bus = l.self.1.1.1.1.1.1.1.0; count = l.self.1.1.1.1.1.1.1.1.1.1.1.1.0 } in
-    let h : IsTurning t c.args.end old self l.regs l.core l.owed_to = l.invariant.turning in
+    let h = l.invariant.turning in
     let s = c.one_step.new in
-    let m : Machine = owing (nat_lt self.count l.owed_to) (beside l.regs l.core self) in
-    let early = h.within in
-    let ready = may t self.bus.board.clock old m h.runs (omega (arith, early, c.requires.early)) c.requires.may.room in
-    let p : IsStepped self.bus.board.clock c.in-Stored.taken m (owing c.turned_on-on.result (over s.regs s.core s.bus s.count self)) =
-    subst (λ (b : Bool). IsStepped self.bus.board.clock c.in-Stored.taken m (owing b (over s.regs s.core s.bus s.count self))) (sym c.turned_on-on.ensures) (c.in-Stored.ensures m refl ready h.runs.behind) in
+    let m : Machine = turning self l.regs l.core l.owed_to in
+    let p = subst (λ (b : Bool). IsStepped self.bus.board.clock c.in-Stored.taken m (owing b (over s.regs s.core s.bus s.count self))) (sym c.turned_on-on.ensures) (c.in-Stored.ensures m refl (acts c.args.cycle c.args.end c.args.self.now self l.regs l.core l.owed_to h c.requires.early c.requires.may.room) h.runs.behind) in
     let same = c.if-not-leap_clear-3.ensures.same refl in
-    c.end_sprint-then-not-leap_clear-3.ensures.sprinted t old m (at_it t c.args.end old self l.regs l.core l.owed_to h c.in-Stored.taken s.regs s.core s.bus s.count c.turned_on-on.result p c.leap_clear-in-Stored.new.self same) (turn_free t c.args.end old self l.regs l.core l.owed_to h c.in-Stored.taken s.regs s.core s.bus s.count c.turned_on-on.result p) (carried t c.args.end old self l.regs l.core l.owed_to h c.in-Stored.taken s.regs s.core s.bus s.count c.turned_on-on.result p c.leap_clear-in-Stored.new.self same)
+    c.end_sprint-then-not-leap_clear-3.ensures.sprinted c.args.cycle c.args.self.now m (at_it c.args.cycle c.args.end c.args.self.now self l.regs l.core l.owed_to h c.in-Stored.taken s.regs s.core s.bus s.count c.turned_on-on.result p c.leap_clear-in-Stored.new.self same) (turn_free c.args.cycle c.args.end c.args.self.now self l.regs l.core l.owed_to h c.in-Stored.taken s.regs s.core s.bus s.count c.turned_on-on.result p) (carried c.args.cycle c.args.end c.args.self.now self l.regs l.core l.owed_to h c.in-Stored.taken s.regs s.core s.bus s.count c.turned_on-on.result p c.leap_clear-in-Stored.new.self same)
 
 pub overflow_add-owed_to : goal.overflow_add-owed_to
 overflow_add-owed_to c =
-    let t : ℕ = c.args.cycle in
-    let old : Machine = c.args.self.now in
     let l = c.loop-taken-2 in
     let self : Machine = record c.loop-taken.self { bus = l.self.1.1.1.1.1.1.1.0; count = l.self.1.1.1.1.1.1.1.1.1.1.1.1.0 } in
-    let h : IsTurning t c.args.end old self l.regs l.core l.owed_to = l.invariant.turning in
+    let h = l.invariant.turning in
     let s = c.one_step.new in
-    let m : Machine = owing (nat_lt self.count l.owed_to) (beside l.regs l.core self) in
-    let early = h.within in
-    let ready = may t self.bus.board.clock old m h.runs (omega (arith, early, c.requires.early)) c.requires.may.room in
-    let p : IsStepped self.bus.board.clock c.in-Stored.taken m (owing c.turned_on-on.result (over s.regs s.core s.bus s.count self)) =
-    subst (λ (b : Bool). IsStepped self.bus.board.clock c.in-Stored.taken m (owing b (over s.regs s.core s.bus s.count self))) (sym c.turned_on-on.ensures) (c.in-Stored.ensures m refl ready h.runs.behind) in
+    let m : Machine = turning self l.regs l.core l.owed_to in
+    let p = subst (λ (b : Bool). IsStepped self.bus.board.clock c.in-Stored.taken m (owing b (over s.regs s.core s.bus s.count self))) (sym c.turned_on-on.ensures) (c.in-Stored.ensures m refl (acts c.args.cycle c.args.end c.args.self.now self l.regs l.core l.owed_to h c.requires.early c.requires.may.room) h.runs.behind) in
     let few = p.count in
     let most = h.runs.count in
-    omega (arith, few, most, early, c.requires.early)
+    let within = h.within in omega (arith, few, most, within, c.requires.early)
 
 pub loop-taken-2-smaller-then-on : goal.loop-taken-2-smaller-then-on
 loop-taken-2-smaller-then-on c =
-    let t : ℕ = c.args.cycle in
-    let old : Machine = c.args.self.now in
     let l = c.loop-taken-2 in
     let self : Machine = record c.loop-taken.self { bus = l.self.1.1.1.1.1.1.1.0; count = l.self.1.1.1.1.1.1.1.1.1.1.1.1.0 } in
-    let h : IsTurning t c.args.end old self l.regs l.core l.owed_to = l.invariant.turning in
+    let h = l.invariant.turning in
     let s = c.one_step.new in
-    let m : Machine = owing (nat_lt self.count l.owed_to) (beside l.regs l.core self) in
-    let early = h.within in
-    let ready = may t self.bus.board.clock old m h.runs (omega (arith, early, c.requires.early)) c.requires.may.room in
-    let p : IsStepped self.bus.board.clock c.in-Stored.taken m (owing c.turned_on-on.result (over s.regs s.core s.bus s.count self)) =
-    subst (λ (b : Bool). IsStepped self.bus.board.clock c.in-Stored.taken m (owing b (over s.regs s.core s.bus s.count self))) (sym c.turned_on-on.ensures) (c.in-Stored.ensures m refl ready h.runs.behind) in
+    let m : Machine = turning self l.regs l.core l.owed_to in
+    let p = subst (λ (b : Bool). IsStepped self.bus.board.clock c.in-Stored.taken m (owing b (over s.regs s.core s.bus s.count self))) (sym c.turned_on-on.ensures) (c.in-Stored.ensures m refl (acts c.args.cycle c.args.end c.args.self.now self l.regs l.core l.owed_to h c.requires.early c.requires.may.room) h.runs.behind) in
     let e = c.if-not-leap_clear-3.ensures in
-    let moves = moved t c.args.end old self l.regs l.core l.owed_to h c.in-Stored.taken s.regs s.core s.bus s.count c.turned_on-on.result p c.requires.none c.leap_clear-in-Stored.new.self (e.within refl) (e.idle refl) (e.state refl) (e.clear refl) (e.clock refl) in
+    let moves = moved c.args.cycle c.args.end c.args.self.now self l.regs l.core l.owed_to h c.in-Stored.taken s.regs s.core s.bus s.count c.turned_on-on.result p c.requires.none c.leap_clear-in-Stored.new.self (e.within refl) (e.idle refl) (e.state refl) (e.clear refl) (e.clock refl) in
     let within = e.within refl in
     let on = e.clock refl in
     omega (arith, moves, within, on)
 
 pub loop-taken-2-preserved-then-on : goal.loop-taken-2-preserved-then-on
 loop-taken-2-preserved-then-on c =
-    let t : ℕ = c.args.cycle in
-    let old : Machine = c.args.self.now in
     let l = c.loop-taken-2 in
     let self : Machine = record c.loop-taken.self { bus = l.self.1.1.1.1.1.1.1.0; count = l.self.1.1.1.1.1.1.1.1.1.1.1.1.0 } in
-    let h : IsTurning t c.args.end old self l.regs l.core l.owed_to = l.invariant.turning in
+    let h = l.invariant.turning in
     let s = c.one_step.new in
-    let m : Machine = owing (nat_lt self.count l.owed_to) (beside l.regs l.core self) in
-    let early = h.within in
-    let ready = may t self.bus.board.clock old m h.runs (omega (arith, early, c.requires.early)) c.requires.may.room in
-    let p : IsStepped self.bus.board.clock c.in-Stored.taken m (owing c.turned_on-on.result (over s.regs s.core s.bus s.count self)) =
-    subst (λ (b : Bool). IsStepped self.bus.board.clock c.in-Stored.taken m (owing b (over s.regs s.core s.bus s.count self))) (sym c.turned_on-on.ensures) (c.in-Stored.ensures m refl ready h.runs.behind) in
+    let m : Machine = turning self l.regs l.core l.owed_to in
+    let p = subst (λ (b : Bool). IsStepped self.bus.board.clock c.in-Stored.taken m (owing b (over s.regs s.core s.bus s.count self))) (sym c.turned_on-on.ensures) (c.in-Stored.ensures m refl (acts c.args.cycle c.args.end c.args.self.now self l.regs l.core l.owed_to h c.requires.early c.requires.may.room) h.runs.behind) in
     let e = c.if-not-leap_clear-3.ensures in
-    let moves = moved t c.args.end old self l.regs l.core l.owed_to h c.in-Stored.taken s.regs s.core s.bus s.count c.turned_on-on.result p c.requires.none c.leap_clear-in-Stored.new.self (e.within refl) (e.idle refl) (e.state refl) (e.clear refl) (e.clock refl) in
+    let moves = moved c.args.cycle c.args.end c.args.self.now self l.regs l.core l.owed_to h c.in-Stored.taken s.regs s.core s.bus s.count c.turned_on-on.result p c.requires.none c.leap_clear-in-Stored.new.self (e.within refl) (e.idle refl) (e.state refl) (e.clear refl) (e.clock refl) in
     let more = p.count in
     let last = l.invariant.on in
     record {
-      turning = turned t c.args.end old self l.regs l.core l.owed_to h c.in-Stored.taken s.regs s.core s.bus s.count c.turned_on-on.result p c.requires.none c.leap_clear-in-Stored.new.self (e.within refl) (e.idle refl) (e.state refl) (e.clear refl) (e.clock refl) (s.count + 1)
+      turning = turned c.args.cycle c.args.end c.args.self.now self l.regs l.core l.owed_to h c.in-Stored.taken s.regs s.core s.bus s.count c.turned_on-on.result p c.requires.none c.leap_clear-in-Stored.new.self (e.within refl) (e.idle refl) (e.state refl) (e.clear refl) (e.clock refl) (s.count + 1)
           (omega arith) (still_owed s.count ∙ sym c.if-on.true);
       slots = l.invariant.slots;
       on = omega (arith, last, moves);
@@ -512,42 +394,32 @@ loop-taken-2-preserved-then-on c =
 
 pub loop-taken-2-smaller-else-on : goal.loop-taken-2-smaller-else-on
 loop-taken-2-smaller-else-on c =
-    let t : ℕ = c.args.cycle in
-    let old : Machine = c.args.self.now in
     let l = c.loop-taken-2 in
     let self : Machine = record c.loop-taken.self { bus = l.self.1.1.1.1.1.1.1.0; count = l.self.1.1.1.1.1.1.1.1.1.1.1.1.0 } in
-    let h : IsTurning t c.args.end old self l.regs l.core l.owed_to = l.invariant.turning in
+    let h = l.invariant.turning in
     let s = c.one_step.new in
-    let m : Machine = owing (nat_lt self.count l.owed_to) (beside l.regs l.core self) in
-    let early = h.within in
-    let ready = may t self.bus.board.clock old m h.runs (omega (arith, early, c.requires.early)) c.requires.may.room in
-    let p : IsStepped self.bus.board.clock c.in-Stored.taken m (owing c.turned_on-on.result (over s.regs s.core s.bus s.count self)) =
-    subst (λ (b : Bool). IsStepped self.bus.board.clock c.in-Stored.taken m (owing b (over s.regs s.core s.bus s.count self))) (sym c.turned_on-on.ensures) (c.in-Stored.ensures m refl ready h.runs.behind) in
+    let m : Machine = turning self l.regs l.core l.owed_to in
+    let p = subst (λ (b : Bool). IsStepped self.bus.board.clock c.in-Stored.taken m (owing b (over s.regs s.core s.bus s.count self))) (sym c.turned_on-on.ensures) (c.in-Stored.ensures m refl (acts c.args.cycle c.args.end c.args.self.now self l.regs l.core l.owed_to h c.requires.early c.requires.may.room) h.runs.behind) in
     let e = c.if-not-leap_clear-3.ensures in
-    let moves = moved t c.args.end old self l.regs l.core l.owed_to h c.in-Stored.taken s.regs s.core s.bus s.count c.turned_on-on.result p c.requires.none c.leap_clear-in-Stored.new.self (e.within refl) (e.idle refl) (e.state refl) (e.clear refl) (e.clock refl) in
+    let moves = moved c.args.cycle c.args.end c.args.self.now self l.regs l.core l.owed_to h c.in-Stored.taken s.regs s.core s.bus s.count c.turned_on-on.result p c.requires.none c.leap_clear-in-Stored.new.self (e.within refl) (e.idle refl) (e.state refl) (e.clear refl) (e.clock refl) in
     let within = e.within refl in
     let on = e.clock refl in
     omega (arith, moves, within, on)
 
 pub loop-taken-2-preserved-else-on : goal.loop-taken-2-preserved-else-on
 loop-taken-2-preserved-else-on c =
-    let t : ℕ = c.args.cycle in
-    let old : Machine = c.args.self.now in
     let l = c.loop-taken-2 in
     let self : Machine = record c.loop-taken.self { bus = l.self.1.1.1.1.1.1.1.0; count = l.self.1.1.1.1.1.1.1.1.1.1.1.1.0 } in
-    let h : IsTurning t c.args.end old self l.regs l.core l.owed_to = l.invariant.turning in
+    let h = l.invariant.turning in
     let s = c.one_step.new in
-    let m : Machine = owing (nat_lt self.count l.owed_to) (beside l.regs l.core self) in
-    let early = h.within in
-    let ready = may t self.bus.board.clock old m h.runs (omega (arith, early, c.requires.early)) c.requires.may.room in
-    let p : IsStepped self.bus.board.clock c.in-Stored.taken m (owing c.turned_on-on.result (over s.regs s.core s.bus s.count self)) =
-    subst (λ (b : Bool). IsStepped self.bus.board.clock c.in-Stored.taken m (owing b (over s.regs s.core s.bus s.count self))) (sym c.turned_on-on.ensures) (c.in-Stored.ensures m refl ready h.runs.behind) in
+    let m : Machine = turning self l.regs l.core l.owed_to in
+    let p = subst (λ (b : Bool). IsStepped self.bus.board.clock c.in-Stored.taken m (owing b (over s.regs s.core s.bus s.count self))) (sym c.turned_on-on.ensures) (c.in-Stored.ensures m refl (acts c.args.cycle c.args.end c.args.self.now self l.regs l.core l.owed_to h c.requires.early c.requires.may.room) h.runs.behind) in
     let e = c.if-not-leap_clear-3.ensures in
-    let moves = moved t c.args.end old self l.regs l.core l.owed_to h c.in-Stored.taken s.regs s.core s.bus s.count c.turned_on-on.result p c.requires.none c.leap_clear-in-Stored.new.self (e.within refl) (e.idle refl) (e.state refl) (e.clear refl) (e.clock refl) in
+    let moves = moved c.args.cycle c.args.end c.args.self.now self l.regs l.core l.owed_to h c.in-Stored.taken s.regs s.core s.bus s.count c.turned_on-on.result p c.requires.none c.leap_clear-in-Stored.new.self (e.within refl) (e.idle refl) (e.state refl) (e.clear refl) (e.clock refl) in
     let more = p.count in
     let last = l.invariant.on in
     record {
-      turning = turned t c.args.end old self l.regs l.core l.owed_to h c.in-Stored.taken s.regs s.core s.bus s.count c.turned_on-on.result p c.requires.none c.leap_clear-in-Stored.new.self (e.within refl) (e.idle refl) (e.state refl) (e.clear refl) (e.clock refl) l.owed_to
+      turning = turned c.args.cycle c.args.end c.args.self.now self l.regs l.core l.owed_to h c.in-Stored.taken s.regs s.core s.bus s.count c.turned_on-on.result p c.requires.none c.leap_clear-in-Stored.new.self (e.within refl) (e.idle refl) (e.state refl) (e.clear refl) (e.clock refl) l.owed_to
           (let up = h.top in omega (arith, more, up)) (subst (λ (n : ℕ). nat_lt n l.owed_to ≡ false) (sym more) (not_owed self.count l.owed_to h.top) ∙ sym c.if-on.false);
       slots = l.invariant.slots;
       on = omega (arith, last, moves);
@@ -555,145 +427,109 @@ loop-taken-2-preserved-else-on c =
 
 pub leap_clear-requires-in-Enabled : goal.leap_clear-requires-in-Enabled
 leap_clear-requires-in-Enabled c =
-    let t : ℕ = c.args.cycle in
-    let old : Machine = c.args.self.now in
     let l = c.loop-taken-2 in
     let self : Machine = record c.loop-taken.self { bus = l.self.1.1.1.1.1.1.1.0; count = l.self.1.1.1.1.1.1.1.1.1.1.1.1.0 } in
-    let h : IsTurning t c.args.end old self l.regs l.core l.owed_to = l.invariant.turning in
+    let h = l.invariant.turning in
     let s = c.one_step.new in
-    let m : Machine = owing (nat_lt self.count l.owed_to) (beside l.regs l.core self) in
-    let early = h.within in
-    let ready = may t self.bus.board.clock old m h.runs (omega (arith, early, c.requires.early)) c.requires.may.room in
-    let p : IsStepped self.bus.board.clock c.in-Enabled.taken m (owing true (over s.regs s.core s.bus s.count self)) = c.in-Enabled.ensures m refl ready h.runs.behind in
+    let m : Machine = turning self l.regs l.core l.owed_to in
+    let p = c.in-Enabled.ensures m refl (acts c.args.cycle c.args.end c.args.self.now self l.regs l.core l.owed_to h c.requires.early c.requires.may.room) h.runs.behind in
     record { some = p.some }
 
 pub end_sprint-requires-then-not-leap_clear-4-clause-some : goal.end_sprint-requires-then-not-leap_clear-4-clause-some
 end_sprint-requires-then-not-leap_clear-4-clause-some c =
-    let t : ℕ = c.args.cycle in
-    let old : Machine = c.args.self.now in
     let l = c.loop-taken-2 in
     let self : Machine = record c.loop-taken.self { bus = l.self.1.1.1.1.1.1.1.0; count = l.self.1.1.1.1.1.1.1.1.1.1.1.1.0 } in
-    let h : IsTurning t c.args.end old self l.regs l.core l.owed_to = l.invariant.turning in
+    let h = l.invariant.turning in
     let s = c.one_step.new in
-    let m : Machine = owing (nat_lt self.count l.owed_to) (beside l.regs l.core self) in
-    let early = h.within in
-    let ready = may t self.bus.board.clock old m h.runs (omega (arith, early, c.requires.early)) c.requires.may.room in
-    let p : IsStepped self.bus.board.clock c.in-Enabled.taken m (owing true (over s.regs s.core s.bus s.count self)) = c.in-Enabled.ensures m refl ready h.runs.behind in
+    let m : Machine = turning self l.regs l.core l.owed_to in
+    let p = c.in-Enabled.ensures m refl (acts c.args.cycle c.args.end c.args.self.now self l.regs l.core l.owed_to h c.requires.early c.requires.may.room) h.runs.behind in
     p.some
 
 pub end_sprint-requires-then-not-leap_clear-4-clause-early : goal.end_sprint-requires-then-not-leap_clear-4-clause-early
 end_sprint-requires-then-not-leap_clear-4-clause-early c =
-    let t : ℕ = c.args.cycle in
-    let old : Machine = c.args.self.now in
     let l = c.loop-taken-2 in
     let self : Machine = record c.loop-taken.self { bus = l.self.1.1.1.1.1.1.1.0; count = l.self.1.1.1.1.1.1.1.1.1.1.1.1.0 } in
-    let h : IsTurning t c.args.end old self l.regs l.core l.owed_to = l.invariant.turning in
+    let h = l.invariant.turning in
     let s = c.one_step.new in
-    let m : Machine = owing (nat_lt self.count l.owed_to) (beside l.regs l.core self) in
-    let early = h.within in
-    let ready = may t self.bus.board.clock old m h.runs (omega (arith, early, c.requires.early)) c.requires.may.room in
-    let p : IsStepped self.bus.board.clock c.in-Enabled.taken m (owing true (over s.regs s.core s.bus s.count self)) = c.in-Enabled.ensures m refl ready h.runs.behind in
-    let at = stays_at t c.args.end old self l.regs l.core l.owed_to h c.in-Enabled.taken s.regs s.core s.bus s.count true p c.leap_clear-in-Enabled.new.self (c.if-not-leap_clear-4.ensures.same refl) in
-    omega (arith, at, early, c.requires.early)
+    let m : Machine = turning self l.regs l.core l.owed_to in
+    let p = c.in-Enabled.ensures m refl (acts c.args.cycle c.args.end c.args.self.now self l.regs l.core l.owed_to h c.requires.early c.requires.may.room) h.runs.behind in
+    let at = stays_at c.args.cycle c.args.end c.args.self.now self l.regs l.core l.owed_to h c.in-Enabled.taken s.regs s.core s.bus s.count true p c.leap_clear-in-Enabled.new.self (c.if-not-leap_clear-4.ensures.same refl) in
+    let within = h.within in omega (arith, at, within, c.requires.early)
 
 pub end_sprint-requires-then-not-leap_clear-4-clause-within : goal.end_sprint-requires-then-not-leap_clear-4-clause-within
 end_sprint-requires-then-not-leap_clear-4-clause-within c =
-    let t : ℕ = c.args.cycle in
-    let old : Machine = c.args.self.now in
     let l = c.loop-taken-2 in
     let self : Machine = record c.loop-taken.self { bus = l.self.1.1.1.1.1.1.1.0; count = l.self.1.1.1.1.1.1.1.1.1.1.1.1.0 } in
-    let h : IsTurning t c.args.end old self l.regs l.core l.owed_to = l.invariant.turning in
+    let h = l.invariant.turning in
     let s = c.one_step.new in
-    let m : Machine = owing (nat_lt self.count l.owed_to) (beside l.regs l.core self) in
-    let early = h.within in
-    let ready = may t self.bus.board.clock old m h.runs (omega (arith, early, c.requires.early)) c.requires.may.room in
-    let p : IsStepped self.bus.board.clock c.in-Enabled.taken m (owing true (over s.regs s.core s.bus s.count self)) = c.in-Enabled.ensures m refl ready h.runs.behind in
-    let at = stays_at t c.args.end old self l.regs l.core l.owed_to h c.in-Enabled.taken s.regs s.core s.bus s.count true p c.leap_clear-in-Enabled.new.self (c.if-not-leap_clear-4.ensures.same refl) in
-    omega (arith, at, early)
+    let m : Machine = turning self l.regs l.core l.owed_to in
+    let p = c.in-Enabled.ensures m refl (acts c.args.cycle c.args.end c.args.self.now self l.regs l.core l.owed_to h c.requires.early c.requires.may.room) h.runs.behind in
+    let at = stays_at c.args.cycle c.args.end c.args.self.now self l.regs l.core l.owed_to h c.in-Enabled.taken s.regs s.core s.bus s.count true p c.leap_clear-in-Enabled.new.self (c.if-not-leap_clear-4.ensures.same refl) in
+    let within = h.within in omega (arith, at, within)
 
 pub end_sprint-requires-then-not-leap_clear-4-clause-none : goal.end_sprint-requires-then-not-leap_clear-4-clause-none
 end_sprint-requires-then-not-leap_clear-4-clause-none c k late =
-    let t : ℕ = c.args.cycle in
-    let old : Machine = c.args.self.now in
     let l = c.loop-taken-2 in
     let self : Machine = record c.loop-taken.self { bus = l.self.1.1.1.1.1.1.1.0; count = l.self.1.1.1.1.1.1.1.1.1.1.1.1.0 } in
-    let h : IsTurning t c.args.end old self l.regs l.core l.owed_to = l.invariant.turning in
+    let h = l.invariant.turning in
     let s = c.one_step.new in
-    let m : Machine = owing (nat_lt self.count l.owed_to) (beside l.regs l.core self) in
-    let early = h.within in
-    let ready = may t self.bus.board.clock old m h.runs (omega (arith, early, c.requires.early)) c.requires.may.room in
-    let p : IsStepped self.bus.board.clock c.in-Enabled.taken m (owing true (over s.regs s.core s.bus s.count self)) = c.in-Enabled.ensures m refl ready h.runs.behind in
-    let at = stays_at t c.args.end old self l.regs l.core l.owed_to h c.in-Enabled.taken s.regs s.core s.bus s.count true p c.leap_clear-in-Enabled.new.self (c.if-not-leap_clear-4.ensures.same refl) in
+    let m : Machine = turning self l.regs l.core l.owed_to in
+    let p = c.in-Enabled.ensures m refl (acts c.args.cycle c.args.end c.args.self.now self l.regs l.core l.owed_to h c.requires.early c.requires.may.room) h.runs.behind in
+    let at = stays_at c.args.cycle c.args.end c.args.self.now self l.regs l.core l.owed_to h c.in-Enabled.taken s.regs s.core s.bus s.count true p c.leap_clear-in-Enabled.new.self (c.if-not-leap_clear-4.ensures.same refl) in
     let from = h.runs.from in
-    silent t c.leap_clear-in-Enabled.new.self.clock c.args.end old (record self { bus = with_board s.bus c.leap_clear-in-Enabled.new.self; count = s.count }) h.runs.script (omega (arith, from, at)) c.requires.none k late
+    silent c.args.cycle c.leap_clear-in-Enabled.new.self.clock c.args.end c.args.self.now (record self { bus = with_board s.bus c.leap_clear-in-Enabled.new.self; count = s.count }) h.runs.script (omega (arith, from, at)) c.requires.none k late
 
 pub returns-then-not-leap_clear-4-clause-sprinted : goal.returns-then-not-leap_clear-4-clause-sprinted
 returns-then-not-leap_clear-4-clause-sprinted c =
-    let t : ℕ = c.args.cycle in
-    let old : Machine = c.args.self.now in
     let l = c.loop-taken-2 in
     let self : Machine = record c.loop-taken.self { bus = l.self.1.1.1.1.1.1.1.0; count = l.self.1.1.1.1.1.1.1.1.1.1.1.1.0 } in
-    let h : IsTurning t c.args.end old self l.regs l.core l.owed_to = l.invariant.turning in
+    let h = l.invariant.turning in
     let s = c.one_step.new in
-    let m : Machine = owing (nat_lt self.count l.owed_to) (beside l.regs l.core self) in
-    let early = h.within in
-    let ready = may t self.bus.board.clock old m h.runs (omega (arith, early, c.requires.early)) c.requires.may.room in
-    let p : IsStepped self.bus.board.clock c.in-Enabled.taken m (owing true (over s.regs s.core s.bus s.count self)) = c.in-Enabled.ensures m refl ready h.runs.behind in
+    let m : Machine = turning self l.regs l.core l.owed_to in
+    let p = c.in-Enabled.ensures m refl (acts c.args.cycle c.args.end c.args.self.now self l.regs l.core l.owed_to h c.requires.early c.requires.may.room) h.runs.behind in
     let same = c.if-not-leap_clear-4.ensures.same refl in
-    c.end_sprint-then-not-leap_clear-4.ensures.sprinted t old m (at_it t c.args.end old self l.regs l.core l.owed_to h c.in-Enabled.taken s.regs s.core s.bus s.count true p c.leap_clear-in-Enabled.new.self same) (turn_free t c.args.end old self l.regs l.core l.owed_to h c.in-Enabled.taken s.regs s.core s.bus s.count true p) (carried t c.args.end old self l.regs l.core l.owed_to h c.in-Enabled.taken s.regs s.core s.bus s.count true p c.leap_clear-in-Enabled.new.self same)
+    c.end_sprint-then-not-leap_clear-4.ensures.sprinted c.args.cycle c.args.self.now m (at_it c.args.cycle c.args.end c.args.self.now self l.regs l.core l.owed_to h c.in-Enabled.taken s.regs s.core s.bus s.count true p c.leap_clear-in-Enabled.new.self same) (turn_free c.args.cycle c.args.end c.args.self.now self l.regs l.core l.owed_to h c.in-Enabled.taken s.regs s.core s.bus s.count true p) (carried c.args.cycle c.args.end c.args.self.now self l.regs l.core l.owed_to h c.in-Enabled.taken s.regs s.core s.bus s.count true p c.leap_clear-in-Enabled.new.self same)
 
 pub overflow_add-owed_to-in-Enabled : goal.overflow_add-owed_to-in-Enabled
 overflow_add-owed_to-in-Enabled c =
-    let t : ℕ = c.args.cycle in
-    let old : Machine = c.args.self.now in
     let l = c.loop-taken-2 in
     let self : Machine = record c.loop-taken.self { bus = l.self.1.1.1.1.1.1.1.0; count = l.self.1.1.1.1.1.1.1.1.1.1.1.1.0 } in
-    let h : IsTurning t c.args.end old self l.regs l.core l.owed_to = l.invariant.turning in
+    let h = l.invariant.turning in
     let s = c.one_step.new in
-    let m : Machine = owing (nat_lt self.count l.owed_to) (beside l.regs l.core self) in
-    let early = h.within in
-    let ready = may t self.bus.board.clock old m h.runs (omega (arith, early, c.requires.early)) c.requires.may.room in
-    let p : IsStepped self.bus.board.clock c.in-Enabled.taken m (owing true (over s.regs s.core s.bus s.count self)) = c.in-Enabled.ensures m refl ready h.runs.behind in
+    let m : Machine = turning self l.regs l.core l.owed_to in
+    let p = c.in-Enabled.ensures m refl (acts c.args.cycle c.args.end c.args.self.now self l.regs l.core l.owed_to h c.requires.early c.requires.may.room) h.runs.behind in
     let few = p.count in
     let most = h.runs.count in
-    omega (arith, few, most, early, c.requires.early)
+    let within = h.within in omega (arith, few, most, within, c.requires.early)
 
 pub loop-taken-2-smaller : goal.loop-taken-2-smaller
 loop-taken-2-smaller c =
-    let t : ℕ = c.args.cycle in
-    let old : Machine = c.args.self.now in
     let l = c.loop-taken-2 in
     let self : Machine = record c.loop-taken.self { bus = l.self.1.1.1.1.1.1.1.0; count = l.self.1.1.1.1.1.1.1.1.1.1.1.1.0 } in
-    let h : IsTurning t c.args.end old self l.regs l.core l.owed_to = l.invariant.turning in
+    let h = l.invariant.turning in
     let s = c.one_step.new in
-    let m : Machine = owing (nat_lt self.count l.owed_to) (beside l.regs l.core self) in
-    let early = h.within in
-    let ready = may t self.bus.board.clock old m h.runs (omega (arith, early, c.requires.early)) c.requires.may.room in
-    let p : IsStepped self.bus.board.clock c.in-Enabled.taken m (owing true (over s.regs s.core s.bus s.count self)) = c.in-Enabled.ensures m refl ready h.runs.behind in
+    let m : Machine = turning self l.regs l.core l.owed_to in
+    let p = c.in-Enabled.ensures m refl (acts c.args.cycle c.args.end c.args.self.now self l.regs l.core l.owed_to h c.requires.early c.requires.may.room) h.runs.behind in
     let e = c.if-not-leap_clear-4.ensures in
-    let moves = moved t c.args.end old self l.regs l.core l.owed_to h c.in-Enabled.taken s.regs s.core s.bus s.count true p c.requires.none c.leap_clear-in-Enabled.new.self (e.within refl) (e.idle refl) (e.state refl) (e.clear refl) (e.clock refl) in
+    let moves = moved c.args.cycle c.args.end c.args.self.now self l.regs l.core l.owed_to h c.in-Enabled.taken s.regs s.core s.bus s.count true p c.requires.none c.leap_clear-in-Enabled.new.self (e.within refl) (e.idle refl) (e.state refl) (e.clear refl) (e.clock refl) in
     let within = e.within refl in
     let on = e.clock refl in
     omega (arith, moves, within, on)
 
 pub loop-taken-2-preserved : goal.loop-taken-2-preserved
 loop-taken-2-preserved c =
-    let t : ℕ = c.args.cycle in
-    let old : Machine = c.args.self.now in
     let l = c.loop-taken-2 in
     let self : Machine = record c.loop-taken.self { bus = l.self.1.1.1.1.1.1.1.0; count = l.self.1.1.1.1.1.1.1.1.1.1.1.1.0 } in
-    let h : IsTurning t c.args.end old self l.regs l.core l.owed_to = l.invariant.turning in
+    let h = l.invariant.turning in
     let s = c.one_step.new in
-    let m : Machine = owing (nat_lt self.count l.owed_to) (beside l.regs l.core self) in
-    let early = h.within in
-    let ready = may t self.bus.board.clock old m h.runs (omega (arith, early, c.requires.early)) c.requires.may.room in
-    let p : IsStepped self.bus.board.clock c.in-Enabled.taken m (owing true (over s.regs s.core s.bus s.count self)) = c.in-Enabled.ensures m refl ready h.runs.behind in
+    let m : Machine = turning self l.regs l.core l.owed_to in
+    let p = c.in-Enabled.ensures m refl (acts c.args.cycle c.args.end c.args.self.now self l.regs l.core l.owed_to h c.requires.early c.requires.may.room) h.runs.behind in
     let e = c.if-not-leap_clear-4.ensures in
-    let moves = moved t c.args.end old self l.regs l.core l.owed_to h c.in-Enabled.taken s.regs s.core s.bus s.count true p c.requires.none c.leap_clear-in-Enabled.new.self (e.within refl) (e.idle refl) (e.state refl) (e.clear refl) (e.clock refl) in
+    let moves = moved c.args.cycle c.args.end c.args.self.now self l.regs l.core l.owed_to h c.in-Enabled.taken s.regs s.core s.bus s.count true p c.requires.none c.leap_clear-in-Enabled.new.self (e.within refl) (e.idle refl) (e.state refl) (e.clear refl) (e.clock refl) in
     let more = p.count in
     let last = l.invariant.on in
     record {
-      turning = turned t c.args.end old self l.regs l.core l.owed_to h c.in-Enabled.taken s.regs s.core s.bus s.count true p c.requires.none c.leap_clear-in-Enabled.new.self (e.within refl) (e.idle refl) (e.state refl) (e.clear refl) (e.clock refl) (s.count + 1)
+      turning = turned c.args.cycle c.args.end c.args.self.now self l.regs l.core l.owed_to h c.in-Enabled.taken s.regs s.core s.bus s.count true p c.requires.none c.leap_clear-in-Enabled.new.self (e.within refl) (e.idle refl) (e.state refl) (e.clear refl) (e.clock refl) (s.count + 1)
           (omega arith) (still_owed s.count);
       slots = l.invariant.slots;
       on = omega (arith, last, moves);
@@ -705,11 +541,11 @@ returns-in-Left-clause-sprinted c =
     let old : Machine = c.args.self.now in
     let l = c.loop-taken-2 in
     let self : Machine = record c.loop-taken.self { bus = l.self.1.1.1.1.1.1.1.0; count = l.self.1.1.1.1.1.1.1.1.1.1.1.1.0 } in
-    let h : IsTurning t c.args.end old self l.regs l.core l.owed_to = l.invariant.turning in
+    let h = l.invariant.turning in
     let s = c.one_step.new in
-    let m : Machine = owing (nat_lt self.count l.owed_to) (beside l.regs l.core self) in
+    let m : Machine = turning self l.regs l.core l.owed_to in
     let early = h.within in
-    let ready = may t self.bus.board.clock old m h.runs (omega (arith, early, c.requires.early)) c.requires.may.room in
+    let ready = acts c.args.cycle c.args.end c.args.self.now self l.regs l.core l.owed_to h c.requires.early c.requires.may.room in
     let k : ℕ = l.owed_to in
     let e = c.in-Left.ensures m refl ready h.runs.behind in
     let g = c.gather-at.ensures in
@@ -725,11 +561,11 @@ returns-in-Left-clause-within c =
     let old : Machine = c.args.self.now in
     let l = c.loop-taken-2 in
     let self : Machine = record c.loop-taken.self { bus = l.self.1.1.1.1.1.1.1.0; count = l.self.1.1.1.1.1.1.1.1.1.1.1.1.0 } in
-    let h : IsTurning t c.args.end old self l.regs l.core l.owed_to = l.invariant.turning in
+    let h = l.invariant.turning in
     let s = c.one_step.new in
-    let m : Machine = owing (nat_lt self.count l.owed_to) (beside l.regs l.core self) in
+    let m : Machine = turning self l.regs l.core l.owed_to in
     let early = h.within in
-    let ready = may t self.bus.board.clock old m h.runs (omega (arith, early, c.requires.early)) c.requires.may.room in
+    let ready = acts c.args.cycle c.args.end c.args.self.now self l.regs l.core l.owed_to h c.requires.early c.requires.may.room in
     let k : ℕ = l.owed_to in
     let e = c.in-Left.ensures m refl ready h.runs.behind in
     let g = c.gather-at.ensures in
@@ -743,11 +579,11 @@ halt-requires c =
     let old : Machine = c.args.self.now in
     let l = c.loop-taken-2 in
     let self : Machine = record c.loop-taken.self { bus = l.self.1.1.1.1.1.1.1.0; count = l.self.1.1.1.1.1.1.1.1.1.1.1.1.0 } in
-    let h : IsTurning t c.args.end old self l.regs l.core l.owed_to = l.invariant.turning in
+    let h = l.invariant.turning in
     let s = c.one_step.new in
-    let m : Machine = owing (nat_lt self.count l.owed_to) (beside l.regs l.core self) in
+    let m : Machine = turning self l.regs l.core l.owed_to in
     let early = h.within in
-    let ready = may t self.bus.board.clock old m h.runs (omega (arith, early, c.requires.early)) c.requires.may.room in
+    let ready = acts c.args.cycle c.args.end c.args.self.now self l.regs l.core l.owed_to h c.requires.early c.requires.may.room in
     let k : ℕ = l.owed_to in
     let q = c.in-Stopped.ensures m refl ready h.runs.behind in
     let g = c.gather-at-in-Stopped.ensures in
@@ -766,11 +602,11 @@ returns-in-Stopped-clause-sprinted c =
     let old : Machine = c.args.self.now in
     let l = c.loop-taken-2 in
     let self : Machine = record c.loop-taken.self { bus = l.self.1.1.1.1.1.1.1.0; count = l.self.1.1.1.1.1.1.1.1.1.1.1.1.0 } in
-    let h : IsTurning t c.args.end old self l.regs l.core l.owed_to = l.invariant.turning in
+    let h = l.invariant.turning in
     let s = c.one_step.new in
-    let m : Machine = owing (nat_lt self.count l.owed_to) (beside l.regs l.core self) in
+    let m : Machine = turning self l.regs l.core l.owed_to in
     let early = h.within in
-    let ready = may t self.bus.board.clock old m h.runs (omega (arith, early, c.requires.early)) c.requires.may.room in
+    let ready = acts c.args.cycle c.args.end c.args.self.now self l.regs l.core l.owed_to h c.requires.early c.requires.may.room in
     let k : ℕ = l.owed_to in
     let q = c.in-Stopped.ensures m refl ready h.runs.behind in
     let g = c.gather-at-in-Stopped.ensures in
@@ -790,11 +626,11 @@ returns-in-Stopped-clause-within c =
     let old : Machine = c.args.self.now in
     let l = c.loop-taken-2 in
     let self : Machine = record c.loop-taken.self { bus = l.self.1.1.1.1.1.1.1.0; count = l.self.1.1.1.1.1.1.1.1.1.1.1.1.0 } in
-    let h : IsTurning t c.args.end old self l.regs l.core l.owed_to = l.invariant.turning in
+    let h = l.invariant.turning in
     let s = c.one_step.new in
-    let m : Machine = owing (nat_lt self.count l.owed_to) (beside l.regs l.core self) in
+    let m : Machine = turning self l.regs l.core l.owed_to in
     let early = h.within in
-    let ready = may t self.bus.board.clock old m h.runs (omega (arith, early, c.requires.early)) c.requires.may.room in
+    let ready = acts c.args.cycle c.args.end c.args.self.now self l.regs l.core l.owed_to h c.requires.early c.requires.may.room in
     let k : ℕ = l.owed_to in
     let q = c.in-Stopped.ensures m refl ready h.runs.behind in
     let g = c.gather-at-in-Stopped.ensures in
@@ -810,19 +646,17 @@ leap-requires-clause-may c =
     let old : Machine = c.args.self.now in
     let l = c.loop-taken-2 in
     let self : Machine = record c.loop-taken.self { bus = l.self.1.1.1.1.1.1.1.0; count = l.self.1.1.1.1.1.1.1.1.1.1.1.1.0 } in
-    let h : IsTurning t c.args.end old self l.regs l.core l.owed_to = l.invariant.turning in
+    let h = l.invariant.turning in
     let s = c.one_step.new in
-    let m : Machine = owing (nat_lt self.count l.owed_to) (beside l.regs l.core self) in
-    let early = h.within in
-    let ready = may t self.bus.board.clock old m h.runs (omega (arith, early, c.requires.early)) c.requires.may.room in
-    let p : IsStepped self.bus.board.clock c.in-Jumped.taken m (owing false (over s.regs s.core s.bus s.count self)) = c.in-Jumped.ensures m refl ready h.runs.behind in
+    let m : Machine = turning self l.regs l.core l.owed_to in
+    let p = c.in-Jumped.ensures m refl (acts c.args.cycle c.args.end c.args.self.now self l.regs l.core l.owed_to h c.requires.early c.requires.may.room) h.runs.behind in
     let e = c.if-not-leap_clear-2.ensures in
     let more = p.count in
     let last = l.invariant.on in
     let k : ℕ = l.owed_to in
-    let moves = moved t c.args.end old self l.regs l.core l.owed_to h c.in-Jumped.taken s.regs s.core s.bus s.count false p c.requires.none c.leap_clear-in-Jumped.new.self (e.within refl) (e.idle refl) (e.state refl) (e.clear refl) (e.clock refl) in
+    let moves = moved c.args.cycle c.args.end c.args.self.now self l.regs l.core l.owed_to h c.in-Jumped.taken s.regs s.core s.bus s.count false p c.requires.none c.leap_clear-in-Jumped.new.self (e.within refl) (e.idle refl) (e.state refl) (e.clear refl) (e.clock refl) in
     let off : nat_lt s.count k ≡ false = subst (λ (n : ℕ). nat_lt n k ≡ false) (sym more) (not_owed self.count k h.top) in
-    let next = turned t c.args.end old self l.regs l.core l.owed_to h c.in-Jumped.taken s.regs s.core s.bus s.count false p c.requires.none c.leap_clear-in-Jumped.new.self (e.within refl) (e.idle refl) (e.state refl) (e.clear refl) (e.clock refl) k
+    let next = turned c.args.cycle c.args.end c.args.self.now self l.regs l.core l.owed_to h c.in-Jumped.taken s.regs s.core s.bus s.count false p c.requires.none c.leap_clear-in-Jumped.new.self (e.within refl) (e.idle refl) (e.state refl) (e.clear refl) (e.clock refl) k
     (let up = h.top in omega (arith, more, up)) off in
     let g = c.gather-at-in-loop-taken.ensures in
     let r : ℕ = c.gather-at-in-loop-taken.result in
@@ -837,19 +671,17 @@ leap-requires-clause-behind c =
     let old : Machine = c.args.self.now in
     let l = c.loop-taken-2 in
     let self : Machine = record c.loop-taken.self { bus = l.self.1.1.1.1.1.1.1.0; count = l.self.1.1.1.1.1.1.1.1.1.1.1.1.0 } in
-    let h : IsTurning t c.args.end old self l.regs l.core l.owed_to = l.invariant.turning in
+    let h = l.invariant.turning in
     let s = c.one_step.new in
-    let m : Machine = owing (nat_lt self.count l.owed_to) (beside l.regs l.core self) in
-    let early = h.within in
-    let ready = may t self.bus.board.clock old m h.runs (omega (arith, early, c.requires.early)) c.requires.may.room in
-    let p : IsStepped self.bus.board.clock c.in-Jumped.taken m (owing false (over s.regs s.core s.bus s.count self)) = c.in-Jumped.ensures m refl ready h.runs.behind in
+    let m : Machine = turning self l.regs l.core l.owed_to in
+    let p = c.in-Jumped.ensures m refl (acts c.args.cycle c.args.end c.args.self.now self l.regs l.core l.owed_to h c.requires.early c.requires.may.room) h.runs.behind in
     let e = c.if-not-leap_clear-2.ensures in
     let more = p.count in
     let last = l.invariant.on in
     let k : ℕ = l.owed_to in
-    let moves = moved t c.args.end old self l.regs l.core l.owed_to h c.in-Jumped.taken s.regs s.core s.bus s.count false p c.requires.none c.leap_clear-in-Jumped.new.self (e.within refl) (e.idle refl) (e.state refl) (e.clear refl) (e.clock refl) in
+    let moves = moved c.args.cycle c.args.end c.args.self.now self l.regs l.core l.owed_to h c.in-Jumped.taken s.regs s.core s.bus s.count false p c.requires.none c.leap_clear-in-Jumped.new.self (e.within refl) (e.idle refl) (e.state refl) (e.clear refl) (e.clock refl) in
     let off : nat_lt s.count k ≡ false = subst (λ (n : ℕ). nat_lt n k ≡ false) (sym more) (not_owed self.count k h.top) in
-    let next = turned t c.args.end old self l.regs l.core l.owed_to h c.in-Jumped.taken s.regs s.core s.bus s.count false p c.requires.none c.leap_clear-in-Jumped.new.self (e.within refl) (e.idle refl) (e.state refl) (e.clear refl) (e.clock refl) k
+    let next = turned c.args.cycle c.args.end c.args.self.now self l.regs l.core l.owed_to h c.in-Jumped.taken s.regs s.core s.bus s.count false p c.requires.none c.leap_clear-in-Jumped.new.self (e.within refl) (e.idle refl) (e.state refl) (e.clear refl) (e.clock refl) k
     (let up = h.top in omega (arith, more, up)) off in
     let g = c.gather-at-in-loop-taken.ensures in
     let r : ℕ = c.gather-at-in-loop-taken.result in
@@ -864,19 +696,17 @@ leap-requires-clause-none c i late =
     let old : Machine = c.args.self.now in
     let l = c.loop-taken-2 in
     let self : Machine = record c.loop-taken.self { bus = l.self.1.1.1.1.1.1.1.0; count = l.self.1.1.1.1.1.1.1.1.1.1.1.1.0 } in
-    let h : IsTurning t c.args.end old self l.regs l.core l.owed_to = l.invariant.turning in
+    let h = l.invariant.turning in
     let s = c.one_step.new in
-    let m : Machine = owing (nat_lt self.count l.owed_to) (beside l.regs l.core self) in
-    let early = h.within in
-    let ready = may t self.bus.board.clock old m h.runs (omega (arith, early, c.requires.early)) c.requires.may.room in
-    let p : IsStepped self.bus.board.clock c.in-Jumped.taken m (owing false (over s.regs s.core s.bus s.count self)) = c.in-Jumped.ensures m refl ready h.runs.behind in
+    let m : Machine = turning self l.regs l.core l.owed_to in
+    let p = c.in-Jumped.ensures m refl (acts c.args.cycle c.args.end c.args.self.now self l.regs l.core l.owed_to h c.requires.early c.requires.may.room) h.runs.behind in
     let e = c.if-not-leap_clear-2.ensures in
     let more = p.count in
     let last = l.invariant.on in
     let k : ℕ = l.owed_to in
-    let moves = moved t c.args.end old self l.regs l.core l.owed_to h c.in-Jumped.taken s.regs s.core s.bus s.count false p c.requires.none c.leap_clear-in-Jumped.new.self (e.within refl) (e.idle refl) (e.state refl) (e.clear refl) (e.clock refl) in
+    let moves = moved c.args.cycle c.args.end c.args.self.now self l.regs l.core l.owed_to h c.in-Jumped.taken s.regs s.core s.bus s.count false p c.requires.none c.leap_clear-in-Jumped.new.self (e.within refl) (e.idle refl) (e.state refl) (e.clear refl) (e.clock refl) in
     let off : nat_lt s.count k ≡ false = subst (λ (n : ℕ). nat_lt n k ≡ false) (sym more) (not_owed self.count k h.top) in
-    let next = turned t c.args.end old self l.regs l.core l.owed_to h c.in-Jumped.taken s.regs s.core s.bus s.count false p c.requires.none c.leap_clear-in-Jumped.new.self (e.within refl) (e.idle refl) (e.state refl) (e.clear refl) (e.clock refl) k
+    let next = turned c.args.cycle c.args.end c.args.self.now self l.regs l.core l.owed_to h c.in-Jumped.taken s.regs s.core s.bus s.count false p c.requires.none c.leap_clear-in-Jumped.new.self (e.within refl) (e.idle refl) (e.state refl) (e.clear refl) (e.clock refl) k
     (let up = h.top in omega (arith, more, up)) off in
     let g = c.gather-at-in-loop-taken.ensures in
     let r : ℕ = c.gather-at-in-loop-taken.result in
@@ -891,19 +721,17 @@ loop-taken-smaller c =
     let old : Machine = c.args.self.now in
     let l = c.loop-taken-2 in
     let self : Machine = record c.loop-taken.self { bus = l.self.1.1.1.1.1.1.1.0; count = l.self.1.1.1.1.1.1.1.1.1.1.1.1.0 } in
-    let h : IsTurning t c.args.end old self l.regs l.core l.owed_to = l.invariant.turning in
+    let h = l.invariant.turning in
     let s = c.one_step.new in
-    let m : Machine = owing (nat_lt self.count l.owed_to) (beside l.regs l.core self) in
-    let early = h.within in
-    let ready = may t self.bus.board.clock old m h.runs (omega (arith, early, c.requires.early)) c.requires.may.room in
-    let p : IsStepped self.bus.board.clock c.in-Jumped.taken m (owing false (over s.regs s.core s.bus s.count self)) = c.in-Jumped.ensures m refl ready h.runs.behind in
+    let m : Machine = turning self l.regs l.core l.owed_to in
+    let p = c.in-Jumped.ensures m refl (acts c.args.cycle c.args.end c.args.self.now self l.regs l.core l.owed_to h c.requires.early c.requires.may.room) h.runs.behind in
     let e = c.if-not-leap_clear-2.ensures in
     let more = p.count in
     let last = l.invariant.on in
     let k : ℕ = l.owed_to in
-    let moves = moved t c.args.end old self l.regs l.core l.owed_to h c.in-Jumped.taken s.regs s.core s.bus s.count false p c.requires.none c.leap_clear-in-Jumped.new.self (e.within refl) (e.idle refl) (e.state refl) (e.clear refl) (e.clock refl) in
+    let moves = moved c.args.cycle c.args.end c.args.self.now self l.regs l.core l.owed_to h c.in-Jumped.taken s.regs s.core s.bus s.count false p c.requires.none c.leap_clear-in-Jumped.new.self (e.within refl) (e.idle refl) (e.state refl) (e.clear refl) (e.clock refl) in
     let off : nat_lt s.count k ≡ false = subst (λ (n : ℕ). nat_lt n k ≡ false) (sym more) (not_owed self.count k h.top) in
-    let next = turned t c.args.end old self l.regs l.core l.owed_to h c.in-Jumped.taken s.regs s.core s.bus s.count false p c.requires.none c.leap_clear-in-Jumped.new.self (e.within refl) (e.idle refl) (e.state refl) (e.clear refl) (e.clock refl) k
+    let next = turned c.args.cycle c.args.end c.args.self.now self l.regs l.core l.owed_to h c.in-Jumped.taken s.regs s.core s.bus s.count false p c.requires.none c.leap_clear-in-Jumped.new.self (e.within refl) (e.idle refl) (e.state refl) (e.clear refl) (e.clock refl) k
     (let up = h.top in omega (arith, more, up)) off in
     let g = c.gather-at-in-loop-taken.ensures in
     let r : ℕ = c.gather-at-in-loop-taken.result in
@@ -922,19 +750,17 @@ loop-taken-preserved c =
     let old : Machine = c.args.self.now in
     let l = c.loop-taken-2 in
     let self : Machine = record c.loop-taken.self { bus = l.self.1.1.1.1.1.1.1.0; count = l.self.1.1.1.1.1.1.1.1.1.1.1.1.0 } in
-    let h : IsTurning t c.args.end old self l.regs l.core l.owed_to = l.invariant.turning in
+    let h = l.invariant.turning in
     let s = c.one_step.new in
-    let m : Machine = owing (nat_lt self.count l.owed_to) (beside l.regs l.core self) in
-    let early = h.within in
-    let ready = may t self.bus.board.clock old m h.runs (omega (arith, early, c.requires.early)) c.requires.may.room in
-    let p : IsStepped self.bus.board.clock c.in-Jumped.taken m (owing false (over s.regs s.core s.bus s.count self)) = c.in-Jumped.ensures m refl ready h.runs.behind in
+    let m : Machine = turning self l.regs l.core l.owed_to in
+    let p = c.in-Jumped.ensures m refl (acts c.args.cycle c.args.end c.args.self.now self l.regs l.core l.owed_to h c.requires.early c.requires.may.room) h.runs.behind in
     let e = c.if-not-leap_clear-2.ensures in
     let more = p.count in
     let last = l.invariant.on in
     let k : ℕ = l.owed_to in
-    let moves = moved t c.args.end old self l.regs l.core l.owed_to h c.in-Jumped.taken s.regs s.core s.bus s.count false p c.requires.none c.leap_clear-in-Jumped.new.self (e.within refl) (e.idle refl) (e.state refl) (e.clear refl) (e.clock refl) in
+    let moves = moved c.args.cycle c.args.end c.args.self.now self l.regs l.core l.owed_to h c.in-Jumped.taken s.regs s.core s.bus s.count false p c.requires.none c.leap_clear-in-Jumped.new.self (e.within refl) (e.idle refl) (e.state refl) (e.clear refl) (e.clock refl) in
     let off : nat_lt s.count k ≡ false = subst (λ (n : ℕ). nat_lt n k ≡ false) (sym more) (not_owed self.count k h.top) in
-    let next = turned t c.args.end old self l.regs l.core l.owed_to h c.in-Jumped.taken s.regs s.core s.bus s.count false p c.requires.none c.leap_clear-in-Jumped.new.self (e.within refl) (e.idle refl) (e.state refl) (e.clear refl) (e.clock refl) k
+    let next = turned c.args.cycle c.args.end c.args.self.now self l.regs l.core l.owed_to h c.in-Jumped.taken s.regs s.core s.bus s.count false p c.requires.none c.leap_clear-in-Jumped.new.self (e.within refl) (e.idle refl) (e.state refl) (e.clear refl) (e.clock refl) k
     (let up = h.top in omega (arith, more, up)) off in
     let g = c.gather-at-in-loop-taken.ensures in
     let r : ℕ = c.gather-at-in-loop-taken.result in
