@@ -11,8 +11,8 @@ use Rattle.board_io.proofs.lagging.LaggingBoard.get_beside.Goals as goal
 pub invariant_of-self : goal.invariant_of-self
 invariant_of-self c = ahead_t1 c.self.inside.ahead c.self.inside.board c.get_later-in-Timer1.new.self c.get_later-in-Timer1.ensures.others c.self.invariant
 
-pub invariant_of-self-in-Timer3 : goal.invariant_of-self-in-Timer3
-invariant_of-self-in-Timer3 c = ahead_t3 c.self.inside.ahead c.self.inside.board c.get_later-in-Timer3.new.self c.get_later-in-Timer3.ensures.others c.self.invariant
+pub invariant_of-self-in-Timer3-1 : goal.invariant_of-self-in-Timer3-1
+invariant_of-self-in-Timer3-1 c = ahead_t3 c.self.inside.ahead c.self.inside.board c.get_later-in-Timer3.new.self c.get_later-in-Timer3.ensures.others c.self.invariant
 
 pub returns-in-Timer0 : goal.returns-in-Timer0
 returns-in-Timer0 c =
