@@ -154,10 +154,10 @@ impl LaggingBoard {
         let settled = self.ahead.settled;
         let n = self.board.clock.get() - settled;
         match rule {
-            Rule::Timer0(reg) => Ok(self.board.t0.get_later(settled, n, reg)),
-            Rule::Timer1(reg) => Ok(self.board.t1.get_later(settled, n, reg)),
-            Rule::Timer2(reg) => Ok(self.board.t2.get_later(settled, n, reg)),
-            Rule::Timer3(reg) => Ok(self.board.t3.get_later(settled, n, reg)),
+            Rule::Timer0(reg) => Ok(self.board.t0.get_calm(settled, n, reg)),
+            Rule::Timer1(reg) => Ok(self.board.t1.get_calm(settled, n, reg)),
+            Rule::Timer2(reg) => Ok(self.board.t2.get_calm(settled, n, reg)),
+            Rule::Timer3(reg) => Ok(self.board.t3.get_calm(settled, n, reg)),
             Rule::Spi(SpiReg::Spdr) => self.get_spdr(at),
             _ => self.get_port_at(at),
         }
