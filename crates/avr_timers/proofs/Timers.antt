@@ -2,9 +2,9 @@
 use Rattle.std.proofs.Common.{◌≡◌, ℕ, zero, suc, ◌+◌, ◌-◌, ◌/◌, ◌<◌, ◌≤◌, ◌==◌, cond, ◌⊎◌, inl, inr, nat_lt, if◌then◌else◌, Bool, true, false, not, ◌||◌, ◌&&◌, Option, Some, None, IfSome, IsSome, is_some, refl, sym, ap, ◌∙◌, arith}
 use Rattle.std.proofs.lemmas.Bool.{cases_lt, eq-eqb, eqb-false, lt-ltb, ne_eqb, or_parts}
 use Rattle.avr_timers.specs.Clock.{clocked, clocks_of, cycles, many, sets_at}
-use Rattle.avr_timers.specs.Counter.{path, stepped}
+use Rattle.avr_timers.specs.Counter.{path}
 use Rattle.avr_timers.specs.First.{First, earlier_of, is_before, seen}
-use Rattle.avr_timers.proofs.Cycles.{counted-until, cycles-clocks, cycles-halted, kept-until, many-after, many-zero, moved-until}
+use Rattle.avr_timers.proofs.Cycles.{counted-until, cycles-clocks, cycles-halted, kept-until, many-zero, moved-until}
 use Rattle.avr_timers.proofs.First.{first-same, first-either, seen-first}
 use Rattle.avr_timers.proofs.Calm.{flags_or-none}
 use Rattle.avr_timers.specs.declared.flags.TimerFlags.{TimerFlags}

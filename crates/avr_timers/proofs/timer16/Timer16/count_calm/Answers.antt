@@ -1,6 +1,4 @@
-use Rattle.std.proofs.Common.{◌≡◌, ◌≤◌, ◌+◌, arith}
-use Rattle.avr_timers.specs.Clock.{cycles}
-use Rattle.avr_timers.specs.Timer16.{timer_cycle}
+use Rattle.std.proofs.Common.{arith}
 use Rattle.avr_timers.proofs.Clocks16.{count_calm, count_within}
 use Rattle.avr_timers.proofs.timer16.Timer16.count_calm.Goals as goal
 

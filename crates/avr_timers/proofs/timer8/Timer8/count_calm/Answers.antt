@@ -1,6 +1,4 @@
-use Rattle.std.proofs.Common.{◌≡◌, ◌≤◌, ◌+◌, arith}
-use Rattle.avr_timers.specs.Clock.{cycles}
-use Rattle.avr_timers.specs.Timer8.{timer_cycle}
+use Rattle.std.proofs.Common.{arith}
 use Rattle.avr_timers.proofs.Clocks8.{count_calm, count_within}
 use Rattle.avr_timers.proofs.timer8.Timer8.count_calm.Goals as goal
 
