@@ -1,5 +1,5 @@
 -- Many cycles of a 16-bit timer are those of its counter.
-use Rattle.std.proofs.Common.{◌≡◌, ℕ, zero, suc, ◌+◌, ◌<◌, Bool, true, false, cond, refl, sym, ap, ◌∙◌}
+use Rattle.std.proofs.Common.{◌≡◌, ℕ, zero, suc, ◌+◌, ◌<◌, Bool, true, false, cond, refl, sym, ap, ◌∙◌, ◌≤◌, arith}
 use Rattle.avr_timers.specs.Clock.{clocked, clocks_of, cycles, many}
 use Rattle.avr_timers.specs.Prescaler.{divider_of}
 use Rattle.avr_timers.specs.declared.prescaler.Prescaler.TheVariants.{Shared}
@@ -39,9 +39,15 @@ leap_many t n k tm e =
 pub leap_none : (t n k : ℕ) (tm : Timer16) → k ≡ clocks_of (divider_of Shared tm.select) t n → k ≡ 0 → tm ≡ cycles timer_cycle t n tm
 leap_none t n k tm e none = sym (cycles-with t n tm ∙ ap (with_counter tm) (counters.cycles-none t n k (counter_of tm) e none))
 
--- so is the count
-pub count_many : (t n k : ℕ) (tm : Timer16) → k ≡ clocks_of (divider_of Shared tm.select) t n → (many counter.clock k (counter_of tm)).count ≡ (cycles timer_cycle t n tm).count
-count_many t n k tm e = ap (λ (u : Timer16). u.count) (leap_many t n k tm e)
+-- while no cycle sets a flag, it goes on by the clocks
+pub count_calm : (t n k : ℕ) (tm : Timer16) → k ≡ clocks_of (divider_of Shared tm.select) t n → ((i : ℕ) → i < n → sets_flag_at t tm i ≡ false) → tm.count + k ≡ (cycles timer_cycle t n tm).count
+count_calm t n k tm e none = counters.counted t n k (counter_of tm) e none ∙ sym (ap (λ (c : TimerCounter). c.count) (cycles-of t n tm))
+
+pub count_within : (t n : ℕ) (tm : Timer16) → tm.count ≤ 65535 → (cycles timer_cycle t n tm).count ≤ 65535
+count_within t n tm l =
+    let w = counters.within-cycles t n (counter_of tm) l in
+    let same = ap (λ (c : TimerCounter). c.count) (cycles-of t n tm) in
+    omega (arith, w, same)
 
 -- ---- for the board above
 -- the flags stay until a cycle sets one

@@ -142,6 +142,26 @@ module _ {A : Type 0} (divider : A → ℕ) (clock : A → A) (keeps : (x : A) �
       calm y (sym (ap (λ b. b && sets y) on) ∙ none n (omega arith)) ∙ before))
       (λ e. before)
 
+  -- what such a clock adds one to, counts the clocks until then
+  pub counted-until : (view : A → ℕ) (sets : A → Bool) (calm : (x : A) → sets x ≡ false → view (clock x) ≡ view x + 1) (t n d : ℕ) (x : A) → divider x ≡ d → 0 < d
+      → ((i : ℕ) → i < n → sets_at divider clock sets t x i ≡ false) → view (cycles (prescaled divider clock) t n x) ≡ view x + ((t + n) / d - t / d)
+  unfolding cycles sets_at
+  counted-until view sets calm t zero d x e positive none = let z : (t + 0) / d - t / d ≡ 0 = grind arith in omega (arith, z)
+  counted-until view sets calm t (suc n) d x e positive none =
+      let y = cycles (prescaled divider clock) t n x in
+      let before = counted-until view sets calm t n d x e positive (λ i l. none i (omega arith)) in
+      let later = quotient-later d t n positive in
+      let same = divider-cycles t n x ∙ e in
+      let at : t + suc n ≡ t + n + 1 = omega arith in
+      elim (next d (t + n) positive) [
+        | Turns rem quo last ↦ (let l = lt-ltb 0 d positive in
+            let on : clocked (divider x) (t + n) ≡ true = rw (e, l, rem) refl in
+            let one = calm y (sym (ap (λ b. b && sets y) on) ∙ none n (omega arith)) in
+            let more : (t + suc n) / d ≡ (t + n) / d + 1 = ap (λ m. m / d) at ∙ quo in
+            ap view (cycle-clocked (t + n) d y same positive rem) ∙ (one ∙ omega (arith, before, more, later)))
+        | Goes rem quo below ↦ ap view (cycle-idle (t + n) d _ y same positive rem (omega arith)) ∙ (before ∙ ap (λ k. view x + (k - t / d)) (sym quo ∙ ap (λ m. m / d) (sym at)))
+      ]
+
   -- what commutes with a clock that sets no flag commutes with cycles that set none
   moved-cycle : (f : A → A) (on : Bool) (y : A) → (on ≡ true → clock (f y) ≡ f (clock y)) → cond on (clock (f y)) (f y) ≡ f (cond on (clock y) y)
   moved-cycle f true y e = e refl

@@ -1,10 +1,10 @@
 -- Many clocks of a timer's counter: the state after them, and the first that sets a flag.
-use Rattle.std.proofs.Common.{◌≡◌, ℕ, zero, suc, ◌+◌, ◌-◌, ◌/◌, ◌<◌, ◌≤◌, ◌==◌, cond, ◌⊎◌, inl, inr, nat_lt, if◌then◌else◌, Bool, true, false, ◌||◌, ◌&&◌, Option, Some, None, IfSome, IsSome, is_some, refl, sym, ap, ◌∙◌, arith}
-use Rattle.std.proofs.lemmas.Bool.{cases_lt, eq-eqb, lt-ltb, ne_eqb}
+use Rattle.std.proofs.Common.{◌≡◌, ℕ, zero, suc, ◌+◌, ◌-◌, ◌/◌, ◌<◌, ◌≤◌, ◌==◌, cond, ◌⊎◌, inl, inr, nat_lt, if◌then◌else◌, Bool, true, false, not, ◌||◌, ◌&&◌, Option, Some, None, IfSome, IsSome, is_some, refl, sym, ap, ◌∙◌, arith}
+use Rattle.std.proofs.lemmas.Bool.{cases_lt, eq-eqb, eqb-false, lt-ltb, ne_eqb, or_parts}
 use Rattle.avr_timers.specs.Clock.{clocked, clocks_of, cycles, many, sets_at}
-use Rattle.avr_timers.specs.Counter.{path, stepped}
+use Rattle.avr_timers.specs.Counter.{path}
 use Rattle.avr_timers.specs.First.{First, earlier_of, is_before, seen}
-use Rattle.avr_timers.proofs.Cycles.{cycles-clocks, cycles-halted, kept-until, many-after, many-zero, moved-until}
+use Rattle.avr_timers.proofs.Cycles.{counted-until, cycles-clocks, cycles-halted, kept-until, many-zero, moved-until}
 use Rattle.avr_timers.proofs.First.{first-same, first-either, seen-first}
 use Rattle.avr_timers.proofs.Calm.{flags_or-none}
 use Rattle.avr_timers.specs.declared.flags.TimerFlags.{TimerFlags}
@@ -123,20 +123,6 @@ pub count_at-from : (c : TimerCounter) (t i r : ℕ) → t ≡ top c → r ≡ p
 unfolding count_at
 count_at-from c t i r e h = h ∙ ap (λ v. path c.maximum v c.count i) e
 
--- ---- the count alone
-pub count_none : (c : TimerCounter) (k : ℕ) → k ≡ 0 → c.count ≡ (many clock k c).count
-count_none c k none = sym (ap (λ (u : TimerCounter). u.count) (ap (λ i. many clock i c) none ∙ many-zero clock c))
-
-pub count_free : (c : TimerCounter) (k r : ℕ) → c.match_blocked ≡ false → r ≡ path c.maximum (top c) c.count k → r ≡ (many clock k c).count
-unfolding count_at
-count_free c k r e h = h ∙ sym (ap (λ (u : TimerCounter). u.count) (many-clock c k e))
-
-pub count_blocked : (c : TimerCounter) (k next r : ℕ) → c.match_blocked ≡ true → 0 < k → next ≡ stepped c.maximum (top c) true c.count → r ≡ path c.maximum (top c) next (k - 1) → r ≡ (many clock k c).count
-unfolding clock
-count_blocked c k next r e some n h =
-    let after : next ≡ (clock c).count = n ∙ ap (λ b. stepped c.maximum (top c) b c.count) (sym e) in
-    count_free (clock c) (k - 1) r refl (h ∙ ap (λ i. path c.maximum (top c) i (k - 1)) after) ∙ ap (λ (u : TimerCounter). u.count) (many-after clock k c some)
-
 -- ---- for the timers and the board above
 many-cycles : (d t n : ℕ) (c : TimerCounter) → divider c ≡ d → (0 < d) ⊎ (d ≤ 0) → cycles counter_cycle t n c ≡ many clock (clocks_of d t n) c
 many-cycles d t n c e (inl some) =
@@ -161,6 +147,65 @@ calm c e = flags_or-none c.flags (set_flags c) e
 -- the flags stay until a cycle sets one
 pub flags-until : (t n : ℕ) (c : TimerCounter) → ((i : ℕ) → i < n → sets_flag_at t c i ≡ false) → (cycles counter_cycle t n c).flags ≡ c.flags
 flags-until t n c none = kept-until divider clock keeps (λ (u : TimerCounter). u.flags) sets calm t n c none
+
+-- and counts on
+never_both : (b : Bool) → (b && false) ≡ false
+never_both true = refl
+never_both false = refl
+
+top-calm : (icr : Option ℕ) (clears free : Bool) (a max count : ℕ) → (count == max) ≡ false → meets free count (Some a) ≡ false → meets free count icr ≡ false
+    → (not free && count == top_of icr clears a max) ≡ false
+top-calm (Some v) clears free a max count e f g = g
+top-calm None true free a max count e f g = f
+top-calm None false free a max count e f g = ap (λ (b : Bool). not free && b) e ∙ never_both (not free)
+
+count-calm : (c : TimerCounter) → sets c ≡ false → (clock c).count ≡ c.count + 1
+unfolding clock
+count-calm c e =
+    let f = set_flags c in
+    let icf = or_parts (f.tov || f.ocf_a || f.ocf_b || f.ocf_c) f.icf e in
+    let ocf_c = or_parts (f.tov || f.ocf_a || f.ocf_b) f.ocf_c icf.0 in
+    let ocf_b = or_parts (f.tov || f.ocf_a) f.ocf_b ocf_c.0 in
+    let ocf_a = or_parts f.tov f.ocf_a ocf_b.0 in
+    let over : (c.count == c.maximum) ≡ false = ocf_a.0 in
+    let cleared : (not c.match_blocked && c.count == top c) ≡ false = top-calm c.icr c.clears_at_a c.match_blocked c.compare_a c.maximum c.count over ocf_a.1 icf.1 in
+    rw (over, cleared) refl
+
+counted-by : (t n d : ℕ) (c : TimerCounter) → divider c ≡ d → (0 < d) ⊎ (d ≤ 0) → ((i : ℕ) → i < n → sets_flag_at t c i ≡ false) → c.count + clocks_of d t n ≡ (cycles counter_cycle t n c).count
+counted-by t n d c e (inl some) none =
+    let on = lt-ltb 0 d some in
+    ap (λ b. c.count + cond b ((t + n) / d - t / d) 0) on ∙ sym (counted-until divider clock keeps (λ (u : TimerCounter). u.count) sets count-calm t n d c e some none)
+counted-by t n d c e (inr zero_or) none =
+    let zero_d : d ≡ 0 = omega arith in
+    let halted : (cycles counter_cycle t n c).count ≡ c.count = ap (λ (u : TimerCounter). u.count) (cycles-halted divider clock keeps t n c (e ∙ zero_d)) in
+    let none_of : clocks_of d t n ≡ 0 = ap (λ k. clocks_of k t n) zero_d in
+    omega (arith, halted, none_of)
+
+-- while no cycle sets a flag, the count goes on by the clocks
+pub counted : (t n k : ℕ) (c : TimerCounter) → k ≡ clocks_of (divider c) t n → ((i : ℕ) → i < n → sets_flag_at t c i ≡ false) → c.count + k ≡ (cycles counter_cycle t n c).count
+counted t n k c e none = ap (λ j. c.count + j) e ∙ counted-by t n (divider c) c refl (cases_lt 0 (divider c)) none
+
+-- and never past the maximum
+step-within : (over top : Bool) (count max : ℕ) → count ≤ max → ((count == max) ≡ over) → cond over 0 (cond top 0 (count + 1)) ≤ max
+step-within true top count max l e = omega arith
+step-within false true count max l e = omega arith
+step-within false false count max l e = let ne = eqb-false count max e in let less : count < max = omega (arith, l, ne) in omega (arith, less)
+
+within-many : (k : ℕ) (c : TimerCounter) → c.count ≤ c.maximum → ((many clock k c).count ≤ c.maximum) × ((many clock k c).maximum ≡ c.maximum)
+unfolding many clock
+within-many zero c l = (l, refl)
+within-many (suc k) c l =
+    let u : TimerCounter = many clock k c in
+    let before = within-many k c l in
+    let low : u.count ≤ u.maximum = (let m = before.1 in let b = before.0 in omega (arith, m, b)) in
+    let step = step-within (u.count == u.maximum) (not u.match_blocked && u.count == top u) u.count u.maximum low refl in
+    (let m = before.1 in omega (arith, m, step), before.1)
+
+pub within-cycles : (t n : ℕ) (c : TimerCounter) → c.count ≤ c.maximum → (cycles counter_cycle t n c).count ≤ c.maximum
+within-cycles t n c l =
+    let w = (within-many (clocks_of (divider c) t n) c l).0 in
+    let same = ap (λ (u : TimerCounter). u.count) (cycles-many t n c) in
+    omega (arith, w, same)
 
 -- while no cycle sets a flag, a counter runs alike whatever flags it has
 abbrev pub with_flags : TimerFlags → TimerCounter → TimerCounter

@@ -1,5 +1,5 @@
 // The registers of a timer.
-ghost use Rattle.std.specs.Prelude.{◌≡◌, ◌≤◌, ◌+◌, ◌/◌, ◌%◌, ◌^◌, Ok, Err, OnOk, OnErr, IfErr};
+ghost use Rattle.std.specs.Prelude.{◌≡◌, ◌≤◌, ◌+◌, ◌/◌, ◌%◌, ◌^◌, ◌<◌, ℕ, false, Ok, Err, OnOk, OnErr, IfErr};
 
 use crate::{Mode16, Prescaler, Timer16};
 use avr_base::StopCause;
@@ -42,7 +42,7 @@ pub enum Reg16 {
 impl Timer16 {
     ghost use Rattle.avr_timers.specs.Clock.{cycles};
     ghost use Rattle.avr_timers.specs.Mode.{mode_of, number_of};
-    ghost use Rattle.avr_timers.specs.Timer16.{timer_cycle};
+    ghost use Rattle.avr_timers.specs.Timer16.{sets_flag_at, timer_cycle};
     ghost use Rattle.avr_timers.specs.Registers16.{compare_of, control_b, get_of, put_of, with_compare, word_with};
 
     // The word that a write of a low byte makes with TEMP.
@@ -93,6 +93,7 @@ impl Timer16 {
 
     /// What the register `reg` reads as. A read of the low byte of TCNT or ICR fills TEMP with the high one, and a
     /// read of their high byte gives TEMP; nothing else changes.
+    #[inline(always)]
     pub fn get(&mut self, reg: Reg16) -> u8
         ensures { get_of self.old reg ≡ (result, self.new) }
     {
@@ -107,17 +108,18 @@ impl Timer16 {
         }
     }
 
-    /// What the register `reg` reads as after the `n` cycles from `cycle` on, of which the timer is not told: a read
-    /// that does not move it, but for TEMP.
+    /// What the register `reg` reads as after the `n` cycles from `cycle` on, of which the timer is not told, and none
+    /// of which sets a flag: a read that does not move it, but for TEMP.
     #[inline(always)]
-    pub fn get_later(&mut self, cycle: u64, n: u64, reg: Reg16) -> u8
-        requires { cycle + n ≤ 2 ^ 41 }
+    pub fn get_calm(&mut self, cycle: u64, n: u64, reg: Reg16) -> u8
+        requires early { cycle + n ≤ 2 ^ 41 }
+        requires calm { (i : ℕ) → i < n → sets_flag_at cycle self.old i ≡ false }
         ensures got { get_of (cycles timer_cycle cycle n self.old) reg ≡ (result, cycles timer_cycle cycle n self.new) }
         ensures others { self.new ≡ record self.old { temp = self.new.temp } }
     {
         match reg {
             Reg16::CountL => {
-                let count = self.count_later(cycle, n);
+                let count = self.count_calm(cycle, n);
                 self.low_first(count)
             }
             Reg16::ControlA

@@ -1,5 +1,5 @@
 // The registers of a timer.
-ghost use Rattle.std.specs.Prelude.{◌≡◌, ◌≤◌, ◌+◌, ◌^◌, Ok, Err, OnOk, OnErr, IfErr};
+ghost use Rattle.std.specs.Prelude.{◌≡◌, ◌≤◌, ◌+◌, ◌^◌, ◌<◌, ℕ, false, Ok, Err, OnOk, OnErr, IfErr};
 
 use crate::Timer8;
 use avr_base::StopCause;
@@ -18,7 +18,7 @@ pub enum Reg8 {
 
 impl Timer8 {
     ghost use Rattle.avr_timers.specs.Clock.{cycles};
-    ghost use Rattle.avr_timers.specs.Timer8.{timer_cycle};
+    ghost use Rattle.avr_timers.specs.Timer8.{sets_flag_at, timer_cycle};
     ghost use Rattle.avr_timers.specs.Registers8.{get_of, put_of};
 
     /// What the register `reg` reads as.
@@ -32,15 +32,17 @@ impl Timer8 {
         }
     }
 
-    /// What the register `reg` reads as after the `n` cycles from `cycle` on, of which the timer is not told.
+    /// What the register `reg` reads as after the `n` cycles from `cycle` on, of which the timer is not told, and none
+    /// of which sets a flag.
     #[inline(always)]
     #[tactic(auto, using(crate::proofs::Later8::get_control, crate::proofs::Later8::get_compare))]
-    pub fn get_later(&self, cycle: u64, n: u64, reg: Reg8) -> u8
-        requires { cycle + n ≤ 2 ^ 41 }
+    pub fn get_calm(&self, cycle: u64, n: u64, reg: Reg8) -> u8
+        requires early { cycle + n ≤ 2 ^ 41 }
+        requires calm { (i : ℕ) → i < n → sets_flag_at cycle self.now i ≡ false }
         ensures { result ≡ get_of (cycles timer_cycle cycle n self.now) reg }
     {
         match reg {
-            Reg8::Count => self.count_later(cycle, n),
+            Reg8::Count => self.count_calm(cycle, n),
             Reg8::Control | Reg8::Compare => self.get(reg),
         }
     }

@@ -1,5 +1,5 @@
 // The timer, cycle by cycle and in leaps.
-ghost use Rattle.std.specs.Prelude.{◌≡◌, ◌≤◌, ◌<◌, ◌+◌, ◌-◌, ◌^◌, ◌↔◌, None, Some, IfSome};
+ghost use Rattle.std.specs.Prelude.{◌≡◌, ◌≤◌, ◌<◌, ◌+◌, ◌-◌, ◌^◌, ◌↔◌, ℕ, false, None, Some, IfSome};
 ghost use Rattle.avr_timers.specs.Clock.{cycles, many};
 ghost use Rattle.avr_timers.specs.First.{First};
 ghost use Rattle.avr_timers.specs.Timer as counter;
@@ -168,15 +168,15 @@ impl Timer16 {
         }
     }
 
-    // TCNT after the `n` cycles from `cycle` on.
+    // TCNT after the `n` cycles from `cycle` on, none of which sets a flag.
     #[inline(always)]
-    #[tactic(auto, using(crate::proofs::Clocks16::count_many))]
-    pub(crate) fn count_later(&self, cycle: u64, n: u64) -> u16
-        requires { cycle + n ≤ 2 ^ 41 }
+    pub(crate) fn count_calm(&self, cycle: u64, n: u64) -> u16
+        requires early { cycle + n ≤ 2 ^ 41 }
+        requires calm { (i : ℕ) → i < n → sets_flag_at cycle self.now i ≡ false }
         ensures { result ≡ (cycles timer_cycle cycle n self.now).count }
     {
         let clocks = Prescaler::Shared.clocks(self.select, cycle, n);
-        self.counter().count_later(clocks)
+        self.count + clocks as u16
     }
 
     /// The first cycle from `cycle` on whose tick sets a flag, be it set already or not: less than 2^28 cycles on.

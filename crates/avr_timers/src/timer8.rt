@@ -1,5 +1,5 @@
 // The timer, cycle by cycle and in leaps.
-ghost use Rattle.std.specs.Prelude.{◌≡◌, ◌≤◌, ◌<◌, ◌+◌, ◌-◌, ◌^◌, ◌↔◌, None, Some, IfSome};
+ghost use Rattle.std.specs.Prelude.{◌≡◌, ◌≤◌, ◌<◌, ◌+◌, ◌-◌, ◌^◌, ◌↔◌, ℕ, false, None, Some, IfSome};
 ghost use Rattle.avr_timers.specs.Clock.{cycles, many};
 ghost use Rattle.avr_timers.specs.First.{First};
 ghost use Rattle.avr_timers.specs.Timer as counter;
@@ -146,15 +146,15 @@ impl Timer8 {
         }
     }
 
-    // TCNT after the `n` cycles from `cycle` on.
+    // TCNT after the `n` cycles from `cycle` on, none of which sets a flag.
     #[inline(always)]
-    #[tactic(auto, using(crate::proofs::Clocks8::count_many))]
-    pub(crate) fn count_later(&self, cycle: u64, n: u64) -> u8
-        requires { cycle + n ≤ 2 ^ 41 }
+    pub(crate) fn count_calm(&self, cycle: u64, n: u64) -> u8
+        requires early { cycle + n ≤ 2 ^ 41 }
+        requires calm { (i : ℕ) → i < n → sets_flag_at cycle self.now i ≡ false }
         ensures { result ≡ (cycles timer_cycle cycle n self.now).count }
     {
         let clocks = self.prescaler.clocks(self.select, cycle, n);
-        self.counter().count_later(clocks) as u8
+        self.count + clocks as u8
     }
 
     /// The first cycle from `cycle` on whose tick sets a flag, be it set already or not: less than 2^28 cycles on.

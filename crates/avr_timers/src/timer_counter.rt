@@ -187,25 +187,6 @@ impl TimerCounter {
         }
     }
 
-    /// The count after so many clocks.
-    #[inline(always)]
-    #[tactic(auto, using(crate::proofs::Timers::count_none, crate::proofs::Timers::count_free, crate::proofs::Timers::count_blocked))]
-    pub fn count_later(&self, clocks: u64) -> u16
-        requires count { self.now.count ≤ self.now.maximum }
-        requires top { top self.now ≤ self.now.maximum }
-        ensures value { result ≡ (many clock clocks self.now).count }
-        ensures within { result ≤ self.now.maximum }
-    {
-        if clocks == 0 {
-            return self.count;
-        }
-        if !self.match_blocked {
-            return count_after(self.maximum, self.top(), self.count, clocks);
-        }
-        let next = stepped(self.maximum, self.top(), true, self.count);
-        count_after(self.maximum, self.top(), next, clocks - 1)
-    }
-
     // After how many clocks the first follows that sets a flag, none blocked.
     #[inline(always)]
     fn run_to_event(&self) -> Option<u64>

@@ -21,7 +21,10 @@ use Rattle.avr_timers.specs.declared.flags.TimerFlags.{TimerFlags as Flags}
 use Rattle.device_base.specs.Bits.{any_bit}
 use Rattle.avr_timers.specs.Clock.{cycles}
 use Rattle.avr_base.specs.declared.interrupts.Lines.{Lines}
+use Rattle.serial_ports.specs.declared.spi.Spi.{Spi as SpiPort}
 use Rattle.serial_ports.specs.declared.spi_registers.SpiReg.TheVariants as spi
+use Rattle.serial_ports.specs.Spi.{asks_interrupt}
+use Rattle.serial_ports.specs.SpiRegisters.{accessed}
 use Rattle.avr_timers.specs.declared.registers16.Reg16.{Reg16}
 use Rattle.avr_timers.specs.declared.registers8.Reg8.{Reg8}
 use Rattle.avr_timers.specs.Registers16 as reg16s
@@ -35,7 +38,7 @@ abbrev with_temp : ℕ → Timer16 → Timer16
 with_temp x u = record u { temp = x }
 
 -- what a board has of lines and ends, now and later, another one has
-record IsLike (b c : Board) : Type 0 where
+pub record IsLike (b c : Board) : Type 0 where
   pub clock : c.clock ≡ b.clock
   pub quiet : (t : ℕ) → board_quiet t c ≡ board_quiet t b
   pub calm : (t i : ℕ) → sets_flag_at t c i ≡ sets_flag_at t b i
@@ -61,7 +64,7 @@ like_ahead a b c like h =
     }
 
 -- ---- reads
-abbrev GotApart : Board → ℕ → ℕ → Result (ℕ × Board) StopCause → Result (ℕ × Board) StopCause → Type 0
+abbrev pub GotApart : Board → ℕ → ℕ → Result (ℕ × Board) StopCause → Result (ℕ × Board) StopCause → Type 0
 GotApart b s n (Ok p) late = (late ≡ Ok (p.0, timers_leap s n p.1)) × IsLike b p.1
 GotApart b s n (Err cause) late = late ≡ Err cause
 
@@ -87,7 +90,7 @@ extended_flags_later s n b none =
     let f3 = flags_3 s n b none in
     rw (f1, f3) refl
 
-got_apart : (rule : Rule) (b : Board) (at s n : ℕ) → is_plain_read rule ≡ true → ((i : ℕ) → i < n → sets_flag_at s b i ≡ false) → GotApart b s n (get_by rule b at) (get_by rule (timers_leap s n b) at)
+pub got_apart : (rule : Rule) (b : Board) (at s n : ℕ) → is_plain_read rule ≡ true → ((i : ℕ) → i < n → sets_flag_at s b i ≡ false) → GotApart b s n (get_by rule b at) (get_by rule (timers_leap s n b) at)
 unfolding timers_leap board_quiet lines_of
 got_apart Reserved b at s n e none = refl
 got_apart (Pin port) b at s n e none = (refl, itself b)
@@ -112,9 +115,27 @@ got_apart (Spi spi.Control) b at s n e none = (refl, itself b)
 got_apart (Spi spi.Status) b at s n e none = (refl, record { clock = refl; quiet = λ t. refl; calm = λ t i. refl; lines = refl })
 got_apart (Spi spi.Spdr) b at s n e none = absurd (false_true e)
 
-module _ (rule : Rule) (b : Board) (at s : ℕ) (e : is_plain_read rule ≡ true) (none : (i : ℕ) → i < b.clock - s → sets_flag_at s b i ≡ false) where
+-- where the serial peripheral interface asks for no interrupt, it asks for none after an access
+asks_no_more : (flag noted on : Bool) → (flag && on) ≡ false → ((flag && not noted) && on) ≡ false
+asks_no_more false noted on e = refl
+asks_no_more true false on e = e
+asks_no_more true true on e = refl
+
+lines_spi : (b : Board) (p : SpiPort) → asks_interrupt b.spi ≡ false → asks_interrupt p ≡ false → lines_of (let c : Board = record b { spi = p } in c) ≡ lines_of b
+unfolding lines_of
+lines_spi b p e f = rw (e, f) refl
+
+pub lines_accessed : (b : Board) (p : SpiPort) → asks_interrupt b.spi ≡ false → p.spif ≡ (accessed b.spi).spif → p.control ≡ b.spi.control → lines_of (let c : Board = record b { spi = p } in c) ≡ lines_of b
+lines_accessed b p e flag control =
+    lines_spi b p e (ap (λ (f : Bool). f && any_bit p.control 0x80) flag ∙ (ap (λ (k : ℕ). (accessed b.spi).spif && any_bit k 0x80) control ∙ asks_no_more b.spi.spif b.spi.noted_spif (any_bit b.spi.control 0x80) e))
+
+pub got_spdr : (b : Board) (at s n : ℕ) → asks_interrupt b.spi ≡ false → GotApart b s n (get_by (Spi spi.Spdr) b at) (get_by (Spi spi.Spdr) (timers_leap s n b) at)
+unfolding timers_leap board_quiet
+got_spdr b at s n e = (refl, record { clock = refl; quiet = λ t. refl; calm = λ t i. refl; lines = lines_accessed b _ e refl refl })
+
+module _ (rule : Rule) (b : Board) (at s : ℕ) (apart : GotApart b s (b.clock - s) (get_by rule b at) (get_by rule (caught_up s b) at)) where
   got : (g : Result (ℕ × Board) StopCause) → get_by rule b at ≡ g → GotApart b s (b.clock - s) g (get_by rule (caught_up s b) at)
-  got g h = subst (λ r. GotApart b s (b.clock - s) r (get_by rule (caught_up s b) at)) h (got_apart rule b at s (b.clock - s) e none)
+  got g h = subst (λ r. GotApart b s (b.clock - s) r (get_by rule (caught_up s b) at)) h apart
 
   read_ok : (x : ℕ) (c v : Board) → get_by rule b at ≡ Ok (x, c) → caught_up s b ≡ v → get_by rule v at ≡ Ok (x, caught_up s c)
   read_ok x c v h is =

@@ -1,10 +1,15 @@
 -- Where a register enables no interrupt, no line of its sources is set.
-use Rattle.std.proofs.Common.{◌≡◌, ℕ, ◌+◌, Bool, true, false, refl, ap, ◌∙◌}
+use Rattle.std.proofs.Common.{◌≡◌, ℕ, ◌+◌, ◌&&◌, Bool, true, false, refl, sym, ap, ◌∙◌, ◌==◌, not, is_some}
+use Rattle.std.specs.Prelude.{bit_and}
+use Rattle.std.proofs.lemmas.Bool.{eqb-true}
+use Rattle.std.proofs.lemmas.Nat.{and_assoc}
 use Rattle.board_io.specs.declared.board.Board.{Board}
 use Rattle.board_io.specs.Board.{kept_at}
-use Rattle.board_io.specs.Lines.{extended_timer_lines, line, timer_lines}
-use Rattle.board_io.specs.Names.{ETIMSK, OCIE0, OCIE1A, OCIE1B, OCIE1C, OCIE2, OCIE3A, OCIE3B, OCIE3C, TIMER0_COMP, TIMER0_OVF, TIMER1_COMPA, TIMER1_COMPB, TIMER1_COMPC, TIMER1_OVF, TIMER2_COMP, TIMER2_OVF, TIMER3_COMPA, TIMER3_COMPB, TIMER3_COMPC, TIMER3_OVF, TIMSK, TOIE0, TOIE1, TOIE2, TOIE3}
+use Rattle.board_io.specs.Lines.{extended_timer_lines, line, port_lines, timer_lines}
+use Rattle.board_io.specs.Names.{ETIMSK, OCIE0, OCIE1A, OCIE1B, OCIE1C, OCIE2, OCIE3A, OCIE3B, OCIE3C, TIMER0_COMP, TIMER0_OVF, TIMER1_COMPA, TIMER1_COMPB, TIMER1_COMPC, TIMER1_OVF, TIMER2_COMP, TIMER2_OVF, TIMER3_COMPA, TIMER3_COMPB, TIMER3_COMPC, TIMER3_OVF, TIMSK, TOIE0, TOIE1, TOIE2, TOIE3, SPI_STC, USART0_RX, USART0_TX, USART0_UDRE}
 use Rattle.device_base.specs.Bits.{any_bit}
+use Rattle.serial_ports.specs.Spi.{asks_interrupt}
+use Rattle.serial_ports.specs.Usart.{is_filled}
 
 off : (word : ℕ) (flag enabled : Bool) → enabled ≡ false → line word flag enabled ≡ 0
 unfolding line
@@ -26,3 +31,31 @@ no_extended_timer_lines b e =
     λ i. off TIMER1_COMPC b.t1.flags.ocf_c _ (none _ OCIE1C e refl) i + off TIMER3_COMPA b.t3.flags.ocf_a _ (none _ OCIE3A e refl) i
     + off TIMER3_COMPB b.t3.flags.ocf_b _ (none _ OCIE3B e refl) i + off TIMER3_COMPC b.t3.flags.ocf_c _ (none _ OCIE3C e refl) i
     + off TIMER3_OVF b.t3.flags.tov _ (none _ TOIE3 e refl) i
+
+-- where a byte has no bit of a mask, it has none of a part of the mask
+not_false : (b : Bool) → not b ≡ false → b ≡ true
+not_false true e = refl
+not_false false e = sym e
+
+none_of : (byte mask part : ℕ) → bit_and mask part ≡ part → bit_and 0 part ≡ 0 → any_bit byte mask ≡ false → any_bit byte part ≡ false
+none_of byte mask part e zero off =
+    let nothing : bit_and byte mask ≡ 0 = eqb-true (bit_and byte mask) 0 (not_false (bit_and byte mask == 0) off) in
+    let same : bit_and byte part ≡ 0 = ap (bit_and byte) (sym e) ∙ (sym (and_assoc part byte mask) ∙ (ap (λ k. bit_and k part) nothing ∙ zero)) in
+    rw same refl
+
+down : (word : ℕ) (flag : Bool) → flag ≡ false → line word flag true ≡ 0
+unfolding line
+down word flag e = rw e refl
+
+disabled : (flag enabled : Bool) → enabled ≡ false → (flag && enabled) ≡ false
+disabled true enabled e = e
+disabled false enabled e = refl
+
+pub no_port_lines : (b : Board) → any_bit b.usart.control_b 0xE0 ≡ false → any_bit b.spi.control 0x80 ≡ false → port_lines b ≡ 0
+no_port_lines b e f =
+    let spi : asks_interrupt b.spi ≡ false = disabled b.spi.spif (any_bit b.spi.control 0x80) f in
+    let rx : (is_filled b.usart.receive_buffer && any_bit b.usart.control_b 0x80) ≡ false = disabled (is_filled b.usart.receive_buffer) (any_bit b.usart.control_b 0x80) (none_of b.usart.control_b 0xE0 0x80 refl refl e) in
+    let udre : (not (is_some b.usart.transmit_buffer) && any_bit b.usart.control_b 0x20) ≡ false = disabled (not (is_some b.usart.transmit_buffer)) (any_bit b.usart.control_b 0x20) (none_of b.usart.control_b 0xE0 0x20 refl refl e) in
+    let tx : (b.usart.txc && any_bit b.usart.control_b 0x40) ≡ false = disabled b.usart.txc (any_bit b.usart.control_b 0x40) (none_of b.usart.control_b 0xE0 0x40 refl refl e) in
+    λ i. down SPI_STC (asks_interrupt b.spi) spi i + down USART0_RX (is_filled b.usart.receive_buffer && any_bit b.usart.control_b 0x80) rx i
+    + down USART0_UDRE (not (is_some b.usart.transmit_buffer) && any_bit b.usart.control_b 0x20) udre i + down USART0_TX (b.usart.txc && any_bit b.usart.control_b 0x40) tx i

@@ -9,6 +9,7 @@ pub mod Enabled
 pub mod Lags
 pub mod Apart
 pub mod Beside
+pub mod Sent
 pub mod Served
 pub mod Still
 pub mod OneBoard

@@ -1,6 +1,6 @@
 -- Cycles in which nothing ends, and in which the lines stay.
 use Rattle.std.proofs.Common.{◌≡◌, ℕ, ◌-◌, ◌<◌, ◌≤◌, Bool, true, false, ◌&&◌, ◌||◌, not, ◌⊎◌, inl, inr, Option, Some, None, refl, sym, ap, ◌∙◌, subst, arith}
-use Rattle.std.proofs.lemmas.Bool.{cases_lt, or_parts}
+use Rattle.std.proofs.lemmas.Bool.{and_parts, cases_lt, or_parts}
 use Rattle.board_io.specs.declared.board.Board.{Board}
 use Rattle.board_io.specs.Cycle.{board_quiet, timers_leap}
 use Rattle.board_io.specs.Lines.{lines_of}
@@ -28,6 +28,14 @@ quiet_at t b e f =
     let u = sym (end_at b.usart.shift_register t) ∙ e in
     let s = sym (end_at b.spi.shift_register t) ∙ f in
     rw (u, s) refl
+
+-- of another board that has the same USART0
+pub quiet_too : (t : ℕ) (b c : Board) → c.usart ≡ b.usart → board_quiet t b ≡ true → is_at (end_of c.spi.shift_register) t ≡ false → board_quiet t c ≡ true
+unfolding board_quiet
+quiet_too t b c same quiet none =
+    let frame = (and_parts (not (is_end b.usart.shift_register t)) (not (is_end b.spi.shift_register t)) quiet).0 in
+    let s = sym (end_at c.spi.shift_register t) ∙ none in
+    rw (same, frame, s) refl
 
 -- ---- flags
 pub halted_8 : (t n : ℕ) (tm : Timer8) → tm.select ≡ 0 → timer8.flags_of (cycles timer8.timer_cycle t n tm) ≡ timer8.flags_of tm

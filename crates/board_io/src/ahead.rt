@@ -35,7 +35,7 @@ impl Board {
     ghost use Rattle.board_io.specs.Lagging.{caught_up};
 
     /// What is known of it from the cycle of its clock on, which its timers have come to.
-    #[inline(never)]
+    #[inline(always)]
     pub fn ahead(&self) -> Forecast
         requires { self.now.clock ≤ 2 ^ 40 }
         ensures settled { result.settled ≡ self.now.clock }

@@ -3,7 +3,9 @@ ghost use Rattle.std.specs.Prelude.{◌≡◌, ◌≤◌, true, false};
 ghost use Rattle.board_io.specs.Lagging.{ReadsStill, is_spdr, is_still_port, is_still_read, is_udr, is_plain_read, is_plain_write, is_port};
 ghost use Rattle.board_io.specs.Table.{rule_of};
 
+use crate::ahead::clear_until;
 use crate::names::{ETIMSK, TIMSK};
+use crate::passing::cycles_before;
 use crate::rules::{LAST, Rule, listed_rule};
 use crate::{Board, LaggingBoard};
 use avr_base::StopCause;
@@ -142,23 +144,46 @@ impl LaggingBoard {
     }
 
     // A read of a timer, which does not catch up, or of a port.
-    #[inline(never)]
+    #[inline(always)]
     fn get_beside(&mut self, at: u16) -> Result<u8, StopCause>
         requires listed { at ≤ 0x9F }
         requires moves { is_plain_read (rule_of at) ≡ false }
         ensures { IsGot (get_by (rule_of at) self.old at) self.old result self.new }
     {
-        let low = at as u8;
         let rule = listed_rule(at);
         let settled = self.ahead.settled;
         let n = self.board.clock.get() - settled;
         match rule {
-            Rule::Timer0(reg) => Ok(self.board.t0.get_later(settled, n, reg)),
-            Rule::Timer1(reg) => Ok(self.board.t1.get_later(settled, n, reg)),
-            Rule::Timer2(reg) => Ok(self.board.t2.get_later(settled, n, reg)),
-            Rule::Timer3(reg) => Ok(self.board.t3.get_later(settled, n, reg)),
-            _ => self.get_port(rule, low),
+            Rule::Timer0(reg) => Ok(self.board.t0.get_calm(settled, n, reg)),
+            Rule::Timer1(reg) => Ok(self.board.t1.get_calm(settled, n, reg)),
+            Rule::Timer2(reg) => Ok(self.board.t2.get_calm(settled, n, reg)),
+            Rule::Timer3(reg) => Ok(self.board.t3.get_calm(settled, n, reg)),
+            Rule::Spi(SpiReg::Spdr) => self.get_spdr(at),
+            _ => self.get_port_at(at),
         }
+    }
+
+    // A read of SPDR: where the interface asks for no interrupt, it asks for none after the read.
+    #[inline(always)]
+    fn get_spdr(&mut self, at: u16) -> Result<u8, StopCause>
+        requires listed { at ≤ 0x9F }
+        requires rule { rule_of at ≡ Rule.Spi SpiReg.Spdr }
+        ensures { IsGot (get_by (rule_of at) self.old at) self.old result self.new }
+    {
+        if self.board.spi.line() {
+            return self.get_port_at(at);
+        }
+        self.board.get_by(Rule::Spi(SpiReg::Spdr), at as u8)
+    }
+
+    // A read of a port, in a call of its own: inlined, the code would slow the other reads.
+    #[inline(never)]
+    fn get_port_at(&mut self, at: u16) -> Result<u8, StopCause>
+        requires listed { at ≤ 0x9F }
+        requires port { is_port (rule_of at) ≡ true }
+        ensures { IsGot (get_by (rule_of at) self.old at) self.old result self.new }
+    {
+        self.get_port(listed_rule(at), at as u8)
     }
 
     // A write that looks at no timer.
@@ -171,6 +196,7 @@ impl LaggingBoard {
     }
 
     // A read of USART0 or of the serial peripheral interface, which may move its lines and its end.
+    #[inline(always)]
     fn get_port(&mut self, rule: Rule, at: u8) -> Result<u8, StopCause>
         requires { is_port rule ≡ true }
         ensures { IsGot (get_by rule self.old at) self.old result self.new }
@@ -202,6 +228,26 @@ impl LaggingBoard {
             Rule::Usart0(_) | Rule::Spi(_) => self.put_port(rule, low, x),
             _ => self.put_and_look_ahead(rule, low, x),
         }
+    }
+
+    // A write of SPDR: where the interface asks for no interrupt, it asks for none after the write, but what may end is
+    // the transfer that it begins.
+    #[inline(never)]
+    fn put_spdr(&mut self, at: u16, x: u8) -> Result<(), StopCause>
+        requires listed { at ≤ 0x9F }
+        requires rule { rule_of at ≡ Rule.Spi SpiReg.Spdr }
+        ensures { IsPut (put_by (rule_of at) self.old at x) self.old result self.new }
+    {
+        if self.board.spi.line() {
+            return self.put_beside(at, x);
+        }
+        let put = self.board.put_spdr(at as u8, x);
+        let clock = self.board.clock.get();
+        let calm = cycles_before(self.board.spi.done_at(), clock, self.ahead.next - clock);
+        let next = clock + calm;
+        self.ahead.next = next;
+        self.ahead.clear = clear_until(self.ahead.lines, next);
+        put
     }
 
     // A write of what may move a timer's event, or enables its line.
@@ -249,6 +295,9 @@ impl Bus for LaggingBoard {
         if is_plain_write(rule, low) {
             return self.put_plain(rule, low, b);
         }
-        self.put_beside(at, b)
+        match rule {
+            Rule::Spi(SpiReg::Spdr) => self.put_spdr(at, b),
+            _ => self.put_beside(at, b),
+        }
     }
 }

@@ -13,6 +13,12 @@ use avr_base::{Lines, Vector};
 use avr_timers::TimerFlags;
 use device_base::any_bit;
 
+// The bits of UCSR0B that enable the interrupts of USART0: RXCIE0, TXCIE0 and UDRIE0.
+const USART_ENABLES: u8 = 0xE0;
+
+// The bit of SPCR that enables the interrupt of the serial peripheral interface.
+const SPIE: u8 = 0x80;
+
 // Each flag by itself.
 const OVER: TimerFlags = TimerFlags {
     tov: true,
@@ -112,11 +118,15 @@ impl Board {
             + line(TIMER3_OVF, self.t3.flags.tov, any_bit(enabled, TOIE3))
     }
 
-    // The lines of the serial peripheral interface and of USART0.
+    // The lines of the serial peripheral interface and of USART0. In much firmware none is enabled.
+    #[tactic(auto, using(crate::proofs::Enabled::no_port_lines))]
     fn port_lines(&self) -> u64
         ensures value { result ≡ port_lines self.now }
         ensures most { result ≤ 2 ^ 32 }
     {
+        if !any_bit(self.usart.control_b, USART_ENABLES) && !any_bit(self.spi.control, SPIE) {
+            return 0;
+        }
         let usart = self.usart.lines();
         line(SPI_STC, self.spi.line(), true)
             + line(USART0_RX, usart.rxc, true)

@@ -9,7 +9,7 @@ use crate::Board;
 use avr_timers::{Timer8, Timer16};
 
 // For how many cycles from `cycle` on, of at most `most`, the end of something does not come.
-fn cycles_before(end: Option<u64>, cycle: u64, most: u64) -> u64
+pub(crate) fn cycles_before(end: Option<u64>, cycle: u64, most: u64) -> u64
     requires { cycle + most ≤ 2 ^ 41 }
     ensures within { result ≤ most }
     ensures none { (i : ℕ) → i < result → is_at end (cycle + i) ≡ false }

@@ -11,6 +11,7 @@ use avr_base::StopCause;
 use avr_timers::TimerFlags;
 use data_space::Bus;
 use device_base::{any_bit, bit};
+use serial_ports::SpiReg;
 
 // The reset flags of MCUCSR.
 const RESET_FLAGS: u8 = 0x1F;
@@ -155,6 +156,14 @@ impl Board {
         }
         self.keep(at, x & MCUCR_KEPT);
         Ok(())
+    }
+
+    /// A write of SPDR.
+    #[inline(always)]
+    pub(crate) fn put_spdr(&mut self, at: u8, x: u8) -> Result<(), StopCause>
+        ensures { IsPut (put_by (Rule.Spi SpiReg.Spdr) self.old at x) self.old result self.new }
+    {
+        self.spi.put(self.clock.get(), SpiReg::Spdr, x)
     }
 
     /// A write of the register at a data address below 0x0100, by its rule.

@@ -57,6 +57,7 @@ impl Spi {
 
     /// What the register `reg` reads as. A read of SPSR notes which of its flags are set, and a read of SPDR clears
     /// those that were noted.
+    #[inline(always)]
     pub fn get(&mut self, reg: SpiReg) -> u8
         ensures { get_of self.old reg ≡ (result, self.new) }
     {
@@ -78,6 +79,7 @@ impl Spi {
     /// noted, and then starts a transfer where the interface is enabled and free; it is lost where not, with WCOL set
     /// where a transfer runs. A write of SPCR that disables the interface abandons the transfer that runs. Of SPSR only
     /// SPI2X is written. It stops, and changes nothing, exactly where SPCR would make the interface a slave.
+    #[inline(always)]
     pub fn put(&mut self, cycle: u64, reg: SpiReg, b: u8) -> Result<(), StopCause>
         requires { cycle ≤ 2 ^ 41 }
         ensures ok { OnOk result (put_of cycle self.old reg b ≡ Ok self.new) }

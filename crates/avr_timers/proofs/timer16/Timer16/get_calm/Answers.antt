@@ -3,12 +3,12 @@ use Rattle.avr_timers.specs.Clock.{cycles}
 use Rattle.avr_timers.specs.Registers16.{get_of}
 use Rattle.avr_timers.specs.Timer16.{timer_cycle}
 use Rattle.avr_timers.proofs.Later16.{get_count, get_other, is_count, temp_alone}
-use Rattle.avr_timers.proofs.timer16.Timer16.get_later.Goals as goal
+use Rattle.avr_timers.proofs.timer16.Timer16.get_calm.Goals as goal
 
 pub returns-in-CountL-clause-got : goal.returns-in-CountL-clause-got
 returns-in-CountL-clause-got c =
     ap (get_of (cycles timer_cycle c.args.cycle c.args.n c.args.self.now)) c.in-CountL.is
-    ∙ get_count c.args.cycle c.args.n c.count_later-count.result c.low_first.result c.args.self.now c.low_first.new.self c.count_later-count.ensures c.low_first.ensures.value c.low_first.ensures.state
+    ∙ get_count c.args.cycle c.args.n c.count_calm-count.result c.low_first.result c.args.self.now c.low_first.new.self c.count_calm-count.ensures c.low_first.ensures.value c.low_first.ensures.state
 
 pub returns-in-ControlA-clause-got : goal.returns-in-ControlA-clause-got
 returns-in-ControlA-clause-got c =
