@@ -10,7 +10,7 @@ use data_space::{
 };
 
 /// The data address of the register at the I/O address `a`, which is 0 to 63 in an opcode.
-#[inline(always)]
+#[inline]
 pub fn io_address(a: u8) -> u16
     ensures { result ≡ a + 0x20 }
 {
@@ -19,7 +19,7 @@ pub fn io_address(a: u8) -> u16
 
 /// Ends an instruction of `words` words: the program counter goes on by them, modulo 65,536. The answer has its
 /// `cycles`.
-#[inline(always)]
+#[inline]
 pub fn retire(words: u16, cycles: u8, core: &mut Core) -> Done
     ensures core { core.new ≡ core_of (advanced words (lone core.old)) }
     ensures reported { result ≡ record { cycles = cycles; sleep = false } }
@@ -32,7 +32,7 @@ pub fn retire(words: u16, cycles: u8, core: &mut Core) -> Done
 }
 
 /// The data address `q` bytes behind the pointer `p`, modulo 65,536.
-#[inline(always)]
+#[inline]
 pub fn displaced(p: Reg, q: u8, regs: &Registers) -> u16
     ensures { result ≡ displaced p q (general regs.now) }
 {
@@ -40,7 +40,7 @@ pub fn displaced(p: Reg, q: u8, regs: &Registers) -> u16
 }
 
 // The data address before a pointer.
-#[inline(always)]
+#[inline]
 fn decremented(p: Reg, regs: &Registers) -> u16
     ensures { result ≡ decremented p (general regs.now) }
 {
@@ -49,7 +49,7 @@ fn decremented(p: Reg, regs: &Registers) -> u16
 
 /// Loads the byte at the data address `at` into rD, by an instruction of `words` words and `cycles` cycles. `Err` where
 /// the read stops.
-#[inline(always)]
+#[inline]
 #[tactic(auto, unfolding(crate::specs::MemoryShapes::loads))]
 pub fn load_at<B: Bus>(
     d: Reg,
@@ -68,7 +68,7 @@ pub fn load_at<B: Bus>(
 }
 
 /// LD rD, P+: two cycles. Where the read stops (`Err`), the pointer stays as it was.
-#[inline(always)]
+#[inline]
 #[tactic(auto, unfolding(crate::specs::MemoryShapes::loads_post_increment))]
 pub fn load_post_increment<B: Bus>(
     d: Reg,
@@ -88,7 +88,7 @@ pub fn load_post_increment<B: Bus>(
 }
 
 /// LD rD, -P: two cycles. Where the read stops (`Err`), the pointer stays as it was.
-#[inline(always)]
+#[inline]
 #[tactic(auto, unfolding(crate::specs::MemoryShapes::loads_pre_decrement))]
 pub fn load_pre_decrement<B: Bus>(
     d: Reg,
@@ -116,7 +116,7 @@ pub fn load_pre_decrement<B: Bus>(
 
 /// Stores a byte at the data address `at`, by an instruction of `words` words and `cycles` cycles. `Err` where the
 /// write stops.
-#[inline(always)]
+#[inline]
 #[tactic(auto, unfolding(crate::specs::MemoryShapes::stores))]
 pub fn store_at<B: Bus>(
     at: u16,
@@ -135,7 +135,7 @@ pub fn store_at<B: Bus>(
 
 /// ST P+, rR: two cycles. The store may be to the pointer itself, which is one higher than it was all the same. Where
 /// the write stops (`Err`), the pointer stays as it was.
-#[inline(always)]
+#[inline]
 #[tactic(auto, unfolding(crate::specs::MemoryShapes::stores_post_increment))]
 pub fn store_post_increment<B: Bus>(
     p: Reg,
@@ -155,7 +155,7 @@ pub fn store_post_increment<B: Bus>(
 }
 
 /// ST -P, rR: two cycles. Where the write stops (`Err`), the pointer stays as it was.
-#[inline(always)]
+#[inline]
 #[tactic(auto, unfolding(crate::specs::MemoryShapes::stores_pre_decrement))]
 pub fn store_pre_decrement<B: Bus>(
     p: Reg,
@@ -180,7 +180,7 @@ pub fn store_pre_decrement<B: Bus>(
 }
 
 /// PUSH rR: two cycles. Where the write stops (`Err`), the stack pointer stays as it was.
-#[inline(always)]
+#[inline]
 #[tactic(auto, unfolding(crate::specs::MemoryShapes::pushes))]
 pub fn push_reg<B: Bus>(
     r: Reg,
@@ -196,7 +196,7 @@ pub fn push_reg<B: Bus>(
 }
 
 /// POP rD: two cycles. Where the read stops (`Err`), the stack pointer stays as it was.
-#[inline(always)]
+#[inline]
 #[tactic(auto, unfolding(crate::specs::MemoryShapes::pops))]
 pub fn pop_reg<B: Bus>(
     d: Reg,
@@ -213,7 +213,7 @@ pub fn pop_reg<B: Bus>(
 
 /// SBI and CBI: bit `b` (0 to 7) of the register at the I/O address `a` becomes `on`, by a read and a write of the
 /// whole register. Two cycles. `Err` where one of the two stops.
-#[inline(always)]
+#[inline]
 #[tactic(auto, unfolding(crate::specs::MemoryShapes::sets_bit))]
 pub fn set_bit<B: Bus>(
     a: u8,

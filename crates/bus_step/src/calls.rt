@@ -8,7 +8,7 @@ use avr_base::{Reg, Sreg, StopCause};
 use data_space::{Bus, Core, Done, Registers, pair, pop_word, push_word};
 
 /// The pointer Z, r31:r30.
-#[inline(always)]
+#[inline]
 pub fn z_pointer(regs: &Registers) -> u16
     ensures { result ≡ pair_at 30 (general regs.now) }
 {
@@ -77,7 +77,7 @@ pub fn call_at_z<B: Bus>(
 }
 
 /// RET: the program goes on at the word address that is popped, after four cycles. `Err` where a read of it stops.
-#[inline(always)]
+#[inline]
 #[tactic(auto, unfolding(crate::specs::FlowShapes::returns))]
 pub fn ret<B: Bus>(regs: &mut Registers, core: &mut Core, bus: &mut B) -> Result<Done, StopCause>
     ensures { record { result = result; cpu = whole regs.new core.new; bus = bus.new } ≡ returns B.get_gives (whole regs.old core.old) bus.old }

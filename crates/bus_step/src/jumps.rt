@@ -11,7 +11,7 @@ use data_space::{Bus, Core, Done, Registers, load};
 use ihex_loader::Flash;
 
 // What an instruction other than SLEEP reports.
-#[inline(always)]
+#[inline]
 fn took(cycles: u8) -> Done
     ensures { result ≡ done cycles }
 {
@@ -22,7 +22,7 @@ fn took(cycles: u8) -> Done
 }
 
 /// The word address `k` words behind the next word, modulo 65,536.
-#[inline(always)]
+#[inline]
 pub fn relative_to(k: i16, core: &Core) -> u16
     ensures { result ≡ relative k (lone core.now) }
 {
@@ -30,7 +30,7 @@ pub fn relative_to(k: i16, core: &Core) -> u16
 }
 
 /// Whether bit `b` (0 to 7) of a byte is `on`.
-#[inline(always)]
+#[inline]
 pub fn bit(on: bool, b: u8, byte: u8) -> bool
     requires { b < 8 }
     ensures { result ≡ bit_is on b byte }
@@ -40,7 +40,7 @@ pub fn bit(on: bool, b: u8, byte: u8) -> bool
 }
 
 /// The program goes on at the word address `pc`, after so many cycles.
-#[inline(always)]
+#[inline]
 pub fn jump(cycles: u8, pc: u16, core: &mut Core) -> Done
     ensures { (result, core.new) ≡ reached (jumped cycles pc (lone core.old)) }
 {
@@ -50,7 +50,7 @@ pub fn jump(cycles: u8, pc: u16, core: &mut Core) -> Done
 
 /// A branch: where `on` the program goes on `k` words behind the next word, after two cycles; else with the next word,
 /// after one.
-#[inline(always)]
+#[inline]
 #[tactic(auto, unfolding(crate::specs::FlowShapes::branched))]
 pub fn branch(on: bool, k: i16, core: &mut Core) -> Done
     ensures { (result, core.new) ≡ reached (branched on k (lone core.old)) }
@@ -64,7 +64,7 @@ pub fn branch(on: bool, k: i16, core: &mut Core) -> Done
 }
 
 // The words by which the program goes on that leaves out the next instruction where `on`.
-#[inline(always)]
+#[inline]
 #[tactic(auto, unfolding(crate::specs::FlowShapes::skipping))]
 fn words_on(on: bool, flash: &Flash, core: &Core) -> u8
     ensures { result ≡ skipping flash.now.bytes on (lone core.now) }
@@ -78,7 +78,7 @@ fn words_on(on: bool, flash: &Flash, core: &Core) -> u8
 
 /// A skip: where `on` it leaves out the next instruction, of one word or two, and takes as many cycles more; else one
 /// cycle.
-#[inline(always)]
+#[inline]
 pub fn skip(on: bool, flash: &Flash, core: &mut Core) -> Done
     ensures { (result, core.new) ≡ reached (skipped flash.now.bytes on (lone core.old)) }
 {
@@ -89,7 +89,7 @@ pub fn skip(on: bool, flash: &Flash, core: &mut Core) -> Done
 
 /// SBIS and SBIC: a skip where bit `b` (0 to 7) of the register at the I/O address `a` is `on`. `Err` where its read
 /// stops.
-#[inline(always)]
+#[inline]
 #[tactic(auto, unfolding(crate::specs::FlowShapes::skips_by_io, crate::specs::FlowShapes::skipping))]
 pub fn skip_by_io<B: Bus>(
     a: u8,
@@ -109,7 +109,7 @@ pub fn skip_by_io<B: Bus>(
 
 /// SLEEP: the program goes on with the next word, after one cycle. The answer says that it was SLEEP, which the caller
 /// acts on.
-#[inline(always)]
+#[inline]
 pub fn sleep(core: &mut Core) -> Done
     ensures core { core.new ≡ core_of (advanced 1 (lone core.old)) }
     ensures reported { result ≡ record { cycles = 1; sleep = true } }

@@ -42,7 +42,7 @@ pub enum After {
 pub type Executed = (After, Option<Result<Done, StopCause>>);
 
 // The end of an instruction of one word on registers, after so many cycles.
-#[inline(always)]
+#[inline]
 fn retired(cycles: u8, core: &mut Core) -> Executed
     ensures core { core.new ≡ core_of (advanced 1 (lone core.old)) }
     ensures reported { result ≡ (after.Nothing, Some (Ok (done cycles))) }
@@ -51,7 +51,7 @@ fn retired(cycles: u8, core: &mut Core) -> Executed
 }
 
 // An instruction that cannot stop, and stores nothing.
-#[inline(always)]
+#[inline]
 fn ended(reported: Done) -> Executed
     ensures { result ≡ (after.Nothing, Some (Ok reported)) }
 {
@@ -59,7 +59,7 @@ fn ended(reported: Done) -> Executed
 }
 
 // A jump.
-#[inline(always)]
+#[inline]
 fn jumped(reported: Done) -> Executed
     ensures { result ≡ (after.Jump, Some (Ok reported)) }
 {
@@ -67,7 +67,7 @@ fn jumped(reported: Done) -> Executed
 }
 
 // An instruction that may stop, and stores nothing.
-#[inline(always)]
+#[inline]
 fn loaded(reported: Result<Done, StopCause>) -> Executed
     ensures { result ≡ (after.Nothing, Some reported) }
 {
@@ -75,7 +75,7 @@ fn loaded(reported: Result<Done, StopCause>) -> Executed
 }
 
 // An instruction that may stop, and stores a byte or sets a flag.
-#[inline(always)]
+#[inline]
 fn stored(reported: Result<Done, StopCause>) -> Executed
     ensures { result ≡ (after.Store, Some reported) }
 {
@@ -83,7 +83,7 @@ fn stored(reported: Result<Done, StopCause>) -> Executed
 }
 
 // SEI or RETI.
-#[inline(always)]
+#[inline]
 fn enabled(reported: Result<Done, StopCause>) -> Executed
     ensures { result ≡ (after.Enabled, Some reported) }
 {
