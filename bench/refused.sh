@@ -1,7 +1,8 @@
 #!/usr/bin/env bash
 # Runs by threads where the system refuses some of them, or all: bench/refused.sh [PROGRAM] (the program that ./avrora builds
 # where absent). As nobody, with room for 1, 2, 3, 5, 9 and 64 processes and threads in all, with little stack, and with an
-# address space for few stacks of threads, each run has to write what a run on one thread writes. It takes root, for setpriv.
+# address space for few stacks of threads, each run has to write what a run on one thread writes; in a small address space it may
+# end for want of memory, with status 6 and a prefix of that. It takes root, for setpriv.
 set -eu
 . "$(dirname "$0")/program.sh"
 cp "$program" "$work/program"
@@ -27,9 +28,19 @@ for scenario in relay.toml flood.toml make0.toml ring64.toml; do
         (ulimit -s "$stack" && ./program run "$scenario" >limited.out)
         cmp plain.out limited.out
     done
+    short=0
     for space in 50000 100000 200000 400000; do
-        (ulimit -v "$space" && ./program run "$scenario" >limited.out)
-        cmp plain.out limited.out
+        status=0
+        (ulimit -v "$space" && ./program run "$scenario" >limited.out 2>limited.err) || status=$?
+        if [ "$status" = 6 ]; then
+            # the stacks left too little for the rest: a prefix of what is due
+            cmp -n "$(stat -c %s limited.out)" plain.out limited.out
+            short=$((short + 1))
+        else
+            [ "$status" = 0 ]
+            cmp plain.out limited.out
+        fi
     done
-    echo "$scenario: the same with 1, 2, 3, 5, 9 and 64 threads allowed, with 1 and 2 MB of stack, and with 50 to 400 MB of addresses"
+    [ "$short" -lt 4 ]
+    echo "$scenario: the same with 1, 2, 3, 5, 9 and 64 threads allowed, with 1 and 2 MB of stack, and with 50 to 400 MB of addresses, $short of 4 out of memory"
 done
