@@ -1,7 +1,7 @@
 #!/usr/bin/env bash
 # Simulated cycles per second of `node`, and its peak memory: bench/run.sh [CYCLES [PROGRAM]] (10,000,000 where absent, the
-# most that `node` takes). It runs the program as ./avrora built it, or that one, five times for each image, and prints the
-# processor time in user mode of the fastest run.
+# most that `node` takes). It runs the program as ./avrora built it, or that one, ten times in a row for each image, five times so, and prints
+# the processor time in user mode of a run in the fastest row: the clock has steps of a hundredth of a second.
 # Where a C compiler, Debian's libsimavr-dev and avr-objcopy are installed, each image but those of the radio and of
 # sleep, at which simavr idles by the clock, runs on simavr right after, with the ratio of the two. Where valgrind is
 # installed, host instructions per AVR instruction follow, counted between 100,000 and 300,000 cycles; they hardly vary.
@@ -13,21 +13,22 @@ work=$(mktemp -d)
 trap 'rm -rf "$work"' EXIT
 [ -n "${2:-}" ] || "$top/avrora" node "$top/examples/two.hex" 1 >/dev/null
 
-# The fastest of five runs of a command: seconds and KiB.
+# A run of a command, in the fastest of five rows of ten: seconds and KiB.
 fastest() {
     best=
     for _ in 1 2 3 4 5; do
-        /usr/bin/env time -o "$work/time" -f '%U %M' "$@" >/dev/null 2>&1
+        /usr/bin/env time -o "$work/time" -f '%U %M' sh -c 'for _ in 1 2 3 4 5 6 7 8 9 10; do "$@"; done' row "$@" >/dev/null 2>&1
         read -r seconds kib <"$work/time"
+        seconds=$(awk "BEGIN { print $seconds / 10 }")
         if [ -z "$best" ] || awk "BEGIN { exit !($seconds < $best) }"; then best=$seconds; fi
     done
 }
 
-# A run that is too short for the clock is said to take a hundredth of a second at most.
+# A run that is too short for the clock is said to take a thousandth of a second at most.
 report() {
     awk -v c="$cycles" -v s="$best" -v k="$kib" -v n="$1" 'BEGIN {
-        below = s < 0.01 ? "under " : ""; if (s < 0.01) s = 0.01
-        printf "%s: %d cycles in %s%.2f s, %s%.1f million cycles a second, %d KiB at most\n", n, c, below, s, below == "" ? "" : "over ", c / s / 1e6, k }'
+        below = s < 0.001 ? "under " : ""; if (s < 0.001) s = 0.001
+        printf "%s: %d cycles in %s%.3f s, %s%.1f million cycles a second, %d KiB at most\n", n, c, below, s, below == "" ? "" : "over ", c / s / 1e6, k }'
 }
 
 peer=

@@ -38,10 +38,10 @@ class Figures(dict):
 def node_cells(row):
     """Time, simavr, ratio, host instructions, memory."""
     ours, peers = row["time"], row.get("peer")
-    ratio = span([p / max(o, 0.01) for o, p in zip(ours, peers)], 1) if peers else ""
-    time = "under 0.01 s" if max(ours) < 0.01 else span(ours, 2, " s")
+    ratio = span([p / max(o, 0.001) for o, p in zip(ours, peers)], 1) if peers else ""
+    time = "under 0.001 s" if max(ours) < 0.001 else span(ours, 3, " s")
     host = span(row["host"], 0) if "host" in row else ""
-    return [time, span(peers, 2, " s") if peers else "", ratio, host, span([it / 1024 for it in row["kib"]], 1, " MiB")]
+    return [time, span(peers, 3, " s") if peers else "", ratio, host, span([it / 1024 for it in row["kib"]], 1, " MiB")]
 
 
 def network_cells(row):
