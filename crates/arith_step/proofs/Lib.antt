@@ -1,3 +1,3 @@
 pub mod Carries
-pub mod Quiet
+pub mod KeepsI
 pub mod Signs
