@@ -3,3 +3,4 @@ pub mod FlowKeeps
 pub mod FlowTakes
 pub mod MemoryKeeps
 pub mod MemoryTakes
+pub mod Stops

@@ -49,7 +49,7 @@ fn decremented(p: Reg, regs: &Registers) -> u16
 
 /// Loads the byte at the data address `at` into rD, by an instruction of `words` words and `cycles` cycles. `Err` where
 /// the read stops.
-#[inline]
+#[inline(always)]
 #[tactic(auto, unfolding(crate::specs::MemoryShapes::loads))]
 pub fn load_at<B: Bus>(
     d: Reg,
