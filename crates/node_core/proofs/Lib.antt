@@ -18,6 +18,7 @@ pub mod Steps
 pub mod Sprints
 pub mod Cores
 pub mod Stills
+pub mod Stops
 pub mod Rounds
 pub mod Counting
 pub mod Borrows

@@ -1,5 +1,5 @@
 -- A sprint: what holds of it at the beginning of a cycle, and how a step takes it on or ends it.
-use Rattle.std.proofs.Common.{◌≡◌, ℕ, ◌+◌, ◌-◌, ◌≤◌, ◌<◌, ◌^◌, ◌++◌, nat_lt, Bool, cond, true, false, Option, Some, None, List, is_some, refl, sym, subst, ap, ◌∙◌, arith}
+use Rattle.std.proofs.Common.{◌≡◌, ℕ, ◌+◌, ◌-◌, ◌≤◌, ◌<◌, ◌^◌, ◌++◌, ◌&&◌, nat_le, nat_lt, Bool, cond, true, false, Option, Some, None, List, is_some, refl, sym, subst, ap, ◌∙◌, arith}
 use Rattle.std.proofs.lemmas.Bool.{false≢true}
 use Rattle.std.proofs.lemmas.Bool.Decides.{nat_tests}
 use Rattle.std.specs.Prelude.{vec_len, vec_capacity}
@@ -19,15 +19,13 @@ use Rattle.node_core.specs.declared.row.Row.{Row}
 use Rattle.node_core.specs.declared.row.Kind.TheVariants as kind
 use Rattle.avr_base.specs.declared.stop.StopCause.{StopCause}
 use Rattle.data_space.specs.declared.cpu.Core.{Core}
-use Rattle.data_space.specs.declared.cpu.Cpu.{Cpu}
 use Rattle.data_space.specs.declared.cpu.Registers.{Registers}
-use Rattle.data_space.specs.Core.{whole}
 use Rattle.serial_ports.specs.Script.{ScriptBytes, script_byte}
 use Rattle.node_core.specs.Bus.{with_board}
 use Rattle.node_core.specs.Cycle.{instructed, instructed_rows, node_kind, row}
 use Rattle.node_core.specs.Inside.{IsCalm, MayAct}
 use Rattle.node_core.specs.Interrupts.{due}
-use Rattle.node_core.specs.Midway.{IsActed, IsMidway, IsSprinted, IsSprinting, IsStepped, IsStopping, IsTurning, beside, over, owing}
+use Rattle.node_core.specs.Midway.{IsActed, IsMidway, IsSprinted, IsSprinting, IsStepped, IsStopping, IsTurning, beside, over, owing, turned_on}
 use Rattle.node_core.specs.Shown.{shown}
 use Rattle.node_core.specs.State.{NodeState}
 use Rattle.node_core.proofs.Acts.{one_more, one_row}
@@ -222,7 +220,7 @@ steps_on t at n old m w x h none p calm state others clock =
 
 -- one that stops
 pub stops : (t at : ℕ) (old m w new : Machine) (cause : StopCause) → IsSprinting t at old m → due (shown m) ≡ None → IsStopping at cause m w
-    → shown new ≡ (let u : NodeState = record (shown w) { stop = Some cause } in u) → new.rows.items ≡ w.rows.items ++ row at (shown w) (kind.Stop m.cpu.pc cause)
+    → shown new ≡ (let u : NodeState = record (shown w) { stop = Some cause } in u) → new.rows.items ≡ w.rows.items ++ row at (shown w) (kind.Stop w.cpu.pc cause)
     → vec_capacity new.rows ≡ vec_capacity w.rows → new.bus.board.clock ≡ w.bus.board.clock → IsSprinted t at true old new
 stops t at old m w new cause h none q state rows room clock =
     ends t at old m h new none record {
@@ -307,6 +305,11 @@ module _ (t end : ℕ) (first self : Machine) (regs : Registers) (core : Core) (
     carried =
         subst (λ (c : ℕ). IsStepped c n m (owing b (beside to on (on_board board)))) (sym stays_at)
         (subst (λ (x : Board). IsStepped self.bus.board.clock n m (owing b (beside to on (on_board x)))) (sym same) p)
+
+-- whether the flag I was turned on may be asked of any byte in which I is as it was
+pub stepped_on : (t n : ℕ) (m x : Machine) (flags before after : ℕ) (on : Bool) → nat_lt flags 128 ≡ nat_lt before 128 → on ≡ turned_on flags after
+    → IsStepped t n m (owing (turned_on before after) x) → IsStepped t n m (owing on x)
+stepped_on t n m x flags before after on same is = subst (λ (b : Bool). IsStepped t n m (owing b x)) (sym (is ∙ ap (λ (b : Bool). b && nat_le 128 after) same))
 
 -- behind an instruction none is owed that was owed up to it
 pub not_owed : (n k : ℕ) → k ≤ n + 1 → nat_lt (n + 1) k ≡ false

@@ -1,5 +1,6 @@
 -- A step of a sprint: the processor's part of its cycle, of an instruction that goes on.
 use Rattle.std.proofs.Common.{◌≡◌, ℕ, ◌+◌, ◌-◌, ◌≤◌, ◌&&◌, ◌++◌, nat_le, nat_lt, Bool, true, false, cond, Option, None, Some, List, [], is_some, append-nil, refl, sym, subst, ap, ◌∙◌, arith}
+use Rattle.std.proofs.lemmas.Bool.{false≢true}
 use Rattle.std.proofs.lemmas.Bool.Decides.{nat_tests}
 use Rattle.std.specs.Prelude.{Result, Ok, Err, IfOk, IfSome, IfNone, ◌||◌}
 use Rattle.avr_base.specs.declared.stop.StopCause.{StopCause}
@@ -25,12 +26,14 @@ use Rattle.node_core.specs.Cycle.{first_word, instructed, instructed_rows, is_id
 use Rattle.node_core.specs.Execute.{after_of, executed, is_plain}
 use Rattle.node_core.specs.Inside.{IsCalm, MayAct}
 use Rattle.node_core.specs.Interrupts.{due}
-use Rattle.node_core.specs.Midway.{IsActed, IsMidway, IsStep, IsStepped, IsStopping, counted, owing, step_of, turned_on}
+use Rattle.node_core.specs.Midway.{IsActed, IsMidway, IsStep, IsStepped, IsStopping, counted, leaves_i, owing, step_of, turned_on}
+use Rattle.node_core.specs.declared.sprint.Step.{Step}
 use Rattle.node_core.specs.Shown.{shown}
 use Rattle.node_core.specs.State.{NodeState}
 use Rattle.node_core.proofs.Clocks.{executed_clock}
-use Rattle.node_core.proofs.Quiet.{enables, is_enabled, may_turn_on, quiet}
+use Rattle.node_core.proofs.Quiet.{enables, is_enabled, keeps_i, may_change, quiet, single_cycle}
 use Rattle.node_core.proofs.Executes.{plain_awake, takes}
+use Rattle.node_core.proofs.Stops.{stops_there}
 use Rattle.node_core.proofs.Wakes.{wakes}
 use Rattle.node_core.proofs.Ran.{goes_on, ran, ran_rows}
 use Rattle.node_core.proofs.Strides.{passed_there}
@@ -104,14 +107,17 @@ module _ (t : ℕ) (m : Machine) (o : Op) (fetched : o ≡ op_now (shown m)) (pl
   pub stored_owes : is_enabled (after_of o) ≡ false → turned_on m.cpu.sreg.bits a.cpu.sreg.bits ≡ owes o m.cpu.sreg.bits a.cpu.sreg.bits
   stored_owes off = sym (ap (λ (s : Bool). s || turned_on m.cpu.sreg.bits a.cpu.sreg.bits) (enables o ∙ off))
 
-  pub quiet_owes : is_enabled (after_of o) ≡ false → may_turn_on (after_of o) ≡ false → false ≡ owes o m.cpu.sreg.bits a.cpu.sreg.bits
+  pub quiet_owes : is_enabled (after_of o) ≡ false → may_change (after_of o) ≡ false → false ≡ owes o m.cpu.sreg.bits a.cpu.sreg.bits
   quiet_owes off apart =
       sym (ap (λ (x : Outcome NodeBus). turned_on m.cpu.sreg.bits x.cpu.sreg.bits) done ∙ quiet flash o m.cpu m.bus apart) ∙ stored_owes off
 
   pub plain_stops : (cause : StopCause) → a.result ≡ Err cause → IsStopping t cause m (let x : Machine = record m { cpu = a.cpu; bus = a.bus } in x)
   plain_stops cause stop = record {
     state = ran t m o fetched runs may.now a flash kept done (Err cause) stop;
-    told = ran_rows t m o fetched runs may.now a flash kept done [] (Err cause) stop;
+    told =
+        let pc = ap (λ (x : Outcome NodeBus). x.cpu.pc) done ∙ stops_there bus_get bus_put flash o m.cpu m.bus cause (sym (ap (λ (x : Outcome NodeBus). x.result) done) ∙ stop) in
+        ap (λ (n : ℕ). row t (let x : NodeState = shown m in record x { cpu = a.cpu; bus = bus_at 0 a.bus }) (kind.Stop n cause)) pc
+        ∙ ran_rows t m o fetched runs may.now a flash kept done [] (Err cause) stop;
     same = refl;
     count = refl;
     clock = ap (λ (x : Outcome NodeBus). x.bus.board.clock) done ∙ executed_clock flash o m.cpu m.bus;
@@ -134,8 +140,12 @@ module _ (t : ℕ) (m : Machine) (o : Op) (fetched : o ≡ op_now (shown m)) (ma
     goes b owed = plain_goes t m o fetched plain may a flash kept some b owed d refl behind
 
     by_after : (k : After) → k ≡ after_of o → IsStep t (step_of k (Some (Ok d))) m (reached (m.count + 1))
-    by_after after.Nothing e = goes false (quiet_owes t m o fetched plain may a flash kept some (ap is_enabled (sym e)) (ap may_turn_on (sym e)))
-    by_after after.Jump e = goes false (quiet_owes t m o fetched plain may a flash kept some (ap is_enabled (sym e)) (ap may_turn_on (sym e)))
+    by_after after.Single e =
+        let one : d.cycles ≡ 1 = single_cycle flash o m.cpu m.bus d (sym e) (sym (ap (λ (x : Outcome NodeBus). x.result) some)) in
+        subst (λ (n : ℕ). IsStepped t n m (owing false (reached (m.count + 1)))) one
+        (goes false (quiet_owes t m o fetched plain may a flash kept some (ap is_enabled (sym e)) (ap may_change (sym e))))
+    by_after after.Nothing e = goes false (quiet_owes t m o fetched plain may a flash kept some (ap is_enabled (sym e)) (ap may_change (sym e)))
+    by_after after.Back e = goes false (quiet_owes t m o fetched plain may a flash kept some (ap is_enabled (sym e)) (ap may_change (sym e)))
     by_after after.Store e = goes (turned_on m.cpu.sreg.bits to.sreg.bits) (stored_owes t m o fetched plain may a flash kept some (ap is_enabled (sym e)))
     by_after after.Enabled e = goes true (enabled_owes t m o fetched plain may a flash kept some (ap is_enabled (sym e)))
 
@@ -145,6 +155,22 @@ module _ (t : ℕ) (m : Machine) (o : Op) (fetched : o ≡ op_now (shown m)) (ma
   did k (Some (Err cause)) e which some none =
       let a : Outcome NodeBus = record { result = Err cause; cpu = to; bus = there } in plain_stops t m o fetched (sym which) may a flash kept some cause refl
   did k (Some (Ok d)) e which some none = by_after d (sym which) some k e
+
+-- by which the flag I stays as it was
+pub leaves_flag : (flash : List ℕ) (o : Op) (from to : Cpu) (bus there : NodeBus) (k : After) (x : Option (Result Done StopCause)) → k ≡ after_of o
+    → IfSome x (λ (r : Result Done StopCause). (let a : Outcome NodeBus = record { result = r; cpu = to; bus = there } in a ≡ executed flash o from bus))
+    → (step : Step) → step ≡ step_of k x → leaves_i step ≡ true → nat_lt to.sreg.bits 128 ≡ nat_lt from.sreg.bits 128
+leaves_flag flash o from to bus there k None e some step is i = absurd (false≢true (sym (ap leaves_i is) ∙ i))
+leaves_flag flash o from to bus there k (Some (Err cause)) e some step is i = absurd (false≢true (sym (ap leaves_i is) ∙ i))
+leaves_flag flash o from to bus there k (Some (Ok d)) e some step is i =
+    ap (λ (x : Outcome NodeBus). nat_lt x.cpu.sreg.bits 128) some ∙ keeps_i flash o from bus (ap may_change (sym e) ∙ apart k d (sym (ap leaves_i is) ∙ i))
+  where
+    apart : (k : After) (d : Done) → leaves_i (step_of k (Some (Ok d))) ≡ true → may_change k ≡ false
+    apart after.Single d h = refl
+    apart after.Nothing d h = refl
+    apart after.Back d h = refl
+    apart after.Store d h = absurd (false≢true h)
+    apart after.Enabled d h = absurd (false≢true h)
 
 -- what is not executed leaves the parts of the core as they were
 pub as_it_was : (regs to : Registers) (core on : Core) (bus there : NodeBus) (x : Option (Result Done StopCause)) → IfNone x ((to ≡ regs) × (on ≡ core) × (there ≡ bus))

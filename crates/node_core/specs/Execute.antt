@@ -1,6 +1,6 @@
 -- The effect of one instruction on the core and the data space (AVR Instruction Set Manual), by its class: the tables
 -- of arith_step and bus_step. An instruction that halts changes nothing.
-use Rattle.std.specs.Prelude.{ℕ, ◌==◌, if◌then◌else◌, Bool, true, false, List, Result, Ok, Err}
+use Rattle.std.specs.Prelude.{ℕ, ◌==◌, ◌&&◌, ℤ, pos, negsuc, int_lt, int_le, if◌then◌else◌, Bool, true, false, List, Result, Ok, Err}
 use Rattle.avr_base.specs.declared.stop.StopCause.{StopCause}
 use Rattle.avr_decoder.specs.declared.op.Op.{Op}
 use Rattle.avr_decoder.specs.declared.op.Op.TheVariants as op
@@ -9,7 +9,7 @@ use Rattle.avr_decoder.specs.declared.op.Class.TheVariants as class
 use Rattle.avr_decoder.specs.Class.{class_of}
 use Rattle.data_space.specs.declared.cpu.Cpu.{Cpu}
 use Rattle.data_space.specs.Sequence.{Outcome}
-use Rattle.arith_step.specs.Table.{arith_cpu, arith_done}
+use Rattle.arith_step.specs.Table.{arith_cpu, arith_cycles, arith_done}
 use Rattle.bus_step.specs.FlowTable.{flow_effect}
 use Rattle.bus_step.specs.MemoryTable.{memory_effect}
 use Rattle.node_core.specs.declared.bus.NodeBus.{NodeBus}
@@ -45,16 +45,30 @@ abbrev pub is_plain : Op → Bool
 is_plain op.Sleep = false
 is_plain o = runs_on (class_of o)
 
--- what an instruction may leave that a loop over instructions looks at: a jump may go back, a store may be to SREG,
--- SEI and RETI turn the flag I on
+-- whether a jump over k words goes back, by at most eight
+abbrev pub is_short_back : ℤ → Bool
+is_short_back k = int_lt k (pos 0) && int_le (negsuc 7) k
+
+-- what is left of so many cycles alone, and of a jump over k words
+abbrev pub after_cycles : ℕ → After
+after_cycles n = if n == 1 then after.Single else after.Nothing
+
+abbrev pub after_jump : ℤ → After
+after_jump k = if is_short_back k then after.Back else after.Nothing
+
+abbrev pub after_class : Class → Op → After
+after_class class.Arith o = after_cycles (arith_cycles o)
+after_class _ o = after.Nothing
+
+-- what an instruction may leave that a loop over instructions looks at: a jump may go back, a store may be to SREG, one
+-- of the flags that BSET and BCLR change is I, SEI and RETI turn it on
 abbrev pub after_of : Op → After
 after_of (op.Bset s) = if s == 7 then after.Enabled else after.Store
+after_of (op.Bclr s) = after.Store
 after_of op.Reti = after.Enabled
-after_of (op.Jmp k) = after.Jump
-after_of (op.Rjmp k) = after.Jump
-after_of op.Ijmp = after.Jump
-after_of (op.Brbs s k) = after.Jump
-after_of (op.Brbc s k) = after.Jump
+after_of (op.Rjmp k) = after_jump k
+after_of (op.Brbs s k) = after_jump k
+after_of (op.Brbc s k) = after_jump k
 after_of (op.Call k) = after.Store
 after_of (op.Rcall k) = after.Store
 after_of op.Icall = after.Store
@@ -72,4 +86,4 @@ after_of (op.StZDec r) = after.Store
 after_of (op.Push r) = after.Store
 after_of (op.Sbi a b) = after.Store
 after_of (op.Cbi a b) = after.Store
-after_of _ = after.Nothing
+after_of o = after_class (class_of o) o

@@ -13,7 +13,7 @@ use Rattle.node_core.specs.declared.instructions.After.{After}
 use Rattle.node_core.specs.declared.instructions.After.TheVariants as after
 use Rattle.node_core.specs.declared.machine.Machine.{Machine}
 use Rattle.node_core.specs.declared.sprint.Step.{Step}
-use Rattle.node_core.specs.declared.sprint.Step.TheVariants.{Plain, Jumped, Stored, Enabled, Stopped, Left}
+use Rattle.node_core.specs.declared.sprint.Step.TheVariants.{Single, Plain, Jumped, Stored, Enabled, Stopped, Left}
 use Rattle.node_core.specs.declared.bus.NodeBus.{NodeBus}
 use Rattle.board_io.specs.Lines.{lines_of}
 use Rattle.node_core.specs.Inside.{IsGoing}
@@ -67,7 +67,7 @@ pub record IsStepped (t n : ℕ) (old new : Machine) : Type 0 where
 -- an instruction stopped in its first cycle, t; the row and the stop are still to be told
 pub record IsStopping (t : ℕ) (cause : StopCause) (old new : Machine) : Type 0 where
   pub state : (let u : NodeState = record (shown new) { stop = Some cause } in u) ≡ instructed t (shown old)
-  pub told : row t (shown new) (kind.Stop old.cpu.pc cause) ≡ instructed_rows t (shown old)
+  pub told : row t (shown new) (kind.Stop new.cpu.pc cause) ≡ instructed_rows t (shown old)
   pub same : new.rows ≡ old.rows
   pub count : new.count ≡ old.count
   pub clock : new.bus.board.clock ≡ old.bus.board.clock
@@ -91,8 +91,9 @@ over regs core bus count m = record m { cpu = whole regs core; bus = bus; count 
 abbrev pub step_of : After → Option (Result Done StopCause) → Step
 step_of k None = Left
 step_of k (Some (Err cause)) = Stopped cause
+step_of after.Single (Some (Ok d)) = Single
 step_of after.Nothing (Some (Ok d)) = Plain d.cycles
-step_of after.Jump (Some (Ok d)) = Jumped d.cycles
+step_of after.Back (Some (Ok d)) = Jumped d.cycles
 step_of after.Store (Some (Ok d)) = Stored d.cycles
 step_of after.Enabled (Some (Ok d)) = Enabled d.cycles
 
@@ -103,12 +104,20 @@ counted _ n = n
 
 -- what a step of a sprint did in cycle t, and whether an instruction is owed behind it
 abbrev pub IsStep : ℕ → Step → Machine → Machine → Type 0
+IsStep t Single old new = IsStepped t 1 old (owing false new)
 IsStep t (Plain n) old new = IsStepped t n old (owing false new)
 IsStep t (Jumped n) old new = IsStepped t n old (owing false new)
 IsStep t (Stored n) old new = IsStepped t n old (owing (turned_on old.cpu.sreg.bits new.cpu.sreg.bits) new)
 IsStep t (Enabled n) old new = IsStepped t n old (owing true new)
 IsStep t (Stopped cause) old new = IsStopping t cause old new
 IsStep t Left old new = new ≡ old
+
+-- whether a step leaves the flag I as it was
+abbrev pub leaves_i : Step → Bool
+leaves_i Single = true
+leaves_i (Plain n) = true
+leaves_i (Jumped n) = true
+leaves_i _ = false
 
 -- from cycle t on it executed instruction after instruction behind the window, and stands at the beginning of cycle
 -- `at`

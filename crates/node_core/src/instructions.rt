@@ -4,7 +4,7 @@ ghost use Rattle.data_space.specs.Core.{advanced, core_of, lone, whole};
 ghost use Rattle.data_space.specs.Sequence.{done};
 ghost use Rattle.avr_decoder.specs.declared.op.Op.TheVariants as op;
 ghost use Rattle.node_core.specs.declared.instructions.After.TheVariants as after;
-ghost use Rattle.node_core.specs.Execute.{after_of, executed_over, is_plain};
+ghost use Rattle.node_core.specs.Execute.{after_cycles, after_jump, after_of, executed_over, is_plain, is_short_back};
 
 use arith_step::shapes::{
     add, compare, compare_with_carry, copy, copy_pair, load_bit, multiply, put_bits, put_byte,
@@ -28,11 +28,13 @@ use ihex_loader::Flash;
 /// What an instruction may leave that a loop over instructions looks at.
 #[derive(Clone, Copy)]
 pub enum After {
-    /// Nothing: the program goes on, and the flag I is off if it was off.
+    /// Nothing, after one cycle: the program goes on, and the flag I is as it was.
+    Single,
+    /// Nothing, after its cycles: the program goes on, and the flag I is as it was.
     Nothing,
-    /// The program may go on further back.
-    Jump,
-    /// A store, which may be to SREG, or a flag that is set.
+    /// The program may go on a few words further back.
+    Back,
+    /// A store, which may be to SREG, or a flag that is set or cleared.
     Store,
     /// The flag I on, by SEI or RETI: the next instruction is executed before any interrupt.
     Enabled,
@@ -45,9 +47,13 @@ pub type Executed = (After, Option<Result<Done, StopCause>>);
 #[inline]
 fn retired(cycles: u8, core: &mut Core) -> Executed
     ensures core { core.new ≡ core_of (advanced 1 (lone core.old)) }
-    ensures reported { result ≡ (after.Nothing, Some (Ok (done cycles))) }
+    ensures reported { result ≡ (after_cycles cycles, Some (Ok (done cycles))) }
 {
-    ended(retire(1, cycles, core))
+    let reported = retire(1, cycles, core);
+    if cycles == 1 {
+        return (After::Single, Some(Ok(reported)));
+    }
+    ended(reported)
 }
 
 // An instruction that cannot stop, and stores nothing.
@@ -58,12 +64,27 @@ fn ended(reported: Done) -> Executed
     (After::Nothing, Some(Ok(reported)))
 }
 
-// A jump.
+// How many words a loop that waits has at most.
+const SHORT: i16 = 8;
+
+// Whether a jump over `k` words goes back, and not far.
 #[inline]
-fn jumped(reported: Done) -> Executed
-    ensures { result ≡ (after.Jump, Some (Ok reported)) }
+fn is_short_back(k: i16) -> bool
+    ensures { result ≡ is_short_back k }
 {
-    (After::Jump, Some(Ok(reported)))
+    k < 0 && k >= -SHORT
+}
+
+// A jump or a branch over `k` words.
+#[inline]
+fn jumped(k: i16, reported: Done) -> Executed
+    ensures { result ≡ (after_jump k, Some (Ok reported)) }
+{
+    if is_short_back(k) {
+        (After::Back, Some(Ok(reported)))
+    } else {
+        ended(reported)
+    }
 }
 
 // An instruction that may stop, and stores nothing.
@@ -74,7 +95,7 @@ fn loaded(reported: Result<Done, StopCause>) -> Executed
     (After::Nothing, Some(reported))
 }
 
-// An instruction that may stop, and stores a byte or sets a flag.
+// An instruction that may stop, and stores a byte, or sets or clears a flag.
 #[inline]
 fn stored(reported: Result<Done, StopCause>) -> Executed
     ensures { result ≡ (after.Store, Some reported) }
@@ -173,15 +194,14 @@ pub fn execute_plain<B: Bus>(
         Op::Mov { d, r } => retired(copy(d, reg(regs, r), regs), core),
         Op::Ldi { d, k } => retired(copy(d, k, regs), core),
         Op::Movw { d, r } => retired(copy_pair(d, r, regs), core),
-        Op::Bclr { s } => retired(set_flag(s % 8, false, core), core),
         Op::Bld { d, b } => retired(load_bit(d, b % 8, regs, core), core),
         Op::Bst { d, b } => retired(store_bit(d, b % 8, regs, core), core),
         Op::Nop | Op::Wdr => retired(1, core),
-        Op::Jmp { k } => jumped(jump(3, k, core)),
-        Op::Rjmp { k } => jumped(jump(2, relative_to(k, core), core)),
-        Op::Ijmp => jumped(jump(2, z_pointer(regs), core)),
-        Op::Brbs { s, k } => jumped(branch(bit(true, s % 8, core.sreg.bits), k, core)),
-        Op::Brbc { s, k } => jumped(branch(bit(false, s % 8, core.sreg.bits), k, core)),
+        Op::Jmp { k } => ended(jump(3, k, core)),
+        Op::Rjmp { k } => jumped(k, jump(2, relative_to(k, core), core)),
+        Op::Ijmp => ended(jump(2, z_pointer(regs), core)),
+        Op::Brbs { s, k } => jumped(k, branch(bit(true, s % 8, core.sreg.bits), k, core)),
+        Op::Brbc { s, k } => jumped(k, branch(bit(false, s % 8, core.sreg.bits), k, core)),
         Op::Cpse { d, r } => ended(skip(reg(regs, d) == reg(regs, r), flash, core)),
         Op::Sbrs { r, b } => ended(skip(bit(true, b % 8, reg(regs, r)), flash, core)),
         Op::Sbrc { r, b } => ended(skip(bit(false, b % 8, reg(regs, r)), flash, core)),
@@ -239,6 +259,7 @@ pub fn execute_plain<B: Bus>(
         Op::ElpmR0 => ended(load_extended(Reg::numbered(0), flash, regs, core)),
         Op::ElpmZ { d } => ended(load_extended(d, flash, regs, core)),
         Op::ElpmZInc { d } => ended(load_extended_post_increment(d, flash, regs, core)),
+        Op::Bclr { s } => stored(Ok(retire(1, set_flag(s % 8, false, core), core))),
         Op::Bset { s } => flag_set(s, retire(1, set_flag(s % 8, true, core), core)),
         Op::Reti => enabled(reti(regs, core, bus)),
         _ => (After::Nothing, None),
@@ -285,4 +306,35 @@ pub fn execute<B: Bus>(
     };
     *cpu = Cpu::of_parts(&regs, core);
     result
+}
+
+/// Executes an instruction as [`execute`] does. For those of the commonest loops that wait, of which a trial executes
+/// few, the frame of the whole table would cost more than they do.
+#[inline]
+#[tactic(auto, unfolding(crate::specs::Execute::executed_over, bus_step::specs::FlowTable::flow_effect))]
+pub fn execute_waiting<B: Bus>(
+    op: &Op,
+    flash: &Flash,
+    cpu: &mut Cpu,
+    bus: &mut B,
+) -> Result<Done, StopCause>
+    ensures outcome { record { result = result; cpu = cpu.new; bus = bus.new } ≡ executed_over B.get_gives B.put_gives flash.now.bytes op.now cpu.old bus.old }
+{
+    match *op {
+        Op::Rjmp { k } => {
+            let (_, mut core) = cpu.parts();
+            let done = jump(2, relative_to(k, &core), &mut core);
+            cpu.pc = core.pc;
+            Ok(done)
+        }
+        Op::Sbis { a, b } | Op::Sbic { a, b } => {
+            let on = matches!(op, Op::Sbis { .. });
+            let (regs, mut core) = cpu.parts();
+            let result = skip_by_io(a, b % 8, on, flash, &regs, &mut core, bus);
+            cpu.sreg = core.sreg;
+            cpu.pc = core.pc;
+            result
+        }
+        _ => execute(op, flash, cpu, bus),
+    }
 }

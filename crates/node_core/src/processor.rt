@@ -62,6 +62,7 @@ fn is_other(mode: Sleep) -> bool
 }
 
 // Whether an instruction is owed before the next interrupt is entered. SEI and RETI leave I set, so without it none is.
+#[inline(always)]
 pub fn owes(op: &Op, before: u8, after: u8) -> bool
     requires { is_sei op.now ≡ true → 128 ≤ after }
     ensures { result ≡ owes op.now before after }

@@ -1,8 +1,8 @@
 // Instructions of a node, one behind another, while nothing is due.
-ghost use Rattle.std.specs.Prelude.{◌≡◌, ◌≤◌, ◌<◌, ◌+◌, ◌^◌, nat_lt, ℕ, None};
+ghost use Rattle.std.specs.Prelude.{◌≡◌, ◌≤◌, ◌<◌, ◌+◌, ◌^◌, nat_lt, ℕ, None, true};
 ghost use Rattle.node_core.specs.Inside.{MayAct};
 ghost use Rattle.node_core.specs.Interrupts.{due};
-ghost use Rattle.node_core.specs.Midway.{IsSprinted, IsSprinting, IsStep, IsStepped, beside, counted, over, owing, step_of, turned_on};
+ghost use Rattle.node_core.specs.Midway.{IsSprinted, IsSprinting, IsStep, IsStepped, beside, counted, leaves_i, over, owing, step_of, turned_on};
 ghost use Rattle.node_core.specs.Shown.{shown};
 ghost use Rattle.node_core.specs.declared.machine.Machine.{Machine};
 ghost use Rattle.avr_program.specs.Program.{slots_below};
@@ -26,11 +26,13 @@ pub struct Sprinted {
 /// What a step of a sprint did.
 #[derive(Clone, Copy)]
 pub enum Step {
-    /// It executed an instruction of so many cycles, which did not turn the flag I on.
+    /// It executed an instruction of one cycle, which left the flag I as it was.
+    Single,
+    /// Such an instruction of so many cycles.
     Plain { taken: u8 },
-    /// Such an instruction, after which the program may go on further back.
+    /// Such an instruction of so many cycles, after which the program may go on a few words further back.
     Jumped { taken: u8 },
-    /// An instruction of so many cycles that stored a byte, maybe to SREG, or set a flag.
+    /// An instruction of so many cycles that stored a byte, maybe to SREG, or set or cleared a flag.
     Stored { taken: u8 },
     /// SEI or RETI, of so many cycles.
     Enabled { taken: u8 },
@@ -39,9 +41,6 @@ pub enum Step {
     /// It left an instruction that is none of a sprint's.
     Left,
 }
-
-// How many words a loop that waits has at most.
-const SHORT: u16 = 8;
 
 // How many short jumps back are not looked at behind one at which no loop waits.
 const UNSEEN: u8 = 6;
@@ -68,8 +67,9 @@ fn told(after: After, executed: Option<Result<Done, StopCause>>, count: &mut u64
             let taken = done.cycles;
             *count += 1;
             match after {
+                After::Single => Step::Single,
                 After::Nothing => Step::Plain { taken },
-                After::Jump => Step::Jumped { taken },
+                After::Back => Step::Jumped { taken },
                 After::Store => Step::Stored { taken },
                 After::Enabled => Step::Enabled { taken },
             }
@@ -91,8 +91,9 @@ fn one_step(
 ) -> Step
     requires slots { slots.now ≡ slots_below 65536 program.now.bytes }
     requires few { count.old ≤ 2 ^ 41 }
-    ensures { (m : Machine) → m.program ≡ program.now → MayAct bus.old.board.clock (over regs.old core.old bus.old count.old m) → m.to ≤ bus.old.board.clock
+    ensures step { (m : Machine) → m.program ≡ program.now → MayAct bus.old.board.clock (over regs.old core.old bus.old count.old m) → m.to ≤ bus.old.board.clock
         → IsStep bus.old.board.clock result (over regs.old core.old bus.old count.old m) (over regs.new core.new bus.new count.new m) }
+    ensures flag { leaves_i result ≡ true → nat_lt core.new.sreg.bits 128 ≡ nat_lt core.old.sreg.bits 128 }
 {
     let op = program.op_at(slots, core.pc);
     let (after, executed) = execute_plain(op, program.flash(), regs, core, bus);
@@ -165,14 +166,14 @@ impl Machine {
         }
         // beside the machine, so that the host has SREG and the program counter in registers of its own
         let (mut regs, mut core) = self.cpu.parts();
+        // SREG behind the last instruction that may have changed the flag I
+        let mut flags = core.sreg.bits;
         let mut unseen = 0;
         // Up to this count of instructions one is owed before an interrupt, which shows once the sprint ends.
         let mut owed_to = 0;
         loop {
             let slots = self.program.slots();
             loop {
-                let pc = core.pc;
-                let before = core.sreg.bits;
                 match one_step(
                     &self.program,
                     slots,
@@ -181,6 +182,11 @@ impl Machine {
                     &mut self.bus,
                     &mut self.count,
                 ) {
+                    Step::Single => {
+                        if !self.bus.board.leap_clear(end, 1) {
+                            return self.end_sprint(&regs, core, end, 1, false);
+                        }
+                    }
                     Step::Plain { taken } => {
                         if !self.bus.board.leap_clear(end, taken) {
                             return self.end_sprint(&regs, core, end, taken, false);
@@ -190,15 +196,14 @@ impl Machine {
                         if !self.bus.board.leap_clear(end, taken) {
                             return self.end_sprint(&regs, core, end, taken, false);
                         }
-                        if pc.wrapping_sub(core.pc) < SHORT {
-                            if unseen == 0 {
-                                break;
-                            }
-                            unseen -= 1;
+                        if unseen == 0 {
+                            break;
                         }
+                        unseen -= 1;
                     }
                     Step::Stored { taken } => {
-                        let on = turned_on(before, core.sreg.bits);
+                        let on = turned_on(flags, core.sreg.bits);
+                        flags = core.sreg.bits;
                         if !self.bus.board.leap_clear(end, taken) {
                             return self.end_sprint(&regs, core, end, taken, on);
                         }
@@ -210,6 +215,7 @@ impl Machine {
                         if !self.bus.board.leap_clear(end, taken) {
                             return self.end_sprint(&regs, core, end, taken, true);
                         }
+                        flags = core.sreg.bits;
                         owed_to = self.count + 1;
                     }
                     Step::Left => {
@@ -218,7 +224,7 @@ impl Machine {
                     }
                     Step::Stopped { cause } => {
                         let at = self.gather(&regs, core, owed_to);
-                        self.halt(at, pc, cause);
+                        self.halt(at, core.pc, cause);
                         return Sprinted { at, inside: true };
                     }
                 }
@@ -228,6 +234,7 @@ impl Machine {
                 unseen = UNSEEN;
             }
             (regs, core) = self.cpu.parts();
+            flags = core.sreg.bits;
             owed_to = 0;
         }
     }

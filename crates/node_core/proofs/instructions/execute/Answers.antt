@@ -1,7 +1,4 @@
-use Rattle.std.proofs.Common.{◌≤◌, sym, subst}
-use Rattle.std.specs.Prelude.{Result, IfOk}
-use Rattle.avr_base.specs.declared.stop.StopCause.{StopCause}
-use Rattle.data_space.specs.declared.bus.Done.{Done}
+use Rattle.std.proofs.Common.{sym, subst}
 use Rattle.node_core.proofs.Executes.{Takes, some_takes, takes}
 use Rattle.node_core.proofs.instructions.execute.Goals.{in_default-Some, in_default-None}
 use Rattle.node_core.proofs.instructions.execute.Goals as goal

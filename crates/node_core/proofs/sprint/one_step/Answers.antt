@@ -1,15 +1,16 @@
-use Rattle.std.proofs.Common.{◌≡◌, ℕ, sym, subst, ap, ◌∙◌}
+use Rattle.std.proofs.Common.{ℕ, sym, subst, ap, ◌∙◌}
 use Rattle.node_core.specs.declared.machine.Machine.{Machine}
 use Rattle.node_core.specs.declared.sprint.Step.{Step}
 use Rattle.avr_program.specs.Program.{op_of}
+use Rattle.data_space.specs.declared.cpu.Cpu.{Cpu}
 use Rattle.data_space.specs.Core.{whole}
 use Rattle.ihex_loader.specs.Flash.{Image}
 use Rattle.node_core.specs.Midway.{IsStep, over, step_of}
-use Rattle.node_core.proofs.Steps.{as_it_was, did}
+use Rattle.node_core.proofs.Steps.{as_it_was, did, leaves_flag}
 use Rattle.node_core.proofs.sprint.one_step.Goals as goal
 
-pub returns : goal.returns
-returns c first same may behind =
+pub returns-clause-step : goal.returns-clause-step
+returns-clause-step c first same may behind =
     let e = c.execute_plain-after.ensures in
     let x = c.execute_plain-after.new in
     let a = c.args in
@@ -21,3 +22,12 @@ returns c first same may behind =
     o.0 o.1 e.after e.which e.some (as_it_was a.regs.now x.regs a.core.now x.core a.bus.now x.bus o.1 e.none) in
     subst (λ (k : Step). IsStep t k m (over x.regs x.core x.bus c.told.new.count first)) (sym c.told.ensures.step)
     (subst (λ (n : ℕ). IsStep t (step_of o.0 o.1) m (over x.regs x.core x.bus n first)) (sym c.told.ensures.count) there)
+
+pub returns-clause-flag : goal.returns-clause-flag
+returns-clause-flag c =
+    let e = c.execute_plain-after.ensures in
+    let x = c.execute_plain-after.new in
+    let a = c.args in
+    let o = c.execute_plain-after.result in
+    let from : Cpu = whole a.regs.now a.core.now in
+    leaves_flag c.flash.result.now.bytes c.op_at-op.result.now from (whole x.regs x.core) a.bus.now x.bus o.0 o.1 e.after e.some c.told.result c.told.ensures.step

@@ -1,7 +1,6 @@
-use Rattle.std.proofs.Common.{◌≡◌, ℕ, ◌+◌, ◌-◌, ◌≤◌, ◌<◌, ◌^◌, ◌++◌, nat_lt, Bool, true, false, refl, sym, subst, ap, ◌∙◌, arith}
+use Rattle.std.proofs.Common.{◌≡◌, ℕ, ◌+◌, ◌++◌, nat_lt, Bool, true, false, refl, sym, subst, ap, ◌∙◌, arith}
 use Rattle.std.specs.Prelude.{vec_len, vec_capacity}
 use Rattle.avr_base.specs.declared.interrupts.Lines.{Lines}
-use Rattle.board_io.specs.declared.board.Board.{Board}
 use Rattle.data_space.specs.declared.cpu.Core.{Core}
 use Rattle.data_space.specs.declared.cpu.Registers.{Registers}
 use Rattle.data_space.specs.Core.{whole}
@@ -10,9 +9,9 @@ use Rattle.node_core.specs.Bus.{with_board}
 use Rattle.node_core.specs.Cycle.{row}
 use Rattle.node_core.specs.declared.machine.Machine.{Machine}
 use Rattle.node_core.specs.Shown.{shown}
-use Rattle.node_core.specs.Midway.{IsSprinted, IsSprinting, IsStepped, IsStopping, IsTurning, beside, over, owing, turned_on}
+use Rattle.node_core.specs.Midway.{IsSprinted, IsSprinting, IsStopping, beside, over, owing}
 use Rattle.node_core.specs.declared.row.Kind.TheVariants as kind
-use Rattle.node_core.proofs.Sprints.{acts, at_it, begins, carried, clear_due, joins, may, moved, none_owed, not_owed, silent, stands, stays, stays_at, still_owed, stops, turn_free, turned, turning}
+use Rattle.node_core.proofs.Sprints.{acts, at_it, begins, carried, clear_due, joins, may, moved, none_owed, not_owed, silent, stands, stays, stays_at, stepped_on, still_owed, stops, turn_free, turned, turning}
 use Rattle.node_core.proofs.machine.Machine.sprint.Goals as goal
 
 pub returns-then-cycle-self-clause-sprinted : goal.returns-then-cycle-self-clause-sprinted
@@ -20,8 +19,8 @@ returns-then-cycle-self-clause-sprinted c =
     let r = c.requires in
     stands c.args.cycle c.args.self.now r.may.going r.may.free r.may.awake r.may.now r.may.few
 
-pub loop-taken-init : goal.loop-taken-init
-loop-taken-init c =
+pub loop-self-init : goal.loop-self-init
+loop-self-init c =
     let r = c.requires in
     let m : Machine = c.args.self.now in
     let behind = c.if-cycle-self.false in
@@ -31,214 +30,248 @@ loop-taken-init c =
     let parts : m ≡ owing false (beside c.parts.result.0 c.parts.result.1 m) =
     λ i. let x : Machine = record m { cpu = (ap (λ (k : Registers × Core). whole k.0 k.1) (sym c.parts.ensures)) i; owed = c.if-self.false i } in x in
     record {
-      within = omega (arith, now, within);
-      off = c.if-self.false;
-      clear = ap (λ (l : Lines). l.bits) (sym c.lines.ensures) ∙ c.if-lines-ne0.false;
-      top = omega arith;
-      runs = subst (λ (b : Bool). IsSprinting c.args.cycle m.bus.board.clock m (owing b (beside c.parts.result.0 c.parts.result.1 m))) (sym (none_owed m.count))
-          (subst (λ (x : Machine). IsSprinting c.args.cycle m.bus.board.clock m x) parts (subst (λ (u : ℕ). IsSprinting c.args.cycle u m m) (sym now) first));
+      turning = record {
+        within = omega (arith, now, within);
+        off = c.if-self.false;
+        clear = ap (λ (l : Lines). l.bits) (sym c.lines.ensures) ∙ c.if-lines-ne0.false;
+        top = omega arith;
+        runs = subst (λ (b : Bool). IsSprinting c.args.cycle m.bus.board.clock m (owing b (beside c.parts.result.0 c.parts.result.1 m))) (sym (none_owed m.count))
+            (subst (λ (x : Machine). IsSprinting c.args.cycle m.bus.board.clock m x) parts (subst (λ (u : ℕ). IsSprinting c.args.cycle u m m) (sym now) first));
+      };
+      flag = refl;
     }
 
-pub loop-taken-2-init : goal.loop-taken-2-init
-loop-taken-2-init c = record {
-  turning = c.loop-taken.invariant;
+pub loop-self-2-init : goal.loop-self-2-init
+loop-self-2-init c = record {
+  turning = c.loop-self.invariant.turning;
   slots = c.slots-slots.ensures;
+  flag = c.loop-self.invariant.flag;
   on = omega arith;
 }
 
 pub one_step-requires-clause-few : goal.one_step-requires-clause-few
 one_step-requires-clause-few c =
-    let h = c.loop-taken-2.invariant.turning in
+    let h = c.loop-self-2.invariant.turning in
     let few = h.runs.count in
     let within = h.within in
     omega (arith, few, within, c.requires.early)
 
-pub leap_clear-requires : goal.leap_clear-requires
-leap_clear-requires c =
-    let l = c.loop-taken-2 in
-    let self : Machine = record c.loop-taken.self { bus = l.self.1.1.1.1.1.1.1.0; count = l.self.1.1.1.1.1.1.1.1.1.1.1.1.0 } in
-    let h = l.invariant.turning in
-    let s = c.one_step.new in
-    let m : Machine = turning self l.regs l.core l.owed_to in
-    let p = c.in-Plain.ensures m refl (acts c.args.cycle c.args.end c.args.self.now self l.regs l.core l.owed_to h c.requires.early c.requires.may.room) h.runs.behind in
-    record { some = p.some }
-
-pub end_sprint-requires-clause-some : goal.end_sprint-requires-clause-some
-end_sprint-requires-clause-some c =
-    let l = c.loop-taken-2 in
-    let self : Machine = record c.loop-taken.self { bus = l.self.1.1.1.1.1.1.1.0; count = l.self.1.1.1.1.1.1.1.1.1.1.1.1.0 } in
-    let h = l.invariant.turning in
-    let s = c.one_step.new in
-    let m : Machine = turning self l.regs l.core l.owed_to in
-    let p = c.in-Plain.ensures m refl (acts c.args.cycle c.args.end c.args.self.now self l.regs l.core l.owed_to h c.requires.early c.requires.may.room) h.runs.behind in
-    p.some
-
 pub end_sprint-requires-clause-early : goal.end_sprint-requires-clause-early
 end_sprint-requires-clause-early c =
-    let l = c.loop-taken-2 in
-    let self : Machine = record c.loop-taken.self { bus = l.self.1.1.1.1.1.1.1.0; count = l.self.1.1.1.1.1.1.1.1.1.1.1.1.0 } in
-    let h = l.invariant.turning in
-    let s = c.one_step.new in
-    let m : Machine = turning self l.regs l.core l.owed_to in
-    let p = c.in-Plain.ensures m refl (acts c.args.cycle c.args.end c.args.self.now self l.regs l.core l.owed_to h c.requires.early c.requires.may.room) h.runs.behind in
-    let at = stays_at c.args.cycle c.args.end c.args.self.now self l.regs l.core l.owed_to h c.in-Plain.taken s.regs s.core s.bus s.count false p c.leap_clear.new.self (c.if-not-leap_clear.ensures.same refl) in
+    let l = c.loop-self-2 in
+    let self : Machine = record c.loop-self.self { bus = l.self.1.1.1.1.1.1.1.0; count = l.self.1.1.1.1.1.1.1.1.1.1.1.1.0 } in
+    let h = l.invariant.turning in let s = c.one_step.new in let m : Machine = turning self l.regs l.core l.owed_to in
+    let p = c.in-Single.ensures.step m refl (acts c.args.cycle c.args.end c.args.self.now self l.regs l.core l.owed_to h c.requires.early c.requires.may.room) h.runs.behind in
+    let at = stays_at c.args.cycle c.args.end c.args.self.now self l.regs l.core l.owed_to h 1 s.regs s.core s.bus s.count false p c.leap_clear.new.self (c.if-not-leap_clear.ensures.same refl) in
     let within = h.within in omega (arith, at, within, c.requires.early)
 
 pub end_sprint-requires-clause-within : goal.end_sprint-requires-clause-within
 end_sprint-requires-clause-within c =
-    let l = c.loop-taken-2 in
-    let self : Machine = record c.loop-taken.self { bus = l.self.1.1.1.1.1.1.1.0; count = l.self.1.1.1.1.1.1.1.1.1.1.1.1.0 } in
-    let h = l.invariant.turning in
-    let s = c.one_step.new in
-    let m : Machine = turning self l.regs l.core l.owed_to in
-    let p = c.in-Plain.ensures m refl (acts c.args.cycle c.args.end c.args.self.now self l.regs l.core l.owed_to h c.requires.early c.requires.may.room) h.runs.behind in
-    let at = stays_at c.args.cycle c.args.end c.args.self.now self l.regs l.core l.owed_to h c.in-Plain.taken s.regs s.core s.bus s.count false p c.leap_clear.new.self (c.if-not-leap_clear.ensures.same refl) in
+    let l = c.loop-self-2 in
+    let self : Machine = record c.loop-self.self { bus = l.self.1.1.1.1.1.1.1.0; count = l.self.1.1.1.1.1.1.1.1.1.1.1.1.0 } in
+    let h = l.invariant.turning in let s = c.one_step.new in let m : Machine = turning self l.regs l.core l.owed_to in
+    let p = c.in-Single.ensures.step m refl (acts c.args.cycle c.args.end c.args.self.now self l.regs l.core l.owed_to h c.requires.early c.requires.may.room) h.runs.behind in
+    let at = stays_at c.args.cycle c.args.end c.args.self.now self l.regs l.core l.owed_to h 1 s.regs s.core s.bus s.count false p c.leap_clear.new.self (c.if-not-leap_clear.ensures.same refl) in
     let within = h.within in omega (arith, at, within)
 
 pub end_sprint-requires-clause-none : goal.end_sprint-requires-clause-none
 end_sprint-requires-clause-none c k late =
-    let l = c.loop-taken-2 in
-    let self : Machine = record c.loop-taken.self { bus = l.self.1.1.1.1.1.1.1.0; count = l.self.1.1.1.1.1.1.1.1.1.1.1.1.0 } in
-    let h = l.invariant.turning in
-    let s = c.one_step.new in
-    let m : Machine = turning self l.regs l.core l.owed_to in
-    let p = c.in-Plain.ensures m refl (acts c.args.cycle c.args.end c.args.self.now self l.regs l.core l.owed_to h c.requires.early c.requires.may.room) h.runs.behind in
-    let at = stays_at c.args.cycle c.args.end c.args.self.now self l.regs l.core l.owed_to h c.in-Plain.taken s.regs s.core s.bus s.count false p c.leap_clear.new.self (c.if-not-leap_clear.ensures.same refl) in
+    let l = c.loop-self-2 in
+    let self : Machine = record c.loop-self.self { bus = l.self.1.1.1.1.1.1.1.0; count = l.self.1.1.1.1.1.1.1.1.1.1.1.1.0 } in
+    let h = l.invariant.turning in let s = c.one_step.new in let m : Machine = turning self l.regs l.core l.owed_to in
+    let p = c.in-Single.ensures.step m refl (acts c.args.cycle c.args.end c.args.self.now self l.regs l.core l.owed_to h c.requires.early c.requires.may.room) h.runs.behind in
+    let at = stays_at c.args.cycle c.args.end c.args.self.now self l.regs l.core l.owed_to h 1 s.regs s.core s.bus s.count false p c.leap_clear.new.self (c.if-not-leap_clear.ensures.same refl) in
     let from = h.runs.from in
     silent c.args.cycle c.leap_clear.new.self.clock c.args.end c.args.self.now (record self { bus = with_board s.bus c.leap_clear.new.self; count = s.count }) h.runs.script (omega (arith, from, at)) c.requires.none k late
 
 pub returns-then-not-leap_clear-clause-sprinted : goal.returns-then-not-leap_clear-clause-sprinted
 returns-then-not-leap_clear-clause-sprinted c =
-    let l = c.loop-taken-2 in
-    let self : Machine = record c.loop-taken.self { bus = l.self.1.1.1.1.1.1.1.0; count = l.self.1.1.1.1.1.1.1.1.1.1.1.1.0 } in
-    let h = l.invariant.turning in
-    let s = c.one_step.new in
-    let m : Machine = turning self l.regs l.core l.owed_to in
-    let p = c.in-Plain.ensures m refl (acts c.args.cycle c.args.end c.args.self.now self l.regs l.core l.owed_to h c.requires.early c.requires.may.room) h.runs.behind in
+    let l = c.loop-self-2 in
+    let self : Machine = record c.loop-self.self { bus = l.self.1.1.1.1.1.1.1.0; count = l.self.1.1.1.1.1.1.1.1.1.1.1.1.0 } in
+    let h = l.invariant.turning in let s = c.one_step.new in let m : Machine = turning self l.regs l.core l.owed_to in
+    let p = c.in-Single.ensures.step m refl (acts c.args.cycle c.args.end c.args.self.now self l.regs l.core l.owed_to h c.requires.early c.requires.may.room) h.runs.behind in
     let same = c.if-not-leap_clear.ensures.same refl in
-    c.end_sprint.ensures.sprinted c.args.cycle c.args.self.now m (at_it c.args.cycle c.args.end c.args.self.now self l.regs l.core l.owed_to h c.in-Plain.taken s.regs s.core s.bus s.count false p c.leap_clear.new.self same) (turn_free c.args.cycle c.args.end c.args.self.now self l.regs l.core l.owed_to h c.in-Plain.taken s.regs s.core s.bus s.count false p) (carried c.args.cycle c.args.end c.args.self.now self l.regs l.core l.owed_to h c.in-Plain.taken s.regs s.core s.bus s.count false p c.leap_clear.new.self same)
+    c.end_sprint.ensures.sprinted c.args.cycle c.args.self.now m (at_it c.args.cycle c.args.end c.args.self.now self l.regs l.core l.owed_to h 1 s.regs s.core s.bus s.count false p c.leap_clear.new.self same) (turn_free c.args.cycle c.args.end c.args.self.now self l.regs l.core l.owed_to h 1 s.regs s.core s.bus s.count false p) (carried c.args.cycle c.args.end c.args.self.now self l.regs l.core l.owed_to h 1 s.regs s.core s.bus s.count false p c.leap_clear.new.self same)
 
-pub loop-taken-2-smaller-else-not-leap_clear : goal.loop-taken-2-smaller-else-not-leap_clear
-loop-taken-2-smaller-else-not-leap_clear c =
-    let l = c.loop-taken-2 in
-    let self : Machine = record c.loop-taken.self { bus = l.self.1.1.1.1.1.1.1.0; count = l.self.1.1.1.1.1.1.1.1.1.1.1.1.0 } in
-    let h = l.invariant.turning in
-    let s = c.one_step.new in
-    let m : Machine = turning self l.regs l.core l.owed_to in
-    let p = c.in-Plain.ensures m refl (acts c.args.cycle c.args.end c.args.self.now self l.regs l.core l.owed_to h c.requires.early c.requires.may.room) h.runs.behind in
+pub loop-self-2-smaller-else-not-leap_clear : goal.loop-self-2-smaller-else-not-leap_clear
+loop-self-2-smaller-else-not-leap_clear c =
+    let l = c.loop-self-2 in
+    let self : Machine = record c.loop-self.self { bus = l.self.1.1.1.1.1.1.1.0; count = l.self.1.1.1.1.1.1.1.1.1.1.1.1.0 } in
+    let h = l.invariant.turning in let s = c.one_step.new in let m : Machine = turning self l.regs l.core l.owed_to in
+    let p = c.in-Single.ensures.step m refl (acts c.args.cycle c.args.end c.args.self.now self l.regs l.core l.owed_to h c.requires.early c.requires.may.room) h.runs.behind in
     let e = c.if-not-leap_clear.ensures in
-    let moves = moved c.args.cycle c.args.end c.args.self.now self l.regs l.core l.owed_to h c.in-Plain.taken s.regs s.core s.bus s.count false p c.requires.none c.leap_clear.new.self (e.within refl) (e.idle refl) (e.state refl) (e.clear refl) (e.clock refl) in
-    let within = e.within refl in
-    let on = e.clock refl in
-    omega (arith, moves, within, on)
+    let moves = moved c.args.cycle c.args.end c.args.self.now self l.regs l.core l.owed_to h 1 s.regs s.core s.bus s.count false p c.requires.none c.leap_clear.new.self (e.within refl) (e.idle refl) (e.state refl) (e.clear refl) (e.clock refl) in
+    let within = e.within refl in let on = e.clock refl in omega (arith, moves, within, on)
 
-pub loop-taken-2-preserved-else-not-leap_clear : goal.loop-taken-2-preserved-else-not-leap_clear
-loop-taken-2-preserved-else-not-leap_clear c =
-    let l = c.loop-taken-2 in
-    let self : Machine = record c.loop-taken.self { bus = l.self.1.1.1.1.1.1.1.0; count = l.self.1.1.1.1.1.1.1.1.1.1.1.1.0 } in
-    let h = l.invariant.turning in
-    let s = c.one_step.new in
-    let m : Machine = turning self l.regs l.core l.owed_to in
-    let p = c.in-Plain.ensures m refl (acts c.args.cycle c.args.end c.args.self.now self l.regs l.core l.owed_to h c.requires.early c.requires.may.room) h.runs.behind in
+pub loop-self-2-preserved-else-not-leap_clear : goal.loop-self-2-preserved-else-not-leap_clear
+loop-self-2-preserved-else-not-leap_clear c =
+    let l = c.loop-self-2 in
+    let self : Machine = record c.loop-self.self { bus = l.self.1.1.1.1.1.1.1.0; count = l.self.1.1.1.1.1.1.1.1.1.1.1.1.0 } in
+    let h = l.invariant.turning in let s = c.one_step.new in let m : Machine = turning self l.regs l.core l.owed_to in
+    let p = c.in-Single.ensures.step m refl (acts c.args.cycle c.args.end c.args.self.now self l.regs l.core l.owed_to h c.requires.early c.requires.may.room) h.runs.behind in
     let e = c.if-not-leap_clear.ensures in
-    let moves = moved c.args.cycle c.args.end c.args.self.now self l.regs l.core l.owed_to h c.in-Plain.taken s.regs s.core s.bus s.count false p c.requires.none c.leap_clear.new.self (e.within refl) (e.idle refl) (e.state refl) (e.clear refl) (e.clock refl) in
+    let moves = moved c.args.cycle c.args.end c.args.self.now self l.regs l.core l.owed_to h 1 s.regs s.core s.bus s.count false p c.requires.none c.leap_clear.new.self (e.within refl) (e.idle refl) (e.state refl) (e.clear refl) (e.clock refl) in
     let more = p.count in
     let last = l.invariant.on in
     record {
-      turning = turned c.args.cycle c.args.end c.args.self.now self l.regs l.core l.owed_to h c.in-Plain.taken s.regs s.core s.bus s.count false p c.requires.none c.leap_clear.new.self (e.within refl) (e.idle refl) (e.state refl) (e.clear refl) (e.clock refl) l.owed_to
+      turning = turned c.args.cycle c.args.end c.args.self.now self l.regs l.core l.owed_to h 1 s.regs s.core s.bus s.count false p c.requires.none c.leap_clear.new.self (e.within refl) (e.idle refl) (e.state refl) (e.clear refl) (e.clock refl) l.owed_to
           (let up = h.top in omega (arith, more, up)) (subst (λ (n : ℕ). nat_lt n l.owed_to ≡ false) (sym more) (not_owed self.count l.owed_to h.top));
       slots = l.invariant.slots;
+      flag = l.invariant.flag ∙ sym (c.in-Single.ensures.flag refl);
+      on = omega (arith, last, moves);
+    }
+
+pub leap_clear-requires-in-Plain : goal.leap_clear-requires-in-Plain
+leap_clear-requires-in-Plain c =
+    let l = c.loop-self-2 in
+    let self : Machine = record c.loop-self.self { bus = l.self.1.1.1.1.1.1.1.0; count = l.self.1.1.1.1.1.1.1.1.1.1.1.1.0 } in
+    let h = l.invariant.turning in let s = c.one_step.new in let m : Machine = turning self l.regs l.core l.owed_to in
+    let p = c.in-Plain.ensures.step m refl (acts c.args.cycle c.args.end c.args.self.now self l.regs l.core l.owed_to h c.requires.early c.requires.may.room) h.runs.behind in
+    record { some = p.some }
+
+pub end_sprint-requires-then-not-leap_clear-2-clause-some : goal.end_sprint-requires-then-not-leap_clear-2-clause-some
+end_sprint-requires-then-not-leap_clear-2-clause-some c =
+    let l = c.loop-self-2 in
+    let self : Machine = record c.loop-self.self { bus = l.self.1.1.1.1.1.1.1.0; count = l.self.1.1.1.1.1.1.1.1.1.1.1.1.0 } in
+    let h = l.invariant.turning in let s = c.one_step.new in let m : Machine = turning self l.regs l.core l.owed_to in
+    let p = c.in-Plain.ensures.step m refl (acts c.args.cycle c.args.end c.args.self.now self l.regs l.core l.owed_to h c.requires.early c.requires.may.room) h.runs.behind in
+    p.some
+
+pub end_sprint-requires-then-not-leap_clear-2-clause-early : goal.end_sprint-requires-then-not-leap_clear-2-clause-early
+end_sprint-requires-then-not-leap_clear-2-clause-early c =
+    let l = c.loop-self-2 in
+    let self : Machine = record c.loop-self.self { bus = l.self.1.1.1.1.1.1.1.0; count = l.self.1.1.1.1.1.1.1.1.1.1.1.1.0 } in
+    let h = l.invariant.turning in let s = c.one_step.new in let m : Machine = turning self l.regs l.core l.owed_to in
+    let p = c.in-Plain.ensures.step m refl (acts c.args.cycle c.args.end c.args.self.now self l.regs l.core l.owed_to h c.requires.early c.requires.may.room) h.runs.behind in
+    let at = stays_at c.args.cycle c.args.end c.args.self.now self l.regs l.core l.owed_to h c.in-Plain.taken s.regs s.core s.bus s.count false p c.leap_clear-in-Plain.new.self (c.if-not-leap_clear-2.ensures.same refl) in
+    let within = h.within in omega (arith, at, within, c.requires.early)
+
+pub end_sprint-requires-then-not-leap_clear-2-clause-within : goal.end_sprint-requires-then-not-leap_clear-2-clause-within
+end_sprint-requires-then-not-leap_clear-2-clause-within c =
+    let l = c.loop-self-2 in
+    let self : Machine = record c.loop-self.self { bus = l.self.1.1.1.1.1.1.1.0; count = l.self.1.1.1.1.1.1.1.1.1.1.1.1.0 } in
+    let h = l.invariant.turning in let s = c.one_step.new in let m : Machine = turning self l.regs l.core l.owed_to in
+    let p = c.in-Plain.ensures.step m refl (acts c.args.cycle c.args.end c.args.self.now self l.regs l.core l.owed_to h c.requires.early c.requires.may.room) h.runs.behind in
+    let at = stays_at c.args.cycle c.args.end c.args.self.now self l.regs l.core l.owed_to h c.in-Plain.taken s.regs s.core s.bus s.count false p c.leap_clear-in-Plain.new.self (c.if-not-leap_clear-2.ensures.same refl) in
+    let within = h.within in omega (arith, at, within)
+
+pub end_sprint-requires-then-not-leap_clear-2-clause-none : goal.end_sprint-requires-then-not-leap_clear-2-clause-none
+end_sprint-requires-then-not-leap_clear-2-clause-none c k late =
+    let l = c.loop-self-2 in
+    let self : Machine = record c.loop-self.self { bus = l.self.1.1.1.1.1.1.1.0; count = l.self.1.1.1.1.1.1.1.1.1.1.1.1.0 } in
+    let h = l.invariant.turning in let s = c.one_step.new in let m : Machine = turning self l.regs l.core l.owed_to in
+    let p = c.in-Plain.ensures.step m refl (acts c.args.cycle c.args.end c.args.self.now self l.regs l.core l.owed_to h c.requires.early c.requires.may.room) h.runs.behind in
+    let at = stays_at c.args.cycle c.args.end c.args.self.now self l.regs l.core l.owed_to h c.in-Plain.taken s.regs s.core s.bus s.count false p c.leap_clear-in-Plain.new.self (c.if-not-leap_clear-2.ensures.same refl) in
+    let from = h.runs.from in
+    silent c.args.cycle c.leap_clear-in-Plain.new.self.clock c.args.end c.args.self.now (record self { bus = with_board s.bus c.leap_clear-in-Plain.new.self; count = s.count }) h.runs.script (omega (arith, from, at)) c.requires.none k late
+
+pub returns-then-not-leap_clear-2-clause-sprinted : goal.returns-then-not-leap_clear-2-clause-sprinted
+returns-then-not-leap_clear-2-clause-sprinted c =
+    let l = c.loop-self-2 in
+    let self : Machine = record c.loop-self.self { bus = l.self.1.1.1.1.1.1.1.0; count = l.self.1.1.1.1.1.1.1.1.1.1.1.1.0 } in
+    let h = l.invariant.turning in let s = c.one_step.new in let m : Machine = turning self l.regs l.core l.owed_to in
+    let p = c.in-Plain.ensures.step m refl (acts c.args.cycle c.args.end c.args.self.now self l.regs l.core l.owed_to h c.requires.early c.requires.may.room) h.runs.behind in
+    let same = c.if-not-leap_clear-2.ensures.same refl in
+    c.end_sprint-then-not-leap_clear-2.ensures.sprinted c.args.cycle c.args.self.now m (at_it c.args.cycle c.args.end c.args.self.now self l.regs l.core l.owed_to h c.in-Plain.taken s.regs s.core s.bus s.count false p c.leap_clear-in-Plain.new.self same) (turn_free c.args.cycle c.args.end c.args.self.now self l.regs l.core l.owed_to h c.in-Plain.taken s.regs s.core s.bus s.count false p) (carried c.args.cycle c.args.end c.args.self.now self l.regs l.core l.owed_to h c.in-Plain.taken s.regs s.core s.bus s.count false p c.leap_clear-in-Plain.new.self same)
+
+pub loop-self-2-smaller-else-not-leap_clear-2 : goal.loop-self-2-smaller-else-not-leap_clear-2
+loop-self-2-smaller-else-not-leap_clear-2 c =
+    let l = c.loop-self-2 in
+    let self : Machine = record c.loop-self.self { bus = l.self.1.1.1.1.1.1.1.0; count = l.self.1.1.1.1.1.1.1.1.1.1.1.1.0 } in
+    let h = l.invariant.turning in let s = c.one_step.new in let m : Machine = turning self l.regs l.core l.owed_to in
+    let p = c.in-Plain.ensures.step m refl (acts c.args.cycle c.args.end c.args.self.now self l.regs l.core l.owed_to h c.requires.early c.requires.may.room) h.runs.behind in
+    let e = c.if-not-leap_clear-2.ensures in
+    let moves = moved c.args.cycle c.args.end c.args.self.now self l.regs l.core l.owed_to h c.in-Plain.taken s.regs s.core s.bus s.count false p c.requires.none c.leap_clear-in-Plain.new.self (e.within refl) (e.idle refl) (e.state refl) (e.clear refl) (e.clock refl) in
+    let within = e.within refl in let on = e.clock refl in omega (arith, moves, within, on)
+
+pub loop-self-2-preserved-else-not-leap_clear-2 : goal.loop-self-2-preserved-else-not-leap_clear-2
+loop-self-2-preserved-else-not-leap_clear-2 c =
+    let l = c.loop-self-2 in
+    let self : Machine = record c.loop-self.self { bus = l.self.1.1.1.1.1.1.1.0; count = l.self.1.1.1.1.1.1.1.1.1.1.1.1.0 } in
+    let h = l.invariant.turning in let s = c.one_step.new in let m : Machine = turning self l.regs l.core l.owed_to in
+    let p = c.in-Plain.ensures.step m refl (acts c.args.cycle c.args.end c.args.self.now self l.regs l.core l.owed_to h c.requires.early c.requires.may.room) h.runs.behind in
+    let e = c.if-not-leap_clear-2.ensures in
+    let moves = moved c.args.cycle c.args.end c.args.self.now self l.regs l.core l.owed_to h c.in-Plain.taken s.regs s.core s.bus s.count false p c.requires.none c.leap_clear-in-Plain.new.self (e.within refl) (e.idle refl) (e.state refl) (e.clear refl) (e.clock refl) in
+    let more = p.count in
+    let last = l.invariant.on in
+    record {
+      turning = turned c.args.cycle c.args.end c.args.self.now self l.regs l.core l.owed_to h c.in-Plain.taken s.regs s.core s.bus s.count false p c.requires.none c.leap_clear-in-Plain.new.self (e.within refl) (e.idle refl) (e.state refl) (e.clear refl) (e.clock refl) l.owed_to
+          (let up = h.top in omega (arith, more, up)) (subst (λ (n : ℕ). nat_lt n l.owed_to ≡ false) (sym more) (not_owed self.count l.owed_to h.top));
+      slots = l.invariant.slots;
+      flag = l.invariant.flag ∙ sym (c.in-Plain.ensures.flag refl);
       on = omega (arith, last, moves);
     }
 
 pub leap_clear-requires-in-Jumped : goal.leap_clear-requires-in-Jumped
 leap_clear-requires-in-Jumped c =
-    let l = c.loop-taken-2 in
-    let self : Machine = record c.loop-taken.self { bus = l.self.1.1.1.1.1.1.1.0; count = l.self.1.1.1.1.1.1.1.1.1.1.1.1.0 } in
-    let h = l.invariant.turning in
-    let s = c.one_step.new in
-    let m : Machine = turning self l.regs l.core l.owed_to in
-    let p = c.in-Jumped.ensures m refl (acts c.args.cycle c.args.end c.args.self.now self l.regs l.core l.owed_to h c.requires.early c.requires.may.room) h.runs.behind in
+    let l = c.loop-self-2 in
+    let self : Machine = record c.loop-self.self { bus = l.self.1.1.1.1.1.1.1.0; count = l.self.1.1.1.1.1.1.1.1.1.1.1.1.0 } in
+    let h = l.invariant.turning in let s = c.one_step.new in let m : Machine = turning self l.regs l.core l.owed_to in
+    let p = c.in-Jumped.ensures.step m refl (acts c.args.cycle c.args.end c.args.self.now self l.regs l.core l.owed_to h c.requires.early c.requires.may.room) h.runs.behind in
     record { some = p.some }
 
-pub end_sprint-requires-then-not-leap_clear-2-clause-some : goal.end_sprint-requires-then-not-leap_clear-2-clause-some
-end_sprint-requires-then-not-leap_clear-2-clause-some c =
-    let l = c.loop-taken-2 in
-    let self : Machine = record c.loop-taken.self { bus = l.self.1.1.1.1.1.1.1.0; count = l.self.1.1.1.1.1.1.1.1.1.1.1.1.0 } in
-    let h = l.invariant.turning in
-    let s = c.one_step.new in
-    let m : Machine = turning self l.regs l.core l.owed_to in
-    let p = c.in-Jumped.ensures m refl (acts c.args.cycle c.args.end c.args.self.now self l.regs l.core l.owed_to h c.requires.early c.requires.may.room) h.runs.behind in
+pub end_sprint-requires-then-not-leap_clear-3-clause-some : goal.end_sprint-requires-then-not-leap_clear-3-clause-some
+end_sprint-requires-then-not-leap_clear-3-clause-some c =
+    let l = c.loop-self-2 in
+    let self : Machine = record c.loop-self.self { bus = l.self.1.1.1.1.1.1.1.0; count = l.self.1.1.1.1.1.1.1.1.1.1.1.1.0 } in
+    let h = l.invariant.turning in let s = c.one_step.new in let m : Machine = turning self l.regs l.core l.owed_to in
+    let p = c.in-Jumped.ensures.step m refl (acts c.args.cycle c.args.end c.args.self.now self l.regs l.core l.owed_to h c.requires.early c.requires.may.room) h.runs.behind in
     p.some
 
-pub end_sprint-requires-then-not-leap_clear-2-clause-early : goal.end_sprint-requires-then-not-leap_clear-2-clause-early
-end_sprint-requires-then-not-leap_clear-2-clause-early c =
-    let l = c.loop-taken-2 in
-    let self : Machine = record c.loop-taken.self { bus = l.self.1.1.1.1.1.1.1.0; count = l.self.1.1.1.1.1.1.1.1.1.1.1.1.0 } in
-    let h = l.invariant.turning in
-    let s = c.one_step.new in
-    let m : Machine = turning self l.regs l.core l.owed_to in
-    let p = c.in-Jumped.ensures m refl (acts c.args.cycle c.args.end c.args.self.now self l.regs l.core l.owed_to h c.requires.early c.requires.may.room) h.runs.behind in
-    let at = stays_at c.args.cycle c.args.end c.args.self.now self l.regs l.core l.owed_to h c.in-Jumped.taken s.regs s.core s.bus s.count false p c.leap_clear-in-Jumped.new.self (c.if-not-leap_clear-2.ensures.same refl) in
+pub end_sprint-requires-then-not-leap_clear-3-clause-early : goal.end_sprint-requires-then-not-leap_clear-3-clause-early
+end_sprint-requires-then-not-leap_clear-3-clause-early c =
+    let l = c.loop-self-2 in
+    let self : Machine = record c.loop-self.self { bus = l.self.1.1.1.1.1.1.1.0; count = l.self.1.1.1.1.1.1.1.1.1.1.1.1.0 } in
+    let h = l.invariant.turning in let s = c.one_step.new in let m : Machine = turning self l.regs l.core l.owed_to in
+    let p = c.in-Jumped.ensures.step m refl (acts c.args.cycle c.args.end c.args.self.now self l.regs l.core l.owed_to h c.requires.early c.requires.may.room) h.runs.behind in
+    let at = stays_at c.args.cycle c.args.end c.args.self.now self l.regs l.core l.owed_to h c.in-Jumped.taken s.regs s.core s.bus s.count false p c.leap_clear-in-Jumped.new.self (c.if-not-leap_clear-3.ensures.same refl) in
     let within = h.within in omega (arith, at, within, c.requires.early)
 
-pub end_sprint-requires-then-not-leap_clear-2-clause-within : goal.end_sprint-requires-then-not-leap_clear-2-clause-within
-end_sprint-requires-then-not-leap_clear-2-clause-within c =
-    let l = c.loop-taken-2 in
-    let self : Machine = record c.loop-taken.self { bus = l.self.1.1.1.1.1.1.1.0; count = l.self.1.1.1.1.1.1.1.1.1.1.1.1.0 } in
-    let h = l.invariant.turning in
-    let s = c.one_step.new in
-    let m : Machine = turning self l.regs l.core l.owed_to in
-    let p = c.in-Jumped.ensures m refl (acts c.args.cycle c.args.end c.args.self.now self l.regs l.core l.owed_to h c.requires.early c.requires.may.room) h.runs.behind in
-    let at = stays_at c.args.cycle c.args.end c.args.self.now self l.regs l.core l.owed_to h c.in-Jumped.taken s.regs s.core s.bus s.count false p c.leap_clear-in-Jumped.new.self (c.if-not-leap_clear-2.ensures.same refl) in
+pub end_sprint-requires-then-not-leap_clear-3-clause-within : goal.end_sprint-requires-then-not-leap_clear-3-clause-within
+end_sprint-requires-then-not-leap_clear-3-clause-within c =
+    let l = c.loop-self-2 in
+    let self : Machine = record c.loop-self.self { bus = l.self.1.1.1.1.1.1.1.0; count = l.self.1.1.1.1.1.1.1.1.1.1.1.1.0 } in
+    let h = l.invariant.turning in let s = c.one_step.new in let m : Machine = turning self l.regs l.core l.owed_to in
+    let p = c.in-Jumped.ensures.step m refl (acts c.args.cycle c.args.end c.args.self.now self l.regs l.core l.owed_to h c.requires.early c.requires.may.room) h.runs.behind in
+    let at = stays_at c.args.cycle c.args.end c.args.self.now self l.regs l.core l.owed_to h c.in-Jumped.taken s.regs s.core s.bus s.count false p c.leap_clear-in-Jumped.new.self (c.if-not-leap_clear-3.ensures.same refl) in
     let within = h.within in omega (arith, at, within)
 
-pub end_sprint-requires-then-not-leap_clear-2-clause-none : goal.end_sprint-requires-then-not-leap_clear-2-clause-none
-end_sprint-requires-then-not-leap_clear-2-clause-none c k late =
-    let l = c.loop-taken-2 in
-    let self : Machine = record c.loop-taken.self { bus = l.self.1.1.1.1.1.1.1.0; count = l.self.1.1.1.1.1.1.1.1.1.1.1.1.0 } in
-    let h = l.invariant.turning in
-    let s = c.one_step.new in
-    let m : Machine = turning self l.regs l.core l.owed_to in
-    let p = c.in-Jumped.ensures m refl (acts c.args.cycle c.args.end c.args.self.now self l.regs l.core l.owed_to h c.requires.early c.requires.may.room) h.runs.behind in
-    let at = stays_at c.args.cycle c.args.end c.args.self.now self l.regs l.core l.owed_to h c.in-Jumped.taken s.regs s.core s.bus s.count false p c.leap_clear-in-Jumped.new.self (c.if-not-leap_clear-2.ensures.same refl) in
+pub end_sprint-requires-then-not-leap_clear-3-clause-none : goal.end_sprint-requires-then-not-leap_clear-3-clause-none
+end_sprint-requires-then-not-leap_clear-3-clause-none c k late =
+    let l = c.loop-self-2 in
+    let self : Machine = record c.loop-self.self { bus = l.self.1.1.1.1.1.1.1.0; count = l.self.1.1.1.1.1.1.1.1.1.1.1.1.0 } in
+    let h = l.invariant.turning in let s = c.one_step.new in let m : Machine = turning self l.regs l.core l.owed_to in
+    let p = c.in-Jumped.ensures.step m refl (acts c.args.cycle c.args.end c.args.self.now self l.regs l.core l.owed_to h c.requires.early c.requires.may.room) h.runs.behind in
+    let at = stays_at c.args.cycle c.args.end c.args.self.now self l.regs l.core l.owed_to h c.in-Jumped.taken s.regs s.core s.bus s.count false p c.leap_clear-in-Jumped.new.self (c.if-not-leap_clear-3.ensures.same refl) in
     let from = h.runs.from in
     silent c.args.cycle c.leap_clear-in-Jumped.new.self.clock c.args.end c.args.self.now (record self { bus = with_board s.bus c.leap_clear-in-Jumped.new.self; count = s.count }) h.runs.script (omega (arith, from, at)) c.requires.none k late
 
-pub returns-then-not-leap_clear-2-clause-sprinted : goal.returns-then-not-leap_clear-2-clause-sprinted
-returns-then-not-leap_clear-2-clause-sprinted c =
-    let l = c.loop-taken-2 in
-    let self : Machine = record c.loop-taken.self { bus = l.self.1.1.1.1.1.1.1.0; count = l.self.1.1.1.1.1.1.1.1.1.1.1.1.0 } in
-    let h = l.invariant.turning in
-    let s = c.one_step.new in
-    let m : Machine = turning self l.regs l.core l.owed_to in
-    let p = c.in-Jumped.ensures m refl (acts c.args.cycle c.args.end c.args.self.now self l.regs l.core l.owed_to h c.requires.early c.requires.may.room) h.runs.behind in
-    let same = c.if-not-leap_clear-2.ensures.same refl in
-    c.end_sprint-then-not-leap_clear-2.ensures.sprinted c.args.cycle c.args.self.now m (at_it c.args.cycle c.args.end c.args.self.now self l.regs l.core l.owed_to h c.in-Jumped.taken s.regs s.core s.bus s.count false p c.leap_clear-in-Jumped.new.self same) (turn_free c.args.cycle c.args.end c.args.self.now self l.regs l.core l.owed_to h c.in-Jumped.taken s.regs s.core s.bus s.count false p) (carried c.args.cycle c.args.end c.args.self.now self l.regs l.core l.owed_to h c.in-Jumped.taken s.regs s.core s.bus s.count false p c.leap_clear-in-Jumped.new.self same)
+pub returns-then-not-leap_clear-3-clause-sprinted : goal.returns-then-not-leap_clear-3-clause-sprinted
+returns-then-not-leap_clear-3-clause-sprinted c =
+    let l = c.loop-self-2 in
+    let self : Machine = record c.loop-self.self { bus = l.self.1.1.1.1.1.1.1.0; count = l.self.1.1.1.1.1.1.1.1.1.1.1.1.0 } in
+    let h = l.invariant.turning in let s = c.one_step.new in let m : Machine = turning self l.regs l.core l.owed_to in
+    let p = c.in-Jumped.ensures.step m refl (acts c.args.cycle c.args.end c.args.self.now self l.regs l.core l.owed_to h c.requires.early c.requires.may.room) h.runs.behind in
+    let same = c.if-not-leap_clear-3.ensures.same refl in
+    c.end_sprint-then-not-leap_clear-3.ensures.sprinted c.args.cycle c.args.self.now m (at_it c.args.cycle c.args.end c.args.self.now self l.regs l.core l.owed_to h c.in-Jumped.taken s.regs s.core s.bus s.count false p c.leap_clear-in-Jumped.new.self same) (turn_free c.args.cycle c.args.end c.args.self.now self l.regs l.core l.owed_to h c.in-Jumped.taken s.regs s.core s.bus s.count false p) (carried c.args.cycle c.args.end c.args.self.now self l.regs l.core l.owed_to h c.in-Jumped.taken s.regs s.core s.bus s.count false p c.leap_clear-in-Jumped.new.self same)
 
-pub loop-taken-2-smaller-then-pc-core-lt-SHORT : goal.loop-taken-2-smaller-then-pc-core-lt-SHORT
-loop-taken-2-smaller-then-pc-core-lt-SHORT c =
-    let l = c.loop-taken-2 in
-    let self : Machine = record c.loop-taken.self { bus = l.self.1.1.1.1.1.1.1.0; count = l.self.1.1.1.1.1.1.1.1.1.1.1.1.0 } in
-    let h = l.invariant.turning in
-    let s = c.one_step.new in
-    let m : Machine = turning self l.regs l.core l.owed_to in
-    let p = c.in-Jumped.ensures m refl (acts c.args.cycle c.args.end c.args.self.now self l.regs l.core l.owed_to h c.requires.early c.requires.may.room) h.runs.behind in
-    let e = c.if-not-leap_clear-2.ensures in
+pub loop-self-2-smaller-in-Jumped : goal.loop-self-2-smaller-in-Jumped
+loop-self-2-smaller-in-Jumped c =
+    let l = c.loop-self-2 in
+    let self : Machine = record c.loop-self.self { bus = l.self.1.1.1.1.1.1.1.0; count = l.self.1.1.1.1.1.1.1.1.1.1.1.1.0 } in
+    let h = l.invariant.turning in let s = c.one_step.new in let m : Machine = turning self l.regs l.core l.owed_to in
+    let p = c.in-Jumped.ensures.step m refl (acts c.args.cycle c.args.end c.args.self.now self l.regs l.core l.owed_to h c.requires.early c.requires.may.room) h.runs.behind in
+    let e = c.if-not-leap_clear-3.ensures in
     let moves = moved c.args.cycle c.args.end c.args.self.now self l.regs l.core l.owed_to h c.in-Jumped.taken s.regs s.core s.bus s.count false p c.requires.none c.leap_clear-in-Jumped.new.self (e.within refl) (e.idle refl) (e.state refl) (e.clear refl) (e.clock refl) in
-    let within = e.within refl in
-    let on = e.clock refl in
-    omega (arith, moves, within, on)
+    let within = e.within refl in let on = e.clock refl in omega (arith, moves, within, on)
 
-pub loop-taken-2-preserved-then-pc-core-lt-SHORT : goal.loop-taken-2-preserved-then-pc-core-lt-SHORT
-loop-taken-2-preserved-then-pc-core-lt-SHORT c =
-    let l = c.loop-taken-2 in
-    let self : Machine = record c.loop-taken.self { bus = l.self.1.1.1.1.1.1.1.0; count = l.self.1.1.1.1.1.1.1.1.1.1.1.1.0 } in
-    let h = l.invariant.turning in
-    let s = c.one_step.new in
-    let m : Machine = turning self l.regs l.core l.owed_to in
-    let p = c.in-Jumped.ensures m refl (acts c.args.cycle c.args.end c.args.self.now self l.regs l.core l.owed_to h c.requires.early c.requires.may.room) h.runs.behind in
-    let e = c.if-not-leap_clear-2.ensures in
+pub loop-self-2-preserved-in-Jumped : goal.loop-self-2-preserved-in-Jumped
+loop-self-2-preserved-in-Jumped c =
+    let l = c.loop-self-2 in
+    let self : Machine = record c.loop-self.self { bus = l.self.1.1.1.1.1.1.1.0; count = l.self.1.1.1.1.1.1.1.1.1.1.1.1.0 } in
+    let h = l.invariant.turning in let s = c.one_step.new in let m : Machine = turning self l.regs l.core l.owed_to in
+    let p = c.in-Jumped.ensures.step m refl (acts c.args.cycle c.args.end c.args.self.now self l.regs l.core l.owed_to h c.requires.early c.requires.may.room) h.runs.behind in
+    let e = c.if-not-leap_clear-3.ensures in
     let moves = moved c.args.cycle c.args.end c.args.self.now self l.regs l.core l.owed_to h c.in-Jumped.taken s.regs s.core s.bus s.count false p c.requires.none c.leap_clear-in-Jumped.new.self (e.within refl) (e.idle refl) (e.state refl) (e.clear refl) (e.clock refl) in
     let more = p.count in
     let last = l.invariant.on in
@@ -246,142 +279,90 @@ loop-taken-2-preserved-then-pc-core-lt-SHORT c =
       turning = turned c.args.cycle c.args.end c.args.self.now self l.regs l.core l.owed_to h c.in-Jumped.taken s.regs s.core s.bus s.count false p c.requires.none c.leap_clear-in-Jumped.new.self (e.within refl) (e.idle refl) (e.state refl) (e.clear refl) (e.clock refl) l.owed_to
           (let up = h.top in omega (arith, more, up)) (subst (λ (n : ℕ). nat_lt n l.owed_to ≡ false) (sym more) (not_owed self.count l.owed_to h.top));
       slots = l.invariant.slots;
-      on = omega (arith, last, moves);
-    }
-
-pub loop-taken-2-smaller-else-pc-core-lt-SHORT : goal.loop-taken-2-smaller-else-pc-core-lt-SHORT
-loop-taken-2-smaller-else-pc-core-lt-SHORT c =
-    let l = c.loop-taken-2 in
-    let self : Machine = record c.loop-taken.self { bus = l.self.1.1.1.1.1.1.1.0; count = l.self.1.1.1.1.1.1.1.1.1.1.1.1.0 } in
-    let h = l.invariant.turning in
-    let s = c.one_step.new in
-    let m : Machine = turning self l.regs l.core l.owed_to in
-    let p = c.in-Jumped.ensures m refl (acts c.args.cycle c.args.end c.args.self.now self l.regs l.core l.owed_to h c.requires.early c.requires.may.room) h.runs.behind in
-    let e = c.if-not-leap_clear-2.ensures in
-    let moves = moved c.args.cycle c.args.end c.args.self.now self l.regs l.core l.owed_to h c.in-Jumped.taken s.regs s.core s.bus s.count false p c.requires.none c.leap_clear-in-Jumped.new.self (e.within refl) (e.idle refl) (e.state refl) (e.clear refl) (e.clock refl) in
-    let within = e.within refl in
-    let on = e.clock refl in
-    omega (arith, moves, within, on)
-
-pub loop-taken-2-preserved-else-pc-core-lt-SHORT : goal.loop-taken-2-preserved-else-pc-core-lt-SHORT
-loop-taken-2-preserved-else-pc-core-lt-SHORT c =
-    let l = c.loop-taken-2 in
-    let self : Machine = record c.loop-taken.self { bus = l.self.1.1.1.1.1.1.1.0; count = l.self.1.1.1.1.1.1.1.1.1.1.1.1.0 } in
-    let h = l.invariant.turning in
-    let s = c.one_step.new in
-    let m : Machine = turning self l.regs l.core l.owed_to in
-    let p = c.in-Jumped.ensures m refl (acts c.args.cycle c.args.end c.args.self.now self l.regs l.core l.owed_to h c.requires.early c.requires.may.room) h.runs.behind in
-    let e = c.if-not-leap_clear-2.ensures in
-    let moves = moved c.args.cycle c.args.end c.args.self.now self l.regs l.core l.owed_to h c.in-Jumped.taken s.regs s.core s.bus s.count false p c.requires.none c.leap_clear-in-Jumped.new.self (e.within refl) (e.idle refl) (e.state refl) (e.clear refl) (e.clock refl) in
-    let more = p.count in
-    let last = l.invariant.on in
-    record {
-      turning = turned c.args.cycle c.args.end c.args.self.now self l.regs l.core l.owed_to h c.in-Jumped.taken s.regs s.core s.bus s.count false p c.requires.none c.leap_clear-in-Jumped.new.self (e.within refl) (e.idle refl) (e.state refl) (e.clear refl) (e.clock refl) l.owed_to
-          (let up = h.top in omega (arith, more, up)) (subst (λ (n : ℕ). nat_lt n l.owed_to ≡ false) (sym more) (not_owed self.count l.owed_to h.top));
-      slots = l.invariant.slots;
+      flag = l.invariant.flag ∙ sym (c.in-Jumped.ensures.flag refl);
       on = omega (arith, last, moves);
     }
 
 pub leap_clear-requires-in-Stored : goal.leap_clear-requires-in-Stored
 leap_clear-requires-in-Stored c =
-    let l = c.loop-taken-2 in
-    let self : Machine = record c.loop-taken.self { bus = l.self.1.1.1.1.1.1.1.0; count = l.self.1.1.1.1.1.1.1.1.1.1.1.1.0 } in
-    let h = l.invariant.turning in
-    let s = c.one_step.new in
-    let m : Machine = turning self l.regs l.core l.owed_to in
-    let p = subst (λ (b : Bool). IsStepped self.bus.board.clock c.in-Stored.taken m (owing b (over s.regs s.core s.bus s.count self))) (sym c.turned_on-on.ensures) (c.in-Stored.ensures m refl (acts c.args.cycle c.args.end c.args.self.now self l.regs l.core l.owed_to h c.requires.early c.requires.may.room) h.runs.behind) in
+    let l = c.loop-self-2 in
+    let self : Machine = record c.loop-self.self { bus = l.self.1.1.1.1.1.1.1.0; count = l.self.1.1.1.1.1.1.1.1.1.1.1.1.0 } in
+    let h = l.invariant.turning in let s = c.one_step.new in let m : Machine = turning self l.regs l.core l.owed_to in
+    let p = stepped_on self.bus.board.clock c.in-Stored.taken m (over s.regs s.core s.bus s.count self) l.flags l.core.sreg.bits s.core.sreg.bits c.turned_on-on.result l.invariant.flag c.turned_on-on.ensures (c.in-Stored.ensures.step m refl (acts c.args.cycle c.args.end c.args.self.now self l.regs l.core l.owed_to h c.requires.early c.requires.may.room) h.runs.behind) in
     record { some = p.some }
 
-pub end_sprint-requires-then-not-leap_clear-3-clause-some : goal.end_sprint-requires-then-not-leap_clear-3-clause-some
-end_sprint-requires-then-not-leap_clear-3-clause-some c =
-    let l = c.loop-taken-2 in
-    let self : Machine = record c.loop-taken.self { bus = l.self.1.1.1.1.1.1.1.0; count = l.self.1.1.1.1.1.1.1.1.1.1.1.1.0 } in
-    let h = l.invariant.turning in
-    let s = c.one_step.new in
-    let m : Machine = turning self l.regs l.core l.owed_to in
-    let p = subst (λ (b : Bool). IsStepped self.bus.board.clock c.in-Stored.taken m (owing b (over s.regs s.core s.bus s.count self))) (sym c.turned_on-on.ensures) (c.in-Stored.ensures m refl (acts c.args.cycle c.args.end c.args.self.now self l.regs l.core l.owed_to h c.requires.early c.requires.may.room) h.runs.behind) in
+pub end_sprint-requires-then-not-leap_clear-4-clause-some : goal.end_sprint-requires-then-not-leap_clear-4-clause-some
+end_sprint-requires-then-not-leap_clear-4-clause-some c =
+    let l = c.loop-self-2 in
+    let self : Machine = record c.loop-self.self { bus = l.self.1.1.1.1.1.1.1.0; count = l.self.1.1.1.1.1.1.1.1.1.1.1.1.0 } in
+    let h = l.invariant.turning in let s = c.one_step.new in let m : Machine = turning self l.regs l.core l.owed_to in
+    let p = stepped_on self.bus.board.clock c.in-Stored.taken m (over s.regs s.core s.bus s.count self) l.flags l.core.sreg.bits s.core.sreg.bits c.turned_on-on.result l.invariant.flag c.turned_on-on.ensures (c.in-Stored.ensures.step m refl (acts c.args.cycle c.args.end c.args.self.now self l.regs l.core l.owed_to h c.requires.early c.requires.may.room) h.runs.behind) in
     p.some
 
-pub end_sprint-requires-then-not-leap_clear-3-clause-early : goal.end_sprint-requires-then-not-leap_clear-3-clause-early
-end_sprint-requires-then-not-leap_clear-3-clause-early c =
-    let l = c.loop-taken-2 in
-    let self : Machine = record c.loop-taken.self { bus = l.self.1.1.1.1.1.1.1.0; count = l.self.1.1.1.1.1.1.1.1.1.1.1.1.0 } in
-    let h = l.invariant.turning in
-    let s = c.one_step.new in
-    let m : Machine = turning self l.regs l.core l.owed_to in
-    let p = subst (λ (b : Bool). IsStepped self.bus.board.clock c.in-Stored.taken m (owing b (over s.regs s.core s.bus s.count self))) (sym c.turned_on-on.ensures) (c.in-Stored.ensures m refl (acts c.args.cycle c.args.end c.args.self.now self l.regs l.core l.owed_to h c.requires.early c.requires.may.room) h.runs.behind) in
-    let at = stays_at c.args.cycle c.args.end c.args.self.now self l.regs l.core l.owed_to h c.in-Stored.taken s.regs s.core s.bus s.count c.turned_on-on.result p c.leap_clear-in-Stored.new.self (c.if-not-leap_clear-3.ensures.same refl) in
+pub end_sprint-requires-then-not-leap_clear-4-clause-early : goal.end_sprint-requires-then-not-leap_clear-4-clause-early
+end_sprint-requires-then-not-leap_clear-4-clause-early c =
+    let l = c.loop-self-2 in
+    let self : Machine = record c.loop-self.self { bus = l.self.1.1.1.1.1.1.1.0; count = l.self.1.1.1.1.1.1.1.1.1.1.1.1.0 } in
+    let h = l.invariant.turning in let s = c.one_step.new in let m : Machine = turning self l.regs l.core l.owed_to in
+    let p = stepped_on self.bus.board.clock c.in-Stored.taken m (over s.regs s.core s.bus s.count self) l.flags l.core.sreg.bits s.core.sreg.bits c.turned_on-on.result l.invariant.flag c.turned_on-on.ensures (c.in-Stored.ensures.step m refl (acts c.args.cycle c.args.end c.args.self.now self l.regs l.core l.owed_to h c.requires.early c.requires.may.room) h.runs.behind) in
+    let at = stays_at c.args.cycle c.args.end c.args.self.now self l.regs l.core l.owed_to h c.in-Stored.taken s.regs s.core s.bus s.count c.turned_on-on.result p c.leap_clear-in-Stored.new.self (c.if-not-leap_clear-4.ensures.same refl) in
     let within = h.within in omega (arith, at, within, c.requires.early)
 
-pub end_sprint-requires-then-not-leap_clear-3-clause-within : goal.end_sprint-requires-then-not-leap_clear-3-clause-within
-end_sprint-requires-then-not-leap_clear-3-clause-within c =
-    let l = c.loop-taken-2 in
-    let self : Machine = record c.loop-taken.self { bus = l.self.1.1.1.1.1.1.1.0; count = l.self.1.1.1.1.1.1.1.1.1.1.1.1.0 } in
-    let h = l.invariant.turning in
-    let s = c.one_step.new in
-    let m : Machine = turning self l.regs l.core l.owed_to in
-    let p = subst (λ (b : Bool). IsStepped self.bus.board.clock c.in-Stored.taken m (owing b (over s.regs s.core s.bus s.count self))) (sym c.turned_on-on.ensures) (c.in-Stored.ensures m refl (acts c.args.cycle c.args.end c.args.self.now self l.regs l.core l.owed_to h c.requires.early c.requires.may.room) h.runs.behind) in
-    let at = stays_at c.args.cycle c.args.end c.args.self.now self l.regs l.core l.owed_to h c.in-Stored.taken s.regs s.core s.bus s.count c.turned_on-on.result p c.leap_clear-in-Stored.new.self (c.if-not-leap_clear-3.ensures.same refl) in
+pub end_sprint-requires-then-not-leap_clear-4-clause-within : goal.end_sprint-requires-then-not-leap_clear-4-clause-within
+end_sprint-requires-then-not-leap_clear-4-clause-within c =
+    let l = c.loop-self-2 in
+    let self : Machine = record c.loop-self.self { bus = l.self.1.1.1.1.1.1.1.0; count = l.self.1.1.1.1.1.1.1.1.1.1.1.1.0 } in
+    let h = l.invariant.turning in let s = c.one_step.new in let m : Machine = turning self l.regs l.core l.owed_to in
+    let p = stepped_on self.bus.board.clock c.in-Stored.taken m (over s.regs s.core s.bus s.count self) l.flags l.core.sreg.bits s.core.sreg.bits c.turned_on-on.result l.invariant.flag c.turned_on-on.ensures (c.in-Stored.ensures.step m refl (acts c.args.cycle c.args.end c.args.self.now self l.regs l.core l.owed_to h c.requires.early c.requires.may.room) h.runs.behind) in
+    let at = stays_at c.args.cycle c.args.end c.args.self.now self l.regs l.core l.owed_to h c.in-Stored.taken s.regs s.core s.bus s.count c.turned_on-on.result p c.leap_clear-in-Stored.new.self (c.if-not-leap_clear-4.ensures.same refl) in
     let within = h.within in omega (arith, at, within)
 
-pub end_sprint-requires-then-not-leap_clear-3-clause-none : goal.end_sprint-requires-then-not-leap_clear-3-clause-none
-end_sprint-requires-then-not-leap_clear-3-clause-none c k late =
-    let l = c.loop-taken-2 in
-    let self : Machine = record c.loop-taken.self { bus = l.self.1.1.1.1.1.1.1.0; count = l.self.1.1.1.1.1.1.1.1.1.1.1.1.0 } in
-    let h = l.invariant.turning in
-    let s = c.one_step.new in
-    let m : Machine = turning self l.regs l.core l.owed_to in
-    let p = subst (λ (b : Bool). IsStepped self.bus.board.clock c.in-Stored.taken m (owing b (over s.regs s.core s.bus s.count self))) (sym c.turned_on-on.ensures) (c.in-Stored.ensures m refl (acts c.args.cycle c.args.end c.args.self.now self l.regs l.core l.owed_to h c.requires.early c.requires.may.room) h.runs.behind) in
-    let at = stays_at c.args.cycle c.args.end c.args.self.now self l.regs l.core l.owed_to h c.in-Stored.taken s.regs s.core s.bus s.count c.turned_on-on.result p c.leap_clear-in-Stored.new.self (c.if-not-leap_clear-3.ensures.same refl) in
+pub end_sprint-requires-then-not-leap_clear-4-clause-none : goal.end_sprint-requires-then-not-leap_clear-4-clause-none
+end_sprint-requires-then-not-leap_clear-4-clause-none c k late =
+    let l = c.loop-self-2 in
+    let self : Machine = record c.loop-self.self { bus = l.self.1.1.1.1.1.1.1.0; count = l.self.1.1.1.1.1.1.1.1.1.1.1.1.0 } in
+    let h = l.invariant.turning in let s = c.one_step.new in let m : Machine = turning self l.regs l.core l.owed_to in
+    let p = stepped_on self.bus.board.clock c.in-Stored.taken m (over s.regs s.core s.bus s.count self) l.flags l.core.sreg.bits s.core.sreg.bits c.turned_on-on.result l.invariant.flag c.turned_on-on.ensures (c.in-Stored.ensures.step m refl (acts c.args.cycle c.args.end c.args.self.now self l.regs l.core l.owed_to h c.requires.early c.requires.may.room) h.runs.behind) in
+    let at = stays_at c.args.cycle c.args.end c.args.self.now self l.regs l.core l.owed_to h c.in-Stored.taken s.regs s.core s.bus s.count c.turned_on-on.result p c.leap_clear-in-Stored.new.self (c.if-not-leap_clear-4.ensures.same refl) in
     let from = h.runs.from in
     silent c.args.cycle c.leap_clear-in-Stored.new.self.clock c.args.end c.args.self.now (record self { bus = with_board s.bus c.leap_clear-in-Stored.new.self; count = s.count }) h.runs.script (omega (arith, from, at)) c.requires.none k late
 
-pub returns-then-not-leap_clear-3-clause-sprinted : goal.returns-then-not-leap_clear-3-clause-sprinted
-returns-then-not-leap_clear-3-clause-sprinted c =
-    let l = c.loop-taken-2 in
-    let self : Machine = record c.loop-taken.self { bus = l.self.1.1.1.1.1.1.1.0; count = l.self.1.1.1.1.1.1.1.1.1.1.1.1.0 } in
-    let h = l.invariant.turning in
-    let s = c.one_step.new in
-    let m : Machine = turning self l.regs l.core l.owed_to in
-    let p = subst (λ (b : Bool). IsStepped self.bus.board.clock c.in-Stored.taken m (owing b (over s.regs s.core s.bus s.count self))) (sym c.turned_on-on.ensures) (c.in-Stored.ensures m refl (acts c.args.cycle c.args.end c.args.self.now self l.regs l.core l.owed_to h c.requires.early c.requires.may.room) h.runs.behind) in
-    let same = c.if-not-leap_clear-3.ensures.same refl in
-    c.end_sprint-then-not-leap_clear-3.ensures.sprinted c.args.cycle c.args.self.now m (at_it c.args.cycle c.args.end c.args.self.now self l.regs l.core l.owed_to h c.in-Stored.taken s.regs s.core s.bus s.count c.turned_on-on.result p c.leap_clear-in-Stored.new.self same) (turn_free c.args.cycle c.args.end c.args.self.now self l.regs l.core l.owed_to h c.in-Stored.taken s.regs s.core s.bus s.count c.turned_on-on.result p) (carried c.args.cycle c.args.end c.args.self.now self l.regs l.core l.owed_to h c.in-Stored.taken s.regs s.core s.bus s.count c.turned_on-on.result p c.leap_clear-in-Stored.new.self same)
+pub returns-then-not-leap_clear-4-clause-sprinted : goal.returns-then-not-leap_clear-4-clause-sprinted
+returns-then-not-leap_clear-4-clause-sprinted c =
+    let l = c.loop-self-2 in
+    let self : Machine = record c.loop-self.self { bus = l.self.1.1.1.1.1.1.1.0; count = l.self.1.1.1.1.1.1.1.1.1.1.1.1.0 } in
+    let h = l.invariant.turning in let s = c.one_step.new in let m : Machine = turning self l.regs l.core l.owed_to in
+    let p = stepped_on self.bus.board.clock c.in-Stored.taken m (over s.regs s.core s.bus s.count self) l.flags l.core.sreg.bits s.core.sreg.bits c.turned_on-on.result l.invariant.flag c.turned_on-on.ensures (c.in-Stored.ensures.step m refl (acts c.args.cycle c.args.end c.args.self.now self l.regs l.core l.owed_to h c.requires.early c.requires.may.room) h.runs.behind) in
+    let same = c.if-not-leap_clear-4.ensures.same refl in
+    c.end_sprint-then-not-leap_clear-4.ensures.sprinted c.args.cycle c.args.self.now m (at_it c.args.cycle c.args.end c.args.self.now self l.regs l.core l.owed_to h c.in-Stored.taken s.regs s.core s.bus s.count c.turned_on-on.result p c.leap_clear-in-Stored.new.self same) (turn_free c.args.cycle c.args.end c.args.self.now self l.regs l.core l.owed_to h c.in-Stored.taken s.regs s.core s.bus s.count c.turned_on-on.result p) (carried c.args.cycle c.args.end c.args.self.now self l.regs l.core l.owed_to h c.in-Stored.taken s.regs s.core s.bus s.count c.turned_on-on.result p c.leap_clear-in-Stored.new.self same)
 
 pub overflow_add-owed_to : goal.overflow_add-owed_to
 overflow_add-owed_to c =
-    let l = c.loop-taken-2 in
-    let self : Machine = record c.loop-taken.self { bus = l.self.1.1.1.1.1.1.1.0; count = l.self.1.1.1.1.1.1.1.1.1.1.1.1.0 } in
-    let h = l.invariant.turning in
-    let s = c.one_step.new in
-    let m : Machine = turning self l.regs l.core l.owed_to in
-    let p = subst (λ (b : Bool). IsStepped self.bus.board.clock c.in-Stored.taken m (owing b (over s.regs s.core s.bus s.count self))) (sym c.turned_on-on.ensures) (c.in-Stored.ensures m refl (acts c.args.cycle c.args.end c.args.self.now self l.regs l.core l.owed_to h c.requires.early c.requires.may.room) h.runs.behind) in
+    let l = c.loop-self-2 in
+    let self : Machine = record c.loop-self.self { bus = l.self.1.1.1.1.1.1.1.0; count = l.self.1.1.1.1.1.1.1.1.1.1.1.1.0 } in
+    let h = l.invariant.turning in let s = c.one_step.new in let m : Machine = turning self l.regs l.core l.owed_to in
+    let p = stepped_on self.bus.board.clock c.in-Stored.taken m (over s.regs s.core s.bus s.count self) l.flags l.core.sreg.bits s.core.sreg.bits c.turned_on-on.result l.invariant.flag c.turned_on-on.ensures (c.in-Stored.ensures.step m refl (acts c.args.cycle c.args.end c.args.self.now self l.regs l.core l.owed_to h c.requires.early c.requires.may.room) h.runs.behind) in
     let few = p.count in
     let most = h.runs.count in
     let within = h.within in omega (arith, few, most, within, c.requires.early)
 
-pub loop-taken-2-smaller-then-on : goal.loop-taken-2-smaller-then-on
-loop-taken-2-smaller-then-on c =
-    let l = c.loop-taken-2 in
-    let self : Machine = record c.loop-taken.self { bus = l.self.1.1.1.1.1.1.1.0; count = l.self.1.1.1.1.1.1.1.1.1.1.1.1.0 } in
-    let h = l.invariant.turning in
-    let s = c.one_step.new in
-    let m : Machine = turning self l.regs l.core l.owed_to in
-    let p = subst (λ (b : Bool). IsStepped self.bus.board.clock c.in-Stored.taken m (owing b (over s.regs s.core s.bus s.count self))) (sym c.turned_on-on.ensures) (c.in-Stored.ensures m refl (acts c.args.cycle c.args.end c.args.self.now self l.regs l.core l.owed_to h c.requires.early c.requires.may.room) h.runs.behind) in
-    let e = c.if-not-leap_clear-3.ensures in
+pub loop-self-2-smaller-then-on : goal.loop-self-2-smaller-then-on
+loop-self-2-smaller-then-on c =
+    let l = c.loop-self-2 in
+    let self : Machine = record c.loop-self.self { bus = l.self.1.1.1.1.1.1.1.0; count = l.self.1.1.1.1.1.1.1.1.1.1.1.1.0 } in
+    let h = l.invariant.turning in let s = c.one_step.new in let m : Machine = turning self l.regs l.core l.owed_to in
+    let p = stepped_on self.bus.board.clock c.in-Stored.taken m (over s.regs s.core s.bus s.count self) l.flags l.core.sreg.bits s.core.sreg.bits c.turned_on-on.result l.invariant.flag c.turned_on-on.ensures (c.in-Stored.ensures.step m refl (acts c.args.cycle c.args.end c.args.self.now self l.regs l.core l.owed_to h c.requires.early c.requires.may.room) h.runs.behind) in
+    let e = c.if-not-leap_clear-4.ensures in
     let moves = moved c.args.cycle c.args.end c.args.self.now self l.regs l.core l.owed_to h c.in-Stored.taken s.regs s.core s.bus s.count c.turned_on-on.result p c.requires.none c.leap_clear-in-Stored.new.self (e.within refl) (e.idle refl) (e.state refl) (e.clear refl) (e.clock refl) in
-    let within = e.within refl in
-    let on = e.clock refl in
-    omega (arith, moves, within, on)
+    let within = e.within refl in let on = e.clock refl in omega (arith, moves, within, on)
 
-pub loop-taken-2-preserved-then-on : goal.loop-taken-2-preserved-then-on
-loop-taken-2-preserved-then-on c =
-    let l = c.loop-taken-2 in
-    let self : Machine = record c.loop-taken.self { bus = l.self.1.1.1.1.1.1.1.0; count = l.self.1.1.1.1.1.1.1.1.1.1.1.1.0 } in
-    let h = l.invariant.turning in
-    let s = c.one_step.new in
-    let m : Machine = turning self l.regs l.core l.owed_to in
-    let p = subst (λ (b : Bool). IsStepped self.bus.board.clock c.in-Stored.taken m (owing b (over s.regs s.core s.bus s.count self))) (sym c.turned_on-on.ensures) (c.in-Stored.ensures m refl (acts c.args.cycle c.args.end c.args.self.now self l.regs l.core l.owed_to h c.requires.early c.requires.may.room) h.runs.behind) in
-    let e = c.if-not-leap_clear-3.ensures in
+pub loop-self-2-preserved-then-on : goal.loop-self-2-preserved-then-on
+loop-self-2-preserved-then-on c =
+    let l = c.loop-self-2 in
+    let self : Machine = record c.loop-self.self { bus = l.self.1.1.1.1.1.1.1.0; count = l.self.1.1.1.1.1.1.1.1.1.1.1.1.0 } in
+    let h = l.invariant.turning in let s = c.one_step.new in let m : Machine = turning self l.regs l.core l.owed_to in
+    let p = stepped_on self.bus.board.clock c.in-Stored.taken m (over s.regs s.core s.bus s.count self) l.flags l.core.sreg.bits s.core.sreg.bits c.turned_on-on.result l.invariant.flag c.turned_on-on.ensures (c.in-Stored.ensures.step m refl (acts c.args.cycle c.args.end c.args.self.now self l.regs l.core l.owed_to h c.requires.early c.requires.may.room) h.runs.behind) in
+    let e = c.if-not-leap_clear-4.ensures in
     let moves = moved c.args.cycle c.args.end c.args.self.now self l.regs l.core l.owed_to h c.in-Stored.taken s.regs s.core s.bus s.count c.turned_on-on.result p c.requires.none c.leap_clear-in-Stored.new.self (e.within refl) (e.idle refl) (e.state refl) (e.clear refl) (e.clock refl) in
     let more = p.count in
     let last = l.invariant.on in
@@ -389,32 +370,27 @@ loop-taken-2-preserved-then-on c =
       turning = turned c.args.cycle c.args.end c.args.self.now self l.regs l.core l.owed_to h c.in-Stored.taken s.regs s.core s.bus s.count c.turned_on-on.result p c.requires.none c.leap_clear-in-Stored.new.self (e.within refl) (e.idle refl) (e.state refl) (e.clear refl) (e.clock refl) (s.count + 1)
           (omega arith) (still_owed s.count ∙ sym c.if-on.true);
       slots = l.invariant.slots;
+      flag = refl;
       on = omega (arith, last, moves);
     }
 
-pub loop-taken-2-smaller-else-on : goal.loop-taken-2-smaller-else-on
-loop-taken-2-smaller-else-on c =
-    let l = c.loop-taken-2 in
-    let self : Machine = record c.loop-taken.self { bus = l.self.1.1.1.1.1.1.1.0; count = l.self.1.1.1.1.1.1.1.1.1.1.1.1.0 } in
-    let h = l.invariant.turning in
-    let s = c.one_step.new in
-    let m : Machine = turning self l.regs l.core l.owed_to in
-    let p = subst (λ (b : Bool). IsStepped self.bus.board.clock c.in-Stored.taken m (owing b (over s.regs s.core s.bus s.count self))) (sym c.turned_on-on.ensures) (c.in-Stored.ensures m refl (acts c.args.cycle c.args.end c.args.self.now self l.regs l.core l.owed_to h c.requires.early c.requires.may.room) h.runs.behind) in
-    let e = c.if-not-leap_clear-3.ensures in
+pub loop-self-2-smaller-else-on : goal.loop-self-2-smaller-else-on
+loop-self-2-smaller-else-on c =
+    let l = c.loop-self-2 in
+    let self : Machine = record c.loop-self.self { bus = l.self.1.1.1.1.1.1.1.0; count = l.self.1.1.1.1.1.1.1.1.1.1.1.1.0 } in
+    let h = l.invariant.turning in let s = c.one_step.new in let m : Machine = turning self l.regs l.core l.owed_to in
+    let p = stepped_on self.bus.board.clock c.in-Stored.taken m (over s.regs s.core s.bus s.count self) l.flags l.core.sreg.bits s.core.sreg.bits c.turned_on-on.result l.invariant.flag c.turned_on-on.ensures (c.in-Stored.ensures.step m refl (acts c.args.cycle c.args.end c.args.self.now self l.regs l.core l.owed_to h c.requires.early c.requires.may.room) h.runs.behind) in
+    let e = c.if-not-leap_clear-4.ensures in
     let moves = moved c.args.cycle c.args.end c.args.self.now self l.regs l.core l.owed_to h c.in-Stored.taken s.regs s.core s.bus s.count c.turned_on-on.result p c.requires.none c.leap_clear-in-Stored.new.self (e.within refl) (e.idle refl) (e.state refl) (e.clear refl) (e.clock refl) in
-    let within = e.within refl in
-    let on = e.clock refl in
-    omega (arith, moves, within, on)
+    let within = e.within refl in let on = e.clock refl in omega (arith, moves, within, on)
 
-pub loop-taken-2-preserved-else-on : goal.loop-taken-2-preserved-else-on
-loop-taken-2-preserved-else-on c =
-    let l = c.loop-taken-2 in
-    let self : Machine = record c.loop-taken.self { bus = l.self.1.1.1.1.1.1.1.0; count = l.self.1.1.1.1.1.1.1.1.1.1.1.1.0 } in
-    let h = l.invariant.turning in
-    let s = c.one_step.new in
-    let m : Machine = turning self l.regs l.core l.owed_to in
-    let p = subst (λ (b : Bool). IsStepped self.bus.board.clock c.in-Stored.taken m (owing b (over s.regs s.core s.bus s.count self))) (sym c.turned_on-on.ensures) (c.in-Stored.ensures m refl (acts c.args.cycle c.args.end c.args.self.now self l.regs l.core l.owed_to h c.requires.early c.requires.may.room) h.runs.behind) in
-    let e = c.if-not-leap_clear-3.ensures in
+pub loop-self-2-preserved-else-on : goal.loop-self-2-preserved-else-on
+loop-self-2-preserved-else-on c =
+    let l = c.loop-self-2 in
+    let self : Machine = record c.loop-self.self { bus = l.self.1.1.1.1.1.1.1.0; count = l.self.1.1.1.1.1.1.1.1.1.1.1.1.0 } in
+    let h = l.invariant.turning in let s = c.one_step.new in let m : Machine = turning self l.regs l.core l.owed_to in
+    let p = stepped_on self.bus.board.clock c.in-Stored.taken m (over s.regs s.core s.bus s.count self) l.flags l.core.sreg.bits s.core.sreg.bits c.turned_on-on.result l.invariant.flag c.turned_on-on.ensures (c.in-Stored.ensures.step m refl (acts c.args.cycle c.args.end c.args.self.now self l.regs l.core l.owed_to h c.requires.early c.requires.may.room) h.runs.behind) in
+    let e = c.if-not-leap_clear-4.ensures in
     let moves = moved c.args.cycle c.args.end c.args.self.now self l.regs l.core l.owed_to h c.in-Stored.taken s.regs s.core s.bus s.count c.turned_on-on.result p c.requires.none c.leap_clear-in-Stored.new.self (e.within refl) (e.idle refl) (e.state refl) (e.clear refl) (e.clock refl) in
     let more = p.count in
     let last = l.invariant.on in
@@ -422,109 +398,90 @@ loop-taken-2-preserved-else-on c =
       turning = turned c.args.cycle c.args.end c.args.self.now self l.regs l.core l.owed_to h c.in-Stored.taken s.regs s.core s.bus s.count c.turned_on-on.result p c.requires.none c.leap_clear-in-Stored.new.self (e.within refl) (e.idle refl) (e.state refl) (e.clear refl) (e.clock refl) l.owed_to
           (let up = h.top in omega (arith, more, up)) (subst (λ (n : ℕ). nat_lt n l.owed_to ≡ false) (sym more) (not_owed self.count l.owed_to h.top) ∙ sym c.if-on.false);
       slots = l.invariant.slots;
+      flag = refl;
       on = omega (arith, last, moves);
     }
 
 pub leap_clear-requires-in-Enabled : goal.leap_clear-requires-in-Enabled
 leap_clear-requires-in-Enabled c =
-    let l = c.loop-taken-2 in
-    let self : Machine = record c.loop-taken.self { bus = l.self.1.1.1.1.1.1.1.0; count = l.self.1.1.1.1.1.1.1.1.1.1.1.1.0 } in
-    let h = l.invariant.turning in
-    let s = c.one_step.new in
-    let m : Machine = turning self l.regs l.core l.owed_to in
-    let p = c.in-Enabled.ensures m refl (acts c.args.cycle c.args.end c.args.self.now self l.regs l.core l.owed_to h c.requires.early c.requires.may.room) h.runs.behind in
+    let l = c.loop-self-2 in
+    let self : Machine = record c.loop-self.self { bus = l.self.1.1.1.1.1.1.1.0; count = l.self.1.1.1.1.1.1.1.1.1.1.1.1.0 } in
+    let h = l.invariant.turning in let s = c.one_step.new in let m : Machine = turning self l.regs l.core l.owed_to in
+    let p = c.in-Enabled.ensures.step m refl (acts c.args.cycle c.args.end c.args.self.now self l.regs l.core l.owed_to h c.requires.early c.requires.may.room) h.runs.behind in
     record { some = p.some }
 
-pub end_sprint-requires-then-not-leap_clear-4-clause-some : goal.end_sprint-requires-then-not-leap_clear-4-clause-some
-end_sprint-requires-then-not-leap_clear-4-clause-some c =
-    let l = c.loop-taken-2 in
-    let self : Machine = record c.loop-taken.self { bus = l.self.1.1.1.1.1.1.1.0; count = l.self.1.1.1.1.1.1.1.1.1.1.1.1.0 } in
-    let h = l.invariant.turning in
-    let s = c.one_step.new in
-    let m : Machine = turning self l.regs l.core l.owed_to in
-    let p = c.in-Enabled.ensures m refl (acts c.args.cycle c.args.end c.args.self.now self l.regs l.core l.owed_to h c.requires.early c.requires.may.room) h.runs.behind in
+pub end_sprint-requires-then-not-leap_clear-5-clause-some : goal.end_sprint-requires-then-not-leap_clear-5-clause-some
+end_sprint-requires-then-not-leap_clear-5-clause-some c =
+    let l = c.loop-self-2 in
+    let self : Machine = record c.loop-self.self { bus = l.self.1.1.1.1.1.1.1.0; count = l.self.1.1.1.1.1.1.1.1.1.1.1.1.0 } in
+    let h = l.invariant.turning in let s = c.one_step.new in let m : Machine = turning self l.regs l.core l.owed_to in
+    let p = c.in-Enabled.ensures.step m refl (acts c.args.cycle c.args.end c.args.self.now self l.regs l.core l.owed_to h c.requires.early c.requires.may.room) h.runs.behind in
     p.some
 
-pub end_sprint-requires-then-not-leap_clear-4-clause-early : goal.end_sprint-requires-then-not-leap_clear-4-clause-early
-end_sprint-requires-then-not-leap_clear-4-clause-early c =
-    let l = c.loop-taken-2 in
-    let self : Machine = record c.loop-taken.self { bus = l.self.1.1.1.1.1.1.1.0; count = l.self.1.1.1.1.1.1.1.1.1.1.1.1.0 } in
-    let h = l.invariant.turning in
-    let s = c.one_step.new in
-    let m : Machine = turning self l.regs l.core l.owed_to in
-    let p = c.in-Enabled.ensures m refl (acts c.args.cycle c.args.end c.args.self.now self l.regs l.core l.owed_to h c.requires.early c.requires.may.room) h.runs.behind in
-    let at = stays_at c.args.cycle c.args.end c.args.self.now self l.regs l.core l.owed_to h c.in-Enabled.taken s.regs s.core s.bus s.count true p c.leap_clear-in-Enabled.new.self (c.if-not-leap_clear-4.ensures.same refl) in
+pub end_sprint-requires-then-not-leap_clear-5-clause-early : goal.end_sprint-requires-then-not-leap_clear-5-clause-early
+end_sprint-requires-then-not-leap_clear-5-clause-early c =
+    let l = c.loop-self-2 in
+    let self : Machine = record c.loop-self.self { bus = l.self.1.1.1.1.1.1.1.0; count = l.self.1.1.1.1.1.1.1.1.1.1.1.1.0 } in
+    let h = l.invariant.turning in let s = c.one_step.new in let m : Machine = turning self l.regs l.core l.owed_to in
+    let p = c.in-Enabled.ensures.step m refl (acts c.args.cycle c.args.end c.args.self.now self l.regs l.core l.owed_to h c.requires.early c.requires.may.room) h.runs.behind in
+    let at = stays_at c.args.cycle c.args.end c.args.self.now self l.regs l.core l.owed_to h c.in-Enabled.taken s.regs s.core s.bus s.count true p c.leap_clear-in-Enabled.new.self (c.if-not-leap_clear-5.ensures.same refl) in
     let within = h.within in omega (arith, at, within, c.requires.early)
 
-pub end_sprint-requires-then-not-leap_clear-4-clause-within : goal.end_sprint-requires-then-not-leap_clear-4-clause-within
-end_sprint-requires-then-not-leap_clear-4-clause-within c =
-    let l = c.loop-taken-2 in
-    let self : Machine = record c.loop-taken.self { bus = l.self.1.1.1.1.1.1.1.0; count = l.self.1.1.1.1.1.1.1.1.1.1.1.1.0 } in
-    let h = l.invariant.turning in
-    let s = c.one_step.new in
-    let m : Machine = turning self l.regs l.core l.owed_to in
-    let p = c.in-Enabled.ensures m refl (acts c.args.cycle c.args.end c.args.self.now self l.regs l.core l.owed_to h c.requires.early c.requires.may.room) h.runs.behind in
-    let at = stays_at c.args.cycle c.args.end c.args.self.now self l.regs l.core l.owed_to h c.in-Enabled.taken s.regs s.core s.bus s.count true p c.leap_clear-in-Enabled.new.self (c.if-not-leap_clear-4.ensures.same refl) in
+pub end_sprint-requires-then-not-leap_clear-5-clause-within : goal.end_sprint-requires-then-not-leap_clear-5-clause-within
+end_sprint-requires-then-not-leap_clear-5-clause-within c =
+    let l = c.loop-self-2 in
+    let self : Machine = record c.loop-self.self { bus = l.self.1.1.1.1.1.1.1.0; count = l.self.1.1.1.1.1.1.1.1.1.1.1.1.0 } in
+    let h = l.invariant.turning in let s = c.one_step.new in let m : Machine = turning self l.regs l.core l.owed_to in
+    let p = c.in-Enabled.ensures.step m refl (acts c.args.cycle c.args.end c.args.self.now self l.regs l.core l.owed_to h c.requires.early c.requires.may.room) h.runs.behind in
+    let at = stays_at c.args.cycle c.args.end c.args.self.now self l.regs l.core l.owed_to h c.in-Enabled.taken s.regs s.core s.bus s.count true p c.leap_clear-in-Enabled.new.self (c.if-not-leap_clear-5.ensures.same refl) in
     let within = h.within in omega (arith, at, within)
 
-pub end_sprint-requires-then-not-leap_clear-4-clause-none : goal.end_sprint-requires-then-not-leap_clear-4-clause-none
-end_sprint-requires-then-not-leap_clear-4-clause-none c k late =
-    let l = c.loop-taken-2 in
-    let self : Machine = record c.loop-taken.self { bus = l.self.1.1.1.1.1.1.1.0; count = l.self.1.1.1.1.1.1.1.1.1.1.1.1.0 } in
-    let h = l.invariant.turning in
-    let s = c.one_step.new in
-    let m : Machine = turning self l.regs l.core l.owed_to in
-    let p = c.in-Enabled.ensures m refl (acts c.args.cycle c.args.end c.args.self.now self l.regs l.core l.owed_to h c.requires.early c.requires.may.room) h.runs.behind in
-    let at = stays_at c.args.cycle c.args.end c.args.self.now self l.regs l.core l.owed_to h c.in-Enabled.taken s.regs s.core s.bus s.count true p c.leap_clear-in-Enabled.new.self (c.if-not-leap_clear-4.ensures.same refl) in
+pub end_sprint-requires-then-not-leap_clear-5-clause-none : goal.end_sprint-requires-then-not-leap_clear-5-clause-none
+end_sprint-requires-then-not-leap_clear-5-clause-none c k late =
+    let l = c.loop-self-2 in
+    let self : Machine = record c.loop-self.self { bus = l.self.1.1.1.1.1.1.1.0; count = l.self.1.1.1.1.1.1.1.1.1.1.1.1.0 } in
+    let h = l.invariant.turning in let s = c.one_step.new in let m : Machine = turning self l.regs l.core l.owed_to in
+    let p = c.in-Enabled.ensures.step m refl (acts c.args.cycle c.args.end c.args.self.now self l.regs l.core l.owed_to h c.requires.early c.requires.may.room) h.runs.behind in
+    let at = stays_at c.args.cycle c.args.end c.args.self.now self l.regs l.core l.owed_to h c.in-Enabled.taken s.regs s.core s.bus s.count true p c.leap_clear-in-Enabled.new.self (c.if-not-leap_clear-5.ensures.same refl) in
     let from = h.runs.from in
     silent c.args.cycle c.leap_clear-in-Enabled.new.self.clock c.args.end c.args.self.now (record self { bus = with_board s.bus c.leap_clear-in-Enabled.new.self; count = s.count }) h.runs.script (omega (arith, from, at)) c.requires.none k late
 
-pub returns-then-not-leap_clear-4-clause-sprinted : goal.returns-then-not-leap_clear-4-clause-sprinted
-returns-then-not-leap_clear-4-clause-sprinted c =
-    let l = c.loop-taken-2 in
-    let self : Machine = record c.loop-taken.self { bus = l.self.1.1.1.1.1.1.1.0; count = l.self.1.1.1.1.1.1.1.1.1.1.1.1.0 } in
-    let h = l.invariant.turning in
-    let s = c.one_step.new in
-    let m : Machine = turning self l.regs l.core l.owed_to in
-    let p = c.in-Enabled.ensures m refl (acts c.args.cycle c.args.end c.args.self.now self l.regs l.core l.owed_to h c.requires.early c.requires.may.room) h.runs.behind in
-    let same = c.if-not-leap_clear-4.ensures.same refl in
-    c.end_sprint-then-not-leap_clear-4.ensures.sprinted c.args.cycle c.args.self.now m (at_it c.args.cycle c.args.end c.args.self.now self l.regs l.core l.owed_to h c.in-Enabled.taken s.regs s.core s.bus s.count true p c.leap_clear-in-Enabled.new.self same) (turn_free c.args.cycle c.args.end c.args.self.now self l.regs l.core l.owed_to h c.in-Enabled.taken s.regs s.core s.bus s.count true p) (carried c.args.cycle c.args.end c.args.self.now self l.regs l.core l.owed_to h c.in-Enabled.taken s.regs s.core s.bus s.count true p c.leap_clear-in-Enabled.new.self same)
+pub returns-then-not-leap_clear-5-clause-sprinted : goal.returns-then-not-leap_clear-5-clause-sprinted
+returns-then-not-leap_clear-5-clause-sprinted c =
+    let l = c.loop-self-2 in
+    let self : Machine = record c.loop-self.self { bus = l.self.1.1.1.1.1.1.1.0; count = l.self.1.1.1.1.1.1.1.1.1.1.1.1.0 } in
+    let h = l.invariant.turning in let s = c.one_step.new in let m : Machine = turning self l.regs l.core l.owed_to in
+    let p = c.in-Enabled.ensures.step m refl (acts c.args.cycle c.args.end c.args.self.now self l.regs l.core l.owed_to h c.requires.early c.requires.may.room) h.runs.behind in
+    let same = c.if-not-leap_clear-5.ensures.same refl in
+    c.end_sprint-then-not-leap_clear-5.ensures.sprinted c.args.cycle c.args.self.now m (at_it c.args.cycle c.args.end c.args.self.now self l.regs l.core l.owed_to h c.in-Enabled.taken s.regs s.core s.bus s.count true p c.leap_clear-in-Enabled.new.self same) (turn_free c.args.cycle c.args.end c.args.self.now self l.regs l.core l.owed_to h c.in-Enabled.taken s.regs s.core s.bus s.count true p) (carried c.args.cycle c.args.end c.args.self.now self l.regs l.core l.owed_to h c.in-Enabled.taken s.regs s.core s.bus s.count true p c.leap_clear-in-Enabled.new.self same)
 
 pub overflow_add-owed_to-in-Enabled : goal.overflow_add-owed_to-in-Enabled
 overflow_add-owed_to-in-Enabled c =
-    let l = c.loop-taken-2 in
-    let self : Machine = record c.loop-taken.self { bus = l.self.1.1.1.1.1.1.1.0; count = l.self.1.1.1.1.1.1.1.1.1.1.1.1.0 } in
-    let h = l.invariant.turning in
-    let s = c.one_step.new in
-    let m : Machine = turning self l.regs l.core l.owed_to in
-    let p = c.in-Enabled.ensures m refl (acts c.args.cycle c.args.end c.args.self.now self l.regs l.core l.owed_to h c.requires.early c.requires.may.room) h.runs.behind in
+    let l = c.loop-self-2 in
+    let self : Machine = record c.loop-self.self { bus = l.self.1.1.1.1.1.1.1.0; count = l.self.1.1.1.1.1.1.1.1.1.1.1.1.0 } in
+    let h = l.invariant.turning in let s = c.one_step.new in let m : Machine = turning self l.regs l.core l.owed_to in
+    let p = c.in-Enabled.ensures.step m refl (acts c.args.cycle c.args.end c.args.self.now self l.regs l.core l.owed_to h c.requires.early c.requires.may.room) h.runs.behind in
     let few = p.count in
     let most = h.runs.count in
     let within = h.within in omega (arith, few, most, within, c.requires.early)
 
-pub loop-taken-2-smaller : goal.loop-taken-2-smaller
-loop-taken-2-smaller c =
-    let l = c.loop-taken-2 in
-    let self : Machine = record c.loop-taken.self { bus = l.self.1.1.1.1.1.1.1.0; count = l.self.1.1.1.1.1.1.1.1.1.1.1.1.0 } in
-    let h = l.invariant.turning in
-    let s = c.one_step.new in
-    let m : Machine = turning self l.regs l.core l.owed_to in
-    let p = c.in-Enabled.ensures m refl (acts c.args.cycle c.args.end c.args.self.now self l.regs l.core l.owed_to h c.requires.early c.requires.may.room) h.runs.behind in
-    let e = c.if-not-leap_clear-4.ensures in
+pub loop-self-2-smaller : goal.loop-self-2-smaller
+loop-self-2-smaller c =
+    let l = c.loop-self-2 in
+    let self : Machine = record c.loop-self.self { bus = l.self.1.1.1.1.1.1.1.0; count = l.self.1.1.1.1.1.1.1.1.1.1.1.1.0 } in
+    let h = l.invariant.turning in let s = c.one_step.new in let m : Machine = turning self l.regs l.core l.owed_to in
+    let p = c.in-Enabled.ensures.step m refl (acts c.args.cycle c.args.end c.args.self.now self l.regs l.core l.owed_to h c.requires.early c.requires.may.room) h.runs.behind in
+    let e = c.if-not-leap_clear-5.ensures in
     let moves = moved c.args.cycle c.args.end c.args.self.now self l.regs l.core l.owed_to h c.in-Enabled.taken s.regs s.core s.bus s.count true p c.requires.none c.leap_clear-in-Enabled.new.self (e.within refl) (e.idle refl) (e.state refl) (e.clear refl) (e.clock refl) in
-    let within = e.within refl in
-    let on = e.clock refl in
-    omega (arith, moves, within, on)
+    let within = e.within refl in let on = e.clock refl in omega (arith, moves, within, on)
 
-pub loop-taken-2-preserved : goal.loop-taken-2-preserved
-loop-taken-2-preserved c =
-    let l = c.loop-taken-2 in
-    let self : Machine = record c.loop-taken.self { bus = l.self.1.1.1.1.1.1.1.0; count = l.self.1.1.1.1.1.1.1.1.1.1.1.1.0 } in
-    let h = l.invariant.turning in
-    let s = c.one_step.new in
-    let m : Machine = turning self l.regs l.core l.owed_to in
-    let p = c.in-Enabled.ensures m refl (acts c.args.cycle c.args.end c.args.self.now self l.regs l.core l.owed_to h c.requires.early c.requires.may.room) h.runs.behind in
-    let e = c.if-not-leap_clear-4.ensures in
+pub loop-self-2-preserved : goal.loop-self-2-preserved
+loop-self-2-preserved c =
+    let l = c.loop-self-2 in
+    let self : Machine = record c.loop-self.self { bus = l.self.1.1.1.1.1.1.1.0; count = l.self.1.1.1.1.1.1.1.1.1.1.1.1.0 } in
+    let h = l.invariant.turning in let s = c.one_step.new in let m : Machine = turning self l.regs l.core l.owed_to in
+    let p = c.in-Enabled.ensures.step m refl (acts c.args.cycle c.args.end c.args.self.now self l.regs l.core l.owed_to h c.requires.early c.requires.may.room) h.runs.behind in
+    let e = c.if-not-leap_clear-5.ensures in
     let moves = moved c.args.cycle c.args.end c.args.self.now self l.regs l.core l.owed_to h c.in-Enabled.taken s.regs s.core s.bus s.count true p c.requires.none c.leap_clear-in-Enabled.new.self (e.within refl) (e.idle refl) (e.state refl) (e.clear refl) (e.clock refl) in
     let more = p.count in
     let last = l.invariant.on in
@@ -532,22 +489,20 @@ loop-taken-2-preserved c =
       turning = turned c.args.cycle c.args.end c.args.self.now self l.regs l.core l.owed_to h c.in-Enabled.taken s.regs s.core s.bus s.count true p c.requires.none c.leap_clear-in-Enabled.new.self (e.within refl) (e.idle refl) (e.state refl) (e.clear refl) (e.clock refl) (s.count + 1)
           (omega arith) (still_owed s.count);
       slots = l.invariant.slots;
+      flag = refl;
       on = omega (arith, last, moves);
     }
 
 pub returns-in-Left-clause-sprinted : goal.returns-in-Left-clause-sprinted
 returns-in-Left-clause-sprinted c =
-    let t : ℕ = c.args.cycle in
-    let old : Machine = c.args.self.now in
-    let l = c.loop-taken-2 in
-    let self : Machine = record c.loop-taken.self { bus = l.self.1.1.1.1.1.1.1.0; count = l.self.1.1.1.1.1.1.1.1.1.1.1.1.0 } in
-    let h = l.invariant.turning in
-    let s = c.one_step.new in
-    let m : Machine = turning self l.regs l.core l.owed_to in
+    let t : ℕ = c.args.cycle in let old : Machine = c.args.self.now in
+    let l = c.loop-self-2 in
+    let self : Machine = record c.loop-self.self { bus = l.self.1.1.1.1.1.1.1.0; count = l.self.1.1.1.1.1.1.1.1.1.1.1.1.0 } in
+    let h = l.invariant.turning in let s = c.one_step.new in let m : Machine = turning self l.regs l.core l.owed_to in
     let early = h.within in
     let ready = acts c.args.cycle c.args.end c.args.self.now self l.regs l.core l.owed_to h c.requires.early c.requires.may.room in
     let k : ℕ = l.owed_to in
-    let e = c.in-Left.ensures m refl ready h.runs.behind in
+    let e = c.in-Left.ensures.step m refl ready h.runs.behind in
     let g = c.gather-at.ensures in
     let count : s.count ≡ self.count = ap (λ (z : Machine). z.count) e in
     let clock : c.gather-at.result ≡ self.bus.board.clock = g.value ∙ ap (λ (z : Machine). z.bus.board.clock) e in
@@ -557,17 +512,14 @@ returns-in-Left-clause-sprinted c =
 
 pub returns-in-Left-clause-within : goal.returns-in-Left-clause-within
 returns-in-Left-clause-within c =
-    let t : ℕ = c.args.cycle in
-    let old : Machine = c.args.self.now in
-    let l = c.loop-taken-2 in
-    let self : Machine = record c.loop-taken.self { bus = l.self.1.1.1.1.1.1.1.0; count = l.self.1.1.1.1.1.1.1.1.1.1.1.1.0 } in
-    let h = l.invariant.turning in
-    let s = c.one_step.new in
-    let m : Machine = turning self l.regs l.core l.owed_to in
+    let t : ℕ = c.args.cycle in let old : Machine = c.args.self.now in
+    let l = c.loop-self-2 in
+    let self : Machine = record c.loop-self.self { bus = l.self.1.1.1.1.1.1.1.0; count = l.self.1.1.1.1.1.1.1.1.1.1.1.1.0 } in
+    let h = l.invariant.turning in let s = c.one_step.new in let m : Machine = turning self l.regs l.core l.owed_to in
     let early = h.within in
     let ready = acts c.args.cycle c.args.end c.args.self.now self l.regs l.core l.owed_to h c.requires.early c.requires.may.room in
     let k : ℕ = l.owed_to in
-    let e = c.in-Left.ensures m refl ready h.runs.behind in
+    let e = c.in-Left.ensures.step m refl ready h.runs.behind in
     let g = c.gather-at.ensures in
     let count : s.count ≡ self.count = ap (λ (z : Machine). z.count) e in
     let clock : c.gather-at.result ≡ self.bus.board.clock = g.value ∙ ap (λ (z : Machine). z.bus.board.clock) e in
@@ -575,17 +527,14 @@ returns-in-Left-clause-within c =
 
 pub halt-requires : goal.halt-requires
 halt-requires c =
-    let t : ℕ = c.args.cycle in
-    let old : Machine = c.args.self.now in
-    let l = c.loop-taken-2 in
-    let self : Machine = record c.loop-taken.self { bus = l.self.1.1.1.1.1.1.1.0; count = l.self.1.1.1.1.1.1.1.1.1.1.1.1.0 } in
-    let h = l.invariant.turning in
-    let s = c.one_step.new in
-    let m : Machine = turning self l.regs l.core l.owed_to in
+    let t : ℕ = c.args.cycle in let old : Machine = c.args.self.now in
+    let l = c.loop-self-2 in
+    let self : Machine = record c.loop-self.self { bus = l.self.1.1.1.1.1.1.1.0; count = l.self.1.1.1.1.1.1.1.1.1.1.1.1.0 } in
+    let h = l.invariant.turning in let s = c.one_step.new in let m : Machine = turning self l.regs l.core l.owed_to in
     let early = h.within in
     let ready = acts c.args.cycle c.args.end c.args.self.now self l.regs l.core l.owed_to h c.requires.early c.requires.may.room in
     let k : ℕ = l.owed_to in
-    let q = c.in-Stopped.ensures m refl ready h.runs.behind in
+    let q = c.in-Stopped.ensures.step m refl ready h.runs.behind in
     let g = c.gather-at-in-Stopped.ensures in
     let x : Machine = c.gather-at-in-Stopped.new.self in
     let w : Machine = over s.regs s.core s.bus s.count m in
@@ -598,41 +547,36 @@ halt-requires c =
 
 pub returns-in-Stopped-clause-sprinted : goal.returns-in-Stopped-clause-sprinted
 returns-in-Stopped-clause-sprinted c =
-    let t : ℕ = c.args.cycle in
-    let old : Machine = c.args.self.now in
-    let l = c.loop-taken-2 in
-    let self : Machine = record c.loop-taken.self { bus = l.self.1.1.1.1.1.1.1.0; count = l.self.1.1.1.1.1.1.1.1.1.1.1.1.0 } in
-    let h = l.invariant.turning in
-    let s = c.one_step.new in
-    let m : Machine = turning self l.regs l.core l.owed_to in
+    let t : ℕ = c.args.cycle in let old : Machine = c.args.self.now in
+    let l = c.loop-self-2 in
+    let self : Machine = record c.loop-self.self { bus = l.self.1.1.1.1.1.1.1.0; count = l.self.1.1.1.1.1.1.1.1.1.1.1.1.0 } in
+    let h = l.invariant.turning in let s = c.one_step.new in let m : Machine = turning self l.regs l.core l.owed_to in
     let early = h.within in
     let ready = acts c.args.cycle c.args.end c.args.self.now self l.regs l.core l.owed_to h c.requires.early c.requires.may.room in
     let k : ℕ = l.owed_to in
-    let q = c.in-Stopped.ensures m refl ready h.runs.behind in
+    let q = c.in-Stopped.ensures.step m refl ready h.runs.behind in
     let g = c.gather-at-in-Stopped.ensures in
     let x : Machine = c.gather-at-in-Stopped.new.self in
     let w : Machine = over s.regs s.core s.bus s.count m in
     let here : x ≡ w = g.state ∙ ap (λ (n : ℕ). owing (nat_lt n k) (over s.regs s.core s.bus s.count self)) q.count in
     let clock : c.gather-at-in-Stopped.result ≡ self.bus.board.clock = g.value ∙ q.clock in
     let r = c.halt.ensures in
+    let rows = subst (λ (n : ℕ). c.halt.new.self.rows.items ≡ x.rows.items ++ row c.gather-at-in-Stopped.result (shown x) (kind.Stop n c.in-Stopped.cause)) (sym (ap (λ (z : Machine). z.cpu.pc) here)) r.rows in
     let is : IsStopping self.bus.board.clock c.in-Stopped.cause m x = subst (λ (z : Machine). IsStopping self.bus.board.clock c.in-Stopped.cause m z) (sym here) q in
     subst (λ (u : ℕ). IsSprinted t u true old c.halt.new.self) (sym clock)
     (stops t self.bus.board.clock old m x c.halt.new.self c.in-Stopped.cause h.runs (clear_due m h.clear) is r.state
-    (subst (λ (u : ℕ). c.halt.new.self.rows.items ≡ x.rows.items ++ row u (shown x) (kind.Stop m.cpu.pc c.in-Stopped.cause)) clock r.rows) r.room r.clock)
+    (subst (λ (u : ℕ). c.halt.new.self.rows.items ≡ x.rows.items ++ row u (shown x) (kind.Stop x.cpu.pc c.in-Stopped.cause)) clock rows) r.room r.clock)
 
 pub returns-in-Stopped-clause-within : goal.returns-in-Stopped-clause-within
 returns-in-Stopped-clause-within c =
-    let t : ℕ = c.args.cycle in
-    let old : Machine = c.args.self.now in
-    let l = c.loop-taken-2 in
-    let self : Machine = record c.loop-taken.self { bus = l.self.1.1.1.1.1.1.1.0; count = l.self.1.1.1.1.1.1.1.1.1.1.1.1.0 } in
-    let h = l.invariant.turning in
-    let s = c.one_step.new in
-    let m : Machine = turning self l.regs l.core l.owed_to in
+    let t : ℕ = c.args.cycle in let old : Machine = c.args.self.now in
+    let l = c.loop-self-2 in
+    let self : Machine = record c.loop-self.self { bus = l.self.1.1.1.1.1.1.1.0; count = l.self.1.1.1.1.1.1.1.1.1.1.1.1.0 } in
+    let h = l.invariant.turning in let s = c.one_step.new in let m : Machine = turning self l.regs l.core l.owed_to in
     let early = h.within in
     let ready = acts c.args.cycle c.args.end c.args.self.now self l.regs l.core l.owed_to h c.requires.early c.requires.may.room in
     let k : ℕ = l.owed_to in
-    let q = c.in-Stopped.ensures m refl ready h.runs.behind in
+    let q = c.in-Stopped.ensures.step m refl ready h.runs.behind in
     let g = c.gather-at-in-Stopped.ensures in
     let x : Machine = c.gather-at-in-Stopped.new.self in
     let w : Machine = over s.regs s.core s.bus s.count m in
@@ -642,15 +586,12 @@ returns-in-Stopped-clause-within c =
 
 pub leap-requires-clause-may : goal.leap-requires-clause-may
 leap-requires-clause-may c =
-    let t : ℕ = c.args.cycle in
-    let old : Machine = c.args.self.now in
-    let l = c.loop-taken-2 in
-    let self : Machine = record c.loop-taken.self { bus = l.self.1.1.1.1.1.1.1.0; count = l.self.1.1.1.1.1.1.1.1.1.1.1.1.0 } in
-    let h = l.invariant.turning in
-    let s = c.one_step.new in
-    let m : Machine = turning self l.regs l.core l.owed_to in
-    let p = c.in-Jumped.ensures m refl (acts c.args.cycle c.args.end c.args.self.now self l.regs l.core l.owed_to h c.requires.early c.requires.may.room) h.runs.behind in
-    let e = c.if-not-leap_clear-2.ensures in
+    let t : ℕ = c.args.cycle in let old : Machine = c.args.self.now in
+    let l = c.loop-self-2 in
+    let self : Machine = record c.loop-self.self { bus = l.self.1.1.1.1.1.1.1.0; count = l.self.1.1.1.1.1.1.1.1.1.1.1.1.0 } in
+    let h = l.invariant.turning in let s = c.one_step.new in let m : Machine = turning self l.regs l.core l.owed_to in
+    let p = c.in-Jumped.ensures.step m refl (acts c.args.cycle c.args.end c.args.self.now self l.regs l.core l.owed_to h c.requires.early c.requires.may.room) h.runs.behind in
+    let e = c.if-not-leap_clear-3.ensures in
     let more = p.count in
     let last = l.invariant.on in
     let k : ℕ = l.owed_to in
@@ -658,24 +599,21 @@ leap-requires-clause-may c =
     let off : nat_lt s.count k ≡ false = subst (λ (n : ℕ). nat_lt n k ≡ false) (sym more) (not_owed self.count k h.top) in
     let next = turned c.args.cycle c.args.end c.args.self.now self l.regs l.core l.owed_to h c.in-Jumped.taken s.regs s.core s.bus s.count false p c.requires.none c.leap_clear-in-Jumped.new.self (e.within refl) (e.idle refl) (e.state refl) (e.clear refl) (e.clock refl) k
     (let up = h.top in omega (arith, more, up)) off in
-    let g = c.gather-at-in-loop-taken.ensures in
-    let r : ℕ = c.gather-at-in-loop-taken.result in
-    let x : Machine = c.gather-at-in-loop-taken.new.self in
+    let g = c.gather-at-in-loop-self.ensures in
+    let r : ℕ = c.gather-at-in-loop-self.result in
+    let x : Machine = c.gather-at-in-loop-self.new.self in
     let now : r ≡ c.leap_clear-in-Jumped.new.self.clock = g.value in
     let begun : IsSprinting t r old x = subst (λ (u : ℕ). IsSprinting t u old x) (sym now) (subst (λ (z : Machine). IsSprinting t c.leap_clear-in-Jumped.new.self.clock old z) (sym g.state) next.runs) in
     may t r old x begun g.early c.requires.may.room
 
 pub leap-requires-clause-behind : goal.leap-requires-clause-behind
 leap-requires-clause-behind c =
-    let t : ℕ = c.args.cycle in
-    let old : Machine = c.args.self.now in
-    let l = c.loop-taken-2 in
-    let self : Machine = record c.loop-taken.self { bus = l.self.1.1.1.1.1.1.1.0; count = l.self.1.1.1.1.1.1.1.1.1.1.1.1.0 } in
-    let h = l.invariant.turning in
-    let s = c.one_step.new in
-    let m : Machine = turning self l.regs l.core l.owed_to in
-    let p = c.in-Jumped.ensures m refl (acts c.args.cycle c.args.end c.args.self.now self l.regs l.core l.owed_to h c.requires.early c.requires.may.room) h.runs.behind in
-    let e = c.if-not-leap_clear-2.ensures in
+    let t : ℕ = c.args.cycle in let old : Machine = c.args.self.now in
+    let l = c.loop-self-2 in
+    let self : Machine = record c.loop-self.self { bus = l.self.1.1.1.1.1.1.1.0; count = l.self.1.1.1.1.1.1.1.1.1.1.1.1.0 } in
+    let h = l.invariant.turning in let s = c.one_step.new in let m : Machine = turning self l.regs l.core l.owed_to in
+    let p = c.in-Jumped.ensures.step m refl (acts c.args.cycle c.args.end c.args.self.now self l.regs l.core l.owed_to h c.requires.early c.requires.may.room) h.runs.behind in
+    let e = c.if-not-leap_clear-3.ensures in
     let more = p.count in
     let last = l.invariant.on in
     let k : ℕ = l.owed_to in
@@ -683,24 +621,21 @@ leap-requires-clause-behind c =
     let off : nat_lt s.count k ≡ false = subst (λ (n : ℕ). nat_lt n k ≡ false) (sym more) (not_owed self.count k h.top) in
     let next = turned c.args.cycle c.args.end c.args.self.now self l.regs l.core l.owed_to h c.in-Jumped.taken s.regs s.core s.bus s.count false p c.requires.none c.leap_clear-in-Jumped.new.self (e.within refl) (e.idle refl) (e.state refl) (e.clear refl) (e.clock refl) k
     (let up = h.top in omega (arith, more, up)) off in
-    let g = c.gather-at-in-loop-taken.ensures in
-    let r : ℕ = c.gather-at-in-loop-taken.result in
-    let x : Machine = c.gather-at-in-loop-taken.new.self in
+    let g = c.gather-at-in-loop-self.ensures in
+    let r : ℕ = c.gather-at-in-loop-self.result in
+    let x : Machine = c.gather-at-in-loop-self.new.self in
     let now : r ≡ c.leap_clear-in-Jumped.new.self.clock = g.value in
     let begun : IsSprinting t r old x = subst (λ (u : ℕ). IsSprinting t u old x) (sym now) (subst (λ (z : Machine). IsSprinting t c.leap_clear-in-Jumped.new.self.clock old z) (sym g.state) next.runs) in
     begun.behind
 
 pub leap-requires-clause-none : goal.leap-requires-clause-none
 leap-requires-clause-none c i late =
-    let t : ℕ = c.args.cycle in
-    let old : Machine = c.args.self.now in
-    let l = c.loop-taken-2 in
-    let self : Machine = record c.loop-taken.self { bus = l.self.1.1.1.1.1.1.1.0; count = l.self.1.1.1.1.1.1.1.1.1.1.1.1.0 } in
-    let h = l.invariant.turning in
-    let s = c.one_step.new in
-    let m : Machine = turning self l.regs l.core l.owed_to in
-    let p = c.in-Jumped.ensures m refl (acts c.args.cycle c.args.end c.args.self.now self l.regs l.core l.owed_to h c.requires.early c.requires.may.room) h.runs.behind in
-    let e = c.if-not-leap_clear-2.ensures in
+    let t : ℕ = c.args.cycle in let old : Machine = c.args.self.now in
+    let l = c.loop-self-2 in
+    let self : Machine = record c.loop-self.self { bus = l.self.1.1.1.1.1.1.1.0; count = l.self.1.1.1.1.1.1.1.1.1.1.1.1.0 } in
+    let h = l.invariant.turning in let s = c.one_step.new in let m : Machine = turning self l.regs l.core l.owed_to in
+    let p = c.in-Jumped.ensures.step m refl (acts c.args.cycle c.args.end c.args.self.now self l.regs l.core l.owed_to h c.requires.early c.requires.may.room) h.runs.behind in
+    let e = c.if-not-leap_clear-3.ensures in
     let more = p.count in
     let last = l.invariant.on in
     let k : ℕ = l.owed_to in
@@ -708,24 +643,21 @@ leap-requires-clause-none c i late =
     let off : nat_lt s.count k ≡ false = subst (λ (n : ℕ). nat_lt n k ≡ false) (sym more) (not_owed self.count k h.top) in
     let next = turned c.args.cycle c.args.end c.args.self.now self l.regs l.core l.owed_to h c.in-Jumped.taken s.regs s.core s.bus s.count false p c.requires.none c.leap_clear-in-Jumped.new.self (e.within refl) (e.idle refl) (e.state refl) (e.clear refl) (e.clock refl) k
     (let up = h.top in omega (arith, more, up)) off in
-    let g = c.gather-at-in-loop-taken.ensures in
-    let r : ℕ = c.gather-at-in-loop-taken.result in
-    let x : Machine = c.gather-at-in-loop-taken.new.self in
+    let g = c.gather-at-in-loop-self.ensures in
+    let r : ℕ = c.gather-at-in-loop-self.result in
+    let x : Machine = c.gather-at-in-loop-self.new.self in
     let now : r ≡ c.leap_clear-in-Jumped.new.self.clock = g.value in
     let begun : IsSprinting t r old x = subst (λ (u : ℕ). IsSprinting t u old x) (sym now) (subst (λ (z : Machine). IsSprinting t c.leap_clear-in-Jumped.new.self.clock old z) (sym g.state) next.runs) in
     silent t r c.args.end old x begun.script begun.from c.requires.none i late
 
-pub loop-taken-smaller : goal.loop-taken-smaller
-loop-taken-smaller c =
-    let t : ℕ = c.args.cycle in
-    let old : Machine = c.args.self.now in
-    let l = c.loop-taken-2 in
-    let self : Machine = record c.loop-taken.self { bus = l.self.1.1.1.1.1.1.1.0; count = l.self.1.1.1.1.1.1.1.1.1.1.1.1.0 } in
-    let h = l.invariant.turning in
-    let s = c.one_step.new in
-    let m : Machine = turning self l.regs l.core l.owed_to in
-    let p = c.in-Jumped.ensures m refl (acts c.args.cycle c.args.end c.args.self.now self l.regs l.core l.owed_to h c.requires.early c.requires.may.room) h.runs.behind in
-    let e = c.if-not-leap_clear-2.ensures in
+pub loop-self-smaller : goal.loop-self-smaller
+loop-self-smaller c =
+    let t : ℕ = c.args.cycle in let old : Machine = c.args.self.now in
+    let l = c.loop-self-2 in
+    let self : Machine = record c.loop-self.self { bus = l.self.1.1.1.1.1.1.1.0; count = l.self.1.1.1.1.1.1.1.1.1.1.1.1.0 } in
+    let h = l.invariant.turning in let s = c.one_step.new in let m : Machine = turning self l.regs l.core l.owed_to in
+    let p = c.in-Jumped.ensures.step m refl (acts c.args.cycle c.args.end c.args.self.now self l.regs l.core l.owed_to h c.requires.early c.requires.may.room) h.runs.behind in
+    let e = c.if-not-leap_clear-3.ensures in
     let more = p.count in
     let last = l.invariant.on in
     let k : ℕ = l.owed_to in
@@ -733,9 +665,9 @@ loop-taken-smaller c =
     let off : nat_lt s.count k ≡ false = subst (λ (n : ℕ). nat_lt n k ≡ false) (sym more) (not_owed self.count k h.top) in
     let next = turned c.args.cycle c.args.end c.args.self.now self l.regs l.core l.owed_to h c.in-Jumped.taken s.regs s.core s.bus s.count false p c.requires.none c.leap_clear-in-Jumped.new.self (e.within refl) (e.idle refl) (e.state refl) (e.clear refl) (e.clock refl) k
     (let up = h.top in omega (arith, more, up)) off in
-    let g = c.gather-at-in-loop-taken.ensures in
-    let r : ℕ = c.gather-at-in-loop-taken.result in
-    let x : Machine = c.gather-at-in-loop-taken.new.self in
+    let g = c.gather-at-in-loop-self.ensures in
+    let r : ℕ = c.gather-at-in-loop-self.result in
+    let x : Machine = c.gather-at-in-loop-self.new.self in
     let now : r ≡ c.leap_clear-in-Jumped.new.self.clock = g.value in
     let begun : IsSprinting t r old x = subst (λ (u : ℕ). IsSprinting t u old x) (sym now) (subst (λ (z : Machine). IsSprinting t c.leap_clear-in-Jumped.new.self.clock old z) (sym g.state) next.runs) in
     let q = c.leap.ensures in
@@ -744,17 +676,14 @@ loop-taken-smaller c =
     let up = q.within in
     omega (arith, moves, last, now, there, up)
 
-pub loop-taken-preserved : goal.loop-taken-preserved
-loop-taken-preserved c =
-    let t : ℕ = c.args.cycle in
-    let old : Machine = c.args.self.now in
-    let l = c.loop-taken-2 in
-    let self : Machine = record c.loop-taken.self { bus = l.self.1.1.1.1.1.1.1.0; count = l.self.1.1.1.1.1.1.1.1.1.1.1.1.0 } in
-    let h = l.invariant.turning in
-    let s = c.one_step.new in
-    let m : Machine = turning self l.regs l.core l.owed_to in
-    let p = c.in-Jumped.ensures m refl (acts c.args.cycle c.args.end c.args.self.now self l.regs l.core l.owed_to h c.requires.early c.requires.may.room) h.runs.behind in
-    let e = c.if-not-leap_clear-2.ensures in
+pub loop-self-preserved : goal.loop-self-preserved
+loop-self-preserved c =
+    let t : ℕ = c.args.cycle in let old : Machine = c.args.self.now in
+    let l = c.loop-self-2 in
+    let self : Machine = record c.loop-self.self { bus = l.self.1.1.1.1.1.1.1.0; count = l.self.1.1.1.1.1.1.1.1.1.1.1.1.0 } in
+    let h = l.invariant.turning in let s = c.one_step.new in let m : Machine = turning self l.regs l.core l.owed_to in
+    let p = c.in-Jumped.ensures.step m refl (acts c.args.cycle c.args.end c.args.self.now self l.regs l.core l.owed_to h c.requires.early c.requires.may.room) h.runs.behind in
+    let e = c.if-not-leap_clear-3.ensures in
     let more = p.count in
     let last = l.invariant.on in
     let k : ℕ = l.owed_to in
@@ -762,9 +691,9 @@ loop-taken-preserved c =
     let off : nat_lt s.count k ≡ false = subst (λ (n : ℕ). nat_lt n k ≡ false) (sym more) (not_owed self.count k h.top) in
     let next = turned c.args.cycle c.args.end c.args.self.now self l.regs l.core l.owed_to h c.in-Jumped.taken s.regs s.core s.bus s.count false p c.requires.none c.leap_clear-in-Jumped.new.self (e.within refl) (e.idle refl) (e.state refl) (e.clear refl) (e.clock refl) k
     (let up = h.top in omega (arith, more, up)) off in
-    let g = c.gather-at-in-loop-taken.ensures in
-    let r : ℕ = c.gather-at-in-loop-taken.result in
-    let x : Machine = c.gather-at-in-loop-taken.new.self in
+    let g = c.gather-at-in-loop-self.ensures in
+    let r : ℕ = c.gather-at-in-loop-self.result in
+    let x : Machine = c.gather-at-in-loop-self.new.self in
     let now : r ≡ c.leap_clear-in-Jumped.new.self.clock = g.value in
     let begun : IsSprinting t r old x = subst (λ (u : ℕ). IsSprinting t u old x) (sym now) (subst (λ (z : Machine). IsSprinting t c.leap_clear-in-Jumped.new.self.clock old z) (sym g.state) next.runs) in
     let q = c.leap.ensures in
@@ -773,13 +702,16 @@ loop-taken-preserved c =
     let up = q.within in
     let gone = joins t r old x begun (r + c.leap.result) z q.sprinted (ap (λ (w : Machine). w.to) q.others) in
     let owed : z.owed ≡ false = ap (λ (w : Machine). w.owed) q.others ∙ (ap (λ (w : Machine). w.owed) g.state ∙ off) in
-    let k0 : Registers × Core = c.parts-in-loop-taken.result in
+    let k0 : Registers × Core = c.parts-in-loop-self.result in
     let parts : z ≡ owing (nat_lt z.count 0) (beside k0.0 k0.1 z) =
-    λ j. let w : Machine = record z { cpu = (ap (λ (y : Registers × Core). whole y.0 y.1) (sym c.parts-in-loop-taken.ensures)) j; owed = (owed ∙ sym (none_owed z.count)) j } in w in
+    λ j. let w : Machine = record z { cpu = (ap (λ (y : Registers × Core). whole y.0 y.1) (sym c.parts-in-loop-self.ensures)) j; owed = (owed ∙ sym (none_owed z.count)) j } in w in
     record {
-      within = omega (arith, there, up);
-      off = owed;
-      clear = ap (λ (w : Lines). w.bits) q.lines ∙ (ap (λ (w : Machine). (lines_of w.bus.board).bits) g.state ∙ e.clear refl);
-      top = omega arith;
-      runs = subst (λ (w : Machine). IsSprinting t z.bus.board.clock old w) parts (subst (λ (u : ℕ). IsSprinting t u old z) (sym there) gone);
+      turning = record {
+        within = omega (arith, there, up);
+        off = owed;
+        clear = ap (λ (w : Lines). w.bits) q.lines ∙ (ap (λ (w : Machine). (lines_of w.bus.board).bits) g.state ∙ e.clear refl);
+        top = omega arith;
+        runs = subst (λ (w : Machine). IsSprinting t z.bus.board.clock old w) parts (subst (λ (u : ℕ). IsSprinting t u old z) (sym there) gone);
+      };
+      flag = refl;
     }

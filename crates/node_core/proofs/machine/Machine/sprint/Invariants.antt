@@ -1,18 +1,21 @@
-use Rattle.std.proofs.Common.{◌≡◌, ◌≤◌, ◌-◌}
+use Rattle.std.proofs.Common.{◌≡◌, ◌≤◌, ◌-◌, nat_lt}
 use Rattle.avr_program.specs.Program.{slots_below}
 use Rattle.node_core.specs.declared.machine.Machine.{Machine}
 use Rattle.node_core.specs.Midway.{IsTurning}
 use Rattle.node_core.proofs.machine.Machine.sprint.Given as goal
 
-abbrev pub invariant-loop-taken : goal.invariant-loop-taken
-invariant-loop-taken l = IsTurning l.cycle l.end l.fn.self l.self l.regs l.core l.owed_to
+abbrev pub invariant-loop-self : goal.invariant-loop-self
+invariant-loop-self l = record {
+  turning : IsTurning l.cycle l.end l.fn.self l.self l.regs l.core l.owed_to;
+  flag : nat_lt l.flags 128 ≡ nat_lt l.core.sreg.bits 128;
+}
 
-abbrev pub decreases-loop-taken : goal.decreases-loop-taken
-decreases-loop-taken l = l.end - l.self.bus.board.clock
+abbrev pub decreases-loop-self : goal.decreases-loop-self
+decreases-loop-self l = l.end - l.self.bus.board.clock
 
 -- in it the machine is lent in parts, of which two change: the data space and the count
-abbrev pub invariant-loop-taken-2 : goal.invariant-loop-taken-2
-invariant-loop-taken-2 l = record {
+abbrev pub invariant-loop-self-2 : goal.invariant-loop-self-2
+invariant-loop-self-2 l = record {
   turning : (let m : Machine = record {
     number = l.initial.self.1.0;
     program = l.initial.self.1.1.0;
@@ -29,8 +32,9 @@ invariant-loop-taken-2 l = record {
     rows = l.initial.self.1.1.1.1.1.1.1.1.1.1.1.1.1.0;
   } in IsTurning l.cycle l.end l.fn.self m l.regs l.core l.owed_to);
   slots : l.slots ≡ slots_below 65536 l.initial.self.1.1.0.bytes;
+  flag : nat_lt l.flags 128 ≡ nat_lt l.core.sreg.bits 128;
   on : l.initial.self.1.1.1.1.1.1.1.0.board.clock ≤ l.self.1.1.1.1.1.1.1.0.board.clock;
 }
 
-abbrev pub decreases-loop-taken-2 : goal.decreases-loop-taken-2
-decreases-loop-taken-2 l = l.end - l.self.1.1.1.1.1.1.1.0.board.clock
+abbrev pub decreases-loop-self-2 : goal.decreases-loop-self-2
+decreases-loop-self-2 l = l.end - l.self.1.1.1.1.1.1.1.0.board.clock

@@ -13,23 +13,23 @@ use Rattle.node_core.proofs.machine.Machine.step_still.Goals as goal
 pub owes-requires : goal.owes-requires
 owes-requires c =
     let o = c.op-op.result in
-    let a : Outcome NodeBus = record { result = c.execute.result; cpu = c.execute.new.cpu; bus = c.execute.new.bus } in
+    let a : Outcome NodeBus = record { result = c.execute_waiting.result; cpu = c.execute_waiting.new.cpu; bus = c.execute_waiting.new.bus } in
     let flash = c.flash.result.now.bytes in
-    let done : a ≡ executed flash o c.args.core.now c.args.self.now.bus = c.execute.ensures.outcome in
-    sei_left_on flash o c.args.core.now c.args.self.now.bus c.in-Ok.done c.execute.result c.execute.new.cpu c.in-Ok.is (ap (λ (x : Outcome NodeBus). x.result) done) (ap (λ (x : Outcome NodeBus). x.cpu) done)
+    let done : a ≡ executed flash o c.args.core.now c.args.self.now.bus = c.execute_waiting.ensures.outcome in
+    sei_left_on flash o c.args.core.now c.args.self.now.bus c.in-Ok.done c.execute_waiting.result c.execute_waiting.new.cpu c.in-Ok.is (ap (λ (x : Outcome NodeBus). x.result) done) (ap (λ (x : Outcome NodeBus). x.cpu) done)
 
 pub returns-then-owes-clause-same : goal.returns-then-owes-clause-same
 returns-then-owes-clause-same c =
     let m : Machine = c.args.self.now in
-    let a : Outcome NodeBus = record { result = c.execute.result; cpu = c.execute.new.cpu; bus = c.execute.new.bus } in
-    let still = leaves c.op-op.result m.bus (c.is_still.ensures c.if-not-is_still.false) c.flash.result.now.bytes c.args.core.now a c.execute.ensures.outcome in
+    let a : Outcome NodeBus = record { result = c.execute_waiting.result; cpu = c.execute_waiting.new.cpu; bus = c.execute_waiting.new.bus } in
+    let still = leaves c.op-op.result m.bus (c.is_still.ensures c.if-not-is_still.false) c.flash.result.now.bytes c.args.core.now a c.execute_waiting.ensures.outcome in
     λ i. let x : Machine = record m { bus = still i } in x
 
 pub returns-else-owes-clause-same : goal.returns-else-owes-clause-same
 returns-else-owes-clause-same c =
     let m : Machine = c.args.self.now in
-    let a : Outcome NodeBus = record { result = c.execute.result; cpu = c.execute.new.cpu; bus = c.execute.new.bus } in
-    let still = leaves c.op-op.result m.bus (c.is_still.ensures c.if-not-is_still.false) c.flash.result.now.bytes c.args.core.now a c.execute.ensures.outcome in
+    let a : Outcome NodeBus = record { result = c.execute_waiting.result; cpu = c.execute_waiting.new.cpu; bus = c.execute_waiting.new.bus } in
+    let still = leaves c.op-op.result m.bus (c.is_still.ensures c.if-not-is_still.false) c.flash.result.now.bytes c.args.core.now a c.execute_waiting.ensures.outcome in
     λ i. let x : Machine = record m { bus = still i } in x
 
 pub returns-else-owes-clause-step : goal.returns-else-owes-clause-step
@@ -37,10 +37,10 @@ returns-else-owes-clause-step c some =
     let m : Machine = c.args.self.now in
     let o : Op = c.op-op.result in
     let h : IsStill o m.bus = c.is_still.ensures c.if-not-is_still.false in
-    let a : Outcome NodeBus = record { result = c.execute.result; cpu = c.execute.new.cpu; bus = c.execute.new.bus } in
+    let a : Outcome NodeBus = record { result = c.execute_waiting.result; cpu = c.execute_waiting.new.cpu; bus = c.execute_waiting.new.bus } in
     let flash : List ℕ = c.flash.result.now.bytes in
     let kept : flash ≡ m.program.bytes = (λ i. (c.flash.ensures i).bytes) in
-    let done : a ≡ executed m.program.bytes o c.args.core.now m.bus = c.execute.ensures.outcome ∙ ap (λ (f : List ℕ). executed f o c.args.core.now m.bus) kept in
+    let done : a ≡ executed m.program.bytes o c.args.core.now m.bus = c.execute_waiting.ensures.outcome ∙ ap (λ (f : List ℕ). executed f o c.args.core.now m.bus) kept in
     record {
       none = sym c.due.ensures ∙ none_of c.due.result (sym c.is_some.ensures ∙ c.if-is_some.false);
       some = some;
@@ -54,6 +54,6 @@ returns-else-owes-clause-step c some =
 pub returns-in-Err-clause-same : goal.returns-in-Err-clause-same
 returns-in-Err-clause-same c =
     let m : Machine = c.args.self.now in
-    let a : Outcome NodeBus = record { result = c.execute.result; cpu = c.execute.new.cpu; bus = c.execute.new.bus } in
-    let still = leaves c.op-op.result m.bus (c.is_still.ensures c.if-not-is_still.false) c.flash.result.now.bytes c.args.core.now a c.execute.ensures.outcome in
+    let a : Outcome NodeBus = record { result = c.execute_waiting.result; cpu = c.execute_waiting.new.cpu; bus = c.execute_waiting.new.bus } in
+    let still = leaves c.op-op.result m.bus (c.is_still.ensures c.if-not-is_still.false) c.flash.result.now.bytes c.args.core.now a c.execute_waiting.ensures.outcome in
     λ i. let x : Machine = record m { bus = still i } in x
