@@ -42,8 +42,8 @@ pub enum Step {
     Left,
 }
 
-// How many short jumps back are not looked at behind one at which no loop waits.
-const UNSEEN: u8 = 6;
+// How many short jumps back are passed by at most behind one at which no loop waits.
+const MOST_UNSEEN: u8 = 15;
 
 // Whether the flag I, the highest of SREG, was turned on.
 #[inline]
@@ -168,7 +168,10 @@ impl Machine {
         let (mut regs, mut core) = self.cpu.parts();
         // SREG behind the last instruction that may have changed the flag I
         let mut flags = core.sreg.bits;
+        // How many short jumps back are still to be passed by, and how many were behind the last: twice as many each time
+        // that the loop there does not wait, since a program that computes has many of them.
         let mut unseen = 0;
+        let mut passed_by: u8 = 1;
         // Up to this count of instructions one is owed before an interrupt, which shows once the sprint ends.
         let mut owed_to = 0;
         loop {
@@ -231,7 +234,13 @@ impl Machine {
             }
             let at = self.gather(&regs, core, owed_to);
             if self.leap(at, end) == 0 {
-                unseen = UNSEEN;
+                passed_by = passed_by
+                    .saturating_mul(2)
+                    .saturating_add(1)
+                    .min(MOST_UNSEEN);
+                unseen = passed_by;
+            } else {
+                passed_by = 1;
             }
             (regs, core) = self.cpu.parts();
             flags = core.sreg.bits;
