@@ -51,15 +51,16 @@ like_ahead : (a : Forecast) (b c : Board) → IsLike b c → IsAhead a b → IsA
 like_ahead a b c like h =
     let e = like.clock in
     let s = h.settled in
-    let n = h.next in
+    let n = h.now in
     record {
       settled = omega (arith, e, s);
-      next = omega (arith, e, n);
+      now = omega (arith, e, n);
       early = h.early;
       clear = h.clear;
       down = h.down;
       quiet = λ t from below. like.quiet t ∙ h.quiet t (omega (arith, e, from)) below;
       calm = λ i below. like.calm a.settled i ∙ h.calm i below;
+      past = λ i below. like.calm a.settled i ∙ h.past i (omega (arith, e, below));
       lines = ap (λ (l : Lines). l.bits) like.lines ∙ h.lines;
     }
 

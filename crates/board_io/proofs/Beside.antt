@@ -1,5 +1,5 @@
 -- An access to USART0 or to the serial peripheral interface is the same on a board whose timers lag, and leaves these.
-use Rattle.std.proofs.Common.{◌≡◌, ℕ, ◌+◌, ◌-◌, ◌<◌, true, false, Result, Ok, Err, refl, sym, ap, ◌∙◌, subst}
+use Rattle.std.proofs.Common.{◌≡◌, ℕ, ◌+◌, ◌-◌, ◌<◌, true, false, Result, Ok, Err, refl, sym, ap, ◌∙◌, subst, arith}
 use Rattle.avr_base.specs.declared.stop.StopCause.{StopCause}
 use Rattle.board_io.specs.declared.ahead.Forecast.{Forecast}
 use Rattle.board_io.specs.declared.board.Board.{Board}
@@ -117,3 +117,6 @@ module _ (rule : Rule) (b : Board) (at s : ℕ) (e : is_port rule ≡ true) wher
 -- so what was known of the timers is known still
 pub calm_beside : (a : Forecast) (b c : Board) → IsBeside b c → IsAhead a b → (i : ℕ) → a.settled + i < a.next → sets_flag_at a.settled c i ≡ false
 calm_beside a b c k h i below = k.calm a.settled i ∙ h.calm i below
+
+pub past_beside : (a : Forecast) (b c : Board) → IsBeside b c → IsAhead a b → (i : ℕ) → a.settled + i < c.clock → sets_flag_at a.settled c i ≡ false
+past_beside a b c k h i below = let same = k.clock in k.calm a.settled i ∙ h.past i (omega (arith, same, below))

@@ -1,5 +1,6 @@
 -- A board that lags: what its value is, and what stays known of it.
-use Rattle.std.proofs.Common.{◌≡◌, ℕ, ◌+◌, ◌-◌, ◌<◌, ◌≤◌, true, false, Option, Some, None, refl, sym, ap, ◌∙◌, subst, arith}
+use Rattle.std.proofs.Common.{◌≡◌, ℕ, ◌+◌, ◌-◌, ◌^◌, ◌<◌, ◌≤◌, true, false, inl, inr, Option, Some, None, refl, sym, ap, ◌∙◌, subst, arith}
+use Rattle.std.proofs.lemmas.Bool.{cases_lt}
 use Rattle.board_io.specs.declared.ahead.Forecast.{Forecast}
 use Rattle.board_io.specs.declared.board.Board.{Board}
 use Rattle.board_io.specs.Board.{clock_at, sleep_mode, unclocked}
@@ -8,11 +9,11 @@ use Rattle.serial_ports.specs.declared.radio.TransferOutcome.{TransferOutcome}
 use Rattle.serial_ports.specs.declared.radio.TransferOutcome.TheVariants.{Answer, Send, Ask}
 use Rattle.serial_ports.specs.declared.radio.Radio.{Radio}
 use Rattle.world_core.specs.declared.air.Heard.{Heard}
-use Rattle.board_io.specs.Lagging.{IsAhead, IsIdle, caught_up}
+use Rattle.board_io.specs.Lagging.{IsAhead, IsClear, IsIdle, caught_up}
 use Rattle.board_io.specs.Lines.{lines_of}
 use Rattle.board_io.proofs.Leaps.{leap_quiet, leap_zero}
 use Rattle.board_io.specs.Passing.{sets_flag_at}
-use Rattle.board_io.proofs.Steady.{lines_calm}
+use Rattle.board_io.proofs.Steady.{lines_calm, sets_later}
 use Rattle.avr_timers.proofs.Cycles.{cycles-add}
 use Rattle.serial_ports.specs.Transmission.{ended_byte}
 use Rattle.avr_base.specs.declared.interrupts.Lines.{Lines}
@@ -106,58 +107,142 @@ idle_clock n v h = record {
   same = λ i l. ap lines_of (leap_clock 0 v.clock i v) ∙ (lines_clock 0 (timers_leap v.clock i v) ∙ (h.same i l ∙ sym (lines_clock 0 v)));
 }
 
--- ---- a board that lags
-module _ (a : Forecast) (b : Board) (h : IsAhead a b) where
-  same : (i : ℕ) → a.settled + i ≤ a.next → (lines_of (timers_leap a.settled i b)).bits ≡ a.lines
-  same i le = ap (λ (l : Lines). l.bits) (lines_calm a.settled i b (λ j l. h.calm j (omega (arith, le, l)))) ∙ h.lines
+-- ---- a board up to a bound
+-- n cycles on the same is clear
+clear_leap : (bound n : ℕ) (v : Board) → IsClear bound v → v.clock + n ≤ bound → IsClear bound (clock_at (v.clock + n) (timers_leap v.clock n v))
+clear_leap bound n v h le =
+    let t : ℕ = v.clock + n in
+    let w : Board = timers_leap v.clock n v in
+    record {
+      down = λ l. ap (λ (m : Lines). m.bits) (lines_clock t w ∙ lines_calm v.clock n v (λ i k. h.calm i (omega (arith, le, k)))) ∙ h.down (omega (arith, l));
+      quiet = λ u from below. quiet_clock t u w ∙ (leap_quiet u v.clock n v ∙ h.quiet u (omega (arith, from)) below);
+      calm = λ i below. sets_later v.clock n i v ∙ h.calm (n + i) (omega (arith, below));
+    }
 
+-- and what is clear up to a bound is clear up to an earlier one
+pub sooner : (bound less : ℕ) (b : Board) → less ≤ bound → IsClear bound b → IsClear less b
+sooner bound less b le h = record {
+  down = λ l. h.down (omega (arith, l, le));
+  quiet = λ t from below. h.quiet t from (omega (arith, below, le));
+  calm = λ i below. h.calm i (omega (arith, below, le));
+}
+
+-- ---- a board that lags
+-- n cycles from now on in which nothing ends and no timer sets a flag, nor did it since `settled`
+pub record IsFree (settled n : ℕ) (b : Board) : Type 0 where
+  pub early : b.clock + n ≤ 2 ^ 40
+  pub quiet : (i : ℕ) → i < n → board_quiet (b.clock + i) b ≡ true
+  pub calm : (i : ℕ) → settled + i < b.clock + n → sets_flag_at settled b i ≡ false
+
+module _ (a : Forecast) (b : Board) (h : IsAhead a b) where
   -- up to now no flag was set
   pub calm_now : (i : ℕ) → i < b.clock - a.settled → sets_flag_at a.settled b i ≡ false
-  calm_now i l = let m = h.next in h.calm i (omega (arith, m, l))
+  calm_now i l = h.past i (omega (arith, l))
 
-  pub lines_now : (lines_of (caught_up a.settled b)).bits ≡ a.lines
-  lines_now = let l = h.settled in let m = h.next in same (b.clock - a.settled) (omega (arith, l, m))
+  -- nor is one up to the next event, be it over or not
+  pub known : (i end : ℕ) → a.settled + i < end → end - b.clock ≤ a.next - b.clock → sets_flag_at a.settled b i ≡ false
+  known i end l le = elim (cases_lt (a.settled + i) b.clock) [
+    | inl before ↦ h.past i before
+    | inr from ↦ h.calm i (omega (arith, l, le, from))
+  ]
+
+  lines_kept : lines_of (caught_up a.settled b) ≡ lines_of b
+  lines_kept = lines_calm a.settled (b.clock - a.settled) b calm_now
+
+  lines_now : (lines_of (caught_up a.settled b)).bits ≡ a.lines
+  lines_now = ap (λ (l : Lines). l.bits) lines_kept ∙ h.lines
 
   pub lines_are : (v : Board) → caught_up a.settled b ≡ v → (let l : Lines = record { bits = a.lines } in l) ≡ lines_of v
   lines_are v e = bits_same _ (lines_of v) (sym lines_now ∙ ap (λ (c : Board). (lines_of c).bits) e)
 
+  at_now : a.settled + (b.clock - a.settled) ≡ b.clock
+  at_now = let l = h.settled in omega (arith, l)
+
   -- i cycles on from now
   further : (i : ℕ) → timers_leap b.clock i (caught_up a.settled b) ≡ timers_leap a.settled (b.clock - a.settled + i) b
-  further i =
-      let l = h.settled in
-      let at : a.settled + (b.clock - a.settled) ≡ b.clock = omega (arith, l) in
-      ap (λ (t : ℕ). timers_leap t i (caught_up a.settled b)) (sym at) ∙ sym (leap_add a.settled (b.clock - a.settled) i b)
+  further i = ap (λ (t : ℕ). timers_leap t i (caught_up a.settled b)) (sym at_now) ∙ sym (leap_add a.settled (b.clock - a.settled) i b)
 
-  quiet_by : (t : ℕ) → b.clock ≤ t → t < a.next → board_quiet t (caught_up a.settled b) ≡ true
-  quiet_by t from below = leap_quiet t a.settled (b.clock - a.settled) b ∙ h.quiet t from below
-
-  lines_by : (i : ℕ) → b.clock + i ≤ a.next → (lines_of (timers_leap b.clock i (caught_up a.settled b))).bits ≡ a.lines
-  lines_by i le =
-      let l = h.settled in
-      ap (λ (c : Board). (lines_of c).bits) (further i) ∙ same (b.clock - a.settled + i) (omega (arith, l, le))
-
-  idle_by : (n : ℕ) → b.clock + n ≤ a.next → IsIdle b.clock n (caught_up a.settled b)
-  idle_by n le = record {
-    quiet = λ i k. quiet_by (b.clock + i) (omega arith) (omega (arith, le, k));
-    same = λ i k. bits_same (lines_of (timers_leap b.clock i (caught_up a.settled b))) (lines_of (caught_up a.settled b)) (lines_by i (omega (arith, le, k)) ∙ sym lines_now);
-  }
+  -- and whether a timer sets a flag there
+  sets_further : (i : ℕ) → sets_flag_at b.clock (caught_up a.settled b) i ≡ sets_flag_at a.settled b (b.clock - a.settled + i)
+  sets_further i = ap (λ (t : ℕ). sets_flag_at t (caught_up a.settled b) i) (sym at_now) ∙ sets_later a.settled (b.clock - a.settled) i b
 
   -- nothing happens up to the next event
-  pub idle : (n : ℕ) (v : Board) → caught_up a.settled b ≡ v → b.clock + n ≤ a.next → IsIdle v.clock n (unclocked v)
-  idle n v e le =
-      idle_clock n v
-      (subst (λ (w : Board). IsIdle w.clock n w) e (subst (λ (t : ℕ). IsIdle t n (caught_up a.settled b)) (sym (caught_clock a.settled b)) (idle_by n le)))
+  pub free : (n : ℕ) → n ≤ a.next - b.clock → IsFree a.settled n b
+  free n le =
+      let now = h.now in
+      let early = h.early in
+      record {
+        early = omega (arith, le, now, early);
+        quiet = λ i l. h.quiet (b.clock + i) (omega arith) (omega (arith, le, l));
+        calm = λ i l. known i (b.clock + n) l (omega (arith, le));
+      }
 
-  -- n cycles on the same is known
-  pub later : (n : ℕ) → b.clock + n ≤ a.next → IsAhead a (clock_at (b.clock + n) b)
-  later n le =
+  -- nor up to a bound that its value is clear to
+  pub free_to : (bound n : ℕ) (v : Board) → caught_up a.settled b ≡ v → bound ≤ 2 ^ 40 → IsClear bound v → b.clock + n ≤ bound → IsFree a.settled n b
+  free_to bound n v e early clear le =
+      let k : IsClear bound (caught_up a.settled b) = subst (IsClear bound) (sym e) clear in
+      let at = caught_clock a.settled b in
+      record {
+        early = omega (arith, early, le);
+        quiet = λ i l. sym (leap_quiet (b.clock + i) a.settled (b.clock - a.settled) b) ∙ k.quiet (b.clock + i) (omega (arith, at)) (omega (arith, l, le));
+        calm = λ i l. elim (cases_lt (a.settled + i) b.clock) [
+          | inl before ↦ h.past i before
+          | inr from ↦ calm_to k at i from (omega (arith, l, le))
+        ];
+      }
+    where
+      calm_to : IsClear bound (caught_up a.settled b) → (caught_up a.settled b).clock ≡ b.clock → (i : ℕ) → b.clock ≤ a.settled + i → a.settled + i < bound → sets_flag_at a.settled b i ≡ false
+      calm_to k at i from below =
+          let l = h.settled in
+          let j : ℕ = a.settled + i - b.clock in
+          let here : b.clock - a.settled + j ≡ i = omega (arith, l, from) in
+          ap (sets_flag_at a.settled b) (sym here)
+          ∙ (sym (sets_further j)
+          ∙ (ap (λ (t : ℕ). sets_flag_at t (caught_up a.settled b) j) (sym at) ∙ k.calm j (omega (arith, at, from, below))))
+
+  -- its value is clear up to what `clear` says
+  pub clear_is : (v : Board) → caught_up a.settled b ≡ v → IsClear a.clear v
+  clear_is v e =
+      let at = caught_clock a.settled b in
+      let within = h.clear in
+      let l = h.settled in
+      let k : IsClear a.clear (caught_up a.settled b) = record {
+        down = λ below. lines_now ∙ h.down (omega (arith, below));
+        quiet = λ t from below. leap_quiet t a.settled (b.clock - a.settled) b ∙ h.quiet t (omega (arith, at, from)) (omega (arith, within, below));
+        calm = λ i below.
+            ap (λ (t : ℕ). sets_flag_at t (caught_up a.settled b) i) at
+            ∙ (sets_further i ∙ h.calm (b.clock - a.settled + i) (omega (arith, at, l, within, below)));
+      } in
+      subst (IsClear a.clear) e k
+
+  lines_by : (n : ℕ) → IsFree a.settled n b → (i : ℕ) → i ≤ n → lines_of (timers_leap b.clock i (caught_up a.settled b)) ≡ lines_of (caught_up a.settled b)
+  lines_by n p i le =
+      let l = h.settled in
+      ap lines_of (further i) ∙ (lines_calm a.settled (b.clock - a.settled + i) b (λ j k. p.calm j (omega (arith, l, le, k))) ∙ sym lines_kept)
+
+  idle_by : (n : ℕ) → IsFree a.settled n b → IsIdle b.clock n (caught_up a.settled b)
+  idle_by n p = record {
+    quiet = λ i k. leap_quiet (b.clock + i) a.settled (b.clock - a.settled) b ∙ p.quiet i k;
+    same = λ i k. lines_by n p i (omega (arith, k));
+  }
+
+  -- in cycles that are free it is idle
+  pub idle : (n : ℕ) (v : Board) → caught_up a.settled b ≡ v → IsFree a.settled n b → IsIdle v.clock n (unclocked v)
+  idle n v e p =
+      idle_clock n v
+      (subst (λ (w : Board). IsIdle w.clock n w) e (subst (λ (t : ℕ). IsIdle t n (caught_up a.settled b)) (sym (caught_clock a.settled b)) (idle_by n p)))
+
+  -- behind them the same is known
+  pub later : (n : ℕ) → IsFree a.settled n b → IsAhead a (clock_at (b.clock + n) b)
+  later n p =
       let l = h.settled in
       record {
         settled = omega (arith, l);
-        next = le;
+        now = p.early;
         early = h.early;
         quiet = λ t from below. quiet_clock (b.clock + n) t b ∙ h.quiet t (omega (arith, from)) below;
         calm = h.calm;
+        past = p.calm;
         clear = h.clear;
         down = h.down;
         lines = ap (λ (m : Lines). m.bits) (lines_clock (b.clock + n) b) ∙ h.lines;
@@ -170,25 +255,30 @@ module _ (a : Forecast) (b : Board) (h : IsAhead a b) where
       leap_clock (b.clock + n) a.settled (b.clock + n - a.settled) b
       ∙ ap (clock_at (b.clock + n)) (ap (λ (m : ℕ). timers_leap a.settled m b) more ∙ sym (further n))
 
+  passed_to : (n : ℕ) (v : Board) → caught_up a.settled b ≡ v → caught_up a.settled (clock_at (b.clock + n) b) ≡ clock_at (v.clock + n) (timers_leap v.clock n v)
+  passed_to n v e =
+      passed_by n
+      ∙ (ap (λ (t : ℕ). clock_at (t + n) (timers_leap t n (caught_up a.settled b))) (sym (caught_clock a.settled b))
+      ∙ ap (λ (w : Board). clock_at (w.clock + n) (timers_leap w.clock n w)) e)
+
   -- its value is n cycles further
   pub passed : (n : ℕ) (v : Board) → caught_up a.settled b ≡ v → unclocked (caught_up a.settled (clock_at (b.clock + n) b)) ≡ timers_leap v.clock n (unclocked v)
-  passed n v e =
-      ap unclocked (passed_by n)
-      ∙ (ap (λ (t : ℕ). unclocked (timers_leap t n (caught_up a.settled b))) (sym (caught_clock a.settled b))
-      ∙ (ap (λ (w : Board). unclocked (timers_leap w.clock n w)) e ∙ sym (leap_clock 0 v.clock n v)))
+  passed n v e = ap unclocked (passed_to n v e) ∙ sym (leap_clock 0 v.clock n v)
 
   pub passed_clock : (n : ℕ) (v : Board) → caught_up a.settled b ≡ v → (caught_up a.settled (clock_at (b.clock + n) b)).clock ≡ v.clock + n
-  passed_clock n v e =
-      caught_clock a.settled (clock_at (b.clock + n) b)
-      ∙ ap (λ (t : ℕ). t + n) (sym (caught_clock a.settled b) ∙ ap (λ (w : Board). w.clock) e)
+  passed_clock n v e = ap (λ (w : Board). w.clock) (passed_to n v e)
 
   -- and its lines are as before
-  pub lines_stay : (n : ℕ) (v : Board) → caught_up a.settled b ≡ v → b.clock + n ≤ a.next → lines_of (caught_up a.settled (clock_at (b.clock + n) b)) ≡ lines_of v
-  lines_stay n v e le =
-      bits_same (lines_of (caught_up a.settled (clock_at (b.clock + n) b))) (lines_of v)
-      (ap (λ (c : Board). (lines_of c).bits) (passed_by n)
-      ∙ (ap (λ (l : Lines). l.bits) (lines_clock (b.clock + n) (timers_leap b.clock n (caught_up a.settled b)))
-      ∙ (lines_by n le ∙ (sym lines_now ∙ ap (λ (c : Board). (lines_of c).bits) e))))
+  pub lines_stay : (n : ℕ) (v : Board) → caught_up a.settled b ≡ v → IsFree a.settled n b → lines_of (caught_up a.settled (clock_at (b.clock + n) b)) ≡ lines_of v
+  lines_stay n v e p =
+      ap lines_of (passed_by n)
+      ∙ (lines_clock (b.clock + n) (timers_leap b.clock n (caught_up a.settled b)) ∙ (lines_by n p n (omega arith) ∙ ap lines_of e))
+
+  -- and where that was clear, it is clear
+  pub clear_stays : (bound n : ℕ) (v : Board) → caught_up a.settled b ≡ v → IsClear bound v → b.clock + n ≤ bound → IsClear bound (caught_up a.settled (clock_at (b.clock + n) b))
+  clear_stays bound n v e clear le =
+      let at = clock_now a b v e in
+      subst (IsClear bound) (sym (passed_to n v e)) (clear_leap bound n v clear (omega (arith, at, le)))
 
 -- the cycle of its clock is quiet, where one is passed
 pub quiet_now : (t : ℕ) (v : Board) → IsIdle t 1 (unclocked v) → board_quiet t (unclocked v) ≡ true

@@ -11,6 +11,7 @@ use Rattle.board_io.specs.Lines.{lines_of}
 use Rattle.board_io.specs.Passing.{is_at, sets_flag_at}
 use Rattle.board_io.specs.Registers.{IsPut, put_by}
 use Rattle.board_io.proofs.Apart.{lines_accessed}
+use Rattle.board_io.proofs.Lags.{known}
 use Rattle.board_io.proofs.Steady.{quiet_too}
 use Rattle.device_base.specs.Bits.{any_bit}
 use Rattle.serial_ports.specs.Spi.{asks_interrupt}
@@ -48,16 +49,18 @@ calm_sent : (s i : ℕ) (b : Board) (x : ℕ) → sets_flag_at s (sent b x) i �
 calm_sent s i b x = refl
 
 module _ (a : Forecast) (b : Board) (h : IsAhead a b) (x : ℕ) (down : asks_interrupt b.spi ≡ false) where
-  ahead_by : (next clear : ℕ) → b.clock ≤ next → next ≤ a.next → ((t : ℕ) → b.clock ≤ t → t < next → is_at (end_of (sent b x).spi.shift_register) t ≡ false) → clear ≤ next → (0 < clear → a.lines ≡ 0)
+  ahead_by : (next clear : ℕ) → next - b.clock ≤ a.next - b.clock → ((t : ℕ) → b.clock ≤ t → t < next → is_at (end_of (sent b x).spi.shift_register) t ≡ false) → clear ≤ next → (0 < clear → a.lines ≡ 0)
       → IsAhead (let c : Forecast = record a { next = next; clear = clear } in c) (sent b x)
-  ahead_by next clear from most none within up =
+  ahead_by next clear most none within up =
       let early = h.early in
+      let now = h.now in
       record {
         settled = h.settled;
-        next = from;
-        early = omega (arith, early, most);
-        quiet = λ t later below. quiet_too t b (sent b x) refl (h.quiet t later (omega (arith, below, most))) (none t later below);
-        calm = λ i below. calm_sent a.settled i b x ∙ h.calm i (omega (arith, below, most));
+        now = now;
+        early = omega (arith, early, most, now);
+        quiet = λ t later below. quiet_too t b (sent b x) refl (h.quiet t later (omega (arith, below, most, later))) (none t later below);
+        calm = λ i below. calm_sent a.settled i b x ∙ known a b h i next below most;
+        past = λ i below. calm_sent a.settled i b x ∙ h.past i below;
         lines = ap (λ (l : Lines). l.bits) (lines_sent b x down) ∙ h.lines;
         clear = within;
         down = up;
@@ -71,9 +74,8 @@ module _ (a : Forecast) (b : Board) (h : IsAhead a b) (x : ℕ) (down : asks_int
       let is = is_sent b c at x r put in
       let here : clock ≡ b.clock = now ∙ ap (λ (d : Board). d.clock) is in
       let end_is : end ≡ end_of (sent b x).spi.shift_register = ends ∙ ap (λ (d : Board). end_of d.spi.shift_register) is in
-      let next = h.next in
       subst (IsAhead (let f : Forecast = record a { next = clock + calm; clear = clear } in f)) (sym is)
-      (ahead_by (clock + calm) clear (omega (arith, here)) (omega (arith, here, most, next))
+      (ahead_by (clock + calm) clear (omega (arith, here, most))
       (λ t from below. (let at_t : clock + (t - clock) ≡ t = omega (arith, here, from) in
       ap (λ (o : Option ℕ). is_at o t) (sym end_is) ∙ (ap (is_at end) (sym at_t) ∙ none (t - clock) (omega (arith, here, from, below)))))
       within up)

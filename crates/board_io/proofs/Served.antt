@@ -94,13 +94,14 @@ module _ (a : Forecast) (b : Board) (h : IsAhead a b) (word : ℕ) where
       let k = is in
       let at = k.clock in
       let s = h.settled in
-      let n = h.next in
+      let n = h.now in
       record {
         settled = omega (arith, at, s);
-        next = omega (arith, at, n);
+        now = omega (arith, at, n);
         early = h.early;
         quiet = λ t from below. k.quiet t ∙ h.quiet t (omega (arith, at, from)) below;
         calm = λ i below. k.calm i (λ j l. calm_first i j below l) ∙ h.calm i below;
+        past = λ i below. k.calm i (λ j l. h.past j (omega (arith, at, below, l))) ∙ h.past i (omega (arith, at, below));
         lines = sym e;
         clear = within;
         down = down;

@@ -1,16 +1,18 @@
 -- Cycles in which nothing ends, and in which the lines stay.
-use Rattle.std.proofs.Common.{◌≡◌, ℕ, ◌-◌, ◌<◌, ◌≤◌, Bool, true, false, ◌&&◌, ◌||◌, not, ◌⊎◌, inl, inr, Option, Some, None, refl, sym, ap, ◌∙◌, subst, arith}
+use Rattle.std.proofs.Common.{◌≡◌, ℕ, ◌+◌, ◌-◌, ◌<◌, ◌≤◌, Bool, true, false, ◌&&◌, ◌||◌, not, ◌⊎◌, inl, inr, Option, Some, None, refl, sym, ap, ◌∙◌, subst, arith}
 use Rattle.std.proofs.lemmas.Bool.{and_parts, cases_lt, or_parts}
 use Rattle.board_io.specs.declared.board.Board.{Board}
 use Rattle.board_io.specs.Cycle.{board_quiet, timers_leap}
 use Rattle.board_io.specs.Lines.{lines_of}
 use Rattle.board_io.specs.Passing.{is_at, sets_flag_at}
-use Rattle.avr_timers.specs.Clock.{cycles}
+use Rattle.avr_timers.specs.Clock.{clocked, cycles, sets_at}
 use Rattle.avr_timers.specs.declared.flags.TimerFlags.{TimerFlags}
 use Rattle.avr_timers.specs.First.{First}
 use Rattle.serial_ports.specs.declared.transmission.Transmission.{Transmission}
 use Rattle.serial_ports.specs.Transmission.{end_of, is_end}
 use Rattle.avr_timers.proofs.Clocks16 as clocks16
+use Rattle.avr_timers.proofs.Cycles.{cycles-add}
+use Rattle.avr_timers.specs.Timer as counter
 use Rattle.avr_timers.specs.declared.timer16.Timer16.{Timer16}
 use Rattle.avr_timers.specs.Timer16 as timer16
 use Rattle.avr_timers.proofs.Clocks8 as clocks8
@@ -112,6 +114,27 @@ module _ (t n : ℕ) (b : Board) (none : (i : ℕ) → i < n → sets_flag_at t 
 
   pub lines_calm : lines_of (timers_leap t n b) ≡ lines_of b
   lines_calm = lines_same t n b flags_0 flags_1 flags_2 flags_3
+
+-- a cycle sets a flag where it does so of the timers that have done some of the cycles before it
+later_8 : (t n i : ℕ) (tm : Timer8) → timer8.sets_flag_at (t + n) (cycles timer8.timer_cycle t n tm) i ≡ timer8.sets_flag_at t tm (n + i)
+unfolding sets_at
+later_8 t n i tm =
+    let d = ap (λ (u : Timer8). counter.divider (timer8.counter_of u)) (clocks8.cycles-with t n tm) in
+    let at : t + n + i ≡ t + (n + i) = omega arith in
+    let c = ap (cycles counter.counter_cycle (t + n) i) (clocks8.cycles-of t n tm) ∙ sym (cycles-add counter.counter_cycle t n i (timer8.counter_of tm)) in
+    λ k. clocked (d k) (at k) && counter.sets (c k)
+
+later_16 : (t n i : ℕ) (tm : Timer16) → timer16.sets_flag_at (t + n) (cycles timer16.timer_cycle t n tm) i ≡ timer16.sets_flag_at t tm (n + i)
+unfolding sets_at
+later_16 t n i tm =
+    let d = ap (λ (u : Timer16). counter.divider (timer16.counter_of u)) (clocks16.cycles-with t n tm) in
+    let at : t + n + i ≡ t + (n + i) = omega arith in
+    let c = ap (cycles counter.counter_cycle (t + n) i) (clocks16.cycles-of t n tm) ∙ sym (cycles-add counter.counter_cycle t n i (timer16.counter_of tm)) in
+    λ k. clocked (d k) (at k) && counter.sets (c k)
+
+pub sets_later : (t n i : ℕ) (b : Board) → sets_flag_at (t + n) (timers_leap t n b) i ≡ sets_flag_at t b (n + i)
+unfolding timers_leap
+sets_later t n i b = λ k. later_8 t n i b.t0 k || later_16 t n i b.t1 k || later_8 t n i b.t2 k || later_16 t n i b.t3 k
 
 -- the last of the cycles that are told, where they are not all, ends something or sets a flag
 pub loud_at : (t : ℕ) (b : Board) → is_at (end_of b.usart.shift_register) t ≡ true → board_quiet t b ≡ false

@@ -1,5 +1,6 @@
 -- A board that lags behind its clock: the timers' cycles from `settled` on are still to be made up for, and until
 -- `next` nothing of it ends and no timer sets a flag, so that flags and lines can be told without a leap of the timers.
+-- Its clock may be past `next`: whoever moved it there knew that no timer sets a flag before.
 use Rattle.std.specs.Prelude.{◌≡◌, ℕ, ◌+◌, ◌-◌, ◌^◌, ◌<◌, ◌≤◌, ◌==◌, ◌&&◌, not, Bool, true, false, Ok}
 use Rattle.board_io.specs.declared.board.Board.{Board}
 use Rattle.board_io.specs.declared.ahead.Forecast.{Forecast}
@@ -24,13 +25,20 @@ caught_up settled b = timers_leap settled (b.clock - settled) b
 -- what is kept of a board that lags is true of it
 pub record IsAhead (a : Forecast) (b : Board) : Type 0 where
   pub settled : a.settled ≤ b.clock
-  pub next : b.clock ≤ a.next
+  pub now : b.clock ≤ 2 ^ 40
   pub early : a.next ≤ 2 ^ 40
   pub quiet : (t : ℕ) → b.clock ≤ t → t < a.next → board_quiet t b ≡ true
   pub calm : (i : ℕ) → a.settled + i < a.next → sets_flag_at a.settled b i ≡ false
+  pub past : (i : ℕ) → a.settled + i < b.clock → sets_flag_at a.settled b i ≡ false
   pub lines : (lines_of b).bits ≡ a.lines
   pub clear : a.clear ≤ a.next
   pub down : 0 < a.clear → a.lines ≡ 0
+
+-- up to the beginning of cycle `bound` no line is up, nothing of a board ends and no timer sets a flag
+pub record IsClear (bound : ℕ) (b : Board) : Type 0 where
+  pub down : b.clock < bound → (lines_of b).bits ≡ 0
+  pub quiet : (t : ℕ) → b.clock ≤ t → t < bound → board_quiet t b ≡ true
+  pub calm : (i : ℕ) → b.clock + i < bound → sets_flag_at b.clock b i ≡ false
 
 -- n cycles from cycle t on in which nothing of a board ends, and each of which begins with the lines of now
 pub record IsIdle (t n : ℕ) (b : Board) : Type 0 where

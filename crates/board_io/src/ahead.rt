@@ -57,14 +57,15 @@ impl Board {
     /// What is known of it, where of its timers what `before` tells is known still.
     pub fn ahead_beside(&self, before: Forecast) -> Forecast
         requires settled { before.settled ≤ self.now.clock }
-        requires next { self.now.clock ≤ before.next }
+        requires now { self.now.clock ≤ 2 ^ 40 }
         requires early { before.next ≤ 2 ^ 40 }
         requires calm { (i : ℕ) → before.settled + i < before.next → sets_flag_at before.settled self.now i ≡ false }
+        requires past { (i : ℕ) → before.settled + i < self.now.clock → sets_flag_at before.settled self.now i ≡ false }
         ensures settled { result.settled ≡ before.settled }
         ensures ahead { IsAhead result self.now }
     {
         let clock = self.clock.get();
-        let calm = self.quiet(clock, before.next - clock);
+        let calm = self.quiet(clock, before.next.saturating_sub(clock));
         let next = clock + calm;
         let lines = self.lines().bits;
         Forecast {

@@ -1,6 +1,6 @@
 // A board that does its timers' cycles once somebody looks at them.
 ghost use Rattle.std.specs.Prelude.{◌≡◌, ◌≤◌, ◌<◌, ◌+◌, ◌-◌, ◌*◌, ◌^◌, true, false, is_some};
-ghost use Rattle.board_io.specs.Lagging.{IsIdle};
+ghost use Rattle.board_io.specs.Lagging.{IsClear, IsIdle};
 
 use crate::ahead::{Forecast, clear_until};
 use crate::{Board, Clock, CycleOutput, Sleep};
@@ -69,7 +69,7 @@ impl LaggingBoard {
         ensures early { result ≤ 2 ^ 40 }
         ensures idle { IsIdle self.now.clock (result - self.now.clock) (unclocked self.now) }
     {
-        self.ahead.next
+        self.ahead.next.max(self.board.clock.get())
     }
 
     /// Passes cycles, of at most `most`, in which no frame and no transfer ends and each of which begins with the lines
@@ -83,7 +83,7 @@ impl LaggingBoard {
         ensures clock { self.new.clock ≡ self.old.clock + result }
     {
         let clock = self.board.clock.get();
-        let n = most.min(self.ahead.next - clock);
+        let n = most.min(self.ahead.next.saturating_sub(clock));
         self.board.clock = Clock::new(clock + n);
         n
     }
@@ -100,7 +100,7 @@ impl LaggingBoard {
         ensures clock { self.new.clock ≡ self.old.clock + result * length }
     {
         let clock = self.board.clock.get();
-        let rounds = most.min(self.ahead.next - clock) / length;
+        let rounds = most.min(self.ahead.next.saturating_sub(clock)) / length;
         self.board.clock = Clock::new(clock + rounds * length);
         rounds
     }
@@ -134,21 +134,33 @@ impl LaggingBoard {
         self.board.clock.get()
     }
 
-    /// Passes the `n` cycles from that of its clock on, if they are over by the beginning of the cycle `last`, no
-    /// interrupt line is up, no frame and no transfer ends in any of them and no line comes up before they are over, as
-    /// far as what runs now tells: whether it passed them.
+    /// A cycle, of 2^40 at most, up to whose beginning no interrupt line is up, no frame and no transfer ends and no
+    /// timer sets a flag, as far as what runs now tells; 0 where a line is up.
     #[inline(always)]
-    pub fn leap_clear(&mut self, last: u64, n: u8) -> bool
+    pub fn clear(&self) -> u64
+        ensures early { result ≤ 2 ^ 40 }
+        ensures clear { IsClear result self.now }
+    {
+        self.ahead.clear
+    }
+
+    /// Passes the `n` cycles from that of its clock on, if they are over by the beginning of the cycle `bound`, up to
+    /// which nothing happens: whether it passed them.
+    #[inline(always)]
+    pub fn leap_within(&mut self, bound: u64, n: u8) -> bool
         requires some { 0 < n }
-        ensures within { result ≡ true → self.old.clock + n ≤ last }
+        requires early { bound ≤ 2 ^ 40 }
+        requires clear { IsClear bound self.old }
+        ensures within { result ≡ true → self.old.clock + n ≤ bound }
         ensures idle { result ≡ true → IsIdle self.old.clock n (unclocked self.old) }
         ensures state { result ≡ true → unclocked self.new ≡ timers_leap self.old.clock n (unclocked self.old) }
-        ensures clear { result ≡ true → (lines_of self.new).bits ≡ 0 }
+        ensures lines { result ≡ true → (lines_of self.new).bits ≡ 0 }
+        ensures clear { result ≡ true → IsClear bound self.new }
         ensures clock { result ≡ true → self.new.clock ≡ self.old.clock + n }
         ensures same { result ≡ false → self.new ≡ self.old }
     {
         let end = self.board.clock.get() + u64::from(n);
-        if end > last || end > self.ahead.clear {
+        if end > bound {
             return false;
         }
         self.board.clock = Clock::new(end);

@@ -243,7 +243,8 @@ impl LaggingBoard {
         }
         let put = self.board.put_spdr(at as u8, x);
         let clock = self.board.clock.get();
-        let calm = cycles_before(self.board.spi.done_at(), clock, self.ahead.next - clock);
+        let most = self.ahead.next.saturating_sub(clock);
+        let calm = cycles_before(self.board.spi.done_at(), clock, most);
         let next = clock + calm;
         self.ahead.next = next;
         self.ahead.clear = clear_until(self.ahead.lines, next);

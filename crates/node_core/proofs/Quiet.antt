@@ -1,5 +1,6 @@
 -- What an instruction leaves: SEI and RETI are those that enable, an instruction that neither enables nor stores leaves
--- the flag I as it was, and one that leaves a single cycle takes one.
+-- the flag I as it was, one that leaves a single cycle takes one, and one that neither loads nor stores leaves the data
+-- space.
 use Rattle.std.proofs.Common.{◌≡◌, ℕ, ◌/◌, ◌&&◌, ◌==◌, if◌then◌else◌, nat_le, nat_lt, Bool, true, false, List, refl, ap, sym, subst, ◌∙◌, arith}
 use Rattle.std.proofs.lemmas.Bool.{and_parts, eqb-true, false≢true}
 use Rattle.std.proofs.lemmas.Bool.Decides.{nat_tests}
@@ -13,6 +14,8 @@ use Rattle.avr_decoder.specs.declared.op.Op.{Op}
 use Rattle.avr_decoder.specs.declared.op.Op.TheVariants as op
 use Rattle.arith_step.specs.Table.{arith_cycles}
 use Rattle.arith_step.proofs.KeepsI.{arith_keeps_i, sets_a_flag}
+use Rattle.bus_step.specs.FlowTable.{flow_effect}
+use Rattle.bus_step.specs.MemoryTable.{memory_effect}
 use Rattle.bus_step.proofs.Flags.{flow_keeps_flags, memory_keeps_flags, writes_in_flow, writes_in_memory}
 use Rattle.data_space.specs.declared.bus.Done.{Done}
 use Rattle.data_space.specs.declared.cpu.Cpu.{Cpu}
@@ -148,3 +151,63 @@ unfolding executed_over
 single_cycle flash o cpu bus d left ok =
     let parts = and_parts _ _ (takes_one o (ap is_single left)) in
     cycles_by flash o cpu bus d (eqb-true _ _ parts.1) (class_of o) parts.0 ok
+
+-- ---- the data space as it was
+abbrev pub may_access : After → Bool
+may_access after.Loaded = true
+may_access after.Store = true
+may_access after.Enabled = true
+may_access _ = false
+
+module _ (flash : List ℕ) (cpu : Cpu) (bus : NodeBus) where
+  flow_apart : (o : Op) → may_access (after_of o) ≡ false → (flow_effect bus_get bus_put flash o cpu bus).bus ≡ bus
+  unfolding flow_effect
+  flow_apart (op.Sbis a b) h = absurd (false≢true (sym h))
+  flow_apart (op.Sbic a b) h = absurd (false≢true (sym h))
+  flow_apart (op.Call k) h = absurd (false≢true (sym h))
+  flow_apart (op.Rcall k) h = absurd (false≢true (sym h))
+  flow_apart op.Icall h = absurd (false≢true (sym h))
+  flow_apart op.Ret h = absurd (false≢true (sym h))
+  flow_apart op.Reti h = absurd (false≢true (sym h))
+  flow_apart _ h = refl
+
+  memory_apart : (o : Op) → may_access (after_of o) ≡ false → (memory_effect bus_get bus_put flash o cpu bus).bus ≡ bus
+  unfolding memory_effect
+  memory_apart (op.LdX d) h = absurd (false≢true (sym h))
+  memory_apart (op.LddY d q) h = absurd (false≢true (sym h))
+  memory_apart (op.LddZ d q) h = absurd (false≢true (sym h))
+  memory_apart (op.Lds d k) h = absurd (false≢true (sym h))
+  memory_apart (op.InIo d a) h = absurd (false≢true (sym h))
+  memory_apart (op.LdXInc d) h = absurd (false≢true (sym h))
+  memory_apart (op.LdYInc d) h = absurd (false≢true (sym h))
+  memory_apart (op.LdZInc d) h = absurd (false≢true (sym h))
+  memory_apart (op.LdXDec d) h = absurd (false≢true (sym h))
+  memory_apart (op.LdYDec d) h = absurd (false≢true (sym h))
+  memory_apart (op.LdZDec d) h = absurd (false≢true (sym h))
+  memory_apart (op.StX r) h = absurd (false≢true (sym h))
+  memory_apart (op.StdY q r) h = absurd (false≢true (sym h))
+  memory_apart (op.StdZ q r) h = absurd (false≢true (sym h))
+  memory_apart (op.Sts k r) h = absurd (false≢true (sym h))
+  memory_apart (op.OutIo a r) h = absurd (false≢true (sym h))
+  memory_apart (op.StXInc r) h = absurd (false≢true (sym h))
+  memory_apart (op.StYInc r) h = absurd (false≢true (sym h))
+  memory_apart (op.StZInc r) h = absurd (false≢true (sym h))
+  memory_apart (op.StXDec r) h = absurd (false≢true (sym h))
+  memory_apart (op.StYDec r) h = absurd (false≢true (sym h))
+  memory_apart (op.StZDec r) h = absurd (false≢true (sym h))
+  memory_apart (op.Push r) h = absurd (false≢true (sym h))
+  memory_apart (op.Pop d) h = absurd (false≢true (sym h))
+  memory_apart (op.Sbi a b) h = absurd (false≢true (sym h))
+  memory_apart (op.Cbi a b) h = absurd (false≢true (sym h))
+  memory_apart _ h = refl
+
+  apart_by : (o : Op) → may_access (after_of o) ≡ false → (k : Class) → (executed_by k flash o cpu bus).bus ≡ bus
+  apart_by o h class.Arith = refl
+  apart_by o h class.Flow = flow_apart o h
+  apart_by o h class.Memory = memory_apart o h
+  apart_by o h (class.Halting cause) = refl
+
+  -- an instruction that neither loads nor stores leaves it
+  pub keeps_bus : (o : Op) → may_access (after_of o) ≡ false → (executed flash o cpu bus).bus ≡ bus
+  unfolding executed_over
+  keeps_bus o h = apart_by o h (class_of o)

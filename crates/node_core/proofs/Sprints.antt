@@ -25,7 +25,7 @@ use Rattle.node_core.specs.Bus.{with_board}
 use Rattle.node_core.specs.Cycle.{instructed, instructed_rows, node_kind, row}
 use Rattle.node_core.specs.Inside.{IsCalm, MayAct}
 use Rattle.node_core.specs.Interrupts.{due}
-use Rattle.node_core.specs.Midway.{IsActed, IsMidway, IsSprinted, IsSprinting, IsStepped, IsStopping, IsTurning, beside, over, owing, turned_on}
+use Rattle.node_core.specs.Midway.{IsActed, IsMidway, IsSprinted, IsSprinting, IsStepped, IsStopping, IsTurning, MayEnd, beside, over, owing, turned_on}
 use Rattle.node_core.specs.Shown.{shown}
 use Rattle.node_core.specs.State.{NodeState}
 use Rattle.node_core.proofs.Acts.{one_more, one_row}
@@ -297,6 +297,18 @@ module _ (t end : ℕ) (first self : Machine) (regs : Registers) (core : Core) (
   module _ (board : Board) (same : board ≡ bus.board) where
     pub stays_at : board.clock ≡ self.bus.board.clock
     stays_at = ap (λ (x : Board). x.clock) same ∙ p.clock
+
+    pub may_end : end ≤ 2 ^ 40 → ((i : ℕ) → t + i < end → script_byte first.script (t + i) ≡ None) → MayEnd end n (on_board board)
+    may_end early none =
+        let at = stays_at in
+        let within = h.within in
+        let from = h.runs.from in
+        record {
+          some = p.some;
+          early = omega (arith, at, within, early);
+          within = omega (arith, at, within);
+          none = silent t board.clock end first (on_board board) h.runs.script (omega (arith, from, at)) none;
+        }
 
     pub at_it : IsSprinting t board.clock first m
     at_it = subst (λ (c : ℕ). IsSprinting t c first m) (sym stays_at) h.runs

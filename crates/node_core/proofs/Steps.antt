@@ -26,12 +26,12 @@ use Rattle.node_core.specs.Cycle.{first_word, instructed, instructed_rows, is_id
 use Rattle.node_core.specs.Execute.{after_of, executed, is_plain}
 use Rattle.node_core.specs.Inside.{IsCalm, MayAct}
 use Rattle.node_core.specs.Interrupts.{due}
-use Rattle.node_core.specs.Midway.{IsActed, IsMidway, IsStep, IsStepped, IsStopping, counted, leaves_i, owing, step_of, turned_on}
+use Rattle.node_core.specs.Midway.{IsActed, IsMidway, IsStep, IsStepped, IsStopping, counted, leaves_bus, leaves_i, owing, step_of, turned_on}
 use Rattle.node_core.specs.declared.sprint.Step.{Step}
 use Rattle.node_core.specs.Shown.{shown}
 use Rattle.node_core.specs.State.{NodeState}
 use Rattle.node_core.proofs.Clocks.{executed_clock}
-use Rattle.node_core.proofs.Quiet.{enables, is_enabled, keeps_i, may_change, quiet, single_cycle}
+use Rattle.node_core.proofs.Quiet.{enables, is_enabled, keeps_bus, keeps_i, may_access, may_change, quiet, single_cycle}
 use Rattle.node_core.proofs.Executes.{plain_awake, takes}
 use Rattle.node_core.proofs.Stops.{stops_there}
 use Rattle.node_core.proofs.Wakes.{wakes}
@@ -146,6 +146,7 @@ module _ (t : ℕ) (m : Machine) (o : Op) (fetched : o ≡ op_now (shown m)) (ma
         (goes false (quiet_owes t m o fetched plain may a flash kept some (ap is_enabled (sym e)) (ap may_change (sym e))))
     by_after after.Nothing e = goes false (quiet_owes t m o fetched plain may a flash kept some (ap is_enabled (sym e)) (ap may_change (sym e)))
     by_after after.Back e = goes false (quiet_owes t m o fetched plain may a flash kept some (ap is_enabled (sym e)) (ap may_change (sym e)))
+    by_after after.Loaded e = goes false (quiet_owes t m o fetched plain may a flash kept some (ap is_enabled (sym e)) (ap may_change (sym e)))
     by_after after.Store e = goes (turned_on m.cpu.sreg.bits to.sreg.bits) (stored_owes t m o fetched plain may a flash kept some (ap is_enabled (sym e)))
     by_after after.Enabled e = goes true (enabled_owes t m o fetched plain may a flash kept some (ap is_enabled (sym e)))
 
@@ -169,6 +170,24 @@ leaves_flag flash o from to bus there k (Some (Ok d)) e some step is i =
     apart after.Single d h = refl
     apart after.Nothing d h = refl
     apart after.Back d h = refl
+    apart after.Loaded d h = refl
+    apart after.Store d h = absurd (false≢true h)
+    apart after.Enabled d h = absurd (false≢true h)
+
+-- and by which the data space does
+pub leaves_data : (flash : List ℕ) (o : Op) (from to : Cpu) (bus there : NodeBus) (k : After) (x : Option (Result Done StopCause)) → k ≡ after_of o
+    → IfSome x (λ (r : Result Done StopCause). (let a : Outcome NodeBus = record { result = r; cpu = to; bus = there } in a ≡ executed flash o from bus))
+    → (step : Step) → step ≡ step_of k x → leaves_bus step ≡ true → there ≡ bus
+leaves_data flash o from to bus there k None e some step is i = absurd (false≢true (sym (ap leaves_bus is) ∙ i))
+leaves_data flash o from to bus there k (Some (Err cause)) e some step is i = absurd (false≢true (sym (ap leaves_bus is) ∙ i))
+leaves_data flash o from to bus there k (Some (Ok d)) e some step is i =
+    ap (λ (x : Outcome NodeBus). x.bus) some ∙ keeps_bus flash from bus o (ap may_access (sym e) ∙ apart k d (sym (ap leaves_bus is) ∙ i))
+  where
+    apart : (k : After) (d : Done) → leaves_bus (step_of k (Some (Ok d))) ≡ true → may_access k ≡ false
+    apart after.Single d h = refl
+    apart after.Nothing d h = refl
+    apart after.Back d h = refl
+    apart after.Loaded d h = absurd (false≢true h)
     apart after.Store d h = absurd (false≢true h)
     apart after.Enabled d h = absurd (false≢true h)
 

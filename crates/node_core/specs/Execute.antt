@@ -60,8 +60,8 @@ abbrev pub after_class : Class → Op → After
 after_class class.Arith o = after_cycles (arith_cycles o)
 after_class _ o = after.Nothing
 
--- what an instruction may leave that a loop over instructions looks at: a jump may go back, a store may be to SREG, one
--- of the flags that BSET and BCLR change is I, SEI and RETI turn it on
+-- what an instruction may leave that a loop over instructions looks at: a jump may go back, a load may be of a device's
+-- register, a store may be to one or to SREG, one of the flags that BSET and BCLR change is I, SEI and RETI turn it on
 abbrev pub after_of : Op → After
 after_of (op.Bset s) = if s == 7 then after.Enabled else after.Store
 after_of (op.Bclr s) = after.Store
@@ -69,6 +69,21 @@ after_of op.Reti = after.Enabled
 after_of (op.Rjmp k) = after_jump k
 after_of (op.Brbs s k) = after_jump k
 after_of (op.Brbc s k) = after_jump k
+after_of (op.Sbis a b) = after.Loaded
+after_of (op.Sbic a b) = after.Loaded
+after_of op.Ret = after.Loaded
+after_of (op.LdX d) = after.Loaded
+after_of (op.LddY d q) = after.Loaded
+after_of (op.LddZ d q) = after.Loaded
+after_of (op.Lds d k) = after.Loaded
+after_of (op.InIo d a) = after.Loaded
+after_of (op.LdXInc d) = after.Loaded
+after_of (op.LdYInc d) = after.Loaded
+after_of (op.LdZInc d) = after.Loaded
+after_of (op.LdXDec d) = after.Loaded
+after_of (op.LdYDec d) = after.Loaded
+after_of (op.LdZDec d) = after.Loaded
+after_of (op.Pop d) = after.Loaded
 after_of (op.Call k) = after.Store
 after_of (op.Rcall k) = after.Store
 after_of op.Icall = after.Store

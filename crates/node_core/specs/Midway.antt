@@ -13,9 +13,10 @@ use Rattle.node_core.specs.declared.instructions.After.{After}
 use Rattle.node_core.specs.declared.instructions.After.TheVariants as after
 use Rattle.node_core.specs.declared.machine.Machine.{Machine}
 use Rattle.node_core.specs.declared.sprint.Step.{Step}
-use Rattle.node_core.specs.declared.sprint.Step.TheVariants.{Single, Plain, Jumped, Stored, Enabled, Stopped, Left}
+use Rattle.node_core.specs.declared.sprint.Step.TheVariants.{Single, Plain, Jumped, Loaded, Stored, Enabled, Stopped, Left}
 use Rattle.node_core.specs.declared.bus.NodeBus.{NodeBus}
 use Rattle.board_io.specs.Lines.{lines_of}
+use Rattle.serial_ports.specs.Script.{script_byte}
 use Rattle.node_core.specs.Inside.{IsGoing}
 use Rattle.node_core.specs.Shown.{shown}
 use Rattle.node_core.specs.State.{NodeState}
@@ -94,6 +95,7 @@ step_of k (Some (Err cause)) = Stopped cause
 step_of after.Single (Some (Ok d)) = Single
 step_of after.Nothing (Some (Ok d)) = Plain d.cycles
 step_of after.Back (Some (Ok d)) = Jumped d.cycles
+step_of after.Loaded (Some (Ok d)) = Loaded d.cycles
 step_of after.Store (Some (Ok d)) = Stored d.cycles
 step_of after.Enabled (Some (Ok d)) = Enabled d.cycles
 
@@ -107,6 +109,7 @@ abbrev pub IsStep : ℕ → Step → Machine → Machine → Type 0
 IsStep t Single old new = IsStepped t 1 old (owing false new)
 IsStep t (Plain n) old new = IsStepped t n old (owing false new)
 IsStep t (Jumped n) old new = IsStepped t n old (owing false new)
+IsStep t (Loaded n) old new = IsStepped t n old (owing false new)
 IsStep t (Stored n) old new = IsStepped t n old (owing (turned_on old.cpu.sreg.bits new.cpu.sreg.bits) new)
 IsStep t (Enabled n) old new = IsStepped t n old (owing true new)
 IsStep t (Stopped cause) old new = IsStopping t cause old new
@@ -117,7 +120,15 @@ abbrev pub leaves_i : Step → Bool
 leaves_i Single = true
 leaves_i (Plain n) = true
 leaves_i (Jumped n) = true
+leaves_i (Loaded n) = true
 leaves_i _ = false
+
+-- whether a step accesses no data
+abbrev pub leaves_bus : Step → Bool
+leaves_bus Single = true
+leaves_bus (Plain n) = true
+leaves_bus (Jumped n) = true
+leaves_bus _ = false
 
 -- from cycle t on it executed instruction after instruction behind the window, and stands at the beginning of cycle
 -- `at`
@@ -132,6 +143,14 @@ pub record IsSprinting (t at : ℕ) (old m : Machine) : Type 0 where
   pub script : m.script ≡ old.script
   pub count : m.count ≤ 2 ^ 40 + at
   pub rows : m.rows ≡ old.rows
+
+-- a machine of which a sprint up to `end`, below which no byte arrives, executed an instruction of n cycles: this is the
+-- first of them
+pub record MayEnd (end n : ℕ) (m : Machine) : Type 0 where
+  pub some : 0 < n
+  pub early : m.bus.board.clock ≤ 2 ^ 40
+  pub within : m.bus.board.clock ≤ end
+  pub none : (i : ℕ) → m.bus.board.clock + i < end → script_byte m.script (m.bus.board.clock + i) ≡ None
 
 -- a sprint from cycle t on, of at most up to `end`, between two instructions: no line is up. Parts of the core stand
 -- beside the machine, which says of no instruction that it is owed; one is, up to this count of them

@@ -28,13 +28,15 @@ use ihex_loader::Flash;
 /// What an instruction may leave that a loop over instructions looks at.
 #[derive(Clone, Copy)]
 pub enum After {
-    /// Nothing, after one cycle: the program goes on, and the flag I is as it was.
+    /// Nothing, after one cycle: the program goes on, the flag I is as it was, and the data space was not accessed.
     Single,
-    /// Nothing, after its cycles: the program goes on, and the flag I is as it was.
+    /// Nothing, after its cycles.
     Nothing,
     /// The program may go on a few words further back.
     Back,
-    /// A store, which may be to SREG, or a flag that is set or cleared.
+    /// A load, which may be of a device's register, and move what that ends next.
+    Loaded,
+    /// A store, which may be to SREG or to a device's register, or a flag that is set or cleared.
     Store,
     /// The flag I on, by SEI or RETI: the next instruction is executed before any interrupt.
     Enabled,
@@ -87,12 +89,12 @@ fn jumped(k: i16, reported: Done) -> Executed
     }
 }
 
-// An instruction that may stop, and stores nothing.
+// An instruction that may stop, and loads a byte.
 #[inline]
 fn loaded(reported: Result<Done, StopCause>) -> Executed
-    ensures { result ≡ (after.Nothing, Some reported) }
+    ensures { result ≡ (after.Loaded, Some reported) }
 {
-    (After::Nothing, Some(reported))
+    (After::Loaded, Some(reported))
 }
 
 // An instruction that may stop, and stores a byte, or sets or clears a flag.

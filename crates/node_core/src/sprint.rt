@@ -1,8 +1,9 @@
 // Instructions of a node, one behind another, while nothing is due.
 ghost use Rattle.std.specs.Prelude.{◌≡◌, ◌≤◌, ◌<◌, ◌+◌, ◌^◌, nat_lt, ℕ, None, true};
+ghost use Rattle.board_io.specs.Lagging.{IsClear};
 ghost use Rattle.node_core.specs.Inside.{MayAct};
 ghost use Rattle.node_core.specs.Interrupts.{due};
-ghost use Rattle.node_core.specs.Midway.{IsSprinted, IsSprinting, IsStep, IsStepped, beside, counted, leaves_i, over, owing, step_of, turned_on};
+ghost use Rattle.node_core.specs.Midway.{IsSprinted, IsSprinting, IsStep, IsStepped, MayEnd, beside, counted, leaves_bus, leaves_i, over, owing, step_of, turned_on};
 ghost use Rattle.node_core.specs.Shown.{shown};
 ghost use Rattle.node_core.specs.declared.machine.Machine.{Machine};
 ghost use Rattle.avr_program.specs.Program.{slots_below};
@@ -26,12 +27,14 @@ pub struct Sprinted {
 /// What a step of a sprint did.
 #[derive(Clone, Copy)]
 pub enum Step {
-    /// It executed an instruction of one cycle, which left the flag I as it was.
+    /// It executed an instruction of one cycle, which left the flag I and the data space as they were.
     Single,
     /// Such an instruction of so many cycles.
     Plain { taken: u8 },
     /// Such an instruction of so many cycles, after which the program may go on a few words further back.
     Jumped { taken: u8 },
+    /// An instruction of so many cycles that loaded a byte, and left the flag I as it was.
+    Loaded { taken: u8 },
     /// An instruction of so many cycles that stored a byte, maybe to SREG, or set or cleared a flag.
     Stored { taken: u8 },
     /// SEI or RETI, of so many cycles.
@@ -53,6 +56,15 @@ fn turned_on(before: u8, after: u8) -> bool
     before < 128 && after >= 128
 }
 
+// The cycle up to which nothing happens, as far as what runs now tells, of those up to `end`; 0 where a line is up.
+#[inline(always)]
+fn clear_to(bus: &NodeBus, end: u64) -> u64
+    ensures within { result ≤ end }
+    ensures clear { IsClear result bus.now.board }
+{
+    end.min(bus.board.clear())
+}
+
 // Counts an instruction that was executed, and says what the step did.
 #[inline(always)]
 fn told(after: After, executed: Option<Result<Done, StopCause>>, count: &mut u64) -> Step
@@ -70,6 +82,7 @@ fn told(after: After, executed: Option<Result<Done, StopCause>>, count: &mut u64
                 After::Single => Step::Single,
                 After::Nothing => Step::Plain { taken },
                 After::Back => Step::Jumped { taken },
+                After::Loaded => Step::Loaded { taken },
                 After::Store => Step::Stored { taken },
                 After::Enabled => Step::Enabled { taken },
             }
@@ -94,6 +107,7 @@ fn one_step(
     ensures step { (m : Machine) → m.program ≡ program.now → MayAct bus.old.board.clock (over regs.old core.old bus.old count.old m) → m.to ≤ bus.old.board.clock
         → IsStep bus.old.board.clock result (over regs.old core.old bus.old count.old m) (over regs.new core.new bus.new count.new m) }
     ensures flag { leaves_i result ≡ true → nat_lt core.new.sreg.bits 128 ≡ nat_lt core.old.sreg.bits 128 }
+    ensures apart { leaves_bus result ≡ true → bus.new ≡ bus.old }
 {
     let op = program.op_at(slots, core.pc);
     let (after, executed) = execute_plain(op, program.flash(), regs, core, bus);
@@ -113,10 +127,7 @@ impl Machine {
         taken: u8,
         owed: bool,
     ) -> Sprinted
-        requires some { 0 < taken }
-        requires early { self.old.bus.board.clock ≤ 2 ^ 40 }
-        requires within { self.old.bus.board.clock ≤ end }
-        requires none { (i : ℕ) → self.old.bus.board.clock + i < end → script_byte self.old.script (self.old.bus.board.clock + i) ≡ None }
+        requires may { MayEnd end taken self.old }
         ensures sprinted { (t : ℕ) (first m : Machine) → IsSprinting t self.old.bus.board.clock first m → due (shown m) ≡ None
             → IsStepped self.old.bus.board.clock taken m (owing owed (beside regs.now core self.old)) → IsSprinted t result.at result.inside first self.new }
         ensures within { result.at ≤ end }
@@ -176,6 +187,8 @@ impl Machine {
         let mut owed_to = 0;
         loop {
             let slots = self.program.slots();
+            // only an access to a device moves it
+            let mut bound = clear_to(&self.bus, end);
             loop {
                 match one_step(
                     &self.program,
@@ -186,17 +199,17 @@ impl Machine {
                     &mut self.count,
                 ) {
                     Step::Single => {
-                        if !self.bus.board.leap_clear(end, 1) {
+                        if !self.bus.board.leap_within(bound, 1) {
                             return self.end_sprint(&regs, core, end, 1, false);
                         }
                     }
                     Step::Plain { taken } => {
-                        if !self.bus.board.leap_clear(end, taken) {
+                        if !self.bus.board.leap_within(bound, taken) {
                             return self.end_sprint(&regs, core, end, taken, false);
                         }
                     }
                     Step::Jumped { taken } => {
-                        if !self.bus.board.leap_clear(end, taken) {
+                        if !self.bus.board.leap_within(bound, taken) {
                             return self.end_sprint(&regs, core, end, taken, false);
                         }
                         if unseen == 0 {
@@ -204,10 +217,17 @@ impl Machine {
                         }
                         unseen -= 1;
                     }
+                    Step::Loaded { taken } => {
+                        bound = clear_to(&self.bus, end);
+                        if !self.bus.board.leap_within(bound, taken) {
+                            return self.end_sprint(&regs, core, end, taken, false);
+                        }
+                    }
                     Step::Stored { taken } => {
+                        bound = clear_to(&self.bus, end);
                         let on = turned_on(flags, core.sreg.bits);
                         flags = core.sreg.bits;
-                        if !self.bus.board.leap_clear(end, taken) {
+                        if !self.bus.board.leap_within(bound, taken) {
                             return self.end_sprint(&regs, core, end, taken, on);
                         }
                         if on {
@@ -215,7 +235,8 @@ impl Machine {
                         }
                     }
                     Step::Enabled { taken } => {
-                        if !self.bus.board.leap_clear(end, taken) {
+                        bound = clear_to(&self.bus, end);
+                        if !self.bus.board.leap_within(bound, taken) {
                             return self.end_sprint(&regs, core, end, taken, true);
                         }
                         flags = core.sreg.bits;

@@ -6,7 +6,7 @@ use Rattle.data_space.specs.declared.cpu.Cpu.{Cpu}
 use Rattle.data_space.specs.Core.{whole}
 use Rattle.ihex_loader.specs.Flash.{Image}
 use Rattle.node_core.specs.Midway.{IsStep, over, step_of}
-use Rattle.node_core.proofs.Steps.{as_it_was, did, leaves_flag}
+use Rattle.node_core.proofs.Steps.{as_it_was, did, leaves_data, leaves_flag}
 use Rattle.node_core.proofs.sprint.one_step.Goals as goal
 
 pub returns-clause-step : goal.returns-clause-step
@@ -31,3 +31,12 @@ returns-clause-flag c =
     let o = c.execute_plain-after.result in
     let from : Cpu = whole a.regs.now a.core.now in
     leaves_flag c.flash.result.now.bytes c.op_at-op.result.now from (whole x.regs x.core) a.bus.now x.bus o.0 o.1 e.after e.some c.told.result c.told.ensures.step
+
+pub returns-clause-apart : goal.returns-clause-apart
+returns-clause-apart c =
+    let e = c.execute_plain-after.ensures in
+    let x = c.execute_plain-after.new in
+    let a = c.args in
+    let o = c.execute_plain-after.result in
+    let from : Cpu = whole a.regs.now a.core.now in
+    leaves_data c.flash.result.now.bytes c.op_at-op.result.now from (whole x.regs x.core) a.bus.now x.bus o.0 o.1 e.after e.some c.told.result c.told.ensures.step

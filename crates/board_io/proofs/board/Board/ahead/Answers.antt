@@ -17,13 +17,14 @@ returns-clause-ahead c =
     let most = same.within in
     record {
       settled = omega (arith, at);
-      next = omega (arith, at);
+      now = c.requires;
       early = omega (arith, at, early, within, most, some);
       quiet = λ u from below.
           (let i : ℕ = u - t in
           let here : t + i ≡ u = omega (arith, from, at) in
           subst (λ (w : ℕ). board_quiet w b ≡ true) here (calm.none i (omega (arith, from, at, below, most, some))));
       calm = λ i below. same.calm i (omega (arith, below, some));
+      past = λ i below. absurd (omega (arith, at, below));
       lines = ap (λ (l : Lines). l.bits) (sym c.lines-lines.ensures);
       clear = c.clear_until.ensures.within;
       down = c.clear_until.ensures.down;

@@ -1,4 +1,5 @@
-use Rattle.std.proofs.Common.{◌≡◌, ℕ, ◌+◌, ◌-◌, true, sym, ap, subst, arith}
+use Rattle.std.proofs.Common.{◌≡◌, ℕ, ◌+◌, ◌-◌, true, inl, inr, sym, ap, subst, arith}
+use Rattle.std.proofs.lemmas.Bool.{cases_lt}
 use Rattle.board_io.specs.Cycle.{board_quiet}
 use Rattle.board_io.specs.declared.board.Board.{Board}
 use Rattle.avr_base.specs.declared.interrupts.Lines.{Lines}
@@ -12,17 +13,21 @@ returns-clause-ahead c =
     let quiet = c.quiet-calm.ensures in
     let within = quiet.within in
     let settled = c.requires.settled in
-    let next = c.requires.next in
+    let now = c.requires.now in
     let early = c.requires.early in
     record {
       settled = settled;
-      next = omega (arith, at);
-      early = omega (arith, at, early, within, next);
+      now = now;
+      early = omega (arith, at, early, within, now);
       quiet = λ u from below.
           (let i : ℕ = u - t in
           let here : t + i ≡ u = omega (arith, from, at) in
           subst (λ (w : ℕ). board_quiet w b ≡ true) here (quiet.none i (omega (arith, from, at, below))));
-      calm = λ i below. c.requires.calm i (omega (arith, below, at, within, next));
+      calm = λ i below. elim (cases_lt (c.args.before.settled + i) b.clock) [
+        | inl passed ↦ c.requires.past i passed
+        | inr from ↦ c.requires.calm i (omega (arith, below, at, within, from))
+      ];
+      past = c.requires.past;
       lines = ap (λ (l : Lines). l.bits) (sym c.lines-lines.ensures);
       clear = c.clear_until.ensures.within;
       down = c.clear_until.ensures.down;

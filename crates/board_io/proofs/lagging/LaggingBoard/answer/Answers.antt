@@ -11,9 +11,8 @@ ahead-self-inside-requires c =
     let i = c.self.inside in
     let same = ap (λ (b : Board). b.clock) c.answer.ensures ∙ answered_clock c.args.h c.catch_up.new.self in
     let there = ap (λ (b : Board). b.clock) c.catch_up.ensures ∙ caught_clock i.ahead.settled i.board in
-    let next = c.self.invariant.next in
-    let early = c.self.invariant.early in
-    omega (arith, same, there, next, early)
+    let now = c.self.invariant.now in
+    omega (arith, same, there, now)
 
 pub returns-clause-state : goal.returns-clause-state
 returns-clause-state c =

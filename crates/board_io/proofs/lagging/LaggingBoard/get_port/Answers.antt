@@ -1,7 +1,7 @@
 use Rattle.std.proofs.Common.{ℕ, sym, subst, arith}
 use Rattle.board_io.specs.Lagging.{caught_up}
 use Rattle.board_io.specs.Registers.{IsGot, get_by}
-use Rattle.board_io.proofs.Beside.{calm_beside, got_timers, read_beside}
+use Rattle.board_io.proofs.Beside.{calm_beside, got_timers, past_beside, read_beside}
 use Rattle.board_io.proofs.lagging.LaggingBoard.get_port.Goals as goal
 
 pub ahead_beside-self-inside-requires-clause-settled : goal.ahead_beside-self-inside-requires-clause-settled
@@ -11,12 +11,12 @@ ahead_beside-self-inside-requires-clause-settled c =
     let settled = c.self.invariant.settled in
     omega (arith, same, settled)
 
-pub ahead_beside-self-inside-requires-clause-next : goal.ahead_beside-self-inside-requires-clause-next
-ahead_beside-self-inside-requires-clause-next c =
+pub ahead_beside-self-inside-requires-clause-now : goal.ahead_beside-self-inside-requires-clause-now
+ahead_beside-self-inside-requires-clause-now c =
     let i = c.self.inside in
     let same = (got_timers c.args.rule i.board c.args.at i.ahead.settled c.requires c.get_by-got.result c.get_by-got.new.self c.get_by-got.ensures).clock in
-    let next = c.self.invariant.next in
-    omega (arith, same, next)
+    let now = c.self.invariant.now in
+    omega (arith, same, now)
 
 pub ahead_beside-self-inside-requires-clause-early : goal.ahead_beside-self-inside-requires-clause-early
 ahead_beside-self-inside-requires-clause-early c = c.self.invariant.early
@@ -25,6 +25,11 @@ pub ahead_beside-self-inside-requires-clause-calm : goal.ahead_beside-self-insid
 ahead_beside-self-inside-requires-clause-calm c =
     let i = c.self.inside in
     calm_beside i.ahead i.board c.get_by-got.new.self (got_timers c.args.rule i.board c.args.at i.ahead.settled c.requires c.get_by-got.result c.get_by-got.new.self c.get_by-got.ensures) c.self.invariant
+
+pub ahead_beside-self-inside-requires-clause-past : goal.ahead_beside-self-inside-requires-clause-past
+ahead_beside-self-inside-requires-clause-past c =
+    let i = c.self.inside in
+    past_beside i.ahead i.board c.get_by-got.new.self (got_timers c.args.rule i.board c.args.at i.ahead.settled c.requires c.get_by-got.result c.get_by-got.new.self c.get_by-got.ensures) c.self.invariant
 
 pub returns : goal.returns
 returns c =

@@ -9,9 +9,8 @@ ahead-self-inside-requires c =
     let i = c.self.inside in
     let same = write_clock c.args.rule c.catch_up.new.self c.put_by-put.new.self c.args.at c.args.x c.put_by-put.result c.put_by-put.ensures in
     let there = ap (λ (b : Board). b.clock) c.catch_up.ensures ∙ caught_clock i.ahead.settled i.board in
-    let next = c.self.invariant.next in
-    let early = c.self.invariant.early in
-    omega (arith, same, there, next, early)
+    let now = c.self.invariant.now in
+    omega (arith, same, there, now)
 
 pub returns : goal.returns
 returns c =

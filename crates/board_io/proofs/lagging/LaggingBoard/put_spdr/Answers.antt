@@ -1,4 +1,4 @@
-use Rattle.std.proofs.Common.{refl, sym, subst}
+use Rattle.std.proofs.Common.{refl, sym, subst, arith}
 use Rattle.serial_ports.specs.declared.spi_registers.SpiReg.TheVariants.{Spdr}
 use Rattle.board_io.specs.declared.rules.Rule.{Rule}
 use Rattle.board_io.specs.declared.rules.Rule.TheVariants.{Spi}
@@ -18,6 +18,8 @@ pub invariant_of-self : goal.invariant_of-self
 invariant_of-self c =
     let i = c.self.inside in
     let none = c.cycles_before-calm.ensures in
+    let most = c.saturating_sub-most.ensures in
+    let within = none.within in
     let clear = c.clear_until-self-inside.ensures in
     sent_ahead i.ahead i.board c.self.invariant c.args.x (sym c.if-line.ensures) c.args.at c.put_spdr-put.result c.put_spdr-put.new.self c.get-clock.result c.cycles_before-calm.result c.clear_until-self-inside.result c.done_at.result
-    c.put_spdr-put.ensures c.get-clock.ensures.value c.done_at.ensures none.within none.none clear.within clear.down
+    c.put_spdr-put.ensures c.get-clock.ensures.value c.done_at.ensures (omega (arith, most, within)) none.none clear.within clear.down

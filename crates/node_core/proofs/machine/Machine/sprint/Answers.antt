@@ -4,14 +4,16 @@ use Rattle.avr_base.specs.declared.interrupts.Lines.{Lines}
 use Rattle.data_space.specs.declared.cpu.Core.{Core}
 use Rattle.data_space.specs.declared.cpu.Registers.{Registers}
 use Rattle.data_space.specs.Core.{whole}
+use Rattle.board_io.specs.Lagging.{IsClear}
 use Rattle.board_io.specs.Lines.{lines_of}
 use Rattle.node_core.specs.Bus.{with_board}
 use Rattle.node_core.specs.Cycle.{row}
+use Rattle.node_core.specs.declared.bus.NodeBus.{NodeBus}
 use Rattle.node_core.specs.declared.machine.Machine.{Machine}
 use Rattle.node_core.specs.Shown.{shown}
 use Rattle.node_core.specs.Midway.{IsSprinted, IsSprinting, IsStopping, beside, over, owing}
 use Rattle.node_core.specs.declared.row.Kind.TheVariants as kind
-use Rattle.node_core.proofs.Sprints.{acts, at_it, begins, carried, clear_due, joins, may, moved, none_owed, not_owed, silent, stands, stays, stays_at, stepped_on, still_owed, stops, turn_free, turned, turning}
+use Rattle.node_core.proofs.Sprints.{acts, at_it, begins, carried, clear_due, joins, may, may_end, moved, none_owed, not_owed, silent, stands, stays, stepped_on, still_owed, stops, turn_free, turned, turning}
 use Rattle.node_core.proofs.machine.Machine.sprint.Goals as goal
 
 pub returns-then-cycle-self-clause-sprinted : goal.returns-then-cycle-self-clause-sprinted
@@ -46,6 +48,8 @@ loop-self-2-init c = record {
   turning = c.loop-self.invariant.turning;
   slots = c.slots-slots.ensures;
   flag = c.loop-self.invariant.flag;
+  within = c.clear_to-bound.ensures.within;
+  ahead = c.clear_to-bound.ensures.clear;
   on = omega arith;
 }
 
@@ -56,204 +60,166 @@ one_step-requires-clause-few c =
     let within = h.within in
     omega (arith, few, within, c.requires.early)
 
-pub end_sprint-requires-clause-early : goal.end_sprint-requires-clause-early
-end_sprint-requires-clause-early c =
+pub leap_within-requires-clause-early : goal.leap_within-requires-clause-early
+leap_within-requires-clause-early c =
     let l = c.loop-self-2 in
-    let self : Machine = record c.loop-self.self { bus = l.self.1.1.1.1.1.1.1.0; count = l.self.1.1.1.1.1.1.1.1.1.1.1.1.0 } in
-    let h = l.invariant.turning in let s = c.one_step.new in let m : Machine = turning self l.regs l.core l.owed_to in
-    let p = c.in-Single.ensures.step m refl (acts c.args.cycle c.args.end c.args.self.now self l.regs l.core l.owed_to h c.requires.early c.requires.may.room) h.runs.behind in
-    let at = stays_at c.args.cycle c.args.end c.args.self.now self l.regs l.core l.owed_to h 1 s.regs s.core s.bus s.count false p c.leap_clear.new.self (c.if-not-leap_clear.ensures.same refl) in
-    let within = h.within in omega (arith, at, within, c.requires.early)
+    let upto = l.invariant.within in omega (arith, upto, c.requires.early)
 
-pub end_sprint-requires-clause-within : goal.end_sprint-requires-clause-within
-end_sprint-requires-clause-within c =
+pub leap_within-requires-clause-clear : goal.leap_within-requires-clause-clear
+leap_within-requires-clause-clear c =
     let l = c.loop-self-2 in
-    let self : Machine = record c.loop-self.self { bus = l.self.1.1.1.1.1.1.1.0; count = l.self.1.1.1.1.1.1.1.1.1.1.1.1.0 } in
-    let h = l.invariant.turning in let s = c.one_step.new in let m : Machine = turning self l.regs l.core l.owed_to in
-    let p = c.in-Single.ensures.step m refl (acts c.args.cycle c.args.end c.args.self.now self l.regs l.core l.owed_to h c.requires.early c.requires.may.room) h.runs.behind in
-    let at = stays_at c.args.cycle c.args.end c.args.self.now self l.regs l.core l.owed_to h 1 s.regs s.core s.bus s.count false p c.leap_clear.new.self (c.if-not-leap_clear.ensures.same refl) in
-    let within = h.within in omega (arith, at, within)
+    subst (λ (n : NodeBus). IsClear l.bound n.board) (sym (c.in-Single.ensures.apart refl)) l.invariant.ahead
 
-pub end_sprint-requires-clause-none : goal.end_sprint-requires-clause-none
-end_sprint-requires-clause-none c k late =
+pub end_sprint-requires : goal.end_sprint-requires
+end_sprint-requires c =
     let l = c.loop-self-2 in
     let self : Machine = record c.loop-self.self { bus = l.self.1.1.1.1.1.1.1.0; count = l.self.1.1.1.1.1.1.1.1.1.1.1.1.0 } in
     let h = l.invariant.turning in let s = c.one_step.new in let m : Machine = turning self l.regs l.core l.owed_to in
     let p = c.in-Single.ensures.step m refl (acts c.args.cycle c.args.end c.args.self.now self l.regs l.core l.owed_to h c.requires.early c.requires.may.room) h.runs.behind in
-    let at = stays_at c.args.cycle c.args.end c.args.self.now self l.regs l.core l.owed_to h 1 s.regs s.core s.bus s.count false p c.leap_clear.new.self (c.if-not-leap_clear.ensures.same refl) in
-    let from = h.runs.from in
-    silent c.args.cycle c.leap_clear.new.self.clock c.args.end c.args.self.now (record self { bus = with_board s.bus c.leap_clear.new.self; count = s.count }) h.runs.script (omega (arith, from, at)) c.requires.none k late
+    record { may = may_end c.args.cycle c.args.end c.args.self.now self l.regs l.core l.owed_to h 1 s.regs s.core s.bus s.count false p c.leap_within.new.self (c.if-not-leap_within.ensures.same refl) c.requires.early c.requires.none }
 
-pub returns-then-not-leap_clear-clause-sprinted : goal.returns-then-not-leap_clear-clause-sprinted
-returns-then-not-leap_clear-clause-sprinted c =
+pub returns-then-not-leap_within-clause-sprinted : goal.returns-then-not-leap_within-clause-sprinted
+returns-then-not-leap_within-clause-sprinted c =
     let l = c.loop-self-2 in
     let self : Machine = record c.loop-self.self { bus = l.self.1.1.1.1.1.1.1.0; count = l.self.1.1.1.1.1.1.1.1.1.1.1.1.0 } in
     let h = l.invariant.turning in let s = c.one_step.new in let m : Machine = turning self l.regs l.core l.owed_to in
     let p = c.in-Single.ensures.step m refl (acts c.args.cycle c.args.end c.args.self.now self l.regs l.core l.owed_to h c.requires.early c.requires.may.room) h.runs.behind in
-    let same = c.if-not-leap_clear.ensures.same refl in
-    c.end_sprint.ensures.sprinted c.args.cycle c.args.self.now m (at_it c.args.cycle c.args.end c.args.self.now self l.regs l.core l.owed_to h 1 s.regs s.core s.bus s.count false p c.leap_clear.new.self same) (turn_free c.args.cycle c.args.end c.args.self.now self l.regs l.core l.owed_to h 1 s.regs s.core s.bus s.count false p) (carried c.args.cycle c.args.end c.args.self.now self l.regs l.core l.owed_to h 1 s.regs s.core s.bus s.count false p c.leap_clear.new.self same)
+    let same = c.if-not-leap_within.ensures.same refl in
+    c.end_sprint.ensures.sprinted c.args.cycle c.args.self.now m (at_it c.args.cycle c.args.end c.args.self.now self l.regs l.core l.owed_to h 1 s.regs s.core s.bus s.count false p c.leap_within.new.self same) (turn_free c.args.cycle c.args.end c.args.self.now self l.regs l.core l.owed_to h 1 s.regs s.core s.bus s.count false p) (carried c.args.cycle c.args.end c.args.self.now self l.regs l.core l.owed_to h 1 s.regs s.core s.bus s.count false p c.leap_within.new.self same)
 
-pub loop-self-2-smaller-else-not-leap_clear : goal.loop-self-2-smaller-else-not-leap_clear
-loop-self-2-smaller-else-not-leap_clear c =
+pub loop-self-2-smaller-else-not-leap_within : goal.loop-self-2-smaller-else-not-leap_within
+loop-self-2-smaller-else-not-leap_within c =
     let l = c.loop-self-2 in
     let self : Machine = record c.loop-self.self { bus = l.self.1.1.1.1.1.1.1.0; count = l.self.1.1.1.1.1.1.1.1.1.1.1.1.0 } in
     let h = l.invariant.turning in let s = c.one_step.new in let m : Machine = turning self l.regs l.core l.owed_to in
     let p = c.in-Single.ensures.step m refl (acts c.args.cycle c.args.end c.args.self.now self l.regs l.core l.owed_to h c.requires.early c.requires.may.room) h.runs.behind in
-    let e = c.if-not-leap_clear.ensures in
-    let moves = moved c.args.cycle c.args.end c.args.self.now self l.regs l.core l.owed_to h 1 s.regs s.core s.bus s.count false p c.requires.none c.leap_clear.new.self (e.within refl) (e.idle refl) (e.state refl) (e.clear refl) (e.clock refl) in
-    let within = e.within refl in let on = e.clock refl in omega (arith, moves, within, on)
+    let e = c.if-not-leap_within.ensures in
+    let upto = l.invariant.within in let below = e.within refl in
+    let moves = moved c.args.cycle c.args.end c.args.self.now self l.regs l.core l.owed_to h 1 s.regs s.core s.bus s.count false p c.requires.none c.leap_within.new.self (omega (arith, below, upto)) (e.idle refl) (e.state refl) (e.lines refl) (e.clock refl) in
+    let on = e.clock refl in omega (arith, moves, below, upto, on)
 
-pub loop-self-2-preserved-else-not-leap_clear : goal.loop-self-2-preserved-else-not-leap_clear
-loop-self-2-preserved-else-not-leap_clear c =
+pub loop-self-2-preserved-else-not-leap_within : goal.loop-self-2-preserved-else-not-leap_within
+loop-self-2-preserved-else-not-leap_within c =
     let l = c.loop-self-2 in
     let self : Machine = record c.loop-self.self { bus = l.self.1.1.1.1.1.1.1.0; count = l.self.1.1.1.1.1.1.1.1.1.1.1.1.0 } in
     let h = l.invariant.turning in let s = c.one_step.new in let m : Machine = turning self l.regs l.core l.owed_to in
     let p = c.in-Single.ensures.step m refl (acts c.args.cycle c.args.end c.args.self.now self l.regs l.core l.owed_to h c.requires.early c.requires.may.room) h.runs.behind in
-    let e = c.if-not-leap_clear.ensures in
-    let moves = moved c.args.cycle c.args.end c.args.self.now self l.regs l.core l.owed_to h 1 s.regs s.core s.bus s.count false p c.requires.none c.leap_clear.new.self (e.within refl) (e.idle refl) (e.state refl) (e.clear refl) (e.clock refl) in
+    let e = c.if-not-leap_within.ensures in
+    let upto = l.invariant.within in let below = e.within refl in
+    let moves = moved c.args.cycle c.args.end c.args.self.now self l.regs l.core l.owed_to h 1 s.regs s.core s.bus s.count false p c.requires.none c.leap_within.new.self (omega (arith, below, upto)) (e.idle refl) (e.state refl) (e.lines refl) (e.clock refl) in
     let more = p.count in
     let last = l.invariant.on in
     record {
-      turning = turned c.args.cycle c.args.end c.args.self.now self l.regs l.core l.owed_to h 1 s.regs s.core s.bus s.count false p c.requires.none c.leap_clear.new.self (e.within refl) (e.idle refl) (e.state refl) (e.clear refl) (e.clock refl) l.owed_to
+      turning = turned c.args.cycle c.args.end c.args.self.now self l.regs l.core l.owed_to h 1 s.regs s.core s.bus s.count false p c.requires.none c.leap_within.new.self (omega (arith, below, upto)) (e.idle refl) (e.state refl) (e.lines refl) (e.clock refl) l.owed_to
           (let up = h.top in omega (arith, more, up)) (subst (λ (n : ℕ). nat_lt n l.owed_to ≡ false) (sym more) (not_owed self.count l.owed_to h.top));
       slots = l.invariant.slots;
       flag = l.invariant.flag ∙ sym (c.in-Single.ensures.flag refl);
+      within = upto;
+      ahead = e.clear refl;
       on = omega (arith, last, moves);
     }
 
-pub leap_clear-requires-in-Plain : goal.leap_clear-requires-in-Plain
-leap_clear-requires-in-Plain c =
-    let l = c.loop-self-2 in
-    let self : Machine = record c.loop-self.self { bus = l.self.1.1.1.1.1.1.1.0; count = l.self.1.1.1.1.1.1.1.1.1.1.1.1.0 } in
-    let h = l.invariant.turning in let s = c.one_step.new in let m : Machine = turning self l.regs l.core l.owed_to in
-    let p = c.in-Plain.ensures.step m refl (acts c.args.cycle c.args.end c.args.self.now self l.regs l.core l.owed_to h c.requires.early c.requires.may.room) h.runs.behind in
-    record { some = p.some }
-
-pub end_sprint-requires-then-not-leap_clear-2-clause-some : goal.end_sprint-requires-then-not-leap_clear-2-clause-some
-end_sprint-requires-then-not-leap_clear-2-clause-some c =
+pub leap_within-requires-in-Plain-clause-some : goal.leap_within-requires-in-Plain-clause-some
+leap_within-requires-in-Plain-clause-some c =
     let l = c.loop-self-2 in
     let self : Machine = record c.loop-self.self { bus = l.self.1.1.1.1.1.1.1.0; count = l.self.1.1.1.1.1.1.1.1.1.1.1.1.0 } in
     let h = l.invariant.turning in let s = c.one_step.new in let m : Machine = turning self l.regs l.core l.owed_to in
     let p = c.in-Plain.ensures.step m refl (acts c.args.cycle c.args.end c.args.self.now self l.regs l.core l.owed_to h c.requires.early c.requires.may.room) h.runs.behind in
     p.some
 
-pub end_sprint-requires-then-not-leap_clear-2-clause-early : goal.end_sprint-requires-then-not-leap_clear-2-clause-early
-end_sprint-requires-then-not-leap_clear-2-clause-early c =
+pub leap_within-requires-in-Plain-clause-early : goal.leap_within-requires-in-Plain-clause-early
+leap_within-requires-in-Plain-clause-early c =
     let l = c.loop-self-2 in
-    let self : Machine = record c.loop-self.self { bus = l.self.1.1.1.1.1.1.1.0; count = l.self.1.1.1.1.1.1.1.1.1.1.1.1.0 } in
-    let h = l.invariant.turning in let s = c.one_step.new in let m : Machine = turning self l.regs l.core l.owed_to in
-    let p = c.in-Plain.ensures.step m refl (acts c.args.cycle c.args.end c.args.self.now self l.regs l.core l.owed_to h c.requires.early c.requires.may.room) h.runs.behind in
-    let at = stays_at c.args.cycle c.args.end c.args.self.now self l.regs l.core l.owed_to h c.in-Plain.taken s.regs s.core s.bus s.count false p c.leap_clear-in-Plain.new.self (c.if-not-leap_clear-2.ensures.same refl) in
-    let within = h.within in omega (arith, at, within, c.requires.early)
+    let upto = l.invariant.within in omega (arith, upto, c.requires.early)
 
-pub end_sprint-requires-then-not-leap_clear-2-clause-within : goal.end_sprint-requires-then-not-leap_clear-2-clause-within
-end_sprint-requires-then-not-leap_clear-2-clause-within c =
+pub leap_within-requires-in-Plain-clause-clear : goal.leap_within-requires-in-Plain-clause-clear
+leap_within-requires-in-Plain-clause-clear c =
     let l = c.loop-self-2 in
-    let self : Machine = record c.loop-self.self { bus = l.self.1.1.1.1.1.1.1.0; count = l.self.1.1.1.1.1.1.1.1.1.1.1.1.0 } in
-    let h = l.invariant.turning in let s = c.one_step.new in let m : Machine = turning self l.regs l.core l.owed_to in
-    let p = c.in-Plain.ensures.step m refl (acts c.args.cycle c.args.end c.args.self.now self l.regs l.core l.owed_to h c.requires.early c.requires.may.room) h.runs.behind in
-    let at = stays_at c.args.cycle c.args.end c.args.self.now self l.regs l.core l.owed_to h c.in-Plain.taken s.regs s.core s.bus s.count false p c.leap_clear-in-Plain.new.self (c.if-not-leap_clear-2.ensures.same refl) in
-    let within = h.within in omega (arith, at, within)
+    subst (λ (n : NodeBus). IsClear l.bound n.board) (sym (c.in-Plain.ensures.apart refl)) l.invariant.ahead
 
-pub end_sprint-requires-then-not-leap_clear-2-clause-none : goal.end_sprint-requires-then-not-leap_clear-2-clause-none
-end_sprint-requires-then-not-leap_clear-2-clause-none c k late =
+pub end_sprint-requires-then-not-leap_within-2 : goal.end_sprint-requires-then-not-leap_within-2
+end_sprint-requires-then-not-leap_within-2 c =
     let l = c.loop-self-2 in
     let self : Machine = record c.loop-self.self { bus = l.self.1.1.1.1.1.1.1.0; count = l.self.1.1.1.1.1.1.1.1.1.1.1.1.0 } in
     let h = l.invariant.turning in let s = c.one_step.new in let m : Machine = turning self l.regs l.core l.owed_to in
     let p = c.in-Plain.ensures.step m refl (acts c.args.cycle c.args.end c.args.self.now self l.regs l.core l.owed_to h c.requires.early c.requires.may.room) h.runs.behind in
-    let at = stays_at c.args.cycle c.args.end c.args.self.now self l.regs l.core l.owed_to h c.in-Plain.taken s.regs s.core s.bus s.count false p c.leap_clear-in-Plain.new.self (c.if-not-leap_clear-2.ensures.same refl) in
-    let from = h.runs.from in
-    silent c.args.cycle c.leap_clear-in-Plain.new.self.clock c.args.end c.args.self.now (record self { bus = with_board s.bus c.leap_clear-in-Plain.new.self; count = s.count }) h.runs.script (omega (arith, from, at)) c.requires.none k late
+    record { may = may_end c.args.cycle c.args.end c.args.self.now self l.regs l.core l.owed_to h c.in-Plain.taken s.regs s.core s.bus s.count false p c.leap_within-in-Plain.new.self (c.if-not-leap_within-2.ensures.same refl) c.requires.early c.requires.none }
 
-pub returns-then-not-leap_clear-2-clause-sprinted : goal.returns-then-not-leap_clear-2-clause-sprinted
-returns-then-not-leap_clear-2-clause-sprinted c =
+pub returns-then-not-leap_within-2-clause-sprinted : goal.returns-then-not-leap_within-2-clause-sprinted
+returns-then-not-leap_within-2-clause-sprinted c =
     let l = c.loop-self-2 in
     let self : Machine = record c.loop-self.self { bus = l.self.1.1.1.1.1.1.1.0; count = l.self.1.1.1.1.1.1.1.1.1.1.1.1.0 } in
     let h = l.invariant.turning in let s = c.one_step.new in let m : Machine = turning self l.regs l.core l.owed_to in
     let p = c.in-Plain.ensures.step m refl (acts c.args.cycle c.args.end c.args.self.now self l.regs l.core l.owed_to h c.requires.early c.requires.may.room) h.runs.behind in
-    let same = c.if-not-leap_clear-2.ensures.same refl in
-    c.end_sprint-then-not-leap_clear-2.ensures.sprinted c.args.cycle c.args.self.now m (at_it c.args.cycle c.args.end c.args.self.now self l.regs l.core l.owed_to h c.in-Plain.taken s.regs s.core s.bus s.count false p c.leap_clear-in-Plain.new.self same) (turn_free c.args.cycle c.args.end c.args.self.now self l.regs l.core l.owed_to h c.in-Plain.taken s.regs s.core s.bus s.count false p) (carried c.args.cycle c.args.end c.args.self.now self l.regs l.core l.owed_to h c.in-Plain.taken s.regs s.core s.bus s.count false p c.leap_clear-in-Plain.new.self same)
+    let same = c.if-not-leap_within-2.ensures.same refl in
+    c.end_sprint-then-not-leap_within-2.ensures.sprinted c.args.cycle c.args.self.now m (at_it c.args.cycle c.args.end c.args.self.now self l.regs l.core l.owed_to h c.in-Plain.taken s.regs s.core s.bus s.count false p c.leap_within-in-Plain.new.self same) (turn_free c.args.cycle c.args.end c.args.self.now self l.regs l.core l.owed_to h c.in-Plain.taken s.regs s.core s.bus s.count false p) (carried c.args.cycle c.args.end c.args.self.now self l.regs l.core l.owed_to h c.in-Plain.taken s.regs s.core s.bus s.count false p c.leap_within-in-Plain.new.self same)
 
-pub loop-self-2-smaller-else-not-leap_clear-2 : goal.loop-self-2-smaller-else-not-leap_clear-2
-loop-self-2-smaller-else-not-leap_clear-2 c =
+pub loop-self-2-smaller-else-not-leap_within-2 : goal.loop-self-2-smaller-else-not-leap_within-2
+loop-self-2-smaller-else-not-leap_within-2 c =
     let l = c.loop-self-2 in
     let self : Machine = record c.loop-self.self { bus = l.self.1.1.1.1.1.1.1.0; count = l.self.1.1.1.1.1.1.1.1.1.1.1.1.0 } in
     let h = l.invariant.turning in let s = c.one_step.new in let m : Machine = turning self l.regs l.core l.owed_to in
     let p = c.in-Plain.ensures.step m refl (acts c.args.cycle c.args.end c.args.self.now self l.regs l.core l.owed_to h c.requires.early c.requires.may.room) h.runs.behind in
-    let e = c.if-not-leap_clear-2.ensures in
-    let moves = moved c.args.cycle c.args.end c.args.self.now self l.regs l.core l.owed_to h c.in-Plain.taken s.regs s.core s.bus s.count false p c.requires.none c.leap_clear-in-Plain.new.self (e.within refl) (e.idle refl) (e.state refl) (e.clear refl) (e.clock refl) in
-    let within = e.within refl in let on = e.clock refl in omega (arith, moves, within, on)
+    let e = c.if-not-leap_within-2.ensures in
+    let upto = l.invariant.within in let below = e.within refl in
+    let moves = moved c.args.cycle c.args.end c.args.self.now self l.regs l.core l.owed_to h c.in-Plain.taken s.regs s.core s.bus s.count false p c.requires.none c.leap_within-in-Plain.new.self (omega (arith, below, upto)) (e.idle refl) (e.state refl) (e.lines refl) (e.clock refl) in
+    let on = e.clock refl in omega (arith, moves, below, upto, on)
 
-pub loop-self-2-preserved-else-not-leap_clear-2 : goal.loop-self-2-preserved-else-not-leap_clear-2
-loop-self-2-preserved-else-not-leap_clear-2 c =
+pub loop-self-2-preserved-else-not-leap_within-2 : goal.loop-self-2-preserved-else-not-leap_within-2
+loop-self-2-preserved-else-not-leap_within-2 c =
     let l = c.loop-self-2 in
     let self : Machine = record c.loop-self.self { bus = l.self.1.1.1.1.1.1.1.0; count = l.self.1.1.1.1.1.1.1.1.1.1.1.1.0 } in
     let h = l.invariant.turning in let s = c.one_step.new in let m : Machine = turning self l.regs l.core l.owed_to in
     let p = c.in-Plain.ensures.step m refl (acts c.args.cycle c.args.end c.args.self.now self l.regs l.core l.owed_to h c.requires.early c.requires.may.room) h.runs.behind in
-    let e = c.if-not-leap_clear-2.ensures in
-    let moves = moved c.args.cycle c.args.end c.args.self.now self l.regs l.core l.owed_to h c.in-Plain.taken s.regs s.core s.bus s.count false p c.requires.none c.leap_clear-in-Plain.new.self (e.within refl) (e.idle refl) (e.state refl) (e.clear refl) (e.clock refl) in
+    let e = c.if-not-leap_within-2.ensures in
+    let upto = l.invariant.within in let below = e.within refl in
+    let moves = moved c.args.cycle c.args.end c.args.self.now self l.regs l.core l.owed_to h c.in-Plain.taken s.regs s.core s.bus s.count false p c.requires.none c.leap_within-in-Plain.new.self (omega (arith, below, upto)) (e.idle refl) (e.state refl) (e.lines refl) (e.clock refl) in
     let more = p.count in
     let last = l.invariant.on in
     record {
-      turning = turned c.args.cycle c.args.end c.args.self.now self l.regs l.core l.owed_to h c.in-Plain.taken s.regs s.core s.bus s.count false p c.requires.none c.leap_clear-in-Plain.new.self (e.within refl) (e.idle refl) (e.state refl) (e.clear refl) (e.clock refl) l.owed_to
+      turning = turned c.args.cycle c.args.end c.args.self.now self l.regs l.core l.owed_to h c.in-Plain.taken s.regs s.core s.bus s.count false p c.requires.none c.leap_within-in-Plain.new.self (omega (arith, below, upto)) (e.idle refl) (e.state refl) (e.lines refl) (e.clock refl) l.owed_to
           (let up = h.top in omega (arith, more, up)) (subst (λ (n : ℕ). nat_lt n l.owed_to ≡ false) (sym more) (not_owed self.count l.owed_to h.top));
       slots = l.invariant.slots;
       flag = l.invariant.flag ∙ sym (c.in-Plain.ensures.flag refl);
+      within = upto;
+      ahead = e.clear refl;
       on = omega (arith, last, moves);
     }
 
-pub leap_clear-requires-in-Jumped : goal.leap_clear-requires-in-Jumped
-leap_clear-requires-in-Jumped c =
-    let l = c.loop-self-2 in
-    let self : Machine = record c.loop-self.self { bus = l.self.1.1.1.1.1.1.1.0; count = l.self.1.1.1.1.1.1.1.1.1.1.1.1.0 } in
-    let h = l.invariant.turning in let s = c.one_step.new in let m : Machine = turning self l.regs l.core l.owed_to in
-    let p = c.in-Jumped.ensures.step m refl (acts c.args.cycle c.args.end c.args.self.now self l.regs l.core l.owed_to h c.requires.early c.requires.may.room) h.runs.behind in
-    record { some = p.some }
-
-pub end_sprint-requires-then-not-leap_clear-3-clause-some : goal.end_sprint-requires-then-not-leap_clear-3-clause-some
-end_sprint-requires-then-not-leap_clear-3-clause-some c =
+pub leap_within-requires-in-Jumped-clause-some : goal.leap_within-requires-in-Jumped-clause-some
+leap_within-requires-in-Jumped-clause-some c =
     let l = c.loop-self-2 in
     let self : Machine = record c.loop-self.self { bus = l.self.1.1.1.1.1.1.1.0; count = l.self.1.1.1.1.1.1.1.1.1.1.1.1.0 } in
     let h = l.invariant.turning in let s = c.one_step.new in let m : Machine = turning self l.regs l.core l.owed_to in
     let p = c.in-Jumped.ensures.step m refl (acts c.args.cycle c.args.end c.args.self.now self l.regs l.core l.owed_to h c.requires.early c.requires.may.room) h.runs.behind in
     p.some
 
-pub end_sprint-requires-then-not-leap_clear-3-clause-early : goal.end_sprint-requires-then-not-leap_clear-3-clause-early
-end_sprint-requires-then-not-leap_clear-3-clause-early c =
+pub leap_within-requires-in-Jumped-clause-early : goal.leap_within-requires-in-Jumped-clause-early
+leap_within-requires-in-Jumped-clause-early c =
     let l = c.loop-self-2 in
-    let self : Machine = record c.loop-self.self { bus = l.self.1.1.1.1.1.1.1.0; count = l.self.1.1.1.1.1.1.1.1.1.1.1.1.0 } in
-    let h = l.invariant.turning in let s = c.one_step.new in let m : Machine = turning self l.regs l.core l.owed_to in
-    let p = c.in-Jumped.ensures.step m refl (acts c.args.cycle c.args.end c.args.self.now self l.regs l.core l.owed_to h c.requires.early c.requires.may.room) h.runs.behind in
-    let at = stays_at c.args.cycle c.args.end c.args.self.now self l.regs l.core l.owed_to h c.in-Jumped.taken s.regs s.core s.bus s.count false p c.leap_clear-in-Jumped.new.self (c.if-not-leap_clear-3.ensures.same refl) in
-    let within = h.within in omega (arith, at, within, c.requires.early)
+    let upto = l.invariant.within in omega (arith, upto, c.requires.early)
 
-pub end_sprint-requires-then-not-leap_clear-3-clause-within : goal.end_sprint-requires-then-not-leap_clear-3-clause-within
-end_sprint-requires-then-not-leap_clear-3-clause-within c =
+pub leap_within-requires-in-Jumped-clause-clear : goal.leap_within-requires-in-Jumped-clause-clear
+leap_within-requires-in-Jumped-clause-clear c =
     let l = c.loop-self-2 in
-    let self : Machine = record c.loop-self.self { bus = l.self.1.1.1.1.1.1.1.0; count = l.self.1.1.1.1.1.1.1.1.1.1.1.1.0 } in
-    let h = l.invariant.turning in let s = c.one_step.new in let m : Machine = turning self l.regs l.core l.owed_to in
-    let p = c.in-Jumped.ensures.step m refl (acts c.args.cycle c.args.end c.args.self.now self l.regs l.core l.owed_to h c.requires.early c.requires.may.room) h.runs.behind in
-    let at = stays_at c.args.cycle c.args.end c.args.self.now self l.regs l.core l.owed_to h c.in-Jumped.taken s.regs s.core s.bus s.count false p c.leap_clear-in-Jumped.new.self (c.if-not-leap_clear-3.ensures.same refl) in
-    let within = h.within in omega (arith, at, within)
+    subst (λ (n : NodeBus). IsClear l.bound n.board) (sym (c.in-Jumped.ensures.apart refl)) l.invariant.ahead
 
-pub end_sprint-requires-then-not-leap_clear-3-clause-none : goal.end_sprint-requires-then-not-leap_clear-3-clause-none
-end_sprint-requires-then-not-leap_clear-3-clause-none c k late =
+pub end_sprint-requires-then-not-leap_within-3 : goal.end_sprint-requires-then-not-leap_within-3
+end_sprint-requires-then-not-leap_within-3 c =
     let l = c.loop-self-2 in
     let self : Machine = record c.loop-self.self { bus = l.self.1.1.1.1.1.1.1.0; count = l.self.1.1.1.1.1.1.1.1.1.1.1.1.0 } in
     let h = l.invariant.turning in let s = c.one_step.new in let m : Machine = turning self l.regs l.core l.owed_to in
     let p = c.in-Jumped.ensures.step m refl (acts c.args.cycle c.args.end c.args.self.now self l.regs l.core l.owed_to h c.requires.early c.requires.may.room) h.runs.behind in
-    let at = stays_at c.args.cycle c.args.end c.args.self.now self l.regs l.core l.owed_to h c.in-Jumped.taken s.regs s.core s.bus s.count false p c.leap_clear-in-Jumped.new.self (c.if-not-leap_clear-3.ensures.same refl) in
-    let from = h.runs.from in
-    silent c.args.cycle c.leap_clear-in-Jumped.new.self.clock c.args.end c.args.self.now (record self { bus = with_board s.bus c.leap_clear-in-Jumped.new.self; count = s.count }) h.runs.script (omega (arith, from, at)) c.requires.none k late
+    record { may = may_end c.args.cycle c.args.end c.args.self.now self l.regs l.core l.owed_to h c.in-Jumped.taken s.regs s.core s.bus s.count false p c.leap_within-in-Jumped.new.self (c.if-not-leap_within-3.ensures.same refl) c.requires.early c.requires.none }
 
-pub returns-then-not-leap_clear-3-clause-sprinted : goal.returns-then-not-leap_clear-3-clause-sprinted
-returns-then-not-leap_clear-3-clause-sprinted c =
+pub returns-then-not-leap_within-3-clause-sprinted : goal.returns-then-not-leap_within-3-clause-sprinted
+returns-then-not-leap_within-3-clause-sprinted c =
     let l = c.loop-self-2 in
     let self : Machine = record c.loop-self.self { bus = l.self.1.1.1.1.1.1.1.0; count = l.self.1.1.1.1.1.1.1.1.1.1.1.1.0 } in
     let h = l.invariant.turning in let s = c.one_step.new in let m : Machine = turning self l.regs l.core l.owed_to in
     let p = c.in-Jumped.ensures.step m refl (acts c.args.cycle c.args.end c.args.self.now self l.regs l.core l.owed_to h c.requires.early c.requires.may.room) h.runs.behind in
-    let same = c.if-not-leap_clear-3.ensures.same refl in
-    c.end_sprint-then-not-leap_clear-3.ensures.sprinted c.args.cycle c.args.self.now m (at_it c.args.cycle c.args.end c.args.self.now self l.regs l.core l.owed_to h c.in-Jumped.taken s.regs s.core s.bus s.count false p c.leap_clear-in-Jumped.new.self same) (turn_free c.args.cycle c.args.end c.args.self.now self l.regs l.core l.owed_to h c.in-Jumped.taken s.regs s.core s.bus s.count false p) (carried c.args.cycle c.args.end c.args.self.now self l.regs l.core l.owed_to h c.in-Jumped.taken s.regs s.core s.bus s.count false p c.leap_clear-in-Jumped.new.self same)
+    let same = c.if-not-leap_within-3.ensures.same refl in
+    c.end_sprint-then-not-leap_within-3.ensures.sprinted c.args.cycle c.args.self.now m (at_it c.args.cycle c.args.end c.args.self.now self l.regs l.core l.owed_to h c.in-Jumped.taken s.regs s.core s.bus s.count false p c.leap_within-in-Jumped.new.self same) (turn_free c.args.cycle c.args.end c.args.self.now self l.regs l.core l.owed_to h c.in-Jumped.taken s.regs s.core s.bus s.count false p) (carried c.args.cycle c.args.end c.args.self.now self l.regs l.core l.owed_to h c.in-Jumped.taken s.regs s.core s.bus s.count false p c.leap_within-in-Jumped.new.self same)
 
 pub loop-self-2-smaller-in-Jumped : goal.loop-self-2-smaller-in-Jumped
 loop-self-2-smaller-in-Jumped c =
@@ -261,9 +227,10 @@ loop-self-2-smaller-in-Jumped c =
     let self : Machine = record c.loop-self.self { bus = l.self.1.1.1.1.1.1.1.0; count = l.self.1.1.1.1.1.1.1.1.1.1.1.1.0 } in
     let h = l.invariant.turning in let s = c.one_step.new in let m : Machine = turning self l.regs l.core l.owed_to in
     let p = c.in-Jumped.ensures.step m refl (acts c.args.cycle c.args.end c.args.self.now self l.regs l.core l.owed_to h c.requires.early c.requires.may.room) h.runs.behind in
-    let e = c.if-not-leap_clear-3.ensures in
-    let moves = moved c.args.cycle c.args.end c.args.self.now self l.regs l.core l.owed_to h c.in-Jumped.taken s.regs s.core s.bus s.count false p c.requires.none c.leap_clear-in-Jumped.new.self (e.within refl) (e.idle refl) (e.state refl) (e.clear refl) (e.clock refl) in
-    let within = e.within refl in let on = e.clock refl in omega (arith, moves, within, on)
+    let e = c.if-not-leap_within-3.ensures in
+    let upto = l.invariant.within in let below = e.within refl in
+    let moves = moved c.args.cycle c.args.end c.args.self.now self l.regs l.core l.owed_to h c.in-Jumped.taken s.regs s.core s.bus s.count false p c.requires.none c.leap_within-in-Jumped.new.self (omega (arith, below, upto)) (e.idle refl) (e.state refl) (e.lines refl) (e.clock refl) in
+    let on = e.clock refl in omega (arith, moves, below, upto, on)
 
 pub loop-self-2-preserved-in-Jumped : goal.loop-self-2-preserved-in-Jumped
 loop-self-2-preserved-in-Jumped c =
@@ -271,70 +238,112 @@ loop-self-2-preserved-in-Jumped c =
     let self : Machine = record c.loop-self.self { bus = l.self.1.1.1.1.1.1.1.0; count = l.self.1.1.1.1.1.1.1.1.1.1.1.1.0 } in
     let h = l.invariant.turning in let s = c.one_step.new in let m : Machine = turning self l.regs l.core l.owed_to in
     let p = c.in-Jumped.ensures.step m refl (acts c.args.cycle c.args.end c.args.self.now self l.regs l.core l.owed_to h c.requires.early c.requires.may.room) h.runs.behind in
-    let e = c.if-not-leap_clear-3.ensures in
-    let moves = moved c.args.cycle c.args.end c.args.self.now self l.regs l.core l.owed_to h c.in-Jumped.taken s.regs s.core s.bus s.count false p c.requires.none c.leap_clear-in-Jumped.new.self (e.within refl) (e.idle refl) (e.state refl) (e.clear refl) (e.clock refl) in
+    let e = c.if-not-leap_within-3.ensures in
+    let upto = l.invariant.within in let below = e.within refl in
+    let moves = moved c.args.cycle c.args.end c.args.self.now self l.regs l.core l.owed_to h c.in-Jumped.taken s.regs s.core s.bus s.count false p c.requires.none c.leap_within-in-Jumped.new.self (omega (arith, below, upto)) (e.idle refl) (e.state refl) (e.lines refl) (e.clock refl) in
     let more = p.count in
     let last = l.invariant.on in
     record {
-      turning = turned c.args.cycle c.args.end c.args.self.now self l.regs l.core l.owed_to h c.in-Jumped.taken s.regs s.core s.bus s.count false p c.requires.none c.leap_clear-in-Jumped.new.self (e.within refl) (e.idle refl) (e.state refl) (e.clear refl) (e.clock refl) l.owed_to
+      turning = turned c.args.cycle c.args.end c.args.self.now self l.regs l.core l.owed_to h c.in-Jumped.taken s.regs s.core s.bus s.count false p c.requires.none c.leap_within-in-Jumped.new.self (omega (arith, below, upto)) (e.idle refl) (e.state refl) (e.lines refl) (e.clock refl) l.owed_to
           (let up = h.top in omega (arith, more, up)) (subst (λ (n : ℕ). nat_lt n l.owed_to ≡ false) (sym more) (not_owed self.count l.owed_to h.top));
       slots = l.invariant.slots;
       flag = l.invariant.flag ∙ sym (c.in-Jumped.ensures.flag refl);
+      within = upto;
+      ahead = e.clear refl;
       on = omega (arith, last, moves);
     }
 
-pub leap_clear-requires-in-Stored : goal.leap_clear-requires-in-Stored
-leap_clear-requires-in-Stored c =
+pub leap_within-requires-in-Loaded-clause-some : goal.leap_within-requires-in-Loaded-clause-some
+leap_within-requires-in-Loaded-clause-some c =
     let l = c.loop-self-2 in
     let self : Machine = record c.loop-self.self { bus = l.self.1.1.1.1.1.1.1.0; count = l.self.1.1.1.1.1.1.1.1.1.1.1.1.0 } in
     let h = l.invariant.turning in let s = c.one_step.new in let m : Machine = turning self l.regs l.core l.owed_to in
-    let p = stepped_on self.bus.board.clock c.in-Stored.taken m (over s.regs s.core s.bus s.count self) l.flags l.core.sreg.bits s.core.sreg.bits c.turned_on-on.result l.invariant.flag c.turned_on-on.ensures (c.in-Stored.ensures.step m refl (acts c.args.cycle c.args.end c.args.self.now self l.regs l.core l.owed_to h c.requires.early c.requires.may.room) h.runs.behind) in
-    record { some = p.some }
+    let p = c.in-Loaded.ensures.step m refl (acts c.args.cycle c.args.end c.args.self.now self l.regs l.core l.owed_to h c.requires.early c.requires.may.room) h.runs.behind in
+    p.some
 
-pub end_sprint-requires-then-not-leap_clear-4-clause-some : goal.end_sprint-requires-then-not-leap_clear-4-clause-some
-end_sprint-requires-then-not-leap_clear-4-clause-some c =
+pub leap_within-requires-in-Loaded-clause-early : goal.leap_within-requires-in-Loaded-clause-early
+leap_within-requires-in-Loaded-clause-early c =
+    let l = c.loop-self-2 in
+    let upto = c.clear_to-bound-in-Loaded.ensures.within in omega (arith, upto, c.requires.early)
+
+pub end_sprint-requires-then-not-leap_within-4 : goal.end_sprint-requires-then-not-leap_within-4
+end_sprint-requires-then-not-leap_within-4 c =
+    let l = c.loop-self-2 in
+    let self : Machine = record c.loop-self.self { bus = l.self.1.1.1.1.1.1.1.0; count = l.self.1.1.1.1.1.1.1.1.1.1.1.1.0 } in
+    let h = l.invariant.turning in let s = c.one_step.new in let m : Machine = turning self l.regs l.core l.owed_to in
+    let p = c.in-Loaded.ensures.step m refl (acts c.args.cycle c.args.end c.args.self.now self l.regs l.core l.owed_to h c.requires.early c.requires.may.room) h.runs.behind in
+    record { may = may_end c.args.cycle c.args.end c.args.self.now self l.regs l.core l.owed_to h c.in-Loaded.taken s.regs s.core s.bus s.count false p c.leap_within-in-Loaded.new.self (c.if-not-leap_within-4.ensures.same refl) c.requires.early c.requires.none }
+
+pub returns-then-not-leap_within-4-clause-sprinted : goal.returns-then-not-leap_within-4-clause-sprinted
+returns-then-not-leap_within-4-clause-sprinted c =
+    let l = c.loop-self-2 in
+    let self : Machine = record c.loop-self.self { bus = l.self.1.1.1.1.1.1.1.0; count = l.self.1.1.1.1.1.1.1.1.1.1.1.1.0 } in
+    let h = l.invariant.turning in let s = c.one_step.new in let m : Machine = turning self l.regs l.core l.owed_to in
+    let p = c.in-Loaded.ensures.step m refl (acts c.args.cycle c.args.end c.args.self.now self l.regs l.core l.owed_to h c.requires.early c.requires.may.room) h.runs.behind in
+    let same = c.if-not-leap_within-4.ensures.same refl in
+    c.end_sprint-then-not-leap_within-4.ensures.sprinted c.args.cycle c.args.self.now m (at_it c.args.cycle c.args.end c.args.self.now self l.regs l.core l.owed_to h c.in-Loaded.taken s.regs s.core s.bus s.count false p c.leap_within-in-Loaded.new.self same) (turn_free c.args.cycle c.args.end c.args.self.now self l.regs l.core l.owed_to h c.in-Loaded.taken s.regs s.core s.bus s.count false p) (carried c.args.cycle c.args.end c.args.self.now self l.regs l.core l.owed_to h c.in-Loaded.taken s.regs s.core s.bus s.count false p c.leap_within-in-Loaded.new.self same)
+
+pub loop-self-2-smaller-else-not-leap_within-4 : goal.loop-self-2-smaller-else-not-leap_within-4
+loop-self-2-smaller-else-not-leap_within-4 c =
+    let l = c.loop-self-2 in
+    let self : Machine = record c.loop-self.self { bus = l.self.1.1.1.1.1.1.1.0; count = l.self.1.1.1.1.1.1.1.1.1.1.1.1.0 } in
+    let h = l.invariant.turning in let s = c.one_step.new in let m : Machine = turning self l.regs l.core l.owed_to in
+    let p = c.in-Loaded.ensures.step m refl (acts c.args.cycle c.args.end c.args.self.now self l.regs l.core l.owed_to h c.requires.early c.requires.may.room) h.runs.behind in
+    let e = c.if-not-leap_within-4.ensures in
+    let upto = c.clear_to-bound-in-Loaded.ensures.within in let below = e.within refl in
+    let moves = moved c.args.cycle c.args.end c.args.self.now self l.regs l.core l.owed_to h c.in-Loaded.taken s.regs s.core s.bus s.count false p c.requires.none c.leap_within-in-Loaded.new.self (omega (arith, below, upto)) (e.idle refl) (e.state refl) (e.lines refl) (e.clock refl) in
+    let on = e.clock refl in omega (arith, moves, below, upto, on)
+
+pub loop-self-2-preserved-else-not-leap_within-4 : goal.loop-self-2-preserved-else-not-leap_within-4
+loop-self-2-preserved-else-not-leap_within-4 c =
+    let l = c.loop-self-2 in
+    let self : Machine = record c.loop-self.self { bus = l.self.1.1.1.1.1.1.1.0; count = l.self.1.1.1.1.1.1.1.1.1.1.1.1.0 } in
+    let h = l.invariant.turning in let s = c.one_step.new in let m : Machine = turning self l.regs l.core l.owed_to in
+    let p = c.in-Loaded.ensures.step m refl (acts c.args.cycle c.args.end c.args.self.now self l.regs l.core l.owed_to h c.requires.early c.requires.may.room) h.runs.behind in
+    let e = c.if-not-leap_within-4.ensures in
+    let upto = c.clear_to-bound-in-Loaded.ensures.within in let below = e.within refl in
+    let moves = moved c.args.cycle c.args.end c.args.self.now self l.regs l.core l.owed_to h c.in-Loaded.taken s.regs s.core s.bus s.count false p c.requires.none c.leap_within-in-Loaded.new.self (omega (arith, below, upto)) (e.idle refl) (e.state refl) (e.lines refl) (e.clock refl) in
+    let more = p.count in
+    let last = l.invariant.on in
+    record {
+      turning = turned c.args.cycle c.args.end c.args.self.now self l.regs l.core l.owed_to h c.in-Loaded.taken s.regs s.core s.bus s.count false p c.requires.none c.leap_within-in-Loaded.new.self (omega (arith, below, upto)) (e.idle refl) (e.state refl) (e.lines refl) (e.clock refl) l.owed_to
+          (let up = h.top in omega (arith, more, up)) (subst (λ (n : ℕ). nat_lt n l.owed_to ≡ false) (sym more) (not_owed self.count l.owed_to h.top));
+      slots = l.invariant.slots;
+      flag = l.invariant.flag ∙ sym (c.in-Loaded.ensures.flag refl);
+      within = upto;
+      ahead = e.clear refl;
+      on = omega (arith, last, moves);
+    }
+
+pub leap_within-requires-in-Stored-clause-some : goal.leap_within-requires-in-Stored-clause-some
+leap_within-requires-in-Stored-clause-some c =
     let l = c.loop-self-2 in
     let self : Machine = record c.loop-self.self { bus = l.self.1.1.1.1.1.1.1.0; count = l.self.1.1.1.1.1.1.1.1.1.1.1.1.0 } in
     let h = l.invariant.turning in let s = c.one_step.new in let m : Machine = turning self l.regs l.core l.owed_to in
     let p = stepped_on self.bus.board.clock c.in-Stored.taken m (over s.regs s.core s.bus s.count self) l.flags l.core.sreg.bits s.core.sreg.bits c.turned_on-on.result l.invariant.flag c.turned_on-on.ensures (c.in-Stored.ensures.step m refl (acts c.args.cycle c.args.end c.args.self.now self l.regs l.core l.owed_to h c.requires.early c.requires.may.room) h.runs.behind) in
     p.some
 
-pub end_sprint-requires-then-not-leap_clear-4-clause-early : goal.end_sprint-requires-then-not-leap_clear-4-clause-early
-end_sprint-requires-then-not-leap_clear-4-clause-early c =
+pub leap_within-requires-in-Stored-clause-early : goal.leap_within-requires-in-Stored-clause-early
+leap_within-requires-in-Stored-clause-early c =
     let l = c.loop-self-2 in
-    let self : Machine = record c.loop-self.self { bus = l.self.1.1.1.1.1.1.1.0; count = l.self.1.1.1.1.1.1.1.1.1.1.1.1.0 } in
-    let h = l.invariant.turning in let s = c.one_step.new in let m : Machine = turning self l.regs l.core l.owed_to in
-    let p = stepped_on self.bus.board.clock c.in-Stored.taken m (over s.regs s.core s.bus s.count self) l.flags l.core.sreg.bits s.core.sreg.bits c.turned_on-on.result l.invariant.flag c.turned_on-on.ensures (c.in-Stored.ensures.step m refl (acts c.args.cycle c.args.end c.args.self.now self l.regs l.core l.owed_to h c.requires.early c.requires.may.room) h.runs.behind) in
-    let at = stays_at c.args.cycle c.args.end c.args.self.now self l.regs l.core l.owed_to h c.in-Stored.taken s.regs s.core s.bus s.count c.turned_on-on.result p c.leap_clear-in-Stored.new.self (c.if-not-leap_clear-4.ensures.same refl) in
-    let within = h.within in omega (arith, at, within, c.requires.early)
+    let upto = c.clear_to-bound-in-Stored.ensures.within in omega (arith, upto, c.requires.early)
 
-pub end_sprint-requires-then-not-leap_clear-4-clause-within : goal.end_sprint-requires-then-not-leap_clear-4-clause-within
-end_sprint-requires-then-not-leap_clear-4-clause-within c =
+pub end_sprint-requires-then-not-leap_within-5 : goal.end_sprint-requires-then-not-leap_within-5
+end_sprint-requires-then-not-leap_within-5 c =
     let l = c.loop-self-2 in
     let self : Machine = record c.loop-self.self { bus = l.self.1.1.1.1.1.1.1.0; count = l.self.1.1.1.1.1.1.1.1.1.1.1.1.0 } in
     let h = l.invariant.turning in let s = c.one_step.new in let m : Machine = turning self l.regs l.core l.owed_to in
     let p = stepped_on self.bus.board.clock c.in-Stored.taken m (over s.regs s.core s.bus s.count self) l.flags l.core.sreg.bits s.core.sreg.bits c.turned_on-on.result l.invariant.flag c.turned_on-on.ensures (c.in-Stored.ensures.step m refl (acts c.args.cycle c.args.end c.args.self.now self l.regs l.core l.owed_to h c.requires.early c.requires.may.room) h.runs.behind) in
-    let at = stays_at c.args.cycle c.args.end c.args.self.now self l.regs l.core l.owed_to h c.in-Stored.taken s.regs s.core s.bus s.count c.turned_on-on.result p c.leap_clear-in-Stored.new.self (c.if-not-leap_clear-4.ensures.same refl) in
-    let within = h.within in omega (arith, at, within)
+    record { may = may_end c.args.cycle c.args.end c.args.self.now self l.regs l.core l.owed_to h c.in-Stored.taken s.regs s.core s.bus s.count c.turned_on-on.result p c.leap_within-in-Stored.new.self (c.if-not-leap_within-5.ensures.same refl) c.requires.early c.requires.none }
 
-pub end_sprint-requires-then-not-leap_clear-4-clause-none : goal.end_sprint-requires-then-not-leap_clear-4-clause-none
-end_sprint-requires-then-not-leap_clear-4-clause-none c k late =
+pub returns-then-not-leap_within-5-clause-sprinted : goal.returns-then-not-leap_within-5-clause-sprinted
+returns-then-not-leap_within-5-clause-sprinted c =
     let l = c.loop-self-2 in
     let self : Machine = record c.loop-self.self { bus = l.self.1.1.1.1.1.1.1.0; count = l.self.1.1.1.1.1.1.1.1.1.1.1.1.0 } in
     let h = l.invariant.turning in let s = c.one_step.new in let m : Machine = turning self l.regs l.core l.owed_to in
     let p = stepped_on self.bus.board.clock c.in-Stored.taken m (over s.regs s.core s.bus s.count self) l.flags l.core.sreg.bits s.core.sreg.bits c.turned_on-on.result l.invariant.flag c.turned_on-on.ensures (c.in-Stored.ensures.step m refl (acts c.args.cycle c.args.end c.args.self.now self l.regs l.core l.owed_to h c.requires.early c.requires.may.room) h.runs.behind) in
-    let at = stays_at c.args.cycle c.args.end c.args.self.now self l.regs l.core l.owed_to h c.in-Stored.taken s.regs s.core s.bus s.count c.turned_on-on.result p c.leap_clear-in-Stored.new.self (c.if-not-leap_clear-4.ensures.same refl) in
-    let from = h.runs.from in
-    silent c.args.cycle c.leap_clear-in-Stored.new.self.clock c.args.end c.args.self.now (record self { bus = with_board s.bus c.leap_clear-in-Stored.new.self; count = s.count }) h.runs.script (omega (arith, from, at)) c.requires.none k late
-
-pub returns-then-not-leap_clear-4-clause-sprinted : goal.returns-then-not-leap_clear-4-clause-sprinted
-returns-then-not-leap_clear-4-clause-sprinted c =
-    let l = c.loop-self-2 in
-    let self : Machine = record c.loop-self.self { bus = l.self.1.1.1.1.1.1.1.0; count = l.self.1.1.1.1.1.1.1.1.1.1.1.1.0 } in
-    let h = l.invariant.turning in let s = c.one_step.new in let m : Machine = turning self l.regs l.core l.owed_to in
-    let p = stepped_on self.bus.board.clock c.in-Stored.taken m (over s.regs s.core s.bus s.count self) l.flags l.core.sreg.bits s.core.sreg.bits c.turned_on-on.result l.invariant.flag c.turned_on-on.ensures (c.in-Stored.ensures.step m refl (acts c.args.cycle c.args.end c.args.self.now self l.regs l.core l.owed_to h c.requires.early c.requires.may.room) h.runs.behind) in
-    let same = c.if-not-leap_clear-4.ensures.same refl in
-    c.end_sprint-then-not-leap_clear-4.ensures.sprinted c.args.cycle c.args.self.now m (at_it c.args.cycle c.args.end c.args.self.now self l.regs l.core l.owed_to h c.in-Stored.taken s.regs s.core s.bus s.count c.turned_on-on.result p c.leap_clear-in-Stored.new.self same) (turn_free c.args.cycle c.args.end c.args.self.now self l.regs l.core l.owed_to h c.in-Stored.taken s.regs s.core s.bus s.count c.turned_on-on.result p) (carried c.args.cycle c.args.end c.args.self.now self l.regs l.core l.owed_to h c.in-Stored.taken s.regs s.core s.bus s.count c.turned_on-on.result p c.leap_clear-in-Stored.new.self same)
+    let same = c.if-not-leap_within-5.ensures.same refl in
+    c.end_sprint-then-not-leap_within-5.ensures.sprinted c.args.cycle c.args.self.now m (at_it c.args.cycle c.args.end c.args.self.now self l.regs l.core l.owed_to h c.in-Stored.taken s.regs s.core s.bus s.count c.turned_on-on.result p c.leap_within-in-Stored.new.self same) (turn_free c.args.cycle c.args.end c.args.self.now self l.regs l.core l.owed_to h c.in-Stored.taken s.regs s.core s.bus s.count c.turned_on-on.result p) (carried c.args.cycle c.args.end c.args.self.now self l.regs l.core l.owed_to h c.in-Stored.taken s.regs s.core s.bus s.count c.turned_on-on.result p c.leap_within-in-Stored.new.self same)
 
 pub overflow_add-owed_to : goal.overflow_add-owed_to
 overflow_add-owed_to c =
@@ -352,9 +361,10 @@ loop-self-2-smaller-then-on c =
     let self : Machine = record c.loop-self.self { bus = l.self.1.1.1.1.1.1.1.0; count = l.self.1.1.1.1.1.1.1.1.1.1.1.1.0 } in
     let h = l.invariant.turning in let s = c.one_step.new in let m : Machine = turning self l.regs l.core l.owed_to in
     let p = stepped_on self.bus.board.clock c.in-Stored.taken m (over s.regs s.core s.bus s.count self) l.flags l.core.sreg.bits s.core.sreg.bits c.turned_on-on.result l.invariant.flag c.turned_on-on.ensures (c.in-Stored.ensures.step m refl (acts c.args.cycle c.args.end c.args.self.now self l.regs l.core l.owed_to h c.requires.early c.requires.may.room) h.runs.behind) in
-    let e = c.if-not-leap_clear-4.ensures in
-    let moves = moved c.args.cycle c.args.end c.args.self.now self l.regs l.core l.owed_to h c.in-Stored.taken s.regs s.core s.bus s.count c.turned_on-on.result p c.requires.none c.leap_clear-in-Stored.new.self (e.within refl) (e.idle refl) (e.state refl) (e.clear refl) (e.clock refl) in
-    let within = e.within refl in let on = e.clock refl in omega (arith, moves, within, on)
+    let e = c.if-not-leap_within-5.ensures in
+    let upto = c.clear_to-bound-in-Stored.ensures.within in let below = e.within refl in
+    let moves = moved c.args.cycle c.args.end c.args.self.now self l.regs l.core l.owed_to h c.in-Stored.taken s.regs s.core s.bus s.count c.turned_on-on.result p c.requires.none c.leap_within-in-Stored.new.self (omega (arith, below, upto)) (e.idle refl) (e.state refl) (e.lines refl) (e.clock refl) in
+    let on = e.clock refl in omega (arith, moves, below, upto, on)
 
 pub loop-self-2-preserved-then-on : goal.loop-self-2-preserved-then-on
 loop-self-2-preserved-then-on c =
@@ -362,15 +372,18 @@ loop-self-2-preserved-then-on c =
     let self : Machine = record c.loop-self.self { bus = l.self.1.1.1.1.1.1.1.0; count = l.self.1.1.1.1.1.1.1.1.1.1.1.1.0 } in
     let h = l.invariant.turning in let s = c.one_step.new in let m : Machine = turning self l.regs l.core l.owed_to in
     let p = stepped_on self.bus.board.clock c.in-Stored.taken m (over s.regs s.core s.bus s.count self) l.flags l.core.sreg.bits s.core.sreg.bits c.turned_on-on.result l.invariant.flag c.turned_on-on.ensures (c.in-Stored.ensures.step m refl (acts c.args.cycle c.args.end c.args.self.now self l.regs l.core l.owed_to h c.requires.early c.requires.may.room) h.runs.behind) in
-    let e = c.if-not-leap_clear-4.ensures in
-    let moves = moved c.args.cycle c.args.end c.args.self.now self l.regs l.core l.owed_to h c.in-Stored.taken s.regs s.core s.bus s.count c.turned_on-on.result p c.requires.none c.leap_clear-in-Stored.new.self (e.within refl) (e.idle refl) (e.state refl) (e.clear refl) (e.clock refl) in
+    let e = c.if-not-leap_within-5.ensures in
+    let upto = c.clear_to-bound-in-Stored.ensures.within in let below = e.within refl in
+    let moves = moved c.args.cycle c.args.end c.args.self.now self l.regs l.core l.owed_to h c.in-Stored.taken s.regs s.core s.bus s.count c.turned_on-on.result p c.requires.none c.leap_within-in-Stored.new.self (omega (arith, below, upto)) (e.idle refl) (e.state refl) (e.lines refl) (e.clock refl) in
     let more = p.count in
     let last = l.invariant.on in
     record {
-      turning = turned c.args.cycle c.args.end c.args.self.now self l.regs l.core l.owed_to h c.in-Stored.taken s.regs s.core s.bus s.count c.turned_on-on.result p c.requires.none c.leap_clear-in-Stored.new.self (e.within refl) (e.idle refl) (e.state refl) (e.clear refl) (e.clock refl) (s.count + 1)
+      turning = turned c.args.cycle c.args.end c.args.self.now self l.regs l.core l.owed_to h c.in-Stored.taken s.regs s.core s.bus s.count c.turned_on-on.result p c.requires.none c.leap_within-in-Stored.new.self (omega (arith, below, upto)) (e.idle refl) (e.state refl) (e.lines refl) (e.clock refl) (s.count + 1)
           (omega arith) (still_owed s.count ∙ sym c.if-on.true);
       slots = l.invariant.slots;
       flag = refl;
+      within = upto;
+      ahead = e.clear refl;
       on = omega (arith, last, moves);
     }
 
@@ -380,9 +393,10 @@ loop-self-2-smaller-else-on c =
     let self : Machine = record c.loop-self.self { bus = l.self.1.1.1.1.1.1.1.0; count = l.self.1.1.1.1.1.1.1.1.1.1.1.1.0 } in
     let h = l.invariant.turning in let s = c.one_step.new in let m : Machine = turning self l.regs l.core l.owed_to in
     let p = stepped_on self.bus.board.clock c.in-Stored.taken m (over s.regs s.core s.bus s.count self) l.flags l.core.sreg.bits s.core.sreg.bits c.turned_on-on.result l.invariant.flag c.turned_on-on.ensures (c.in-Stored.ensures.step m refl (acts c.args.cycle c.args.end c.args.self.now self l.regs l.core l.owed_to h c.requires.early c.requires.may.room) h.runs.behind) in
-    let e = c.if-not-leap_clear-4.ensures in
-    let moves = moved c.args.cycle c.args.end c.args.self.now self l.regs l.core l.owed_to h c.in-Stored.taken s.regs s.core s.bus s.count c.turned_on-on.result p c.requires.none c.leap_clear-in-Stored.new.self (e.within refl) (e.idle refl) (e.state refl) (e.clear refl) (e.clock refl) in
-    let within = e.within refl in let on = e.clock refl in omega (arith, moves, within, on)
+    let e = c.if-not-leap_within-5.ensures in
+    let upto = c.clear_to-bound-in-Stored.ensures.within in let below = e.within refl in
+    let moves = moved c.args.cycle c.args.end c.args.self.now self l.regs l.core l.owed_to h c.in-Stored.taken s.regs s.core s.bus s.count c.turned_on-on.result p c.requires.none c.leap_within-in-Stored.new.self (omega (arith, below, upto)) (e.idle refl) (e.state refl) (e.lines refl) (e.clock refl) in
+    let on = e.clock refl in omega (arith, moves, below, upto, on)
 
 pub loop-self-2-preserved-else-on : goal.loop-self-2-preserved-else-on
 loop-self-2-preserved-else-on c =
@@ -390,70 +404,50 @@ loop-self-2-preserved-else-on c =
     let self : Machine = record c.loop-self.self { bus = l.self.1.1.1.1.1.1.1.0; count = l.self.1.1.1.1.1.1.1.1.1.1.1.1.0 } in
     let h = l.invariant.turning in let s = c.one_step.new in let m : Machine = turning self l.regs l.core l.owed_to in
     let p = stepped_on self.bus.board.clock c.in-Stored.taken m (over s.regs s.core s.bus s.count self) l.flags l.core.sreg.bits s.core.sreg.bits c.turned_on-on.result l.invariant.flag c.turned_on-on.ensures (c.in-Stored.ensures.step m refl (acts c.args.cycle c.args.end c.args.self.now self l.regs l.core l.owed_to h c.requires.early c.requires.may.room) h.runs.behind) in
-    let e = c.if-not-leap_clear-4.ensures in
-    let moves = moved c.args.cycle c.args.end c.args.self.now self l.regs l.core l.owed_to h c.in-Stored.taken s.regs s.core s.bus s.count c.turned_on-on.result p c.requires.none c.leap_clear-in-Stored.new.self (e.within refl) (e.idle refl) (e.state refl) (e.clear refl) (e.clock refl) in
+    let e = c.if-not-leap_within-5.ensures in
+    let upto = c.clear_to-bound-in-Stored.ensures.within in let below = e.within refl in
+    let moves = moved c.args.cycle c.args.end c.args.self.now self l.regs l.core l.owed_to h c.in-Stored.taken s.regs s.core s.bus s.count c.turned_on-on.result p c.requires.none c.leap_within-in-Stored.new.self (omega (arith, below, upto)) (e.idle refl) (e.state refl) (e.lines refl) (e.clock refl) in
     let more = p.count in
     let last = l.invariant.on in
     record {
-      turning = turned c.args.cycle c.args.end c.args.self.now self l.regs l.core l.owed_to h c.in-Stored.taken s.regs s.core s.bus s.count c.turned_on-on.result p c.requires.none c.leap_clear-in-Stored.new.self (e.within refl) (e.idle refl) (e.state refl) (e.clear refl) (e.clock refl) l.owed_to
+      turning = turned c.args.cycle c.args.end c.args.self.now self l.regs l.core l.owed_to h c.in-Stored.taken s.regs s.core s.bus s.count c.turned_on-on.result p c.requires.none c.leap_within-in-Stored.new.self (omega (arith, below, upto)) (e.idle refl) (e.state refl) (e.lines refl) (e.clock refl) l.owed_to
           (let up = h.top in omega (arith, more, up)) (subst (λ (n : ℕ). nat_lt n l.owed_to ≡ false) (sym more) (not_owed self.count l.owed_to h.top) ∙ sym c.if-on.false);
       slots = l.invariant.slots;
       flag = refl;
+      within = upto;
+      ahead = e.clear refl;
       on = omega (arith, last, moves);
     }
 
-pub leap_clear-requires-in-Enabled : goal.leap_clear-requires-in-Enabled
-leap_clear-requires-in-Enabled c =
-    let l = c.loop-self-2 in
-    let self : Machine = record c.loop-self.self { bus = l.self.1.1.1.1.1.1.1.0; count = l.self.1.1.1.1.1.1.1.1.1.1.1.1.0 } in
-    let h = l.invariant.turning in let s = c.one_step.new in let m : Machine = turning self l.regs l.core l.owed_to in
-    let p = c.in-Enabled.ensures.step m refl (acts c.args.cycle c.args.end c.args.self.now self l.regs l.core l.owed_to h c.requires.early c.requires.may.room) h.runs.behind in
-    record { some = p.some }
-
-pub end_sprint-requires-then-not-leap_clear-5-clause-some : goal.end_sprint-requires-then-not-leap_clear-5-clause-some
-end_sprint-requires-then-not-leap_clear-5-clause-some c =
+pub leap_within-requires-in-Enabled-clause-some : goal.leap_within-requires-in-Enabled-clause-some
+leap_within-requires-in-Enabled-clause-some c =
     let l = c.loop-self-2 in
     let self : Machine = record c.loop-self.self { bus = l.self.1.1.1.1.1.1.1.0; count = l.self.1.1.1.1.1.1.1.1.1.1.1.1.0 } in
     let h = l.invariant.turning in let s = c.one_step.new in let m : Machine = turning self l.regs l.core l.owed_to in
     let p = c.in-Enabled.ensures.step m refl (acts c.args.cycle c.args.end c.args.self.now self l.regs l.core l.owed_to h c.requires.early c.requires.may.room) h.runs.behind in
     p.some
 
-pub end_sprint-requires-then-not-leap_clear-5-clause-early : goal.end_sprint-requires-then-not-leap_clear-5-clause-early
-end_sprint-requires-then-not-leap_clear-5-clause-early c =
+pub leap_within-requires-in-Enabled-clause-early : goal.leap_within-requires-in-Enabled-clause-early
+leap_within-requires-in-Enabled-clause-early c =
     let l = c.loop-self-2 in
-    let self : Machine = record c.loop-self.self { bus = l.self.1.1.1.1.1.1.1.0; count = l.self.1.1.1.1.1.1.1.1.1.1.1.1.0 } in
-    let h = l.invariant.turning in let s = c.one_step.new in let m : Machine = turning self l.regs l.core l.owed_to in
-    let p = c.in-Enabled.ensures.step m refl (acts c.args.cycle c.args.end c.args.self.now self l.regs l.core l.owed_to h c.requires.early c.requires.may.room) h.runs.behind in
-    let at = stays_at c.args.cycle c.args.end c.args.self.now self l.regs l.core l.owed_to h c.in-Enabled.taken s.regs s.core s.bus s.count true p c.leap_clear-in-Enabled.new.self (c.if-not-leap_clear-5.ensures.same refl) in
-    let within = h.within in omega (arith, at, within, c.requires.early)
+    let upto = c.clear_to-bound-in-Enabled.ensures.within in omega (arith, upto, c.requires.early)
 
-pub end_sprint-requires-then-not-leap_clear-5-clause-within : goal.end_sprint-requires-then-not-leap_clear-5-clause-within
-end_sprint-requires-then-not-leap_clear-5-clause-within c =
+pub end_sprint-requires-then-not-leap_within-6 : goal.end_sprint-requires-then-not-leap_within-6
+end_sprint-requires-then-not-leap_within-6 c =
     let l = c.loop-self-2 in
     let self : Machine = record c.loop-self.self { bus = l.self.1.1.1.1.1.1.1.0; count = l.self.1.1.1.1.1.1.1.1.1.1.1.1.0 } in
     let h = l.invariant.turning in let s = c.one_step.new in let m : Machine = turning self l.regs l.core l.owed_to in
     let p = c.in-Enabled.ensures.step m refl (acts c.args.cycle c.args.end c.args.self.now self l.regs l.core l.owed_to h c.requires.early c.requires.may.room) h.runs.behind in
-    let at = stays_at c.args.cycle c.args.end c.args.self.now self l.regs l.core l.owed_to h c.in-Enabled.taken s.regs s.core s.bus s.count true p c.leap_clear-in-Enabled.new.self (c.if-not-leap_clear-5.ensures.same refl) in
-    let within = h.within in omega (arith, at, within)
+    record { may = may_end c.args.cycle c.args.end c.args.self.now self l.regs l.core l.owed_to h c.in-Enabled.taken s.regs s.core s.bus s.count true p c.leap_within-in-Enabled.new.self (c.if-not-leap_within-6.ensures.same refl) c.requires.early c.requires.none }
 
-pub end_sprint-requires-then-not-leap_clear-5-clause-none : goal.end_sprint-requires-then-not-leap_clear-5-clause-none
-end_sprint-requires-then-not-leap_clear-5-clause-none c k late =
+pub returns-then-not-leap_within-6-clause-sprinted : goal.returns-then-not-leap_within-6-clause-sprinted
+returns-then-not-leap_within-6-clause-sprinted c =
     let l = c.loop-self-2 in
     let self : Machine = record c.loop-self.self { bus = l.self.1.1.1.1.1.1.1.0; count = l.self.1.1.1.1.1.1.1.1.1.1.1.1.0 } in
     let h = l.invariant.turning in let s = c.one_step.new in let m : Machine = turning self l.regs l.core l.owed_to in
     let p = c.in-Enabled.ensures.step m refl (acts c.args.cycle c.args.end c.args.self.now self l.regs l.core l.owed_to h c.requires.early c.requires.may.room) h.runs.behind in
-    let at = stays_at c.args.cycle c.args.end c.args.self.now self l.regs l.core l.owed_to h c.in-Enabled.taken s.regs s.core s.bus s.count true p c.leap_clear-in-Enabled.new.self (c.if-not-leap_clear-5.ensures.same refl) in
-    let from = h.runs.from in
-    silent c.args.cycle c.leap_clear-in-Enabled.new.self.clock c.args.end c.args.self.now (record self { bus = with_board s.bus c.leap_clear-in-Enabled.new.self; count = s.count }) h.runs.script (omega (arith, from, at)) c.requires.none k late
-
-pub returns-then-not-leap_clear-5-clause-sprinted : goal.returns-then-not-leap_clear-5-clause-sprinted
-returns-then-not-leap_clear-5-clause-sprinted c =
-    let l = c.loop-self-2 in
-    let self : Machine = record c.loop-self.self { bus = l.self.1.1.1.1.1.1.1.0; count = l.self.1.1.1.1.1.1.1.1.1.1.1.1.0 } in
-    let h = l.invariant.turning in let s = c.one_step.new in let m : Machine = turning self l.regs l.core l.owed_to in
-    let p = c.in-Enabled.ensures.step m refl (acts c.args.cycle c.args.end c.args.self.now self l.regs l.core l.owed_to h c.requires.early c.requires.may.room) h.runs.behind in
-    let same = c.if-not-leap_clear-5.ensures.same refl in
-    c.end_sprint-then-not-leap_clear-5.ensures.sprinted c.args.cycle c.args.self.now m (at_it c.args.cycle c.args.end c.args.self.now self l.regs l.core l.owed_to h c.in-Enabled.taken s.regs s.core s.bus s.count true p c.leap_clear-in-Enabled.new.self same) (turn_free c.args.cycle c.args.end c.args.self.now self l.regs l.core l.owed_to h c.in-Enabled.taken s.regs s.core s.bus s.count true p) (carried c.args.cycle c.args.end c.args.self.now self l.regs l.core l.owed_to h c.in-Enabled.taken s.regs s.core s.bus s.count true p c.leap_clear-in-Enabled.new.self same)
+    let same = c.if-not-leap_within-6.ensures.same refl in
+    c.end_sprint-then-not-leap_within-6.ensures.sprinted c.args.cycle c.args.self.now m (at_it c.args.cycle c.args.end c.args.self.now self l.regs l.core l.owed_to h c.in-Enabled.taken s.regs s.core s.bus s.count true p c.leap_within-in-Enabled.new.self same) (turn_free c.args.cycle c.args.end c.args.self.now self l.regs l.core l.owed_to h c.in-Enabled.taken s.regs s.core s.bus s.count true p) (carried c.args.cycle c.args.end c.args.self.now self l.regs l.core l.owed_to h c.in-Enabled.taken s.regs s.core s.bus s.count true p c.leap_within-in-Enabled.new.self same)
 
 pub overflow_add-owed_to-in-Enabled : goal.overflow_add-owed_to-in-Enabled
 overflow_add-owed_to-in-Enabled c =
@@ -471,9 +465,10 @@ loop-self-2-smaller c =
     let self : Machine = record c.loop-self.self { bus = l.self.1.1.1.1.1.1.1.0; count = l.self.1.1.1.1.1.1.1.1.1.1.1.1.0 } in
     let h = l.invariant.turning in let s = c.one_step.new in let m : Machine = turning self l.regs l.core l.owed_to in
     let p = c.in-Enabled.ensures.step m refl (acts c.args.cycle c.args.end c.args.self.now self l.regs l.core l.owed_to h c.requires.early c.requires.may.room) h.runs.behind in
-    let e = c.if-not-leap_clear-5.ensures in
-    let moves = moved c.args.cycle c.args.end c.args.self.now self l.regs l.core l.owed_to h c.in-Enabled.taken s.regs s.core s.bus s.count true p c.requires.none c.leap_clear-in-Enabled.new.self (e.within refl) (e.idle refl) (e.state refl) (e.clear refl) (e.clock refl) in
-    let within = e.within refl in let on = e.clock refl in omega (arith, moves, within, on)
+    let e = c.if-not-leap_within-6.ensures in
+    let upto = c.clear_to-bound-in-Enabled.ensures.within in let below = e.within refl in
+    let moves = moved c.args.cycle c.args.end c.args.self.now self l.regs l.core l.owed_to h c.in-Enabled.taken s.regs s.core s.bus s.count true p c.requires.none c.leap_within-in-Enabled.new.self (omega (arith, below, upto)) (e.idle refl) (e.state refl) (e.lines refl) (e.clock refl) in
+    let on = e.clock refl in omega (arith, moves, below, upto, on)
 
 pub loop-self-2-preserved : goal.loop-self-2-preserved
 loop-self-2-preserved c =
@@ -481,15 +476,18 @@ loop-self-2-preserved c =
     let self : Machine = record c.loop-self.self { bus = l.self.1.1.1.1.1.1.1.0; count = l.self.1.1.1.1.1.1.1.1.1.1.1.1.0 } in
     let h = l.invariant.turning in let s = c.one_step.new in let m : Machine = turning self l.regs l.core l.owed_to in
     let p = c.in-Enabled.ensures.step m refl (acts c.args.cycle c.args.end c.args.self.now self l.regs l.core l.owed_to h c.requires.early c.requires.may.room) h.runs.behind in
-    let e = c.if-not-leap_clear-5.ensures in
-    let moves = moved c.args.cycle c.args.end c.args.self.now self l.regs l.core l.owed_to h c.in-Enabled.taken s.regs s.core s.bus s.count true p c.requires.none c.leap_clear-in-Enabled.new.self (e.within refl) (e.idle refl) (e.state refl) (e.clear refl) (e.clock refl) in
+    let e = c.if-not-leap_within-6.ensures in
+    let upto = c.clear_to-bound-in-Enabled.ensures.within in let below = e.within refl in
+    let moves = moved c.args.cycle c.args.end c.args.self.now self l.regs l.core l.owed_to h c.in-Enabled.taken s.regs s.core s.bus s.count true p c.requires.none c.leap_within-in-Enabled.new.self (omega (arith, below, upto)) (e.idle refl) (e.state refl) (e.lines refl) (e.clock refl) in
     let more = p.count in
     let last = l.invariant.on in
     record {
-      turning = turned c.args.cycle c.args.end c.args.self.now self l.regs l.core l.owed_to h c.in-Enabled.taken s.regs s.core s.bus s.count true p c.requires.none c.leap_clear-in-Enabled.new.self (e.within refl) (e.idle refl) (e.state refl) (e.clear refl) (e.clock refl) (s.count + 1)
+      turning = turned c.args.cycle c.args.end c.args.self.now self l.regs l.core l.owed_to h c.in-Enabled.taken s.regs s.core s.bus s.count true p c.requires.none c.leap_within-in-Enabled.new.self (omega (arith, below, upto)) (e.idle refl) (e.state refl) (e.lines refl) (e.clock refl) (s.count + 1)
           (omega arith) (still_owed s.count);
       slots = l.invariant.slots;
       flag = refl;
+      within = upto;
+      ahead = e.clear refl;
       on = omega (arith, last, moves);
     }
 
@@ -591,19 +589,20 @@ leap-requires-clause-may c =
     let self : Machine = record c.loop-self.self { bus = l.self.1.1.1.1.1.1.1.0; count = l.self.1.1.1.1.1.1.1.1.1.1.1.1.0 } in
     let h = l.invariant.turning in let s = c.one_step.new in let m : Machine = turning self l.regs l.core l.owed_to in
     let p = c.in-Jumped.ensures.step m refl (acts c.args.cycle c.args.end c.args.self.now self l.regs l.core l.owed_to h c.requires.early c.requires.may.room) h.runs.behind in
-    let e = c.if-not-leap_clear-3.ensures in
+    let e = c.if-not-leap_within-3.ensures in
+    let upto = l.invariant.within in let below = e.within refl in
     let more = p.count in
     let last = l.invariant.on in
     let k : ℕ = l.owed_to in
-    let moves = moved c.args.cycle c.args.end c.args.self.now self l.regs l.core l.owed_to h c.in-Jumped.taken s.regs s.core s.bus s.count false p c.requires.none c.leap_clear-in-Jumped.new.self (e.within refl) (e.idle refl) (e.state refl) (e.clear refl) (e.clock refl) in
+    let moves = moved c.args.cycle c.args.end c.args.self.now self l.regs l.core l.owed_to h c.in-Jumped.taken s.regs s.core s.bus s.count false p c.requires.none c.leap_within-in-Jumped.new.self (omega (arith, below, upto)) (e.idle refl) (e.state refl) (e.lines refl) (e.clock refl) in
     let off : nat_lt s.count k ≡ false = subst (λ (n : ℕ). nat_lt n k ≡ false) (sym more) (not_owed self.count k h.top) in
-    let next = turned c.args.cycle c.args.end c.args.self.now self l.regs l.core l.owed_to h c.in-Jumped.taken s.regs s.core s.bus s.count false p c.requires.none c.leap_clear-in-Jumped.new.self (e.within refl) (e.idle refl) (e.state refl) (e.clear refl) (e.clock refl) k
+    let next = turned c.args.cycle c.args.end c.args.self.now self l.regs l.core l.owed_to h c.in-Jumped.taken s.regs s.core s.bus s.count false p c.requires.none c.leap_within-in-Jumped.new.self (omega (arith, below, upto)) (e.idle refl) (e.state refl) (e.lines refl) (e.clock refl) k
     (let up = h.top in omega (arith, more, up)) off in
     let g = c.gather-at-in-loop-self.ensures in
     let r : ℕ = c.gather-at-in-loop-self.result in
     let x : Machine = c.gather-at-in-loop-self.new.self in
-    let now : r ≡ c.leap_clear-in-Jumped.new.self.clock = g.value in
-    let begun : IsSprinting t r old x = subst (λ (u : ℕ). IsSprinting t u old x) (sym now) (subst (λ (z : Machine). IsSprinting t c.leap_clear-in-Jumped.new.self.clock old z) (sym g.state) next.runs) in
+    let now : r ≡ c.leap_within-in-Jumped.new.self.clock = g.value in
+    let begun : IsSprinting t r old x = subst (λ (u : ℕ). IsSprinting t u old x) (sym now) (subst (λ (z : Machine). IsSprinting t c.leap_within-in-Jumped.new.self.clock old z) (sym g.state) next.runs) in
     may t r old x begun g.early c.requires.may.room
 
 pub leap-requires-clause-behind : goal.leap-requires-clause-behind
@@ -613,19 +612,20 @@ leap-requires-clause-behind c =
     let self : Machine = record c.loop-self.self { bus = l.self.1.1.1.1.1.1.1.0; count = l.self.1.1.1.1.1.1.1.1.1.1.1.1.0 } in
     let h = l.invariant.turning in let s = c.one_step.new in let m : Machine = turning self l.regs l.core l.owed_to in
     let p = c.in-Jumped.ensures.step m refl (acts c.args.cycle c.args.end c.args.self.now self l.regs l.core l.owed_to h c.requires.early c.requires.may.room) h.runs.behind in
-    let e = c.if-not-leap_clear-3.ensures in
+    let e = c.if-not-leap_within-3.ensures in
+    let upto = l.invariant.within in let below = e.within refl in
     let more = p.count in
     let last = l.invariant.on in
     let k : ℕ = l.owed_to in
-    let moves = moved c.args.cycle c.args.end c.args.self.now self l.regs l.core l.owed_to h c.in-Jumped.taken s.regs s.core s.bus s.count false p c.requires.none c.leap_clear-in-Jumped.new.self (e.within refl) (e.idle refl) (e.state refl) (e.clear refl) (e.clock refl) in
+    let moves = moved c.args.cycle c.args.end c.args.self.now self l.regs l.core l.owed_to h c.in-Jumped.taken s.regs s.core s.bus s.count false p c.requires.none c.leap_within-in-Jumped.new.self (omega (arith, below, upto)) (e.idle refl) (e.state refl) (e.lines refl) (e.clock refl) in
     let off : nat_lt s.count k ≡ false = subst (λ (n : ℕ). nat_lt n k ≡ false) (sym more) (not_owed self.count k h.top) in
-    let next = turned c.args.cycle c.args.end c.args.self.now self l.regs l.core l.owed_to h c.in-Jumped.taken s.regs s.core s.bus s.count false p c.requires.none c.leap_clear-in-Jumped.new.self (e.within refl) (e.idle refl) (e.state refl) (e.clear refl) (e.clock refl) k
+    let next = turned c.args.cycle c.args.end c.args.self.now self l.regs l.core l.owed_to h c.in-Jumped.taken s.regs s.core s.bus s.count false p c.requires.none c.leap_within-in-Jumped.new.self (omega (arith, below, upto)) (e.idle refl) (e.state refl) (e.lines refl) (e.clock refl) k
     (let up = h.top in omega (arith, more, up)) off in
     let g = c.gather-at-in-loop-self.ensures in
     let r : ℕ = c.gather-at-in-loop-self.result in
     let x : Machine = c.gather-at-in-loop-self.new.self in
-    let now : r ≡ c.leap_clear-in-Jumped.new.self.clock = g.value in
-    let begun : IsSprinting t r old x = subst (λ (u : ℕ). IsSprinting t u old x) (sym now) (subst (λ (z : Machine). IsSprinting t c.leap_clear-in-Jumped.new.self.clock old z) (sym g.state) next.runs) in
+    let now : r ≡ c.leap_within-in-Jumped.new.self.clock = g.value in
+    let begun : IsSprinting t r old x = subst (λ (u : ℕ). IsSprinting t u old x) (sym now) (subst (λ (z : Machine). IsSprinting t c.leap_within-in-Jumped.new.self.clock old z) (sym g.state) next.runs) in
     begun.behind
 
 pub leap-requires-clause-none : goal.leap-requires-clause-none
@@ -635,19 +635,20 @@ leap-requires-clause-none c i late =
     let self : Machine = record c.loop-self.self { bus = l.self.1.1.1.1.1.1.1.0; count = l.self.1.1.1.1.1.1.1.1.1.1.1.1.0 } in
     let h = l.invariant.turning in let s = c.one_step.new in let m : Machine = turning self l.regs l.core l.owed_to in
     let p = c.in-Jumped.ensures.step m refl (acts c.args.cycle c.args.end c.args.self.now self l.regs l.core l.owed_to h c.requires.early c.requires.may.room) h.runs.behind in
-    let e = c.if-not-leap_clear-3.ensures in
+    let e = c.if-not-leap_within-3.ensures in
+    let upto = l.invariant.within in let below = e.within refl in
     let more = p.count in
     let last = l.invariant.on in
     let k : ℕ = l.owed_to in
-    let moves = moved c.args.cycle c.args.end c.args.self.now self l.regs l.core l.owed_to h c.in-Jumped.taken s.regs s.core s.bus s.count false p c.requires.none c.leap_clear-in-Jumped.new.self (e.within refl) (e.idle refl) (e.state refl) (e.clear refl) (e.clock refl) in
+    let moves = moved c.args.cycle c.args.end c.args.self.now self l.regs l.core l.owed_to h c.in-Jumped.taken s.regs s.core s.bus s.count false p c.requires.none c.leap_within-in-Jumped.new.self (omega (arith, below, upto)) (e.idle refl) (e.state refl) (e.lines refl) (e.clock refl) in
     let off : nat_lt s.count k ≡ false = subst (λ (n : ℕ). nat_lt n k ≡ false) (sym more) (not_owed self.count k h.top) in
-    let next = turned c.args.cycle c.args.end c.args.self.now self l.regs l.core l.owed_to h c.in-Jumped.taken s.regs s.core s.bus s.count false p c.requires.none c.leap_clear-in-Jumped.new.self (e.within refl) (e.idle refl) (e.state refl) (e.clear refl) (e.clock refl) k
+    let next = turned c.args.cycle c.args.end c.args.self.now self l.regs l.core l.owed_to h c.in-Jumped.taken s.regs s.core s.bus s.count false p c.requires.none c.leap_within-in-Jumped.new.self (omega (arith, below, upto)) (e.idle refl) (e.state refl) (e.lines refl) (e.clock refl) k
     (let up = h.top in omega (arith, more, up)) off in
     let g = c.gather-at-in-loop-self.ensures in
     let r : ℕ = c.gather-at-in-loop-self.result in
     let x : Machine = c.gather-at-in-loop-self.new.self in
-    let now : r ≡ c.leap_clear-in-Jumped.new.self.clock = g.value in
-    let begun : IsSprinting t r old x = subst (λ (u : ℕ). IsSprinting t u old x) (sym now) (subst (λ (z : Machine). IsSprinting t c.leap_clear-in-Jumped.new.self.clock old z) (sym g.state) next.runs) in
+    let now : r ≡ c.leap_within-in-Jumped.new.self.clock = g.value in
+    let begun : IsSprinting t r old x = subst (λ (u : ℕ). IsSprinting t u old x) (sym now) (subst (λ (z : Machine). IsSprinting t c.leap_within-in-Jumped.new.self.clock old z) (sym g.state) next.runs) in
     silent t r c.args.end old x begun.script begun.from c.requires.none i late
 
 pub loop-self-smaller : goal.loop-self-smaller
@@ -657,19 +658,20 @@ loop-self-smaller c =
     let self : Machine = record c.loop-self.self { bus = l.self.1.1.1.1.1.1.1.0; count = l.self.1.1.1.1.1.1.1.1.1.1.1.1.0 } in
     let h = l.invariant.turning in let s = c.one_step.new in let m : Machine = turning self l.regs l.core l.owed_to in
     let p = c.in-Jumped.ensures.step m refl (acts c.args.cycle c.args.end c.args.self.now self l.regs l.core l.owed_to h c.requires.early c.requires.may.room) h.runs.behind in
-    let e = c.if-not-leap_clear-3.ensures in
+    let e = c.if-not-leap_within-3.ensures in
+    let upto = l.invariant.within in let below = e.within refl in
     let more = p.count in
     let last = l.invariant.on in
     let k : ℕ = l.owed_to in
-    let moves = moved c.args.cycle c.args.end c.args.self.now self l.regs l.core l.owed_to h c.in-Jumped.taken s.regs s.core s.bus s.count false p c.requires.none c.leap_clear-in-Jumped.new.self (e.within refl) (e.idle refl) (e.state refl) (e.clear refl) (e.clock refl) in
+    let moves = moved c.args.cycle c.args.end c.args.self.now self l.regs l.core l.owed_to h c.in-Jumped.taken s.regs s.core s.bus s.count false p c.requires.none c.leap_within-in-Jumped.new.self (omega (arith, below, upto)) (e.idle refl) (e.state refl) (e.lines refl) (e.clock refl) in
     let off : nat_lt s.count k ≡ false = subst (λ (n : ℕ). nat_lt n k ≡ false) (sym more) (not_owed self.count k h.top) in
-    let next = turned c.args.cycle c.args.end c.args.self.now self l.regs l.core l.owed_to h c.in-Jumped.taken s.regs s.core s.bus s.count false p c.requires.none c.leap_clear-in-Jumped.new.self (e.within refl) (e.idle refl) (e.state refl) (e.clear refl) (e.clock refl) k
+    let next = turned c.args.cycle c.args.end c.args.self.now self l.regs l.core l.owed_to h c.in-Jumped.taken s.regs s.core s.bus s.count false p c.requires.none c.leap_within-in-Jumped.new.self (omega (arith, below, upto)) (e.idle refl) (e.state refl) (e.lines refl) (e.clock refl) k
     (let up = h.top in omega (arith, more, up)) off in
     let g = c.gather-at-in-loop-self.ensures in
     let r : ℕ = c.gather-at-in-loop-self.result in
     let x : Machine = c.gather-at-in-loop-self.new.self in
-    let now : r ≡ c.leap_clear-in-Jumped.new.self.clock = g.value in
-    let begun : IsSprinting t r old x = subst (λ (u : ℕ). IsSprinting t u old x) (sym now) (subst (λ (z : Machine). IsSprinting t c.leap_clear-in-Jumped.new.self.clock old z) (sym g.state) next.runs) in
+    let now : r ≡ c.leap_within-in-Jumped.new.self.clock = g.value in
+    let begun : IsSprinting t r old x = subst (λ (u : ℕ). IsSprinting t u old x) (sym now) (subst (λ (z : Machine). IsSprinting t c.leap_within-in-Jumped.new.self.clock old z) (sym g.state) next.runs) in
     let q = c.leap.ensures in
     let z : Machine = c.leap.new.self in
     let there : z.bus.board.clock ≡ r + c.leap.result = q.sprinted.clock in
@@ -683,19 +685,20 @@ loop-self-preserved c =
     let self : Machine = record c.loop-self.self { bus = l.self.1.1.1.1.1.1.1.0; count = l.self.1.1.1.1.1.1.1.1.1.1.1.1.0 } in
     let h = l.invariant.turning in let s = c.one_step.new in let m : Machine = turning self l.regs l.core l.owed_to in
     let p = c.in-Jumped.ensures.step m refl (acts c.args.cycle c.args.end c.args.self.now self l.regs l.core l.owed_to h c.requires.early c.requires.may.room) h.runs.behind in
-    let e = c.if-not-leap_clear-3.ensures in
+    let e = c.if-not-leap_within-3.ensures in
+    let upto = l.invariant.within in let below = e.within refl in
     let more = p.count in
     let last = l.invariant.on in
     let k : ℕ = l.owed_to in
-    let moves = moved c.args.cycle c.args.end c.args.self.now self l.regs l.core l.owed_to h c.in-Jumped.taken s.regs s.core s.bus s.count false p c.requires.none c.leap_clear-in-Jumped.new.self (e.within refl) (e.idle refl) (e.state refl) (e.clear refl) (e.clock refl) in
+    let moves = moved c.args.cycle c.args.end c.args.self.now self l.regs l.core l.owed_to h c.in-Jumped.taken s.regs s.core s.bus s.count false p c.requires.none c.leap_within-in-Jumped.new.self (omega (arith, below, upto)) (e.idle refl) (e.state refl) (e.lines refl) (e.clock refl) in
     let off : nat_lt s.count k ≡ false = subst (λ (n : ℕ). nat_lt n k ≡ false) (sym more) (not_owed self.count k h.top) in
-    let next = turned c.args.cycle c.args.end c.args.self.now self l.regs l.core l.owed_to h c.in-Jumped.taken s.regs s.core s.bus s.count false p c.requires.none c.leap_clear-in-Jumped.new.self (e.within refl) (e.idle refl) (e.state refl) (e.clear refl) (e.clock refl) k
+    let next = turned c.args.cycle c.args.end c.args.self.now self l.regs l.core l.owed_to h c.in-Jumped.taken s.regs s.core s.bus s.count false p c.requires.none c.leap_within-in-Jumped.new.self (omega (arith, below, upto)) (e.idle refl) (e.state refl) (e.lines refl) (e.clock refl) k
     (let up = h.top in omega (arith, more, up)) off in
     let g = c.gather-at-in-loop-self.ensures in
     let r : ℕ = c.gather-at-in-loop-self.result in
     let x : Machine = c.gather-at-in-loop-self.new.self in
-    let now : r ≡ c.leap_clear-in-Jumped.new.self.clock = g.value in
-    let begun : IsSprinting t r old x = subst (λ (u : ℕ). IsSprinting t u old x) (sym now) (subst (λ (z : Machine). IsSprinting t c.leap_clear-in-Jumped.new.self.clock old z) (sym g.state) next.runs) in
+    let now : r ≡ c.leap_within-in-Jumped.new.self.clock = g.value in
+    let begun : IsSprinting t r old x = subst (λ (u : ℕ). IsSprinting t u old x) (sym now) (subst (λ (z : Machine). IsSprinting t c.leap_within-in-Jumped.new.self.clock old z) (sym g.state) next.runs) in
     let q = c.leap.ensures in
     let z : Machine = c.leap.new.self in
     let there : z.bus.board.clock ≡ r + c.leap.result = q.sprinted.clock in
@@ -709,7 +712,7 @@ loop-self-preserved c =
       turning = record {
         within = omega (arith, there, up);
         off = owed;
-        clear = ap (λ (w : Lines). w.bits) q.lines ∙ (ap (λ (w : Machine). (lines_of w.bus.board).bits) g.state ∙ e.clear refl);
+        clear = ap (λ (w : Lines). w.bits) q.lines ∙ (ap (λ (w : Machine). (lines_of w.bus.board).bits) g.state ∙ e.lines refl);
         top = omega arith;
         runs = subst (λ (w : Machine). IsSprinting t z.bus.board.clock old w) parts (subst (λ (u : ℕ). IsSprinting t u old z) (sym there) gone);
       };

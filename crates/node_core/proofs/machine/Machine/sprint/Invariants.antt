@@ -1,6 +1,7 @@
 use Rattle.std.proofs.Common.{◌≡◌, ◌≤◌, ◌-◌, nat_lt}
 use Rattle.avr_program.specs.Program.{slots_below}
 use Rattle.node_core.specs.declared.machine.Machine.{Machine}
+use Rattle.board_io.specs.Lagging.{IsClear}
 use Rattle.node_core.specs.Midway.{IsTurning}
 use Rattle.node_core.proofs.machine.Machine.sprint.Given as goal
 
@@ -33,6 +34,8 @@ invariant-loop-self-2 l = record {
   } in IsTurning l.cycle l.end l.fn.self m l.regs l.core l.owed_to);
   slots : l.slots ≡ slots_below 65536 l.initial.self.1.1.0.bytes;
   flag : nat_lt l.flags 128 ≡ nat_lt l.core.sreg.bits 128;
+  within : l.bound ≤ l.end;
+  ahead : IsClear l.bound l.self.1.1.1.1.1.1.1.0.board;
   on : l.initial.self.1.1.1.1.1.1.1.0.board.clock ≤ l.self.1.1.1.1.1.1.1.0.board.clock;
 }
 
