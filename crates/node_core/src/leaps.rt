@@ -74,14 +74,14 @@ impl Machine {
         ensures step { 0 < result → IsStillStep result self.old core.old core.new }
         ensures flags { 0 < result → core.old.sreg.bits < 256 }
     {
-        let op = self.program.op(core.pc);
-        if !is_still(&op, &self.bus) || due(core.sreg, &self.bus.board).is_some() {
+        let op = self.program.op_at(self.program.slots(), core.pc);
+        if !is_still(op, &self.bus) || due(core.sreg, &self.bus.board).is_some() {
             return 0;
         }
         let before = core.sreg.bits;
-        match execute_waiting(&op, self.program.flash(), core, &mut self.bus) {
+        match execute_waiting(op, self.program.flash(), core, &mut self.bus) {
             Ok(done) => {
-                if owes(&op, before, core.sreg.bits) {
+                if owes(op, before, core.sreg.bits) {
                     return 0;
                 }
                 done.cycles

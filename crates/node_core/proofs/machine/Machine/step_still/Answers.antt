@@ -12,7 +12,7 @@ use Rattle.node_core.proofs.machine.Machine.step_still.Goals as goal
 
 pub owes-requires : goal.owes-requires
 owes-requires c =
-    let o = c.op-op.result in
+    let o = c.op_at-op.result.now in
     let a : Outcome NodeBus = record { result = c.execute_waiting.result; cpu = c.execute_waiting.new.cpu; bus = c.execute_waiting.new.bus } in
     let flash = c.flash.result.now.bytes in
     let done : a ≡ executed flash o c.args.core.now c.args.self.now.bus = c.execute_waiting.ensures.outcome in
@@ -22,20 +22,20 @@ pub returns-then-owes-clause-same : goal.returns-then-owes-clause-same
 returns-then-owes-clause-same c =
     let m : Machine = c.args.self.now in
     let a : Outcome NodeBus = record { result = c.execute_waiting.result; cpu = c.execute_waiting.new.cpu; bus = c.execute_waiting.new.bus } in
-    let still = leaves c.op-op.result m.bus (c.is_still.ensures c.if-not-is_still.false) c.flash.result.now.bytes c.args.core.now a c.execute_waiting.ensures.outcome in
+    let still = leaves c.op_at-op.result.now m.bus (c.is_still.ensures c.if-not-is_still.false) c.flash.result.now.bytes c.args.core.now a c.execute_waiting.ensures.outcome in
     λ i. let x : Machine = record m { bus = still i } in x
 
 pub returns-else-owes-clause-same : goal.returns-else-owes-clause-same
 returns-else-owes-clause-same c =
     let m : Machine = c.args.self.now in
     let a : Outcome NodeBus = record { result = c.execute_waiting.result; cpu = c.execute_waiting.new.cpu; bus = c.execute_waiting.new.bus } in
-    let still = leaves c.op-op.result m.bus (c.is_still.ensures c.if-not-is_still.false) c.flash.result.now.bytes c.args.core.now a c.execute_waiting.ensures.outcome in
+    let still = leaves c.op_at-op.result.now m.bus (c.is_still.ensures c.if-not-is_still.false) c.flash.result.now.bytes c.args.core.now a c.execute_waiting.ensures.outcome in
     λ i. let x : Machine = record m { bus = still i } in x
 
 pub returns-else-owes-clause-step : goal.returns-else-owes-clause-step
 returns-else-owes-clause-step c some =
     let m : Machine = c.args.self.now in
-    let o : Op = c.op-op.result in
+    let o : Op = c.op_at-op.result.now in
     let h : IsStill o m.bus = c.is_still.ensures c.if-not-is_still.false in
     let a : Outcome NodeBus = record { result = c.execute_waiting.result; cpu = c.execute_waiting.new.cpu; bus = c.execute_waiting.new.bus } in
     let flash : List ℕ = c.flash.result.now.bytes in
@@ -45,7 +45,7 @@ returns-else-owes-clause-step c some =
       none = sym c.due.ensures ∙ none_of c.due.result (sym c.is_some.ensures ∙ c.if-is_some.false);
       some = some;
       op = o;
-      fetched = c.op-op.ensures;
+      fetched = c.op_at-op.ensures;
       wakes = h.wakes;
       settled = sym c.if-owes.false ∙ c.owes.ensures;
       does = did o m.bus h m.program.bytes c.args.core.now a done c.in-Ok.done c.in-Ok.is;
@@ -55,5 +55,5 @@ pub returns-in-Err-clause-same : goal.returns-in-Err-clause-same
 returns-in-Err-clause-same c =
     let m : Machine = c.args.self.now in
     let a : Outcome NodeBus = record { result = c.execute_waiting.result; cpu = c.execute_waiting.new.cpu; bus = c.execute_waiting.new.bus } in
-    let still = leaves c.op-op.result m.bus (c.is_still.ensures c.if-not-is_still.false) c.flash.result.now.bytes c.args.core.now a c.execute_waiting.ensures.outcome in
+    let still = leaves c.op_at-op.result.now m.bus (c.is_still.ensures c.if-not-is_still.false) c.flash.result.now.bytes c.args.core.now a c.execute_waiting.ensures.outcome in
     λ i. let x : Machine = record m { bus = still i } in x
