@@ -1,6 +1,6 @@
 -- The flags of sums, differences and shifts from tables, put into a flags byte at once: tests over all carries and
 -- bytes.
-use Rattle.std.proofs.Common.{◌≡◌, ℕ, ◌+◌, ◌-◌, ◌*◌, ◌/◌, ◌%◌, ◌^◌, ◌<◌, ◌≤◌, ◌==◌, ◌&&◌, nat_le, nat_lt, not, List, Bool, true, false, if◌then◌else◌, refl, get_or, bit_and, bit_or, bit_xor, ap, sym, ◌∙◌, arith, pos, ◌+ℤ◌, ◌-ℤ◌}
+use Rattle.std.proofs.Common.{◌≡◌, ℕ, ◌+◌, ◌-◌, ◌*◌, ◌/◌, ◌%◌, ◌^◌, ◌<◌, ◌≤◌, ◌==◌, ◌&&◌, nat_le, nat_lt, not, List, Bool, true, false, if◌then◌else◌, refl, get_or, bit_and, bit_or, bit_xor, ap, ◌∙◌, arith, pos, ◌+ℤ◌, ◌-ℤ◌}
 use Rattle.std.proofs.lemmas.Bool.{and_parts, eqb-true}
 use Rattle.std.proofs.lemmas.Bool.Decides.{nat_tests}
 use Rattle.std.proofs.lemmas.Int.{ints}
@@ -11,7 +11,8 @@ use Rattle.avr_base.proofs.Computed.{all_from, all_from-at}
 use Rattle.arith_step.specs.Bytes.{added, shifted, subtracted}
 use Rattle.arith_step.specs.Words.{added_word, subtracted_word}
 use Rattle.arith_step.specs.Whole.{one_if, overflows, signed, signs_of, with_carries, with_result, with_sign, xor}
-use Rattle.arith_step.specs.declared.flags.TheConstants.{CARRIES}
+use Rattle.arith_step.specs.declared.flags.TheConstants.{FLAGS}
+use Rattle.arith_step.specs.declared.shifts.TheConstants.{RIGHT}
 use Rattle.arith_step.specs.declared.words.TheConstants.{DIFFERENCE_FLAGS, SUM_FLAGS}
 use Rattle.arith_step.proofs.Signs.{difference_by_signs, sum_by_signs}
 
@@ -28,6 +29,10 @@ bytes p = all_from p 0 256
 
 at_byte : (p : ℕ → Bool) (s : ℕ) → bytes p ≡ true → s < 256 → p s ≡ true
 at_byte p s h f = all_from-at p 0 256 s h (omega arith) (omega arith)
+
+at_most_one : (b : Bool) → one_if b ≤ 1
+at_most_one true = omega arith
+at_most_one false = omega arith
 
 -- ---- flags put at once
 -- C, H, V and what V does to S
@@ -50,14 +55,14 @@ byte_put n z v c h s f =
     let e = at (λ h. bytes (byte_fits n z v c h)) h e in
     eqb-true _ _ (at_byte (byte_fits n z v c h) s e f)
 
--- ---- the table of carries, by the high halves of two bytes and of their sum or difference
-abbrev entry : ℕ → ℕ → ℕ → ℕ
-entry x y z = get_or CARRIES (bit_xor (bit_xor x y % 32) z) 0
+-- ---- the tables of carries and of borrows, by the high halves of two bytes and of their sum or difference
+abbrev entry : ℕ → ℕ → ℕ → ℕ → ℕ
+entry from x y z = get_or FLAGS (from + bit_xor (bit_xor x y % 32) z) 0
 
-by_halves : (a b whole : ℕ) → get_or CARRIES (bit_xor (bit_xor a b) whole / 16 % 32) 0 ≡ entry (a / 16) (b / 16) (whole / 16 % 32)
-by_halves a b whole =
+by_halves : (from a b whole : ℕ) → get_or FLAGS (from + bit_xor (bit_xor a b) whole / 16 % 32) 0 ≡ entry from (a / 16) (b / 16) (whole / 16 % 32)
+by_halves from a b whole =
     let e = xor_shr (bit_xor a b) whole 4 ∙ ap (λ x. bit_xor x (whole / 2 ^ 4)) (xor_shr a b 4) in
-    ap (λ i. get_or CARRIES i 0) (ap (λ i. i % 32) e ∙ xor_mod (bit_xor (a / 16) (b / 16)) (whole / 16) 5)
+    ap (λ i. get_or FLAGS (from + i) 0) (ap (λ i. i % 32) e ∙ xor_mod (bit_xor (a / 16) (b / 16)) (whole / 16) 5)
 
 abbrev halves : (ℕ → ℕ → Bool) → Bool
 halves p = all_from (λ x. all_from (p x) 0 16) 0 16
@@ -72,13 +77,13 @@ abbrev sum_entry : Bool → ℕ → ℕ → ℕ → ℕ
 sum_entry h x y z = carry_flags (nat_le 16 z) h (xor (high x) (high z) && xor (high y) (high z))
 
 abbrev difference_entry : Bool → ℕ → ℕ → ℕ → ℕ
-difference_entry h x y z = carry_flags (nat_le 16 z) h (xor (high x) (high y) && xor (high x) (high z))
+difference_entry h x y z = carry_flags (nat_lt z 16) h (xor (high x) (high y) && xor (high x) (high z))
 
 abbrev sum_fits : Bool → ℕ → ℕ → Bool
-sum_fits h x y = let z = x + y + one_if h in entry x y z == sum_entry h x y z
+sum_fits h x y = let z = x + y + one_if h in entry 256 x y z == sum_entry h x y z
 
 abbrev difference_fits : Bool → ℕ → ℕ → Bool
-difference_fits h x y = let z = (x + 32 - (y + one_if h)) % 32 in entry x y z == difference_entry h x y z
+difference_fits h x y = let z = x + 16 - (y + one_if h) in entry 288 x y z == difference_entry h x y z
 
 sum_fit : both (λ h. halves (sum_fits h)) ≡ true
 sum_fit = refl
@@ -86,10 +91,10 @@ sum_fit = refl
 difference_fit : both (λ h. halves (difference_fits h)) ≡ true
 difference_fit = refl
 
-sum_at : (h : Bool) (x y z : ℕ) → x < 16 → y < 16 → z ≡ x + y + one_if h → entry x y z ≡ sum_entry h x y z
+sum_at : (h : Bool) (x y z : ℕ) → x < 16 → y < 16 → z ≡ x + y + one_if h → entry 256 x y z ≡ sum_entry h x y z
 sum_at h x y z f g e = rw e (eqb-true _ _ (at_halves (sum_fits h) x y (at (λ h. halves (sum_fits h)) h sum_fit) f g))
 
-difference_at : (h : Bool) (x y z : ℕ) → x < 16 → y < 16 → z ≡ (x + 32 - (y + one_if h)) % 32 → entry x y z ≡ difference_entry h x y z
+difference_at : (h : Bool) (x y z : ℕ) → x < 16 → y < 16 → z ≡ x + 16 - (y + one_if h) → entry 288 x y z ≡ difference_entry h x y z
 difference_at h x y z f g e = rw e (eqb-true _ _ (at_halves (difference_fits h) x y (at (λ h. halves (difference_fits h)) h difference_fit) f g))
 
 -- the sign of a byte is that of its high half
@@ -111,18 +116,18 @@ sum_carries a b false f g = grind (arith, nat_tests)
 pub sum_entry_is : (a b : ℕ) (carry : Bool) → a < 256 → b < 256 →
     let sum = a + b + one_if carry in
     let v = overflows 128 (signed 128 a +ℤ signed 128 b +ℤ pos (one_if carry)) in
-    get_or CARRIES (bit_xor (bit_xor a b) sum / 16 % 32) 0 ≡ carry_flags (nat_le 256 sum) (nat_le 16 (a % 16 + b % 16 + one_if carry)) v
+    get_or FLAGS (256 + bit_xor (bit_xor a b) sum / 16 % 32) 0 ≡ carry_flags (nat_le 256 sum) (nat_le 16 (a % 16 + b % 16 + one_if carry)) v
 sum_entry_is a b carry f g =
     let sum = a + b + one_if carry in
     let h = nat_le 16 (a % 16 + b % 16 + one_if carry) in
     let v : (xor (high (a / 16)) (high (sum / 16 % 32)) && xor (high (b / 16)) (high (sum / 16 % 32))) ≡ overflows 128 (signed 128 a +ℤ signed 128 b +ℤ pos (one_if carry)) =
     rw (sign_high sum, sign_of a f, sign_of b g) (sum_by_signs a b carry f g) in
-    by_halves a b sum
+    by_halves 256 a b sum
     ∙ sum_at h (a / 16) (b / 16) (sum / 16 % 32) (omega arith) (omega arith) (sum_high a b carry f g)
     ∙ (λ i. carry_flags (sum_carries a b carry f g i) h (v i))
 
 pub sum_put : (a b : ℕ) (carry : Bool) (s : Sreg) (sum signs carries : ℕ) → a < 256 → b < 256 → s.bits < 256 → sum ≡ a + b + one_if carry
-    → signs ≡ signs_of (nat_le 128 (sum % 256)) (sum % 256 == 0) false → carries ≡ get_or CARRIES (bit_xor (bit_xor a b) sum / 16 % 32) 0
+    → signs ≡ signs_of (nat_le 128 (sum % 256)) (sum % 256 == 0) false → carries ≡ get_or FLAGS (256 + bit_xor (bit_xor a b) sum / 16 % 32) 0
     → (let t : Sreg = record { bits = bit_or (bit_and s.bits 192) (bit_xor signs carries) } in (sum % 256, t)) ≡ added a b carry s
 unfolding added
 sum_put a b carry s sum signs carries f g h e i j =
@@ -131,52 +136,52 @@ sum_put a b carry s sum signs carries f g h e i j =
     let v = overflows 128 (signed 128 a +ℤ signed 128 b +ℤ pos (one_if carry)) in
     let half = nat_le 16 (a % 16 + b % 16 + one_if carry) in
     let k : signs ≡ signs_of (nat_le 128 r) (r == 0) false = i ∙ ap (λ n. signs_of (nat_le 128 (n % 256)) (n % 256 == 0) false) e in
-    let l : carries ≡ carry_flags (nat_le 256 all) half v = j ∙ ap (λ n. get_or CARRIES (bit_xor (bit_xor a b) n / 16 % 32) 0) e ∙ sum_entry_is a b carry f g in
+    let l : carries ≡ carry_flags (nat_le 256 all) half v = j ∙ ap (λ n. get_or FLAGS (256 + bit_xor (bit_xor a b) n / 16 % 32) 0) e ∙ sum_entry_is a b carry f g in
     let bits : bit_or (bit_and s.bits 192) (bit_xor signs carries) ≡ with_result 128 r v (with_carries (nat_le 256 all) half s.bits) =
     (λ x. bit_or (bit_and s.bits 192) (bit_xor (k x) (l x))) ∙ byte_put (nat_le 128 r) (r == 0) v (nat_le 256 all) half s.bits h in
     (λ x. (let t : Sreg = record { bits = bits x } in (e x % 256, t)))
 
 -- ---- differences
-module _ (a b : ℕ) (borrow : Bool) (whole : ℕ) (f : a < 256) (g : b < 256) (is : whole % 512 ≡ (a + 512 - (b + one_if borrow)) % 512) where
+module _ (a b : ℕ) (borrow : Bool) (whole : ℕ) (f : a < 256) (g : b < 256) (is : whole ≡ a + 256 - (b + one_if borrow)) where
   abbrev less : ℕ
   less = b + one_if borrow
 
   less_by : one_if borrow ≤ 1
-  less_by = elim borrow as (λ x. one_if x ≤ 1) [ true ↦ omega arith | false ↦ omega arith ]
+  less_by = at_most_one borrow
 
   abbrev half : Bool
   half = nat_lt (a % 16) (b % 16 + one_if borrow)
 
   difference_low : whole % 256 ≡ (a + 256 - less) % 256
-  difference_low = omega (arith, less_by)
+  difference_low = ap (λ n. n % 256) is
 
-  difference_high : whole / 16 % 32 ≡ (a / 16 + 32 - (b / 16 + one_if half)) % 32
+  difference_high : whole / 16 % 32 ≡ a / 16 + 16 - (b / 16 + one_if half)
   difference_high = grind (arith, nat_tests, less_by)
 
-  difference_borrows : nat_le 16 (whole / 16 % 32) ≡ nat_lt a less
+  difference_borrows : nat_lt (whole / 16 % 32) 16 ≡ nat_lt a less
   difference_borrows = grind (arith, nat_tests, less_by)
 
-  difference_entry_is : get_or CARRIES (bit_xor (bit_xor a b) whole / 16 % 32) 0 ≡ carry_flags (nat_lt a less) half (overflows 128 (signed 128 a -ℤ signed 128 b -ℤ pos (one_if borrow)))
+  difference_entry_is : get_or FLAGS (288 + bit_xor (bit_xor a b) whole / 16 % 32) 0 ≡ carry_flags (nat_lt a less) half (overflows 128 (signed 128 a -ℤ signed 128 b -ℤ pos (one_if borrow)))
   difference_entry_is =
       let sign = sign_high whole ∙ ap (nat_le 128) difference_low in
       let v : (xor (high (a / 16)) (high (b / 16)) && xor (high (a / 16)) (high (whole / 16 % 32))) ≡ overflows 128 (signed 128 a -ℤ signed 128 b -ℤ pos (one_if borrow)) =
       rw (sign, sign_of a f, sign_of b g) (difference_by_signs a b borrow f g) in
-      by_halves a b whole
+      by_halves 288 a b whole
       ∙ difference_at half (a / 16) (b / 16) (whole / 16 % 32) (omega arith) (omega arith) difference_high
       ∙ (λ i. carry_flags (difference_borrows i) half (v i))
 
-  pub difference_put : (keep_z : Bool) (s : Sreg) (signs carries : ℕ) → s.bits < 256
+  pub difference_put : (keep_z : Bool) (s : Sreg) (signs borrows : ℕ) → s.bits < 256
       → signs ≡ signs_of (nat_le 128 (whole % 256)) (if keep_z then has_flag s.bits Z && whole % 256 == 0 else whole % 256 == 0) false
-      → carries ≡ get_or CARRIES (bit_xor (bit_xor a b) whole / 16 % 32) 0
-      → (let t : Sreg = record { bits = bit_or (bit_and s.bits 192) (bit_xor signs carries) } in (whole % 256, t)) ≡ subtracted a b borrow keep_z s
+      → borrows ≡ get_or FLAGS (288 + bit_xor (bit_xor a b) whole / 16 % 32) 0
+      → (let t : Sreg = record { bits = bit_or (bit_and s.bits 192) (bit_xor signs borrows) } in (whole % 256, t)) ≡ subtracted a b borrow keep_z s
   unfolding subtracted
-  difference_put keep_z s signs carries h i j =
+  difference_put keep_z s signs borrows h i j =
       let r = (a + 256 - less) % 256 in
       let v = overflows 128 (signed 128 a -ℤ signed 128 b -ℤ pos (one_if borrow)) in
       let z = (if keep_z then has_flag s.bits Z && r == 0 else r == 0) in
       let k : signs ≡ signs_of (nat_le 128 r) z false = i ∙ ap (λ n. signs_of (nat_le 128 n) (if keep_z then has_flag s.bits Z && n == 0 else n == 0) false) difference_low in
       let l = j ∙ difference_entry_is in
-      let bits : bit_or (bit_and s.bits 192) (bit_xor signs carries) ≡ with_sign (nat_le 128 r) z v (with_carries (nat_lt a less) half s.bits) =
+      let bits : bit_or (bit_and s.bits 192) (bit_xor signs borrows) ≡ with_sign (nat_le 128 r) z v (with_carries (nat_lt a less) half s.bits) =
       (λ x. bit_or (bit_and s.bits 192) (bit_xor (k x) (l x))) ∙ byte_put (nat_le 128 r) z v (nat_lt a less) half s.bits h in
       (λ x. (let t : Sreg = record { bits = bits x } in (difference_low x, t)))
 
@@ -191,42 +196,40 @@ kept_zero n z s f =
     let e = at (λ n. both (λ z. bytes (keeps_zero n z))) n keep_zero in
     eqb-true _ _ (at_byte (keeps_zero n z) s (at (λ z. bytes (keeps_zero n z)) z e) f)
 
--- ---- shifts to the right
+-- ---- shifts to the right, by the nine bits that are shifted
+abbrev shift_flags : Bool → Bool → Bool → ℕ
+shift_flags n z c = one_if c + signs_of n z (xor n c)
+
+abbrev right : ℕ → Bool
+right w = get_or RIGHT w 0 == shift_flags (nat_le 128 (w / 2)) (w / 2 == 0) (w % 2 == 1)
+
+all_right : all_from right 0 512 ≡ true
+all_right = refl
+
 abbrev shift_fits : Bool → Bool → Bool → ℕ → Bool
-shift_fits n z c s = bit_or (bit_and s 224) (bit_xor (bit_xor (signs_of n z false) (one_if c)) (bit_xor (one_if c) (one_if n) * 24)) == with_sign n z (xor n c) (with_flag s C c)
+shift_fits n z c s = bit_or (bit_and s 224) (shift_flags n z c) == with_sign n z (xor n c) (with_flag s C c)
 
 shift_fit : both (λ n. both (λ z. both (λ c. bytes (shift_fits n z c)))) ≡ true
 unfolding with_sign with_flag
 shift_fit = refl
 
-put_shift : (n z c : Bool) (s : ℕ) → s < 256 → bit_or (bit_and s 224) (bit_xor (bit_xor (signs_of n z false) (one_if c)) (bit_xor (one_if c) (one_if n) * 24)) ≡ with_sign n z (xor n c) (with_flag s C c)
+put_shift : (n z c : Bool) (s : ℕ) → s < 256 → bit_or (bit_and s 224) (shift_flags n z c) ≡ with_sign n z (xor n c) (with_flag s C c)
 put_shift n z c s f =
     let e = at (λ n. both (λ z. both (λ c. bytes (shift_fits n z c)))) n shift_fit in
     let e = at (λ z. both (λ c. bytes (shift_fits n z c))) z e in
     eqb-true _ _ (at_byte (shift_fits n z c) s (at (λ c. bytes (shift_fits n z c)) c e) f)
 
-top_is : (top : Bool) (a : ℕ) → a < 256 → nat_le 128 (a / 2 + 128 * one_if top) ≡ top
-top_is true a f = grind (arith, nat_tests)
-top_is false a f = grind (arith, nat_tests)
-
-bit_is : (a : ℕ) → a % 2 ≡ one_if (a % 2 == 1)
-bit_is a = grind (arith, nat_tests)
-
-pub shift_put : (top : Bool) (a : ℕ) (s : Sreg) (t signs : ℕ) → a < 256 → s.bits < 256 → t ≡ one_if top
-    → signs ≡ signs_of (nat_le 128 (a / 2 + 128 * t)) (a / 2 + 128 * t == 0) false
-    → (let u : Sreg = record { bits = bit_or (bit_and s.bits 224) (bit_xor (bit_xor signs (a % 2)) (bit_xor (a % 2) t * 24)) } in (a / 2 + 128 * t, u)) ≡ shifted top a s
+pub shift_put : (top : Bool) (a : ℕ) (s : Sreg) (w : ℕ) → a < 256 → s.bits < 256 → w ≡ a + 256 * one_if top
+    → (let t : Sreg = record { bits = bit_or (bit_and s.bits 224) (get_or RIGHT w 0) } in (w / 2, t)) ≡ shifted top a s
 unfolding shifted
-shift_put top a s t signs f h e i =
-    let r = a / 2 + 128 * one_if top in
-    let c = a % 2 == 1 in
-    let n = top_is top a f in
-    let k : signs ≡ signs_of top (r == 0) false = i ∙ (λ x. signs_of (nat_le 128 (a / 2 + 128 * e x)) (a / 2 + 128 * e x == 0) false) ∙ ap (λ n. signs_of n (r == 0) false) n in
-    let b = bit_is a in
-    let bits : bit_or (bit_and s.bits 224) (bit_xor (bit_xor signs (a % 2)) (bit_xor (a % 2) t * 24)) ≡ with_result 128 r (xor (nat_le 128 r) c) (with_flag s.bits C c) =
-    (λ x. bit_or (bit_and s.bits 224) (bit_xor (bit_xor (k x) (b x)) (bit_xor (b x) (e x) * 24)))
-    ∙ put_shift top (r == 0) c s.bits h
-    ∙ ap (λ n. with_sign n (r == 0) (xor n c) (with_flag s.bits C c)) (sym n) in
-    (λ x. (let u : Sreg = record { bits = bits x } in (a / 2 + 128 * e x, u)))
+shift_put top a s w f h e =
+    let below = at_most_one top in
+    let half : w / 2 ≡ a / 2 + 128 * one_if top = omega (arith, e) in
+    let low : w % 2 ≡ a % 2 = omega (arith, e) in
+    let bits = ap (bit_or (bit_and s.bits 224)) (eqb-true _ _ (all_from-at right 0 512 w all_right (omega arith) (omega (arith, e, below))))
+    ∙ put_shift (nat_le 128 (w / 2)) (w / 2 == 0) (w % 2 == 1) s.bits h
+    ∙ (λ i. with_result 128 (half i) (xor (nat_le 128 (half i)) (low i == 1)) (with_flag s.bits C (low i == 1))) in
+    (λ i. (let t : Sreg = record { bits = bits i } in (half i, t)))
 
 -- ---- words, by the signs of the word and of the result
 abbrev word_at : List ℕ → Bool → Bool → Bool → ℕ → ℕ

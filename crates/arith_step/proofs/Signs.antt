@@ -1,25 +1,22 @@
 -- The flags of a result from a table, and put into a flags byte at once: tests over all bytes and flags.
-use Rattle.std.proofs.Common.{◌≡◌, ℕ, ◌+◌, ◌%◌, ◌<◌, ◌==◌, nat_le, Bool, true, false, ◌&&◌, refl, ap, ◌∙◌, bit_and, bit_or, bit_xor, arith, get_or, zero-add, ◌-◌, pos, ◌+ℤ◌, ◌-ℤ◌}
+use Rattle.std.proofs.Common.{◌≡◌, ℕ, ◌+◌, ◌%◌, ◌<◌, ◌==◌, nat_le, Bool, true, false, ◌&&◌, refl, bit_and, bit_or, bit_xor, arith, get_or, ◌-◌, pos, ◌+ℤ◌, ◌-ℤ◌}
 use Rattle.std.proofs.lemmas.Bool.Decides.{nat_tests}
 use Rattle.std.proofs.lemmas.Int.{ints}
-use Rattle.std.specs.Prelude.{map}
-use Rattle.std.specs.List.{range_with_len}
 use Rattle.std.proofs.lemmas.Bool.{eqb-true}
-use Rattle.std.proofs.lemmas.List.FromFn.{get_or-map-range_with_len}
 use Rattle.avr_base.specs.Flags.{with_flag}
 use Rattle.avr_base.proofs.Computed.{all_from, all_from-at}
 use Rattle.arith_step.specs.Whole.{one_if, overflows, signed, signs_of, with_sign, xor}
-use Rattle.arith_step.specs.declared.flags.TheConstants.{SIGNS}
+use Rattle.arith_step.specs.declared.flags.TheConstants.{FLAGS}
 
 -- ---- the table
-abbrev plain : ℕ → ℕ
-plain r = signs_of (nat_le 128 r) (r == 0) false
+abbrev listed : ℕ → Bool
+listed r = get_or FLAGS r 0 == signs_of (nat_le 128 r) (r == 0) false
 
-signs_are : SIGNS ≡ map plain (range_with_len 0 256)
-signs_are = refl
+all_listed : all_from listed 0 256 ≡ true
+all_listed = refl
 
-pub sign_is : (r : ℕ) → r < 256 → get_or SIGNS r 0 ≡ signs_of (nat_le 128 r) (r == 0) false
-sign_is r h = ap (λ rs. get_or rs r 0) signs_are ∙ get_or-map-range_with_len plain 0 256 r r 0 h (zero-add r)
+pub sign_is : (r : ℕ) → r < 256 → get_or FLAGS r 0 ≡ signs_of (nat_le 128 r) (r == 0) false
+sign_is r h = eqb-true _ _ (all_from-at listed 0 256 r all_listed (omega arith) (omega arith))
 
 pub turned : (n z : Bool) → bit_xor (signs_of n z false) 24 ≡ signs_of n z true
 turned true true = refl

@@ -4,20 +4,18 @@ ghost use Rattle.avr_base.specs.Flags.{Z, has_flag};
 ghost use Rattle.arith_step.specs.Whole.{one_if, signs_of};
 ghost use Rattle.arith_step.specs.Bytes.{complemented, decremented, negated, subtracted};
 
-use crate::flags::{T_AND_I, carries_at, signs_without_overflow, with_result};
+use crate::flags::{T_AND_I, borrows_at, signs_without_overflow, with_result};
 use avr_base::Sreg;
 
 // The flag Z.
 const ZERO: u8 = 0x02;
 
-// `a - b - borrow` modulo 512, below further bits.
+// `a - b - borrow`, and 256 so that it is never below 0.
 #[inline]
 fn difference(a: u8, b: u8, borrow: bool) -> u32
-    ensures { result % 512 ≡ (a + 512 - (b + one_if borrow)) % 512 }
+    ensures { result ≡ a + 256 - (b + one_if borrow) }
 {
-    u32::from(a)
-        .wrapping_sub(u32::from(b))
-        .wrapping_sub(u32::from(borrow))
+    u32::from(a) + 256 - u32::from(b) - u32::from(borrow)
 }
 
 // N, Z and S of a difference that did not overflow; with Z kept, it stays set only where it was set.
@@ -42,7 +40,7 @@ pub fn sub(a: u8, b: u8, borrow: bool, keep_z: bool, s: Sreg) -> (u8, Sreg)
 {
     let difference = difference(a, b, borrow);
     let r = (difference % 256) as u8;
-    let flags = difference_signs(r, keep_z, s) ^ carries_at(a, b, difference);
+    let flags = difference_signs(r, keep_z, s) ^ borrows_at(a, b, difference);
     let bits = (s.bits & T_AND_I) | flags;
     (r, Sreg { bits })
 }

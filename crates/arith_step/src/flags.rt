@@ -1,12 +1,15 @@
 // Flags set together.
-ghost use Rattle.std.specs.Prelude.{◌≡◌, ◌/◌, ◌%◌, ◌==◌, bit_xor, false, nat_le, slice_index_or};
-ghost use Rattle.arith_step.specs.declared.flags.TheConstants.{CARRIES, SIGNS};
+ghost use Rattle.std.specs.Prelude.{◌≡◌, ◌+◌, ◌/◌, ◌%◌, ◌==◌, bit_xor, false, nat_le, slice_index_or};
+ghost use Rattle.arith_step.specs.declared.flags.TheConstants.{FLAGS};
 ghost use Rattle.arith_step.specs.Whole.{signs_of, with_result};
 
 use avr_base::Sreg;
 
-/// N, Z and S of each result of a byte that did not overflow.
-pub static SIGNS: [u8; 256] = [
+/// Flags of a byte, in one table so that the host takes one address for both parts that a sum or a difference wants.
+/// First N, Z and S of each result that did not overflow. Behind these 256 C, H, V and what V does to S: of a sum by
+/// its carries into bits 4 to 8, that into bit 4 lowest, then of a difference by its borrows, where that of bit 8 says
+/// that none went out of it.
+pub static FLAGS: [u8; 320] = [
     0x02, 0x00, 0x00, 0x00, 0x00, 0x00, 0x00, 0x00, 0x00, 0x00, 0x00, 0x00, 0x00, 0x00, 0x00, 0x00,
     0x00, 0x00, 0x00, 0x00, 0x00, 0x00, 0x00, 0x00, 0x00, 0x00, 0x00, 0x00, 0x00, 0x00, 0x00, 0x00,
     0x00, 0x00, 0x00, 0x00, 0x00, 0x00, 0x00, 0x00, 0x00, 0x00, 0x00, 0x00, 0x00, 0x00, 0x00, 0x00,
@@ -23,14 +26,16 @@ pub static SIGNS: [u8; 256] = [
     0x14, 0x14, 0x14, 0x14, 0x14, 0x14, 0x14, 0x14, 0x14, 0x14, 0x14, 0x14, 0x14, 0x14, 0x14, 0x14,
     0x14, 0x14, 0x14, 0x14, 0x14, 0x14, 0x14, 0x14, 0x14, 0x14, 0x14, 0x14, 0x14, 0x14, 0x14, 0x14,
     0x14, 0x14, 0x14, 0x14, 0x14, 0x14, 0x14, 0x14, 0x14, 0x14, 0x14, 0x14, 0x14, 0x14, 0x14, 0x14,
-];
-
-/// C, H, V, and what V does to S, of a sum or a difference of bytes, by its carries into bits 4 to 8, that into bit 4
-/// lowest.
-pub static CARRIES: [u8; 32] = [
     0x00, 0x20, 0x00, 0x20, 0x00, 0x20, 0x00, 0x20, 0x18, 0x38, 0x18, 0x38, 0x18, 0x38, 0x18, 0x38,
     0x19, 0x39, 0x19, 0x39, 0x19, 0x39, 0x19, 0x39, 0x01, 0x21, 0x01, 0x21, 0x01, 0x21, 0x01, 0x21,
+    0x19, 0x39, 0x19, 0x39, 0x19, 0x39, 0x19, 0x39, 0x01, 0x21, 0x01, 0x21, 0x01, 0x21, 0x01, 0x21,
+    0x00, 0x20, 0x00, 0x20, 0x00, 0x20, 0x00, 0x20, 0x18, 0x38, 0x18, 0x38, 0x18, 0x38, 0x18, 0x38,
 ];
+
+// Where the flags by carries begin, and those by borrows.
+const BY_CARRIES: usize = 256;
+
+const BY_BORROWS: usize = 288;
 
 // The flags V and S, of which an overflow sets the one and turns the other round.
 const OVERFLOW: u8 = 0x18;
@@ -47,20 +52,29 @@ pub const H_T_AND_I: u8 = 0xE0;
 /// N, Z and S of a result that is a byte, at their bits of SREG, where V is 0.
 #[inline]
 pub fn signs_without_overflow(r: u8) -> u8
-    ensures listed { result ≡ slice_index_or SIGNS r 0 }
-    ensures value { result ≡ signs_of (nat_le 128 r) (r == 0) false }
+    ensures { result ≡ signs_of (nat_le 128 r) (r == 0) false }
 {
-    SIGNS[usize::from(r)]
+    FLAGS[usize::from(r)]
 }
 
-/// C, H, V and what V does to S, at their bits of SREG, where `whole` is the sum or the difference of the bytes `a` and
-/// `b`: a carry went into each bit in which `whole` is not their exclusive or.
+/// C, H, V and what V does to S, at their bits of SREG, where `whole` is the sum of the bytes `a` and `b`: a carry went
+/// into each bit in which `whole` is not their exclusive or.
 #[inline]
 pub fn carries_at(a: u8, b: u8, whole: u32) -> u8
-    ensures { result ≡ slice_index_or CARRIES (bit_xor (bit_xor a b) whole / 16 % 32) 0 }
+    ensures { result ≡ slice_index_or FLAGS (256 + bit_xor (bit_xor a b) whole / 16 % 32) 0 }
 {
     let into = (u32::from(a ^ b) ^ whole) / 16 % 32;
-    CARRIES[into as usize]
+    FLAGS[BY_CARRIES + into as usize]
+}
+
+/// The flags of [`carries_at`], where `whole` is 256 more than the difference of the bytes `a` and `b`: a borrow went
+/// into each of bits 0 to 7 in which `whole` is not their exclusive or, and none out of them where bit 8 of it is set.
+#[inline]
+pub fn borrows_at(a: u8, b: u8, whole: u32) -> u8
+    ensures { result ≡ slice_index_or FLAGS (288 + bit_xor (bit_xor a b) whole / 16 % 32) 0 }
+{
+    let into = (u32::from(a ^ b) ^ whole) / 16 % 32;
+    FLAGS[BY_BORROWS + into as usize]
 }
 
 // So few results overflow that the test before this call stays a jump.

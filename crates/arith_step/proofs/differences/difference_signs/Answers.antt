@@ -9,6 +9,6 @@ returns-then-keep_z c =
     let bits = c.args.s.bits in
     let n = nat_le 128 c.args.r in
     let z = c.args.r == 0 in
-    ap (λ x. bit_and x (bit_or bits 253)) c.signs_without_overflow-signs.ensures.value
+    ap (λ x. bit_and x (bit_or bits 253)) c.signs_without_overflow-signs.ensures
     ∙ kept_zero n z bits (omega arith)
     ∙ ap (λ (k : Bool). signs_of n (if k then has_flag bits Z && z else z) false) (sym c.if-keep_z.true)

@@ -7,10 +7,10 @@ pub returns-then-v : goal.returns-then-v
 returns-then-v c =
     let n = nat_le 128 c.args.r in
     let z = c.args.r == 0 in
-    c.turned.ensures ∙ ap (λ x. bit_xor x 24) c.signs_without_overflow-signs.ensures.value ∙ (turned n z ∙ ap (λ (v : Bool). signs_of n z v) (sym c.if-v.true))
+    c.turned.ensures ∙ ap (λ x. bit_xor x 24) c.signs_without_overflow-signs.ensures ∙ (turned n z ∙ ap (λ (v : Bool). signs_of n z v) (sym c.if-v.true))
 
 pub returns-else-v : goal.returns-else-v
 returns-else-v c =
     let n = nat_le 128 c.args.r in
     let z = c.args.r == 0 in
-    c.signs_without_overflow-signs.ensures.value ∙ ap (λ (v : Bool). signs_of n z v) (sym c.if-v.false)
+    c.signs_without_overflow-signs.ensures ∙ ap (λ (v : Bool). signs_of n z v) (sym c.if-v.false)
