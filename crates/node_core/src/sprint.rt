@@ -218,7 +218,8 @@ impl Machine {
                         unseen -= 1;
                     }
                     Step::Loaded { taken } => {
-                        bound = clear_to(&self.bus, end);
+                        // no later than it was: where a read moves an event away, the sprint ends early
+                        bound = clear_to(&self.bus, bound);
                         if !self.bus.board.leap_within(bound, taken) {
                             return self.end_sprint(&regs, core, end, taken, false);
                         }
