@@ -14,7 +14,7 @@ ghost use Rattle.checkpoint_text.specs.Paused.{IsPaused, IsGathered, ends_of};
 use crate::block::run_to;
 use avr_base::NoMemory;
 use node_core::{Node, Row};
-use node_runner::{Scenario, sort};
+use node_runner::{Scenario, put_behind, sort};
 use state_text::StateParts;
 use std::alloc::{AllocError, Global};
 use std::snapshot::Snapshot;
@@ -27,7 +27,7 @@ fn gather(alloc: Global, nodes: &mut Vec<Node>) -> Result<Vec<Row>, AllocError>
 {
     let mut rows = Vec::new(alloc);
     for k in 0..nodes.len() {
-        rows.append(&mut nodes[k].take_rows())?;
+        put_behind(&mut rows, nodes[k].take_rows())?;
     }
     Ok(rows)
 }

@@ -7,7 +7,7 @@ ghost use Rattle.fleet_plain.specs.Gather.{AllStart};
 
 use avr_base::NoMemory;
 use node_core::Row;
-use node_runner::{Runner, Scenario};
+use node_runner::{Runner, Scenario, put_behind};
 use std::alloc::{AllocError, Global};
 
 /// A runner of each node, in order of number.
@@ -56,7 +56,7 @@ pub fn gather(alloc: Global, runners: &mut Vec<Runner>) -> Result<Vec<Row>, Allo
 {
     let mut rows = Vec::new(alloc);
     for runner in runners.iter_mut() {
-        rows.append(&mut runner.take_rows())?;
+        put_behind(&mut rows, runner.take_rows())?;
     }
     Ok(rows)
 }

@@ -9,7 +9,7 @@ ghost use Rattle.fleet_threads.specs.Ending.{rows_at, taken_at, end_row_at, HasE
 use crate::member::Member;
 use avr_base::NoMemory;
 use node_core::Row;
-use node_runner::{Scenario, sort};
+use node_runner::{Scenario, put_behind, sort};
 use std::alloc::{AllocError, Global};
 
 /// Whether a node has halted.
@@ -43,7 +43,7 @@ fn gather(alloc: Global, members: &mut Vec<Member>) -> Result<Vec<Row>, AllocErr
 {
     let mut rows = Vec::new(alloc);
     for member in members.iter_mut() {
-        rows.append(&mut member.runner.take_rows())?;
+        put_behind(&mut rows, member.runner.take_rows())?;
     }
     Ok(rows)
 }

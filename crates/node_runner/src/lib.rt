@@ -16,6 +16,6 @@ mod scenario;
 
 pub use latency::lookahead;
 pub use law::order_law;
-pub use order::sort;
+pub use order::{put_behind, sort};
 pub use runner::{Event, Runner};
 pub use scenario::Scenario;

@@ -25,7 +25,7 @@ loop-runner-preserved c =
     let h : i < length old = omega (arith, c.loop-runner-test.true, c.loop-runner.auto.runner-items, c.deref_mut-runner-items.ensures.len, c.deref_mut-runner-items.ensures.value) in
     let g = gathers_on old c.loop-runner.runner-items i c.runner-item.result c.take_rows.new.self h c.loop-runner.invariant.left c.runner-item.is (c.take_rows.ensures.left ∙ ap taken (sym c.runner-item.is)) in
     record {
-      rows = c.in_ok-append.ensures.items ∙ (λ j. c.loop-runner.invariant.rows j ++ (c.take_rows.ensures.rows ∙ ap rows_of (sym c.runner-item.is)) j) ∙ sym g.rows;
+      rows = c.in_ok-put_behind.ensures ∙ (λ j. c.loop-runner.invariant.rows j ++ (c.take_rows.ensures.rows ∙ ap rows_of (sym c.runner-item.is)) j) ∙ sym g.rows;
       left = g.left;
     }
 

@@ -24,7 +24,7 @@ loop-member-preserved c =
     let took : new ≡ taken_at c.member-item.result = ap (with_runner here) c.take_rows.ensures.left ∙ ap taken_at (sym c.member-item.is) in
     let on = gathers_on old c.loop-member.member-items i c.member-item.result new h c.loop-member.invariant.left c.member-item.is took in
     record {
-      rows = c.in_ok-append.ensures.items ∙ (λ j. c.loop-member.invariant.rows j ++ (c.take_rows.ensures.rows ∙ ap rows_at (sym c.member-item.is)) j) ∙ sym on.rows;
+      rows = c.in_ok-put_behind.ensures ∙ (λ j. c.loop-member.invariant.rows j ++ (c.take_rows.ensures.rows ∙ ap rows_at (sym c.member-item.is)) j) ∙ sym on.rows;
       left = on.left;
     }
 
