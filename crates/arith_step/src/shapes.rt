@@ -10,7 +10,7 @@ use avr_base::{ByteBits, Reg, Sreg};
 use data_space::{Core, Registers, pair, reg, set_pair, set_reg};
 
 // The register r0, the lower one of the pair that products go to.
-#[inline(always)]
+#[inline]
 fn r0() -> Reg
     ensures { result ≡ 0 }
 {
@@ -18,13 +18,13 @@ fn r0() -> Reg
 }
 
 /// Puts a byte into rD and the flags that it was computed with into SREG. One cycle.
-#[inline(always)]
-pub fn put_byte(d: Reg, computed: (u8, Sreg), regs: &mut Registers, core: &mut Core) -> u8
-    ensures core { whole regs.new core.new ≡ to_reg d computed (whole regs.old core.old) }
+#[inline]
+pub fn put_byte(d: Reg, value: u8, s: Sreg, regs: &mut Registers, core: &mut Core) -> u8
+    ensures core { whole regs.new core.new ≡ to_reg d (value, s) (whole regs.old core.old) }
     ensures cycles { result ≡ 1 }
 {
-    set_reg(regs, d, computed.0);
-    core.sreg = computed.1;
+    set_reg(regs, d, value);
+    core.sreg = s;
     1
 }
 
@@ -47,7 +47,7 @@ pub fn add(d: Reg, b: u8, carry: bool, regs: &mut Registers, core: &mut Core) ->
     ensures cycles { result ≡ 1 }
 {
     let computed = crate::add(reg(regs, d), b, carry, core.sreg);
-    put_byte(d, computed, regs, core)
+    put_byte(d, computed.0, computed.1, regs, core)
 }
 
 /// SUB and SUBI: rD becomes rD - `b` modulo 256. One cycle.
@@ -58,7 +58,7 @@ pub fn subtract(d: Reg, b: u8, regs: &mut Registers, core: &mut Core) -> u8
     ensures cycles { result ≡ 1 }
 {
     let computed = crate::sub(reg(regs, d), b, false, false, core.sreg);
-    put_byte(d, computed, regs, core)
+    put_byte(d, computed.0, computed.1, regs, core)
 }
 
 /// SBC and SBCI: rD becomes rD - `b` - C modulo 256; Z stays set only where it was and the result is 0. One cycle.
@@ -69,7 +69,7 @@ pub fn subtract_with_carry(d: Reg, b: u8, regs: &mut Registers, core: &mut Core)
     ensures cycles { result ≡ 1 }
 {
     let computed = crate::sub(reg(regs, d), b, core.sreg.has(Sreg::C), true, core.sreg);
-    put_byte(d, computed, regs, core)
+    put_byte(d, computed.0, computed.1, regs, core)
 }
 
 /// CP and CPI: the flags of rD - `b`; no register changes. One cycle.
@@ -102,7 +102,7 @@ pub fn put_bits(d: Reg, bits: u8, regs: &mut Registers, core: &mut Core) -> u8
     ensures core { whole regs.new core.new ≡ becomes_bits d bits (whole regs.old core.old) }
     ensures cycles { result ≡ 1 }
 {
-    put_byte(d, (bits, crate::logic(bits, core.sreg)), regs, core)
+    put_byte(d, bits, crate::logic(bits, core.sreg), regs, core)
 }
 
 /// MUL, MULS, MULSU and their fractional forms: r1:r0 becomes the product of rD and rR, with C and Z. Two cycles.
@@ -154,7 +154,7 @@ pub fn store_bit(d: Reg, b: u8, regs: &Registers, core: &mut Core) -> u8
 }
 
 /// SWAP: the high and the low four bits of rD change places; no flag changes. One cycle.
-#[inline(always)]
+#[inline]
 #[tactic(auto, unfolding(crate::specs::Shapes::swaps))]
 pub fn swap(d: Reg, regs: &mut Registers) -> u8
     ensures core { regs.new ≡ registers_of (swaps d (general regs.old)) }
@@ -166,7 +166,7 @@ pub fn swap(d: Reg, regs: &mut Registers) -> u8
 }
 
 /// MOV and LDI: rD becomes `value`; no flag changes. One cycle.
-#[inline(always)]
+#[inline]
 pub fn copy(d: Reg, value: u8, regs: &mut Registers) -> u8
     ensures core { regs.new ≡ registers_of (with_reg d value (general regs.old)) }
     ensures cycles { result ≡ 1 }
@@ -176,7 +176,7 @@ pub fn copy(d: Reg, value: u8, regs: &mut Registers) -> u8
 }
 
 /// MOVW: the pair whose lower register is rD becomes that of rR; no flag changes. One cycle.
-#[inline(always)]
+#[inline]
 pub fn copy_pair(d: Reg, r: Reg, regs: &mut Registers) -> u8
     ensures core { regs.new ≡ registers_of (with_pair d (pair_at r (general regs.old)) (general regs.old)) }
     ensures cycles { result ≡ 1 }

@@ -141,8 +141,43 @@ pub fn pop<B: Bus>(regs: &mut Registers, core: &Core, bus: &mut B) -> Result<u8,
 /// Pushes a word, its low byte first, as calls and interrupts push the address to return to. An `Err` is the stop of a
 /// push: what the push before it did stays.
 #[inline(always)]
-#[tactic(auto, unfolding(crate::specs::Sequence::pushed_word))]
 pub fn push_word<B: Bus>(
+    regs: &mut Registers,
+    core: &mut Core,
+    bus: &mut B,
+    word: u16,
+) -> Result<(), StopCause>
+    ensures result { result ≡ (pushed_word B.put_gives word (whole regs.old core.old) bus.old).result }
+    ensures core { whole regs.new core.new ≡ (pushed_word B.put_gives word (whole regs.old core.old) bus.old).cpu }
+    ensures bus { bus.new ≡ (pushed_word B.put_gives word (whole regs.old core.old) bus.old).bus }
+{
+    let (sreg, result) = push_word_apart(regs, *core, bus, word);
+    core.sreg = sreg;
+    result
+}
+
+// The same in a call of its own, since two stores are much code. The core comes by value, and SREG, the only part of it
+// that a store may change, is in the answer: so a loop over instructions keeps both in registers of the host.
+#[inline(never)]
+fn push_word_apart<B: Bus>(
+    regs: &mut Registers,
+    core: Core,
+    bus: &mut B,
+    word: u16,
+) -> (Sreg, Result<(), StopCause>)
+    ensures result { result.1 ≡ (pushed_word B.put_gives word (whole regs.old core) bus.old).result }
+    ensures core { whole regs.new (record core { sreg = result.0 }) ≡ (pushed_word B.put_gives word (whole regs.old core) bus.old).cpu }
+    ensures bus { bus.new ≡ (pushed_word B.put_gives word (whole regs.old core) bus.old).bus }
+{
+    let mut there = core;
+    let result = push_both(regs, &mut there, bus, word);
+    (there.sreg, result)
+}
+
+// Its two pushes.
+#[inline]
+#[tactic(auto, unfolding(crate::specs::Sequence::pushed_word))]
+fn push_both<B: Bus>(
     regs: &mut Registers,
     core: &mut Core,
     bus: &mut B,

@@ -1,4 +1,6 @@
 // The lines of a file.
+ghost use Rattle.std.specs.Prelude.{◌≤◌, length};
+
 use crate::effects::{
     Report, advance, execute, keep, keep_in_pair, keep_in_register, keep_in_sram, pop_byte,
     push_byte,
@@ -12,7 +14,8 @@ use crate::texts::{
     has_cause, has_digits, has_line, has_text, length_of_texts, words_at, words_of, words_of_width,
 };
 use avr_base::Sreg;
-use ihex_loader::{Flash, flash_of};
+use avr_program::Program;
+use ihex_loader::flash_of;
 use std::alloc::{AllocError, Global};
 use stored_cases::{Failed, Judge, Verdict, is_told};
 
@@ -20,19 +23,30 @@ use stored_cases::{Failed, Judge, Verdict, is_told};
 #[derive(Drop)]
 pub struct Bench {
     start: Machine,
-    flash: Flash,
+    program: Program,
     image: Vec<u8>,
+}
+
+// The program of a flash that begins with these words, at most 65,536.
+fn program_of(alloc: Global, words: &[u16]) -> Result<Program, AllocError>
+    requires { length words.now ≤ 65536 }
+{
+    let Ok(flash) = flash_of(alloc, words) else {
+        return Err(AllocError);
+    };
+    match Program::new(alloc, flash) {
+        Ok(program) => Ok(program),
+        Err(_) => Err(AllocError),
+    }
 }
 
 impl Bench {
     /// A core after reset over no memory but address 0x0100, and an erased flash.
     pub fn new(alloc: Global) -> Result<Self, AllocError> {
-        let Ok(flash) = flash_of(alloc, &[]) else {
-            return Err(AllocError);
-        };
+        let program = program_of(alloc, &[])?;
         Ok(Bench {
             start: Machine::new(0x0100, 0x0100),
-            flash,
+            program,
             image: Vec::new(alloc),
         })
     }
@@ -69,10 +83,7 @@ impl Bench {
         if words.len() > 65_536 {
             return Ok(None);
         }
-        let Ok(flash) = flash_of(alloc, words.as_slice()) else {
-            return Err(AllocError);
-        };
-        self.flash = flash;
+        self.program = program_of(alloc, words.as_slice())?;
         Ok(Some(()))
     }
 }
@@ -90,7 +101,7 @@ fn byte(n: u16) -> Option<u8> {
 }
 
 // Does what a case says; `None` where it is no case, or reports what none can.
-fn act(what: &str, numbers: &[u16], flash: &Flash, m: &mut Machine) -> Option<Report> {
+fn act(what: &str, numbers: &[u16], program: &Program, m: &mut Machine) -> Option<Report> {
     match numbers {
         [] if what == "pop" => pop_byte(m),
         [b] if what == "push" => push_byte(byte(*b)?, m),
@@ -98,7 +109,7 @@ fn act(what: &str, numbers: &[u16], flash: &Flash, m: &mut Machine) -> Option<Re
         [at, b] if what == "keep" => keep(*at, byte(*b)?, m),
         [d, b] if what == "reg" => keep_in_register(byte(*d)?, byte(*b)?, m),
         [d, word] if what == "pair" => keep_in_pair(byte(*d)?, *word, m),
-        [word, next] => execute(what, *word, *next, flash, m),
+        [word, next] => execute(what, *word, *next, program, m),
         _ => None,
     }
 }
@@ -139,7 +150,7 @@ fn judge_effect(
     let mut machine = bench.start.with(settings)?;
     let (report, changes) = front(gives);
     let wanted = machine.with(changes)?;
-    let reported = act(what, numbers, &bench.flash, &mut machine)?;
+    let reported = act(what, numbers, &bench.program, &mut machine)?;
     Some(Verdict::of(reported == Report::read(report)? && machine == wanted))
 }
 

@@ -3,8 +3,8 @@ use crate::machine::Machine;
 use crate::numbers::hex;
 use avr_base::{Reg, StopCause};
 use avr_decoder::{Class, decode};
+use avr_program::Program;
 use data_space::{Cpu, Sram, pair, reg, set_pair, set_reg};
-use ihex_loader::Flash;
 use std::alloc::{AllocError, Global};
 
 /// What an instruction or an access reports: its cycles, or the byte or word that it read, and whether it was SLEEP;
@@ -57,7 +57,7 @@ pub fn execute(
     class: &str,
     word: u16,
     next: u16,
-    flash: &Flash,
+    program: &Program,
     m: &mut Machine,
 ) -> Option<Report> {
     let op = decode(word, next);
@@ -70,7 +70,7 @@ pub fn execute(
     if class != named {
         return None;
     }
-    match node_core::execute(&op, flash, &mut m.cpu, &mut m.memory) {
+    match node_core::execute(&op, program, &mut m.cpu, &mut m.memory) {
         Ok(done) => Some(Report {
             value: Some(u16::from(done.cycles)),
             sleep: done.sleep,

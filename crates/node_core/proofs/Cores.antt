@@ -7,7 +7,7 @@ use Rattle.avr_base.specs.declared.sreg.Sreg.{Sreg}
 use Rattle.data_space.specs.declared.cpu.Cpu.{Cpu}
 use Rattle.std.specs.Bool.{beq}
 
-same_bits : (a b : Bool) → beq a b ≡ true → a ≡ b
+pub same_bits : (a b : Bool) → beq a b ≡ true → a ≡ b
 same_bits true true e = refl
 same_bits false false e = refl
 same_bits true false e = absurd (false≢true e)

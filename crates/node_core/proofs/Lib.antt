@@ -14,6 +14,7 @@ pub mod Sei
 pub mod Acts
 pub mod Ran
 pub mod Executes
+pub mod Sram
 pub mod Steps
 pub mod Sprints
 pub mod Cores

@@ -117,12 +117,11 @@ not_turned a b same false q e f = refl
 not_turned a b same true false e f = refl
 not_turned a b same true true e f = let low = same ∙ e in absurd (grind (arith, nat_tests))
 
-pub quiet : (flash : List ℕ) (o : Op) (cpu : Cpu) (bus : NodeBus) → may_change (after_of o) ≡ false → turned_on cpu.sreg.bits (executed flash o cpu bus).cpu.sreg.bits ≡ false
-quiet flash o cpu bus apart =
-    not_turned cpu.sreg.bits (executed flash o cpu bus).cpu.sreg.bits (keeps_i flash o cpu bus apart) _ _ refl refl
+pub quiet : (a b : ℕ) → nat_lt b 128 ≡ nat_lt a 128 → turned_on a b ≡ false
+quiet a b same = not_turned a b same _ _ refl refl
 
 -- ---- a single cycle
-abbrev is_single : After → Bool
+abbrev pub is_single : After → Bool
 is_single after.Single = true
 is_single _ = false
 

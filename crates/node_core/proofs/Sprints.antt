@@ -1,7 +1,8 @@
 -- A sprint: what holds of it at the beginning of a cycle, and how a step takes it on or ends it.
-use Rattle.std.proofs.Common.{◌≡◌, ℕ, ◌+◌, ◌-◌, ◌≤◌, ◌<◌, ◌^◌, ◌++◌, ◌&&◌, nat_le, nat_lt, Bool, cond, true, false, Option, Some, None, List, is_some, refl, sym, subst, ap, ◌∙◌, arith}
+use Rattle.std.proofs.Common.{◌≡◌, ℕ, ◌+◌, ◌-◌, ◌≤◌, ◌<◌, ◌^◌, ◌++◌, ◌&&◌, nat_le, nat_lt, Bool, cond, not, true, false, Option, Some, None, List, is_some, refl, sym, subst, ap, ◌∙◌, arith}
 use Rattle.std.proofs.lemmas.Bool.{false≢true}
 use Rattle.std.proofs.lemmas.Bool.Decides.{nat_tests}
+use Rattle.std.specs.Bool.{beq}
 use Rattle.std.specs.Prelude.{vec_len, vec_capacity}
 use Rattle.avr_base.specs.Flags.{I, has_flag}
 use Rattle.avr_base.specs.Lines.{due_of, lowest_line, pending_of, vector_of}
@@ -29,6 +30,7 @@ use Rattle.node_core.specs.Midway.{IsActed, IsMidway, IsSprinted, IsSprinting, I
 use Rattle.node_core.specs.Shown.{shown}
 use Rattle.node_core.specs.State.{NodeState}
 use Rattle.node_core.proofs.Acts.{one_more, one_row}
+use Rattle.node_core.proofs.Cores.{same_bits}
 use Rattle.node_core.proofs.Ran.{goes_on}
 use Rattle.node_core.proofs.Steps.{began, comes_on, ended, went}
 
@@ -318,10 +320,34 @@ module _ (t end : ℕ) (first self : Machine) (regs : Registers) (core : Core) (
         subst (λ (c : ℕ). IsStepped c n m (owing b (beside to on (on_board board)))) (sym stays_at)
         (subst (λ (x : Board). IsStepped self.bus.board.clock n m (owing b (beside to on (on_board x)))) (sym same) p)
 
--- whether the flag I was turned on may be asked of any byte in which I is as it was
-pub stepped_on : (t n : ℕ) (m x : Machine) (flags before after : ℕ) (on : Bool) → nat_lt flags 128 ≡ nat_lt before 128 → on ≡ turned_on flags after
-    → IsStepped t n m (owing (turned_on before after) x) → IsStepped t n m (owing on x)
-stepped_on t n m x flags before after on same is = subst (λ (b : Bool). IsStepped t n m (owing b x)) (sym (is ∙ ap (λ (b : Bool). b && nat_le 128 after) same))
+-- ---- whether the flag I was turned on, by a byte in which it is as it was before, and by that behind
+module _ (flags before after : ℕ) (a b : Bool) (same : nat_lt flags 128 ≡ nat_lt before 128) (was : a ≡ nat_le 128 flags) (is : b ≡ nat_le 128 after) where
+  off_is : (n : ℕ) → nat_lt n 128 ≡ not (nat_le 128 n)
+  off_is n = grind (arith, nat_tests)
+
+  turned_by : turned_on before after ≡ (not a && b)
+  turned_by = (λ i. (sym same ∙ off_is flags ∙ ap not (sym was)) i && (sym is) i)
+
+  pub same_side : beq a b ≡ true → nat_lt flags 128 ≡ nat_lt after 128
+  same_side h = off_is flags ∙ ap not (sym was ∙ same_bits a b h ∙ is) ∙ sym (off_is after)
+
+  -- it is as it was: it was not
+  pub stepped_same : (t n : ℕ) (m x : Machine) → beq a b ≡ true → IsStepped t n m (owing (turned_on before after) x) → IsStepped t n m (owing false x)
+  stepped_same t n m x h = subst (λ (o : Bool). IsStepped t n m (owing o x)) (turned_by ∙ none a b h)
+    where
+      none : (a b : Bool) → beq a b ≡ true → (not a && b) ≡ false
+      none true b h = refl
+      none false true h = absurd (false≢true h)
+      none false false h = refl
+
+  -- it is another: it was where it was off
+  pub stepped_turned : (t n : ℕ) (m x : Machine) (r : Bool) → r ≡ nat_le 128 flags → beq a b ≡ false → IsStepped t n m (owing (turned_on before after) x) → IsStepped t n m (owing (not r) x)
+  stepped_turned t n m x r e h = subst (λ (o : Bool). IsStepped t n m (owing o x)) (turned_by ∙ where_off a b h ∙ ap not (was ∙ sym e))
+    where
+      where_off : (a b : Bool) → beq a b ≡ false → (not a && b) ≡ not a
+      where_off true b h = refl
+      where_off false true h = refl
+      where_off false false h = absurd (false≢true (sym h))
 
 -- behind an instruction none is owed that was owed up to it
 pub not_owed : (n k : ℕ) → k ≤ n + 1 → nat_lt (n + 1) k ≡ false

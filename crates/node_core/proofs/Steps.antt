@@ -23,19 +23,20 @@ use Rattle.node_core.specs.declared.row.Row.{Row}
 use Rattle.node_core.specs.declared.row.Kind.TheVariants as kind
 use Rattle.node_core.specs.Bus.{bus_at, bus_get, bus_put, with_board}
 use Rattle.node_core.specs.Cycle.{first_word, instructed, instructed_rows, is_idle, is_other, is_refused, is_sleep, node_kind, op_now, owes, row, second_word}
-use Rattle.node_core.specs.Execute.{after_of, executed, is_plain}
+use Rattle.node_core.specs.Execute.{after_at, executed, is_plain}
 use Rattle.node_core.specs.Inside.{IsCalm, MayAct}
 use Rattle.node_core.specs.Interrupts.{due}
-use Rattle.node_core.specs.Midway.{IsActed, IsMidway, IsStep, IsStepped, IsStopping, counted, leaves_bus, leaves_i, owing, step_of, turned_on}
+use Rattle.node_core.specs.Midway.{IsActed, IsMidway, IsStep, IsStepped, IsStopping, counted, leaves_board, leaves_i, owing, step_of, turned_on}
 use Rattle.node_core.specs.declared.sprint.Step.{Step}
 use Rattle.node_core.specs.Shown.{shown}
 use Rattle.node_core.specs.State.{NodeState}
 use Rattle.node_core.proofs.Clocks.{executed_clock}
-use Rattle.node_core.proofs.Quiet.{enables, is_enabled, keeps_bus, keeps_i, may_access, may_change, quiet, single_cycle}
+use Rattle.node_core.proofs.Quiet.{is_enabled, may_access, may_change, quiet}
 use Rattle.node_core.proofs.Executes.{plain_awake, takes}
 use Rattle.node_core.proofs.Stops.{stops_there}
 use Rattle.node_core.proofs.Wakes.{wakes}
 use Rattle.node_core.proofs.Ran.{goes_on, ran, ran_rows}
+use Rattle.node_core.proofs.Sram.{enables_at, keeps_board, keeps_i_at, single_cycle_at}
 use Rattle.node_core.proofs.Strides.{passed_there}
 
 pub runs_on : (s : NodeState) (o : Op) → is_sleep o ≡ false → is_refused s o ≡ false
@@ -101,15 +102,15 @@ module _ (t : ℕ) (m : Machine) (o : Op) (fetched : o ≡ op_now (shown m)) (pl
       (wakes a flash o m.cpu m.bus d done ok (plain_awake o plain)) some may.awake may.going may.free
 
   -- by what it leaves
-  pub enabled_owes : is_enabled (after_of o) ≡ true → true ≡ owes o m.cpu.sreg.bits a.cpu.sreg.bits
-  enabled_owes on = sym (ap (λ (s : Bool). s || turned_on m.cpu.sreg.bits a.cpu.sreg.bits) (enables o ∙ on))
+  pub enabled_owes : is_enabled (after_at o m.cpu) ≡ true → true ≡ owes o m.cpu.sreg.bits a.cpu.sreg.bits
+  enabled_owes on = sym (ap (λ (s : Bool). s || turned_on m.cpu.sreg.bits a.cpu.sreg.bits) (enables_at o m.cpu ∙ on))
 
-  pub stored_owes : is_enabled (after_of o) ≡ false → turned_on m.cpu.sreg.bits a.cpu.sreg.bits ≡ owes o m.cpu.sreg.bits a.cpu.sreg.bits
-  stored_owes off = sym (ap (λ (s : Bool). s || turned_on m.cpu.sreg.bits a.cpu.sreg.bits) (enables o ∙ off))
+  pub stored_owes : is_enabled (after_at o m.cpu) ≡ false → turned_on m.cpu.sreg.bits a.cpu.sreg.bits ≡ owes o m.cpu.sreg.bits a.cpu.sreg.bits
+  stored_owes off = sym (ap (λ (s : Bool). s || turned_on m.cpu.sreg.bits a.cpu.sreg.bits) (enables_at o m.cpu ∙ off))
 
-  pub quiet_owes : is_enabled (after_of o) ≡ false → may_change (after_of o) ≡ false → false ≡ owes o m.cpu.sreg.bits a.cpu.sreg.bits
+  pub quiet_owes : is_enabled (after_at o m.cpu) ≡ false → may_change (after_at o m.cpu) ≡ false → false ≡ owes o m.cpu.sreg.bits a.cpu.sreg.bits
   quiet_owes off apart =
-      sym (ap (λ (x : Outcome NodeBus). turned_on m.cpu.sreg.bits x.cpu.sreg.bits) done ∙ quiet flash o m.cpu m.bus apart) ∙ stored_owes off
+      sym (ap (λ (x : Outcome NodeBus). turned_on m.cpu.sreg.bits x.cpu.sreg.bits) done ∙ quiet m.cpu.sreg.bits (executed flash o m.cpu m.bus).cpu.sreg.bits (keeps_i_at flash o m.cpu m.bus apart)) ∙ stored_owes off
 
   pub plain_stops : (cause : StopCause) → a.result ≡ Err cause → IsStopping t cause m (let x : Machine = record m { cpu = a.cpu; bus = a.bus } in x)
   plain_stops cause stop = record {
@@ -139,9 +140,9 @@ module _ (t : ℕ) (m : Machine) (o : Op) (fetched : o ≡ op_now (shown m)) (ma
     goes : (b : Bool) → b ≡ owes o m.cpu.sreg.bits to.sreg.bits → IsStepped t d.cycles m (owing b (reached (m.count + 1)))
     goes b owed = plain_goes t m o fetched plain may a flash kept some b owed d refl behind
 
-    by_after : (k : After) → k ≡ after_of o → IsStep t (step_of k (Some (Ok d))) m (reached (m.count + 1))
+    by_after : (k : After) → k ≡ after_at o m.cpu → IsStep t (step_of k (Some (Ok d))) m (reached (m.count + 1))
     by_after after.Single e =
-        let one : d.cycles ≡ 1 = single_cycle flash o m.cpu m.bus d (sym e) (sym (ap (λ (x : Outcome NodeBus). x.result) some)) in
+        let one : d.cycles ≡ 1 = single_cycle_at flash o m.cpu m.bus d (sym e) (sym (ap (λ (x : Outcome NodeBus). x.result) some)) in
         subst (λ (n : ℕ). IsStepped t n m (owing false (reached (m.count + 1)))) one
         (goes false (quiet_owes t m o fetched plain may a flash kept some (ap is_enabled (sym e)) (ap may_change (sym e))))
     by_after after.Nothing e = goes false (quiet_owes t m o fetched plain may a flash kept some (ap is_enabled (sym e)) (ap may_change (sym e)))
@@ -150,7 +151,7 @@ module _ (t : ℕ) (m : Machine) (o : Op) (fetched : o ≡ op_now (shown m)) (ma
     by_after after.Store e = goes (turned_on m.cpu.sreg.bits to.sreg.bits) (stored_owes t m o fetched plain may a flash kept some (ap is_enabled (sym e)))
     by_after after.Enabled e = goes true (enabled_owes t m o fetched plain may a flash kept some (ap is_enabled (sym e)))
 
-  pub did : (k : After) (x : Option (Result Done StopCause)) → k ≡ after_of o → is_some x ≡ is_plain o → IfSome x Left_so → IfNone x ((to ≡ m.cpu) × (there ≡ m.bus))
+  pub did : (k : After) (x : Option (Result Done StopCause)) → k ≡ after_at o m.cpu → is_some x ≡ is_plain o → IfSome x Left_so → IfNone x ((to ≡ m.cpu) × (there ≡ m.bus))
       → IsStep t (step_of k x) m (reached (counted x m.count))
   did k None e which some none = λ i. let x : Machine = record m { cpu = none.0 i; bus = none.1 i } in x
   did k (Some (Err cause)) e which some none =
@@ -158,13 +159,13 @@ module _ (t : ℕ) (m : Machine) (o : Op) (fetched : o ≡ op_now (shown m)) (ma
   did k (Some (Ok d)) e which some none = by_after d (sym which) some k e
 
 -- by which the flag I stays as it was
-pub leaves_flag : (flash : List ℕ) (o : Op) (from to : Cpu) (bus there : NodeBus) (k : After) (x : Option (Result Done StopCause)) → k ≡ after_of o
+pub leaves_flag : (flash : List ℕ) (o : Op) (from to : Cpu) (bus there : NodeBus) (k : After) (x : Option (Result Done StopCause)) → k ≡ after_at o from
     → IfSome x (λ (r : Result Done StopCause). (let a : Outcome NodeBus = record { result = r; cpu = to; bus = there } in a ≡ executed flash o from bus))
     → (step : Step) → step ≡ step_of k x → leaves_i step ≡ true → nat_lt to.sreg.bits 128 ≡ nat_lt from.sreg.bits 128
 leaves_flag flash o from to bus there k None e some step is i = absurd (false≢true (sym (ap leaves_i is) ∙ i))
 leaves_flag flash o from to bus there k (Some (Err cause)) e some step is i = absurd (false≢true (sym (ap leaves_i is) ∙ i))
 leaves_flag flash o from to bus there k (Some (Ok d)) e some step is i =
-    ap (λ (x : Outcome NodeBus). nat_lt x.cpu.sreg.bits 128) some ∙ keeps_i flash o from bus (ap may_change (sym e) ∙ apart k d (sym (ap leaves_i is) ∙ i))
+    ap (λ (x : Outcome NodeBus). nat_lt x.cpu.sreg.bits 128) some ∙ keeps_i_at flash o from bus (ap may_change (sym e) ∙ apart k d (sym (ap leaves_i is) ∙ i))
   where
     apart : (k : After) (d : Done) → leaves_i (step_of k (Some (Ok d))) ≡ true → may_change k ≡ false
     apart after.Single d h = refl
@@ -174,16 +175,16 @@ leaves_flag flash o from to bus there k (Some (Ok d)) e some step is i =
     apart after.Store d h = absurd (false≢true h)
     apart after.Enabled d h = absurd (false≢true h)
 
--- and by which the data space does
-pub leaves_data : (flash : List ℕ) (o : Op) (from to : Cpu) (bus there : NodeBus) (k : After) (x : Option (Result Done StopCause)) → k ≡ after_of o
+-- and by which the board does
+pub leaves_devices : (flash : List ℕ) (o : Op) (from to : Cpu) (bus there : NodeBus) (k : After) (x : Option (Result Done StopCause)) → k ≡ after_at o from
     → IfSome x (λ (r : Result Done StopCause). (let a : Outcome NodeBus = record { result = r; cpu = to; bus = there } in a ≡ executed flash o from bus))
-    → (step : Step) → step ≡ step_of k x → leaves_bus step ≡ true → there ≡ bus
-leaves_data flash o from to bus there k None e some step is i = absurd (false≢true (sym (ap leaves_bus is) ∙ i))
-leaves_data flash o from to bus there k (Some (Err cause)) e some step is i = absurd (false≢true (sym (ap leaves_bus is) ∙ i))
-leaves_data flash o from to bus there k (Some (Ok d)) e some step is i =
-    ap (λ (x : Outcome NodeBus). x.bus) some ∙ keeps_bus flash from bus o (ap may_access (sym e) ∙ apart k d (sym (ap leaves_bus is) ∙ i))
+    → (step : Step) → step ≡ step_of k x → leaves_board step ≡ true → there.board ≡ bus.board
+leaves_devices flash o from to bus there k None e some step is i = absurd (false≢true (sym (ap leaves_board is) ∙ i))
+leaves_devices flash o from to bus there k (Some (Err cause)) e some step is i = absurd (false≢true (sym (ap leaves_board is) ∙ i))
+leaves_devices flash o from to bus there k (Some (Ok d)) e some step is i =
+    ap (λ (x : Outcome NodeBus). x.bus.board) some ∙ keeps_board flash o from bus (ap may_access (sym e) ∙ apart k d (sym (ap leaves_board is) ∙ i))
   where
-    apart : (k : After) (d : Done) → leaves_bus (step_of k (Some (Ok d))) ≡ true → may_access k ≡ false
+    apart : (k : After) (d : Done) → leaves_board (step_of k (Some (Ok d))) ≡ true → may_access k ≡ false
     apart after.Single d h = refl
     apart after.Nothing d h = refl
     apart after.Back d h = refl

@@ -1,6 +1,6 @@
 -- The data space of a node beside the core (ATmega128 datasheet, "SRAM Data Memory"): the I/O registers below 0x0100,
 -- the internal SRAM at 0x0100 to 0x10FF, and nothing above it.
-use Rattle.std.specs.Prelude.{ℕ, ◌-◌, nat_lt, if◌then◌else◌, Result, Ok, Err, slice_index, slice_set}
+use Rattle.std.specs.Prelude.{ℕ, ◌-◌, ◌&&◌, nat_le, nat_lt, Bool, if◌then◌else◌, Result, Ok, Err, slice_index, slice_set}
 use Rattle.avr_base.specs.declared.stop.StopCause.{StopCause}
 use Rattle.avr_base.specs.declared.stop.StopCause.TheVariants as stop
 use Rattle.board_io.specs.declared.board.Board.{Board}
@@ -24,6 +24,10 @@ board_got bus (Err cause) = Err cause
 abbrev pub board_put : NodeBus → Result Board StopCause → Result NodeBus StopCause
 board_put bus (Ok board) = Ok (with_board bus board)
 board_put bus (Err cause) = Err cause
+
+-- whether a data address is one of the internal SRAM
+abbrev pub in_sram : ℕ → Bool
+in_sram at = nat_le 0x0100 at && nat_le at 0x10FF
 
 -- a load
 unfoldable pub bus_get : NodeBus → ℕ → Result (ℕ × NodeBus) StopCause

@@ -1,6 +1,6 @@
 -- The effect of one instruction on the core and the data space (AVR Instruction Set Manual), by its class: the tables
 -- of arith_step and bus_step. An instruction that halts changes nothing.
-use Rattle.std.specs.Prelude.{ℕ, ◌==◌, ◌&&◌, ℤ, pos, negsuc, int_lt, int_le, if◌then◌else◌, Bool, true, false, List, Result, Ok, Err}
+use Rattle.std.specs.Prelude.{ℕ, ◌+◌, ◌%◌, ◌==◌, ◌&&◌, ℤ, pos, negsuc, int_lt, int_le, if◌then◌else◌, Bool, true, false, List, Result, Ok, Err}
 use Rattle.avr_base.specs.declared.stop.StopCause.{StopCause}
 use Rattle.avr_decoder.specs.declared.op.Op.{Op}
 use Rattle.avr_decoder.specs.declared.op.Op.TheVariants as op
@@ -8,14 +8,16 @@ use Rattle.avr_decoder.specs.declared.op.Class.{Class}
 use Rattle.avr_decoder.specs.declared.op.Class.TheVariants as class
 use Rattle.avr_decoder.specs.Class.{class_of}
 use Rattle.data_space.specs.declared.cpu.Cpu.{Cpu}
+use Rattle.data_space.specs.Core.{pair_at}
 use Rattle.data_space.specs.Sequence.{Outcome}
 use Rattle.arith_step.specs.Table.{arith_cpu, arith_cycles, arith_done}
 use Rattle.bus_step.specs.FlowTable.{flow_effect}
-use Rattle.bus_step.specs.MemoryTable.{memory_effect}
+use Rattle.bus_step.specs.MemoryShapes.{displaced}
+use Rattle.bus_step.specs.MemoryTable.{memory_effect, x, y, z}
 use Rattle.node_core.specs.declared.bus.NodeBus.{NodeBus}
 use Rattle.node_core.specs.declared.instructions.After.{After}
 use Rattle.node_core.specs.declared.instructions.After.TheVariants as after
-use Rattle.node_core.specs.Bus.{bus_get, bus_put}
+use Rattle.node_core.specs.Bus.{bus_get, bus_put, in_sram}
 
 -- over any bus, by what its loads and stores give
 abbrev pub executed_over_by : {B : Type 0} → (B → ℕ → Result (ℕ × B) StopCause) → (B → ℕ → ℕ → Result B StopCause) → Class → List ℕ → Op → Cpu → B → Outcome B
@@ -102,3 +104,26 @@ after_of (op.Push r) = after.Store
 after_of (op.Sbi a b) = after.Store
 after_of (op.Cbi a b) = after.Store
 after_of o = after_class (class_of o) o
+
+-- whether an instruction is known to access one byte of the internal SRAM, and no other data; of the rarer ones it is
+-- not asked
+abbrev pub accesses_sram : Op → Cpu → Bool
+accesses_sram (op.LdX d) cpu = in_sram (pair_at x cpu)
+accesses_sram (op.LddY d q) cpu = in_sram (displaced y q cpu)
+accesses_sram (op.LddZ d q) cpu = in_sram (displaced z q cpu)
+accesses_sram (op.Lds d k) cpu = in_sram k
+accesses_sram (op.StX r) cpu = in_sram (pair_at x cpu)
+accesses_sram (op.StdY q r) cpu = in_sram (displaced y q cpu)
+accesses_sram (op.StdZ q r) cpu = in_sram (displaced z q cpu)
+accesses_sram (op.Sts k r) cpu = in_sram k
+accesses_sram (op.Push r) cpu = in_sram cpu.sp
+accesses_sram (op.Pop d) cpu = in_sram ((cpu.sp + 1) % 65536)
+accesses_sram _ cpu = false
+
+-- what an access of the data space leaves, if not of the SRAM, and if of one of its bytes; and so each instruction on
+-- this core
+abbrev pub after_access : After → ℕ → After
+after_access other at = if in_sram at then after.Nothing else other
+
+abbrev pub after_at : Op → Cpu → After
+after_at o cpu = if accesses_sram o cpu then after.Nothing else after_of o

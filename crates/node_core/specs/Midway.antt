@@ -123,12 +123,12 @@ leaves_i (Jumped n) = true
 leaves_i (Loaded n) = true
 leaves_i _ = false
 
--- whether a step accesses no data
-abbrev pub leaves_bus : Step → Bool
-leaves_bus Single = true
-leaves_bus (Plain n) = true
-leaves_bus (Jumped n) = true
-leaves_bus _ = false
+-- whether a step accesses no device
+abbrev pub leaves_board : Step → Bool
+leaves_board Single = true
+leaves_board (Plain n) = true
+leaves_board (Jumped n) = true
+leaves_board _ = false
 
 -- from cycle t on it executed instruction after instruction behind the window, and stands at the beginning of cycle
 -- `at`

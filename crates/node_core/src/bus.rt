@@ -1,5 +1,6 @@
 // The data space of a node beside the core.
-ghost use Rattle.std.specs.Prelude.{◌≡◌, ◌≤◌, true, IfOk};
+ghost use Rattle.std.specs.Prelude.{◌≡◌, ◌≤◌, true, false, Ok, Err, OnOk, IfOk, OnErr, IfErr};
+ghost use Rattle.node_core.specs.Bus.{in_sram};
 ghost use Rattle.node_core.specs.Leaps.{LoadsStill};
 
 use avr_base::{NoMemory, StopCause};
@@ -18,8 +19,46 @@ pub struct NodeBus {
     pub board: LaggingBoard,
 }
 
+/// Whether a data address is one of the internal SRAM, 0x0100 to 0x10FF.
+#[inline(always)]
+pub fn is_in_sram(at: u16) -> bool
+    ensures { result ≡ in_sram at }
+{
+    at.wrapping_sub(0x0100) < 0x1000
+}
+
 impl NodeBus {
-    ghost use Rattle.node_core.specs.Bus.{reset_bus};
+    ghost use Rattle.node_core.specs.Bus.{bus_get, bus_put, reset_bus};
+
+    // A load beside the SRAM, in a call of its own: then what is inlined into each instruction is small.
+    #[inline(never)]
+    #[tactic(auto, unfolding(crate::specs::Bus::bus_get))]
+    fn get_beside(&mut self, at: u16) -> Result<u8, StopCause>
+        requires { in_sram at ≡ false }
+        ensures ok { IfOk result (λ byte. bus_get self.old at ≡ Ok (byte, self.new)) }
+        ensures err { IfErr result (λ cause. bus_get self.old at ≡ Err cause) }
+        ensures same { OnErr result (self.new ≡ self.old) }
+    {
+        if at > 0x10FF {
+            return Err(StopCause::PastMemory);
+        }
+        self.board.get(at)
+    }
+
+    // A store beside the SRAM.
+    #[inline(never)]
+    #[tactic(auto, unfolding(crate::specs::Bus::bus_put))]
+    fn put_beside(&mut self, at: u16, b: u8) -> Result<(), StopCause>
+        requires { in_sram at ≡ false }
+        ensures ok { OnOk result (bus_put self.old at b ≡ Ok self.new) }
+        ensures err { IfErr result (λ cause. bus_put self.old at b ≡ Err cause) }
+        ensures same { OnErr result (self.new ≡ self.old) }
+    {
+        if at > 0x10FF {
+            return Err(StopCause::PastMemory);
+        }
+        self.board.put(at, b)
+    }
 
     /// The data space after reset, with the byte time of its radio in cycles, at most 4,096. `Err` only for want of
     /// memory.
@@ -56,25 +95,19 @@ impl Bus for NodeBus {
     #[inline]
     #[tactic(auto, unfolding(crate::specs::Bus::bus_get))]
     fn get(&mut self, at: u16) -> Result<u8, StopCause> {
-        if at < 0x0100 {
-            return self.board.get(at);
+        if is_in_sram(at) {
+            return Ok(self.sram.get(at));
         }
-        if at > 0x10FF {
-            return Err(StopCause::PastMemory);
-        }
-        Ok(self.sram.get(at))
+        self.get_beside(at)
     }
 
     #[inline]
     #[tactic(auto, unfolding(crate::specs::Bus::bus_put))]
     fn put(&mut self, at: u16, b: u8) -> Result<(), StopCause> {
-        if at < 0x0100 {
-            return self.board.put(at, b);
+        if is_in_sram(at) {
+            self.sram.put(at, b);
+            return Ok(());
         }
-        if at > 0x10FF {
-            return Err(StopCause::PastMemory);
-        }
-        self.sram.put(at, b);
-        Ok(())
+        self.put_beside(at, b)
     }
 }

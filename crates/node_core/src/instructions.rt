@@ -4,8 +4,9 @@ ghost use Rattle.data_space.specs.Core.{advanced, core_of, lone, whole};
 ghost use Rattle.data_space.specs.Sequence.{done};
 ghost use Rattle.avr_decoder.specs.declared.op.Op.TheVariants as op;
 ghost use Rattle.node_core.specs.declared.instructions.After.TheVariants as after;
-ghost use Rattle.node_core.specs.Execute.{after_cycles, after_jump, after_of, executed_over, is_plain, is_short_back};
+ghost use Rattle.node_core.specs.Execute.{after_at, after_cycles, after_jump, after_of, executed_over, is_plain, is_short_back};
 
+use crate::accesses::{Accessed, load, pop, push, store};
 use arith_step::shapes::{
     add, compare, compare_with_carry, copy, copy_pair, load_bit, multiply, put_bits, put_byte,
     put_word, set_flag, store_bit, subtract, subtract_with_carry, swap,
@@ -13,9 +14,10 @@ use arith_step::shapes::{
 use arith_step::{MulKind, adiw, asr, com, dec, inc, lsr, neg, ror, sbiw};
 use avr_base::{Reg, Sreg, StopCause};
 use avr_decoder::{Class, Op};
+use avr_program::Program;
 use bus_step::accesses::{
-    displaced, io_address, load_at, load_post_increment, load_pre_decrement, pop_reg, push_reg,
-    retire, set_bit, store_at, store_post_increment, store_pre_decrement,
+    displaced, io_address, load_at, load_post_increment, load_pre_decrement, retire, set_bit,
+    store_at, store_post_increment, store_pre_decrement,
 };
 use bus_step::calls::{call, call_at_z, call_near, ret, reti, z_pointer};
 use bus_step::flash::{
@@ -23,14 +25,13 @@ use bus_step::flash::{
 };
 use bus_step::jumps::{bit, branch, jump, relative_to, skip, skip_by_io, sleep};
 use data_space::{Bus, Core, Cpu, Done, Registers, pair, reg};
-use ihex_loader::Flash;
 
 /// What an instruction may leave that a loop over instructions looks at.
 #[derive(Clone, Copy)]
 pub enum After {
     /// Nothing, after one cycle: the program goes on, the flag I is as it was, and the data space was not accessed.
     Single,
-    /// Nothing, after its cycles.
+    /// Nothing, after its cycles, and of the data space at most a byte of the internal SRAM was accessed.
     Nothing,
     /// The program may go on a few words further back.
     Back,
@@ -89,6 +90,14 @@ fn jumped(k: i16, reported: Done) -> Executed
     }
 }
 
+// An instruction that accesses a byte of the data space, which may be one of the internal SRAM.
+#[inline]
+fn accessed(access: Accessed) -> Executed
+    ensures { result ≡ (access.0, Some access.1) }
+{
+    (access.0, Some(access.1))
+}
+
 // An instruction that may stop, and loads a byte.
 #[inline]
 fn loaded(reported: Result<Done, StopCause>) -> Executed
@@ -139,15 +148,15 @@ fn flag_set(s: u8, reported: Done) -> Executed
 #[tactic(auto, unfolding(crate::specs::Execute::executed_over, arith_step::specs::Shapes::sets_flag, arith_step::specs::Shapes::swaps, arith_step::specs::Table::effect, bus_step::specs::FlowShapes::branched, bus_step::specs::FlowShapes::skipping, bus_step::specs::FlowTable::flow_effect, bus_step::specs::MemoryTable::memory_effect))]
 pub fn execute_plain<B: Bus>(
     op: &Op,
-    flash: &Flash,
+    program: &Program,
     regs: &mut Registers,
     core: &mut Core,
     bus: &mut B,
 ) -> Executed
-    ensures after { result.0 ≡ after_of op.now }
+    ensures after { result.0 ≡ after_at op.now (whole regs.old core.old) }
     ensures which { is_some result.1 ≡ is_plain op.now }
     // all that an instruction leaves in one clause: so each arm is proved once, not three times
-    ensures some { IfSome result.1 (λ r. record { result = r; cpu = whole regs.new core.new; bus = bus.new } ≡ executed_over B.get_gives B.put_gives flash.now.bytes op.now (whole regs.old core.old) bus.old) }
+    ensures some { IfSome result.1 (λ r. record { result = r; cpu = whole regs.new core.new; bus = bus.new } ≡ executed_over B.get_gives B.put_gives program.now.bytes op.now (whole regs.old core.old) bus.old) }
     ensures none { IfNone result.1 ((regs.new ≡ regs.old) × (core.new ≡ core.old) × (bus.new ≡ bus.old)) }
 {
     let x = Reg::numbered(26);
@@ -171,13 +180,34 @@ pub fn execute_plain<B: Bus>(
         Op::Or { d, r } => retired(put_bits(d, reg(regs, d) | reg(regs, r), regs, core), core),
         Op::Ori { d, k } => retired(put_bits(d, reg(regs, d) | k, regs, core), core),
         Op::Eor { d, r } => retired(put_bits(d, reg(regs, d) ^ reg(regs, r), regs, core), core),
-        Op::Com { d } => retired(put_byte(d, com(reg(regs, d), core.sreg), regs, core), core),
-        Op::Neg { d } => retired(put_byte(d, neg(reg(regs, d), core.sreg), regs, core), core),
-        Op::Inc { d } => retired(put_byte(d, inc(reg(regs, d), core.sreg), regs, core), core),
-        Op::Dec { d } => retired(put_byte(d, dec(reg(regs, d), core.sreg), regs, core), core),
-        Op::Lsr { d } => retired(put_byte(d, lsr(reg(regs, d), core.sreg), regs, core), core),
-        Op::Ror { d } => retired(put_byte(d, ror(reg(regs, d), core.sreg), regs, core), core),
-        Op::Asr { d } => retired(put_byte(d, asr(reg(regs, d), core.sreg), regs, core), core),
+        Op::Com { d } => {
+            let (byte, sreg) = com(reg(regs, d), core.sreg);
+            retired(put_byte(d, byte, sreg, regs, core), core)
+        }
+        Op::Neg { d } => {
+            let (byte, sreg) = neg(reg(regs, d), core.sreg);
+            retired(put_byte(d, byte, sreg, regs, core), core)
+        }
+        Op::Inc { d } => {
+            let (byte, sreg) = inc(reg(regs, d), core.sreg);
+            retired(put_byte(d, byte, sreg, regs, core), core)
+        }
+        Op::Dec { d } => {
+            let (byte, sreg) = dec(reg(regs, d), core.sreg);
+            retired(put_byte(d, byte, sreg, regs, core), core)
+        }
+        Op::Lsr { d } => {
+            let (byte, sreg) = lsr(reg(regs, d), core.sreg);
+            retired(put_byte(d, byte, sreg, regs, core), core)
+        }
+        Op::Ror { d } => {
+            let (byte, sreg) = ror(reg(regs, d), core.sreg);
+            retired(put_byte(d, byte, sreg, regs, core), core)
+        }
+        Op::Asr { d } => {
+            let (byte, sreg) = asr(reg(regs, d), core.sreg);
+            retired(put_byte(d, byte, sreg, regs, core), core)
+        }
         Op::Swap { d } => retired(swap(d, regs), core),
         Op::Adiw { d, k } => retired(
             put_word(d, adiw(pair(regs, d), k, core.sreg), regs, core),
@@ -204,19 +234,19 @@ pub fn execute_plain<B: Bus>(
         Op::Ijmp => ended(jump(2, z_pointer(regs), core)),
         Op::Brbs { s, k } => jumped(k, branch(bit(true, s % 8, core.sreg.bits), k, core)),
         Op::Brbc { s, k } => jumped(k, branch(bit(false, s % 8, core.sreg.bits), k, core)),
-        Op::Cpse { d, r } => ended(skip(reg(regs, d) == reg(regs, r), flash, core)),
-        Op::Sbrs { r, b } => ended(skip(bit(true, b % 8, reg(regs, r)), flash, core)),
-        Op::Sbrc { r, b } => ended(skip(bit(false, b % 8, reg(regs, r)), flash, core)),
-        Op::Sbis { a, b } => loaded(skip_by_io(a, b % 8, true, flash, regs, core, bus)),
-        Op::Sbic { a, b } => loaded(skip_by_io(a, b % 8, false, flash, regs, core, bus)),
+        Op::Cpse { d, r } => ended(skip(reg(regs, d) == reg(regs, r), program.flash(), core)),
+        Op::Sbrs { r, b } => ended(skip(bit(true, b % 8, reg(regs, r)), program.flash(), core)),
+        Op::Sbrc { r, b } => ended(skip(bit(false, b % 8, reg(regs, r)), program.flash(), core)),
+        Op::Sbis { a, b } => loaded(skip_by_io(a, b % 8, true, program.flash(), regs, core, bus)),
+        Op::Sbic { a, b } => loaded(skip_by_io(a, b % 8, false, program.flash(), regs, core, bus)),
         Op::Call { k } => stored(call(k, regs, core, bus)),
         Op::Rcall { k } => stored(call_near(k, regs, core, bus)),
         Op::Icall => stored(call_at_z(regs, core, bus)),
         Op::Ret => loaded(ret(regs, core, bus)),
-        Op::LdX { d } => loaded(load_at(d, pair(regs, x), 1, 2, regs, core, bus)),
-        Op::LddY { d, q } => loaded(load_at(d, displaced(y, q, regs), 1, 2, regs, core, bus)),
-        Op::LddZ { d, q } => loaded(load_at(d, displaced(z, q, regs), 1, 2, regs, core, bus)),
-        Op::Lds { d, k } => loaded(load_at(d, k, 2, 2, regs, core, bus)),
+        Op::LdX { d } => accessed(load(d, pair(regs, x), 1, 2, regs, core, bus)),
+        Op::LddY { d, q } => accessed(load(d, displaced(y, q, regs), 1, 2, regs, core, bus)),
+        Op::LddZ { d, q } => accessed(load(d, displaced(z, q, regs), 1, 2, regs, core, bus)),
+        Op::Lds { d, k } => accessed(load(d, k, 2, 2, regs, core, bus)),
         Op::InIo { d, a } => loaded(load_at(d, io_address(a), 1, 1, regs, core, bus)),
         Op::LdXInc { d } => loaded(load_post_increment(d, x, regs, core, bus)),
         Op::LdYInc { d } => loaded(load_post_increment(d, y, regs, core, bus)),
@@ -224,8 +254,8 @@ pub fn execute_plain<B: Bus>(
         Op::LdXDec { d } => loaded(load_pre_decrement(d, x, regs, core, bus)),
         Op::LdYDec { d } => loaded(load_pre_decrement(d, y, regs, core, bus)),
         Op::LdZDec { d } => loaded(load_pre_decrement(d, z, regs, core, bus)),
-        Op::StX { r } => stored(store_at(pair(regs, x), reg(regs, r), 1, 2, regs, core, bus)),
-        Op::StdY { q, r } => stored(store_at(
+        Op::StX { r } => accessed(store(pair(regs, x), reg(regs, r), 1, 2, regs, core, bus)),
+        Op::StdY { q, r } => accessed(store(
             displaced(y, q, regs),
             reg(regs, r),
             1,
@@ -234,7 +264,7 @@ pub fn execute_plain<B: Bus>(
             core,
             bus,
         )),
-        Op::StdZ { q, r } => stored(store_at(
+        Op::StdZ { q, r } => accessed(store(
             displaced(z, q, regs),
             reg(regs, r),
             1,
@@ -243,7 +273,7 @@ pub fn execute_plain<B: Bus>(
             core,
             bus,
         )),
-        Op::Sts { k, r } => stored(store_at(k, reg(regs, r), 2, 2, regs, core, bus)),
+        Op::Sts { k, r } => accessed(store(k, reg(regs, r), 2, 2, regs, core, bus)),
         Op::OutIo { a, r } => stored(store_at(io_address(a), reg(regs, r), 1, 1, regs, core, bus)),
         Op::StXInc { r } => stored(store_post_increment(x, r, regs, core, bus)),
         Op::StYInc { r } => stored(store_post_increment(y, r, regs, core, bus)),
@@ -251,16 +281,16 @@ pub fn execute_plain<B: Bus>(
         Op::StXDec { r } => stored(store_pre_decrement(x, r, regs, core, bus)),
         Op::StYDec { r } => stored(store_pre_decrement(y, r, regs, core, bus)),
         Op::StZDec { r } => stored(store_pre_decrement(z, r, regs, core, bus)),
-        Op::Push { r } => stored(push_reg(r, regs, core, bus)),
-        Op::Pop { d } => loaded(pop_reg(d, regs, core, bus)),
+        Op::Push { r } => accessed(push(r, regs, core, bus)),
+        Op::Pop { d } => accessed(pop(d, regs, core, bus)),
         Op::Sbi { a, b } => stored(set_bit(a, b % 8, true, regs, core, bus)),
         Op::Cbi { a, b } => stored(set_bit(a, b % 8, false, regs, core, bus)),
-        Op::LpmR0 => ended(load_program(Reg::numbered(0), flash, regs, core)),
-        Op::LpmZ { d } => ended(load_program(d, flash, regs, core)),
-        Op::LpmZInc { d } => ended(load_program_post_increment(d, flash, regs, core)),
-        Op::ElpmR0 => ended(load_extended(Reg::numbered(0), flash, regs, core)),
-        Op::ElpmZ { d } => ended(load_extended(d, flash, regs, core)),
-        Op::ElpmZInc { d } => ended(load_extended_post_increment(d, flash, regs, core)),
+        Op::LpmR0 => ended(load_program(Reg::numbered(0), program.flash(), regs, core)),
+        Op::LpmZ { d } => ended(load_program(d, program.flash(), regs, core)),
+        Op::LpmZInc { d } => ended(load_program_post_increment(d, program.flash(), regs, core)),
+        Op::ElpmR0 => ended(load_extended(Reg::numbered(0), program.flash(), regs, core)),
+        Op::ElpmZ { d } => ended(load_extended(d, program.flash(), regs, core)),
+        Op::ElpmZInc { d } => ended(load_extended_post_increment(d, program.flash(), regs, core)),
         Op::Bclr { s } => stored(Ok(retire(1, set_flag(s % 8, false, core), core))),
         Op::Bset { s } => flag_set(s, retire(1, set_flag(s % 8, true, core), core)),
         Op::Reti => enabled(reti(regs, core, bus)),
@@ -293,16 +323,16 @@ fn execute_other<B: Bus>(
 #[inline(never)]
 pub fn execute<B: Bus>(
     op: &Op,
-    flash: &Flash,
+    program: &Program,
     cpu: &mut Cpu,
     bus: &mut B,
 ) -> Result<Done, StopCause>
-    ensures outcome { record { result = result; cpu = cpu.new; bus = bus.new } ≡ executed_over B.get_gives B.put_gives flash.now.bytes op.now cpu.old bus.old }
+    ensures outcome { record { result = result; cpu = cpu.new; bus = bus.new } ≡ executed_over B.get_gives B.put_gives program.now.bytes op.now cpu.old bus.old }
     // so the cycles can be counted down
     ensures takes { IfOk result (λ d. 1 ≤ d.cycles) }
 {
     let (mut regs, mut core) = cpu.parts();
-    let result = match execute_plain(op, flash, &mut regs, &mut core, bus) {
+    let result = match execute_plain(op, program, &mut regs, &mut core, bus) {
         (_, Some(result)) => result,
         (_, None) => execute_other(op, &mut regs, &mut core, bus),
     };
@@ -316,11 +346,11 @@ pub fn execute<B: Bus>(
 #[tactic(auto, unfolding(crate::specs::Execute::executed_over, bus_step::specs::FlowTable::flow_effect))]
 pub fn execute_waiting<B: Bus>(
     op: &Op,
-    flash: &Flash,
+    program: &Program,
     cpu: &mut Cpu,
     bus: &mut B,
 ) -> Result<Done, StopCause>
-    ensures outcome { record { result = result; cpu = cpu.new; bus = bus.new } ≡ executed_over B.get_gives B.put_gives flash.now.bytes op.now cpu.old bus.old }
+    ensures outcome { record { result = result; cpu = cpu.new; bus = bus.new } ≡ executed_over B.get_gives B.put_gives program.now.bytes op.now cpu.old bus.old }
 {
     match *op {
         Op::Rjmp { k } => {
@@ -332,11 +362,11 @@ pub fn execute_waiting<B: Bus>(
         Op::Sbis { a, b } | Op::Sbic { a, b } => {
             let on = matches!(op, Op::Sbis { .. });
             let (regs, mut core) = cpu.parts();
-            let result = skip_by_io(a, b % 8, on, flash, &regs, &mut core, bus);
+            let result = skip_by_io(a, b % 8, on, program.flash(), &regs, &mut core, bus);
             cpu.sreg = core.sreg;
             cpu.pc = core.pc;
             result
         }
-        _ => execute(op, flash, cpu, bus),
+        _ => execute(op, program, cpu, bus),
     }
 }

@@ -3,6 +3,7 @@
 //! instructions and sleep up to the next event of its devices. `trace_writer` writes the text of the rows.
 #![tactic(auto)]
 
+mod accesses;
 mod bus;
 mod countdowns;
 mod instructions;

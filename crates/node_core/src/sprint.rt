@@ -1,9 +1,9 @@
 // Instructions of a node, one behind another, while nothing is due.
-ghost use Rattle.std.specs.Prelude.{◌≡◌, ◌≤◌, ◌<◌, ◌+◌, ◌^◌, nat_lt, ℕ, None, true};
+ghost use Rattle.std.specs.Prelude.{◌≡◌, ◌≤◌, ◌<◌, ◌+◌, ◌^◌, nat_le, nat_lt, ℕ, None, true};
 ghost use Rattle.board_io.specs.Lagging.{IsClear};
 ghost use Rattle.node_core.specs.Inside.{MayAct};
 ghost use Rattle.node_core.specs.Interrupts.{due};
-ghost use Rattle.node_core.specs.Midway.{IsSprinted, IsSprinting, IsStep, IsStepped, MayEnd, beside, counted, leaves_bus, leaves_i, over, owing, step_of, turned_on};
+ghost use Rattle.node_core.specs.Midway.{IsSprinted, IsSprinting, IsStep, IsStepped, MayEnd, beside, counted, leaves_board, leaves_i, over, owing, step_of};
 ghost use Rattle.node_core.specs.Shown.{shown};
 ghost use Rattle.node_core.specs.declared.machine.Machine.{Machine};
 ghost use Rattle.avr_program.specs.Program.{slots_below};
@@ -27,15 +27,15 @@ pub struct Sprinted {
 /// What a step of a sprint did.
 #[derive(Clone, Copy)]
 pub enum Step {
-    /// It executed an instruction of one cycle, which left the flag I and the data space as they were.
+    /// It executed an instruction of one cycle, which left the flag I and the devices as they were.
     Single,
     /// Such an instruction of so many cycles.
     Plain { taken: u8 },
     /// Such an instruction of so many cycles, after which the program may go on a few words further back.
     Jumped { taken: u8 },
-    /// An instruction of so many cycles that loaded a byte, and left the flag I as it was.
+    /// An instruction of so many cycles that loaded a byte, maybe of a device, and left the flag I as it was.
     Loaded { taken: u8 },
-    /// An instruction of so many cycles that stored a byte, maybe to SREG, or set or cleared a flag.
+    /// An instruction of so many cycles that stored a byte, maybe to a device or to SREG, or set or cleared a flag.
     Stored { taken: u8 },
     /// SEI or RETI, of so many cycles.
     Enabled { taken: u8 },
@@ -48,12 +48,12 @@ pub enum Step {
 // How many short jumps back are passed by at most behind one at which no loop waits.
 const MOST_UNSEEN: u8 = 15;
 
-// Whether the flag I, the highest of SREG, was turned on.
+// Whether the flag I is on, the highest of SREG.
 #[inline]
-fn turned_on(before: u8, after: u8) -> bool
-    ensures { result ≡ turned_on before after }
+fn is_on(sreg: u8) -> bool
+    ensures { result ≡ nat_le 128 sreg }
 {
-    before < 128 && after >= 128
+    sreg >= 128
 }
 
 // The cycle up to which nothing happens, as far as what runs now tells, of those up to `end`; 0 where a line is up.
@@ -107,10 +107,10 @@ fn one_step(
     ensures step { (m : Machine) → m.program ≡ program.now → MayAct bus.old.board.clock (over regs.old core.old bus.old count.old m) → m.to ≤ bus.old.board.clock
         → IsStep bus.old.board.clock result (over regs.old core.old bus.old count.old m) (over regs.new core.new bus.new count.new m) }
     ensures flag { leaves_i result ≡ true → nat_lt core.new.sreg.bits 128 ≡ nat_lt core.old.sreg.bits 128 }
-    ensures apart { leaves_bus result ≡ true → bus.new ≡ bus.old }
+    ensures apart { leaves_board result ≡ true → bus.new.board ≡ bus.old.board }
 {
     let op = program.op_at(slots, core.pc);
-    let (after, executed) = execute_plain(op, program.flash(), regs, core, bus);
+    let (after, executed) = execute_plain(op, program, regs, core, bus);
     told(after, executed, count)
 }
 
@@ -160,7 +160,6 @@ impl Machine {
     /// Executes instructions from `cycle` on, behind the window and up to `end`, below which no byte arrives, while no
     /// interrupt line is up and the devices end nothing. It ends before SLEEP and before an instruction that halts the
     /// node.
-    #[inline(always)]
     pub fn sprint(&mut self, cycle: u64, end: u64) -> Sprinted
         requires may { MayAct cycle self.old }
         requires within { cycle ≤ end }
@@ -218,21 +217,26 @@ impl Machine {
                         unseen -= 1;
                     }
                     Step::Loaded { taken } => {
-                        // no later than it was: where a read moves an event away, the sprint ends early
-                        bound = clear_to(&self.bus, bound);
+                        bound = clear_to(&self.bus, end);
                         if !self.bus.board.leap_within(bound, taken) {
                             return self.end_sprint(&regs, core, end, taken, false);
                         }
                     }
                     Step::Stored { taken } => {
                         bound = clear_to(&self.bus, end);
-                        let on = turned_on(flags, core.sreg.bits);
-                        flags = core.sreg.bits;
-                        if !self.bus.board.leap_within(bound, taken) {
-                            return self.end_sprint(&regs, core, end, taken, on);
-                        }
-                        if on {
-                            owed_to = self.count + 1;
+                        if is_on(flags) == is_on(core.sreg.bits) {
+                            if !self.bus.board.leap_within(bound, taken) {
+                                return self.end_sprint(&regs, core, end, taken, false);
+                            }
+                        } else {
+                            let on = !is_on(flags);
+                            flags = core.sreg.bits;
+                            if !self.bus.board.leap_within(bound, taken) {
+                                return self.end_sprint(&regs, core, end, taken, on);
+                            }
+                            if on {
+                                owed_to = self.count + 1;
+                            }
                         }
                     }
                     Step::Enabled { taken } => {

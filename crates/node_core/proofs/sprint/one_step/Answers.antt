@@ -6,7 +6,7 @@ use Rattle.data_space.specs.declared.cpu.Cpu.{Cpu}
 use Rattle.data_space.specs.Core.{whole}
 use Rattle.ihex_loader.specs.Flash.{Image}
 use Rattle.node_core.specs.Midway.{IsStep, over, step_of}
-use Rattle.node_core.proofs.Steps.{as_it_was, did, leaves_data, leaves_flag}
+use Rattle.node_core.proofs.Steps.{as_it_was, did, leaves_devices, leaves_flag}
 use Rattle.node_core.proofs.sprint.one_step.Goals as goal
 
 pub returns-clause-step : goal.returns-clause-step
@@ -18,7 +18,7 @@ returns-clause-step c first same may behind =
     let t : ℕ = a.bus.now.board.clock in
     let o = c.execute_plain-after.result in
     let fetched = c.op_at-op.ensures ∙ ap (λ (p : Image). op_of p.bytes a.core.now.pc) (sym same) in
-    let there = did t m c.op_at-op.result.now fetched may behind (whole x.regs x.core) x.bus c.flash.result.now.bytes (ap (λ (p : Image). p.bytes) (c.flash.ensures ∙ sym same))
+    let there = did t m c.op_at-op.result.now fetched may behind (whole x.regs x.core) x.bus c.args.program.now.bytes (ap (λ (p : Image). p.bytes) (sym same))
     o.0 o.1 e.after e.which e.some (as_it_was a.regs.now x.regs a.core.now x.core a.bus.now x.bus o.1 e.none) in
     subst (λ (k : Step). IsStep t k m (over x.regs x.core x.bus c.told.new.count first)) (sym c.told.ensures.step)
     (subst (λ (n : ℕ). IsStep t (step_of o.0 o.1) m (over x.regs x.core x.bus n first)) (sym c.told.ensures.count) there)
@@ -30,7 +30,7 @@ returns-clause-flag c =
     let a = c.args in
     let o = c.execute_plain-after.result in
     let from : Cpu = whole a.regs.now a.core.now in
-    leaves_flag c.flash.result.now.bytes c.op_at-op.result.now from (whole x.regs x.core) a.bus.now x.bus o.0 o.1 e.after e.some c.told.result c.told.ensures.step
+    leaves_flag c.args.program.now.bytes c.op_at-op.result.now from (whole x.regs x.core) a.bus.now x.bus o.0 o.1 e.after e.some c.told.result c.told.ensures.step
 
 pub returns-clause-apart : goal.returns-clause-apart
 returns-clause-apart c =
@@ -39,4 +39,4 @@ returns-clause-apart c =
     let a = c.args in
     let o = c.execute_plain-after.result in
     let from : Cpu = whole a.regs.now a.core.now in
-    leaves_data c.flash.result.now.bytes c.op_at-op.result.now from (whole x.regs x.core) a.bus.now x.bus o.0 o.1 e.after e.some c.told.result c.told.ensures.step
+    leaves_devices c.args.program.now.bytes c.op_at-op.result.now from (whole x.regs x.core) a.bus.now x.bus o.0 o.1 e.after e.some c.told.result c.told.ensures.step

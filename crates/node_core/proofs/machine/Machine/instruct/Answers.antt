@@ -1,4 +1,4 @@
-use Rattle.std.proofs.Common.{◌≡◌, ◌++◌, Bool, List, sym, ap, ◌∙◌, arith}
+use Rattle.std.proofs.Common.{◌≡◌, ◌++◌, Bool, List, refl, sym, ap, ◌∙◌, arith}
 use Rattle.std.specs.Prelude.{Ok, Err}
 use Rattle.data_space.specs.Sequence.{Outcome}
 use Rattle.node_core.specs.declared.row.Row.{Row}
@@ -17,7 +17,7 @@ owes-owed-requires c =
     let m = c.args.self.now in
     let o = c.op-op.result in
     let a : Outcome NodeBus = record { result = c.execute.result; cpu = c.execute.new.cpu; bus = c.execute.new.bus } in
-    let flash = c.flash.result.now.bytes in
+    let flash = c.args.self.now.program.bytes in
     let done : a ≡ executed flash o m.cpu m.bus = c.execute.ensures.outcome in
     sei_left_on flash o m.cpu m.bus c.in-Ok.done c.execute.result c.execute.new.cpu c.in-Ok.is (ap (λ (x : Outcome NodeBus). x.result) done) (ap (λ (x : Outcome NodeBus). x.cpu) done)
 
@@ -40,14 +40,14 @@ returns-in-Ok c =
     let o = c.op-op.result in
     let s : NodeState = shown m in
     let a : Outcome NodeBus = record { result = c.execute.result; cpu = c.execute.new.cpu; bus = c.execute.new.bus } in
-    let flash = c.flash.result.now.bytes in
+    let flash = c.args.self.now.program.bytes in
     let done : a ≡ executed flash o m.cpu m.bus = c.execute.ensures.outcome in
     let runs = sym c.refuses.ensures ∙ c.if-refuses.false in
     record {
       state = c.end.ensures.state
           ∙ (ap (λ (b : Bool). let u : NodeState = record (after_instruction s o (Ok c.in-Ok.done) a.cpu a.bus) { owed = b } in u) c.owes-owed.ensures
-          ∙ ran c.args.cycle m o c.op-op.ensures runs c.requires.now a flash (λ i. (c.flash.ensures i).bytes) done (Ok c.in-Ok.done) c.in-Ok.is);
-      rows = c.end.ensures.rows ∙ ran_rows c.args.cycle m o c.op-op.ensures runs c.requires.now a flash (λ i. (c.flash.ensures i).bytes) done m.rows.items (Ok c.in-Ok.done) c.in-Ok.is;
+          ∙ ran c.args.cycle m o c.op-op.ensures runs c.requires.now a flash refl done (Ok c.in-Ok.done) c.in-Ok.is);
+      rows = c.end.ensures.rows ∙ ran_rows c.args.cycle m o c.op-op.ensures runs c.requires.now a flash refl done m.rows.items (Ok c.in-Ok.done) c.in-Ok.is;
       going = c.end.ensures.going;
       same = c.end.ensures.same;
       room = c.end.ensures.room;
@@ -59,12 +59,12 @@ returns-in-Err c =
     let m = c.args.self.now in
     let o = c.op-op.result in
     let a : Outcome NodeBus = record { result = c.execute.result; cpu = c.execute.new.cpu; bus = c.execute.new.bus } in
-    let flash = c.flash.result.now.bytes in
+    let flash = c.args.self.now.program.bytes in
     let done : a ≡ executed flash o m.cpu m.bus = c.execute.ensures.outcome in
     let runs = sym c.refuses.ensures ∙ c.if-refuses.false in
     record {
-      state = c.halt-in-Err.ensures.state ∙ ran c.args.cycle m o c.op-op.ensures runs c.requires.now a flash (λ i. (c.flash.ensures i).bytes) done (Err c.in-Err.cause) c.in-Err.is;
-      rows = c.halt-in-Err.ensures.rows ∙ ran_rows c.args.cycle m o c.op-op.ensures runs c.requires.now a flash (λ i. (c.flash.ensures i).bytes) done m.rows.items (Err c.in-Err.cause) c.in-Err.is;
+      state = c.halt-in-Err.ensures.state ∙ ran c.args.cycle m o c.op-op.ensures runs c.requires.now a flash refl done (Err c.in-Err.cause) c.in-Err.is;
+      rows = c.halt-in-Err.ensures.rows ∙ ran_rows c.args.cycle m o c.op-op.ensures runs c.requires.now a flash refl done m.rows.items (Err c.in-Err.cause) c.in-Err.is;
       going = λ l. absurd (omega arith);
       same = λ l. absurd (omega arith);
       room = c.halt-in-Err.ensures.room;

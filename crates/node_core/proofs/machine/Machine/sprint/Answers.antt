@@ -1,4 +1,4 @@
-use Rattle.std.proofs.Common.{◌≡◌, ℕ, ◌≤◌, ◌+◌, ◌++◌, nat_lt, Bool, true, false, refl, sym, subst, ap, ◌∙◌, arith}
+use Rattle.std.proofs.Common.{◌≡◌, ℕ, ◌+◌, ◌++◌, nat_lt, Bool, not, true, false, refl, sym, subst, ap, ◌∙◌, arith}
 use Rattle.std.specs.Prelude.{vec_len, vec_capacity}
 use Rattle.avr_base.specs.declared.interrupts.Lines.{Lines}
 use Rattle.data_space.specs.declared.cpu.Core.{Core}
@@ -6,14 +6,12 @@ use Rattle.data_space.specs.declared.cpu.Registers.{Registers}
 use Rattle.data_space.specs.Core.{whole}
 use Rattle.board_io.specs.Lagging.{IsClear}
 use Rattle.board_io.specs.Lines.{lines_of}
-use Rattle.node_core.specs.Bus.{with_board}
 use Rattle.node_core.specs.Cycle.{row}
-use Rattle.node_core.specs.declared.bus.NodeBus.{NodeBus}
 use Rattle.node_core.specs.declared.machine.Machine.{Machine}
 use Rattle.node_core.specs.Shown.{shown}
 use Rattle.node_core.specs.Midway.{IsSprinted, IsSprinting, IsStopping, beside, over, owing}
 use Rattle.node_core.specs.declared.row.Kind.TheVariants as kind
-use Rattle.node_core.proofs.Sprints.{acts, at_it, begins, carried, clear_due, joins, may, may_end, moved, none_owed, not_owed, silent, stands, stays, stepped_on, still_owed, stops, turn_free, turned, turning}
+use Rattle.node_core.proofs.Sprints.{acts, at_it, begins, carried, clear_due, joins, may, may_end, moved, none_owed, not_owed, same_side, silent, stands, stays, stepped_same, stepped_turned, still_owed, stops, turn_free, turned, turning}
 use Rattle.node_core.proofs.machine.Machine.sprint.Goals as goal
 
 pub returns-then-cycle-self-clause-sprinted : goal.returns-then-cycle-self-clause-sprinted
@@ -68,7 +66,7 @@ leap_within-requires-clause-early c =
 pub leap_within-requires-clause-clear : goal.leap_within-requires-clause-clear
 leap_within-requires-clause-clear c =
     let l = c.loop-self-2 in
-    subst (λ (n : NodeBus). IsClear l.bound n.board) (sym (c.in-Single.ensures.apart refl)) l.invariant.ahead
+    subst (IsClear l.bound) (sym (c.in-Single.ensures.apart refl)) l.invariant.ahead
 
 pub end_sprint-requires : goal.end_sprint-requires
 end_sprint-requires c =
@@ -135,7 +133,7 @@ leap_within-requires-in-Plain-clause-early c =
 pub leap_within-requires-in-Plain-clause-clear : goal.leap_within-requires-in-Plain-clause-clear
 leap_within-requires-in-Plain-clause-clear c =
     let l = c.loop-self-2 in
-    subst (λ (n : NodeBus). IsClear l.bound n.board) (sym (c.in-Plain.ensures.apart refl)) l.invariant.ahead
+    subst (IsClear l.bound) (sym (c.in-Plain.ensures.apart refl)) l.invariant.ahead
 
 pub end_sprint-requires-then-not-leap_within-2 : goal.end_sprint-requires-then-not-leap_within-2
 end_sprint-requires-then-not-leap_within-2 c =
@@ -202,7 +200,7 @@ leap_within-requires-in-Jumped-clause-early c =
 pub leap_within-requires-in-Jumped-clause-clear : goal.leap_within-requires-in-Jumped-clause-clear
 leap_within-requires-in-Jumped-clause-clear c =
     let l = c.loop-self-2 in
-    subst (λ (n : NodeBus). IsClear l.bound n.board) (sym (c.in-Jumped.ensures.apart refl)) l.invariant.ahead
+    subst (IsClear l.bound) (sym (c.in-Jumped.ensures.apart refl)) l.invariant.ahead
 
 pub end_sprint-requires-then-not-leap_within-3 : goal.end_sprint-requires-then-not-leap_within-3
 end_sprint-requires-then-not-leap_within-3 c =
@@ -264,7 +262,7 @@ leap_within-requires-in-Loaded-clause-some c =
 pub leap_within-requires-in-Loaded-clause-early : goal.leap_within-requires-in-Loaded-clause-early
 leap_within-requires-in-Loaded-clause-early c =
     let l = c.loop-self-2 in
-    let upto : c.clear_to-bound-in-Loaded.result ≤ c.args.end = (let less = c.clear_to-bound-in-Loaded.ensures.within in let most = l.invariant.within in omega (arith, less, most)) in omega (arith, upto, c.requires.early)
+    let upto = c.clear_to-bound-in-Loaded.ensures.within in omega (arith, upto, c.requires.early)
 
 pub end_sprint-requires-then-not-leap_within-4 : goal.end_sprint-requires-then-not-leap_within-4
 end_sprint-requires-then-not-leap_within-4 c =
@@ -290,7 +288,7 @@ loop-self-2-smaller-else-not-leap_within-4 c =
     let h = l.invariant.turning in let s = c.one_step.new in let m : Machine = turning self l.regs l.core l.owed_to in
     let p = c.in-Loaded.ensures.step m refl (acts c.args.cycle c.args.end c.args.self.now self l.regs l.core l.owed_to h c.requires.early c.requires.may.room) h.runs.behind in
     let e = c.if-not-leap_within-4.ensures in
-    let upto : c.clear_to-bound-in-Loaded.result ≤ c.args.end = (let less = c.clear_to-bound-in-Loaded.ensures.within in let most = l.invariant.within in omega (arith, less, most)) in let below = e.within refl in
+    let upto = c.clear_to-bound-in-Loaded.ensures.within in let below = e.within refl in
     let moves = moved c.args.cycle c.args.end c.args.self.now self l.regs l.core l.owed_to h c.in-Loaded.taken s.regs s.core s.bus s.count false p c.requires.none c.leap_within-in-Loaded.new.self (omega (arith, below, upto)) (e.idle refl) (e.state refl) (e.lines refl) (e.clock refl) in
     let on = e.clock refl in omega (arith, moves, below, upto, on)
 
@@ -301,7 +299,7 @@ loop-self-2-preserved-else-not-leap_within-4 c =
     let h = l.invariant.turning in let s = c.one_step.new in let m : Machine = turning self l.regs l.core l.owed_to in
     let p = c.in-Loaded.ensures.step m refl (acts c.args.cycle c.args.end c.args.self.now self l.regs l.core l.owed_to h c.requires.early c.requires.may.room) h.runs.behind in
     let e = c.if-not-leap_within-4.ensures in
-    let upto : c.clear_to-bound-in-Loaded.result ≤ c.args.end = (let less = c.clear_to-bound-in-Loaded.ensures.within in let most = l.invariant.within in omega (arith, less, most)) in let below = e.within refl in
+    let upto = c.clear_to-bound-in-Loaded.ensures.within in let below = e.within refl in
     let moves = moved c.args.cycle c.args.end c.args.self.now self l.regs l.core l.owed_to h c.in-Loaded.taken s.regs s.core s.bus s.count false p c.requires.none c.leap_within-in-Loaded.new.self (omega (arith, below, upto)) (e.idle refl) (e.state refl) (e.lines refl) (e.clock refl) in
     let more = p.count in
     let last = l.invariant.on in
@@ -315,16 +313,16 @@ loop-self-2-preserved-else-not-leap_within-4 c =
       on = omega (arith, last, moves);
     }
 
-pub leap_within-requires-in-Stored-clause-some : goal.leap_within-requires-in-Stored-clause-some
-leap_within-requires-in-Stored-clause-some c =
+pub leap_within-requires-then-is_on-clause-some : goal.leap_within-requires-then-is_on-clause-some
+leap_within-requires-then-is_on-clause-some c =
     let l = c.loop-self-2 in
     let self : Machine = record c.loop-self.self { bus = l.self.1.1.1.1.1.1.1.0; count = l.self.1.1.1.1.1.1.1.1.1.1.1.1.0 } in
     let h = l.invariant.turning in let s = c.one_step.new in let m : Machine = turning self l.regs l.core l.owed_to in
-    let p = stepped_on self.bus.board.clock c.in-Stored.taken m (over s.regs s.core s.bus s.count self) l.flags l.core.sreg.bits s.core.sreg.bits c.turned_on-on.result l.invariant.flag c.turned_on-on.ensures (c.in-Stored.ensures.step m refl (acts c.args.cycle c.args.end c.args.self.now self l.regs l.core l.owed_to h c.requires.early c.requires.may.room) h.runs.behind) in
+    let p = stepped_same l.flags l.core.sreg.bits s.core.sreg.bits c.is_on.result c.is_on-in-Stored.result l.invariant.flag c.is_on.ensures c.is_on-in-Stored.ensures self.bus.board.clock c.in-Stored.taken m (over s.regs s.core s.bus s.count self) c.if-is_on.true (c.in-Stored.ensures.step m refl (acts c.args.cycle c.args.end c.args.self.now self l.regs l.core l.owed_to h c.requires.early c.requires.may.room) h.runs.behind) in
     p.some
 
-pub leap_within-requires-in-Stored-clause-early : goal.leap_within-requires-in-Stored-clause-early
-leap_within-requires-in-Stored-clause-early c =
+pub leap_within-requires-then-is_on-clause-early : goal.leap_within-requires-then-is_on-clause-early
+leap_within-requires-then-is_on-clause-early c =
     let l = c.loop-self-2 in
     let upto = c.clear_to-bound-in-Stored.ensures.within in omega (arith, upto, c.requires.early)
 
@@ -333,24 +331,86 @@ end_sprint-requires-then-not-leap_within-5 c =
     let l = c.loop-self-2 in
     let self : Machine = record c.loop-self.self { bus = l.self.1.1.1.1.1.1.1.0; count = l.self.1.1.1.1.1.1.1.1.1.1.1.1.0 } in
     let h = l.invariant.turning in let s = c.one_step.new in let m : Machine = turning self l.regs l.core l.owed_to in
-    let p = stepped_on self.bus.board.clock c.in-Stored.taken m (over s.regs s.core s.bus s.count self) l.flags l.core.sreg.bits s.core.sreg.bits c.turned_on-on.result l.invariant.flag c.turned_on-on.ensures (c.in-Stored.ensures.step m refl (acts c.args.cycle c.args.end c.args.self.now self l.regs l.core l.owed_to h c.requires.early c.requires.may.room) h.runs.behind) in
-    record { may = may_end c.args.cycle c.args.end c.args.self.now self l.regs l.core l.owed_to h c.in-Stored.taken s.regs s.core s.bus s.count c.turned_on-on.result p c.leap_within-in-Stored.new.self (c.if-not-leap_within-5.ensures.same refl) c.requires.early c.requires.none }
+    let p = stepped_same l.flags l.core.sreg.bits s.core.sreg.bits c.is_on.result c.is_on-in-Stored.result l.invariant.flag c.is_on.ensures c.is_on-in-Stored.ensures self.bus.board.clock c.in-Stored.taken m (over s.regs s.core s.bus s.count self) c.if-is_on.true (c.in-Stored.ensures.step m refl (acts c.args.cycle c.args.end c.args.self.now self l.regs l.core l.owed_to h c.requires.early c.requires.may.room) h.runs.behind) in
+    record { may = may_end c.args.cycle c.args.end c.args.self.now self l.regs l.core l.owed_to h c.in-Stored.taken s.regs s.core s.bus s.count false p c.leap_within-then-is_on.new.self (c.if-not-leap_within-5.ensures.same refl) c.requires.early c.requires.none }
 
 pub returns-then-not-leap_within-5-clause-sprinted : goal.returns-then-not-leap_within-5-clause-sprinted
 returns-then-not-leap_within-5-clause-sprinted c =
     let l = c.loop-self-2 in
     let self : Machine = record c.loop-self.self { bus = l.self.1.1.1.1.1.1.1.0; count = l.self.1.1.1.1.1.1.1.1.1.1.1.1.0 } in
     let h = l.invariant.turning in let s = c.one_step.new in let m : Machine = turning self l.regs l.core l.owed_to in
-    let p = stepped_on self.bus.board.clock c.in-Stored.taken m (over s.regs s.core s.bus s.count self) l.flags l.core.sreg.bits s.core.sreg.bits c.turned_on-on.result l.invariant.flag c.turned_on-on.ensures (c.in-Stored.ensures.step m refl (acts c.args.cycle c.args.end c.args.self.now self l.regs l.core l.owed_to h c.requires.early c.requires.may.room) h.runs.behind) in
+    let p = stepped_same l.flags l.core.sreg.bits s.core.sreg.bits c.is_on.result c.is_on-in-Stored.result l.invariant.flag c.is_on.ensures c.is_on-in-Stored.ensures self.bus.board.clock c.in-Stored.taken m (over s.regs s.core s.bus s.count self) c.if-is_on.true (c.in-Stored.ensures.step m refl (acts c.args.cycle c.args.end c.args.self.now self l.regs l.core l.owed_to h c.requires.early c.requires.may.room) h.runs.behind) in
     let same = c.if-not-leap_within-5.ensures.same refl in
-    c.end_sprint-then-not-leap_within-5.ensures.sprinted c.args.cycle c.args.self.now m (at_it c.args.cycle c.args.end c.args.self.now self l.regs l.core l.owed_to h c.in-Stored.taken s.regs s.core s.bus s.count c.turned_on-on.result p c.leap_within-in-Stored.new.self same) (turn_free c.args.cycle c.args.end c.args.self.now self l.regs l.core l.owed_to h c.in-Stored.taken s.regs s.core s.bus s.count c.turned_on-on.result p) (carried c.args.cycle c.args.end c.args.self.now self l.regs l.core l.owed_to h c.in-Stored.taken s.regs s.core s.bus s.count c.turned_on-on.result p c.leap_within-in-Stored.new.self same)
+    c.end_sprint-then-not-leap_within-5.ensures.sprinted c.args.cycle c.args.self.now m (at_it c.args.cycle c.args.end c.args.self.now self l.regs l.core l.owed_to h c.in-Stored.taken s.regs s.core s.bus s.count false p c.leap_within-then-is_on.new.self same) (turn_free c.args.cycle c.args.end c.args.self.now self l.regs l.core l.owed_to h c.in-Stored.taken s.regs s.core s.bus s.count false p) (carried c.args.cycle c.args.end c.args.self.now self l.regs l.core l.owed_to h c.in-Stored.taken s.regs s.core s.bus s.count false p c.leap_within-then-is_on.new.self same)
+
+pub loop-self-2-smaller-else-not-leap_within-5 : goal.loop-self-2-smaller-else-not-leap_within-5
+loop-self-2-smaller-else-not-leap_within-5 c =
+    let l = c.loop-self-2 in
+    let self : Machine = record c.loop-self.self { bus = l.self.1.1.1.1.1.1.1.0; count = l.self.1.1.1.1.1.1.1.1.1.1.1.1.0 } in
+    let h = l.invariant.turning in let s = c.one_step.new in let m : Machine = turning self l.regs l.core l.owed_to in
+    let p = stepped_same l.flags l.core.sreg.bits s.core.sreg.bits c.is_on.result c.is_on-in-Stored.result l.invariant.flag c.is_on.ensures c.is_on-in-Stored.ensures self.bus.board.clock c.in-Stored.taken m (over s.regs s.core s.bus s.count self) c.if-is_on.true (c.in-Stored.ensures.step m refl (acts c.args.cycle c.args.end c.args.self.now self l.regs l.core l.owed_to h c.requires.early c.requires.may.room) h.runs.behind) in
+    let e = c.if-not-leap_within-5.ensures in
+    let upto = c.clear_to-bound-in-Stored.ensures.within in let below = e.within refl in
+    let moves = moved c.args.cycle c.args.end c.args.self.now self l.regs l.core l.owed_to h c.in-Stored.taken s.regs s.core s.bus s.count false p c.requires.none c.leap_within-then-is_on.new.self (omega (arith, below, upto)) (e.idle refl) (e.state refl) (e.lines refl) (e.clock refl) in
+    let on = e.clock refl in omega (arith, moves, below, upto, on)
+
+pub loop-self-2-preserved-else-not-leap_within-5 : goal.loop-self-2-preserved-else-not-leap_within-5
+loop-self-2-preserved-else-not-leap_within-5 c =
+    let l = c.loop-self-2 in
+    let self : Machine = record c.loop-self.self { bus = l.self.1.1.1.1.1.1.1.0; count = l.self.1.1.1.1.1.1.1.1.1.1.1.1.0 } in
+    let h = l.invariant.turning in let s = c.one_step.new in let m : Machine = turning self l.regs l.core l.owed_to in
+    let p = stepped_same l.flags l.core.sreg.bits s.core.sreg.bits c.is_on.result c.is_on-in-Stored.result l.invariant.flag c.is_on.ensures c.is_on-in-Stored.ensures self.bus.board.clock c.in-Stored.taken m (over s.regs s.core s.bus s.count self) c.if-is_on.true (c.in-Stored.ensures.step m refl (acts c.args.cycle c.args.end c.args.self.now self l.regs l.core l.owed_to h c.requires.early c.requires.may.room) h.runs.behind) in
+    let e = c.if-not-leap_within-5.ensures in
+    let upto = c.clear_to-bound-in-Stored.ensures.within in let below = e.within refl in
+    let moves = moved c.args.cycle c.args.end c.args.self.now self l.regs l.core l.owed_to h c.in-Stored.taken s.regs s.core s.bus s.count false p c.requires.none c.leap_within-then-is_on.new.self (omega (arith, below, upto)) (e.idle refl) (e.state refl) (e.lines refl) (e.clock refl) in
+    let more = p.count in
+    let last = l.invariant.on in
+    record {
+      turning = turned c.args.cycle c.args.end c.args.self.now self l.regs l.core l.owed_to h c.in-Stored.taken s.regs s.core s.bus s.count false p c.requires.none c.leap_within-then-is_on.new.self (omega (arith, below, upto)) (e.idle refl) (e.state refl) (e.lines refl) (e.clock refl) l.owed_to
+          (let up = h.top in omega (arith, more, up)) (subst (λ (n : ℕ). nat_lt n l.owed_to ≡ false) (sym more) (not_owed self.count l.owed_to h.top));
+      slots = l.invariant.slots;
+      flag = same_side l.flags l.core.sreg.bits s.core.sreg.bits c.is_on.result c.is_on-in-Stored.result l.invariant.flag c.is_on.ensures c.is_on-in-Stored.ensures c.if-is_on.true;
+      within = upto;
+      ahead = e.clear refl;
+      on = omega (arith, last, moves);
+    }
+
+pub leap_within-requires-else-is_on-clause-some : goal.leap_within-requires-else-is_on-clause-some
+leap_within-requires-else-is_on-clause-some c =
+    let l = c.loop-self-2 in
+    let self : Machine = record c.loop-self.self { bus = l.self.1.1.1.1.1.1.1.0; count = l.self.1.1.1.1.1.1.1.1.1.1.1.1.0 } in
+    let h = l.invariant.turning in let s = c.one_step.new in let m : Machine = turning self l.regs l.core l.owed_to in
+    let p = stepped_turned l.flags l.core.sreg.bits s.core.sreg.bits c.is_on.result c.is_on-in-Stored.result l.invariant.flag c.is_on.ensures c.is_on-in-Stored.ensures self.bus.board.clock c.in-Stored.taken m (over s.regs s.core s.bus s.count self) c.is_on-on.result c.is_on-on.ensures c.if-is_on.false (c.in-Stored.ensures.step m refl (acts c.args.cycle c.args.end c.args.self.now self l.regs l.core l.owed_to h c.requires.early c.requires.may.room) h.runs.behind) in
+    p.some
+
+pub leap_within-requires-else-is_on-clause-early : goal.leap_within-requires-else-is_on-clause-early
+leap_within-requires-else-is_on-clause-early c =
+    let l = c.loop-self-2 in
+    let upto = c.clear_to-bound-in-Stored.ensures.within in omega (arith, upto, c.requires.early)
+
+pub end_sprint-requires-then-not-leap_within-6 : goal.end_sprint-requires-then-not-leap_within-6
+end_sprint-requires-then-not-leap_within-6 c =
+    let l = c.loop-self-2 in
+    let self : Machine = record c.loop-self.self { bus = l.self.1.1.1.1.1.1.1.0; count = l.self.1.1.1.1.1.1.1.1.1.1.1.1.0 } in
+    let h = l.invariant.turning in let s = c.one_step.new in let m : Machine = turning self l.regs l.core l.owed_to in
+    let p = stepped_turned l.flags l.core.sreg.bits s.core.sreg.bits c.is_on.result c.is_on-in-Stored.result l.invariant.flag c.is_on.ensures c.is_on-in-Stored.ensures self.bus.board.clock c.in-Stored.taken m (over s.regs s.core s.bus s.count self) c.is_on-on.result c.is_on-on.ensures c.if-is_on.false (c.in-Stored.ensures.step m refl (acts c.args.cycle c.args.end c.args.self.now self l.regs l.core l.owed_to h c.requires.early c.requires.may.room) h.runs.behind) in
+    record { may = may_end c.args.cycle c.args.end c.args.self.now self l.regs l.core l.owed_to h c.in-Stored.taken s.regs s.core s.bus s.count (not c.is_on-on.result) p c.leap_within-else-is_on.new.self (c.if-not-leap_within-6.ensures.same refl) c.requires.early c.requires.none }
+
+pub returns-then-not-leap_within-6-clause-sprinted : goal.returns-then-not-leap_within-6-clause-sprinted
+returns-then-not-leap_within-6-clause-sprinted c =
+    let l = c.loop-self-2 in
+    let self : Machine = record c.loop-self.self { bus = l.self.1.1.1.1.1.1.1.0; count = l.self.1.1.1.1.1.1.1.1.1.1.1.1.0 } in
+    let h = l.invariant.turning in let s = c.one_step.new in let m : Machine = turning self l.regs l.core l.owed_to in
+    let p = stepped_turned l.flags l.core.sreg.bits s.core.sreg.bits c.is_on.result c.is_on-in-Stored.result l.invariant.flag c.is_on.ensures c.is_on-in-Stored.ensures self.bus.board.clock c.in-Stored.taken m (over s.regs s.core s.bus s.count self) c.is_on-on.result c.is_on-on.ensures c.if-is_on.false (c.in-Stored.ensures.step m refl (acts c.args.cycle c.args.end c.args.self.now self l.regs l.core l.owed_to h c.requires.early c.requires.may.room) h.runs.behind) in
+    let same = c.if-not-leap_within-6.ensures.same refl in
+    c.end_sprint-then-not-leap_within-6.ensures.sprinted c.args.cycle c.args.self.now m (at_it c.args.cycle c.args.end c.args.self.now self l.regs l.core l.owed_to h c.in-Stored.taken s.regs s.core s.bus s.count (not c.is_on-on.result) p c.leap_within-else-is_on.new.self same) (turn_free c.args.cycle c.args.end c.args.self.now self l.regs l.core l.owed_to h c.in-Stored.taken s.regs s.core s.bus s.count (not c.is_on-on.result) p) (carried c.args.cycle c.args.end c.args.self.now self l.regs l.core l.owed_to h c.in-Stored.taken s.regs s.core s.bus s.count (not c.is_on-on.result) p c.leap_within-else-is_on.new.self same)
 
 pub overflow_add-owed_to : goal.overflow_add-owed_to
 overflow_add-owed_to c =
     let l = c.loop-self-2 in
     let self : Machine = record c.loop-self.self { bus = l.self.1.1.1.1.1.1.1.0; count = l.self.1.1.1.1.1.1.1.1.1.1.1.1.0 } in
     let h = l.invariant.turning in let s = c.one_step.new in let m : Machine = turning self l.regs l.core l.owed_to in
-    let p = stepped_on self.bus.board.clock c.in-Stored.taken m (over s.regs s.core s.bus s.count self) l.flags l.core.sreg.bits s.core.sreg.bits c.turned_on-on.result l.invariant.flag c.turned_on-on.ensures (c.in-Stored.ensures.step m refl (acts c.args.cycle c.args.end c.args.self.now self l.regs l.core l.owed_to h c.requires.early c.requires.may.room) h.runs.behind) in
+    let p = stepped_turned l.flags l.core.sreg.bits s.core.sreg.bits c.is_on.result c.is_on-in-Stored.result l.invariant.flag c.is_on.ensures c.is_on-in-Stored.ensures self.bus.board.clock c.in-Stored.taken m (over s.regs s.core s.bus s.count self) c.is_on-on.result c.is_on-on.ensures c.if-is_on.false (c.in-Stored.ensures.step m refl (acts c.args.cycle c.args.end c.args.self.now self l.regs l.core l.owed_to h c.requires.early c.requires.may.room) h.runs.behind) in
     let few = p.count in
     let most = h.runs.count in
     let within = h.within in omega (arith, few, most, within, c.requires.early)
@@ -360,10 +420,10 @@ loop-self-2-smaller-then-on c =
     let l = c.loop-self-2 in
     let self : Machine = record c.loop-self.self { bus = l.self.1.1.1.1.1.1.1.0; count = l.self.1.1.1.1.1.1.1.1.1.1.1.1.0 } in
     let h = l.invariant.turning in let s = c.one_step.new in let m : Machine = turning self l.regs l.core l.owed_to in
-    let p = stepped_on self.bus.board.clock c.in-Stored.taken m (over s.regs s.core s.bus s.count self) l.flags l.core.sreg.bits s.core.sreg.bits c.turned_on-on.result l.invariant.flag c.turned_on-on.ensures (c.in-Stored.ensures.step m refl (acts c.args.cycle c.args.end c.args.self.now self l.regs l.core l.owed_to h c.requires.early c.requires.may.room) h.runs.behind) in
-    let e = c.if-not-leap_within-5.ensures in
+    let p = stepped_turned l.flags l.core.sreg.bits s.core.sreg.bits c.is_on.result c.is_on-in-Stored.result l.invariant.flag c.is_on.ensures c.is_on-in-Stored.ensures self.bus.board.clock c.in-Stored.taken m (over s.regs s.core s.bus s.count self) c.is_on-on.result c.is_on-on.ensures c.if-is_on.false (c.in-Stored.ensures.step m refl (acts c.args.cycle c.args.end c.args.self.now self l.regs l.core l.owed_to h c.requires.early c.requires.may.room) h.runs.behind) in
+    let e = c.if-not-leap_within-6.ensures in
     let upto = c.clear_to-bound-in-Stored.ensures.within in let below = e.within refl in
-    let moves = moved c.args.cycle c.args.end c.args.self.now self l.regs l.core l.owed_to h c.in-Stored.taken s.regs s.core s.bus s.count c.turned_on-on.result p c.requires.none c.leap_within-in-Stored.new.self (omega (arith, below, upto)) (e.idle refl) (e.state refl) (e.lines refl) (e.clock refl) in
+    let moves = moved c.args.cycle c.args.end c.args.self.now self l.regs l.core l.owed_to h c.in-Stored.taken s.regs s.core s.bus s.count (not c.is_on-on.result) p c.requires.none c.leap_within-else-is_on.new.self (omega (arith, below, upto)) (e.idle refl) (e.state refl) (e.lines refl) (e.clock refl) in
     let on = e.clock refl in omega (arith, moves, below, upto, on)
 
 pub loop-self-2-preserved-then-on : goal.loop-self-2-preserved-then-on
@@ -371,15 +431,15 @@ loop-self-2-preserved-then-on c =
     let l = c.loop-self-2 in
     let self : Machine = record c.loop-self.self { bus = l.self.1.1.1.1.1.1.1.0; count = l.self.1.1.1.1.1.1.1.1.1.1.1.1.0 } in
     let h = l.invariant.turning in let s = c.one_step.new in let m : Machine = turning self l.regs l.core l.owed_to in
-    let p = stepped_on self.bus.board.clock c.in-Stored.taken m (over s.regs s.core s.bus s.count self) l.flags l.core.sreg.bits s.core.sreg.bits c.turned_on-on.result l.invariant.flag c.turned_on-on.ensures (c.in-Stored.ensures.step m refl (acts c.args.cycle c.args.end c.args.self.now self l.regs l.core l.owed_to h c.requires.early c.requires.may.room) h.runs.behind) in
-    let e = c.if-not-leap_within-5.ensures in
+    let p = stepped_turned l.flags l.core.sreg.bits s.core.sreg.bits c.is_on.result c.is_on-in-Stored.result l.invariant.flag c.is_on.ensures c.is_on-in-Stored.ensures self.bus.board.clock c.in-Stored.taken m (over s.regs s.core s.bus s.count self) c.is_on-on.result c.is_on-on.ensures c.if-is_on.false (c.in-Stored.ensures.step m refl (acts c.args.cycle c.args.end c.args.self.now self l.regs l.core l.owed_to h c.requires.early c.requires.may.room) h.runs.behind) in
+    let e = c.if-not-leap_within-6.ensures in
     let upto = c.clear_to-bound-in-Stored.ensures.within in let below = e.within refl in
-    let moves = moved c.args.cycle c.args.end c.args.self.now self l.regs l.core l.owed_to h c.in-Stored.taken s.regs s.core s.bus s.count c.turned_on-on.result p c.requires.none c.leap_within-in-Stored.new.self (omega (arith, below, upto)) (e.idle refl) (e.state refl) (e.lines refl) (e.clock refl) in
+    let moves = moved c.args.cycle c.args.end c.args.self.now self l.regs l.core l.owed_to h c.in-Stored.taken s.regs s.core s.bus s.count (not c.is_on-on.result) p c.requires.none c.leap_within-else-is_on.new.self (omega (arith, below, upto)) (e.idle refl) (e.state refl) (e.lines refl) (e.clock refl) in
     let more = p.count in
     let last = l.invariant.on in
     record {
-      turning = turned c.args.cycle c.args.end c.args.self.now self l.regs l.core l.owed_to h c.in-Stored.taken s.regs s.core s.bus s.count c.turned_on-on.result p c.requires.none c.leap_within-in-Stored.new.self (omega (arith, below, upto)) (e.idle refl) (e.state refl) (e.lines refl) (e.clock refl) (s.count + 1)
-          (omega arith) (still_owed s.count ∙ sym c.if-on.true);
+      turning = turned c.args.cycle c.args.end c.args.self.now self l.regs l.core l.owed_to h c.in-Stored.taken s.regs s.core s.bus s.count (not c.is_on-on.result) p c.requires.none c.leap_within-else-is_on.new.self (omega (arith, below, upto)) (e.idle refl) (e.state refl) (e.lines refl) (e.clock refl) (s.count + 1)
+          (omega arith) (still_owed s.count ∙ ap not (sym c.if-on.true));
       slots = l.invariant.slots;
       flag = refl;
       within = upto;
@@ -392,10 +452,10 @@ loop-self-2-smaller-else-on c =
     let l = c.loop-self-2 in
     let self : Machine = record c.loop-self.self { bus = l.self.1.1.1.1.1.1.1.0; count = l.self.1.1.1.1.1.1.1.1.1.1.1.1.0 } in
     let h = l.invariant.turning in let s = c.one_step.new in let m : Machine = turning self l.regs l.core l.owed_to in
-    let p = stepped_on self.bus.board.clock c.in-Stored.taken m (over s.regs s.core s.bus s.count self) l.flags l.core.sreg.bits s.core.sreg.bits c.turned_on-on.result l.invariant.flag c.turned_on-on.ensures (c.in-Stored.ensures.step m refl (acts c.args.cycle c.args.end c.args.self.now self l.regs l.core l.owed_to h c.requires.early c.requires.may.room) h.runs.behind) in
-    let e = c.if-not-leap_within-5.ensures in
+    let p = stepped_turned l.flags l.core.sreg.bits s.core.sreg.bits c.is_on.result c.is_on-in-Stored.result l.invariant.flag c.is_on.ensures c.is_on-in-Stored.ensures self.bus.board.clock c.in-Stored.taken m (over s.regs s.core s.bus s.count self) c.is_on-on.result c.is_on-on.ensures c.if-is_on.false (c.in-Stored.ensures.step m refl (acts c.args.cycle c.args.end c.args.self.now self l.regs l.core l.owed_to h c.requires.early c.requires.may.room) h.runs.behind) in
+    let e = c.if-not-leap_within-6.ensures in
     let upto = c.clear_to-bound-in-Stored.ensures.within in let below = e.within refl in
-    let moves = moved c.args.cycle c.args.end c.args.self.now self l.regs l.core l.owed_to h c.in-Stored.taken s.regs s.core s.bus s.count c.turned_on-on.result p c.requires.none c.leap_within-in-Stored.new.self (omega (arith, below, upto)) (e.idle refl) (e.state refl) (e.lines refl) (e.clock refl) in
+    let moves = moved c.args.cycle c.args.end c.args.self.now self l.regs l.core l.owed_to h c.in-Stored.taken s.regs s.core s.bus s.count (not c.is_on-on.result) p c.requires.none c.leap_within-else-is_on.new.self (omega (arith, below, upto)) (e.idle refl) (e.state refl) (e.lines refl) (e.clock refl) in
     let on = e.clock refl in omega (arith, moves, below, upto, on)
 
 pub loop-self-2-preserved-else-on : goal.loop-self-2-preserved-else-on
@@ -403,15 +463,15 @@ loop-self-2-preserved-else-on c =
     let l = c.loop-self-2 in
     let self : Machine = record c.loop-self.self { bus = l.self.1.1.1.1.1.1.1.0; count = l.self.1.1.1.1.1.1.1.1.1.1.1.1.0 } in
     let h = l.invariant.turning in let s = c.one_step.new in let m : Machine = turning self l.regs l.core l.owed_to in
-    let p = stepped_on self.bus.board.clock c.in-Stored.taken m (over s.regs s.core s.bus s.count self) l.flags l.core.sreg.bits s.core.sreg.bits c.turned_on-on.result l.invariant.flag c.turned_on-on.ensures (c.in-Stored.ensures.step m refl (acts c.args.cycle c.args.end c.args.self.now self l.regs l.core l.owed_to h c.requires.early c.requires.may.room) h.runs.behind) in
-    let e = c.if-not-leap_within-5.ensures in
+    let p = stepped_turned l.flags l.core.sreg.bits s.core.sreg.bits c.is_on.result c.is_on-in-Stored.result l.invariant.flag c.is_on.ensures c.is_on-in-Stored.ensures self.bus.board.clock c.in-Stored.taken m (over s.regs s.core s.bus s.count self) c.is_on-on.result c.is_on-on.ensures c.if-is_on.false (c.in-Stored.ensures.step m refl (acts c.args.cycle c.args.end c.args.self.now self l.regs l.core l.owed_to h c.requires.early c.requires.may.room) h.runs.behind) in
+    let e = c.if-not-leap_within-6.ensures in
     let upto = c.clear_to-bound-in-Stored.ensures.within in let below = e.within refl in
-    let moves = moved c.args.cycle c.args.end c.args.self.now self l.regs l.core l.owed_to h c.in-Stored.taken s.regs s.core s.bus s.count c.turned_on-on.result p c.requires.none c.leap_within-in-Stored.new.self (omega (arith, below, upto)) (e.idle refl) (e.state refl) (e.lines refl) (e.clock refl) in
+    let moves = moved c.args.cycle c.args.end c.args.self.now self l.regs l.core l.owed_to h c.in-Stored.taken s.regs s.core s.bus s.count (not c.is_on-on.result) p c.requires.none c.leap_within-else-is_on.new.self (omega (arith, below, upto)) (e.idle refl) (e.state refl) (e.lines refl) (e.clock refl) in
     let more = p.count in
     let last = l.invariant.on in
     record {
-      turning = turned c.args.cycle c.args.end c.args.self.now self l.regs l.core l.owed_to h c.in-Stored.taken s.regs s.core s.bus s.count c.turned_on-on.result p c.requires.none c.leap_within-in-Stored.new.self (omega (arith, below, upto)) (e.idle refl) (e.state refl) (e.lines refl) (e.clock refl) l.owed_to
-          (let up = h.top in omega (arith, more, up)) (subst (λ (n : ℕ). nat_lt n l.owed_to ≡ false) (sym more) (not_owed self.count l.owed_to h.top) ∙ sym c.if-on.false);
+      turning = turned c.args.cycle c.args.end c.args.self.now self l.regs l.core l.owed_to h c.in-Stored.taken s.regs s.core s.bus s.count (not c.is_on-on.result) p c.requires.none c.leap_within-else-is_on.new.self (omega (arith, below, upto)) (e.idle refl) (e.state refl) (e.lines refl) (e.clock refl) l.owed_to
+          (let up = h.top in omega (arith, more, up)) (subst (λ (n : ℕ). nat_lt n l.owed_to ≡ false) (sym more) (not_owed self.count l.owed_to h.top) ∙ ap not (sym c.if-on.false));
       slots = l.invariant.slots;
       flag = refl;
       within = upto;
@@ -432,22 +492,22 @@ leap_within-requires-in-Enabled-clause-early c =
     let l = c.loop-self-2 in
     let upto = c.clear_to-bound-in-Enabled.ensures.within in omega (arith, upto, c.requires.early)
 
-pub end_sprint-requires-then-not-leap_within-6 : goal.end_sprint-requires-then-not-leap_within-6
-end_sprint-requires-then-not-leap_within-6 c =
+pub end_sprint-requires-then-not-leap_within-7 : goal.end_sprint-requires-then-not-leap_within-7
+end_sprint-requires-then-not-leap_within-7 c =
     let l = c.loop-self-2 in
     let self : Machine = record c.loop-self.self { bus = l.self.1.1.1.1.1.1.1.0; count = l.self.1.1.1.1.1.1.1.1.1.1.1.1.0 } in
     let h = l.invariant.turning in let s = c.one_step.new in let m : Machine = turning self l.regs l.core l.owed_to in
     let p = c.in-Enabled.ensures.step m refl (acts c.args.cycle c.args.end c.args.self.now self l.regs l.core l.owed_to h c.requires.early c.requires.may.room) h.runs.behind in
-    record { may = may_end c.args.cycle c.args.end c.args.self.now self l.regs l.core l.owed_to h c.in-Enabled.taken s.regs s.core s.bus s.count true p c.leap_within-in-Enabled.new.self (c.if-not-leap_within-6.ensures.same refl) c.requires.early c.requires.none }
+    record { may = may_end c.args.cycle c.args.end c.args.self.now self l.regs l.core l.owed_to h c.in-Enabled.taken s.regs s.core s.bus s.count true p c.leap_within-in-Enabled.new.self (c.if-not-leap_within-7.ensures.same refl) c.requires.early c.requires.none }
 
-pub returns-then-not-leap_within-6-clause-sprinted : goal.returns-then-not-leap_within-6-clause-sprinted
-returns-then-not-leap_within-6-clause-sprinted c =
+pub returns-then-not-leap_within-7-clause-sprinted : goal.returns-then-not-leap_within-7-clause-sprinted
+returns-then-not-leap_within-7-clause-sprinted c =
     let l = c.loop-self-2 in
     let self : Machine = record c.loop-self.self { bus = l.self.1.1.1.1.1.1.1.0; count = l.self.1.1.1.1.1.1.1.1.1.1.1.1.0 } in
     let h = l.invariant.turning in let s = c.one_step.new in let m : Machine = turning self l.regs l.core l.owed_to in
     let p = c.in-Enabled.ensures.step m refl (acts c.args.cycle c.args.end c.args.self.now self l.regs l.core l.owed_to h c.requires.early c.requires.may.room) h.runs.behind in
-    let same = c.if-not-leap_within-6.ensures.same refl in
-    c.end_sprint-then-not-leap_within-6.ensures.sprinted c.args.cycle c.args.self.now m (at_it c.args.cycle c.args.end c.args.self.now self l.regs l.core l.owed_to h c.in-Enabled.taken s.regs s.core s.bus s.count true p c.leap_within-in-Enabled.new.self same) (turn_free c.args.cycle c.args.end c.args.self.now self l.regs l.core l.owed_to h c.in-Enabled.taken s.regs s.core s.bus s.count true p) (carried c.args.cycle c.args.end c.args.self.now self l.regs l.core l.owed_to h c.in-Enabled.taken s.regs s.core s.bus s.count true p c.leap_within-in-Enabled.new.self same)
+    let same = c.if-not-leap_within-7.ensures.same refl in
+    c.end_sprint-then-not-leap_within-7.ensures.sprinted c.args.cycle c.args.self.now m (at_it c.args.cycle c.args.end c.args.self.now self l.regs l.core l.owed_to h c.in-Enabled.taken s.regs s.core s.bus s.count true p c.leap_within-in-Enabled.new.self same) (turn_free c.args.cycle c.args.end c.args.self.now self l.regs l.core l.owed_to h c.in-Enabled.taken s.regs s.core s.bus s.count true p) (carried c.args.cycle c.args.end c.args.self.now self l.regs l.core l.owed_to h c.in-Enabled.taken s.regs s.core s.bus s.count true p c.leap_within-in-Enabled.new.self same)
 
 pub overflow_add-owed_to-in-Enabled : goal.overflow_add-owed_to-in-Enabled
 overflow_add-owed_to-in-Enabled c =
@@ -465,7 +525,7 @@ loop-self-2-smaller c =
     let self : Machine = record c.loop-self.self { bus = l.self.1.1.1.1.1.1.1.0; count = l.self.1.1.1.1.1.1.1.1.1.1.1.1.0 } in
     let h = l.invariant.turning in let s = c.one_step.new in let m : Machine = turning self l.regs l.core l.owed_to in
     let p = c.in-Enabled.ensures.step m refl (acts c.args.cycle c.args.end c.args.self.now self l.regs l.core l.owed_to h c.requires.early c.requires.may.room) h.runs.behind in
-    let e = c.if-not-leap_within-6.ensures in
+    let e = c.if-not-leap_within-7.ensures in
     let upto = c.clear_to-bound-in-Enabled.ensures.within in let below = e.within refl in
     let moves = moved c.args.cycle c.args.end c.args.self.now self l.regs l.core l.owed_to h c.in-Enabled.taken s.regs s.core s.bus s.count true p c.requires.none c.leap_within-in-Enabled.new.self (omega (arith, below, upto)) (e.idle refl) (e.state refl) (e.lines refl) (e.clock refl) in
     let on = e.clock refl in omega (arith, moves, below, upto, on)
@@ -476,7 +536,7 @@ loop-self-2-preserved c =
     let self : Machine = record c.loop-self.self { bus = l.self.1.1.1.1.1.1.1.0; count = l.self.1.1.1.1.1.1.1.1.1.1.1.1.0 } in
     let h = l.invariant.turning in let s = c.one_step.new in let m : Machine = turning self l.regs l.core l.owed_to in
     let p = c.in-Enabled.ensures.step m refl (acts c.args.cycle c.args.end c.args.self.now self l.regs l.core l.owed_to h c.requires.early c.requires.may.room) h.runs.behind in
-    let e = c.if-not-leap_within-6.ensures in
+    let e = c.if-not-leap_within-7.ensures in
     let upto = c.clear_to-bound-in-Enabled.ensures.within in let below = e.within refl in
     let moves = moved c.args.cycle c.args.end c.args.self.now self l.regs l.core l.owed_to h c.in-Enabled.taken s.regs s.core s.bus s.count true p c.requires.none c.leap_within-in-Enabled.new.self (omega (arith, below, upto)) (e.idle refl) (e.state refl) (e.lines refl) (e.clock refl) in
     let more = p.count in

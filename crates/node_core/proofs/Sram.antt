@@ -1,0 +1,118 @@
+-- An instruction that accesses a byte of the internal SRAM, and no other data: it leaves the board and SREG. And what
+-- any instruction leaves, by what a loop over instructions is told.
+use Rattle.std.proofs.Common.{◌≡◌, ℕ, ◌+◌, ◌-◌, ◌%◌, if◌then◌else◌, nat_lt, Bool, true, false, List, refl, ap, sym, subst, ◌∙◌, arith}
+use Rattle.std.proofs.lemmas.Bool.{false≢true}
+use Rattle.std.proofs.lemmas.Bool.Decides.{nat_tests}
+use Rattle.std.specs.Prelude.{Ok, slice_index, slice_set}
+use Rattle.avr_base.specs.declared.sreg.Sreg.{Sreg}
+use Rattle.avr_decoder.specs.Words.{words_of}
+use Rattle.avr_decoder.specs.declared.op.Op.{Op}
+use Rattle.avr_decoder.specs.declared.op.Op.TheVariants as op
+use Rattle.bus_step.specs.MemoryShapes.{decremented, displaced, ends, loads, loads_post_increment, loads_pre_decrement, pops, pushes, stores, stores_post_increment, stores_pre_decrement}
+use Rattle.bus_step.specs.MemoryTable.{memory_effect, x, y, z}
+use Rattle.data_space.specs.declared.bus.Done.{Done}
+use Rattle.data_space.specs.declared.cpu.Cpu.{Cpu}
+use Rattle.data_space.specs.Core.{pair_at, with_pair, with_reg}
+use Rattle.data_space.specs.Sequence.{Outcome, then_do}
+use Rattle.data_space.specs.Space.{Access, answered, answers, loaded, lowered, popped, pushed, stored, taken, takes, unless_stopped}
+use Rattle.node_core.specs.declared.bus.NodeBus.{NodeBus}
+use Rattle.node_core.specs.declared.instructions.After.TheVariants as after
+use Rattle.node_core.specs.Bus.{bus_get, bus_put, in_sram}
+use Rattle.node_core.specs.Cycle.{is_sei}
+use Rattle.node_core.specs.Execute.{after_at, after_of, executed, executed_over, accesses_sram}
+use Rattle.node_core.proofs.Quiet.{enables, is_enabled, is_single, keeps_bus, keeps_i, may_access, may_change, single_cycle}
+
+-- ---- an access
+got : (bus : NodeBus) (at : ℕ) → in_sram at ≡ true → bus_get bus at ≡ Ok (slice_index bus.sram (at - 0x100), bus)
+unfolding bus_get
+got bus at h = grind (arith, nat_tests, h)
+
+put : (bus : NodeBus) (at b : ℕ) → in_sram at ≡ true → bus_put bus at b ≡ Ok (let n : NodeBus = record bus { sram = slice_set bus.sram (at - 0x100) b } in n)
+unfolding bus_put
+put bus at b h = grind (arith, nat_tests, h)
+
+load_is : (at : ℕ) (cpu : Cpu) (bus : NodeBus) → in_sram at ≡ true → loaded bus_get at cpu bus ≡ answers (slice_index bus.sram (at - 0x100)) cpu bus
+unfolding loaded
+load_is at cpu bus h = grind (arith, nat_tests, h) ∙ ap (answered cpu bus) (got bus at h)
+
+store_is : (at b : ℕ) (cpu : Cpu) (bus : NodeBus) → in_sram at ≡ true → stored bus_put at b cpu bus ≡ takes cpu (let n : NodeBus = record bus { sram = slice_set bus.sram (at - 0x100) b } in n)
+unfolding stored
+store_is at b cpu bus h = grind (arith, nat_tests, h) ∙ ap (taken cpu bus) (put bus at b h)
+
+-- ---- an instruction that leaves the board and SREG
+abbrev pub Leaves : Cpu → NodeBus → Outcome NodeBus → Type 0
+Leaves cpu bus o = (o.bus.board ≡ bus.board) × (o.cpu.sreg ≡ cpu.sreg)
+
+load_leaves : (d at words cycles : ℕ) (cpu : Cpu) (bus : NodeBus) → in_sram at ≡ true → Leaves cpu bus (loads bus_get d at words cycles cpu bus)
+unfolding loads
+load_leaves d at words cycles cpu bus h =
+    subst (λ (a : Access ℕ NodeBus). Leaves cpu bus (then_do a a.result (λ byte c b. ends words cycles (with_reg d byte c) b))) (sym (load_is at cpu bus h)) (refl, refl)
+
+store_leaves : (at b words cycles : ℕ) (cpu : Cpu) (bus : NodeBus) → in_sram at ≡ true → Leaves cpu bus (stores bus_put at b words cycles cpu bus)
+unfolding stores
+store_leaves at b words cycles cpu bus h =
+    subst (λ (a : Access (Unit {0}) NodeBus). Leaves cpu bus (then_do a a.result (λ _ c n. ends words cycles c n))) (sym (store_is at b cpu bus h)) (refl, refl)
+
+push_leaves : (r : ℕ) (cpu : Cpu) (bus : NodeBus) → in_sram cpu.sp ≡ true → Leaves cpu bus (pushes bus_put r cpu bus)
+unfolding pushes pushed
+push_leaves r cpu bus h =
+    subst (λ (a : Access (Unit {0}) NodeBus). (let s = lowered ((cpu.sp + 65535) % 65536) a a.result in Leaves cpu bus (then_do s s.result (λ _ c n. ends 1 2 c n))))
+    (sym (store_is cpu.sp (slice_index cpu.r r) cpu bus h)) (refl, refl)
+
+pop_leaves : (d : ℕ) (cpu : Cpu) (bus : NodeBus) → in_sram ((cpu.sp + 1) % 65536) ≡ true → Leaves cpu bus (pops bus_get d cpu bus)
+unfolding pops popped
+pop_leaves d cpu bus h =
+    let sp : ℕ = (cpu.sp + 1) % 65536 in
+    let raised : Cpu = record cpu { sp = sp } in
+    subst (λ (a : Access ℕ NodeBus). (let s = unless_stopped cpu a a.result in Leaves cpu bus (then_do s s.result (λ byte c b. ends 1 2 (with_reg d byte c) b))))
+    (sym (load_is sp raised bus h)) (refl, refl)
+
+module _ (flash : List ℕ) (cpu : Cpu) (bus : NodeBus) where
+  pub sram_leaves : (o : Op) → accesses_sram o cpu ≡ true → Leaves cpu bus (executed flash o cpu bus)
+  unfolding executed_over memory_effect
+  sram_leaves (op.LdX d) h = load_leaves d (pair_at x cpu) 1 2 cpu bus h
+  sram_leaves (op.LddY d q) h = load_leaves d (displaced y q cpu) 1 2 cpu bus h
+  sram_leaves (op.LddZ d q) h = load_leaves d (displaced z q cpu) 1 2 cpu bus h
+  sram_leaves (op.Lds d k) h = load_leaves d k (words_of (op.Lds d k)) 2 cpu bus h
+  sram_leaves (op.StX r) h = store_leaves (pair_at x cpu) (slice_index cpu.r r) 1 2 cpu bus h
+  sram_leaves (op.StdY q r) h = store_leaves (displaced y q cpu) (slice_index cpu.r r) 1 2 cpu bus h
+  sram_leaves (op.StdZ q r) h = store_leaves (displaced z q cpu) (slice_index cpu.r r) 1 2 cpu bus h
+  sram_leaves (op.Sts k r) h = store_leaves k (slice_index cpu.r r) (words_of (op.Sts k r)) 2 cpu bus h
+  sram_leaves (op.Push r) h = push_leaves r cpu bus h
+  sram_leaves (op.Pop d) h = pop_leaves d cpu bus h
+  sram_leaves _ h = absurd (false≢true h)
+
+-- ---- what an instruction on this core leaves
+no_sei : (o : Op) (cpu : Cpu) → accesses_sram o cpu ≡ true → is_sei o ≡ false
+no_sei (op.Bset s) cpu h = absurd (false≢true h)
+no_sei op.Reti cpu h = absurd (false≢true h)
+no_sei _ cpu h = refl
+
+pub enables_at : (o : Op) (cpu : Cpu) → is_sei o ≡ is_enabled (after_at o cpu)
+enables_at o cpu = by (accesses_sram o cpu) refl
+  where
+    by : (b : Bool) → accesses_sram o cpu ≡ b → is_sei o ≡ is_enabled (if b then after.Nothing else after_of o)
+    by true e = no_sei o cpu e
+    by false e = enables o
+
+module _ (flash : List ℕ) (o : Op) (cpu : Cpu) (bus : NodeBus) where
+  pub keeps_i_at : may_change (after_at o cpu) ≡ false → nat_lt (executed flash o cpu bus).cpu.sreg.bits 128 ≡ nat_lt cpu.sreg.bits 128
+  keeps_i_at = by (accesses_sram o cpu) refl
+    where
+      by : (b : Bool) → accesses_sram o cpu ≡ b → may_change (if b then after.Nothing else after_of o) ≡ false → nat_lt (executed flash o cpu bus).cpu.sreg.bits 128 ≡ nat_lt cpu.sreg.bits 128
+      by true e h = ap (λ (s : Sreg). nat_lt s.bits 128) (sram_leaves flash cpu bus o e).1
+      by false e h = keeps_i flash o cpu bus h
+
+  pub single_cycle_at : (d : Done) → after_at o cpu ≡ after.Single → (executed flash o cpu bus).result ≡ Ok d → d.cycles ≡ 1
+  single_cycle_at d = by (accesses_sram o cpu)
+    where
+      by : (b : Bool) → (if b then after.Nothing else after_of o) ≡ after.Single → (executed flash o cpu bus).result ≡ Ok d → d.cycles ≡ 1
+      by true e ok = absurd (false≢true (ap is_single e))
+      by false e ok = single_cycle flash o cpu bus d e ok
+
+  pub keeps_board : may_access (after_at o cpu) ≡ false → (executed flash o cpu bus).bus.board ≡ bus.board
+  keeps_board = by (accesses_sram o cpu) refl
+    where
+      by : (b : Bool) → accesses_sram o cpu ≡ b → may_access (if b then after.Nothing else after_of o) ≡ false → (executed flash o cpu bus).bus.board ≡ bus.board
+      by true e h = (sram_leaves flash cpu bus o e).0
+      by false e h = ap (λ (n : NodeBus). n.board) (keeps_bus flash cpu bus o h)
