@@ -80,10 +80,10 @@ abbrev difference_entry : Bool → ℕ → ℕ → ℕ → ℕ
 difference_entry h x y z = carry_flags (nat_lt z 16) h (xor (high x) (high y) && xor (high x) (high z))
 
 abbrev sum_fits : Bool → ℕ → ℕ → Bool
-sum_fits h x y = let z = x + y + one_if h in entry 256 x y z == sum_entry h x y z
+sum_fits h x y = let z = x + y + one_if h in entry 512 x y z == sum_entry h x y z
 
 abbrev difference_fits : Bool → ℕ → ℕ → Bool
-difference_fits h x y = let z = x + 16 - (y + one_if h) in entry 288 x y z == difference_entry h x y z
+difference_fits h x y = let z = x + 16 - (y + one_if h) in entry 544 x y z == difference_entry h x y z
 
 sum_fit : both (λ h. halves (sum_fits h)) ≡ true
 sum_fit = refl
@@ -91,10 +91,10 @@ sum_fit = refl
 difference_fit : both (λ h. halves (difference_fits h)) ≡ true
 difference_fit = refl
 
-sum_at : (h : Bool) (x y z : ℕ) → x < 16 → y < 16 → z ≡ x + y + one_if h → entry 256 x y z ≡ sum_entry h x y z
+sum_at : (h : Bool) (x y z : ℕ) → x < 16 → y < 16 → z ≡ x + y + one_if h → entry 512 x y z ≡ sum_entry h x y z
 sum_at h x y z f g e = rw e (eqb-true _ _ (at_halves (sum_fits h) x y (at (λ h. halves (sum_fits h)) h sum_fit) f g))
 
-difference_at : (h : Bool) (x y z : ℕ) → x < 16 → y < 16 → z ≡ x + 16 - (y + one_if h) → entry 288 x y z ≡ difference_entry h x y z
+difference_at : (h : Bool) (x y z : ℕ) → x < 16 → y < 16 → z ≡ x + 16 - (y + one_if h) → entry 544 x y z ≡ difference_entry h x y z
 difference_at h x y z f g e = rw e (eqb-true _ _ (at_halves (difference_fits h) x y (at (λ h. halves (difference_fits h)) h difference_fit) f g))
 
 -- the sign of a byte is that of its high half
@@ -116,18 +116,18 @@ sum_carries a b false f g = grind (arith, nat_tests)
 pub sum_entry_is : (a b : ℕ) (carry : Bool) → a < 256 → b < 256 →
     let sum = a + b + one_if carry in
     let v = overflows 128 (signed 128 a +ℤ signed 128 b +ℤ pos (one_if carry)) in
-    get_or FLAGS (256 + bit_xor (bit_xor a b) sum / 16 % 32) 0 ≡ carry_flags (nat_le 256 sum) (nat_le 16 (a % 16 + b % 16 + one_if carry)) v
+    get_or FLAGS (512 + bit_xor (bit_xor a b) sum / 16 % 32) 0 ≡ carry_flags (nat_le 256 sum) (nat_le 16 (a % 16 + b % 16 + one_if carry)) v
 sum_entry_is a b carry f g =
     let sum = a + b + one_if carry in
     let h = nat_le 16 (a % 16 + b % 16 + one_if carry) in
     let v : (xor (high (a / 16)) (high (sum / 16 % 32)) && xor (high (b / 16)) (high (sum / 16 % 32))) ≡ overflows 128 (signed 128 a +ℤ signed 128 b +ℤ pos (one_if carry)) =
     rw (sign_high sum, sign_of a f, sign_of b g) (sum_by_signs a b carry f g) in
-    by_halves 256 a b sum
+    by_halves 512 a b sum
     ∙ sum_at h (a / 16) (b / 16) (sum / 16 % 32) (omega arith) (omega arith) (sum_high a b carry f g)
     ∙ (λ i. carry_flags (sum_carries a b carry f g i) h (v i))
 
 pub sum_put : (a b : ℕ) (carry : Bool) (s : Sreg) (sum signs carries : ℕ) → a < 256 → b < 256 → s.bits < 256 → sum ≡ a + b + one_if carry
-    → signs ≡ signs_of (nat_le 128 (sum % 256)) (sum % 256 == 0) false → carries ≡ get_or FLAGS (256 + bit_xor (bit_xor a b) sum / 16 % 32) 0
+    → signs ≡ signs_of (nat_le 128 (sum % 256)) (sum % 256 == 0) false → carries ≡ get_or FLAGS (512 + bit_xor (bit_xor a b) sum / 16 % 32) 0
     → (let t : Sreg = record { bits = bit_or (bit_and s.bits 192) (bit_xor signs carries) } in (sum % 256, t)) ≡ added a b carry s
 unfolding added
 sum_put a b carry s sum signs carries f g h e i j =
@@ -136,7 +136,7 @@ sum_put a b carry s sum signs carries f g h e i j =
     let v = overflows 128 (signed 128 a +ℤ signed 128 b +ℤ pos (one_if carry)) in
     let half = nat_le 16 (a % 16 + b % 16 + one_if carry) in
     let k : signs ≡ signs_of (nat_le 128 r) (r == 0) false = i ∙ ap (λ n. signs_of (nat_le 128 (n % 256)) (n % 256 == 0) false) e in
-    let l : carries ≡ carry_flags (nat_le 256 all) half v = j ∙ ap (λ n. get_or FLAGS (256 + bit_xor (bit_xor a b) n / 16 % 32) 0) e ∙ sum_entry_is a b carry f g in
+    let l : carries ≡ carry_flags (nat_le 256 all) half v = j ∙ ap (λ n. get_or FLAGS (512 + bit_xor (bit_xor a b) n / 16 % 32) 0) e ∙ sum_entry_is a b carry f g in
     let bits : bit_or (bit_and s.bits 192) (bit_xor signs carries) ≡ with_result 128 r v (with_carries (nat_le 256 all) half s.bits) =
     (λ x. bit_or (bit_and s.bits 192) (bit_xor (k x) (l x))) ∙ byte_put (nat_le 128 r) (r == 0) v (nat_le 256 all) half s.bits h in
     (λ x. (let t : Sreg = record { bits = bits x } in (e x % 256, t)))
@@ -161,18 +161,18 @@ module _ (a b : ℕ) (borrow : Bool) (whole : ℕ) (f : a < 256) (g : b < 256) (
   difference_borrows : nat_lt (whole / 16 % 32) 16 ≡ nat_lt a less
   difference_borrows = grind (arith, nat_tests, less_by)
 
-  difference_entry_is : get_or FLAGS (288 + bit_xor (bit_xor a b) whole / 16 % 32) 0 ≡ carry_flags (nat_lt a less) half (overflows 128 (signed 128 a -ℤ signed 128 b -ℤ pos (one_if borrow)))
+  difference_entry_is : get_or FLAGS (544 + bit_xor (bit_xor a b) whole / 16 % 32) 0 ≡ carry_flags (nat_lt a less) half (overflows 128 (signed 128 a -ℤ signed 128 b -ℤ pos (one_if borrow)))
   difference_entry_is =
       let sign = sign_high whole ∙ ap (nat_le 128) difference_low in
       let v : (xor (high (a / 16)) (high (b / 16)) && xor (high (a / 16)) (high (whole / 16 % 32))) ≡ overflows 128 (signed 128 a -ℤ signed 128 b -ℤ pos (one_if borrow)) =
       rw (sign, sign_of a f, sign_of b g) (difference_by_signs a b borrow f g) in
-      by_halves 288 a b whole
+      by_halves 544 a b whole
       ∙ difference_at half (a / 16) (b / 16) (whole / 16 % 32) (omega arith) (omega arith) difference_high
       ∙ (λ i. carry_flags (difference_borrows i) half (v i))
 
   pub difference_put : (keep_z : Bool) (s : Sreg) (signs borrows : ℕ) → s.bits < 256
       → signs ≡ signs_of (nat_le 128 (whole % 256)) (if keep_z then has_flag s.bits Z && whole % 256 == 0 else whole % 256 == 0) false
-      → borrows ≡ get_or FLAGS (288 + bit_xor (bit_xor a b) whole / 16 % 32) 0
+      → borrows ≡ get_or FLAGS (544 + bit_xor (bit_xor a b) whole / 16 % 32) 0
       → (let t : Sreg = record { bits = bit_or (bit_and s.bits 192) (bit_xor signs borrows) } in (whole % 256, t)) ≡ subtracted a b borrow keep_z s
   unfolding subtracted
   difference_put keep_z s signs borrows h i j =

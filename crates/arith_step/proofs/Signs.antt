@@ -10,13 +10,13 @@ use Rattle.arith_step.specs.declared.flags.TheConstants.{FLAGS}
 
 -- ---- the table
 abbrev listed : ℕ → Bool
-listed r = get_or FLAGS r 0 == signs_of (nat_le 128 r) (r == 0) false
+listed w = get_or FLAGS w 0 == signs_of (nat_le 128 (w % 256)) (w % 256 == 0) false
 
-all_listed : all_from listed 0 256 ≡ true
+all_listed : all_from listed 0 512 ≡ true
 all_listed = refl
 
-pub sign_is : (r : ℕ) → r < 256 → get_or FLAGS r 0 ≡ signs_of (nat_le 128 r) (r == 0) false
-sign_is r h = eqb-true _ _ (all_from-at listed 0 256 r all_listed (omega arith) (omega arith))
+pub sign_is : (w : ℕ) → w < 512 → get_or FLAGS w 0 ≡ signs_of (nat_le 128 (w % 256)) (w % 256 == 0) false
+sign_is w h = eqb-true _ _ (all_from-at listed 0 512 w all_listed (omega arith) (omega arith))
 
 pub turned : (n z : Bool) → bit_xor (signs_of n z false) 24 ≡ signs_of n z true
 turned true true = refl

@@ -1,5 +1,5 @@
 // Differences and complements of bytes.
-ghost use Rattle.std.specs.Prelude.{◌≡◌, ◌+◌, ◌-◌, ◌%◌, ◌==◌, ◌&&◌, false, nat_le, if◌then◌else◌};
+ghost use Rattle.std.specs.Prelude.{◌≡◌, ◌<◌, ◌+◌, ◌-◌, ◌%◌, ◌==◌, ◌&&◌, false, nat_le, if◌then◌else◌};
 ghost use Rattle.avr_base.specs.Flags.{Z, has_flag};
 ghost use Rattle.arith_step.specs.Whole.{one_if, signs_of};
 ghost use Rattle.arith_step.specs.Bytes.{complemented, decremented, negated, subtracted};
@@ -18,12 +18,14 @@ fn difference(a: u8, b: u8, borrow: bool) -> u32
     u32::from(a) + 256 - u32::from(b) - u32::from(borrow)
 }
 
-// N, Z and S of a difference that did not overflow; with Z kept, it stays set only where it was set.
+// N, Z and S of the low byte of a difference, which has nine bits, where V is 0; with Z kept, it stays set only where it
+// was set.
 #[inline]
-fn difference_signs(r: u8, keep_z: bool, s: Sreg) -> u8
-    ensures { result ≡ signs_of (nat_le 128 r) (if keep_z then has_flag s.bits Z && r == 0 else r == 0) false }
+fn difference_signs(whole: u32, keep_z: bool, s: Sreg) -> u8
+    requires { whole < 512 }
+    ensures { result ≡ signs_of (nat_le 128 (whole % 256)) (if keep_z then has_flag s.bits Z && whole % 256 == 0 else whole % 256 == 0) false }
 {
-    let signs = signs_without_overflow(r);
+    let signs = signs_without_overflow(whole);
     if keep_z {
         signs & (s.bits | !ZERO)
     } else {
@@ -40,7 +42,7 @@ pub fn sub(a: u8, b: u8, borrow: bool, keep_z: bool, s: Sreg) -> (u8, Sreg)
 {
     let difference = difference(a, b, borrow);
     let r = (difference % 256) as u8;
-    let flags = difference_signs(r, keep_z, s) ^ borrows_at(a, b, difference);
+    let flags = difference_signs(difference, keep_z, s) ^ borrows_at(a, b, difference);
     let bits = (s.bits & T_AND_I) | flags;
     (r, Sreg { bits })
 }

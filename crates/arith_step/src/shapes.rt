@@ -106,7 +106,7 @@ pub fn put_bits(d: Reg, bits: u8, regs: &mut Registers, core: &mut Core) -> u8
 }
 
 /// MUL, MULS, MULSU and their fractional forms: r1:r0 becomes the product of rD and rR, with C and Z. Two cycles.
-#[inline(always)]
+#[inline]
 #[tactic(auto, unfolding(crate::specs::Shapes::multiplies))]
 pub fn multiply(kind: MulKind, d: Reg, r: Reg, regs: &mut Registers, core: &mut Core) -> u8
     ensures core { whole regs.new core.new ≡ multiplies kind d r (whole regs.old core.old) }

@@ -14,7 +14,7 @@ pub fn add(a: u8, b: u8, carry: bool, s: Sreg) -> (u8, Sreg)
 {
     let sum = u32::from(a) + u32::from(b) + u32::from(carry);
     let r = (sum % 256) as u8;
-    let flags = signs_without_overflow(r) ^ carries_at(a, b, sum);
+    let flags = signs_without_overflow(sum) ^ carries_at(a, b, sum);
     let bits = (s.bits & T_AND_I) | flags;
     (r, Sreg { bits })
 }

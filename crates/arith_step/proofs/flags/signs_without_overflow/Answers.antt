@@ -4,4 +4,4 @@ use Rattle.arith_step.proofs.Signs.{sign_is}
 use Rattle.arith_step.proofs.flags.signs_without_overflow.Goals as goal
 
 pub returns : goal.returns
-returns c = ap (λ i. get_or FLAGS i 0) c.from.ensures ∙ sign_is c.args.r (omega arith)
+returns c = sign_is c.args.whole (omega arith)
