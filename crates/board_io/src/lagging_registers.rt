@@ -143,11 +143,11 @@ impl LaggingBoard {
         self.board.get_by(rule, at)
     }
 
-    // A read of a timer, which does not catch up, or of a port.
+    // A read by the rule of an address: of a timer, which does not catch up, of a port, or of what looks at no timer. One
+    // match tells them apart, so that the host jumps once.
     #[inline(always)]
-    fn get_beside(&mut self, at: u16) -> Result<u8, StopCause>
-        requires listed { at ≤ 0x9F }
-        requires moves { is_plain_read (rule_of at) ≡ false }
+    fn get_listed(&mut self, at: u16) -> Result<u8, StopCause>
+        requires { at ≤ 0x9F }
         ensures { IsGot (get_by (rule_of at) self.old at) self.old result self.new }
     {
         let rule = listed_rule(at);
@@ -159,6 +159,7 @@ impl LaggingBoard {
             Rule::Timer2(reg) => Ok(self.board.t2.get_calm(settled, n, reg)),
             Rule::Timer3(reg) => Ok(self.board.t3.get_calm(settled, n, reg)),
             Rule::Spi(SpiReg::Spdr) => self.get_spdr(at),
+            _ if is_plain_read(rule) => self.get_plain(rule, at as u8),
             _ => self.get_port_at(at),
         }
     }
@@ -269,22 +270,18 @@ impl Bus for LaggingBoard {
 
     ghost put_gives = { io_put };
 
-    // Get and put are called: twenty instructions may access a device, few do, and inlined into each of them they would
-    // crowd the node's loop.
-    #[inline(never)]
+    // For a caller that is itself called: twenty instructions may access a device, few do, and inlined into each of them
+    // this would crowd the node's loop.
+    #[inline(always)]
     #[tactic(auto, unfolding(crate::specs::Registers::io_get))]
     fn get(&mut self, at: u16) -> Result<u8, StopCause> {
         if at > LAST {
             return Err(StopCause::ReservedAddress);
         }
-        let low = at as u8;
-        let rule = listed_rule(at);
-        if is_plain_read(rule) {
-            return self.get_plain(rule, low);
-        }
-        self.get_beside(at)
+        self.get_listed(at)
     }
 
+    // Called, for the same reason.
     #[inline(never)]
     #[tactic(auto, unfolding(crate::specs::Registers::io_put))]
     fn put(&mut self, at: u16, b: u8) -> Result<(), StopCause> {

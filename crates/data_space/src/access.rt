@@ -39,6 +39,10 @@ fn load_low<B: Bus>(regs: &Registers, sreg: Sreg, bus: &mut B, at: u16) -> Resul
     ensures result { result ≡ (loaded B.get_gives at (whole regs.now (record { sreg = sreg; pc = 0 })) bus.old).result }
     ensures bus { bus.new ≡ (loaded B.get_gives at (whole regs.now (record { sreg = sreg; pc = 0 })) bus.old).bus }
 {
+    // first what most loads are of, the devices' registers
+    if at > 0x1F && at < RAMPZ {
+        return bus.get(at);
+    }
     match at {
         0..=0x1F => Ok(reg(regs, Reg::numbered(at as u8))),
         RAMPZ => Ok(u8::from(regs.rampz)),

@@ -6,7 +6,7 @@ use Rattle.avr_timers.specs.Timer16 as timer16
 use Rattle.avr_timers.specs.Timer8 as timer8
 use Rattle.board_io.specs.Table.{rule_of}
 use Rattle.board_io.proofs.Apart.{ahead_t1, ahead_t3, read_t0, read_t1, read_t2, read_t3}
-use Rattle.board_io.proofs.lagging.LaggingBoard.get_beside.Goals as goal
+use Rattle.board_io.proofs.lagging.LaggingBoard.get_listed.Goals as goal
 
 pub invariant_of-self : goal.invariant_of-self
 invariant_of-self c = ahead_t1 c.self.inside.ahead c.self.inside.board c.get_calm-in-Timer1.new.self c.get_calm-in-Timer1.ensures.others c.self.invariant
