@@ -1,25 +1,30 @@
--- An instruction that accesses a byte of the internal SRAM, and no other data: it leaves the board and SREG. And what
--- any instruction leaves, by what a loop over instructions is told.
-use Rattle.std.proofs.Common.{◌≡◌, ℕ, ◌+◌, ◌-◌, ◌%◌, if◌then◌else◌, nat_lt, Bool, true, false, List, refl, ap, sym, subst, ◌∙◌, arith}
-use Rattle.std.proofs.lemmas.Bool.{false≢true}
+-- An instruction that accesses the internal SRAM, and no other data, leaves the board and SREG, and so does a
+-- branch that is not taken. And what any instruction leaves, by what a loop over instructions is told.
+use Rattle.std.proofs.Common.{◌≡◌, ℕ, ℤ, ◌+◌, ◌-◌, ◌*◌, ◌%◌, if◌then◌else◌, not, nat_lt, Bool, true, false, List, refl, ap, sym, subst, ◌∙◌, arith}
+use Rattle.std.proofs.lemmas.Bool.{and_parts, false≢true}
 use Rattle.std.proofs.lemmas.Bool.Decides.{nat_tests}
-use Rattle.std.specs.Prelude.{Ok, slice_index, slice_set}
+use Rattle.std.specs.Prelude.{Result, Ok, IfOk, slice_index, slice_set}
+use Rattle.avr_base.specs.declared.stop.StopCause.{StopCause}
 use Rattle.avr_base.specs.declared.sreg.Sreg.{Sreg}
 use Rattle.avr_decoder.specs.Words.{words_of}
 use Rattle.avr_decoder.specs.declared.op.Op.{Op}
 use Rattle.avr_decoder.specs.declared.op.Op.TheVariants as op
+use Rattle.bus_step.specs.FlowShapes.{bit_is, branched, jumped, relative, returns}
+use Rattle.bus_step.specs.FlowShapes.{ends as flow_ends}
+use Rattle.bus_step.specs.FlowTable.{flow_effect}
 use Rattle.bus_step.specs.MemoryShapes.{decremented, displaced, ends, loads, loads_post_increment, loads_pre_decrement, pops, pushes, stores, stores_post_increment, stores_pre_decrement}
 use Rattle.bus_step.specs.MemoryTable.{memory_effect, x, y, z}
 use Rattle.data_space.specs.declared.bus.Done.{Done}
 use Rattle.data_space.specs.declared.cpu.Cpu.{Cpu}
-use Rattle.data_space.specs.Core.{pair_at, with_pair, with_reg}
-use Rattle.data_space.specs.Sequence.{Outcome, then_do}
+use Rattle.data_space.specs.Core.{advanced, pair_at, with_pair, with_reg}
+use Rattle.data_space.specs.Sequence.{Outcome, done, popped_word, then_do}
 use Rattle.data_space.specs.Space.{Access, answered, answers, loaded, lowered, popped, pushed, stored, taken, takes, unless_stopped}
 use Rattle.node_core.specs.declared.bus.NodeBus.{NodeBus}
+use Rattle.node_core.specs.declared.instructions.After.{After}
 use Rattle.node_core.specs.declared.instructions.After.TheVariants as after
 use Rattle.node_core.specs.Bus.{bus_get, bus_put, in_sram}
 use Rattle.node_core.specs.Cycle.{is_sei}
-use Rattle.node_core.specs.Execute.{after_at, after_of, executed, executed_over, accesses_sram}
+use Rattle.node_core.specs.Execute.{after_at, after_of, executed, executed_over, accesses_sram, falls_through, returns_by_sram}
 use Rattle.node_core.proofs.Quiet.{enables, is_enabled, is_single, keeps_bus, keeps_i, may_access, may_change, single_cycle}
 
 -- ---- an access
@@ -67,9 +72,40 @@ pop_leaves d cpu bus h =
     subst (λ (a : Access ℕ NodeBus). (let s = unless_stopped cpu a a.result in Leaves cpu bus (then_do s s.result (λ byte c b. ends 1 2 (with_reg d byte c) b))))
     (sym (load_is sp raised bus h)) (refl, refl)
 
+pop_is : (cpu : Cpu) (bus : NodeBus) → in_sram ((cpu.sp + 1) % 65536) ≡ true → popped bus_get cpu bus ≡ answers (slice_index bus.sram ((cpu.sp + 1) % 65536 - 0x100)) (let c : Cpu = record cpu { sp = (cpu.sp + 1) % 65536 } in c) bus
+unfolding popped
+pop_is cpu bus h =
+    let sp : ℕ = (cpu.sp + 1) % 65536 in
+    let raised : Cpu = record cpu { sp = sp } in
+    ap (λ (a : Access ℕ NodeBus). unless_stopped cpu a a.result) (load_is sp raised bus h)
+
+-- the end of a return, by the access that gives the high byte of the address, and by that which gives the low one
+abbrev returned_by : ℕ → Access ℕ NodeBus → Outcome NodeBus
+returned_by above low =
+    let back = then_do low low.result (λ below c b. answers (256 * above + below) c b) in
+    then_do back back.result (λ pc c b. flow_ends (jumped 4 pc c) b)
+
+abbrev returned_from : Access ℕ NodeBus → Outcome NodeBus
+returned_from high =
+    let back = then_do high high.result (λ above c b.
+    (let low = popped bus_get c b in
+    then_do low low.result (λ below c b. answers (256 * above + below) c b))) in
+    then_do back back.result (λ pc c b. flow_ends (jumped 4 pc c) b)
+
+return_leaves : (cpu : Cpu) (bus : NodeBus) → returns_by_sram cpu.sp ≡ true → Leaves cpu bus (returns bus_get cpu bus)
+unfolding returns popped_word
+return_leaves cpu bus h =
+    let sp : ℕ = (cpu.sp + 1) % 65536 in
+    let raised : Cpu = record cpu { sp = sp } in
+    let both = and_parts _ _ h in
+    let above : ℕ = slice_index bus.sram (sp - 0x100) in
+    let low : Leaves cpu bus (returned_by above (popped bus_get raised bus)) = subst (λ (a : Access ℕ NodeBus). Leaves cpu bus (returned_by above a)) (sym (pop_is raised bus both.1)) (refl, refl) in
+    subst (λ (a : Access ℕ NodeBus). Leaves cpu bus (returned_from a)) (sym (pop_is cpu bus both.0)) low
+
 module _ (flash : List ℕ) (cpu : Cpu) (bus : NodeBus) where
   pub sram_leaves : (o : Op) → accesses_sram o cpu ≡ true → Leaves cpu bus (executed flash o cpu bus)
-  unfolding executed_over memory_effect
+  unfolding executed_over memory_effect flow_effect
+  sram_leaves op.Ret h = return_leaves cpu bus h
   sram_leaves (op.LdX d) h = load_leaves d (pair_at x cpu) 1 2 cpu bus h
   sram_leaves (op.LddY d q) h = load_leaves d (displaced y q cpu) 1 2 cpu bus h
   sram_leaves (op.LddZ d q) h = load_leaves d (displaced z q cpu) 1 2 cpu bus h
@@ -82,37 +118,69 @@ module _ (flash : List ℕ) (cpu : Cpu) (bus : NodeBus) where
   sram_leaves (op.Pop d) h = pop_leaves d cpu bus h
   sram_leaves _ h = absurd (false≢true h)
 
+-- ---- a branch that is not taken: it takes a cycle, and leaves the data space and SREG
+abbrev FallsThrough : Cpu → NodeBus → Outcome NodeBus → Type 0
+FallsThrough cpu bus o = (o.result ≡ Ok (done 1)) × (o.bus ≡ bus) × (o.cpu.sreg ≡ cpu.sreg)
+
+not_on : (b : Bool) → not b ≡ true → b ≡ false
+not_on true h = absurd (false≢true h)
+not_on false h = refl
+
+branch_falls : (on : Bool) (k : ℤ) (cpu : Cpu) (bus : NodeBus) → not on ≡ true → FallsThrough cpu bus (flow_ends (branched on k cpu) bus)
+unfolding branched
+branch_falls on k cpu bus h = subst (λ b. FallsThrough cpu bus (flow_ends (if b then jumped 2 (relative k cpu) cpu else (done 1, advanced 1 cpu)) bus)) (sym (not_on on h)) (refl, refl, refl)
+
+falls : (flash : List ℕ) (o : Op) (cpu : Cpu) (bus : NodeBus) → falls_through o cpu ≡ true → FallsThrough cpu bus (executed flash o cpu bus)
+unfolding executed_over flow_effect
+falls flash (op.Brbs s k) cpu bus h = branch_falls (bit_is true (s % 8) cpu.sreg.bits) k cpu bus h
+falls flash (op.Brbc s k) cpu bus h = branch_falls (bit_is false (s % 8) cpu.sreg.bits) k cpu bus h
+falls flash _ cpu bus h = absurd (false≢true h)
+
 -- ---- what an instruction on this core leaves
 no_sei : (o : Op) (cpu : Cpu) → accesses_sram o cpu ≡ true → is_sei o ≡ false
 no_sei (op.Bset s) cpu h = absurd (false≢true h)
 no_sei op.Reti cpu h = absurd (false≢true h)
 no_sei _ cpu h = refl
 
+no_branch_sei : (o : Op) (cpu : Cpu) → falls_through o cpu ≡ true → is_sei o ≡ false
+no_branch_sei (op.Bset s) cpu h = absurd (false≢true h)
+no_branch_sei op.Reti cpu h = absurd (false≢true h)
+no_branch_sei _ cpu h = refl
+
+-- by whether it is a branch that is not taken, and whether it accesses a byte of the SRAM
+module _ (o : Op) (cpu : Cpu) (P : After → Type 0) (fall : falls_through o cpu ≡ true → P after.Single) (sram : accesses_sram o cpu ≡ true → P after.Nothing) (other : P (after_of o)) where
+  by_sram : (b : Bool) → accesses_sram o cpu ≡ b → P (if b then after.Nothing else after_of o)
+  by_sram true e = sram e
+  by_sram false e = other
+
+  by_fall : (b : Bool) → falls_through o cpu ≡ b → P (if b then after.Single else (if accesses_sram o cpu then after.Nothing else after_of o))
+  by_fall true e = fall e
+  by_fall false e = by_sram (accesses_sram o cpu) refl
+
+  by_after : P (after_at o cpu)
+  by_after = by_fall (falls_through o cpu) refl
+
 pub enables_at : (o : Op) (cpu : Cpu) → is_sei o ≡ is_enabled (after_at o cpu)
-enables_at o cpu = by (accesses_sram o cpu) refl
-  where
-    by : (b : Bool) → accesses_sram o cpu ≡ b → is_sei o ≡ is_enabled (if b then after.Nothing else after_of o)
-    by true e = no_sei o cpu e
-    by false e = enables o
+enables_at o cpu = by_after o cpu (λ k. is_sei o ≡ is_enabled k) (no_branch_sei o cpu) (no_sei o cpu) (enables o)
 
 module _ (flash : List ℕ) (o : Op) (cpu : Cpu) (bus : NodeBus) where
   pub keeps_i_at : may_change (after_at o cpu) ≡ false → nat_lt (executed flash o cpu bus).cpu.sreg.bits 128 ≡ nat_lt cpu.sreg.bits 128
-  keeps_i_at = by (accesses_sram o cpu) refl
-    where
-      by : (b : Bool) → accesses_sram o cpu ≡ b → may_change (if b then after.Nothing else after_of o) ≡ false → nat_lt (executed flash o cpu bus).cpu.sreg.bits 128 ≡ nat_lt cpu.sreg.bits 128
-      by true e h = ap (λ (s : Sreg). nat_lt s.bits 128) (sram_leaves flash cpu bus o e).1
-      by false e h = keeps_i flash o cpu bus h
+  keeps_i_at =
+      by_after o cpu (λ k. may_change k ≡ false → nat_lt (executed flash o cpu bus).cpu.sreg.bits 128 ≡ nat_lt cpu.sreg.bits 128)
+      (λ e h. ap (λ (s : Sreg). nat_lt s.bits 128) (falls flash o cpu bus e).2)
+      (λ e h. ap (λ (s : Sreg). nat_lt s.bits 128) (sram_leaves flash cpu bus o e).1)
+      (keeps_i flash o cpu bus)
 
   pub single_cycle_at : (d : Done) → after_at o cpu ≡ after.Single → (executed flash o cpu bus).result ≡ Ok d → d.cycles ≡ 1
-  single_cycle_at d = by (accesses_sram o cpu)
-    where
-      by : (b : Bool) → (if b then after.Nothing else after_of o) ≡ after.Single → (executed flash o cpu bus).result ≡ Ok d → d.cycles ≡ 1
-      by true e ok = absurd (false≢true (ap is_single e))
-      by false e ok = single_cycle flash o cpu bus d e ok
+  single_cycle_at d =
+      by_after o cpu (λ k. k ≡ after.Single → (executed flash o cpu bus).result ≡ Ok d → d.cycles ≡ 1)
+      (λ e h ok. subst (λ (r : Result Done StopCause). IfOk r (λ (x : Done). x.cycles ≡ 1)) (sym (falls flash o cpu bus e).0 ∙ ok) refl)
+      (λ e h ok. absurd (false≢true (ap is_single h)))
+      (single_cycle flash o cpu bus d)
 
   pub keeps_board : may_access (after_at o cpu) ≡ false → (executed flash o cpu bus).bus.board ≡ bus.board
-  keeps_board = by (accesses_sram o cpu) refl
-    where
-      by : (b : Bool) → accesses_sram o cpu ≡ b → may_access (if b then after.Nothing else after_of o) ≡ false → (executed flash o cpu bus).bus.board ≡ bus.board
-      by true e h = (sram_leaves flash cpu bus o e).0
-      by false e h = ap (λ (n : NodeBus). n.board) (keeps_bus flash cpu bus o h)
+  keeps_board =
+      by_after o cpu (λ k. may_access k ≡ false → (executed flash o cpu bus).bus.board ≡ bus.board)
+      (λ e h. ap (λ (n : NodeBus). n.board) (falls flash o cpu bus e).1)
+      (λ e h. (sram_leaves flash cpu bus o e).0)
+      (λ h. ap (λ (n : NodeBus). n.board) (keeps_bus flash cpu bus o h))

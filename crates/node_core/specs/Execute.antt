@@ -1,6 +1,6 @@
 -- The effect of one instruction on the core and the data space (AVR Instruction Set Manual), by its class: the tables
 -- of arith_step and bus_step. An instruction that halts changes nothing.
-use Rattle.std.specs.Prelude.{ℕ, ◌+◌, ◌%◌, ◌==◌, ◌&&◌, ℤ, pos, negsuc, int_lt, int_le, if◌then◌else◌, Bool, true, false, List, Result, Ok, Err}
+use Rattle.std.specs.Prelude.{ℕ, ◌+◌, ◌%◌, ◌==◌, ◌&&◌, ℤ, pos, negsuc, int_lt, int_le, if◌then◌else◌, not, Bool, true, false, List, Result, Ok, Err}
 use Rattle.avr_base.specs.declared.stop.StopCause.{StopCause}
 use Rattle.avr_decoder.specs.declared.op.Op.{Op}
 use Rattle.avr_decoder.specs.declared.op.Op.TheVariants as op
@@ -11,6 +11,7 @@ use Rattle.data_space.specs.declared.cpu.Cpu.{Cpu}
 use Rattle.data_space.specs.Core.{pair_at}
 use Rattle.data_space.specs.Sequence.{Outcome}
 use Rattle.arith_step.specs.Table.{arith_cpu, arith_cycles, arith_done}
+use Rattle.bus_step.specs.FlowShapes.{bit_is}
 use Rattle.bus_step.specs.FlowTable.{flow_effect}
 use Rattle.bus_step.specs.MemoryShapes.{displaced}
 use Rattle.bus_step.specs.MemoryTable.{memory_effect, x, y, z}
@@ -105,9 +106,16 @@ after_of (op.Sbi a b) = after.Store
 after_of (op.Cbi a b) = after.Store
 after_of o = after_class (class_of o) o
 
--- whether an instruction is known to access one byte of the internal SRAM, and no other data; of the rarer ones it is
--- not asked
+-- whether the return address on top of the stack lies in the internal SRAM
+abbrev pub returns_by_sram : ℕ → Bool
+returns_by_sram sp =
+    let high = (sp + 1) % 65536 in
+    in_sram high && in_sram ((high + 1) % 65536)
+
+-- whether an instruction is known to access bytes of the internal SRAM, and no other data; of the rarer ones it is not
+-- asked
 abbrev pub accesses_sram : Op → Cpu → Bool
+accesses_sram op.Ret cpu = returns_by_sram cpu.sp
 accesses_sram (op.LdX d) cpu = in_sram (pair_at x cpu)
 accesses_sram (op.LddY d q) cpu = in_sram (displaced y q cpu)
 accesses_sram (op.LddZ d q) cpu = in_sram (displaced z q cpu)
@@ -120,10 +128,19 @@ accesses_sram (op.Push r) cpu = in_sram cpu.sp
 accesses_sram (op.Pop d) cpu = in_sram ((cpu.sp + 1) % 65536)
 accesses_sram _ cpu = false
 
--- what an access of the data space leaves, if not of the SRAM, and if of one of its bytes; and so each instruction on
--- this core
+-- whether an instruction is a branch that is not taken
+abbrev pub falls_through : Op → Cpu → Bool
+falls_through (op.Brbs s k) cpu = not (bit_is true (s % 8) cpu.sreg.bits)
+falls_through (op.Brbc s k) cpu = not (bit_is false (s % 8) cpu.sreg.bits)
+falls_through _ cpu = false
+
+-- what an access of the data space leaves, if not of the SRAM, and if of one of its bytes; what a branch leaves; and so
+-- each instruction on this core
 abbrev pub after_access : After → ℕ → After
 after_access other at = if in_sram at then after.Nothing else other
 
+abbrev pub after_branch : Bool → ℤ → After
+after_branch on k = if not on then after.Single else after_jump k
+
 abbrev pub after_at : Op → Cpu → After
-after_at o cpu = if accesses_sram o cpu then after.Nothing else after_of o
+after_at o cpu = if falls_through o cpu then after.Single else (if accesses_sram o cpu then after.Nothing else after_of o)

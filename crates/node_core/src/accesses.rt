@@ -1,16 +1,18 @@
-// Loads and stores, told apart by whether they are of the internal SRAM: behind such a one a loop over instructions looks
-// at nothing. Each is executed by one text of bus_step. It stands in both branches, since the host's code of the one then
+// Loads, stores and returns, told apart by whether they are of the internal SRAM: behind such a one a loop over
+// instructions looks at nothing. Each is executed by one text of bus_step. It stands in both branches, since the host's code of the one then
 // has no device in it.
-ghost use Rattle.std.specs.Prelude.{◌≡◌, ◌+◌, ◌%◌};
+ghost use Rattle.std.specs.Prelude.{◌≡◌, ◌+◌, ◌%◌, if◌then◌else◌};
 ghost use Rattle.data_space.specs.Core.{pair_at, whole};
+ghost use Rattle.bus_step.specs.FlowShapes.{returns};
 ghost use Rattle.bus_step.specs.MemoryShapes.{loads, pops, pushes, stores};
 ghost use Rattle.node_core.specs.declared.instructions.After.TheVariants as after;
-ghost use Rattle.node_core.specs.Execute.{after_access};
+ghost use Rattle.node_core.specs.Execute.{after_access, returns_by_sram};
 
 use crate::bus::is_in_sram;
 use crate::instructions::After;
 use avr_base::{Reg, StopCause};
 use bus_step::accesses::{load_at, pop_reg, push_reg, store_at};
+use bus_step::calls::ret;
 use data_space::{Bus, Core, Done, Registers, pair};
 
 /// What an instruction that accesses data leaves, and what it reports.
@@ -90,4 +92,17 @@ pub fn pop<B: Bus>(d: Reg, regs: &mut Registers, core: &mut Core, bus: &mut B) -
         return (After::Nothing, pop_reg(d, regs, core, bus));
     }
     (After::Loaded, pop_reg(d, regs, core, bus))
+}
+
+/// RET.
+#[inline(always)]
+pub fn returned<B: Bus>(regs: &mut Registers, core: &mut Core, bus: &mut B) -> Accessed
+    ensures after { result.0 ≡ (if returns_by_sram regs.old.sp then after.Nothing else after.Loaded) }
+    ensures outcome { record { result = result.1; cpu = whole regs.new core.new; bus = bus.new } ≡ returns B.get_gives (whole regs.old core.old) bus.old }
+{
+    let high = regs.sp.wrapping_add(1);
+    if is_in_sram(high) && is_in_sram(high.wrapping_add(1)) {
+        return (After::Nothing, ret(regs, core, bus));
+    }
+    (After::Loaded, ret(regs, core, bus))
 }

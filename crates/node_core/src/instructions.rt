@@ -4,9 +4,10 @@ ghost use Rattle.data_space.specs.Core.{advanced, core_of, lone, whole};
 ghost use Rattle.data_space.specs.Sequence.{done};
 ghost use Rattle.avr_decoder.specs.declared.op.Op.TheVariants as op;
 ghost use Rattle.node_core.specs.declared.instructions.After.TheVariants as after;
-ghost use Rattle.node_core.specs.Execute.{after_at, after_cycles, after_jump, after_of, executed_over, is_plain, is_short_back};
+ghost use Rattle.bus_step.specs.FlowShapes.{branched};
+ghost use Rattle.node_core.specs.Execute.{after_at, after_branch, after_cycles, after_jump, after_of, executed_over, is_plain, is_short_back};
 
-use crate::accesses::{Accessed, load, pop, push, store};
+use crate::accesses::{Accessed, load, pop, push, returned, store};
 use arith_step::shapes::{
     add, compare, compare_with_carry, copy, copy_pair, load_bit, multiply, put_bits, put_byte,
     put_word, set_flag, store_bit, subtract, subtract_with_carry, swap,
@@ -19,7 +20,7 @@ use bus_step::accesses::{
     displaced, io_address, load_at, load_post_increment, load_pre_decrement, retire, set_bit,
     store_at, store_post_increment, store_pre_decrement,
 };
-use bus_step::calls::{call, call_at_z, call_near, ret, reti, z_pointer};
+use bus_step::calls::{call, call_at_z, call_near, reti, z_pointer};
 use bus_step::flash::{
     load_extended, load_extended_post_increment, load_program, load_program_post_increment,
 };
@@ -29,9 +30,10 @@ use data_space::{Bus, Core, Cpu, Done, Registers, pair, reg};
 /// What an instruction may leave that a loop over instructions looks at.
 #[derive(Clone, Copy)]
 pub enum After {
-    /// Nothing, after one cycle: the program goes on, the flag I is as it was, and the data space was not accessed.
+    /// Nothing, after one cycle: the program goes on with the next word, the flag I is as it was, and the data space was
+    /// not accessed.
     Single,
-    /// Nothing, after its cycles, and of the data space at most a byte of the internal SRAM was accessed.
+    /// Nothing, after its cycles, and of the data space at most the internal SRAM was accessed.
     Nothing,
     /// The program may go on a few words further back.
     Back,
@@ -78,7 +80,7 @@ fn is_short_back(k: i16) -> bool
     k < 0 && k >= -SHORT
 }
 
-// A jump or a branch over `k` words.
+// A jump, or a branch that is taken, over `k` words.
 #[inline]
 fn jumped(k: i16, reported: Done) -> Executed
     ensures { result ≡ (after_jump k, Some (Ok reported)) }
@@ -90,7 +92,22 @@ fn jumped(k: i16, reported: Done) -> Executed
     }
 }
 
-// An instruction that accesses a byte of the data space, which may be one of the internal SRAM.
+// A branch over `k` words where `on`. It stands in both of its branches, so that the host jumps too: one that is not
+// taken is then as short as an instruction on registers.
+#[inline(always)]
+fn branched(on: bool, k: i16, core: &mut Core) -> Executed
+    ensures after { result.0 ≡ after_branch on k }
+    ensures reported { result.1 ≡ Some (Ok (branched on k (lone core.old)).0) }
+    ensures core { core.new ≡ core_of (branched on k (lone core.old)).1 }
+{
+    if on {
+        jumped(k, branch(true, k, core))
+    } else {
+        (After::Single, Some(Ok(branch(false, k, core))))
+    }
+}
+
+// An instruction that accesses the data space, maybe only the internal SRAM of it.
 #[inline]
 fn accessed(access: Accessed) -> Executed
     ensures { result ≡ (access.0, Some access.1) }
@@ -232,8 +249,8 @@ pub fn execute_plain<B: Bus>(
         Op::Jmp { k } => ended(jump(3, k, core)),
         Op::Rjmp { k } => jumped(k, jump(2, relative_to(k, core), core)),
         Op::Ijmp => ended(jump(2, z_pointer(regs), core)),
-        Op::Brbs { s, k } => jumped(k, branch(bit(true, s % 8, core.sreg.bits), k, core)),
-        Op::Brbc { s, k } => jumped(k, branch(bit(false, s % 8, core.sreg.bits), k, core)),
+        Op::Brbs { s, k } => branched(bit(true, s % 8, core.sreg.bits), k, core),
+        Op::Brbc { s, k } => branched(bit(false, s % 8, core.sreg.bits), k, core),
         Op::Cpse { d, r } => ended(skip(reg(regs, d) == reg(regs, r), program.flash(), core)),
         Op::Sbrs { r, b } => ended(skip(bit(true, b % 8, reg(regs, r)), program.flash(), core)),
         Op::Sbrc { r, b } => ended(skip(bit(false, b % 8, reg(regs, r)), program.flash(), core)),
@@ -242,7 +259,7 @@ pub fn execute_plain<B: Bus>(
         Op::Call { k } => stored(call(k, regs, core, bus)),
         Op::Rcall { k } => stored(call_near(k, regs, core, bus)),
         Op::Icall => stored(call_at_z(regs, core, bus)),
-        Op::Ret => loaded(ret(regs, core, bus)),
+        Op::Ret => accessed(returned(regs, core, bus)),
         Op::LdX { d } => accessed(load(d, pair(regs, x), 1, 2, regs, core, bus)),
         Op::LddY { d, q } => accessed(load(d, displaced(y, q, regs), 1, 2, regs, core, bus)),
         Op::LddZ { d, q } => accessed(load(d, displaced(z, q, regs), 1, 2, regs, core, bus)),
