@@ -1,10 +1,10 @@
 #!/usr/bin/env bash
 # Simulated cycles per second of `node`, and its peak memory: bench/run.sh [CYCLES [PROGRAM]] (10,000,000 where absent, the
-# most that `node` takes). It runs the program as ./avrora built it, or that one, ten times in a row for each image, five times so, and prints
-# the processor time in user mode of a run in the fastest row: the clock has steps of a hundredth of a second.
+# most that `node` takes). It runs the program as ./avrora built it, or that one, ten times in a row for each image, and prints
+# the processor time in user mode of a run in the fastest of twenty such rows.
 # Where a C compiler, Debian's libsimavr-dev and avr-objcopy are installed, each image but those of the radio and of
-# sleep, at which simavr idles by the clock, runs on simavr right after, with the ratio of the two. Where valgrind is
-# installed, host instructions per AVR instruction follow, counted between 100,000 and 300,000 cycles; they hardly vary.
+# sleep, at which simavr idles by the clock, runs on simavr between those rows, with the ratio of the fastest. Where valgrind
+# is installed, host instructions per AVR instruction follow, counted between 100,000 and 300,000 cycles; they hardly vary.
 set -eu
 top=$(cd "$(dirname "$0")/.." && pwd)
 cycles=${1:-10000000}
@@ -13,20 +13,13 @@ work=$(mktemp -d)
 trap 'rm -rf "$work"' EXIT
 [ -n "${2:-}" ] || "$top/avrora" node "$top/examples/two.hex" 1 >/dev/null
 
-# A run of a command, in the fastest of five rows of ten: seconds and KiB.
-fastest() {
-    best=
-    for _ in 1 2 3 4 5; do
-        /usr/bin/env time -o "$work/time" -f '%U %M' sh -c 'for _ in 1 2 3 4 5 6 7 8 9 10; do "$@"; done' row "$@" >/dev/null 2>&1
-        read -r seconds kib <"$work/time"
-        seconds=$(awk "BEGIN { print $seconds / 10 }")
-        if [ -z "$best" ] || awk "BEGIN { exit !($seconds < $best) }"; then best=$seconds; fi
-    done
-}
-
-# A run that is too short for the clock is said to take a thousandth of a second at most.
+# report NAME SECONDS COMMAND..: with the peak memory of one run more. A run that is too short for the clock is said to
+# take a thousandth of a second at most.
 report() {
-    awk -v c="$cycles" -v s="$best" -v k="$kib" -v n="$1" 'BEGIN {
+    name=$1 seconds=$2
+    shift 2
+    /usr/bin/env time -o "$work/time" -f %M "$@" >/dev/null 2>&1
+    awk -v c="$cycles" -v s="$seconds" -v k="$(cat "$work/time")" -v n="$name" 'BEGIN {
         below = s < 0.001 ? "under " : ""; if (s < 0.001) s = 0.001
         printf "%s: %d cycles in %s%.3f s, %s%.1f million cycles a second, %d KiB at most\n", n, c, below, s, below == "" ? "" : "over ", c / s / 1e6, k }'
 }
@@ -35,14 +28,16 @@ peer=
 if cc -O2 -w -o "$work/peer" "$top/bench/peer.c" -lsimavr 2>/dev/null && command -v avr-objcopy >/dev/null; then peer=$work/peer; fi
 
 for image in registers mixed floats ticks ticks400 kernel counter uart ring sleep; do
-    fastest "$program" node "$top/bench/$image.hex" "$cycles"
-    report "$image"
-    ours=$best
+    ours=("$program" node "$top/bench/$image.hex" "$cycles")
     if [ -n "$peer" ] && [ "$image" != ring ] && [ "$image" != sleep ]; then
         avr-objcopy -I ihex -O binary "$top/bench/$image.hex" "$work/$image.bin"
-        fastest "$peer" "$work/$image.bin" "$cycles"
-        report "simavr, $image"
-        awk -v o="$ours" -v p="$best" 'BEGIN { if (o > 0) printf "ratio: %.2f\n", p / o }'
+        theirs=("$peer" "$work/$image.bin" "$cycles")
+        { read -r first; read -r second; } < <("$top/bench/turns.py" 20 10 "${ours[@]}" -- 1 "${theirs[@]}")
+        report "$image" "$first" "${ours[@]}"
+        report "simavr, $image" "$second" "${theirs[@]}"
+        awk -v o="$first" -v p="$second" 'BEGIN { if (o > 0) printf "ratio: %.2f\n", p / o }'
+    else
+        report "$image" "$("$top/bench/turns.py" 20 10 "${ours[@]}")" "${ours[@]}"
     fi
 done
 
