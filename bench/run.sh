@@ -1,14 +1,14 @@
 #!/usr/bin/env bash
-# Simulated cycles per second of `node`, and its peak memory: bench/run.sh [CYCLES [PROGRAM]] (10,000,000 where absent, the
-# most that `node` takes). It runs the program as ./avrora built it, or that one, ten times in a row for each image, and prints
-# the processor time in user mode of a run in the fastest of twenty such rows.
+# Simulated cycles per second of one node, and its peak memory: bench/run.sh [CYCLES [PROGRAM]] (10,000,000 where absent). It
+# runs the program as ./avrora built it, or that one, by `run --plain` without a window, ten times in a row for each image, and
+# prints the processor time in user mode of a run in the fastest of twenty such rows, the start included.
 # Where a C compiler, Debian's libsimavr-dev and avr-objcopy are installed, each image but those of the radio and of
 # sleep, at which simavr idles by the clock, runs on simavr between those rows, with the ratio of the fastest. Where valgrind
 # is installed, host instructions per AVR instruction follow, counted between 100,000 and 300,000 cycles; they hardly vary.
 set -eu
 top=$(cd "$(dirname "$0")/.." && pwd)
 cycles=${1:-10000000}
-program=${2:-$top/crates/avrora_program/out/rlib/avrora_program}
+program=$(realpath "${2:-$top/crates/avrora_program/out/rlib/avrora_program}")
 work=$(mktemp -d)
 trap 'rm -rf "$work"' EXIT
 [ -n "${2:-}" ] || "$top/avrora" node "$top/examples/two.hex" 1 >/dev/null
@@ -21,21 +21,25 @@ report() {
     /usr/bin/env time -o "$work/time" -f %M "$@" >/dev/null 2>&1
     awk -v c="$cycles" -v s="$seconds" -v k="$(cat "$work/time")" -v n="$name" 'BEGIN {
         below = s < 0.001 ? "under " : ""; if (s < 0.001) s = 0.001
-        printf "%s: %d cycles in %s%.3f s, %s%.1f million cycles a second, %d KiB at most\n", n, c, below, s, below == "" ? "" : "over ", c / s / 1e6, k }'
+        printf "%s: %d cycles in %s%.4f s, %s%.1f million cycles a second, %d KiB at most\n", n, c, below, s, below == "" ? "" : "over ", c / s / 1e6, k }'
 }
 
 peer=
 if cc -O2 -w -o "$work/peer" "$top/bench/peer.c" -lsimavr 2>/dev/null && command -v avr-objcopy >/dev/null; then peer=$work/peer; fi
 
-for image in registers mixed floats ticks ticks400 kernel counter uart ring sleep; do
-    ours=("$program" node "$top/bench/$image.hex" "$cycles")
+images="registers mixed floats ticks ticks400 kernel counter uart delay ends ring sleep"
+cd "$work"
+for image in $images; do
+    cp "$top/bench/$image.hex" .
+    printf 'version = 3\ncycles = %d\nnode = [{ image = "%s.hex" }]\n' "$cycles" "$image" >"$image.toml"
+    ours=("$program" run --plain "$image.toml")
     if [ -n "$peer" ] && [ "$image" != ring ] && [ "$image" != sleep ]; then
-        avr-objcopy -I ihex -O binary "$top/bench/$image.hex" "$work/$image.bin"
-        theirs=("$peer" "$work/$image.bin" "$cycles")
+        avr-objcopy -I ihex -O binary "$image.hex" "$image.bin"
+        theirs=("$peer" "$image.bin" "$cycles")
         { read -r first; read -r second; } < <("$top/bench/turns.py" 20 10 "${ours[@]}" -- 1 "${theirs[@]}")
         report "$image" "$first" "${ours[@]}"
         report "simavr, $image" "$second" "${theirs[@]}"
-        awk -v o="$first" -v p="$second" 'BEGIN { if (o > 0) printf "ratio: %.2f\n", p / o }'
+        awk -v o="$first" -v p="$second" 'BEGIN { printf "ratio: %.2f\n", p / (o < 0.001 ? 0.001 : o) }'
     else
         report "$image" "$("$top/bench/turns.py" 20 10 "${ours[@]}")" "${ours[@]}"
     fi
@@ -53,7 +57,7 @@ count() {
 }
 
 if command -v valgrind >/dev/null; then
-    for image in registers mixed floats ticks ticks400 kernel counter uart ring sleep; do
+    for image in $images; do
         count "$top/bench/$image.hex" 100000
         h=$host e=$executed
         count "$top/bench/$image.hex" 300000
