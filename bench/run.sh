@@ -1,13 +1,14 @@
 #!/usr/bin/env bash
-# Simulated cycles per second of one node, and its peak memory: bench/run.sh [CYCLES [PROGRAM]] (10,000,000 where absent). It
-# runs the program as ./avrora built it, or that one, by `run --plain` without a window, ten times in a row for each image, and
-# prints the processor time in user mode of a run in the fastest of twenty such rows, the start included.
+# Simulated cycles per second of one node, and its peak memory: bench/run.sh [CYCLES [PROGRAM]] (50,000,000 where absent). It
+# runs the program as ./avrora built it, or that one, by `run --plain` without a window, forty times for each image, and prints
+# the processor time of the fastest run, the start included.
 # Where a C compiler, Debian's libsimavr-dev and avr-objcopy are installed, each image but those of the radio and of
-# sleep, at which simavr idles by the clock, runs on simavr between those rows, with the ratio of the fastest. Where valgrind
-# is installed, host instructions per AVR instruction follow, counted between 100,000 and 300,000 cycles; they hardly vary.
+# sleep, at which simavr idles by the clock, runs on simavr behind each four of those, with the ratio of the fastest. Where
+# valgrind is installed, host instructions per AVR instruction follow, counted between 100,000 and 300,000 cycles; they hardly
+# vary.
 set -eu
 top=$(cd "$(dirname "$0")/.." && pwd)
-cycles=${1:-10000000}
+cycles=${1:-50000000}
 program=$(realpath "${2:-$top/crates/avrora_program/out/rlib/avrora_program}")
 work=$(mktemp -d)
 trap 'rm -rf "$work"' EXIT
@@ -36,12 +37,12 @@ for image in $images; do
     if [ -n "$peer" ] && [ "$image" != ring ] && [ "$image" != sleep ]; then
         avr-objcopy -I ihex -O binary "$image.hex" "$image.bin"
         theirs=("$peer" "$image.bin" "$cycles")
-        { read -r first; read -r second; } < <("$top/bench/turns.py" 20 10 "${ours[@]}" -- 1 "${theirs[@]}")
+        { read -r first; read -r second; } < <("$top/bench/turns.py" 10 4 "${ours[@]}" -- 1 "${theirs[@]}")
         report "$image" "$first" "${ours[@]}"
         report "simavr, $image" "$second" "${theirs[@]}"
         awk -v o="$first" -v p="$second" 'BEGIN { printf "ratio: %.2f\n", p / (o < 0.001 ? 0.001 : o) }'
     else
-        report "$image" "$("$top/bench/turns.py" 20 10 "${ours[@]}")" "${ours[@]}"
+        report "$image" "$("$top/bench/turns.py" 10 4 "${ours[@]}")" "${ours[@]}"
     fi
 done
 
