@@ -107,6 +107,9 @@ def delays(it):
     # SBIW begins in 2 + 4 j, of 1,000 rounds the last in 3998
     it.case("sbiw", "", ["4001 0 stop 0004 reserved opcode", "5000 0 end 2002 stopped"], 5000,
             (0, [ldi(24, 1000 % 256), ldi(25, 1000 // 256), word("sbiw", d=0, K=1)] + where(Z, False, 1)))
+    # of 40,000 in 159998: bit 15 is left behind within it
+    it.case("sbiw_far", "", ["160001 0 stop 0004 reserved opcode", "170000 0 end 80002 stopped"], 170_000,
+            (0, [ldi(24, 40_000 % 256), ldi(25, 40_000 // 256), word("sbiw", d=0, K=1)] + where(Z, False, 1)))
     # SUBI begins in 3 + 5 j, of 1,110 rounds the last in 5548; below 5003 a thousand times, as the other three do
     subi = [ldi(18, 1110 % 256), ldi(24, 1110 // 256), ldi(25, 0)]
     subi += [word("subi", d=2, K=1), word("sbci", d=8, K=0), word("sbci", d=9, K=0)] + where(Z, False, 3)
@@ -135,6 +138,36 @@ def seen(it):
     it.case("seen_long", "Of one by two bytes.", ["281 0 serial 14", "441 0 serial AF", "1000 0 end 748 running"], 1000, (0, JMP_50), (0x1E, handler), (0x50, words))
 
 
+def seen_pairs(it):
+    # The same of a pair: SBIW begins in 16 + 4 j, the entry in 116 finds 25 rounds done. The handler goes on in 128, and 272 rounds end in
+    # 1115.
+    start = put(SPH, 0x10) + put(TIMSK, 0x02) + put(UCSRB, 0x08)
+    sbiw = [SEI, word("sbiw", d=0, K=1)] + where(Z, False, 1)
+    words = start + put(OCR0, 100) + [ldi(24, 272 % 256), ldi(25, 272 // 256), ldi(16, 1), out(TCCR0, 16)] + sbiw
+    it.case("seen_pair", "Of a pair: below 256, at the end of its negative numbers.",
+            ["280 0 serial F7", "440 0 serial 00", "1115 0 stop 005F reserved opcode", "1200 0 end 563 stopped"], 1200,
+            (0, JMP_50), (0x1E, [out(UDR, 24), out(UDR, 25), NOP, out(TIMSK, 1), RETI]), (0x50, words))
+    # SBIW leaves N and S at 8000, V and S at 7FFF, none at 7FFE. Both begin 218 times more below 1000: 14 + 25 * 2 + 5 + 218 * 2.
+    handler = load(SREG, 21) + [out(UDR, 21), out(UDR, 24), out(TIMSK, 1), RETI]
+    for low, sreg, left in ((0x19, "14", "00"), (0x18, "18", "FF"), (0x17, "00", "FE")):
+        words = start + put(OCR0, 100) + [ldi(24, low), ldi(25, 0x80), ldi(16, 1), out(TCCR0, 16)] + sbiw
+        it.case(f"seen_80{low:02X}", "", [f"281 0 serial {sreg}", f"441 0 serial {left}", "1000 0 end 505 running"], 1000,
+                (0, JMP_50), (0x1E, handler), (0x50, words))
+    # SUBI and SBCI, timed as two bytes above: they leave none at 1000, H alone at 0FFF, none at 0FFE.
+    handler = load(SREG, 21) + [out(UDR, 21), out(UDR, 20), out(TIMSK, 1), RETI]
+    for low, sreg, left in ((0x19, "00", "00"), (0x18, "20", "FF"), (0x17, "00", "FE")):
+        words = start + put(OCR0, 101) + [ldi(20, low), ldi(22, 0x10), ldi(16, 1), out(TCCR0, 16)]
+        words += [SEI, word("subi", d=4, K=1), word("sbci", d=6, K=0)] + where(Z, False, 2)
+        it.case(f"seen_10{low:02X}", "Of two bytes, whose higher one loses its half: a half carry." if low == 0x19 else "",
+                [f"281 0 serial {sreg}", f"441 0 serial {left}", "1000 0 end 748 running"], 1000, (0, JMP_50), (0x1E, handler), (0x50, words))
+    # Of three bytes: SUBI begins in 17 + 5 j, the entry in 117 finds 20 rounds done, so FFFF of 010013. The handler goes on in 129: SUBI
+    # begins 175 times more below 1000, the other three 174 times: 15 + 20 * 4 + 5 + 175 + 174 * 3.
+    words = start + put(OCR0, 101) + [ldi(20, 0x13), ldi(22, 0), ldi(23, 1), ldi(16, 1), out(TCCR0, 16)]
+    words += [SEI, word("subi", d=4, K=1), word("sbci", d=6, K=0), word("sbci", d=7, K=0)] + where(Z, False, 3)
+    it.case("seen_three", "Of three bytes, whose highest one is lowered.", ["282 0 serial 00", "442 0 serial FF", "1000 0 end 797 running"], 1000,
+            (0, JMP_50), (0x1E, handler), (0x50, words))
+
+
 def look_alike(it):
     # IN begins in 10 + 4 j and finds 41, 42 and 00, each once
     it.case("udr0", "Loops that only look so. A read of UDR0 takes a byte.", ["21 0 stop 000D reserved opcode", "100 0 end 19 stopped"], 100,
@@ -156,7 +189,7 @@ def look_alike(it):
 
 def main():
     it = Leaps(folder_of_words(__doc__), ["worked out by hand, as bench/network/leaps.py has it at each; the traces are also those of bench/network/network.py."])
-    for part in (polls, flags, delays, seen, look_alike):
+    for part in (polls, flags, delays, seen, seen_pairs, look_alike):
         part(it)
     it.write("networks", "leaps.txt")
 

@@ -1,9 +1,10 @@
--- SUBI of 1 and SBCI of 0 behind it, where the second borrows nothing: it leaves its register, and its flags do not tell where
--- the first register stands.
-use Rattle.std.proofs.Common.{◌≡◌, ◌≢◌, ℕ, suc, ◌+◌, ◌-◌, ◌*◌, ◌/◌, ◌%◌, ◌≤◌, ◌<◌, ◌==◌, ◌&&◌, nat_le, nat_lt, Bool, true, false, if◌then◌else◌, None, List, length, refl, sym, subst, ap, ◌∙◌, arith, pos, ◌-ℤ◌}
+-- SUBI of 1 and SBCI of 0 behind it, as of a number of two bytes: they lower it by one, and their flags do not tell where it
+-- stands while its four highest bits stay.
+use Rattle.std.proofs.Common.{◌≡◌, ◌≢◌, ℕ, suc, ◌+◌, ◌-◌, ◌*◌, ◌/◌, ◌%◌, ◌≤◌, ◌<◌, ◌==◌, ◌&&◌, nat_le, nat_lt, Bool, true, false, if◌then◌else◌, None, length, inl, inr, refl, sym, subst, ap, ◌∙◌, arith, pos, ◌-ℤ◌}
 use Rattle.std.proofs.lemmas.Bool.Decides.{nat_tests}
-use Rattle.std.proofs.lemmas.Bool.{and_parts, eqb-true}
-use Rattle.std.proofs.lemmas.List.{get_or-set_other, get_or-set_same, set-set, set_comm}
+use Rattle.std.proofs.lemmas.Bool.{and_parts, cases_lt, eqb-true}
+use Rattle.std.proofs.lemmas.Int.{ints}
+use Rattle.std.proofs.lemmas.List.{get_or-set_other}
 use Rattle.std.specs.Prelude.{slice_index, slice_set}
 use Rattle.avr_base.specs.declared.sreg.Sreg.{Sreg}
 use Rattle.avr_base.specs.Flags.{C, Z, has_flag, with_flag}
@@ -16,14 +17,13 @@ use Rattle.arith_step.specs.Table.{arith_cpu, effect}
 use Rattle.arith_step.specs.Whole.{one_if, overflows, signed, with_carries, with_sign, xor}
 use Rattle.avr_decoder.specs.declared.op.Op.TheVariants as op
 use Rattle.data_space.specs.declared.cpu.Cpu.{Cpu}
-use Rattle.data_space.specs.Core.{with_reg}
 use Rattle.board_io.specs.Lines.{lines_of}
 use Rattle.node_core.specs.declared.countdowns.Lowering.{Lowering}
 use Rattle.node_core.specs.declared.machine.Machine.{Machine}
 use Rattle.node_core.specs.Cycle.{op_now}
-use Rattle.node_core.specs.Leaps.{IsLongLowering, IsStillStep, Walk, goes}
+use Rattle.node_core.specs.Leaps.{IsLongLowering, IsStillStep, Walk, counter_at, goes, with_counter}
 use Rattle.node_core.specs.Shown.{shown}
-use Rattle.node_core.proofs.Counting.{came, inside, other_step, walk_one}
+use Rattle.node_core.proofs.Counting.{came, counter_put, high_put, low_put, other_step, set_twice, walk_one}
 
 -- ---- the flags of a subtraction, put into a flags byte at once
 abbrev both : (Bool → Bool) → Bool
@@ -70,18 +70,24 @@ module _ (n z v c h : Bool) (s : ℕ) (f : s < 256) where
   small = let e = fits in let l = low_below in omega (arith, e, l, f)
 
 -- C and Z of them, and that the lower flags before do not tell
-pub carry_of : (n z v h : Bool) (s : ℕ) → s < 256 → has_flag (with_sign n z v (with_carries false h s)) C ≡ false
-carry_of n z v h s f =
-    let e = fits n z v false h s f in
-    let even : with_sign n z v (with_carries false h s) / 1 % 2 ≡ 0 = omega (arith, e) in
-    ap (λ (k : ℕ). k == 1) even
+odd : (b : Bool) (k : ℕ) → k % 2 ≡ one_if b → (k % 2 == 1) ≡ b
+odd true k is = ap (λ (r : ℕ). r == 1) is
+odd false k is = ap (λ (r : ℕ). r == 1) is
 
-pub zero_of : (n v c h : Bool) (s : ℕ) → s < 256 → has_flag (with_sign n false v (with_carries c h s)) Z ≡ false
-zero_of n v c h s f =
-    let e = fits n false v c h s f in
+pub carry_of : (n z v c h : Bool) (s : ℕ) → s < 256 → has_flag (with_sign n z v (with_carries c h s)) C ≡ c
+carry_of n z v c h s f =
+    let e = fits n z v c h s f in
     let few = one c in
-    let even : with_sign n false v (with_carries c h s) / 2 % 2 ≡ 0 = omega (arith, e, few) in
-    ap (λ (k : ℕ). k == 1) even
+    let lowest : with_sign n z v (with_carries c h s) / 1 % 2 ≡ one_if c = omega (arith, e, few) in
+    odd c (with_sign n z v (with_carries c h s) / 1) lowest
+
+pub zero_of : (n z v c h : Bool) (s : ℕ) → s < 256 → has_flag (with_sign n z v (with_carries c h s)) Z ≡ z
+zero_of n z v c h s f =
+    let e = fits n z v c h s f in
+    let few = one c in
+    let less = one z in
+    let next : with_sign n z v (with_carries c h s) / 2 % 2 ≡ one_if z = omega (arith, e, few, less) in
+    odd z (with_sign n z v (with_carries c h s) / 2) next
 
 pub over : (n z v c h : Bool) (s t : ℕ) → s < 256 → t < 256 → s / 64 ≡ t / 64 → with_sign n z v (with_carries c h s) ≡ with_sign n z v (with_carries c h t)
 over n z v c h s t f g e = fits n z v c h s f ∙ (ap (λ (k : ℕ). k * 64 + low_flags n z v c h) e ∙ sym (fits n z v c h t g))
@@ -100,18 +106,16 @@ pub never_on : (s t : ℕ) → s / 64 ≡ t / 64 → false ≡ (nat_lt s 128 && 
 never_on s t e = never_by s t (nat_lt s 128) refl e
 
 -- ---- the core after both
--- of a byte x less 0
-abbrev less_none : ℕ → Sreg → ℕ × Sreg
-less_none x s = subtracted x 0 false false s
-
--- a register of 2 or more less 1: neither C nor Z
-module _ (a : ℕ) (s : Sreg) (f : s.bits < 256) (two : 1 < a) (byte : a < 256) where
+-- a byte less 1, and whether that borrows and gives 0
+module _ (a : ℕ) (s : Sreg) (f : s.bits < 256) where
   abbrev first : ℕ × Sreg
   first = subtracted a 1 false false s
 
-  one_lower : first.0 ≡ a - 1
-  unfolding subtracted
-  one_lower = omega (arith, two, byte)
+  abbrev borrows : Bool
+  borrows = nat_lt a (1 + one_if false)
+
+  abbrev gives_zero : Bool
+  gives_zero = (a + 256 - (1 + one_if false)) % 256 == 0
 
   kept_flags : first.1.bits / 64 ≡ s.bits / 64
   unfolding subtracted
@@ -121,74 +125,101 @@ module _ (a : ℕ) (s : Sreg) (f : s.bits < 256) (two : 1 < a) (byte : a < 256) 
   unfolding subtracted
   fits_still = small _ _ _ _ _ s.bits f
 
-  no_carry : has_flag first.1.bits C ≡ false
+  carry : has_flag first.1.bits C ≡ borrows
   unfolding subtracted
-  no_carry =
-      let none : nat_lt a (1 + one_if false) ≡ false = grind (arith, nat_tests) in
-      ap (λ (c : Bool). has_flag (with_sign (nat_le 128 ((a + 256 - (1 + one_if false)) % 256)) ((a + 256 - (1 + one_if false)) % 256 == 0)
-      (overflows 128 (signed 128 a -ℤ pos 1 -ℤ pos (one_if false))) (with_carries c (nat_lt (a % 16) (1 % 16 + one_if false)) s.bits)) C) none
-      ∙ carry_of _ _ _ _ s.bits f
+  carry = carry_of _ _ _ _ _ s.bits f
 
-  not_zero : has_flag first.1.bits Z ≡ false
+  zero : has_flag first.1.bits Z ≡ gives_zero
   unfolding subtracted
-  not_zero =
-      let none : ((a + 256 - (1 + one_if false)) % 256 == 0) ≡ false = grind (arith, nat_tests) in
-      ap (λ (z : Bool). has_flag (with_sign (nat_le 128 ((a + 256 - (1 + one_if false)) % 256)) z
-      (overflows 128 (signed 128 a -ℤ pos 1 -ℤ pos (one_if false))) (with_carries (nat_lt a (1 + one_if false)) (nat_lt (a % 16) (1 % 16 + one_if false)) s.bits)) Z) none
-      ∙ zero_of _ _ _ _ s.bits f
+  zero = zero_of _ _ _ _ _ s.bits f
 
--- SBCI of 0 where neither is set: a byte and its flags, which of those before keep T and I
-abbrev left : ℕ → Sreg → ℕ × Sreg
-left x s =
-    let r = (x + 256 - (0 + one_if false)) % 256 in
-    (r, record { bits = with_sign (nat_le 128 r) false (overflows 128 (signed 128 x -ℤ pos 0 -ℤ pos (one_if false))) (with_carries (nat_lt x (0 + one_if false)) (nat_lt (x % 16) (0 % 16 + one_if false)) s.bits) })
+-- what is left of the flags behind a high byte r that is not 0 or not the last, without a borrow from a low digit 0
+abbrev left : ℕ → Sreg → Sreg
+left r s = record { bits = with_sign (nat_le 128 r) false false (with_carries false false s.bits) }
 
-leaves_by : (x : ℕ) (s t : Sreg) → has_flag t.bits C ≡ false → has_flag t.bits Z ≡ false → t.bits < 256 → s.bits < 256 → t.bits / 64 ≡ s.bits / 64
-    → subtracted x 0 (has_flag t.bits C) true t ≡ left x s
-unfolding subtracted
-leaves_by x s t no_c no_z f g e =
-    let r = (x + 256 - (0 + one_if false)) % 256 in
-    let v = overflows 128 (signed 128 x -ℤ pos 0 -ℤ pos (one_if false)) in
-    let c = nat_lt x (0 + one_if false) in
-    let h = nat_lt (x % 16) (0 % 16 + one_if false) in
-    (λ i. subtracted x 0 (no_c i) true t)
-    ∙ ((λ i. let u : Sreg = record { bits = with_sign (nat_le 128 r) (no_z i && r == 0) v (with_carries c h t.bits) } in (r, u))
-    ∙ ap (λ (b : ℕ). let u : Sreg = record { bits = b } in (r, u)) (over (nat_le 128 r) false v c h t.bits s.bits f g e))
+-- a byte x less 0 and a borrow c, behind flags t that have it
+module _ (x r : ℕ) (c z : Bool) (s t : Sreg) (has_c : has_flag t.bits C ≡ c) (has_z : has_flag t.bits Z ≡ z) (f : t.bits < 256) (g : s.bits < 256) (e : t.bits / 64 ≡ s.bits / 64)
+    (gives : (x + 256 - (0 + one_if c)) % 256 ≡ r) (some : (z && r == 0) ≡ false)
+    (fine : overflows 128 (signed 128 x -ℤ signed 128 0 -ℤ pos (one_if c)) ≡ false) (none : nat_lt x (0 + one_if c) ≡ false) (half : nat_lt (x % 16) (0 % 16 + one_if c) ≡ false) where
+  leaves : subtracted x 0 (has_flag t.bits C) true t ≡ (r, left r s)
+  unfolding subtracted
+  leaves =
+      (λ i. subtracted x 0 (has_c i) true t)
+      ∙ ((λ i. let u : Sreg = record { bits = with_sign (nat_le 128 (gives i)) (has_z i && gives i == 0) (fine i) (with_carries (none i) (half i) t.bits) } in (gives i, u))
+      ∙ ((λ i. let u : Sreg = record { bits = with_sign (nat_le 128 r) (some i) false (with_carries false false t.bits) } in (r, u))
+      ∙ ap (λ (b : ℕ). let u : Sreg = record { bits = b } in (r, u)) (over (nat_le 128 r) false false false false t.bits s.bits f g e)))
 
--- both, on a core whose register d holds 2 or more
-module _ (d e : ℕ) (cpu : Cpu) (other : e ≢ d) (f : cpu.sreg.bits < 256) (two : 1 < slice_index cpu.r d) (byte : slice_index cpu.r d < 256) where
-  abbrev a : ℕ
-  a = slice_index cpu.r d
+-- the high byte x of a number whose low byte is a, where its twelve lower bits are 2 or more
+module _ (a x : ℕ) (s : Sreg) (f : s.bits < 256) (byte : a < 256) (high : x < 256) (some : 1 < (a + 256 * x) % 4096) where
+  abbrev less : ℕ
+  less = a + 256 * x - 1
 
-  abbrev x : ℕ
-  x = slice_index cpu.r e
+  abbrev second : ℕ × Sreg
+  second = subtracted x 0 (has_flag (first a s f).1.bits C) true (first a s f).1
 
-  abbrev lowered : Cpu
-  lowered = arith_cpu (op.Subi d 1) cpu
+  low_less : (first a s f).0 ≡ less % 256
+  unfolding subtracted
+  low_less = omega (arith, byte, some)
+
+  second_by : (c z : Bool) → borrows a s f ≡ c → gives_zero a s f ≡ z → (x + 256 - (0 + one_if c)) % 256 ≡ less / 256 → (z && less / 256 == 0) ≡ false
+      → overflows 128 (signed 128 x -ℤ signed 128 0 -ℤ pos (one_if c)) ≡ false → nat_lt x (0 + one_if c) ≡ false → nat_lt (x % 16) (0 % 16 + one_if c) ≡ false
+      → second ≡ (less / 256, left (less / 256) s)
+  second_by c z is_c is_z gives some fine none half =
+      leaves x (less / 256) c z s (first a s f).1 (carry a s f ∙ is_c) (zero a s f ∙ is_z) (fits_still a s f) f (kept_flags a s f) gives some fine none half
+
+  not_last : (z : Bool) → (a == 1) ≡ z → (z && less / 256 == 0) ≡ false
+  not_last false is = refl
+  not_last true is = let one_ : a ≡ 1 = grind (arith, is, nat_tests) in let rest : (less / 256 == 0) ≡ false = grind (arith, one_, some, high, nat_tests) in rest
+
+  high_less : second ≡ (less / 256, left (less / 256) s)
+  high_less = elim (cases_lt a 1) [
+    | inl none ↦ (let is : a ≡ 0 = omega (arith, none) in
+        let digit : 0 < x % 16 = omega (arith, is, some, high) in
+        let borrow : nat_lt a (1 + one_if false) ≡ true = grind (arith, is, nat_tests) in
+        let last : ((a + 256 - (1 + one_if false)) % 256 == 0) ≡ false = grind (arith, is, nat_tests) in
+        let gives : (x + 256 - (0 + one_if true)) % 256 ≡ less / 256 = omega (arith, is, digit, high) in
+        let fine : overflows 128 (signed 128 x -ℤ signed 128 0 -ℤ pos (one_if true)) ≡ false = grind (arith, ints, nat_tests, digit, high) in
+        let above : nat_lt x (0 + one_if true) ≡ false = grind (arith, digit, nat_tests) in
+        let half : nat_lt (x % 16) (0 % 16 + one_if true) ≡ false = grind (arith, digit, nat_tests) in
+        second_by true false borrow last gives refl fine above half)
+    | inr one_or_more ↦ (let borrow : nat_lt a (1 + one_if false) ≡ false = grind (arith, one_or_more, nat_tests) in
+        let last : ((a + 256 - (1 + one_if false)) % 256 == 0) ≡ (a == 1) = grind (arith, one_or_more, byte, nat_tests) in
+        let gives : (x + 256 - (0 + one_if false)) % 256 ≡ less / 256 = omega (arith, one_or_more, byte, high) in
+        let fine : overflows 128 (signed 128 x -ℤ signed 128 0 -ℤ pos (one_if false)) ≡ false = grind (arith, ints, nat_tests, high) in
+        let above : nat_lt x (0 + one_if false) ≡ false = grind (arith, nat_tests) in
+        let half : nat_lt (x % 16) (0 % 16 + one_if false) ≡ false = grind (arith, nat_tests) in
+        second_by false (a == 1) borrow last gives (not_last (a == 1) refl) fine above half)
+  ]
+
+-- both, on a core whose counter has twelve lower bits of 2 or more
+module _ (d e : ℕ) (cpu : Cpu) (other : e ≢ d) (f : cpu.sreg.bits < 256) (byte : slice_index cpu.r d < 256) (high : slice_index cpu.r e < 256) (some : 1 < counter_at d e cpu % 4096) where
+  abbrev next : ℕ
+  next = counter_at d e cpu - 1
 
   pub core_after : arith_cpu (op.Sbci e 0) (arith_cpu (op.Subi d 1) cpu)
-      ≡ (let c : Cpu = record cpu { r = slice_set (slice_set cpu.r d (a - 1)) e (left x cpu.sreg).0; sreg = (left x cpu.sreg).1; pc = ((cpu.pc + 1) % 65536 + 1) % 65536 } in c)
+      ≡ (let c : Cpu = record cpu { r = slice_set (slice_set cpu.r d (next % 256)) e (next / 256); sreg = left (next / 256) cpu.sreg; pc = ((cpu.pc + 1) % 65536 + 1) % 65536 } in c)
   unfolding effect subtracts subtracts_with_carry
   core_after =
-      let t : Sreg = (first a cpu.sreg f two byte).1 in
-      let one_less = one_lower a cpu.sreg f two byte in
-      let kept : slice_index (slice_set cpu.r d (first a cpu.sreg f two byte).0) e ≡ x = get_or-set_other cpu.r d e _ 0 other in
-      let y = ap (λ (k : ℕ). subtracted k 0 (has_flag t.bits C) true t) kept
-      ∙ leaves_by x cpu.sreg t (no_carry a cpu.sreg f two byte) (not_zero a cpu.sreg f two byte) (fits_still a cpu.sreg f two byte) f (kept_flags a cpu.sreg f two byte) in
+      let a : ℕ = slice_index cpu.r d in
+      let x : ℕ = slice_index cpu.r e in
+      let t : Sreg = (first a cpu.sreg f).1 in
+      let one_less = low_less a x cpu.sreg f byte high some in
+      let kept : slice_index (slice_set cpu.r d (first a cpu.sreg f).0) e ≡ x = get_or-set_other cpu.r d e _ 0 other in
+      let y = ap (λ (k : ℕ). subtracted k 0 (has_flag t.bits C) true t) kept ∙ high_less a x cpu.sreg f byte high some in
       λ i. let c : Cpu = record cpu { r = slice_set (slice_set cpu.r d (one_less i)) e (y i).0; sreg = (y i).1; pc = ((cpu.pc + 1) % 65536 + 1) % 65536 } in c
 
 -- ---- the two as the first of a round
 module _ (d e n k : ℕ) (m : Machine) (from mid to : Cpu) (h : IsStillStep n m from mid) (g : IsStillStep k m mid to)
     (is : op.Subi d 1 ≡ op_now (shown (let x : Machine = record m { cpu = from } in x))) (then_ : op.Sbci e 0 ≡ op_now (shown (let x : Machine = record m { cpu = mid } in x)))
-    (other : e ≢ d) (f : from.sreg.bits < 256) (byte : slice_index from.r d < 256) where
+    (other : e ≢ d) (f : from.sreg.bits < 256) (byte : slice_index from.r d < 256) (high : slice_index from.r e < 256) (low_there : d < length from.r) (high_there : e < length from.r) where
   abbrev value : ℕ
-  value = slice_index from.r d
+  value = counter_at d e from
 
   came_mid : mid ≡ arith_cpu (op.Subi d 1) from
-  came_mid = came n d m from mid h (op.Subi d 1) is refl
+  came_mid = came n m from mid h (op.Subi d 1) is refl
 
   came_to : to ≡ arith_cpu (op.Sbci e 0) (arith_cpu (op.Subi d 1) from)
-  came_to = came k d m mid to g (op.Sbci e 0) then_ refl ∙ ap (arith_cpu (op.Sbci e 0)) came_mid
+  came_to = came k m mid to g (op.Sbci e 0) then_ refl ∙ ap (arith_cpu (op.Sbci e 0)) came_mid
 
   -- what SUBI leaves of the flags, of any core with these
   flags_mid : (b : Cpu) → b.sreg ≡ from.sreg → (arith_cpu (op.Subi d 1) b).sreg.bits / 64 ≡ from.sreg.bits / 64
@@ -199,69 +230,83 @@ module _ (d e n k : ℕ) (m : Machine) (from mid to : Cpu) (h : IsStillStep n m 
   unfolding effect subtracts
   pc_mid b same = ap (λ (p : ℕ). (p + 1) % 65536) same
 
-  module _ (j : ℕ) (l : j < slice_index from.r d - 1) where
+  module _ (j : ℕ) (l : j < counter_at d e from % 4096 - 1) where
+    abbrev now : ℕ
+    now = value - j
+
+    abbrev w : ℕ
+    w = value - suc j
+
     abbrev b : Cpu
-    b = with_reg d (value - j) from
+    b = with_counter d e now from
 
     abbrev bm : Cpu
     bm = arith_cpu (op.Subi d 1) b
 
-    there : d < length from.r
-    there = inside from.r d (omega (arith, l))
+    got : counter_at d e b ≡ now
+    got = counter_put d e other now from low_there high_there
 
-    got : slice_index (slice_set from.r d (value - j)) d ≡ value - j
-    got = get_or-set_same from.r d (value - j) 0 there
+    some_here : 1 < counter_at d e from % 4096
+    some_here = omega (arith, l)
 
-    aside : slice_index (slice_set from.r d (value - j)) e ≡ slice_index from.r e
-    aside = get_or-set_other from.r d e (value - j) 0 other
+    some_there : 1 < counter_at d e b % 4096
+    some_there = let q = got in let low : now % 4096 ≡ value % 4096 - j = omega (arith, l) in omega (arith, l, q, low)
 
-    two_here : 1 < slice_index from.r d
-    two_here = omega (arith, l)
+    byte_there : slice_index (slice_set (slice_set from.r d (now % 256)) e (now / 256)) d < 256
+    byte_there = let q = low_put d e other from.r (now % 256) (now / 256) low_there high_there in omega (arith, q)
 
-    two_there : 1 < slice_index (slice_set from.r d (value - j)) d
-    two_there = let q = got in omega (arith, l, q)
-
-    byte_there : slice_index (slice_set from.r d (value - j)) d < 256
-    byte_there = let q = got in omega (arith, q, byte)
+    high_byte_there : slice_index (slice_set (slice_set from.r d (now % 256)) e (now / 256)) e < 256
+    high_byte_there = let q = high_put d e other from.r (now % 256) (now / 256) low_there high_there in omega (arith, q, byte, high)
 
     first_step : IsStillStep n m b bm
-    first_step = other_step n d m from mid h (op.Subi d 1) is refl b bm refl refl h.none (never_on from.sreg.bits bm.sreg.bits (sym (flags_mid b refl)))
+    first_step = other_step n m from mid h (op.Subi d 1) is refl b bm refl refl h.none (never_on from.sreg.bits bm.sreg.bits (sym (flags_mid b refl)))
 
-    end_there : with_reg d (value - suc j) to ≡ arith_cpu (op.Sbci e 0) bm
+    sign_stays : nat_le 128 ((value - 1) / 256) ≡ nat_le 128 (w / 256)
+    sign_stays =
+        let before : (value - 1) / 4096 ≡ value / 4096 = omega (arith, l) in
+        let after : w / 4096 ≡ value / 4096 = omega (arith, l) in
+        grind (arith, before, after, nat_tests)
+
+    end_there : with_counter d e w to ≡ arith_cpu (op.Sbci e 0) bm
     end_there =
-        let w : ℕ = value - suc j in
-        let less : slice_index (slice_set from.r d (value - j)) d - 1 ≡ w = (let q = got in omega (arith, q)) in
-        let x : ℕ = slice_index from.r e in
-        let y : ℕ = (left x from.sreg).0 in
-        let r : slice_set (slice_set (slice_set from.r d (value - 1)) e y) d w ≡ slice_set (slice_set (slice_set from.r d (value - j)) d w) e y =
-        set_comm (slice_set from.r d (value - 1)) e d y w other
-        ∙ ap (λ (q : List ℕ). slice_set q e y) (set-set from.r d (value - 1) w ∙ sym (set-set from.r d (value - j) w)) in
-        ap (with_reg d w) (came_to ∙ core_after d e from other f two_here byte)
-        ∙ ((λ i. let c : Cpu = record from { r = r i; sreg = (left x from.sreg).1; pc = ((from.pc + 1) % 65536 + 1) % 65536 } in c)
+        let p : ℕ = (value - 1) % 256 in
+        let q : ℕ = (value - 1) / 256 in
+        let less : counter_at d e b - 1 ≡ w = (let q = got in omega (arith, q)) in
+        let r : slice_set (slice_set (slice_set (slice_set from.r d p) e q) d (w % 256)) e (w / 256) ≡ slice_set (slice_set (slice_set (slice_set from.r d (now % 256)) e (now / 256)) d (w % 256)) e (w / 256) =
+        set_twice d e other from.r p q (w % 256) (w / 256) ∙ sym (set_twice d e other from.r (now % 256) (now / 256) (w % 256) (w / 256)) in
+        ap (with_counter d e w) (came_to ∙ core_after d e from other f byte high some_here)
         ∙ ((λ i. let c : Cpu = record from {
-          r = slice_set (slice_set (slice_set from.r d (value - j)) d (sym less i)) e (left (sym aside i) from.sreg).0;
-          sreg = (left (sym aside i) from.sreg).1;
+          r = r i;
+          sreg = (let u : Sreg = record { bits = with_sign (sign_stays i) false false (with_carries false false from.sreg.bits) } in u);
           pc = ((from.pc + 1) % 65536 + 1) % 65536;
         } in c)
-        ∙ sym (core_after d e b other f two_there byte_there)))
+        ∙ ((λ i. let c : Cpu = record from {
+          r = slice_set (slice_set (slice_set (slice_set from.r d (now % 256)) e (now / 256)) d (sym less i % 256)) e (sym less i / 256);
+          sreg = left (sym less i / 256) from.sreg;
+          pc = ((from.pc + 1) % 65536 + 1) % 65536;
+        } in c)
+        ∙ sym (core_after d e b other f byte_there high_byte_there some_there)))
 
     flags_to : to.sreg.bits / 64 ≡ from.sreg.bits / 64
     flags_to =
-        ap (λ (c : Cpu). c.sreg.bits / 64) (came_to ∙ core_after d e from other f two_here byte) ∙ upper _ _ _ _ _ from.sreg.bits f
+        ap (λ (c : Cpu). c.sreg.bits / 64) (came_to ∙ core_after d e from other f byte high some_here) ∙ upper _ _ _ _ _ from.sreg.bits f
 
-    second_step : IsStillStep k m bm (with_reg d (value - suc j) to)
+    second_step : IsStillStep k m bm (with_counter d e w to)
     second_step =
         let mids : bm.sreg.bits / 64 ≡ mid.sreg.bits / 64 = flags_mid b refl ∙ (sym (flags_mid from refl) ∙ ap (λ (c : Cpu). c.sreg.bits / 64) (sym came_mid)) in
-        other_step k d m mid to g (op.Sbci e 0) then_ refl bm (with_reg d (value - suc j) to) (pc_mid b refl ∙ ap (λ (c : Cpu). c.pc) (sym came_mid)) end_there
+        other_step k m mid to g (op.Sbci e 0) then_ refl bm (with_counter d e w to) (pc_mid b refl ∙ ap (λ (c : Cpu). c.pc) (sym came_mid)) end_there
         (due_same bm.sreg.bits mid.sreg.bits (lines_of m.bus.board) mids ∙ g.none)
         (never_on bm.sreg.bits to.sreg.bits (flags_mid b refl ∙ sym flags_to))
 
-    pub long_walk : Walk m (with_reg d (value - j) from) (n + k) 2 (with_reg d (value - suc j) to)
-    long_walk = goes n 1 k bm (with_reg d (value - suc j) to) (walk_one m n b bm first_step) second_step
+    pub long_walk : Walk m b (n + k) 2 (with_counter d e w to)
+    long_walk = goes n 1 k bm (with_counter d e w to) (walk_one m n b bm first_step) second_step
 
-pub long_lowers : (d e : ℕ) (from : Cpu) (spare : ℕ) → spare ≡ slice_index from.r d - 1 → slice_index from.r d < 256 → e ≢ d
-    → IsLongLowering (op.Subi d 1) (op.Sbci e 0) from (let l : Lowering = record { d = d; spare = spare } in l)
-long_lowers d e from spare is byte other = record {
-  spare = omega (arith, is);
-  steps = λ m n k mid to fetched then_ h g f j lt. long_walk d e n k m from mid to h g fetched then_ other f byte j (subst (λ (i : ℕ). j < i) is lt);
-}
+pub long_lowers : (d e : ℕ) (from : Cpu) (l : Lowering) → l ≡ (let k : Lowering = record { low = d; high = e; spare = counter_at d e from % 4096 - 1 } in k)
+    → counter_at d e from < 65536 → slice_index from.r d < 256 → d < length from.r → e < length from.r → e ≢ d
+    → IsLongLowering (op.Subi d 1) (op.Sbci e 0) from l
+long_lowers d e from l same word byte low_there high_there other =
+    subst (IsLongLowering (op.Subi d 1) (op.Sbci e 0) from) (sym same)
+    record {
+      spare = record { other = other; few = omega arith };
+      steps = λ m n k mid to fetched then_ h g f j lt. long_walk d e n k m from mid to h g fetched then_ other f byte (omega (arith, word)) low_there high_there j lt;
+    }

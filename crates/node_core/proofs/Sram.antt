@@ -12,11 +12,11 @@ use Rattle.avr_decoder.specs.declared.op.Op.TheVariants as op
 use Rattle.bus_step.specs.FlowShapes.{bit_is, branched, jumped, relative, returns}
 use Rattle.bus_step.specs.FlowShapes.{ends as flow_ends}
 use Rattle.bus_step.specs.FlowTable.{flow_effect}
-use Rattle.bus_step.specs.MemoryShapes.{decremented, displaced, ends, loads, loads_post_increment, loads_pre_decrement, pops, pushes, stores, stores_post_increment, stores_pre_decrement}
+use Rattle.bus_step.specs.MemoryShapes.{displaced, ends, loads, pops, pushes, stores}
 use Rattle.bus_step.specs.MemoryTable.{memory_effect, x, y, z}
 use Rattle.data_space.specs.declared.bus.Done.{Done}
 use Rattle.data_space.specs.declared.cpu.Cpu.{Cpu}
-use Rattle.data_space.specs.Core.{advanced, pair_at, with_pair, with_reg}
+use Rattle.data_space.specs.Core.{advanced, pair_at, with_reg}
 use Rattle.data_space.specs.Sequence.{Outcome, done, popped_word, then_do}
 use Rattle.data_space.specs.Space.{Access, answered, answers, loaded, lowered, popped, pushed, stored, taken, takes, unless_stopped}
 use Rattle.node_core.specs.declared.bus.NodeBus.{NodeBus}

@@ -1,6 +1,6 @@
 -- Loops that wait: rounds of instructions that leave a node as it is but for the cycle, the count of instructions and
 -- what the timers count.
-use Rattle.std.specs.Prelude.{◌≡◌, ◌≤◌, ◌<◌, ◌+◌, ◌-◌, ◌*◌, ℕ, suc, nat_le, if◌then◌else◌, slice_index, Bool, true, false, None, List, Ok}
+use Rattle.std.specs.Prelude.{◌≡◌, ◌≢◌, ◌≤◌, ◌<◌, ◌+◌, ◌-◌, ◌*◌, ◌/◌, ◌%◌, ℕ, suc, nat_le, if◌then◌else◌, slice_index, Bool, true, false, None, List, Ok}
 use Rattle.avr_base.specs.Lines.{due_of}
 use Rattle.avr_decoder.specs.declared.op.Op.{Op}
 use Rattle.avr_decoder.specs.declared.op.Op.TheVariants as op
@@ -77,34 +77,50 @@ pub record IsRound (m : Machine) (r : Round) : Type 0 where
   pub few : r.count ≤ r.length
   pub walk : Walk m m.cpu r.length r.count m.cpu
 
--- ---- loops that count a register down
--- how often a byte can be lowered by one while it is not 0 afterwards, and its bit 7 stays
-abbrev pub spared : ℕ → ℕ
-spared value = if nat_le 128 value then value - 128 else value - 1
+-- ---- loops that count a number down
+-- the loop counter of two bytes in register d, the low one, and e; with this number there, the low byte put first
+abbrev pub counter_at : ℕ → ℕ → Cpu → ℕ
+counter_at d e cpu = slice_index cpu.r d + 256 * slice_index cpu.r e
 
--- an instruction lowers register d by one, and does so in the same way also where that stands up to `spare` lower
+abbrev pub with_counter : ℕ → ℕ → ℕ → Cpu → Cpu
+with_counter d e value cpu = with_reg e (value / 256) (with_reg d (value % 256) cpu)
+
+-- how often a number can be lowered by one while it is not 0 afterwards, and stays on its side of half
+abbrev pub spared : ℕ → ℕ → ℕ
+spared half value = if nat_le half value then value - half else value - 1
+
+-- how many times instructions lower a loop counter by one in the same way: not below 0
+pub record IsSpare (cpu : Cpu) (l : Lowering) : Type 0 where
+  pub other : l.high ≢ l.low
+  pub few : l.spare ≤ counter_at l.low l.high cpu
+
+-- the loop counter lowered j times
+abbrev pub lowered : Lowering → ℕ → Cpu → Cpu → Cpu
+lowered l j head cpu = with_counter l.low l.high (counter_at l.low l.high head - j) cpu
+
+-- an instruction lowers a loop counter by one, and does so in the same way also where that stands up to `spare` lower
 pub record IsLowering (o : Op) (from : Cpu) (l : Lowering) : Type 0 where
-  pub spare : l.spare ≤ slice_index from.r l.d
+  pub spare : IsSpare from l
   pub steps : (m : Machine) (n : ℕ) (to : Cpu) → o ≡ op_now (shown (let x : Machine = record m { cpu = from } in x)) → IsStillStep n m from to
-      → (j : ℕ) → j < l.spare → IsStillStep n m (with_reg l.d (slice_index from.r l.d - j) from) (with_reg l.d (slice_index from.r l.d - suc j) to)
+      → (j : ℕ) → j < l.spare → IsStillStep n m (lowered l j from from) (lowered l (suc j) from to)
 
 -- so do two, one behind the other
 pub record IsLongLowering (o p : Op) (from : Cpu) (l : Lowering) : Type 0 where
-  pub spare : l.spare ≤ slice_index from.r l.d
+  pub spare : IsSpare from l
   pub steps : (m : Machine) (n k : ℕ) (mid to : Cpu) → o ≡ op_now (shown (let x : Machine = record m { cpu = from } in x)) → p ≡ op_now (shown (let x : Machine = record m { cpu = mid } in x))
       → IsStillStep n m from mid → IsStillStep k m mid to → from.sreg.bits < 256
-      → (j : ℕ) → j < l.spare → Walk m (with_reg l.d (slice_index from.r l.d - j) from) (n + k) 2 (with_reg l.d (slice_index from.r l.d - suc j) to)
+      → (j : ℕ) → j < l.spare → Walk m (lowered l j from from) (n + k) 2 (lowered l (suc j) from to)
 
--- what an instruction does has nothing to do with register d
-pub record IsBeside (d : ℕ) (o : Op) : Type 0 where
+-- what an instruction does has nothing to do with registers d and e
+pub record IsBeside (d e : ℕ) (o : Op) : Type 0 where
   pub apart : (flash : List ℕ) (cpu : Cpu) (y : ℕ) (bus : NodeBus)
-      → executed flash o (with_reg d y cpu) bus ≡ (let a : Outcome NodeBus = record (executed flash o cpu bus) { cpu = with_reg d y (executed flash o cpu bus).cpu } in a)
+      → executed flash o (with_counter d e y cpu) bus ≡ (let a : Outcome NodeBus = record (executed flash o cpu bus) { cpu = with_counter d e y (executed flash o cpu bus).cpu } in a)
 
--- a round leads from one core to another and lowers a register by one, also where that stands up to `spare` lower
+-- a round leads from one core to another and lowers a loop counter by one, also where that stands up to `spare` lower
 pub record IsCountdown (m : Machine) (from to : Cpu) (c : Countdown) : Type 0 where
   pub some : 0 < c.round.length
   pub few : c.round.count ≤ c.round.length
   pub short : c.round.length ≤ 255 * c.round.count
-  pub spare : c.lowering.spare ≤ slice_index from.r c.lowering.d
+  pub spare : IsSpare from c.lowering
   pub walks : (j : ℕ) → j < c.lowering.spare
-      → Walk m (with_reg c.lowering.d (slice_index from.r c.lowering.d - j) from) c.round.length c.round.count (with_reg c.lowering.d (slice_index from.r c.lowering.d - suc j) to)
+      → Walk m (lowered c.lowering j from from) c.round.length c.round.count (lowered c.lowering (suc j) from to)

@@ -1,9 +1,8 @@
-// Loops that count a register down and do nothing else, as a delay loop does.
-ghost use Rattle.std.specs.Prelude.{◌≡◌, ◌≤◌, ◌<◌, ◌+◌, ◌-◌, ◌*◌, ◌^◌, ℕ, None, false, true, slice_index, IfSome};
-ghost use Rattle.data_space.specs.Core.{with_reg};
+// Loops that count a number down and do nothing else, as a delay loop does.
+ghost use Rattle.std.specs.Prelude.{◌≡◌, ◌≤◌, ◌<◌, ◌+◌, ◌*◌, ◌%◌, ◌^◌, ℕ, None, false, true, length, slice_index, IfSome};
 ghost use Rattle.board_io.specs.Lines.{lines_of};
 ghost use Rattle.node_core.specs.Inside.{MayAct};
-ghost use Rattle.node_core.specs.Leaps.{IsBeside, IsCountdown, IsLongLowering, IsLowering, spared};
+ghost use Rattle.node_core.specs.Leaps.{IsBeside, IsCountdown, IsLongLowering, IsLowering, counter_at, spared, with_counter};
 ghost use Rattle.node_core.specs.Midway.{IsSprinted};
 ghost use Rattle.serial_ports.specs.Script.{script_byte};
 
@@ -13,91 +12,134 @@ use avr_base::Reg;
 use avr_decoder::Op;
 use data_space::Cpu;
 
-/// A register that an instruction lowers by one.
+/// A loop counter of two bytes, which instructions lower by one.
 #[derive(Clone, Copy)]
 pub struct Lowering {
-    /// The register.
-    pub d: Reg,
-    /// How many times in a row the instruction does so in the same way, as far as is known.
-    pub spare: u8,
+    /// The register of its low byte.
+    pub low: Reg,
+    /// The register of its high byte, another.
+    pub high: Reg,
+    /// How many times in a row the instructions do so in the same way, as far as is known.
+    pub spare: u16,
 }
 
-/// A round that lowers a register by one.
+/// A round that lowers a loop counter by one.
 #[derive(Clone, Copy)]
 pub struct Countdown {
-    /// The register.
+    /// The counter.
     pub lowering: Lowering,
     /// The round.
     pub round: Round,
 }
 
-// How often a byte can be lowered by one while it is not 0 afterwards, and its bit 7 stays.
-fn spared(value: u8) -> u8
-    ensures { result ≡ spared value }
+// The loop counter in two registers.
+fn counter(low: Reg, high: Reg, core: &Cpu) -> u16
+    ensures value { result ≡ counter_at low high core.now }
+    ensures byte { slice_index core.now.r low < 256 }
+    ensures low_there { low < length core.now.r }
+    ensures high_there { high < length core.now.r }
 {
-    if value >= 128 {
-        value - 128
+    let low = core.r[usize::from(low.get())];
+    let high = core.r[usize::from(high.get())];
+    u16::from(low) + 256 * u16::from(high)
+}
+
+// Puts it there.
+fn put_counter(low: Reg, high: Reg, value: u16, core: &mut Cpu)
+    ensures { core.new ≡ with_counter low high value core.old }
+{
+    core.set_reg(low, (value % 256) as u8);
+    core.set_reg(high, (value / 256) as u8);
+}
+
+// The register above, r0 above r31.
+fn above(d: Reg) -> Reg
+    ensures { result ≡ (d + 1) % 32 }
+{
+    Reg::numbered((d.get() + 1) % 32)
+}
+
+// How often a number can be lowered by one while it is not 0 afterwards, and stays on its side of `half`.
+fn spared(value: u16, half: u16) -> u16
+    ensures { result ≡ spared half value }
+{
+    if value >= half {
+        value - half
     } else {
         value.saturating_sub(1)
     }
 }
 
-// DEC, and SBIW by one of a pair whose high byte stays.
+// DEC, which leaves the register above, and SBIW by one.
 fn lowered_by(op: &Op, core: &Cpu) -> Option<Lowering>
     ensures { IfSome result (λ l. IsLowering op.now core.now l) }
 {
     match *op {
         Op::Dec { d } => {
-            let spare = spared(core.reg(d));
-            Some(Lowering { d, spare })
+            let spare = spared(u16::from(core.reg(d)), 0x80);
+            let high = above(d);
+            Some(Lowering {
+                low: d,
+                high,
+                spare,
+            })
         }
         Op::Sbiw { d, k } => {
-            let pair = core.pair(d);
-            let low = core.reg(d);
-            if k != 1 || pair % 256 != u16::from(low) {
+            if k != 1 {
                 return None;
             }
-            let spare = low.saturating_sub(1);
-            Some(Lowering { d, spare })
+            let high = above(d);
+            let spare = spared(counter(d, high, core), 0x8000);
+            Some(Lowering {
+                low: d,
+                high,
+                spare,
+            })
         }
         _ => None,
     }
 }
 
-// SUBI by one and SBCI of 0 of another register behind it, which borrows nothing while the first is not lowered below 0: as
-// of a number of several bytes.
+// SUBI by one and SBCI of 0 of another register behind it, as of a number of two bytes or more. What they leave of the
+// flags is the same while the four highest bits stay: no half carry, which the borrow from a low digit 0 of the high byte
+// would be, and none of the others.
 fn long_lowered_by(op: &Op, next: &Op, core: &Cpu) -> Option<Lowering>
     ensures { IfSome result (λ l. IsLongLowering op.now next.now core.now l) }
 {
     let Op::Subi { d, k } = *op else {
         return None;
     };
-    let Op::Sbci { d: e, k: none } = *next else {
+    let Op::Sbci { d: high, k: none } = *next else {
         return None;
     };
-    if k != 1 || none != 0 || e.get() == d.get() {
+    if k != 1 || none != 0 || high.get() == d.get() {
         return None;
     }
-    let spare = core.reg(d).saturating_sub(1);
-    Some(Lowering { d, spare })
+    let value = counter(d, high, core);
+    let spare = (value % 0x1000).saturating_sub(1);
+    Some(Lowering {
+        low: d,
+        high,
+        spare,
+    })
 }
 
-// Whether what an instruction does has nothing to do with the register `d`.
-fn is_beside(op: &Op, d: Reg) -> bool
-    ensures { result ≡ true → IsBeside d op.now }
+// Whether what an instruction does has nothing to do with the registers `low` and `high`.
+fn is_beside(op: &Op, low: Reg, high: Reg) -> bool
+    ensures { result ≡ true → IsBeside low high op.now }
 {
     match *op {
         Op::Nop => true,
         Op::Rjmp { .. } => true,
         Op::Brbs { .. } => true,
         Op::Brbc { .. } => true,
-        Op::Sbci { d: e, .. } => e.get() != d.get(),
+        Op::Sbci { d, .. } => (d.get() != low.get()) & (d.get() != high.get()),
         _ => false,
     }
 }
 
 impl Machine {
-    // Executes on `core` the first two instructions of a round that lowers a register.
+    // Executes on `core` the first two instructions of a round that lowers a loop counter.
     fn lower_long(&mut self, core: &mut Cpu) -> Option<Countdown>
         ensures same { self.new ≡ self.old }
         ensures lowers { IfSome result (λ c. IsCountdown self.old core.old core.new c) }
@@ -119,7 +161,7 @@ impl Machine {
         Some(Countdown { lowering, round })
     }
 
-    // Executes on `core` the first instruction of a round that lowers a register, or the first two.
+    // Executes on `core` the first instruction of a round that lowers a loop counter, or the first two.
     fn lower(&mut self, core: &mut Cpu) -> Option<Countdown>
         ensures same { self.new ≡ self.old }
         ensures lowers { IfSome result (λ c. IsCountdown self.old core.old core.new c) }
@@ -137,7 +179,7 @@ impl Machine {
         Some(Countdown { lowering, round })
     }
 
-    // The round that begins at the program counter, which lowers a register and leaves all else.
+    // The round that begins at the program counter, which lowers a loop counter and leaves all else.
     fn countdown(&mut self) -> Option<Countdown>
         ensures same { self.new ≡ self.old }
         ensures lowers { IfSome result (λ c. IsCountdown self.old self.old.cpu self.old.cpu c) }
@@ -148,12 +190,12 @@ impl Machine {
         let Some(Countdown { lowering, round }) = self.lower(&mut core) else {
             return None;
         };
-        let d = lowering.d;
+        let Lowering { low, high, .. } = lowering;
         let mut length = round.length;
         let mut count = round.count;
         while count < LONGEST {
             let op = self.program.op(core.pc);
-            if !is_beside(&op, d) {
+            if !is_beside(&op, low, high) {
                 return None;
             }
             let taken = self.step_still(&mut core);
@@ -163,7 +205,7 @@ impl Machine {
             length += u64::from(taken);
             count += 1;
             if core.pc == head.pc {
-                core.set_reg(d, head.reg(d));
+                put_counter(low, high, counter(low, high, &head), &mut core);
                 let round = Round { length, count };
                 return if core == head {
                     Some(Countdown { lowering, round })
@@ -175,9 +217,9 @@ impl Machine {
         None
     }
 
-    /// Where a loop begins at the program counter that lowers a register by one and leaves all else as it is but for
-    /// the cycle and the count of instructions, its rounds from `cycle` on that end by `end` and before the next event
-    /// are taken at once, while the register does not come to 0. How many cycles it were, 0 where there is no such
+    /// Where a loop begins at the program counter that lowers a loop counter by one and leaves all else as it is but
+    /// for the cycle and the count of instructions, its rounds from `cycle` on that end by `end` and before the next
+    /// event are taken at once, while the counter does not come to 0. How many cycles it were, 0 where there is no such
     /// loop.
     #[inline(never)]
     pub fn count_down(&mut self, cycle: u64, end: u64) -> u64
@@ -197,11 +239,11 @@ impl Machine {
         let Some(Countdown { lowering, round }) = self.countdown() else {
             return 0;
         };
-        let Lowering { d, spare } = lowering;
+        let Lowering { low, high, spare } = lowering;
         let most = (end - cycle).min(u64::from(spare) * round.length);
         let rounds = self.bus.board.leap_rounds(most, round.length);
-        let value = self.cpu.reg(d);
-        self.cpu.set_reg(d, value - rounds as u8);
+        let value = counter(low, high, &self.cpu);
+        put_counter(low, high, value - rounds as u16, &mut self.cpu);
         self.count += rounds * round.count;
         rounds * round.length
     }

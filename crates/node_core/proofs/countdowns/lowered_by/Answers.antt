@@ -1,27 +1,34 @@
-use Rattle.std.proofs.Common.{◌≡◌, ◌+◌, ◌-◌, ◌%◌, ◌<◌, ℕ, sym, subst, ap, ◌∙◌, refl, arith}
+use Rattle.std.proofs.Common.{◌≡◌, ◌+◌, ◌%◌, ◌<◌, ℕ, length, sym, subst, ap, ◌∙◌, arith}
 use Rattle.std.specs.Prelude.{slice_index}
 use Rattle.avr_decoder.specs.declared.op.Op.{Op}
 use Rattle.avr_decoder.specs.declared.op.Op.TheVariants as op
+use Rattle.data_space.specs.Core.{pair_at}
+use Rattle.data_space.specs.declared.cpu.Cpu.{Cpu}
 use Rattle.node_core.specs.declared.countdowns.Lowering.{Lowering}
-use Rattle.node_core.specs.Leaps.{IsLowering, spared}
+use Rattle.node_core.specs.Leaps.{IsLowering, counter_at, spared}
 use Rattle.node_core.proofs.Counting.{dec_lowers, sbiw_lowers}
 use Rattle.node_core.proofs.countdowns.lowered_by.Goals as goal
 
 pub returns-in-Dec : goal.returns-in-Dec
 returns-in-Dec c =
+    let from : Cpu = c.args.core.now in
     let d : ℕ = c.in-Dec.d in
-    let l : Lowering = record { d = d; spare = c.spared-spare.result } in
-    let byte : slice_index c.args.core.now.r d < 256 = omega (arith, c.reg.ensures, c.reg.type_inv) in
-    subst (λ (o : Op). IsLowering o c.args.core.now l) (sym c.in-Dec.is)
-    (dec_lowers d c.args.core.now c.spared-spare.result (c.spared-spare.ensures ∙ ap spared c.reg.ensures) byte l refl)
+    let l : Lowering = record { low = d; high = c.above-high.result; spare = c.spared-spare.result } in
+    let byte : slice_index from.r d < 256 = omega (arith, c.reg.ensures, c.reg.type_inv) in
+    let spare : c.spared-spare.result ≡ spared 128 (slice_index from.r d) = c.spared-spare.ensures ∙ ap (spared 128) (c.from.ensures ∙ c.reg.ensures) in
+    subst (λ (o : Op). IsLowering o from l) (sym c.in-Dec.is)
+    (dec_lowers d from l (λ i. let k : Lowering = record { low = d; high = c.above-high.ensures i; spare = spare i } in k) byte)
 
-pub returns-else-pair-from : goal.returns-else-pair-from
-returns-else-pair-from c =
+pub returns-else-k-ne1 : goal.returns-else-k-ne1
+returns-else-k-ne1 c =
+    let from : Cpu = c.args.core.now in
     let d : ℕ = c.in-Sbiw.d in
-    let l : Lowering = record { d = d; spare = c.saturating_sub-spare.result } in
-    let byte : slice_index c.args.core.now.r d < 256 = omega (arith, c.reg-low.ensures, c.reg-low.type_inv) in
-    let above : slice_index c.args.core.now.r ((d + 1) % 32) < 256 = omega (arith, byte, c.pair-pair.ensures, c.pair-pair.type_inv) in
-    let spare : c.saturating_sub-spare.result ≡ slice_index c.args.core.now.r d - 1 = c.saturating_sub-spare.ensures ∙ ap (λ (k : ℕ). k - 1) c.reg-low.ensures in
-    subst (λ (o : Op). IsLowering o c.args.core.now l) (sym c.in-Sbiw.is)
-    (subst (λ (k : ℕ). IsLowering (op.Sbiw d k) c.args.core.now l) (sym c.if-k-ne1.false)
-    (sbiw_lowers d c.args.core.now c.saturating_sub-spare.result spare byte above l refl))
+    let l : Lowering = record { low = d; high = c.above-high-in-Sbiw.result; spare = c.spared-spare-in-Sbiw.result } in
+    let above : c.above-high-in-Sbiw.result ≡ (d + 1) % 32 = c.above-high-in-Sbiw.ensures in
+    let value : c.counter.result ≡ pair_at d from = c.counter.ensures.value ∙ ap (λ (e : ℕ). counter_at d e from) above in
+    let word : pair_at d from < 65536 = omega (arith, value, c.counter.type_inv) in
+    let spare : c.spared-spare-in-Sbiw.result ≡ spared 32768 (pair_at d from) = c.spared-spare-in-Sbiw.ensures ∙ ap (spared 32768) value in
+    subst (λ (o : Op). IsLowering o from l) (sym c.in-Sbiw.is)
+    (subst (λ (k : ℕ). IsLowering (op.Sbiw d k) from l) (sym c.if-k-ne1.false)
+    (sbiw_lowers d from l (λ i. let k : Lowering = record { low = d; high = above i; spare = spare i } in k)
+    c.counter.ensures.low_there (subst (λ (e : ℕ). e < length from.r) above c.counter.ensures.high_there) word))

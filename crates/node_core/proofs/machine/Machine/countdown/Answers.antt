@@ -1,11 +1,10 @@
 use Rattle.std.proofs.Common.{◌≡◌, ◌<◌, ◌+◌, ℕ, sym, subst, ap, ◌∙◌, arith}
 use Rattle.data_space.specs.declared.cpu.Cpu.{Cpu}
-use Rattle.data_space.specs.Core.{with_reg}
 use Rattle.node_core.specs.declared.countdowns.Countdown.{Countdown}
 use Rattle.node_core.specs.declared.countdowns.Lowering.{Lowering}
 use Rattle.node_core.specs.declared.machine.Machine.{Machine}
 use Rattle.node_core.specs.Cycle.{op_now}
-use Rattle.node_core.specs.Leaps.{IsStillStep}
+use Rattle.node_core.specs.Leaps.{IsStillStep, with_counter}
 use Rattle.node_core.specs.Shown.{shown}
 use Rattle.node_core.proofs.Cores.{same_core}
 use Rattle.node_core.proofs.Counting.{goes_down, goes_round}
@@ -16,7 +15,6 @@ loop-count-preserved c =
     let m : Machine = c.args.self.now in
     let i = c.loop-count.invariant in
     let l : Lowering = c.in-Some.field-0.lowering in
-    let d : ℕ = l.d in
     let n : ℕ = c.step_still-taken.result in
     let from : Cpu = c.loop-count.core in
     let to : Cpu = c.step_still-taken.new.core in
@@ -27,7 +25,8 @@ loop-count-preserved c =
     record {
       same = c.step_still-taken.ensures.same ∙ i.same;
       head = i.head;
-      d = i.d;
+      low = i.low;
+      high = i.high;
       lowers = goes_down m from to l c.loop-count.length c.loop-count.count n c.from-length.result c.from-length.ensures i.lowers step byte c.op-op.result
           (c.op-op.ensures ∙ ap (λ (x : Machine). op_now (shown (let y : Machine = record x { cpu = from } in y))) i.same) (c.is_beside.ensures c.if-not-is_beside.false);
       turns = omega (arith, test);
@@ -45,7 +44,7 @@ returns-then-eq-clause-lowers c =
     let byte : n < 256 = c.step_still-taken.type_inv in
     let step : IsStillStep n m from to = subst (λ (x : Machine). IsStillStep n x from to) i.same (c.step_still-taken.ensures.step taken) in
     let last : Countdown = record { lowering = l; round = record { length = c.loop-count.length + c.from-length.result; count = c.loop-count.count + 1 } } in
-    let back : with_reg l.d c.reg.result to ≡ m.cpu = sym c.set_reg.ensures ∙ same_core c.set_reg.new.self m.cpu (sym c.eq.ensures ∙ c.if-eq.true) in
-    goes_round m to last c.reg.result back
+    let back : with_counter l.low l.high c.counter.result to ≡ m.cpu = sym c.put_counter.ensures ∙ same_core c.put_counter.new.core m.cpu (sym c.eq.ensures ∙ c.if-eq.true) in
+    goes_round m to last c.counter.result back
     (goes_down m from to l c.loop-count.length c.loop-count.count n c.from-length.result c.from-length.ensures i.lowers step byte c.op-op.result
     (c.op-op.ensures ∙ ap (λ (x : Machine). op_now (shown (let y : Machine = record x { cpu = from } in y))) i.same) (c.is_beside.ensures c.if-not-is_beside.false))

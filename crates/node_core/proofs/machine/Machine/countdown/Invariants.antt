@@ -7,7 +7,8 @@ abbrev pub invariant-loop-count : goal.invariant-loop-count
 invariant-loop-count l = record {
   same : l.self ≡ l.fn.self;
   head : l.head ≡ l.fn.self.cpu;
-  d : l.d ≡ l.lowering.d;
+  low : l.low ≡ l.lowering.low;
+  high : l.high ≡ l.lowering.high;
   lowers : IsCountdown l.fn.self l.fn.self.cpu l.core (let c : Countdown = record { lowering = l.lowering; round = record { length = l.length; count = l.count } } in c);
   turns : l.count ≤ 8;
 }

@@ -1,9 +1,7 @@
-use Rattle.std.proofs.Common.{◌<◌, ◌-◌, ℕ, suc, sym, subst, arith}
-use Rattle.std.specs.Prelude.{slice_index}
+use Rattle.std.proofs.Common.{◌<◌, ℕ, suc, sym, subst, arith}
 use Rattle.data_space.specs.declared.cpu.Cpu.{Cpu}
-use Rattle.data_space.specs.Core.{with_reg}
 use Rattle.node_core.specs.declared.machine.Machine.{Machine}
-use Rattle.node_core.specs.Leaps.{IsStillStep, Walk}
+use Rattle.node_core.specs.Leaps.{IsStillStep, Walk, lowered}
 use Rattle.node_core.proofs.Counting.{walk_one}
 use Rattle.node_core.proofs.machine.Machine.lower.Goals as goal
 
@@ -24,7 +22,7 @@ returns-clause-lowers c =
       few = omega (arith, length, taken);
       short = omega (arith, length, byte);
       spare = h.spare;
-      walks = λ j lt. (let b : Cpu = with_reg l.d (slice_index from.r l.d - j) from in
-          let e : Cpu = with_reg l.d (slice_index from.r l.d - suc j) to in
+      walks = λ j lt. (let b : Cpu = lowered l j from from in
+          let e : Cpu = lowered l (suc j) from to in
           subst (λ (k : ℕ). Walk m b k 1 e) (sym length) (walk_one m n b e (h.steps m n to c.op-op.ensures step j lt)));
     }
