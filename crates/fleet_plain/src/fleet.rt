@@ -12,8 +12,9 @@ use avr_base::NoMemory;
 use node_runner::{Event, Runner, Scenario, lookahead};
 use world_core::{SendLog, Topo};
 
-// The cycles of one turn of a node, at most.
-const QUANTUM: u64 = 1_024;
+// The cycles of one turn of a node, at most: as many as a runner takes at once. A turn ends with each send and sample, so
+// nodes that exchange bytes take turns all the same.
+const QUANTUM: u64 = 65_536;
 
 // A live runner that may be stepped, and a cycle that no live runner is below.
 #[derive(Clone, Copy)]
