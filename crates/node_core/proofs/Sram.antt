@@ -1,15 +1,15 @@
 -- An instruction that accesses the internal SRAM, and no other data, leaves the board and SREG, and so does a
 -- branch that is not taken. And what any instruction leaves, by what a loop over instructions is told.
-use Rattle.std.proofs.Common.{◌≡◌, ℕ, ℤ, ◌+◌, ◌-◌, ◌*◌, ◌%◌, if◌then◌else◌, not, nat_lt, Bool, true, false, List, refl, ap, sym, subst, ◌∙◌, arith}
+use Rattle.std.proofs.Common.{◌≡◌, ℕ, ℤ, ◌+◌, ◌-◌, ◌*◌, ◌/◌, ◌%◌, if◌then◌else◌, not, nat_lt, Bool, true, false, List, refl, ap, sym, subst, ◌∙◌, arith}
 use Rattle.std.proofs.lemmas.Bool.{and_parts, false≢true}
 use Rattle.std.proofs.lemmas.Bool.Decides.{nat_tests}
-use Rattle.std.specs.Prelude.{Result, Ok, IfOk, slice_index, slice_set}
+use Rattle.std.specs.Prelude.{Result, Ok, Err, IfOk, slice_index, slice_set}
 use Rattle.avr_base.specs.declared.stop.StopCause.{StopCause}
 use Rattle.avr_base.specs.declared.sreg.Sreg.{Sreg}
 use Rattle.avr_decoder.specs.Words.{words_of}
 use Rattle.avr_decoder.specs.declared.op.Op.{Op}
 use Rattle.avr_decoder.specs.declared.op.Op.TheVariants as op
-use Rattle.bus_step.specs.FlowShapes.{bit_is, branched, jumped, relative, returns}
+use Rattle.bus_step.specs.FlowShapes.{bit_is, branched, calls, jumped, relative, returns}
 use Rattle.bus_step.specs.FlowShapes.{ends as flow_ends}
 use Rattle.bus_step.specs.FlowTable.{flow_effect}
 use Rattle.bus_step.specs.MemoryShapes.{displaced, ends, loads, pops, pushes, stores}
@@ -17,14 +17,14 @@ use Rattle.bus_step.specs.MemoryTable.{memory_effect, x, y, z}
 use Rattle.data_space.specs.declared.bus.Done.{Done}
 use Rattle.data_space.specs.declared.cpu.Cpu.{Cpu}
 use Rattle.data_space.specs.Core.{advanced, pair_at, with_reg}
-use Rattle.data_space.specs.Sequence.{Outcome, done, popped_word, then_do}
+use Rattle.data_space.specs.Sequence.{Outcome, done, popped_word, pushed_word, then_do}
 use Rattle.data_space.specs.Space.{Access, answered, answers, loaded, lowered, popped, pushed, stored, taken, takes, unless_stopped}
 use Rattle.node_core.specs.declared.bus.NodeBus.{NodeBus}
 use Rattle.node_core.specs.declared.instructions.After.{After}
 use Rattle.node_core.specs.declared.instructions.After.TheVariants as after
 use Rattle.node_core.specs.Bus.{bus_get, bus_put, in_sram}
 use Rattle.node_core.specs.Cycle.{is_sei}
-use Rattle.node_core.specs.Execute.{after_at, after_of, executed, executed_over, accesses_sram, falls_through, returns_by_sram}
+use Rattle.node_core.specs.Execute.{after_at, after_of, executed, executed_over, accesses_sram, calls_by_sram, falls_through, returns_by_sram}
 use Rattle.node_core.proofs.Quiet.{enables, is_enabled, is_single, keeps_bus, keeps_i, may_access, may_change, single_cycle}
 
 -- ---- an access
@@ -102,9 +102,62 @@ return_leaves cpu bus h =
     let low : Leaves cpu bus (returned_by above (popped bus_get raised bus)) = subst (λ (a : Access ℕ NodeBus). Leaves cpu bus (returned_by above a)) (sym (pop_is raised bus both.1)) (refl, refl) in
     subst (λ (a : Access ℕ NodeBus). Leaves cpu bus (returned_from a)) (sym (pop_is cpu bus both.0)) low
 
+-- ---- a call: its two pushes
+push_is : (b : ℕ) (cpu : Cpu) (bus : NodeBus) → in_sram cpu.sp ≡ true → pushed bus_put b cpu bus ≡ takes (let c : Cpu = record cpu { sp = (cpu.sp + 65535) % 65536 } in c) (let n : NodeBus = record bus { sram = slice_set bus.sram (cpu.sp - 0x100) b } in n)
+unfolding pushed
+push_is b cpu bus h =
+    ap (λ (a : Access (Unit {0}) NodeBus). lowered ((cpu.sp + 65535) % 65536) a a.result) (store_is cpu.sp b cpu bus h)
+
+-- two pushes to the SRAM over any bus leave SREG and the program counter, also where one stops
+module _ {B : Type 0} (put_gives : B → ℕ → ℕ → Result B StopCause) where
+  store_over : (at x : ℕ) (cpu : Cpu) (bus : B) → in_sram at ≡ true → stored put_gives at x cpu bus ≡ taken cpu bus (put_gives bus at x)
+  unfolding stored
+  store_over at x cpu bus h = grind (arith, nat_tests, h)
+
+  lowered_core : (sp : ℕ) (cpu : Cpu) (bus : B) (r : Result B StopCause) → core_of (lowered sp (taken cpu bus r) (taken cpu bus r).result).cpu ≡ core_of cpu
+  lowered_core sp cpu bus (Ok there) = refl
+  lowered_core sp cpu bus (Err cause) = refl
+
+  push_core : (x : ℕ) (cpu : Cpu) (bus : B) → in_sram cpu.sp ≡ true → core_of (pushed put_gives x cpu bus).cpu ≡ core_of cpu
+  unfolding pushed
+  push_core x cpu bus h =
+      subst (λ (a : Access (Unit {0}) B). core_of (lowered ((cpu.sp + 65535) % 65536) a a.result).cpu ≡ core_of cpu) (sym (store_over cpu.sp x cpu bus h)) (lowered_core ((cpu.sp + 65535) % 65536) cpu bus (put_gives bus cpu.sp x))
+
+  abbrev second : ℕ → Access (Unit {0}) B → Access (Unit {0}) B
+  second x low = then_do low low.result (λ _ c b. pushed put_gives x c b)
+
+  second_core : (x sp : ℕ) (cpu : Cpu) (bus : B) (r : Result B StopCause) → in_sram sp ≡ true → core_of (second x (lowered sp (taken cpu bus r) (taken cpu bus r).result)).cpu ≡ core_of cpu
+  second_core x sp cpu bus (Ok there) h = push_core x (record cpu { sp = sp }) there h
+  second_core x sp cpu bus (Err cause) h = refl
+
+  pub word_core : (word : ℕ) (cpu : Cpu) (bus : B) → calls_by_sram cpu.sp ≡ true → core_of (pushed_word put_gives word cpu bus).cpu ≡ core_of cpu
+  unfolding pushed_word pushed
+  word_core word cpu bus h =
+      let both = and_parts _ _ h in
+      subst (λ (a : Access (Unit {0}) B). core_of (second (word / 256) (lowered ((cpu.sp + 65535) % 65536) a a.result)).cpu ≡ core_of cpu) (sym (store_over cpu.sp (word % 256) cpu bus both.0))
+      (second_core (word / 256) ((cpu.sp + 65535) % 65536) cpu bus (put_gives bus cpu.sp (word % 256)) both.1)
+
+-- the end of a call, by the access that pushes the high byte of the address, and by that which pushes the low one
+abbrev called_by : ℕ → Access (Unit {0}) NodeBus → Outcome NodeBus
+called_by k high = then_do high high.result (λ _ c b. flow_ends (jumped 4 k c) b)
+
+abbrev called_from : ℕ → ℕ → Access (Unit {0}) NodeBus → Outcome NodeBus
+called_from k word low = called_by k (then_do low low.result (λ _ c b. pushed bus_put (word / 256) c b))
+
+call_leaves : (k : ℕ) (cpu : Cpu) (bus : NodeBus) → calls_by_sram cpu.sp ≡ true → Leaves cpu bus (calls bus_put 4 2 (λ _. k) cpu bus)
+unfolding calls pushed_word
+call_leaves k cpu bus h =
+    let word : ℕ = (cpu.pc + 2) % 65536 in
+    let lower : Cpu = record cpu { sp = (cpu.sp + 65535) % 65536 } in
+    let both = and_parts _ _ h in
+    let there : NodeBus = record bus { sram = slice_set bus.sram (cpu.sp - 0x100) (word % 256) } in
+    let high : Leaves cpu bus (called_by k (pushed bus_put (word / 256) lower there)) = subst (λ (a : Access (Unit {0}) NodeBus). Leaves cpu bus (called_by k a)) (sym (push_is (word / 256) lower there both.1)) (refl, refl) in
+    subst (λ (a : Access (Unit {0}) NodeBus). Leaves cpu bus (called_from k word a)) (sym (push_is (word % 256) cpu bus both.0)) high
+
 module _ (flash : List ℕ) (cpu : Cpu) (bus : NodeBus) where
   pub sram_leaves : (o : Op) → accesses_sram o cpu ≡ true → Leaves cpu bus (executed flash o cpu bus)
   unfolding executed_over memory_effect flow_effect
+  sram_leaves (op.Call k) h = call_leaves k cpu bus h
   sram_leaves op.Ret h = return_leaves cpu bus h
   sram_leaves (op.LdX d) h = load_leaves d (pair_at x cpu) 1 2 cpu bus h
   sram_leaves (op.LddY d q) h = load_leaves d (displaced y q cpu) 1 2 cpu bus h

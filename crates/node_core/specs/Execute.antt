@@ -112,9 +112,19 @@ returns_by_sram sp =
     let high = (sp + 1) % 65536 in
     in_sram high && in_sram ((high + 1) % 65536)
 
+-- whether the return address that a call pushes comes to lie in it
+abbrev pub calls_by_sram : ℕ → Bool
+calls_by_sram sp = in_sram sp && in_sram ((sp + 65535) % 65536)
+
+-- what a push came to that says whether it was there
+abbrev pub pushed_as : Result Bool StopCause → Result (Unit {0}) StopCause
+pushed_as (Ok here) = Ok tt
+pushed_as (Err cause) = Err cause
+
 -- whether an instruction is known to access bytes of the internal SRAM, and no other data; of the rarer ones it is not
 -- asked
 abbrev pub accesses_sram : Op → Cpu → Bool
+accesses_sram (op.Call k) cpu = calls_by_sram cpu.sp
 accesses_sram op.Ret cpu = returns_by_sram cpu.sp
 accesses_sram (op.LdX d) cpu = in_sram (pair_at x cpu)
 accesses_sram (op.LddY d q) cpu = in_sram (displaced y q cpu)

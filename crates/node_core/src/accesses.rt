@@ -1,19 +1,21 @@
-// Loads, stores and returns, told apart by whether they are of the internal SRAM: behind such a one a loop over
-// instructions looks at nothing. Each is executed by one text of bus_step. It stands in both branches, since the host's code of the one then
-// has no device in it.
-ghost use Rattle.std.specs.Prelude.{◌≡◌, ◌+◌, ◌%◌, if◌then◌else◌};
+// Loads, stores, calls and returns, told apart by whether they are of the internal SRAM: behind such a one a loop over
+// instructions looks at nothing. Each is executed by one text of bus_step. It stands in both branches, since the host's
+// code of the one then has no device in it. A call's two pushes stand apart.
+ghost use Rattle.std.specs.Prelude.{◌≡◌, ◌+◌, ◌%◌, if◌then◌else◌, true, false, IfOk, OnErr};
 ghost use Rattle.data_space.specs.Core.{pair_at, whole};
-ghost use Rattle.bus_step.specs.FlowShapes.{returns};
+ghost use Rattle.data_space.specs.Sequence.{pushed_word};
+ghost use Rattle.bus_step.specs.FlowShapes.{calls, returns};
 ghost use Rattle.bus_step.specs.MemoryShapes.{loads, pops, pushes, stores};
 ghost use Rattle.node_core.specs.declared.instructions.After.TheVariants as after;
-ghost use Rattle.node_core.specs.Execute.{after_access, returns_by_sram};
+ghost use Rattle.node_core.specs.Execute.{after_access, calls_by_sram, pushed_as, returns_by_sram};
 
 use crate::bus::is_in_sram;
 use crate::instructions::After;
 use avr_base::{Reg, StopCause};
 use bus_step::accesses::{load_at, pop_reg, push_reg, store_at};
-use bus_step::calls::ret;
-use data_space::{Bus, Core, Done, Registers, pair};
+use bus_step::calls::{call, ret};
+use bus_step::jumps::jump;
+use data_space::{Bus, Core, Done, Registers, pair, push as push_byte};
 
 /// What an instruction that accesses data leaves, and what it reports.
 pub type Accessed = (After, Result<Done, StopCause>);
@@ -92,6 +94,61 @@ pub fn pop<B: Bus>(d: Reg, regs: &mut Registers, core: &mut Core, bus: &mut B) -
         return (After::Nothing, pop_reg(d, regs, core, bus));
     }
     (After::Loaded, pop_reg(d, regs, core, bus))
+}
+
+// Pushes a word, its low byte first, as `push_word` of data_space.
+#[inline(always)]
+#[tactic(auto, unfolding(data_space::specs::Sequence::pushed_word))]
+fn push_both<B: Bus>(
+    regs: &mut Registers,
+    core: &mut Core,
+    bus: &mut B,
+    word: u16,
+) -> Result<(), StopCause>
+    ensures { record { result = result; cpu = whole regs.new core.new; bus = bus.new } ≡ pushed_word B.put_gives word (whole regs.old core.old) bus.old }
+{
+    push_byte(regs, core, bus, (word % 256) as u8)?;
+    push_byte(regs, core, bus, (word / 256) as u8)
+}
+
+// Pushes a word where both bytes come to lie in the SRAM, and says whether it did; else it does nothing. In a call of
+// its own, which is short, since no device is in it: so the host's registers in a loop over instructions stay as they
+// are. The core comes by value, since such pushes change no part of it.
+#[inline(never)]
+fn push_by_sram<B: Bus>(
+    regs: &mut Registers,
+    core: Core,
+    bus: &mut B,
+    word: u16,
+) -> Result<bool, StopCause>
+    ensures which { IfOk result (λ here. here ≡ calls_by_sram regs.old.sp) }
+    ensures stops { OnErr result (calls_by_sram regs.old.sp ≡ true) }
+    ensures pushed { calls_by_sram regs.old.sp ≡ true → record { result = pushed_as result; cpu = whole regs.new core; bus = bus.new } ≡ pushed_word B.put_gives word (whole regs.old core) bus.old }
+    ensures same { calls_by_sram regs.old.sp ≡ false → (regs.new ≡ regs.old) × (bus.new ≡ bus.old) }
+{
+    if is_in_sram(regs.sp) && is_in_sram(regs.sp.wrapping_sub(1)) {
+        let mut there = core;
+        return match push_both(regs, &mut there, bus, word) {
+            Ok(()) => Ok(true),
+            Err(cause) => Err(cause),
+        };
+    }
+    Ok(false)
+}
+
+/// CALL of the word address `k`, as [`call`].
+#[inline(always)]
+#[tactic(auto, unfolding(bus_step::specs::FlowShapes::calls))]
+pub fn called<B: Bus>(k: u16, regs: &mut Registers, core: &mut Core, bus: &mut B) -> Accessed
+    ensures after { result.0 ≡ (if calls_by_sram regs.old.sp then after.Nothing else after.Store) }
+    ensures outcome { record { result = result.1; cpu = whole regs.new core.new; bus = bus.new } ≡ calls B.put_gives 4 2 (λ _. k) (whole regs.old core.old) bus.old }
+{
+    let back = core.pc.wrapping_add(2);
+    match push_by_sram(regs, *core, bus, back) {
+        Ok(true) => (After::Nothing, Ok(jump(4, k, core))),
+        Ok(false) => (After::Store, call(k, regs, core, bus)),
+        Err(cause) => (After::Nothing, Err(cause)),
+    }
 }
 
 /// RET.

@@ -7,7 +7,7 @@ ghost use Rattle.node_core.specs.declared.instructions.After.TheVariants as afte
 ghost use Rattle.bus_step.specs.FlowShapes.{branched};
 ghost use Rattle.node_core.specs.Execute.{after_at, after_branch, after_cycles, after_jump, after_of, executed_over, is_plain, is_short_back};
 
-use crate::accesses::{Accessed, load, pop, push, returned, store};
+use crate::accesses::{Accessed, called, load, pop, push, returned, store};
 use arith_step::shapes::{
     add, compare, compare_with_carry, copy, copy_pair, load_bit, multiply, put_bits, put_byte,
     put_word, set_flag, store_bit, subtract, subtract_with_carry, swap,
@@ -20,7 +20,7 @@ use bus_step::accesses::{
     displaced, io_address, load_at, load_post_increment, load_pre_decrement, retire, set_bit,
     store_at, store_post_increment, store_pre_decrement,
 };
-use bus_step::calls::{call, call_at_z, call_near, reti, z_pointer};
+use bus_step::calls::{call_at_z, call_near, reti, z_pointer};
 use bus_step::flash::{
     load_extended, load_extended_post_increment, load_program, load_program_post_increment,
 };
@@ -256,7 +256,7 @@ pub fn execute_plain<B: Bus>(
         Op::Sbrc { r, b } => ended(skip(bit(false, b % 8, reg(regs, r)), program.flash(), core)),
         Op::Sbis { a, b } => loaded(skip_by_io(a, b % 8, true, program.flash(), regs, core, bus)),
         Op::Sbic { a, b } => loaded(skip_by_io(a, b % 8, false, program.flash(), regs, core, bus)),
-        Op::Call { k } => stored(call(k, regs, core, bus)),
+        Op::Call { k } => accessed(called(k, regs, core, bus)),
         Op::Rcall { k } => stored(call_near(k, regs, core, bus)),
         Op::Icall => stored(call_at_z(regs, core, bus)),
         Op::Ret => accessed(returned(regs, core, bus)),
