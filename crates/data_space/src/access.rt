@@ -178,10 +178,10 @@ fn push_word_apart<B: Bus>(
     (there.sreg, result)
 }
 
-// Its two pushes.
-#[inline]
+/// Pushes a word as [`push_word`], where it is called: for a caller that knows the bytes to come to lie in memory.
+#[inline(always)]
 #[tactic(auto, unfolding(crate::specs::Sequence::pushed_word))]
-fn push_both<B: Bus>(
+pub fn push_both<B: Bus>(
     regs: &mut Registers,
     core: &mut Core,
     bus: &mut B,

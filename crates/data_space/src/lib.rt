@@ -8,7 +8,7 @@ mod bus;
 mod cpu;
 mod sram;
 
-pub use access::{load, pop, pop_word, push, push_word, store};
+pub use access::{load, pop, pop_word, push, push_both, push_word, store};
 pub use bus::{Bus, Done};
 pub use cpu::{Core, Cpu, Registers, pair, reg, set_pair, set_reg};
 pub use sram::Sram;

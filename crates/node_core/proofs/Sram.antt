@@ -16,7 +16,7 @@ use Rattle.bus_step.specs.MemoryShapes.{displaced, ends, loads, pops, pushes, st
 use Rattle.bus_step.specs.MemoryTable.{memory_effect, x, y, z}
 use Rattle.data_space.specs.declared.bus.Done.{Done}
 use Rattle.data_space.specs.declared.cpu.Cpu.{Cpu}
-use Rattle.data_space.specs.Core.{advanced, pair_at, with_reg}
+use Rattle.data_space.specs.Core.{advanced, core_of, pair_at, with_reg}
 use Rattle.data_space.specs.Sequence.{Outcome, done, popped_word, pushed_word, then_do}
 use Rattle.data_space.specs.Space.{Access, answered, answers, loaded, lowered, popped, pushed, stored, taken, takes, unless_stopped}
 use Rattle.node_core.specs.declared.bus.NodeBus.{NodeBus}

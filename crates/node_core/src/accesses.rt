@@ -15,7 +15,7 @@ use avr_base::{Reg, StopCause};
 use bus_step::accesses::{load_at, pop_reg, push_reg, store_at};
 use bus_step::calls::{call, ret};
 use bus_step::jumps::jump;
-use data_space::{Bus, Core, Done, Registers, pair, push as push_byte};
+use data_space::{Bus, Core, Done, Registers, pair, push_both};
 
 /// What an instruction that accesses data leaves, and what it reports.
 pub type Accessed = (After, Result<Done, StopCause>);
@@ -94,21 +94,6 @@ pub fn pop<B: Bus>(d: Reg, regs: &mut Registers, core: &mut Core, bus: &mut B) -
         return (After::Nothing, pop_reg(d, regs, core, bus));
     }
     (After::Loaded, pop_reg(d, regs, core, bus))
-}
-
-// Pushes a word, its low byte first, as `push_word` of data_space.
-#[inline(always)]
-#[tactic(auto, unfolding(data_space::specs::Sequence::pushed_word))]
-fn push_both<B: Bus>(
-    regs: &mut Registers,
-    core: &mut Core,
-    bus: &mut B,
-    word: u16,
-) -> Result<(), StopCause>
-    ensures { record { result = result; cpu = whole regs.new core.new; bus = bus.new } ≡ pushed_word B.put_gives word (whole regs.old core.old) bus.old }
-{
-    push_byte(regs, core, bus, (word % 256) as u8)?;
-    push_byte(regs, core, bus, (word / 256) as u8)
 }
 
 // Pushes a word where both bytes come to lie in the SRAM, and says whether it did; else it does nothing. In a call of
