@@ -221,15 +221,18 @@ module _ (t : TableId) (w : WorldFacts) (sc : ScenarioOf) (floor end : ℕ) (m :
     lim = subst (λ (z : ScenarioOf). end ≤ z.topo.limit) (sym u.place.at.scenario) u.epoch.within
 
     -- ---- a turn
+    some : 0 < 1024
+    some = omega arith
+
     module _ (q : ℕ) (calm : m.runner.asking ≡ false) (q_is : q ≡ min (end - m.runner.cycle) 1024) where
       pub turned : (n : Member) (c : ℕ) → IsEvent m.runner q (Turn c) n.runner → noted_of n.runner ≡ noted_of m.runner → n.air ≡ m.air → n.gap ≡ m.gap → IsUnderWay t w sc floor end n × (n.runner.number ≡ m.runner.number)
-      turned n c ev count air gap = went n [] [] (adv_turn end q m.runner [] lim own live calm q_is c n.runner ev count) count air gap
+      turned n c ev count air gap = went n [] [] (adv_turn end q m.runner [] lim own live 1024 some calm q_is c n.runner ev count) count air gap
 
       pub asks : (n : Member) (c : ℕ) → IsEvent m.runner q (Ask c) n.runner → noted_of n.runner ≡ noted_of m.runner → n.air ≡ m.air → n.gap ≡ m.gap → IsUnderWay t w sc floor end n × (n.runner.number ≡ m.runner.number)
-      asks n c ev count air gap = went n [] [] (adv_ask end q m.runner [] lim own live calm q_is c n.runner ev count) count air gap
+      asks n c ev count air gap = went n [] [] (adv_ask end q m.runner [] lim own live 1024 some calm q_is c n.runner ev count) count air gap
 
       pub ended : (n : Member) → IsEvent m.runner q Ended n.runner → noted_of n.runner ≡ noted_of m.runner → n.air ≡ m.air → n.gap ≡ m.gap → IsUnderWay t w sc floor end n × (n.runner.number ≡ m.runner.number)
-      ended n ev count air gap = went n [] [] (adv_ended end q m.runner [] lim own live calm q_is n.runner ev count) count air gap
+      ended n ev count air gap = went n [] [] (adv_ended end q m.runner [] lim own live 1024 some calm q_is n.runner ev count) count air gap
 
       -- the turn was cut off for want of memory
       pub cut_off : (n : Member) → IsEvent m.runner q NoMemory n.runner → noted_of n.runner ≡ noted_of m.runner → n.air ≡ m.air → n.gap ≡ m.gap → IsUnderWay t w sc floor end n × (n.runner.number ≡ m.runner.number)
@@ -267,12 +270,12 @@ module _ (t : TableId) (w : WorldFacts) (sc : ScenarioOf) (floor end : ℕ) (m :
             (subst (λ (i : ℕ). IsSendNumber (facts_of (fleet_of m.runner.scenario)) i x) (sym (e ∙ count)) ev.5))
 
         pub early_send : x.cycle < floor + epoch
-        early_send = let a = sent_early end q m.runner [] lim own live calm q_is x mid ev in let b = u.epoch.span in omega arith
+        early_send = let a = sent_early end q m.runner [] lim own live 1024 some calm q_is x mid ev in let b = u.epoch.span in omega arith
 
         pub sent : (n : Member) (k : ℕ) → k ≡ noted_of mid → n.runner ≡ record mid { unnoted = false } → noted_of n.runner ≡ noted_of mid + 1 → k < n.air.told → n.air ≡ record m.air { told = n.air.told } → n.gap ≡ m.gap
             → IsUnderWay t w sc floor end n × (n.runner.number ≡ m.runner.number)
         sent n k k_is e more told air gap =
-            let adv = adv_sent end q m.runner [] lim own live calm q_is x mid n.runner (x ∷ []) ev count e more refl in
+            let adv = adv_sent end q m.runner [] lim own live 1024 some calm q_is x mid n.runner (x ∷ []) ev count e more refl in
             let plain : noted_of n.runner ≡ sends_passed n.runner = noted_plain n.runner adv.at.noted in
             let before : noted_of m.runner ≡ sends_passed m.runner = noted_plain m.runner u.place.at.noted in (
               moves n adv.at adv.since adv.later (omega arith) (omega arith) gap (ap (λ (a : NodeFacts). a.number) air) (ap (λ (a : NodeFacts). a.table) air) (ap (λ (a : NodeFacts). a.world) air) (ap (λ (a : NodeFacts). a.clock) air),

@@ -68,7 +68,8 @@ module _ (end q : ℕ) (old : Place) (before : List Send) (limit : end ≤ old.s
         less = omega arith;
       })
 
-  module _ (calm : old.asking ≡ false) (q_is : q ≡ min (end - old.cycle) 1024) where
+  -- a turn of at most so many cycles
+  module _ (most : ℕ) (some : 0 < most) (calm : old.asking ≡ false) (q_is : q ≡ min (end - old.cycle) most) where
     here : old.cycle < end
     here = live_below end old live calm
 
