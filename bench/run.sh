@@ -62,6 +62,6 @@ if command -v valgrind >/dev/null; then
         count "$top/bench/$image.hex" 100000
         h=$host e=$executed
         count "$top/bench/$image.hex" 300000
-        awk -v n="$image" -v h="$((host - h))" -v e="$((executed - e))" 'BEGIN { printf "%s: %.0f host instructions an instruction\n", n, h / e }'
+        awk -v n="$image" -v h="$((host - h))" -v e="$((executed - e))" 'BEGIN { printf (h < e ? "%s: %.2f" : "%s: %.0f") " host instructions an instruction\n", n, h / e }'
     done
 fi

@@ -16,7 +16,7 @@ from pathlib import Path
 SPEED = Path(__file__).resolve().parent.parent / "docs" / "SPEED.md"
 
 NODE = re.compile(r"(simavr, )?(\w+): \d+ cycles in (under )?([\d.]+) s, .*, (\d+) KiB at most")
-HOST = re.compile(r"(\w+): (\d+) host instructions an instruction")
+HOST = re.compile(r"(\w+): ([\d.]+) host instructions an instruction")
 NETWORK = re.compile(r"(.+): \d+ cycles of nodes and (\d+) rows in (under )?([\d.]+) s: ([\d.]+) million cycles and ([\d.]+) .*, (\d+) KiB at most")
 BUSY = re.compile(r"\d+ processors, (\d+) busy programs beside, load .*")
 THREADS = re.compile(r"(.+): one thread ([\d.]+) s, a thread a node ([\d.]+) s, ([\d.]+) times as fast, yardstick [\d.]+, part ([\d.]+), .* rows")
@@ -40,7 +40,7 @@ def node_cells(row):
     ours, peers = row["time"], row.get("peer")
     ratio = span([p / max(o, 0.001) for o, p in zip(ours, peers)], 1) if peers else ""
     time = "under 0.001 s" if max(ours) < 0.001 else span(ours, 3, " s")
-    host = span(row["host"], 0) if "host" in row else ""
+    host = span(row["host"], 0 if min(row["host"]) >= 1 else 2) if "host" in row else ""
     return [time, span(peers, 3, " s") if peers else "", ratio, host, span([it / 1024 for it in row["kib"]], 1, " MiB")]
 
 
