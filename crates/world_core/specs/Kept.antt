@@ -32,7 +32,7 @@ pub record IsPart (w : WorldFacts) (f : ℕ) (gone : ℕ → ℕ) (sent : List �
 
 -- how many cycles an epoch has: a send is posted less than so many above the floor
 abbrev pub epoch : ℕ
-epoch = 1048576
+epoch = 262144
 
 -- room for what a record can hold whose sends lie below its floor and so many cycles
 abbrev pub kept_room_of : Topology → ℕ → ℕ

@@ -13,7 +13,7 @@ ghost use Rattle.world_core.specs.Consistent.{AirState, IsConsistent};
 ghost use Rattle.world_core.specs.Steps.{MayCut, after_cut};
 
 /// How many cycles an epoch has. At the end of each the rows of a run are written and its record is cut.
-pub const EPOCH: u64 = 1_048_576;
+pub const EPOCH: u64 = 262_144;
 
 /// A sample waits for a node exactly where a cycle is heard in which its link was open.
 pub fn needed_law()
