@@ -1,11 +1,12 @@
 // The streams of the real system.
-ghost use Rattle.std.specs.Prelude.{◌≡◌, ◌<◌, ◌≤◌, None, length, IfOk, OnOk, OnErr};
+ghost use Rattle.std.specs.Prelude.{◌≡◌, ◌<◌, ◌≤◌, length, take, IfOk, OnOk, OnErr};
 ghost use Rattle.std.specs.Io.KnownBytes.{WriteAppends};
-ghost use Rattle.sim_io.specs.Outside.{Rose};
+ghost use Rattle.sim_io.specs.Outside.{Rose, extended};
 
 use crate::{Sink, SinkFault};
 use std::io::{ErrorKind, Write};
 use std::marker::Model;
+use std::snapshot::Snapshot;
 
 /// A stream of the process, as its standard output. A contract sees the count of its faults, and what its writer holds
 /// where the writer tells: what a real stream took is not told.
@@ -13,14 +14,18 @@ use std::marker::Model;
 pub struct StdSink<W: Write + Drop> {
     writer: W,
     count: u64,
+    // The writer as it came: where it told its bytes then, it tells them still.
+    first: Snapshot<W>,
 }
 
 impl<W: Write + Drop> Model for StdSink<W> {
-    ghost use Rattle.sim_io.specs.Stream.{StreamSink};
+    ghost use Rattle.sim_io.specs.Stream.{StreamSink, told, GoesOn};
 
     ghost Value = { StreamSink };
 
-    ghost view = { λ s. record { faults = s.count; contents = W.contents s.writer } };
+    ghost view = { λ s. record { faults = s.count; contents = told (W.contents s.first.value) (W.contents s.writer) } };
+
+    ghost invariant = { λ s. GoesOn (W.contents s.first.value) (W.contents s.writer) };
 }
 
 impl<W: Write + Drop> StdSink<W> {
@@ -28,7 +33,12 @@ impl<W: Write + Drop> StdSink<W> {
     pub fn new(writer: W) -> Self
         ensures { result ≡ record { faults = 0; contents = W.contents writer } }
     {
-        StdSink { writer, count: 0 }
+        let first = Snapshot::of(&writer);
+        StdSink {
+            writer,
+            count: 0,
+            first,
+        }
     }
 }
 
@@ -56,12 +66,13 @@ fn write_some<W: Write>(writer: &mut W, piece: &[u8]) -> Result<usize, SinkFault
 }
 
 impl<W: Write + Drop> Sink for StdSink<W> {
-    ghost taken = { λ s. None };
+    ghost taken = { λ s. s.contents };
 
     ghost faults = { λ s. s.faults };
 
     fn write(&mut self, piece: &[u8]) -> Result<usize, SinkFault>
-        ensures bytes { WriteAppends self.old.contents self.new.contents result piece.now }
+        ensures taken { IfOk result (λ n. self.new.contents ≡ extended self.old.contents (take n piece.now)) }
+        ensures err { OnErr result (self.new.contents ≡ self.old.contents) }
 
         ensures within { IfOk result (λ n. n ≤ length piece.now) }
         ensures goes_on { IfOk result (λ n. 0 < length piece.now → 0 < n) }
