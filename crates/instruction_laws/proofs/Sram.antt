@@ -22,7 +22,8 @@ use Rattle.bus_step.proofs.MemoryKeeps.{memory_keeps}
 use Rattle.node_core.specs.declared.bus.NodeBus.{NodeBus}
 use Rattle.node_core.specs.Bus.{board_got, board_put, bus_at, bus_get, bus_put, reset_bus}
 use Rattle.node_core.specs.Cycle.{acted, after_entry, after_instruction, begun_in, cpu_cycle, devices_cycle, entered, instructed, is_refused, op_now}
-use Rattle.node_core.specs.Execute.{executed, executed_by, executed_over}
+use Rattle.instruction_table.specs.Execute.{executed_over}
+use Rattle.node_core.specs.Execute.{executed, executed_by}
 use Rattle.node_core.specs.Interrupts.{due, entry}
 use Rattle.node_core.specs.State.{NodeState}
 use Rattle.instruction_laws.specs.Stack.{IsMemory}

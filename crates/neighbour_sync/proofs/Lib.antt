@@ -11,3 +11,4 @@ pub mod Seeing
 pub mod Trying
 pub mod Telling
 pub mod Shown
+pub mod Stepping

@@ -27,7 +27,7 @@ mod steps;
 pub use answers::{Behind, Posted, SampleAttempt, SampleOutcome};
 pub use clocks::Clocks;
 pub use cutting::cut_when_passed;
-pub use law::state_law;
+pub use law::{state_law, step_law};
 pub use node::NodeAir;
 pub use opening::open_air;
 pub use record::Air;

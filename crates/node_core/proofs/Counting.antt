@@ -33,7 +33,7 @@ use Rattle.node_core.specs.Cycle.{op_now, owes}
 use Rattle.node_core.specs.Execute.{executed, executed_by}
 use Rattle.node_core.specs.Leaps.{IsBeside, IsCountdown, IsLowering, IsStillStep, Walk, bus_later, counter_at, goes, lowered, spared, stays, with_counter}
 use Rattle.node_core.specs.Shown.{shown}
-use Rattle.node_core.proofs.Executes.{arith_awake, is_arith}
+use Rattle.instruction_table.proofs.Executes.{arith_awake, is_arith}
 use Rattle.node_core.proofs.Ran.{by_class}
 
 -- ---- two registers

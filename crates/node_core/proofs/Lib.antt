@@ -4,7 +4,6 @@ pub mod Radio
 pub mod Runs
 pub mod Idling
 pub mod Steady
-pub mod Takes
 pub mod Wakes
 pub mod Strides
 pub mod Until
@@ -13,7 +12,6 @@ pub mod Clocks
 pub mod Sei
 pub mod Acts
 pub mod Ran
-pub mod Executes
 pub mod Sram
 pub mod Steps
 pub mod Sprints

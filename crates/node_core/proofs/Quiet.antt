@@ -20,13 +20,14 @@ use Rattle.bus_step.proofs.Flags.{flow_keeps_flags, memory_keeps_flags, writes_i
 use Rattle.data_space.specs.declared.bus.Done.{Done}
 use Rattle.data_space.specs.declared.cpu.Cpu.{Cpu}
 use Rattle.node_core.specs.declared.bus.NodeBus.{NodeBus}
-use Rattle.node_core.specs.declared.instructions.After.{After}
-use Rattle.node_core.specs.declared.instructions.After.TheVariants as after
+use Rattle.instruction_table.specs.declared.instructions.After.{After}
+use Rattle.instruction_table.specs.declared.instructions.After.TheVariants as after
 use Rattle.node_core.specs.Bus.{bus_get, bus_put}
 use Rattle.node_core.specs.Cycle.{is_sei}
-use Rattle.node_core.specs.Execute.{after_of, executed, executed_by, executed_over, is_short_back}
+use Rattle.instruction_table.specs.Execute.{after_of, executed_over, is_short_back}
+use Rattle.node_core.specs.Execute.{executed, executed_by}
 use Rattle.node_core.specs.Midway.{turned_on}
-use Rattle.node_core.proofs.Executes.{is_arith}
+use Rattle.instruction_table.proofs.Executes.{is_arith}
 
 -- behind which the flag I may be another
 abbrev pub may_change : After → Bool

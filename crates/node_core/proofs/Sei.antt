@@ -15,7 +15,8 @@ use Rattle.bus_step.specs.FlowShapes.{ends, jumped, returns_enabling}
 use Rattle.bus_step.specs.FlowTable.{flow_effect}
 use Rattle.node_core.specs.declared.bus.NodeBus.{NodeBus}
 use Rattle.node_core.specs.Bus.{bus_get}
-use Rattle.node_core.specs.Execute.{executed, executed_over}
+use Rattle.instruction_table.specs.Execute.{executed_over}
+use Rattle.node_core.specs.Execute.{executed}
 use Rattle.avr_decoder.specs.declared.op.Op.{Op}
 use Rattle.avr_decoder.specs.declared.op.Op.TheVariants as op
 use Rattle.node_core.specs.Cycle.{is_sei}

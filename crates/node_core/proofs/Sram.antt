@@ -20,11 +20,12 @@ use Rattle.data_space.specs.Core.{advanced, core_of, pair_at, with_reg}
 use Rattle.data_space.specs.Sequence.{Outcome, done, popped_word, pushed_word, then_do}
 use Rattle.data_space.specs.Space.{Access, answered, answers, loaded, lowered, popped, pushed, stored, taken, takes, unless_stopped}
 use Rattle.node_core.specs.declared.bus.NodeBus.{NodeBus}
-use Rattle.node_core.specs.declared.instructions.After.{After}
-use Rattle.node_core.specs.declared.instructions.After.TheVariants as after
-use Rattle.node_core.specs.Bus.{bus_get, bus_put, in_sram}
+use Rattle.instruction_table.specs.declared.instructions.After.{After}
+use Rattle.instruction_table.specs.declared.instructions.After.TheVariants as after
+use Rattle.instruction_table.specs.Execute.{in_sram, after_at, after_of, executed_over, accesses_sram, calls_by_sram, falls_through, returns_by_sram}
+use Rattle.node_core.specs.Bus.{bus_get, bus_put}
 use Rattle.node_core.specs.Cycle.{is_sei}
-use Rattle.node_core.specs.Execute.{after_at, after_of, executed, executed_over, accesses_sram, calls_by_sram, falls_through, returns_by_sram}
+use Rattle.node_core.specs.Execute.{executed}
 use Rattle.node_core.proofs.Quiet.{enables, is_enabled, is_single, keeps_bus, keeps_i, may_access, may_change, single_cycle}
 
 -- ---- an access
@@ -107,35 +108,6 @@ push_is : (b : ℕ) (cpu : Cpu) (bus : NodeBus) → in_sram cpu.sp ≡ true → 
 unfolding pushed
 push_is b cpu bus h =
     ap (λ (a : Access (Unit {0}) NodeBus). lowered ((cpu.sp + 65535) % 65536) a a.result) (store_is cpu.sp b cpu bus h)
-
--- two pushes to the SRAM over any bus leave SREG and the program counter, also where one stops
-module _ {B : Type 0} (put_gives : B → ℕ → ℕ → Result B StopCause) where
-  store_over : (at x : ℕ) (cpu : Cpu) (bus : B) → in_sram at ≡ true → stored put_gives at x cpu bus ≡ taken cpu bus (put_gives bus at x)
-  unfolding stored
-  store_over at x cpu bus h = grind (arith, nat_tests, h)
-
-  lowered_core : (sp : ℕ) (cpu : Cpu) (bus : B) (r : Result B StopCause) → core_of (lowered sp (taken cpu bus r) (taken cpu bus r).result).cpu ≡ core_of cpu
-  lowered_core sp cpu bus (Ok there) = refl
-  lowered_core sp cpu bus (Err cause) = refl
-
-  push_core : (x : ℕ) (cpu : Cpu) (bus : B) → in_sram cpu.sp ≡ true → core_of (pushed put_gives x cpu bus).cpu ≡ core_of cpu
-  unfolding pushed
-  push_core x cpu bus h =
-      subst (λ (a : Access (Unit {0}) B). core_of (lowered ((cpu.sp + 65535) % 65536) a a.result).cpu ≡ core_of cpu) (sym (store_over cpu.sp x cpu bus h)) (lowered_core ((cpu.sp + 65535) % 65536) cpu bus (put_gives bus cpu.sp x))
-
-  abbrev second : ℕ → Access (Unit {0}) B → Access (Unit {0}) B
-  second x low = then_do low low.result (λ _ c b. pushed put_gives x c b)
-
-  second_core : (x sp : ℕ) (cpu : Cpu) (bus : B) (r : Result B StopCause) → in_sram sp ≡ true → core_of (second x (lowered sp (taken cpu bus r) (taken cpu bus r).result)).cpu ≡ core_of cpu
-  second_core x sp cpu bus (Ok there) h = push_core x (record cpu { sp = sp }) there h
-  second_core x sp cpu bus (Err cause) h = refl
-
-  pub word_core : (word : ℕ) (cpu : Cpu) (bus : B) → calls_by_sram cpu.sp ≡ true → core_of (pushed_word put_gives word cpu bus).cpu ≡ core_of cpu
-  unfolding pushed_word pushed
-  word_core word cpu bus h =
-      let both = and_parts _ _ h in
-      subst (λ (a : Access (Unit {0}) B). core_of (second (word / 256) (lowered ((cpu.sp + 65535) % 65536) a a.result)).cpu ≡ core_of cpu) (sym (store_over cpu.sp (word % 256) cpu bus both.0))
-      (second_core (word / 256) ((cpu.sp + 65535) % 65536) cpu bus (put_gives bus cpu.sp (word % 256)) both.1)
 
 -- the end of a call, by the access that pushes the high byte of the address, and by that which pushes the low one
 abbrev called_by : ℕ → Access (Unit {0}) NodeBus → Outcome NodeBus

@@ -16,14 +16,15 @@ use Rattle.data_space.specs.declared.cpu.Core.{Core}
 use Rattle.data_space.specs.declared.cpu.Cpu.{Cpu}
 use Rattle.data_space.specs.declared.cpu.Registers.{Registers}
 use Rattle.data_space.specs.Core.{whole}
-use Rattle.node_core.specs.declared.instructions.After.{After}
-use Rattle.node_core.specs.declared.instructions.After.TheVariants as after
+use Rattle.instruction_table.specs.declared.instructions.After.{After}
+use Rattle.instruction_table.specs.declared.instructions.After.TheVariants as after
 use Rattle.node_core.specs.declared.machine.Machine.{Machine}
 use Rattle.node_core.specs.declared.row.Row.{Row}
 use Rattle.node_core.specs.declared.row.Kind.TheVariants as kind
 use Rattle.node_core.specs.Bus.{bus_at, bus_get, bus_put, with_board}
-use Rattle.node_core.specs.Cycle.{first_word, instructed, instructed_rows, is_idle, is_other, is_refused, is_sleep, node_kind, op_now, owes, row, second_word}
-use Rattle.node_core.specs.Execute.{after_at, executed, is_plain}
+use Rattle.instruction_table.specs.Execute.{is_sleep, after_at, is_plain}
+use Rattle.node_core.specs.Cycle.{first_word, instructed, instructed_rows, is_idle, is_other, is_refused, node_kind, op_now, owes, row, second_word}
+use Rattle.node_core.specs.Execute.{executed}
 use Rattle.node_core.specs.Inside.{IsCalm, MayAct}
 use Rattle.node_core.specs.Interrupts.{due}
 use Rattle.node_core.specs.Midway.{IsActed, IsMidway, IsStep, IsStepped, IsStopping, counted, leaves_board, leaves_i, owing, step_of, turned_on}
@@ -32,7 +33,7 @@ use Rattle.node_core.specs.Shown.{shown}
 use Rattle.node_core.specs.State.{NodeState}
 use Rattle.node_core.proofs.Clocks.{executed_clock}
 use Rattle.node_core.proofs.Quiet.{is_enabled, may_access, may_change, quiet}
-use Rattle.node_core.proofs.Executes.{plain_awake, takes}
+use Rattle.instruction_table.proofs.Executes.{plain_awake, takes}
 use Rattle.node_core.proofs.Stops.{stops_there}
 use Rattle.node_core.proofs.Wakes.{wakes}
 use Rattle.node_core.proofs.Ran.{goes_on, ran, ran_rows}

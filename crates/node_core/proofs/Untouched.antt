@@ -15,7 +15,8 @@ use Rattle.bus_step.proofs.FlowKeeps.{flow_keeps}
 use Rattle.bus_step.proofs.MemoryKeeps.{memory_keeps}
 use Rattle.node_core.specs.declared.bus.NodeBus.{NodeBus}
 use Rattle.node_core.specs.Bus.{board_got, board_put, bus_get, bus_put}
-use Rattle.node_core.specs.Execute.{executed, executed_by, executed_over}
+use Rattle.instruction_table.specs.Execute.{executed_over}
+use Rattle.node_core.specs.Execute.{executed, executed_by}
 use Rattle.node_core.specs.Interrupts.{entry}
 
 module _ {V : Type 0} (part : Board → V)

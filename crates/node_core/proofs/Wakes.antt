@@ -20,8 +20,8 @@ use Rattle.bus_step.specs.MemoryShapes.{decremented, displaced, loads, loads_pos
 use Rattle.bus_step.specs.MemoryTable.{memory_effect, x, y, z}
 use Rattle.node_core.specs.declared.bus.NodeBus.{NodeBus}
 use Rattle.node_core.specs.Bus.{bus_get, bus_put}
-use Rattle.node_core.specs.Cycle.{is_sleep}
-use Rattle.node_core.specs.Execute.{executed, executed_by, executed_over}
+use Rattle.instruction_table.specs.Execute.{is_sleep, executed_over}
+use Rattle.node_core.specs.Execute.{executed, executed_by}
 
 abbrev Wakes : {B : Type 0} → Outcome B → Type 0
 Wakes outcome = IfOk outcome.result (λ d. d.sleep ≡ false)

@@ -25,9 +25,6 @@ abbrev pub board_put : NodeBus → Result Board StopCause → Result NodeBus Sto
 board_put bus (Ok board) = Ok (with_board bus board)
 board_put bus (Err cause) = Err cause
 
--- whether a data address is one of the internal SRAM
-abbrev pub in_sram : ℕ → Bool
-in_sram at = nat_le 0x0100 at && nat_le at 0x10FF
 
 -- a load
 unfoldable pub bus_get : NodeBus → ℕ → Result (ℕ × NodeBus) StopCause

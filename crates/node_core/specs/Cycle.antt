@@ -31,6 +31,7 @@ use Rattle.world_core.specs.NodeKind.{NodeKind}
 use Rattle.node_core.specs.declared.bus.NodeBus.{NodeBus}
 use Rattle.node_core.specs.Bus.{bus_at, with_board}
 use Rattle.node_core.specs.State.{NodeState}
+use Rattle.instruction_table.specs.Execute.{is_sleep}
 use Rattle.node_core.specs.Execute.{executed}
 use Rattle.node_core.specs.Interrupts.{due, entry}
 use Rattle.serial_ports.specs.Script.{script_byte}
@@ -66,10 +67,6 @@ owes o before after = is_sei o || (nat_lt before 128 && nat_le 128 after)
 abbrev pub is_spin : Op → Bool
 is_spin (op.Rjmp k) = cast_unsigned w16 k == 65535
 is_spin _ = false
-
-abbrev pub is_sleep : Op → Bool
-is_sleep op.Sleep = true
-is_sleep _ = false
 
 abbrev pub is_idle : Sleep → Bool
 is_idle Off = false

@@ -1,11 +1,12 @@
 // The data space of a node beside the core.
 ghost use Rattle.std.specs.Prelude.{◌≡◌, ◌≤◌, true, false, Ok, Err, OnOk, IfOk, OnErr, IfErr};
-ghost use Rattle.node_core.specs.Bus.{in_sram};
+ghost use Rattle.instruction_table.specs.Execute.{in_sram};
 ghost use Rattle.node_core.specs.Leaps.{LoadsStill};
 
 use avr_base::{NoMemory, StopCause};
 use board_io::LaggingBoard;
 use data_space::{Bus, Sram};
+use instruction_table::is_in_sram;
 use std::alloc::Global;
 
 /// What a node holds beside the core (ATmega128 datasheet, "SRAM Data Memory"): the internal SRAM at data addresses
@@ -17,14 +18,6 @@ pub struct NodeBus {
     pub sram: Sram,
     /// The I/O registers and the devices.
     pub board: LaggingBoard,
-}
-
-/// Whether a data address is one of the internal SRAM, 0x0100 to 0x10FF.
-#[inline(always)]
-pub fn is_in_sram(at: u16) -> bool
-    ensures { result ≡ in_sram at }
-{
-    at.wrapping_sub(0x0100) < 0x1000
 }
 
 impl NodeBus {

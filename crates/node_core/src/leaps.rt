@@ -7,7 +7,7 @@ ghost use Rattle.node_core.specs.Midway.{IsSprinted};
 ghost use Rattle.serial_ports.specs.Script.{script_byte};
 
 use crate::NodeBus;
-use crate::instructions::execute_waiting;
+use instruction_table::execute_waiting;
 use crate::machine::Machine;
 use crate::processor::{due, owes};
 use avr_decoder::{Class, Op};

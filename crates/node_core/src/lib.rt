@@ -3,10 +3,8 @@
 //! instructions and sleep up to the next event of its devices. `trace_writer` writes the text of the rows.
 #![tactic(auto)]
 
-mod accesses;
 mod bus;
 mod countdowns;
-mod instructions;
 mod interrupts;
 mod law;
 mod leaps;
@@ -22,7 +20,7 @@ mod sprint;
 mod stride;
 
 pub use bus::NodeBus;
-pub use instructions::execute;
+pub use instruction_table::execute;
 pub use law::steady_law;
 pub use node::{Node, Reached};
 pub use restore::RestoreFault;

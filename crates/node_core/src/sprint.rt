@@ -10,7 +10,7 @@ ghost use Rattle.avr_program.specs.Program.{slots_below};
 ghost use Rattle.serial_ports.specs.Script.{script_byte};
 
 use crate::NodeBus;
-use crate::instructions::{After, execute_plain};
+use instruction_table::{After, execute_plain};
 use crate::machine::Machine;
 use avr_base::StopCause;
 use avr_program::{Program, Slot};

@@ -2,10 +2,10 @@ use Rattle.std.proofs.Common.{◌≡◌, ap, sym, ◌∙◌}
 use Rattle.data_space.specs.Core.{core_of, whole}
 use Rattle.data_space.specs.Sequence.{pushed_word}
 use Rattle.data_space.specs.Space.{Access}
-use Rattle.node_core.specs.Execute.{pushed_as}
-use Rattle.node_core.proofs.Sram.{word_core}
-use Rattle.node_core.proofs.accesses.push_by_sram.Goals as goal
-use Rattle.node_core.proofs.accesses.push_by_sram.Goals.{in-Ok, in-Err}
+use Rattle.instruction_table.specs.Execute.{pushed_as}
+use Rattle.instruction_table.proofs.Pushes.{word_core}
+use Rattle.instruction_table.proofs.accesses.push_by_sram.Goals as goal
+use Rattle.instruction_table.proofs.accesses.push_by_sram.Goals.{in-Ok, in-Err}
 
 pub returns-then-is_in_sram-2-clause-pushed : goal.returns-then-is_in_sram-2-clause-pushed
 returns-then-is_in_sram-2-clause-pushed g c h =

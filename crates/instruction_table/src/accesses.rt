@@ -6,10 +6,10 @@ ghost use Rattle.data_space.specs.Core.{pair_at, whole};
 ghost use Rattle.data_space.specs.Sequence.{pushed_word};
 ghost use Rattle.bus_step.specs.FlowShapes.{calls, returns};
 ghost use Rattle.bus_step.specs.MemoryShapes.{loads, pops, pushes, stores};
-ghost use Rattle.node_core.specs.declared.instructions.After.TheVariants as after;
-ghost use Rattle.node_core.specs.Execute.{after_access, calls_by_sram, pushed_as, returns_by_sram};
+ghost use Rattle.instruction_table.specs.declared.instructions.After.TheVariants as after;
+ghost use Rattle.instruction_table.specs.Execute.{after_access, calls_by_sram, pushed_as, returns_by_sram};
 
-use crate::bus::is_in_sram;
+use crate::sram::is_in_sram;
 use crate::instructions::After;
 use avr_base::{Reg, StopCause};
 use bus_step::accesses::{load_at, pop_reg, push_reg, store_at};

@@ -13,9 +13,8 @@ use Rattle.bus_step.proofs.MemoryTakes.{memory_takes}
 use Rattle.data_space.specs.declared.bus.Done.{Done}
 use Rattle.data_space.specs.declared.cpu.Cpu.{Cpu}
 use Rattle.data_space.specs.Sequence.{Outcome}
-use Rattle.node_core.specs.Cycle.{is_sleep}
-use Rattle.node_core.specs.Execute.{executed_over, executed_over_by, is_plain}
-use Rattle.node_core.proofs.Takes.{arith_takes}
+use Rattle.instruction_table.specs.Execute.{is_sleep, executed_over, executed_over_by, is_plain}
+use Rattle.instruction_table.proofs.Takes.{arith_takes}
 
 -- a plain instruction does not sleep
 pub plain_awake : (o : Op) → is_plain o ≡ true → is_sleep o ≡ false

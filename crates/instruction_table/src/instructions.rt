@@ -3,9 +3,9 @@ ghost use Rattle.std.specs.Prelude.{◌≡◌, ◌≤◌, List, ℕ, Ok, Some, f
 ghost use Rattle.data_space.specs.Core.{advanced, core_of, lone, whole};
 ghost use Rattle.data_space.specs.Sequence.{done};
 ghost use Rattle.avr_decoder.specs.declared.op.Op.TheVariants as op;
-ghost use Rattle.node_core.specs.declared.instructions.After.TheVariants as after;
+ghost use Rattle.instruction_table.specs.declared.instructions.After.TheVariants as after;
 ghost use Rattle.bus_step.specs.FlowShapes.{branched};
-ghost use Rattle.node_core.specs.Execute.{after_at, after_branch, after_cycles, after_jump, after_of, executed_over, is_plain, is_short_back};
+ghost use Rattle.instruction_table.specs.Execute.{after_at, after_branch, after_cycles, after_jump, after_of, executed_over, is_plain, is_short_back, left_by};
 
 use crate::accesses::{Accessed, called, load, pop, push, returned, store};
 use arith_step::shapes::{
@@ -170,11 +170,7 @@ pub fn execute_plain<B: Bus>(
     core: &mut Core,
     bus: &mut B,
 ) -> Executed
-    ensures after { result.0 ≡ after_at op.now (whole regs.old core.old) }
-    ensures which { is_some result.1 ≡ is_plain op.now }
-    // all that an instruction leaves in one clause: so each arm is proved once, not three times
-    ensures some { IfSome result.1 (λ r. record { result = r; cpu = whole regs.new core.new; bus = bus.new } ≡ executed_over B.get_gives B.put_gives program.now.bytes op.now (whole regs.old core.old) bus.old) }
-    ensures none { IfNone result.1 ((regs.new ≡ regs.old) × (core.new ≡ core.old) × (bus.new ≡ bus.old)) }
+    ensures { record { after = result.0; reported = result.1; cpu = whole regs.new core.new; bus = bus.new } ≡ left_by B.get_gives B.put_gives program.now.bytes op.now (whole regs.old core.old) bus.old }
 {
     let x = Reg::numbered(26);
     let y = Reg::numbered(28);
@@ -315,6 +311,22 @@ pub fn execute_plain<B: Bus>(
     }
 }
 
+// The same, clause by clause.
+#[inline(always)]
+fn told_plain<B: Bus>(
+    op: &Op,
+    program: &Program,
+    regs: &mut Registers,
+    core: &mut Core,
+    bus: &mut B,
+) -> Executed
+    ensures which { is_some result.1 ≡ is_plain op.now }
+    ensures some { IfSome result.1 (λ r. record { result = r; cpu = whole regs.new core.new; bus = bus.new } ≡ executed_over B.get_gives B.put_gives program.now.bytes op.now (whole regs.old core.old) bus.old) }
+    ensures none { IfNone result.1 ((whole regs.new core.new ≡ whole regs.old core.old) × (bus.new ≡ bus.old)) }
+{
+    execute_plain(op, program, regs, core, bus)
+}
+
 // SLEEP, or an instruction that halts the node.
 #[tactic(auto, unfolding(crate::specs::Execute::executed_over, arith_step::specs::Shapes::sets_flag, arith_step::specs::Table::effect, bus_step::specs::FlowTable::flow_effect))]
 fn execute_other<B: Bus>(
@@ -349,7 +361,7 @@ pub fn execute<B: Bus>(
     ensures takes { IfOk result (λ d. 1 ≤ d.cycles) }
 {
     let (mut regs, mut core) = cpu.parts();
-    let result = match execute_plain(op, program, &mut regs, &mut core, bus) {
+    let result = match told_plain(op, program, &mut regs, &mut core, bus) {
         (_, Some(result)) => result,
         (_, None) => execute_other(op, &mut regs, &mut core, bus),
     };

@@ -1,0 +1,18 @@
+//! The headline of the pure machine in one clause.
+#![tactic(auto)]
+
+ghost use Rattle.std.specs.Prelude.{◌≡◌, List};
+ghost use Rattle.std.specs.List.{All};
+ghost use Rattle.world_core.specs.Order.{facts_of, hears, world_at};
+ghost use Rattle.world_core.specs.Steps.{opening};
+ghost use Rattle.node_runner.specs.Scenario.{IsScenario, ScenarioOf, fleet_of};
+ghost use Rattle.sync_core.specs.Moves.{IsForGood, Move, MayMoveAll, after_moves};
+
+/// Of every scenario, whatever allowed raises, posts, samples and cuts come from the opening, in whatever order: each
+/// recorded sample is what the node hears in that cycle of the single global order, and no later move alters it.
+pub fn order_gives_each_sample()
+    ensures order { (s : ScenarioOf) (moves : List Move) → IsScenario s → MayMoveAll (opening (facts_of (fleet_of s))) moves
+        → All (λ x. x.1 ≡ hears (fleet_of s) x.0.cycle (world_at (fleet_of s) x.0.cycle) x.0.node) (after_moves (opening (facts_of (fleet_of s))) moves).samples }
+    ensures for_good { (s : ScenarioOf) (moves : List Move) → IsScenario s → MayMoveAll (opening (facts_of (fleet_of s))) moves
+        → All (IsForGood (after_moves (opening (facts_of (fleet_of s))) moves)) (after_moves (opening (facts_of (fleet_of s))) moves).samples }
+{}

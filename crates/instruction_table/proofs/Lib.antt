@@ -1,0 +1,4 @@
+pub mod Takes
+pub mod Executes
+pub mod Pushes
+pub mod Lefts
