@@ -67,7 +67,7 @@ loads w slots id k me t kt =
     let world : me.0.world ≡ w = ap (λ (u : View). u.world) (sym same) ∙ h.is_air.world in
     let sent : me.0.sent ≡ h.air.sent = ap (λ (u : View). u.sent) (sym same) in
     let kept : KeepsRule w record { words = s.words; homes = s.homes; views = set s.views 0 v } =
-        subst (λ (u : View). KeepsRule w record { words = s.words; homes = s.homes; views = set s.views 0 (with_load u (line_of i) c) }) same (look_kept w s (line_of i) c h) in
+    subst (λ (u : View). KeepsRule w record { words = s.words; homes = s.homes; views = set s.views 0 (with_load u (line_of i) c) }) same (look_kept w s (line_of i) c h) in
     let B : ℕ → WorldFacts → List ℕ → Type 0 = λ j x l. sends_below x.sends j c ≤ sent_of l j in
     let b : B (line_of i) me.0.world me.0.sent = subst (λ (j : ℕ). B j me.0.world me.0.sent) (sym (line k)) (subst (λ (x : WorldFacts). B k x me.0.sent) (sym world) (subst (B k w) (sym sent) (h.passed k kt))) in
     (v, subst (λ (ws : List ℕ). KeepsRule w record { words = ws; homes = s.homes; views = set s.views 0 v }) (sym (set-get_or s.words i 0)) kept, (refl, b)))

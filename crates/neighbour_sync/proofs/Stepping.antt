@@ -90,8 +90,8 @@ posted s r new clocks x m v a at next early is =
     let count : sent_of h.air.sent k ≡ sent_of r.sent k = sym (h.counts k lt) ∙ sym (a.counts_are k lt) in
     let further : sent_of h.air.sent k < length (sends_of k w.sends) = let y = due.0 in omega arith in
     let rule : KeepsRule w (after_step s i c 0 (with_sent v k)) =
-        subst (λ (u : View). KeepsRule w (after_step s i c 0 (with_sent u k))) view
-        (subst (λ (y : ℕ). KeepsRule w (after_step s i (y + 1) 0 (with_sent h.air k))) count (counted w s k h lt further)) in
+    subst (λ (u : View). KeepsRule w (after_step s i c 0 (with_sent u k))) view
+    (subst (λ (y : ℕ). KeepsRule w (after_step s i (y + 1) 0 (with_sent h.air k))) count (counted w s k h lt further)) in
     let room : i < length s.words = let y = h.words in omega arith in
     let inside : k < length r.sent = let y = a.sound.recorded.nodes in omega arith in
     let shows : AreShown (after_step s i c 0 (with_sent v k)) (with_send r x) clocks = record {
@@ -101,12 +101,13 @@ posted s r new clocks x m v a at next early is =
       clocks_are = λ j jt. a.clocks_are j jt ∙ sym (beside s.words i (clock_at j) c (λ q. absurd (omega arith)));
       counts_are = λ j jt. sym (each_sent s.words r.sent n k j room inside (sym (a.counts_are j jt)) (ℕ_discrete j k));
       risen = a.risen;
-    } in
-    (due.0,
-     subst (λ (q : AirRecord). AreShown (after_step s i c 0 (with_sent v k)) q clocks) (sym is.1) shows,
-     ap (λ (q : AirRecord). shown q clocks) is.1
-     ∙ ap (λ (l : List Send). record (shown r clocks) { sent = set r.sent k c; sends = r.sends ++ l })
-       (sym (next_one (sends_of k w.sends) (sent_of r.sent k) x due.0 due.1)))
+    } in (
+      due.0,
+      subst (λ (q : AirRecord). AreShown (after_step s i c 0 (with_sent v k)) q clocks) (sym is.1) shows,
+      ap (λ (q : AirRecord). shown q clocks) is.1
+          ∙ ap (λ (l : List Send). record (shown r clocks) { sent = set r.sent k c; sends = r.sends ++ l })
+          (sym (next_one (sends_of k w.sends) (sent_of r.sent k) x due.0 due.1)),
+    )
 
 -- ---- the record's seat loads a clock
 pub loaded : (s : Table) (r : AirRecord) (clocks : List ℕ) (k : ℕ) (v : View) → AreShown s r clocks → get_elem? s.views 0 ≡ some v → k < r.world.topo.nodes
@@ -119,7 +120,7 @@ loaded s r clocks k v a at lt =
     let view : h.air ≡ v = some-injective h.air v (sym h.first ∙ at) in
     let u = with_load v k c in
     let kept : KeepsRule w record { words = s.words; homes = s.homes; views = set s.views 0 u } =
-        subst (λ (x : View). KeepsRule w record { words = s.words; homes = s.homes; views = set s.views 0 (with_load x k c) }) view (look_kept w s k c h) in
+    subst (λ (x : View). KeepsRule w record { words = s.words; homes = s.homes; views = set s.views 0 (with_load x k c) }) view (look_kept w s k c h) in
     let now : c ≤ clock_of clocks k = let x = a.clocks_are k lt in omega arith in
     subst (λ (ws : List ℕ). AreShown record { words = ws; homes = s.homes; views = set s.views 0 u } (with_loads r ((k, c) ∷ [])) clocks) (sym (set-get_or s.words i 0)) record {
       rule = kept;
@@ -163,11 +164,12 @@ sampled s r new clocks j c h more a asked late is =
       clocks_are = a.clocks_are;
       counts_are = a.counts_are;
       risen = a.risen;
-    } in
-    (record { asked = asked; kept = late; passed = passed },
-     subst (λ (q : AirRecord). AreShown s q clocks) (sym is.recorded) shows,
-     ap (λ (q : AirRecord). shown q clocks) is.recorded
-     ∙ ap (λ (v : HeardValue). record (shown r clocks) { samples = r.samples ++ (record { node = j; cycle = c }, v) ∷ [] }) value)
+    } in (
+      record { asked = asked; kept = late; passed = passed },
+      subst (λ (q : AirRecord). AreShown s q clocks) (sym is.recorded) shows,
+      ap (λ (q : AirRecord). shown q clocks) is.recorded
+          ∙ ap (λ (v : HeardValue). record (shown r clocks) { samples = r.samples ++ (record { node = j; cycle = c }, v) ∷ [] }) value,
+    )
 
 -- ---- cut
 pub cut : (s : Table) (r : AirRecord) (clocks : List ℕ) (f : ℕ) (more : List (ℕ × ℕ)) → AreShown s (with_loads r more) clocks → r.floor ≤ f → f ≤ r.world.topo.limit → IsPostedTo r.world f r.sent
