@@ -56,6 +56,7 @@ pub fn write_rows<R: Threads + Wait + Files + AllocGlobal + Sync, G: Gate + Sync
 }
 
 // An environment with these words, the program's name among them, and no variable.
+#[derive(Drop)]
 struct Given<'w> {
     words: &'w [&'w str],
 }
