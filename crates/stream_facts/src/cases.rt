@@ -124,6 +124,7 @@ fn do_stream<O: Sink>(
     let mut writer = Halting::new(Vec::<u8>::new(alloc), step, turns);
     let mut sink = StdSink::new(&mut writer);
     let wrote = write_all(&mut sink, text.as_bytes());
+    drop(sink);
     write_taken(wrote, writer.inner().as_slice(), out)
 }
 
