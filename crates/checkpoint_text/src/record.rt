@@ -5,9 +5,10 @@ ghost use Rattle.world_core.specs.Chain.{Rises};
 ghost use Rattle.world_core.specs.Kept.{is_kept};
 ghost use Rattle.checkpoint_text.specs.Paused.{CanPost};
 
+use air_base::Send;
 use avr_base::NoMemory;
 use std::alloc::Global;
-use world_core::{Send, SendLog, Topo};
+use world_core::{SendLog, Topo};
 
 /// A record of these sends, of which each node's rise.
 pub fn record_of(alloc: Global, sends: &[Send]) -> Result<SendLog, NoMemory>

@@ -23,7 +23,7 @@ ghost use Rattle.node_core.specs.Bus.{bus_put, reset_bus, with_board};
 ghost use Rattle.node_core.specs.Cycle.{begun_in, finished_in};
 ghost use Rattle.node_core.specs.Execute.{executed};
 ghost use Rattle.node_core.specs.State.{NodeState};
-ghost use Rattle.world_core.specs.declared.air.Heard.{Heard};
+ghost use Rattle.air_base.specs.declared.air.Heard.{Heard};
 
 /// After CP, and after CPI, the flags compare the two bytes.
 pub fn compare_law()

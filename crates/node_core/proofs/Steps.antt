@@ -9,8 +9,8 @@ use Rattle.board_io.specs.Board.{sleep_mode}
 use Rattle.board_io.specs.Cycle.{timers_leap}
 use Rattle.data_space.specs.declared.bus.Done.{Done}
 use Rattle.data_space.specs.Sequence.{Outcome}
-use Rattle.world_core.specs.NodeRun.{Comes, Timed, passed_rows}
-use Rattle.world_core.proofs.QuietCycles.{comes_step}
+use Rattle.air_base.specs.NodeRun.{Comes, Timed, passed_rows}
+use Rattle.air_base.proofs.QuietCycles.{comes_step}
 use Rattle.node_core.specs.declared.bus.NodeBus.{NodeBus}
 use Rattle.data_space.specs.declared.cpu.Core.{Core}
 use Rattle.data_space.specs.declared.cpu.Cpu.{Cpu}

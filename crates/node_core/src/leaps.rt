@@ -7,11 +7,11 @@ ghost use Rattle.node_core.specs.Midway.{IsSprinted};
 ghost use Rattle.serial_ports.specs.Script.{script_byte};
 
 use crate::NodeBus;
-use instruction_table::execute_waiting;
 use crate::machine::Machine;
 use crate::processor::{due, owes};
 use avr_decoder::{Class, Op};
 use data_space::Cpu;
+use instruction_table::execute_waiting;
 
 // How many instructions a round has at most that is looked for.
 pub const LONGEST: u64 = 8;

@@ -14,7 +14,6 @@ ghost use Rattle.board_io.specs.Lines.{lines_of};
 ghost use Rattle.ihex_loader.specs.Flash.{word_at};
 ghost use Rattle.avr_base.specs.Lines.{due_of, pending_of};
 
-use instruction_table::execute;
 use crate::interrupts::enter;
 use crate::machine::Machine;
 use crate::rows::{is_within, put_row, tell, tell_instruction, unless_told};
@@ -23,6 +22,7 @@ use avr_base::{Sreg, StopCause, Vector};
 use avr_decoder::Op;
 use board_io::{LaggingBoard, Sleep};
 use data_space::Done;
+use instruction_table::execute;
 
 // SEI and RETI.
 fn is_set_interrupts(op: &Op) -> bool

@@ -10,11 +10,11 @@ ghost use Rattle.avr_program.specs.Program.{slots_below};
 ghost use Rattle.serial_ports.specs.Script.{script_byte};
 
 use crate::NodeBus;
-use instruction_table::{After, execute_plain};
 use crate::machine::Machine;
 use avr_base::StopCause;
 use avr_program::{Program, Slot};
 use data_space::{Core, Cpu, Done, Registers};
+use instruction_table::{After, execute_plain};
 
 /// Where a sprint ended: at the beginning of the cycle `at`, or in the middle of it, of which the processor's part is
 /// done.

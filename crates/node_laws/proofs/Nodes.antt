@@ -39,8 +39,8 @@ use Rattle.serial_ports.specs.Script.{ScriptBytes, script_byte}
 use Rattle.serial_ports.specs.declared.radio.TransferOutcome.{TransferOutcome}
 use Rattle.serial_ports.specs.declared.radio.TransferOutcome.TheVariants.{Answer, Send, Ask}
 use Rattle.serial_ports.specs.declared.radio.Radio.{Radio}
-use Rattle.world_core.specs.NodeKind.{ticked}
-use Rattle.world_core.specs.declared.air.Heard.{Heard}
+use Rattle.air_base.specs.NodeKind.{ticked}
+use Rattle.air_base.specs.declared.air.Heard.{Heard}
 use Rattle.node_laws.specs.Within.{BoardWithin, ByteWithin, HeardWithin, ReadWithin, WrittenWithin}
 use Rattle.node_laws.specs.Node.{AreBytes, BusWithin, CoreWithin, NodeWithin}
 use Rattle.node_laws.proofs.Boards.{board_from, cycle_within, entered_within, read_within, reset_within, sends_within, set_clock, write_within}

@@ -1,6 +1,6 @@
 use Rattle.std.proofs.Common.{◌≡◌, List, sym, subst, ◌∙◌}
 use Rattle.std.specs.List.{each_same}
-use Rattle.world_core.specs.declared.air.Link.{Link}
+use Rattle.world_core.specs.declared.link_table.Link.{Link}
 use Rattle.world_core.specs.Topology.{topology, IsTopology}
 use Rattle.world_core.specs.LinkTable.{IsTableOf}
 use Rattle.world_core.proofs.topo.Topo.copy.Goals as goal

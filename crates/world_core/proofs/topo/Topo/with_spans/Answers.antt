@@ -1,6 +1,6 @@
 use Rattle.std.proofs.Common.{refl, subst, List}
 use Rattle.std.proofs.lemmas.Bool.{false≢true}
-use Rattle.world_core.specs.declared.air.Link.{Link}
+use Rattle.world_core.specs.declared.link_table.Link.{Link}
 use Rattle.world_core.specs.FirstFault.{AllKeep}
 use Rattle.world_core.specs.Topology.{Topology, topology, HasRanges, IsTopology, IsNewLink, IsLinkFault}
 use Rattle.world_core.specs.LinkTable.{IsTableOf}

@@ -1,25 +1,5 @@
 // What is sent over the air, and what is heard.
 
-/// A link of a topology: a node that hears another one.
-#[derive(Clone, Copy)]
-pub struct Link {
-    /// The number of the node that is heard.
-    pub from: u8,
-    /// The number of the node that hears it.
-    pub to: u8,
-}
-
-/// A span of cycles in which a link is open.
-#[derive(Clone, Copy)]
-pub struct Span {
-    /// The place of the link in the list of links.
-    pub link: u32,
-    /// The first cycle.
-    pub from: u64,
-    /// The cycle after the last.
-    pub until: u64,
-}
-
 /// A byte that a node sends over the air.
 #[derive(Clone, Copy, PartialEq, Eq)]
 pub struct Send {

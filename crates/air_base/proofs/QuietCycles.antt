@@ -2,8 +2,8 @@
 use Rattle.std.proofs.lemmas.Bool.{false≢true}
 use Rattle.std.proofs.Common.{◌≡◌, ℕ, zero, suc, ◌+◌, ◌-◌, ◌<◌, ◌≤◌, Bool, true, false, List, [], ◌++◌, refl, sym, subst, ◌∙◌, ap, arith, append-nil, append_assoc}
 use native.Mathlib.Decide.{ℕ_discrete}
-use Rattle.world_core.specs.NodeKind.{NodeKind, IsSteady}
-use Rattle.world_core.specs.NodeRun.{passed, passed_rows, IsQuiet, AllQuiet, Timed, Comes, AllRunning}
+use Rattle.air_base.specs.NodeKind.{NodeKind, IsSteady}
+use Rattle.air_base.specs.NodeRun.{passed, passed_rows, IsQuiet, AllQuiet, Timed, Comes, AllRunning}
 
 module _ {S R : Type 0} (m : NodeKind S R) where
   passed_zero : (t : ℕ) (s : S) → passed m t 0 s ≡ s

@@ -1,9 +1,9 @@
 -- Many cycles of one node by itself: how far a run comes before the node samples, sends or stops. Own to this
 -- simulator.
 use Rattle.std.specs.Prelude.{◌≡◌, ℕ, zero, suc, ◌+◌, ◌-◌, ◌<◌, ◌≤◌, Bool, true, false, Some, None, List, ◌++◌}
-use Rattle.world_core.specs.declared.air.Heard.{Heard}
-use Rattle.world_core.specs.Each.{each_below}
-use Rattle.world_core.specs.NodeKind.{NodeKind}
+use Rattle.air_base.specs.declared.air.Heard.{Heard}
+use Rattle.air_base.specs.Each.{each_below}
+use Rattle.air_base.specs.NodeKind.{NodeKind}
 
 -- the state after n cycles from cycle t on, none of which samples
 unfoldable pub passed : {S R : Type 0} → NodeKind S R → ℕ → ℕ → S → S

@@ -2,7 +2,7 @@
 -- simulator.
 use Rattle.std.specs.Prelude.{◌≡◌, ℕ, ◌+◌, ◌≤◌, Bool, true, false, if◌then◌else◌, Option, Some, None, List, [], ◌++◌}
 use Rattle.std.specs.List.{All}
-use Rattle.world_core.specs.declared.air.Heard.{Heard}
+use Rattle.air_base.specs.declared.air.Heard.{Heard}
 
 -- A node is in a state of S, and makes rows of R. What it hears enters a cycle at its sample alone: a cycle begins (up
 -- to its sample, or whole where it samples nothing) and then, where it samples, is finished with what was heard.
