@@ -1,6 +1,6 @@
 use Rattle.std.proofs.Common.{◌≡◌, ℕ, List, ap, sym, subst, ◌∙◌}
 use Rattle.std.specs.List.{each_same}
-use Rattle.world_core.specs.declared.air.Link.{Link}
+use Rattle.world_core.specs.declared.link_table.Link.{Link}
 use Rattle.world_core.specs.Topology.{topology, IsTopology, greatest}
 use Rattle.world_core.specs.LinkTable.{IsTableOf}
 use Rattle.world_core.proofs.topo.Topo.copy.Goals as goal
