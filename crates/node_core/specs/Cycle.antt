@@ -31,7 +31,7 @@ use Rattle.air_base.specs.NodeKind.{NodeKind}
 use Rattle.node_core.specs.declared.bus.NodeBus.{NodeBus}
 use Rattle.node_core.specs.Bus.{bus_at, with_board}
 use Rattle.node_core.specs.State.{NodeState}
-use Rattle.instruction_table.specs.Execute.{is_sleep}
+use Rattle.avr_core.specs.Execute.{is_sleep}
 use Rattle.node_core.specs.Execute.{executed}
 use Rattle.node_core.specs.Interrupts.{due, entry}
 use Rattle.serial_ports.specs.Script.{script_byte}

@@ -9,8 +9,8 @@ use Rattle.data_space.specs.declared.bus.Done.{Done}
 use Rattle.data_space.specs.declared.cpu.Core.{Core}
 use Rattle.data_space.specs.declared.cpu.Registers.{Registers}
 use Rattle.data_space.specs.Core.{whole}
-use Rattle.instruction_table.specs.declared.instructions.After.{After}
-use Rattle.instruction_table.specs.declared.instructions.After.TheVariants as after
+use Rattle.avr_core.specs.declared.instructions.After.{After}
+use Rattle.avr_core.specs.declared.instructions.After.TheVariants as after
 use Rattle.node_core.specs.declared.machine.Machine.{Machine}
 use Rattle.node_core.specs.declared.sprint.Step.{Step}
 use Rattle.node_core.specs.declared.sprint.Step.TheVariants.{Single, Plain, Jumped, Loaded, Stored, Enabled, Stopped, Left}

@@ -12,9 +12,9 @@ ghost use Rattle.serial_ports.specs.Script.{script_byte};
 use crate::NodeBus;
 use crate::machine::Machine;
 use avr_base::StopCause;
+use avr_core::{After, execute_plain};
 use avr_program::{Program, Slot};
 use data_space::{Core, Cpu, Done, Registers};
-use instruction_table::{After, execute_plain};
 
 /// Where a sprint ended: at the beginning of the cycle `at`, or in the middle of it, of which the processor's part is
 /// done.
@@ -110,7 +110,7 @@ fn one_step(
     ensures apart { leaves_board result ≡ true → bus.new.board ≡ bus.old.board }
 {
     let op = program.op_at(slots, core.pc);
-    let (after, executed) = execute_plain(op, program, regs, core, bus);
+    let (after, executed) = execute_plain(op, program.flash(), regs, core, bus);
     told(after, executed, count)
 }
 

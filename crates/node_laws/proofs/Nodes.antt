@@ -30,7 +30,7 @@ use Rattle.device_laws.proofs.Timers.{kept_if}
 use Rattle.ihex_loader.specs.Flash.{word_at}
 use Rattle.node_core.specs.Bus.{board_got, board_put, bus_at, bus_get, bus_put, with_board}
 use Rattle.node_core.specs.Cycle.{acted, after_entry, after_instruction, asks_after, asks_in, begun_in, cpu_cycle, devices_cycle, entered, first_word, finished_in, instructed, is_refused, node_kind, op_now, second_word, sends_after, sends_in}
-use Rattle.instruction_table.specs.Execute.{executed_over}
+use Rattle.avr_core.specs.Execute.{executed_over}
 use Rattle.node_core.specs.Execute.{executed, executed_by}
 use Rattle.node_core.specs.Interrupts.{due, entry, vectored}
 use Rattle.node_core.specs.State.{NodeState, reset}
