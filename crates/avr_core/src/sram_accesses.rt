@@ -1,6 +1,6 @@
 // Loads, stores, calls and returns, told apart by whether they are of the internal SRAM: behind such a one a loop over
-// instructions looks at nothing. Each is executed by the one text that `accesses` and `calls` have. It stands in both branches, since the host's
-// code of the one then has no device in it. A call's two pushes stand apart.
+// instructions looks at nothing. Each is executed by the one text that `accesses` and `calls` have, which stands in both
+// branches, since the host's code of the one then has no device in it. A call's two pushes stand apart.
 ghost use Rattle.std.specs.Prelude.{◌≡◌, ◌+◌, ◌%◌, if◌then◌else◌, true, false, IfOk, OnErr};
 ghost use Rattle.data_space.specs.Core.{pair_at, whole};
 ghost use Rattle.data_space.specs.Sequence.{pushed_word};
