@@ -53,10 +53,27 @@ fn make_room(
 {
     log.cut(topo, floor);
     let room = (log.sends().len() + more).saturating_mul(2);
-    if log.room() < room {
-        let longer = record_of(alloc, log.sends(), room)?;
-        *log = longer;
+    if room <= log.room() {
+        return Ok(());
     }
+    let longer = record_of(alloc, log.sends(), room)?;
+    *log = longer;
+    Ok(())
+}
+
+// Puts sends into a record that has no room for them, behind what of it is not over at the cycle `floor`.
+fn post_to_full(
+    alloc: Global,
+    topo: &Topo,
+    log: &mut SendLog,
+    sends: &[Send],
+    floor: u64,
+) -> Result<(), NoMemory>
+    requires { CanPost log.old.sends sends.now }
+    ensures { OnOk result (log.new.sends ≡ filter (is_kept topo.now floor) log.old.sends ++ sends.now) }
+{
+    make_room(alloc, topo, log, sends.len(), floor)?;
+    append(log, sends);
     Ok(())
 }
 
@@ -73,7 +90,7 @@ pub fn post(
     ensures { OnOk result ((log.new.sends ≡ log.old.sends ++ sends.now) ⊎ (log.new.sends ≡ filter (is_kept topo.now floor) log.old.sends ++ sends.now)) }
 {
     if log.room() < log.sends().len() + sends.len() {
-        make_room(alloc, topo, log, sends.len(), floor)?;
+        return post_to_full(alloc, topo, log, sends, floor);
     }
     append(log, sends);
     Ok(())
