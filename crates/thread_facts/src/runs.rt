@@ -67,13 +67,11 @@ impl<'w> Env for Given<'w> {
             return Err(FillError::NotPresent);
         };
         let bytes = word.as_bytes();
-        match buf.get_mut(..bytes.len()) {
-            Some(place) => {
-                place.copy_from_slice(bytes);
-                Ok(bytes.len())
-            }
-            None => Err(FillError::TooLong),
+        if bytes.len() > buf.len() {
+            return Err(FillError::TooLong);
         }
+        buf[..bytes.len()].copy_from_slice(bytes);
+        Ok(bytes.len())
     }
 
     fn var(&self, name: &str, buf: &mut [u8]) -> Result<usize, FillError> {
