@@ -185,12 +185,12 @@ impl ThreadRun {
         ensures world { result.now.world ≡ facts_of (fleet_of self.now.scenario) }
         ensures floor { result.now.floor ≡ self.now.floor }
         ensures posted { IsPostedTo result.now.world self.now.floor result.now.sent }
-        ensures consistent { IsConsistent (shown result.now (replicate self.now.scenario.topo.nodes self.now.floor)) }
+        ensures consistent { IsConsistent (shown result.now (replicate result.now.world.topo.nodes result.now.floor)) }
     {
         match &self.parts {
             Some(parts) => {
-                // The call's clause says that the record is sound.
-                let _sound = parts.air.samples();
+                // The call's clause says that the state is consistent.
+                let _consistent = parts.air.samples();
                 &parts.air
             }
             None => unreachable!(),

@@ -50,7 +50,7 @@ at_first w z law =
     let none = zeros n in
     record {
       rule = opens w;
-      sound = record { lawful = law; recorded = record_opens w; early = λ i d lt. absurd (omega arith) };
+      sound = record { lawful = law; recorded = record_opens w; early = λ i d lt. absurd (omega arith); within = omega arith };
       nodes = length-replicate n 0;
       clocks_are = λ k kt. none k ∙ sym (all (clock_at k));
       counts_are = λ k kt. none k ∙ sym (all (sent_at n k));
@@ -63,13 +63,13 @@ level zero c k = omega arith
 level (suc n) c zero = omega arith
 level (suc n) c (suc k) = level n c k
 
-pub at_floor : (r : AirRecord) → IsSound r → r.floor ≤ r.world.topo.limit → IsConsistent (shown r (replicate r.world.topo.nodes r.floor))
-at_floor r i le =
+pub at_floor : (r : AirRecord) → IsSound r → IsConsistent (shown r (replicate r.world.topo.nodes r.floor))
+at_floor r i =
     let n = r.world.topo.nodes in
     record {
       lawful = i.lawful;
       nodes = length-replicate n r.floor;
-      within = λ k. let a = level n r.floor k in omega arith;
+      within = λ k. let a = level n r.floor k in let b = i.within in omega arith;
       passed = λ k. let a = sends_below-le r.world.sends k (slice_index (replicate n r.floor) k) r.floor (level n r.floor k) in let b = i.recorded.below k in omega arith;
       recorded = i.recorded;
     }

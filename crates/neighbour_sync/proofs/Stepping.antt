@@ -124,7 +124,7 @@ loaded s r clocks k v a at lt =
     let now : c ≤ clock_of clocks k = let x = a.clocks_are k lt in omega arith in
     subst (λ (ws : List ℕ). AreShown record { words = ws; homes = s.homes; views = set s.views 0 u } (with_loads r ((k, c) ∷ [])) clocks) (sym (set-get_or s.words i 0)) record {
       rule = kept;
-      sound = record { lawful = a.sound.lawful; recorded = a.sound.recorded; early = a.sound.early };
+      sound = record { lawful = a.sound.lawful; recorded = a.sound.recorded; early = a.sound.early; within = a.sound.within };
       nodes = a.nodes;
       clocks_are = a.clocks_are;
       counts_are = a.counts_are;
@@ -177,7 +177,7 @@ pub cut : (s : Table) (r : AirRecord) (clocks : List ℕ) (f : ℕ) (more : List
 cut s r clocks f more a rises within below =
     let shows : AreShown s (cut_at (with_loads r more) f) clocks = record {
       rule = a.rule;
-      sound = cut_sound (with_loads r more) f a.sound rises below;
+      sound = cut_sound (with_loads r more) f a.sound rises within below;
       nodes = a.nodes;
       clocks_are = a.clocks_are;
       counts_are = a.counts_are;

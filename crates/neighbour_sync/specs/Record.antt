@@ -1,6 +1,6 @@
 -- The record of the air, as contracts see it: what always holds of it, and what each call makes of it. Own to this
 -- simulator.
-use Rattle.std.specs.Prelude.{◌≡◌, ℕ, ◌+◌, ◌<◌, nat_le, List, [], ◌∷◌, ◌++◌, slice_set, replicate}
+use Rattle.std.specs.Prelude.{◌≡◌, ℕ, ◌+◌, ◌<◌, ◌≤◌, nat_le, List, [], ◌∷◌, ◌++◌, slice_set, replicate}
 use Rattle.std.specs.List.{All, filter}
 use Rattle.atomic_table.specs.Seated.{TableId}
 use Rattle.air_base.specs.declared.air.Send.{Send}
@@ -35,6 +35,7 @@ pub record IsSound (r : AirRecord) : Type 0 where
   pub lawful : IsLawful r.world
   pub recorded : IsRecorded r.world r.floor r.sent r.sends r.samples
   pub early : All (λ x. x.cycle < r.floor + epoch) r.sends
+  pub within : r.floor ≤ r.world.topo.limit
 
 abbrev pub first_record : TableId → WorldFacts → List (ℕ × ℕ) → AirRecord
 first_record z w loads = record { table = z; world = w; sent = replicate w.topo.nodes 0; loads = loads; floor = 0; sends = []; samples = [] }

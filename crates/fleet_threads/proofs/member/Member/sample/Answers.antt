@@ -1,4 +1,4 @@
-use Rattle.std.proofs.Common.{◌≤◌, refl, ap, arith}
+use Rattle.std.proofs.Common.{◌≤◌, length, refl, ap, arith}
 use Rattle.node_runner.specs.Place.{Place}
 use Rattle.fleet_threads.specs.declared.member.Member.{Member}
 use Rattle.fleet_threads.proofs.Steps.{asked_here, late, has_looked, looked, answered}
@@ -41,4 +41,4 @@ pub returns-in-NotYet-clause-once : goal.returns-in-NotYet-clause-once
 returns-in-NotYet-clause-once g c = c.ask.ensures.once
 
 pub returns-in-Halted-clause-once : goal.returns-in-Halted-clause-once
-returns-in-Halted-clause-once g c = λ e. let looks = c.halt.ensures.looks in let once = c.ask.ensures.once e in omega arith
+returns-in-Halted-clause-once g c = λ e. let looks = ap length c.halt.ensures.looks in let once = c.ask.ensures.once e in omega arith
