@@ -1,18 +1,16 @@
 -- What the running calls make of words and record is what the machine's moves make of the state that these show.
 use Rattle.std.proofs.Common.{◌≡◌, ℕ, suc, ◌+◌, ◌-◌, ◌<◌, ◌≤◌, inl, true, List, [], ◌∷◌, ◌++◌, length, get_or, set, refl, sym, subst, ◌∙◌, ap, arith, length-set}
-use Rattle.std.specs.List.{All, Contains}
+use Rattle.std.specs.List.{Contains}
 use Rattle.std.specs.Prelude.{slice_index}
 use Rattle.std.proofs.lemmas.Bool.{false≢true}
-use Rattle.std.proofs.lemmas.List.{set-get_or, get_or-set_same, get_or-set_other}
+use Rattle.std.proofs.lemmas.List.{set-get_or}
 use Rattle.std.proofs.lemmas.List.Elements.{All-push, Contains-append_right}
 use mathlib.Core.Option.{some, some-injective}
 use lib.ListN.{get_elem?}
 use native.Mathlib.Decide.{ℕ_discrete, dec_le}
 use Rattle.air_base.specs.declared.air.Send.{Send}
-use Rattle.air_base.specs.declared.air.Ask.{Ask}
 use Rattle.air_base.specs.declared.air.Heard.{Heard as HeardValue}
-use Rattle.world_core.specs.declared.world.WorldFacts.{WorldFacts}
-use Rattle.world_core.specs.Topology.{Topology, is_linked, is_needed, is_reached_in, latency_of, neighbours, place_in}
+use Rattle.world_core.specs.Topology.{Topology, is_linked, is_needed, is_reached_in, latency_of, place_in}
 use Rattle.world_core.specs.Heard.{heard}
 use Rattle.world_core.specs.Sends.{sends_below, sends_of, IsSendNumber}
 use Rattle.world_core.specs.Posted.{sent_of, AllPostedFor}
