@@ -235,7 +235,7 @@ def agrees(lines, wanted):
 def copy_for(program, folder):
     """A copy of what commands use, in which `./avrora` finds this program and proves nothing."""
     for path in tracked():
-        if path.startswith(("avrora", "docs/", "examples/", "tools/", "bench/", "README.md")):
+        if path.startswith(("avrora", "docs/", "examples/", "scripts/", "tools/", "bench/", "README.md")):
             (folder / path).parent.mkdir(parents=True, exist_ok=True)
             shutil.copy2(TOP / path, folder / path)
     (folder / "prove.py").write_text("# The program is there.\n", encoding="utf-8")

@@ -69,8 +69,9 @@ class FirstRun(unittest.TestCase):
         self.write(self.top / "crates.txt", CRATES)
         for name, root in (("low", "lib"), ("middle", "lib"), ("avrora_program", "main")):
             self.write(self.top / "crates" / name / "src" / f"{root}.rt", "// nothing\n")
-        (self.top / "docs").mkdir()
-        for path in ("avrora", "prove.py", "docs/FORMATS.md"):
+        for folder in ("docs", "scripts"):
+            (self.top / folder).mkdir()
+        for path in ("avrora", "prove.py", "docs/FORMATS.md", "scripts/launcher.sh", "scripts/proved.py"):
             shutil.copy2(TOP / path, self.top / path)
         self.environment = {**os.environ, "PATH": f"{kit / 'bin'}:{os.environ.get('PATH', os.defpath)}"}
         self.started = []
