@@ -2,7 +2,6 @@
 # once they have set
 #   called    how a user calls them, as the usage shows it
 #   formats   the path of FORMATS.md
-#   tools     how a user calls the tools
 #   own_help  lines of the usage for words that are the launcher's alone, or nothing
 #   notice    a sentence of the usage about the first command, or nothing
 # and they have the functions `version`, which writes the lines of --version; `find_program`, which sets `program` to the path of
@@ -73,7 +72,7 @@ run() {
 explain() {
     local part where=
     case $1 in
-        "$BAD_SCENARIO") part=Scenarios where="; $tools FILE says where" ;;
+        "$BAD_SCENARIO") part=Scenarios where='; avrora-tools why FILE says where' ;;
         "$BAD_IMAGE") part=Images ;;
         "$BAD_STATE") part=States ;;
         *) part=Sources ;;
