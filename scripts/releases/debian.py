@@ -23,16 +23,21 @@ LEFT_OUT = ("avrora", "avrora-tools", archives.SUMS)
 # What the documents of the package are called beside those that every package has.
 LINKED = ("README.md", "docs", "examples", "tools", "PROVED", "UNPROVED")
 
+# What lintian says of the package that is meant so, each with the reason.
 OVERRIDES = """\
 # PROVED names the bytes of the program, and they are those that the prover's own compiler wrote.
 avrora: unstripped-binary-or-object [usr/libexec/avrora/avrora_program]
 avrora: hardening-no-fortify-functions [usr/libexec/avrora/avrora_program]
-# The simulator does without Python. The tools look for one themselves, and say where there is none.
-avrora: python3-script-but-no-python3-dep *
+# The launcher reads docs/FORMATS.md, and small systems leave /usr/share/doc out. There links lead to it.
+avrora: package-contains-documentation-outside-usr-share-doc *
+"""
+WITHOUT_LICENCE = """\
+# The owner of the sources has stated neither.
+avrora: copyright-without-copyright-notice
 """
 
 NO_LICENCE = """\
-The owner of the sources has stated no licence. Ask them before you pass this package on.
+The owner of the sources has stated no licence. Ask before you pass this package on.
 """
 
 
@@ -76,7 +81,8 @@ def content(files: Files, facts: Facts) -> dict[str, File | Link]:
         found[f"{DOCUMENTS}/{name}"] = Link(f"../../avrora/{name}")
     found[f"{DOCUMENTS}/copyright"] = File(facts.licence or NO_LICENCE.encode())
     found[f"{DOCUMENTS}/changelog.gz"] = packed(changelog(facts).encode())
-    found["usr/share/lintian/overrides/avrora"] = File(OVERRIDES.encode())
+    overrides = OVERRIDES + (WITHOUT_LICENCE if facts.licence is None else "")
+    found["usr/share/lintian/overrides/avrora"] = File(overrides.encode())
     return found
 
 

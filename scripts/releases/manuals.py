@@ -45,6 +45,14 @@ def first_paragraph(text: str) -> str:
     return text.split("\n\n")[1]
 
 
+def bold_paragraph(text: str, begins: str) -> str:
+    """The paragraph of a document that begins with these words in bold, without them."""
+    found = re.search(rf"^\*\*{re.escape(begins)}\*\* (.*)$", text, re.M)
+    if not found:
+        raise NoSuchPart(f"a manual page is made from the paragraph `{begins}`, which no document has")
+    return found[1]
+
+
 def made(page: Page, release: str, date: str, parts: Iterable[tuple[str, str]]) -> bytes:
     """The page with these parts, each a heading and its Markdown."""
     lines = [f'.TH {page.name.upper()} {page.section} "{date}" "avrora {release}"', ".nh", ".SH NAME", rf"{page.name} \- {page.about}"]
@@ -142,9 +150,17 @@ def guarded(line: str) -> str:
     return rf"\&{line}" if line.startswith((".", "'")) else line
 
 
-def of_usage(text: str) -> tuple[str, str, str]:
-    """The synopsis, the commands as a table in Markdown, and what follows them, of the usage that a launcher writes."""
+def of_usage(text: str) -> tuple[str, str]:
+    """The synopsis, and the commands as a table in Markdown, of the usage that a launcher writes."""
     synopsis = text.split("\n", 1)[0].removeprefix("Usage: ")
     commands = re.findall(r"^  (\S.*?)  +(\S.*)$", text, re.M)
     rows = "\n".join(f"| `{words}` | {what} |" for words, what in commands)
-    return f"`{synopsis}`", f"| Command | Does |\n|---|---|\n{rows}", text.split("\n\n")[-1]
+    return f"`{synopsis}`", f"| Command | Does |\n|---|---|\n{rows}"
+
+
+def headed_table(text: str, head: str) -> str:
+    """The table of a document whose first row begins with this head."""
+    found = re.search(rf"^\| {re.escape(head)} \|.*\n(?:\|.*\n)*", text, re.M)
+    if not found:
+        raise NoSuchPart(f"a manual page is made from the table `{head}`, which no document has")
+    return found[0].rstrip("\n")
