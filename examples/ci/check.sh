@@ -1,13 +1,14 @@
 #!/bin/sh
-# Builds the firmware of a folder, checks it, and leaves what came of it as JUnit:
+# Builds the firmware of a folder, checks it, and leaves what came of it as JUnit: check.sh FOLDER [OUT]
 #
-#   check.sh [FOLDER [OUT]]
+# FOLDER is copied to OUT (./build where absent). There each NAME.c becomes NAME.hex, and the cases, all NAME.expect, are run;
+# `avrora-tools expect --help` says what is in them. The report is OUT/junit.xml. To try it with an example:
 #
-# FOLDER (else that of the examples) is copied to OUT (else ./build); there each NAME.c becomes NAME.hex, and the cases of
-# all NAME.expect are run, which docs and `avrora-tools expect --help` describe. The report is OUT/junit.xml. AVRORA_HOME
-# names the unpacked archive, where this script no longer lies in it; where there is none, avrora-tools is looked for on
-# the PATH, as the package puts it. Debian's packages: gcc-avr, avr-libc, python3, python3-junit.xml.
-# Exit status: 0 every case is met, 1 one is not, 2 a case is none, 3 something is not there, others of the compiler.
+#   mkdir mine && cp relay.c relay.toml relay.expect mine && ci/check.sh mine
+#
+# AVRORA_HOME names the unpacked archive, where this script does not lie in it. Without one avrora-tools is looked for on the
+# PATH, where the package puts it. From Debian: gcc-avr, avr-libc, python3, python3-junit.xml.
+# Exit status: 0 every case is met, 1 one is not or a source is refused, 2 no case or bad words, 3 something is not there.
 set -eu
 
 here=$(cd "$(dirname "$0")" && pwd)
@@ -22,7 +23,11 @@ for it in avr-gcc avr-objcopy avrora-tools; do
     }
 done
 
-folder=${1:-$here/..}
+if [ $# -lt 1 ] || [ ! -d "$1" ]; then
+    echo "usage: check.sh FOLDER [OUT]" >&2
+    exit 2
+fi
+folder=$1
 out=${2:-build}
 mkdir -p "$out"
 cp -R "$folder/." "$out"
