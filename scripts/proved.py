@@ -117,7 +117,7 @@ def git(top: str, *words: str) -> str:
         raise NotFit(f"the commit of this checkout is not known: git cannot be run ({fault.strerror})") from fault
     if ran.returncode:
         raise NotFit(f"the commit of this checkout is not known: {ran.stderr.strip()}")
-    return ran.stdout.strip()
+    return ran.stdout.rstrip("\n")
 
 
 def commit_of(top: str) -> str:

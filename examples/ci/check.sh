@@ -12,7 +12,7 @@
 set -eu
 
 here=$(cd "$(dirname "$0")" && pwd)
-home=${AVRORA_HOME:-$here/../..}
+home=$(cd "${AVRORA_HOME:-$here/../..}" && pwd)
 if [ -x "$home/avrora-tools" ]; then
     PATH=$home:$PATH
 fi
@@ -30,6 +30,12 @@ fi
 folder=$1
 out=${2:-build}
 mkdir -p "$out"
+case $(cd "$out" && pwd)/ in
+    "$(cd "$folder" && pwd)/"*)
+        echo "check.sh: $out lies in $folder, which is copied there" >&2
+        exit 2
+        ;;
+esac
 cp -R "$folder/." "$out"
 chmod -R u+w "$out"
 cd "$out"
