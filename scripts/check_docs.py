@@ -95,7 +95,7 @@ def words():
 
 def documents():
     """The documents by path, each with its text."""
-    paths = [it for it in tracked() if it == "README.md" or re.fullmatch(r"(docs|tools)/[^/]*\.md", it)]
+    paths = [it for it in tracked() if it in ("README.md", "CHANGELOG.md") or re.fullmatch(r"(docs|tools)/[^/]*\.md", it)]
     return {path: (TOP / path).read_text(encoding="utf-8") for path in paths}
 
 
