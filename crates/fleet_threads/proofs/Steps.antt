@@ -5,8 +5,8 @@ use Rattle.std.specs.List.{Contains}
 use Rattle.std.proofs.lemmas.Bool.{false≢true}
 use native.Mathlib.Decide.{dec_le}
 use Rattle.atomic_table.specs.Seated.{TableId}
-use Rattle.world_core.specs.declared.air.Send.{Send}
-use Rattle.world_core.specs.declared.air.Heard.{Heard as HeardValue}
+use Rattle.air_base.specs.declared.air.Send.{Send}
+use Rattle.air_base.specs.declared.air.Heard.{Heard as HeardValue}
 use Rattle.world_core.specs.declared.world.WorldFacts.{WorldFacts}
 use Rattle.world_core.specs.Sends.{sends_below, IsSendNumber}
 use Rattle.world_core.specs.Lawful.{IsLawful}

@@ -1,8 +1,8 @@
 -- The laws of the order and of the machine, composed.
 use Rattle.std.proofs.Common.{◌≡◌, ℕ, ◌<◌, ◌≤◌, List, [], ◌∷◌, get_or, refl, sym, subst, ◌∙◌, arith}
 use Rattle.std.specs.List.{All}
-use Rattle.world_core.specs.declared.air.Ask.{Ask}
-use Rattle.world_core.specs.declared.air.Heard.{Heard}
+use Rattle.air_base.specs.declared.air.Ask.{Ask}
+use Rattle.air_base.specs.declared.air.Heard.{Heard}
 use Rattle.world_core.specs.declared.world.WorldFacts.{WorldFacts}
 use Rattle.world_core.specs.Settled.{truth}
 use Rattle.world_core.specs.Consistent.{AirState}

@@ -14,6 +14,6 @@ mod text;
 
 pub use fault::{HexFault, LineFault};
 pub use flash::{Flash, flash_of};
-pub use law::{accepted_image_is_determined, written_record_is_read};
+pub use law::{accepted_image_is_determined, image_has_bytes, written_record_is_read};
 pub use loader::load;
 pub use text::hex_text;

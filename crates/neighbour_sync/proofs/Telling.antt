@@ -1,8 +1,8 @@
 -- What the record's answers tell of it, and a look of a node at its sent word.
 use Rattle.std.proofs.Common.{◌≡◌, ◌≤◌, ℕ, List, ◌++◌, ◌∙◌, ap, subst, sym, append_assoc, refl, arith}
 use Rattle.world_core.specs.declared.world.WorldFacts.{WorldFacts}
-use Rattle.world_core.specs.declared.air.Sampled.{Sampled}
-use Rattle.world_core.specs.declared.air.Sampled.TheVariants.{Heard, NotYet, NoMemory}
+use Rattle.air_base.specs.declared.air.Sampled.{Sampled}
+use Rattle.air_base.specs.declared.air.Sampled.TheVariants.{Heard, NotYet, NoMemory}
 use Rattle.world_core.specs.Settled.{truth}
 use Rattle.neighbour_sync.specs.Seats.{NodeFacts, node_told}
 use Rattle.neighbour_sync.specs.Loads.{AreReached}

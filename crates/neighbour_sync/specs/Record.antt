@@ -3,11 +3,11 @@
 use Rattle.std.specs.Prelude.{◌≡◌, ℕ, ◌+◌, ◌<◌, nat_le, List, [], ◌∷◌, ◌++◌, slice_set, replicate}
 use Rattle.std.specs.List.{All, filter}
 use Rattle.atomic_table.specs.Seated.{TableId}
-use Rattle.world_core.specs.declared.air.Send.{Send}
-use Rattle.world_core.specs.declared.air.Ask.{Ask}
-use Rattle.world_core.specs.declared.air.Heard.{Heard as HeardValue}
-use Rattle.world_core.specs.declared.air.Sampled.{Sampled}
-use Rattle.world_core.specs.declared.air.Sampled.TheVariants.{Heard, NotYet, NoMemory}
+use Rattle.air_base.specs.declared.air.Send.{Send}
+use Rattle.air_base.specs.declared.air.Ask.{Ask}
+use Rattle.air_base.specs.declared.air.Heard.{Heard as HeardValue}
+use Rattle.air_base.specs.declared.air.Sampled.{Sampled}
+use Rattle.air_base.specs.declared.air.Sampled.TheVariants.{Heard, NotYet, NoMemory}
 use Rattle.world_core.specs.declared.world.WorldFacts.{WorldFacts}
 use Rattle.world_core.specs.Posted.{sent_of}
 use Rattle.world_core.specs.Kept.{epoch, is_kept}

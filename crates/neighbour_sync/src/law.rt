@@ -2,9 +2,9 @@
 ghost use Rattle.std.specs.Prelude.{◌≡◌, ◌≤◌, List, ℕ};
 ghost use Rattle.std.specs.List.{Contains};
 ghost use Rattle.atomic_table.specs.Table.{State};
-ghost use Rattle.world_core.specs.declared.air.Send.{Send};
-ghost use Rattle.world_core.specs.declared.air.Heard.{Heard as HeardValue};
-ghost use Rattle.world_core.specs.declared.air.Sampled.TheVariants.{Heard};
+ghost use Rattle.air_base.specs.declared.air.Send.{Send};
+ghost use Rattle.air_base.specs.declared.air.Heard.{Heard as HeardValue};
+ghost use Rattle.air_base.specs.declared.air.Sampled.TheVariants.{Heard};
 ghost use Rattle.world_core.specs.Sends.{IsSendNumber};
 ghost use Rattle.world_core.specs.Kept.{IsPostedTo};
 ghost use Rattle.world_core.specs.Consistent.{IsConsistent};

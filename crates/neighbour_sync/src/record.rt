@@ -5,9 +5,10 @@ ghost use Rattle.world_core.specs.Kept.{epoch, kept_room_of};
 
 use crate::loading::{first_behind, first_below};
 use crate::{AirSeat, Behind, Clocks, Posted};
+use air_base::{Ask, Heard, Sampled, Send};
 use std::alloc::Global;
 use std::marker::Model;
-use world_core::{Ask, EPOCH, Heard, NoMemory, Sampled, Send, SendLog, Topo, World};
+use world_core::{EPOCH, NoMemory, SendLog, Topo, World};
 
 /// The record of the sends and samples of a world, with the air's seat. Whenever no call is at work on it, each
 /// recorded sample is what the one order of all cycles gives, and no send that is still to be posted can alter it. Its

@@ -10,9 +10,9 @@ ghost use Rattle.avr_program.specs.Program.{slots_below};
 ghost use Rattle.serial_ports.specs.Script.{script_byte};
 
 use crate::NodeBus;
-use instruction_table::{After, execute_plain};
 use crate::machine::Machine;
 use avr_base::StopCause;
+use avr_core::{After, execute_plain};
 use avr_program::{Program, Slot};
 use data_space::{Core, Cpu, Done, Registers};
 
@@ -110,7 +110,7 @@ fn one_step(
     ensures apart { leaves_board result ≡ true → bus.new.board ≡ bus.old.board }
 {
     let op = program.op_at(slots, core.pc);
-    let (after, executed) = execute_plain(op, program, regs, core, bus);
+    let (after, executed) = execute_plain(op, program.flash(), regs, core, bus);
     told(after, executed, count)
 }
 

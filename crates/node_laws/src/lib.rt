@@ -17,9 +17,9 @@ ghost use Rattle.node_laws.specs.Scenario.{AreImages, IsSaved};
 ghost use Rattle.node_laws.specs.Within.{BoardWithin, ByteWithin, HeardWithin, ReadWithin, WrittenWithin};
 ghost use Rattle.node_runner.specs.Scenario.{IsScenario, ScenarioOf, fleet_of};
 ghost use Rattle.serial_ports.specs.Script.{ScriptBytes};
-ghost use Rattle.world_core.specs.NodeKind.{ticked};
+ghost use Rattle.air_base.specs.NodeKind.{ticked};
 ghost use Rattle.world_core.specs.Order.{node_at};
-ghost use Rattle.world_core.specs.declared.air.Heard.{Heard};
+ghost use Rattle.air_base.specs.declared.air.Heard.{Heard};
 
 /// The numbers of a board are within their bounds after reset, and each call leaves them there: a read of a register,
 /// which gives a byte; a write of a byte; serving an interrupt; and a whole cycle of the devices, by what a sample in

@@ -96,7 +96,7 @@ fn second_is_late<R: Threads + Wait + Files + AllocGlobal + Sync, O: Sink>(
     write_seen("it went ahead", !told.gave_up() && told.has(1, 0), out)
 }
 
-// The rows of the first epoch, of 1,024 turns, are written before the second is run.
+// The rows of the first epoch, of 256 turns, are written before the second is run.
 fn epochs<R: Threads + Wait + Files + AllocGlobal + Sync, O: Sink>(
     rt: &R,
     out: &mut O,
@@ -105,16 +105,12 @@ fn epochs<R: Threads + Wait + Files + AllocGlobal + Sync, O: Sink>(
     let last = AtomicU64::new(0);
     write_call(rt, &LONG, Some(0), &LastTurn(&last), out)?;
     write_seen(
-        "no turn above 1023 was told",
-        last.load(Ordering::SeqCst) <= 1_023,
+        "no turn above 255 was told",
+        last.load(Ordering::SeqCst) <= 255,
         out,
     )?;
     write_call(rt, &LONG, None, &LastTurn(&last), out)?;
-    write_seen(
-        "turn 1024 was told",
-        last.load(Ordering::SeqCst) >= 1_024,
-        out,
-    )
+    write_seen("turn 256 was told", last.load(Ordering::SeqCst) >= 256, out)
 }
 
 /// Does the runs beside all gates, one after another, and writes what was seen.

@@ -1,7 +1,7 @@
 use Rattle.std.proofs.Common.{◌≡◌, List, ◌≤◌, [], ◌∷◌, ◌++◌, sym, ◌∙◌, ap, subst}
 use Rattle.std.specs.List.{Contains}
-use Rattle.world_core.specs.declared.air.Ask.{Ask}
-use Rattle.world_core.specs.declared.air.Heard.{Heard}
+use Rattle.air_base.specs.declared.air.Ask.{Ask}
+use Rattle.air_base.specs.declared.air.Heard.{Heard}
 use Rattle.world_core.specs.Settled.{truth}
 use Rattle.neighbour_sync.specs.Seats.{AirFacts}
 use Rattle.neighbour_sync.specs.declared.record.Air.TheInside.{Inside}
