@@ -193,7 +193,7 @@ class FirstRun(unittest.TestCase):
         self.assertEqual(said[0], "avrora: a.hex: image refused: NoEnd")
         self.assertEqual(said[1], "(NoEnd: no line is faulty and none has type 01; docs/FORMATS.md)")
         self.assertEqual(said[2], "avrora: a.toml: scenario refused: SelfLink")
-        self.assertEqual(said[3], "(SelfLink: a link from a node to itself; docs/FORMATS.md; tools/why FILE says where)")
+        self.assertEqual(said[3], "(SelfLink: a link from a node to itself; docs/FORMATS.md; avrora-tools why FILE says where)")
 
 
 def read_to_end(terminal):

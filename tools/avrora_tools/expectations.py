@@ -14,8 +14,9 @@ import re
 import subprocess
 import tempfile
 
-import traces
-from traces import BadInput
+from avrora_tools import cli, files, traces
+from avrora_tools.errors import BadInput
+
 
 # Rows of context before and behind the row at fault.
 CONTEXT = 3
@@ -128,7 +129,7 @@ def read_case(path):
     folder = os.path.dirname(os.path.abspath(path))
     source = nodes = kinds = None
     statements = []
-    text = traces.read_text(path)
+    text = files.read_text(path)
     if "\0" in text:
         raise BadInput(f"{path}: no text")
     for number, line in enumerate(text.splitlines(), 1):
@@ -165,7 +166,7 @@ def read_only(words):
     nodes = kinds = None
     for word in words:
         if word[0].isdigit():
-            nodes = (nodes or set()) | traces.node_set(word)
+            nodes = (nodes or set()) | cli.node_set(word)
         elif word in traces.KINDS:
             kinds = (kinds or set()) | {word}
         else:
@@ -405,7 +406,7 @@ class SavedTrace:
 
     def __init__(self, golden, stack):
         self.golden = golden
-        self.file = stack.enter_context(traces.whole_file(golden.path))
+        self.file = stack.enter_context(files.whole_file(golden.path))
 
     def feed(self, parts):
         print(*(parts if self.golden.with_cycles else parts[1:]), file=self.file)
@@ -503,7 +504,7 @@ def run_case(case, avrora, save=False):
         raise BadInput(f"{case.path}: no run, node or trace says where the rows come from")
     if case.source[0] == "trace":
         path = os.path.join(case.folder, case.source[1])
-        with traces.opened(path) as file:
+        with files.opened(path) as file:
             return check(case, traces.lines_of(file), save, path)
     with tempfile.TemporaryFile() as errors:
         try:

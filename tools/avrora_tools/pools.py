@@ -12,9 +12,9 @@ import shutil
 import signal
 import tempfile
 
-import runs
-import traces
-from traces import BadInput
+from avrora_tools import runs, terminal
+from avrora_tools.errors import BadInput
+
 
 LOOPBACK = "127.0.0.1"  # nobody else reaches what this machine starts for itself
 
@@ -133,9 +133,9 @@ def pool(address, processes, files, name, count):
     try:
         import distributed  # noqa: F401
     except ImportError:
-        sentence = traces.missing("dask.distributed", "python3-distributed")
+        sentence = terminal.missing("dask.distributed", "python3-distributed")
         if address:
-            raise BadInput(sentence) from None
-        traces.warn(f"{sentence}. The campaign runs in processes of this machine without it")
+            raise sentence from None
+        terminal.warn(f"{sentence}. The campaign runs in processes of this machine without it")
         return ProcessPool(processes, files)
     return DaskPool(address, processes, files, name)

@@ -1,4 +1,3 @@
-#!/usr/bin/python3
 """Where the cycles of a window went: by function, by source line, by caller."""
 import argparse
 import collections
@@ -6,10 +5,10 @@ import itertools
 import math
 import re
 
-import programs
-import scenarios
-import traces
-from traces import BadInput
+from avrora_tools import cli, files, programs, scenarios, traces
+from avrora_tools.errors import BadInput
+
+SUMMARY = "cycles by function, line and caller; coverage"
 
 DESCRIPTION = """Tells where the cycles of the window went: reads a trace's instruction and entry rows, or what
 `avrora monitor` writes. A row's cycles are those up to the node's next one. Asleep is a node behind its SLEEP until an
@@ -157,7 +156,7 @@ def read_monitor(lines, name):
     spent = collections.defaultdict(Spent)
     for number, line in enumerate(lines, 1):
         match = MONITOR.fullmatch(line.decode("ascii", "replace"))
-        if not match or int(match[1]) >= traces.MAX_NODES:
+        if not match or int(match[1]) >= cli.MAX_NODES:
             raise BadInput(f"{name}, line {number}: no line of a monitor")
         node = spent[int(match[1])]
         if match[2]:
@@ -171,15 +170,13 @@ def read_monitor(lines, name):
 
 def read(name, window, scenario):
     """What each node spent, and the calls where a trace tells them."""
-    with traces.opened(name) as file:
+    with files.opened(name) as file, files.readable(name):
         first = file.readline(traces.LONGEST_ROW)
-        lines = itertools.chain(
-            [first] * bool(first), traces.watched(file, name) if traces.shows_progress(False) else traces.lines_of(file)
-        )
+        lines = itertools.chain([first] * bool(first), traces.watched(file, name))
         if MONITOR.fullmatch(first.decode("ascii", "replace")):
-            return read_monitor(lines, traces.shown(name)), None
+            return read_monitor(lines, files.shown(name)), None
         reader = TraceReader(window, scenario)
-        for row in traces.parse(lines, traces.shown(name)):
+        for row in traces.parse(lines, files.shown(name)):
             reader.read(row)
     reader.finish()
     return reader.spent, reader.calls
@@ -291,13 +288,13 @@ def window(text):
     return int(match[1]), int(match[2])
 
 
-parser = traces.command_line(DESCRIPTION, "tools/profile --callers -s relay.toml -e relay.elf relay.trace")
-programs.add_programs(parser)
-parser.add_argument("-n", "--nodes", type=traces.node_set, metavar="NODES", help="these alone, such as 0,2-4")
-parser.add_argument("--window", type=window, metavar="A..B", help="the cycles that are counted")
-parser.add_argument("--by-node", action="store_true", help="a table for each node too")
-parser.add_argument("--lines", action="store_true", help="by source line too")
-parser.add_argument("--callers", action="store_true", help="who called whom too")
-parser.add_argument("--coverage", action="store_true", help="how many instructions of each function ran, too")
-traces.add_trace(parser)
-traces.main(run, parser)
+def configure(parser: argparse.ArgumentParser) -> None:
+    cli.describe(parser, DESCRIPTION, "profile --callers -s relay.toml -e relay.elf relay.trace")
+    programs.add_programs(parser)
+    parser.add_argument("-n", "--nodes", type=cli.node_set, metavar="NODES", help="these alone, such as 0,2-4")
+    parser.add_argument("--window", type=window, metavar="A..B", help="the cycles that are counted")
+    parser.add_argument("--by-node", action="store_true", help="a table for each node too")
+    parser.add_argument("--lines", action="store_true", help="by source line too")
+    parser.add_argument("--callers", action="store_true", help="who called whom too")
+    parser.add_argument("--coverage", action="store_true", help="how many instructions of each function ran, too")
+    cli.add_trace(parser)

@@ -1,9 +1,11 @@
-#!/usr/bin/python3
 """Checks traces against cases: regression tests of firmware and networks."""
+import argparse
 import time
 
-import expectations
-import traces
+from avrora_tools import cli, expectations, files, terminal, traces
+from avrora_tools.errors import BadInput
+
+SUMMARY = "checks traces against cases: regression tests"
 
 DESCRIPTION = """Checks traces against cases, and writes TAP 13. A case is a text file (README.md has all of it):
 
@@ -26,13 +28,13 @@ def checked(case, arguments, avrora):
     """What came of a case: its outcome, and whether its input was good."""
     try:
         if arguments.trace:
-            with traces.opened(arguments.trace) as file:
+            with files.opened(arguments.trace) as file:
                 return (
-                    expectations.check(case, traces.lines_of(file), arguments.save, traces.shown(arguments.trace)),
+                    expectations.check(case, traces.lines_of(file), arguments.save, files.shown(arguments.trace)),
                     True,
                 )
         return expectations.run_case(case, avrora, arguments.save), True
-    except traces.BadInput as fault:
+    except BadInput as fault:
         return expectations.Outcome(str(fault), 0, len(case.statements)), False
 
 
@@ -51,7 +53,7 @@ def junit_module():
     try:
         import junit_xml
     except ImportError:
-        raise traces.BadInput(traces.missing("junit-xml", "python3-junit.xml")) from None
+        raise terminal.missing("junit-xml", "python3-junit.xml") from None
     return junit_xml
 
 
@@ -68,9 +70,9 @@ def junit(results, junit_xml):
 
 def run(arguments):
     if arguments.trace == "-" and len(arguments.case) > 1:
-        raise traces.BadInput("--trace - is read once, so it serves one case")
+        raise BadInput("--trace - is read once, so it serves one case")
     cases = [expectations.read_case(path) for path in arguments.case]
-    avrora = traces.simulator(arguments.avrora)
+    avrora = cli.simulator(arguments.avrora)
     junit_xml = junit_module() if arguments.junit else None
     results = []
     status = 0
@@ -82,14 +84,14 @@ def run(arguments):
         tell(number, case, outcome)
         status = max(status, 0 if not outcome.failure else 1 if good else 2)
     if arguments.junit:
-        traces.write_whole(arguments.junit, junit(results, junit_xml))
+        files.write_whole(arguments.junit, junit(results, junit_xml))
     return status
 
 
-parser = traces.command_line(DESCRIPTION, "tools/expect --junit report.xml tests/*.expect")
-traces.add_simulator(parser)
-parser.add_argument("--trace", metavar="FILE", help="check this trace (- the standard input), whatever the case names")
-parser.add_argument("--junit", metavar="FILE", help="write a report in JUnit's XML too (needs python3-junit.xml)")
-parser.add_argument("--save", action="store_true", help="write the golden traces anew")
-parser.add_argument("case", nargs="+", metavar="CASE")
-traces.main(run, parser)
+def configure(parser: argparse.ArgumentParser) -> None:
+    cli.describe(parser, DESCRIPTION, "expect --junit report.xml tests/*.expect")
+    cli.add_simulator(parser)
+    parser.add_argument("--trace", metavar="FILE", help="check this trace (- the standard input), whatever the case names")
+    parser.add_argument("--junit", metavar="FILE", help="write a report in JUnit's XML too (needs python3-junit.xml)")
+    parser.add_argument("--save", action="store_true", help="write the golden traces anew")
+    parser.add_argument("case", nargs="+", metavar="CASE")

@@ -3,8 +3,9 @@ import math
 import random
 import re
 
-import scenarios
-from traces import BadInput
+from avrora_tools import scenarios
+from avrora_tools.errors import BadInput
+
 
 # What a scenario has where nothing else is said, in cycles. The start-up code of a program has cleared memory and
 # enabled the receiver by AT; STAGGER, a prime, is no multiple of what programs wait; BYTE_TIME is that of a scenario.

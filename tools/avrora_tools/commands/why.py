@@ -1,7 +1,9 @@
-#!/usr/bin/python3
 """Says where a scenario is at fault: cause, line, table and key."""
-import scenarios
-import traces
+import argparse
+
+from avrora_tools import cli, files, scenarios, traces
+
+SUMMARY = "where a scenario is at fault"
 
 DESCRIPTION = """Says where a scenario is at fault: each fault with its line, its table and number (from 0 on) and its
 key. The first is the cause that the simulator tells. Images are not read. TOML is read as version 1.0 has it.
@@ -9,7 +11,7 @@ Status 0: no fault; 1: faults; 2: the file cannot be read."""
 
 
 def run(arguments):
-    found = scenarios.faults(traces.read_text(arguments.scenario))
+    found = scenarios.faults(files.read_text(arguments.scenario))
     for fault in found:
         print(scenarios.described(fault))
     if not found:
@@ -17,6 +19,6 @@ def run(arguments):
     return bool(found)
 
 
-parser = traces.command_line(DESCRIPTION, "tools/why network.toml")
-parser.add_argument("scenario", metavar="SCENARIO")
-traces.main(run, parser)
+def configure(parser: argparse.ArgumentParser) -> None:
+    cli.describe(parser, DESCRIPTION, "why network.toml")
+    parser.add_argument("scenario", metavar="SCENARIO")

@@ -1,8 +1,11 @@
-#!/usr/bin/python3
 """Shows what nodes write to USART0."""
+import argparse
 import sys
 
-import traces
+from avrora_tools import cli, traces
+from avrora_tools.errors import BadInput
+
+SUMMARY = "what each node wrote to USART0"
 
 DESCRIPTION = """Shows what each node writes to USART0, as a serial monitor does: a line with the cycle of its first
 byte and the node's number. A line ends with LF or CR, and where the node stops or is silent for long. Stops are shown
@@ -45,7 +48,7 @@ class Console:
             self.show(line.first, node, "|", self.text(line.bytes))
 
     def show(self, cycle, node, sign, text):
-        print(f"{traces.shown_cycle(cycle, self.arguments.hz)} {node:>2} {sign} {text}", flush=sys.stdout.isatty())
+        print(f"{cli.shown_cycle(cycle, self.arguments.hz)} {node:>2} {sign} {text}", flush=sys.stdout.isatty())
 
     def text(self, data):
         if self.arguments.hex:
@@ -71,17 +74,17 @@ def run(arguments):
     for node in list(console.lines):
         console.end(node)
     if not seen:
-        raise traces.BadInput("the trace has no row of these nodes")
+        raise BadInput("the trace has no row of these nodes")
 
 
-parser = traces.command_line(DESCRIPTION, "tools/console --hz 7372800 flood.trace")
-parser.add_argument("-n", "--nodes", type=traces.node_set, metavar="NODES", help="these alone, such as 0,2-4")
-form = parser.add_mutually_exclusive_group()
-form.add_argument("--hex", action="store_true", help="hexadecimal digits, 16 bytes a line")
-form.add_argument("--raw", action="store_true", help="the bytes alone, as they are; for one node, with -n")
-parser.add_argument(
-    "--idle", type=traces.positive, default=100_000, help="cycles without a byte that end a line (%(default)s)"
-)
-traces.add_clock(parser)
-traces.add_trace(parser)
-traces.main(run, parser)
+def configure(parser: argparse.ArgumentParser) -> None:
+    cli.describe(parser, DESCRIPTION, "console --hz 7372800 flood.trace")
+    parser.add_argument("-n", "--nodes", type=cli.node_set, metavar="NODES", help="these alone, such as 0,2-4")
+    form = parser.add_mutually_exclusive_group()
+    form.add_argument("--hex", action="store_true", help="hexadecimal digits, 16 bytes a line")
+    form.add_argument("--raw", action="store_true", help="the bytes alone, as they are; for one node, with -n")
+    parser.add_argument(
+        "--idle", type=cli.positive, default=100_000, help="cycles without a byte that end a line (%(default)s)"
+    )
+    cli.add_clock(parser)
+    cli.add_trace(parser)

@@ -1,10 +1,11 @@
-#!/usr/bin/python3
 """Writes the scenario of a network of some shape."""
 import argparse
 import re
 
-import networks
-import traces
+from avrora_tools import cli, networks, traces
+from avrora_tools.errors import BadInput
+
+SUMMARY = "writes the scenario of a network of some shape"
 
 DESCRIPTION = f"""Writes the scenario of a network of a shape to the standard output. The images are those of the nodes
 in order, IMAGE*COUNT one that COUNT nodes have. Links go both ways. Shapes:
@@ -42,7 +43,7 @@ def node_bytes(text):
 
 def run(arguments):
     if arguments.link_latency and arguments.link_latency[0] > arguments.link_latency[1]:
-        raise traces.BadInput("--link-latency: the lower number is the first")
+        raise BadInput("--link-latency: the lower number is the first")
     print(
         networks.scenario(
             arguments.shape,
@@ -64,45 +65,43 @@ def run(arguments):
     )
 
 
-parser = traces.command_line(
-    DESCRIPTION, "tools/mknet --cycles 500000 --input 0=0102 grid:8 flood.hex*64 > network.toml"
-)
-parser.add_argument("--cycles", type=traces.positive, default=networks.CYCLES, help="of the run (%(default)s)")
-parser.add_argument(
-    "--latency", type=traces.positive, default=networks.LATENCY, help="of all links, in cycles (%(default)s)"
-)
-parser.add_argument("--link-latency", type=two_numbers, metavar="A..B", help="each link's own, drawn by the seed")
-parser.add_argument("--byte-time", type=traces.positive, default=networks.BYTE_TIME, help="in cycles (%(default)s)")
-parser.add_argument(
-    "--window", type=two_numbers, default=(0, 0), metavar="A..B", help="instructions are traced in these cycles"
-)
-parser.add_argument("--seed", type=int, default=0, help="for what is drawn (%(default)s)")
-parser.add_argument(
-    "--at", type=traces.natural, default=networks.AT, help="cycle in which node 0 learns its number (%(default)s)"
-)
-parser.add_argument(
-    "--stagger", type=traces.natural, default=networks.STAGGER, help="cycles until the next node does (%(default)s)"
-)
-parser.add_argument("--no-numbers", action="store_true", help="no byte arrives at USART0")
-parser.add_argument(
-    "--input",
-    type=node_bytes,
-    action="append",
-    default=[],
-    metavar="NODE=HEX",
-    help="bytes that arrive at a node behind its number",
-)
-parser.add_argument(
-    "--every", type=traces.positive, default=networks.EVERY, help="cycles from one byte to the next (%(default)s)"
-)
-parser.add_argument(
-    "--open",
-    type=link_spans,
-    action="append",
-    default=[],
-    metavar="FROM-TO=A..B,..",
-    help="a link that is open in these cycles alone",
-)
-parser.add_argument("shape", metavar="SHAPE")
-parser.add_argument("image", nargs="+", metavar="IMAGE[*COUNT]")
-traces.main(run, parser)
+def configure(parser: argparse.ArgumentParser) -> None:
+    cli.describe(parser, DESCRIPTION, "mknet --cycles 500000 --input 0=0102 grid:8 flood.hex*64 > network.toml")
+    parser.add_argument("--cycles", type=cli.positive, default=networks.CYCLES, help="of the run (%(default)s)")
+    parser.add_argument(
+        "--latency", type=cli.positive, default=networks.LATENCY, help="of all links, in cycles (%(default)s)"
+    )
+    parser.add_argument("--link-latency", type=two_numbers, metavar="A..B", help="each link's own, drawn by the seed")
+    parser.add_argument("--byte-time", type=cli.positive, default=networks.BYTE_TIME, help="in cycles (%(default)s)")
+    parser.add_argument(
+        "--window", type=two_numbers, default=(0, 0), metavar="A..B", help="instructions are traced in these cycles"
+    )
+    parser.add_argument("--seed", type=int, default=0, help="for what is drawn (%(default)s)")
+    parser.add_argument(
+        "--at", type=cli.natural, default=networks.AT, help="cycle in which node 0 learns its number (%(default)s)"
+    )
+    parser.add_argument(
+        "--stagger", type=cli.natural, default=networks.STAGGER, help="cycles until the next node does (%(default)s)"
+    )
+    parser.add_argument("--no-numbers", action="store_true", help="no byte arrives at USART0")
+    parser.add_argument(
+        "--input",
+        type=node_bytes,
+        action="append",
+        default=[],
+        metavar="NODE=HEX",
+        help="bytes that arrive at a node behind its number",
+    )
+    parser.add_argument(
+        "--every", type=cli.positive, default=networks.EVERY, help="cycles from one byte to the next (%(default)s)"
+    )
+    parser.add_argument(
+        "--open",
+        type=link_spans,
+        action="append",
+        default=[],
+        metavar="FROM-TO=A..B,..",
+        help="a link that is open in these cycles alone",
+    )
+    parser.add_argument("shape", metavar="SHAPE")
+    parser.add_argument("image", nargs="+", metavar="IMAGE[*COUNT]")

@@ -1,13 +1,14 @@
-#!/usr/bin/python3
 """Runs a scenario again up to a window, and writes what happens in it, instruction by instruction."""
+import argparse
 import os
 import subprocess
 import sys
 import tempfile
 
-import scenarios
-import states
-import traces
+from avrora_tools import cli, files, scenarios, states, traces
+from avrora_tools.errors import BadInput
+
+SUMMARY = "runs a scenario again, with all instructions of a window"
 
 DESCRIPTION = f"""Runs a scenario again up to cycle END with the window [FIRST, END], of at most
 {scenarios.MAX_WINDOW:,} cycles, and writes the rows from FIRST on: the instructions of all nodes too. The scenario's
@@ -32,17 +33,17 @@ def windowed(text, first, end):
 
 def run(arguments):
     first, end = arguments.first, arguments.end
-    text = traces.read_text(arguments.scenario)
+    text = files.read_text(arguments.scenario)
     scenario = scenarios.Scenario.of_text(text, arguments.scenario)
     if not first < end <= min(scenario.cycles, first + scenarios.MAX_WINDOW):
-        raise traces.BadInput(
+        raise BadInput(
             f"[{first}, {end}] is no window of 1 to {scenarios.MAX_WINDOW:,} cycles below the limit of "
             f"{scenario.cycles:,}"
         )
     if arguments.state:
         cycle = states.State.load(arguments.state).cycle
         if first < cycle:
-            raise traces.BadInput(f"{arguments.state}: it is of cycle {cycle:,}, and the window begins before that")
+            raise BadInput(f"{arguments.state}: it is of cycle {cycle:,}, and the window begins before that")
     text = windowed(text.removeprefix("\ufeff"), first, end)
     scenarios.Scenario.of_text(text, f"{arguments.scenario} with the window")
     with tempfile.NamedTemporaryFile("w", suffix=".toml", encoding="utf-8") as file:
@@ -54,20 +55,20 @@ def run(arguments):
 def cycle_of(line):
     cycle = line.split(b" ", 1)[0]
     if not cycle.isdigit():
-        raise traces.BadInput(f"what the simulator wrote is no trace: {line[:60].decode('ascii', 'replace').strip()}")
+        raise BadInput(f"what the simulator wrote is no trace: {line[:60].decode('ascii', 'replace').strip()}")
     return int(cycle)
 
 
 def filtered(arguments, scenario):
     """Runs `scenario` in the folder of the one it was made from, where its images are."""
-    words = [traces.simulator(arguments.avrora), "run", *["--plain"] * arguments.plain, scenario]
+    words = [cli.simulator(arguments.avrora), "run", *["--plain"] * arguments.plain, scenario]
     if arguments.state:
         words[1:] = ["resume", scenario, os.path.abspath(arguments.state)]
     folder = os.path.dirname(os.path.abspath(arguments.scenario))
     try:
         process = subprocess.Popen(words, cwd=folder, stdout=subprocess.PIPE)
     except OSError as fault:
-        raise traces.BadInput(f"cannot run {words[0]}: {fault.strerror}") from None
+        raise BadInput(f"cannot run {words[0]}: {fault.strerror}") from None
     seen = False
     for line in process.stdout:
         seen = seen or cycle_of(line) >= arguments.first
@@ -76,11 +77,11 @@ def filtered(arguments, scenario):
     return process.wait()
 
 
-parser = traces.command_line(DESCRIPTION, "tools/window flood.toml 15_400 15_600 | tools/annotate -e flood.elf")
-traces.add_simulator(parser)
-parser.add_argument("--plain", action="store_true", help="on one thread")
-parser.add_argument("--state", metavar="STATE", help="a state of the scenario, from which it runs on one thread")
-parser.add_argument("scenario", metavar="SCENARIO")
-parser.add_argument("first", type=traces.natural, metavar="FIRST", help="a cycle; digits may be grouped, as in 15_400")
-parser.add_argument("end", type=traces.positive, metavar="END")
-traces.main(run, parser)
+def configure(parser: argparse.ArgumentParser) -> None:
+    cli.describe(parser, DESCRIPTION, "window flood.toml 15_400 15_600 | avrora-tools annotate -e flood.elf")
+    cli.add_simulator(parser)
+    parser.add_argument("--plain", action="store_true", help="on one thread")
+    parser.add_argument("--state", metavar="STATE", help="a state of the scenario, from which it runs on one thread")
+    parser.add_argument("scenario", metavar="SCENARIO")
+    parser.add_argument("first", type=cli.natural, metavar="FIRST", help="a cycle; digits may be grouped, as in 15_400")
+    parser.add_argument("end", type=cli.positive, metavar="END")

@@ -1,5 +1,5 @@
-#!/usr/bin/python3
 """Runs a list or a grid of scenarios on all processors of this machine, or on a cluster."""
+import argparse
 import collections
 import concurrent.futures
 import contextlib
@@ -13,12 +13,10 @@ import sys
 import time
 import uuid
 
-import campaigns
-import pools
-import runs
-import scenarios
-import traces
-from traces import BadInput
+from avrora_tools import campaigns, cli, files, pools, runs, scenarios, terminal, traces
+from avrora_tools.errors import BadInput
+
+SUMMARY = "hundreds of runs, and what came of them"
 
 DESCRIPTION = """Runs all scenarios of a campaign, and checks their traces against cases of `expect`.
 FILE is TOML (CAMPAIGNS.md has all of it):
@@ -48,7 +46,7 @@ BUILT = "crates/avrora_program/out/rlib"
 def program(path):
     """The simulator as one file that needs the C library alone. Where `path` is the script ./avrora that is the program
     which the script builds and starts."""
-    path = traces.simulator(path)
+    path = cli.simulator(path)
     top = os.path.dirname(os.path.realpath(path))
     if not os.path.exists(f"{top}/prove.py"):
         return content_of(path)
@@ -58,7 +56,7 @@ def program(path):
 
 
 def content_of(path):
-    with traces.opened(path) as file:
+    with files.opened(path) as file:
         return file.read()
 
 
@@ -97,11 +95,11 @@ class Results:
                 os.unlink(self.path(run, ending))
         trace = result.pop("trace", None)
         if trace:
-            traces.write_whole(self.path(run, "trace.gz"), trace)
+            files.write_whole(self.path(run, "trace.gz"), trace)
         if result["outcome"] != runs.PASSED:
-            traces.write_whole(self.path(run, "toml"), run.scenario)
+            files.write_whole(self.path(run, "toml"), run.scenario)
         # The last of its files. One that a loss of power cut is no result, so nothing waits for the disk here.
-        traces.write_whole(self.path(run, "json"), json.dumps(result, indent=1) + "\n", lasting=False)
+        files.write_whole(self.path(run, "json"), json.dumps(result, indent=1) + "\n", lasting=False)
 
 
 class Progress:
@@ -187,7 +185,7 @@ def junit(campaign, results):
     try:
         import junit_xml
     except ImportError:
-        traces.warn(f"no junit.xml is written: {traces.missing('junit-xml', 'python3-junit.xml')}")
+        terminal.warn(f"no junit.xml is written: {terminal.missing('junit-xml', 'python3-junit.xml')}")
         return None
     cases = []
     for run, result in results:
@@ -207,11 +205,11 @@ def summarise(campaign, folder, results):
     for run, result in results:
         shown = {key: value for key, value in result.items() if key != "digest"}
         lines.append(json.dumps({"name": run.name, "parameters": run.parameters, **shown}, default=str) + "\n")
-    traces.write_whole(f"{folder}/summary.jsonl", "".join(lines))
-    traces.write_whole(f"{folder}/summary.txt", table(campaign, results))
+    files.write_whole(f"{folder}/summary.jsonl", "".join(lines))
+    files.write_whole(f"{folder}/summary.txt", table(campaign, results))
     report = junit(campaign, results)
     if report:
-        traces.write_whole(f"{folder}/junit.xml", report)
+        files.write_whole(f"{folder}/junit.xml", report)
     print(table(campaign, results), end="")
 
 
@@ -235,7 +233,7 @@ def run_all(campaign, arguments):
         kept = {} if arguments.anew else {run.name: store.kept(run, digests[run.name]) for run in campaign.runs}
         results = {name: result for name, result in kept.items() if result}
         if results:
-            traces.warn(f"{len(results)} of {len(campaign.runs)} results are there already, and are kept")
+            terminal.warn(f"{len(results)} of {len(campaign.runs)} results are there already, and are kept")
 
         def save(run, result):
             results[run.name] = result = {**explained(run, result), "digest": digests[run.name]}
@@ -268,7 +266,7 @@ def run_wanted(campaign, arguments, files, results, save):
         drive(pool, wanted, settings["attempts"], progress, job_of, save)
     except (KeyboardInterrupt, BadInput):
         progress.end()
-        traces.warn(f"cut, with {len(results)} of {len(campaign.runs)} results; the same command goes on from there")
+        terminal.warn(f"cut, with {len(results)} of {len(campaign.runs)} results; the same command goes on from there")
         raise
     finally:
         progress.end()
@@ -307,16 +305,15 @@ def run(arguments):
     return run_all(campaign, arguments)
 
 
-if __name__ == "__main__":
-    parser = traces.command_line(DESCRIPTION, "tools/campaign --processes 2 examples/packet.campaign")
-    traces.add_simulator(parser)
+def configure(parser: argparse.ArgumentParser) -> None:
+    cli.describe(parser, DESCRIPTION, "campaign --processes 2 examples/packet.campaign")
+    cli.add_simulator(parser)
     parser.add_argument(
         "--scheduler", metavar="ADDRESS", help="a scheduler of dask, as tcp://HOST:8786; else this machine"
     )
-    parser.add_argument("--processes", type=traces.positive, metavar="N", help="of this machine; else one a processor")
+    parser.add_argument("--processes", type=cli.positive, metavar="N", help="of this machine; else one a processor")
     parser.add_argument("--results", metavar="FOLDER", help="where results go, whatever FILE says")
     parser.add_argument("--anew", action="store_true", help="run all again, also where a result is there")
     parser.add_argument("--list", action="store_true", help="write the names of all runs, and run none")
     parser.add_argument("--scenario", metavar="NAME", help="write the scenario of one run, and run none")
     parser.add_argument("campaign", metavar="FILE")
-    traces.main(run, parser)

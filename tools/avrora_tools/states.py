@@ -1,8 +1,9 @@
 """States: the text that `avrora save` writes (docs/FORMATS.md, "States"), and the names of what it says."""
 import re
 
-import traces
-from traces import BadInput
+from avrora_tools import files
+from avrora_tools.errors import BadInput
+
 
 TITLE = "avrora state 1"
 
@@ -74,7 +75,7 @@ class State:
     def load(cls, name):
         """The state in the file `name`. Raises BadInput where it is none; whether it keeps all bounds the simulator
         says."""
-        return cls.of_text(traces.read_text(name), traces.shown(name))
+        return cls.of_text(files.read_text(name), files.shown(name))
 
     @classmethod
     def of_text(cls, text, name):

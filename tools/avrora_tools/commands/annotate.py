@@ -1,10 +1,10 @@
-#!/usr/bin/python3
 """Writes beside the rows of a trace where their addresses lie in the source."""
+import argparse
 import functools
 
-import programs
-import scenarios
-import traces
+from avrora_tools import cli, programs, scenarios, traces
+
+SUMMARY = "the function and source line of each address of a trace"
 
 DESCRIPTION = """Writes a trace with the function and the source line of each address behind instruction, entry and stop
 rows, and the names of interrupts. Compile with -gdwarf-2 to have lines."""
@@ -41,7 +41,7 @@ def run(arguments):
         print(f"{text:<{COLUMN}} ; {note}" if note else text)
 
 
-parser = traces.command_line(DESCRIPTION, "tools/annotate -s relay.toml -e relay.elf relay.trace")
-programs.add_programs(parser)
-traces.add_trace(parser)
-traces.main(run, parser)
+def configure(parser: argparse.ArgumentParser) -> None:
+    cli.describe(parser, DESCRIPTION, "annotate -s relay.toml -e relay.elf relay.trace")
+    programs.add_programs(parser)
+    cli.add_trace(parser)

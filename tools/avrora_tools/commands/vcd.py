@@ -1,13 +1,13 @@
-#!/usr/bin/python3
 """A trace as a value change dump, for GTKWave and other viewers of waves."""
+import argparse
 import heapq
 import itertools
 import sys
 
-import programs
-import scenarios
-import traces
-from traces import BadInput
+from avrora_tools import cli, programs, scenarios, traces
+from avrora_tools.errors import BadInput
+
+SUMMARY = "waves for GTKWave"
 
 DESCRIPTION = """Writes a trace as a value change dump (VCD, IEEE 1364), for GTKWave. For each node:
   sent        1 while its byte is on the air (the scenario's byte time); sent_byte the byte
@@ -231,10 +231,10 @@ def run(arguments):
     writer.finish()
 
 
-parser = traces.command_line(DESCRIPTION, "tools/vcd -s flood.toml flood.trace > flood.vcd")
-programs.add_programs(parser)
-parser.add_argument("-n", "--nodes", type=traces.node_set, metavar="NODES", help="these alone, such as 0,2-4")
-parser.add_argument("--byte-time", type=traces.positive, help="where no scenario tells it (%d)" % DEFAULT_BYTE_TIME)
-traces.add_clock(parser)
-traces.add_trace(parser)
-traces.main(run, parser)
+def configure(parser: argparse.ArgumentParser) -> None:
+    cli.describe(parser, DESCRIPTION, "vcd -s flood.toml flood.trace > flood.vcd")
+    programs.add_programs(parser)
+    parser.add_argument("-n", "--nodes", type=cli.node_set, metavar="NODES", help="these alone, such as 0,2-4")
+    parser.add_argument("--byte-time", type=cli.positive, help="where no scenario tells it (%d)" % DEFAULT_BYTE_TIME)
+    cli.add_clock(parser)
+    cli.add_trace(parser)

@@ -13,11 +13,9 @@ import os
 import re
 import tomllib
 
-import expectations
-import networks
-import scenarios
-import traces
-from traces import BadInput
+from avrora_tools import expectations, files, networks, scenarios, traces
+from avrora_tools.errors import BadInput
+
 
 # One run: its name, the values that were varied, the scenario as it is written for the user and as it is shipped, and
 # the cases. `files` are the names in the shipment of all that it needs.
@@ -69,7 +67,7 @@ def read(path):
 
 def toml(path):
     try:
-        return tomllib.loads(traces.read_text(path))
+        return tomllib.loads(files.read_text(path))
     except tomllib.TOMLDecodeError as fault:
         raise BadInput(f"{path}: no TOML: {fault}") from None
 

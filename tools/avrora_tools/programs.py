@@ -3,11 +3,13 @@ in a trace."""
 import argparse
 import bisect
 import collections
+import io
 import os
 import re
 
-import traces
-from traces import BadInput
+from avrora_tools import cli, files, terminal
+from avrora_tools.errors import BadInput
+
 
 try:
     from elftools.elf.elffile import ELFFile
@@ -41,22 +43,22 @@ class Program:
     def __init__(self, path):
         """Reads the ELF file `path`. Raises BadInput where it is none, or none for the AVR."""
         if ELFFile is None:
-            raise BadInput(traces.missing("pyelftools", "python3-pyelftools"))
+            raise terminal.missing("pyelftools", "python3-pyelftools")
         self.path = path
-        with traces.opened(path) as file:
-            try:
-                elf = ELFFile(file)
-                if elf["e_machine"] != "EM_AVR":
-                    raise BadInput(f"{path}: an ELF file for {elf['e_machine']}, and not for the AVR")
-                self.code = code_of(elf)
-                self.functions = functions_of(elf, len(self.code) // 2)
-                self.lines = lines_of(elf)
-                if not self.lines and elf.get_section_by_name(".stab"):
-                    traces.warn(f"{path}: its source lines are in the form STABS; compile with -gdwarf-2 to see them")
-            except BadInput:
-                raise
-            except Exception as fault:  # whatever a broken file leads the library to
-                raise BadInput(f"{path}: no ELF file: {fault or type(fault).__name__}") from None
+        content = files.read_bytes(path)
+        try:
+            elf = ELFFile(io.BytesIO(content))
+            if elf["e_machine"] != "EM_AVR":
+                raise BadInput(f"{path}: an ELF file for {elf['e_machine']}, and not for the AVR")
+            self.code = code_of(elf)
+            self.functions = functions_of(elf, len(self.code) // 2)
+            self.lines = lines_of(elf)
+            if not self.lines and elf.get_section_by_name(".stab"):
+                terminal.warn(f"{path}: its source lines are in the form STABS; compile with -gdwarf-2 to see them")
+        except BadInput:
+            raise
+        except Exception as fault:  # whatever a broken file leads the library to
+            raise BadInput(f"{path}: no ELF file: {fault or type(fault).__name__}") from None
         self.firsts = [function.first for function in self.functions]
         self.line_words = [word for word, _ in self.lines]
 
@@ -163,7 +165,7 @@ class Programs:
     def add(self, word, scenario):
         match = re.fullmatch(r"([\d,-]+)=(.+)", word)
         try:
-            nodes = traces.node_set(match[1]) if match else None
+            nodes = cli.node_set(match[1]) if match else None
         except argparse.ArgumentTypeError as fault:
             raise BadInput(str(fault)) from None
         program = Program(match[2] if match else word)

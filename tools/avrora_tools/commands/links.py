@@ -1,10 +1,12 @@
-#!/usr/bin/python3
 """Who heard whom: what became of each send on each link, and whether each sample is what the sends give."""
+import argparse
 import collections
 
-import scenarios
-import traces
-from traces import CLASH, ONE_BYTE
+from avrora_tools import cli, files, scenarios, traces
+from avrora_tools.errors import BadInput
+from avrora_tools.traces import CLASH, ONE_BYTE
+
+SUMMARY = "who heard whom, who clashed with whom; checks each sample"
 
 DESCRIPTION = """Tells what became of the bytes on each link of a scenario:
   sent     by the node at its head
@@ -82,7 +84,7 @@ class Reader:
 
     def read(self, row):
         if row.node >= len(self.scenario.images):
-            raise traces.BadInput(
+            raise BadInput(
                 f"the trace has node {row.node}, and the scenario {len(self.scenario.images)} nodes: not its trace"
             )
         if row.kind == "sent":
@@ -153,8 +155,8 @@ def run(arguments):
         reader.read(row)
     missing = sorted(set(range(len(reader.scenario.images))) - reader.ended)
     if missing:
-        raise traces.BadInput(
-            f"{traces.shown(arguments.trace)}: no end row of node {missing[0]}, which the scenario has: not its trace, "
+        raise BadInput(
+            f"{files.shown(arguments.trace)}: no end row of node {missing[0]}, which the scenario has: not its trace, "
             "or cut off"
         )
     reader.fates.end_all()
@@ -171,9 +173,9 @@ def run(arguments):
     return 0
 
 
-parser = traces.command_line(DESCRIPTION, "tools/links --clashes flood.toml flood.trace")
-parser.add_argument("--clashes", action="store_true", help="tell each clash, with the sends that clashed")
-parser.add_argument("--losses", action="store_true", help="links alone that lost a byte")
-parser.add_argument("scenario", metavar="SCENARIO")
-traces.add_trace(parser)
-traces.main(run, parser)
+def configure(parser: argparse.ArgumentParser) -> None:
+    cli.describe(parser, DESCRIPTION, "links --clashes flood.toml flood.trace")
+    parser.add_argument("--clashes", action="store_true", help="tell each clash, with the sends that clashed")
+    parser.add_argument("--losses", action="store_true", help="links alone that lost a byte")
+    parser.add_argument("scenario", metavar="SCENARIO")
+    cli.add_trace(parser)

@@ -1,14 +1,16 @@
-#!/usr/bin/python3
 """Draws a trace: a page to zoom into, or a picture."""
+import argparse
 import html
+import importlib.resources
 import json
 import os
 
-import pictures
-import programs
-import scenarios
-import traces
-from traces import CLASH, NOTHING
+import avrora_tools
+from avrora_tools import cli, files, pictures, programs, scenarios, terminal, traces
+from avrora_tools.errors import BadInput
+from avrora_tools.traces import CLASH, NOTHING
+
+SUMMARY = "a page to zoom into, or a picture"
 
 DESCRIPTION = """Draws a trace: nodes from top to bottom, cycles from left to right. Writes a page of HTML that needs no
 other file (zoom with the wheel, drag, hover, go to a cycle, from clash to clash), or with --svg a picture for papers.
@@ -123,7 +125,7 @@ class Drawing:
         """Ends what the trace leaves open, once all rows are read."""
         self.end = self.last + 1 if self.end is None else self.end
         if self.lanes and self.end <= self.first:
-            raise traces.BadInput(f"the trace ends in cycle {self.last}, before --from {self.first}")
+            raise BadInput(f"the trace ends in cycle {self.last}, before --from {self.first}")
         self.window = self.scenario.window_of(self.traced, self.ended) if self.scenario else (0, 0)
         window_end = self.window[1]
         for lane in self.lanes.values():
@@ -175,42 +177,41 @@ def page(drawing, hz, name):
         "nodes": nodes,
         "vectors": {word: programs.vector_name(word) for word in programs.VECTORS},
     }
-    with open(f"{os.path.dirname(os.path.realpath(__file__))}/timeline.html", encoding="utf-8") as file:
-        template = file.read()
+    template = importlib.resources.files(avrora_tools).joinpath("timeline.html").read_text("utf-8")
     text = json.dumps(content, separators=(",", ":")).replace("</", "<\\/")
     return template.replace("/*TITLE*/", html.escape(name)).replace("/*DATA*/null", text)
 
 
 def run(arguments):
     if arguments.end is not None and arguments.end <= arguments.first:
-        raise traces.BadInput(f"--from {arguments.first} --to {arguments.end}: the end is not behind the beginning")
+        raise BadInput(f"--from {arguments.first} --to {arguments.end}: the end is not behind the beginning")
     scenario = scenarios.Scenario.load(arguments.scenario) if arguments.scenario else None
     drawing = Drawing(arguments, scenario)
     for row in traces.rows(arguments.trace):
         drawing.read(row)
     drawing.finish()
     if not drawing.lanes:
-        raise traces.BadInput("the trace has no row of these nodes")
+        raise BadInput("the trace has no row of these nodes")
     if arguments.svg:
         text = pictures.Picture(drawing, arguments.hz, arguments.width, arguments.quiet).text()
     else:
-        text = page(drawing, arguments.hz, os.path.basename(traces.shown(arguments.trace)))
+        text = page(drawing, arguments.hz, os.path.basename(files.shown(arguments.trace)))
     if len(text) > LARGE_PAGE:
-        traces.warn(f"{len(text) / 1e6:.1f} MB; --from, --to and --nodes make less of it")
-    traces.write_whole(arguments.out, text)
+        terminal.warn(f"{len(text) / 1e6:.1f} MB; --from, --to and --nodes make less of it")
+    files.write_whole(arguments.out, text)
 
 
-parser = traces.command_line(DESCRIPTION, "tools/timeline -s flood.toml -o flood.html flood.trace")
-parser.add_argument("-s", "--scenario", metavar="SCENARIO", help="the scenario that was run")
-parser.add_argument("-o", "--out", default="-", metavar="FILE", help="where to write; else the standard output")
-parser.add_argument("--from", dest="first", type=traces.natural, default=0, metavar="CYCLE", help="from this cycle on")
-parser.add_argument("--to", dest="end", type=traces.positive, metavar="CYCLE", help="before this cycle")
-parser.add_argument("-n", "--nodes", type=traces.node_set, metavar="NODES", help="these alone, such as 0,2-4")
-parser.add_argument("--svg", action="store_true", help="a picture, and no page")
-parser.add_argument("--width", type=traces.positive, default=1200, help="of the picture, in pixels (%(default)s)")
-parser.add_argument(
-    "--quiet", action="store_true", help="show samples that heard nothing in the picture too (the page has a switch)"
-)
-traces.add_clock(parser)
-traces.add_trace(parser)
-traces.main(run, parser)
+def configure(parser: argparse.ArgumentParser) -> None:
+    cli.describe(parser, DESCRIPTION, "timeline -s flood.toml -o flood.html flood.trace")
+    parser.add_argument("-s", "--scenario", metavar="SCENARIO", help="the scenario that was run")
+    parser.add_argument("-o", "--out", default="-", metavar="FILE", help="where to write; else the standard output")
+    parser.add_argument("--from", dest="first", type=cli.natural, default=0, metavar="CYCLE", help="from this cycle on")
+    parser.add_argument("--to", dest="end", type=cli.positive, metavar="CYCLE", help="before this cycle")
+    parser.add_argument("-n", "--nodes", type=cli.node_set, metavar="NODES", help="these alone, such as 0,2-4")
+    parser.add_argument("--svg", action="store_true", help="a picture, and no page")
+    parser.add_argument("--width", type=cli.positive, default=1200, help="of the picture, in pixels (%(default)s)")
+    parser.add_argument(
+        "--quiet", action="store_true", help="show samples that heard nothing in the picture too (the page has a switch)"
+    )
+    cli.add_clock(parser)
+    cli.add_trace(parser)

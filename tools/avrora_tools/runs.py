@@ -19,12 +19,12 @@ import os
 import shutil
 import socket
 import subprocess
-import sys
 import tempfile
 import time
 
-import expectations
-import traces
+import avrora_tools
+from avrora_tools import expectations, traces
+
 
 PROGRAM = "avrora"  # the simulator's name in a shipment
 
@@ -142,8 +142,7 @@ def shipment(name, files):
     import cloudpickle
     from distributed import WorkerPlugin, get_worker
 
-    for module in (sys.modules[__name__], expectations, traces):
-        cloudpickle.register_pickle_by_value(module)
+    cloudpickle.register_pickle_by_value(avrora_tools)
 
     class Shipment(WorkerPlugin):  # a local class, which is always pickled by value
         """Unpacks the files where the worker has its own."""

@@ -2,7 +2,8 @@
 import html
 import re
 
-import traces
+from avrora_tools import cli
+
 
 # The picture: its colours and line widths. The names of the classes are those of EVENTS.
 STYLE = """.sent{fill:#3b6fb6}.heard{stroke:#1a8f3c;stroke-width:1.3}.clash{stroke:#d11;stroke-width:1.8}
@@ -106,7 +107,7 @@ class Picture:
             width = max(1, (min(cycle + self.drawing.byte_time, self.drawing.end) - cycle) * self.scale - 0.4)
             self.add(
                 f'<rect class="sent" x="{self.x(cycle)}" y="{y + 1}" width="{width:.2f}" height="{high * .4:.1f}"',
-                f"{cycle:,}: node {node} sent {traces.shown_byte(byte)}",
+                f"{cycle:,}: node {node} sent {cli.shown_byte(byte)}",
             )
         for (cycle,) in lane.quiet if self.shows_quiet else ():
             self.tick("quiet", cycle, y + high * 0.78, y + high, f"{cycle:,}: node {node} heard nothing")
@@ -117,7 +118,7 @@ class Picture:
                 cycle,
                 y + high * 0.64,
                 y + high,
-                f"{cycle:,}: node {node} heard {traces.shown_byte(byte)}{whose}, age {age}",
+                f"{cycle:,}: node {node} heard {cli.shown_byte(byte)}{whose}, age {age}",
             )
         for cycle, byte, senders in lane.clash:
             whose = f" of nodes {', '.join(map(str, senders))}" if senders else ""
@@ -125,7 +126,7 @@ class Picture:
         for cycle, byte in lane.serial:
             self.add(
                 f'<circle class="serial" cx="{self.x(cycle)}" cy="{y + high * .54:.1f}" r="{min(2.4, high * .18):.1f}"',
-                f"{cycle:,}: node {node} wrote {traces.shown_byte(byte)} to USART0",
+                f"{cycle:,}: node {node} wrote {cli.shown_byte(byte)} to USART0",
             )
 
     def tick(self, name, cycle, top, bottom, title):

@@ -4,7 +4,9 @@ import collections
 import re
 import tomllib
 
-from traces import BadInput, MAX_NODES, read_text, shown
+from avrora_tools.cli import MAX_NODES
+from avrora_tools.errors import BadInput
+from avrora_tools.files import read_text, shown
 
 # The causes of a refused scenario; of several that apply the simulator tells the first of this list.
 CAUSES = """NotToml UnknownKey Missing WrongKind OutOfRange NoNodes TooManyNodes SelfLink TwiceLinked TwiceScripted

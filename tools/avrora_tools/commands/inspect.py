@@ -1,12 +1,11 @@
-#!/usr/bin/python3
 """Shows in words what a state says, and what differs between two."""
 import argparse
 import re
 
-import programs
-import scenarios
-import states
-import traces
+from avrora_tools import cli, programs, scenarios, states, traces
+from avrora_tools.errors import BadInput
+
+SUMMARY = "a state in words; what differs between two"
 
 DESCRIPTION = """Shows what `avrora save` wrote: each node's processor, stack and devices, and what is on the air. With
 a second state it tells instead what differs, by name: the number of the first state, then that of the second. Addresses
@@ -18,7 +17,6 @@ MOST_DIFFERENCES = 64  # of the bytes of one node, unless all are asked for
 DIVIDERS = {0: (1, 8, 32, 64, 128, 256, 1024), 1: (1, 8, 64, 256, 1024)}
 MODES16 = {1: ", CTC to OCRA", 3: ", CTC to ICR"}
 RADIO = ("idle", "waits for the byte to send", "3 answers left", "2 answers left", "1 answer left")
-
 
 # ---- one state
 
@@ -79,12 +77,12 @@ def usart(node, cycle):
     parts = [f"UCSR0B {node['UCSR0B']:02X}, UCSR0C {node['UCSR0C']:02X}, UBRR {node['UBRR0']}"]
     parts += [name for name in ("U2X", "TXC", "DOR") if node[name]]
     if node["frame"]:
-        parts.append(f"sends {traces.shown_byte(node['frame byte'])} {until(node['frame end'], cycle)}")
+        parts.append(f"sends {cli.shown_byte(node['frame byte'])} {until(node['frame end'], cycle)}")
     if node["waiting"]:
-        parts.append(f"then {traces.shown_byte(node['waiting byte'])}")
+        parts.append(f"then {cli.shown_byte(node['waiting byte'])}")
     if node["received"]:
         received = [node["received 1"], node["received 2"]][: node["received"]]
-        parts.append("received " + " ".join(map(traces.shown_byte, received)))
+        parts.append("received " + " ".join(map(cli.shown_byte, received)))
     return ", ".join(parts)
 
 
@@ -139,8 +137,7 @@ def show(state, nodes, all_programs, span):
         show_node(state, k, all_programs.of(k), span)
     for cycle, node, byte in state.sends:
         if node in nodes:
-            print(f"node {node} sent {traces.shown_byte(byte)} in cycle {cycle:,}, {state.cycle - cycle:,} before")
-
+            print(f"node {node} sent {cli.shown_byte(byte)} in cycle {cycle:,}, {state.cycle - cycle:,} before")
 
 # ---- two states
 
@@ -185,7 +182,6 @@ def compare(a, b, nodes, all_programs, most):
     print("\n".join(found) if found else "nothing differs")
     return bool(found)
 
-
 # ---- the command line
 
 
@@ -206,7 +202,7 @@ def run(arguments):
     count = max(len(state.nodes), len(other.nodes) if other else 0)
     nodes = sorted(arguments.nodes if arguments.nodes is not None else range(count))
     if nodes and nodes[-1] >= count:
-        raise traces.BadInput(f"{arguments.state}: there is no node {nodes[-1]}, as there are {count}")
+        raise BadInput(f"{arguments.state}: there is no node {nodes[-1]}, as there are {count}")
     if other:
         most = states.DATA_END if arguments.all else MOST_DIFFERENCES
         return 1 if compare(state, other, nodes, all_programs, most) else 0
@@ -214,13 +210,13 @@ def run(arguments):
     return 0
 
 
-parser = traces.command_line(DESCRIPTION, "tools/inspect -n 1 -e packet.elf --dump 100-13F packet.state")
-parser.add_argument("-n", "--nodes", type=traces.node_set, metavar="NODES", help="these alone, such as 0,2-4")
-parser.add_argument(
-    "--dump", type=span_of, metavar="FIRST-LAST", help="the data space between these addresses too, such as 100-13F"
-)
-parser.add_argument("--all", action="store_true", help="of two states all bytes that differ")
-programs.add_programs(parser)
-parser.add_argument("state", metavar="STATE")
-parser.add_argument("other", nargs="?", metavar="OTHER", help="a second state, to compare with")
-traces.main(run, parser)
+def configure(parser: argparse.ArgumentParser) -> None:
+    cli.describe(parser, DESCRIPTION, "inspect -n 1 -e packet.elf --dump 100-13F packet.state")
+    parser.add_argument("-n", "--nodes", type=cli.node_set, metavar="NODES", help="these alone, such as 0,2-4")
+    parser.add_argument(
+        "--dump", type=span_of, metavar="FIRST-LAST", help="the data space between these addresses too, such as 100-13F"
+    )
+    parser.add_argument("--all", action="store_true", help="of two states all bytes that differ")
+    programs.add_programs(parser)
+    parser.add_argument("state", metavar="STATE")
+    parser.add_argument("other", nargs="?", metavar="OTHER", help="a second state, to compare with")
