@@ -2,7 +2,6 @@
 import argparse
 import os
 import re
-import sys
 import tomllib
 from collections.abc import Iterator
 from contextlib import contextmanager
@@ -11,7 +10,7 @@ from avrora_tools import cli, expectations, files, programs, scenarios
 from avrora_tools.errors import BadInput, BadWords, Status
 from avrora_tools.states import State
 from avrora_tools.sweeping import findings as grouping
-from avrora_tools.sweeping.events import InputByte, LinkLatency, Move, Moved, MovedScenario, moved_scenario, parsed_event
+from avrora_tools.sweeping.events import InputByte, Move, Moved, MovedScenario, moved_scenario, parsed_event
 from avrora_tools.sweeping.findings import Finding
 from avrora_tools.sweeping.plans import Cell
 from avrora_tools.sweeping.sharing import Sharing, objects_of
@@ -19,7 +18,7 @@ from avrora_tools.sweeping.simulation import ProcessTails, Simulator, scenario_t
 from avrora_tools.sweeping.sweep import Options, Results, Sweep
 from avrora_tools.sweeping.rows import written
 from avrora_tools.sweeping.verdicts import CaseCheck, Check, Compare, PredicateCheck, SerialCheck, nodes_of, predicate_of
-from avrora_tools.terminal import Progress, warn
+from avrora_tools.terminal import Progress
 
 SUMMARY = "moves an event cycle by cycle, and tells which moves break a run and where"
 
@@ -46,35 +45,43 @@ BEFORE, BEHIND = 200, 2_000  # cycles of the window of the earliest failing run,
 
 
 def run(arguments: argparse.Namespace) -> int:
-    document = document_of(arguments.scenario)
-    moved, order = moved_events(arguments)
-    if arguments.quick and not (arguments.elf and isinstance(moved[-1].event, InputByte)):
-        raise BadWords("--quick goes by what handlers share with main: it needs -e, and a byte that moves")
-    if arguments.expect and arguments.check:
-        raise BadWords("either --expect or --check")
-    state = files.read_bytes(arguments.state) if arguments.state else None
-    state_cycle = State.of_text(state.decode("ascii", "replace"), arguments.state).cycle if state else None
-    if state and arguments.expect:
-        raise BadWords("--expect wants the whole trace, and a state has no rows of what was before it")
-    scenario = moved_scenario(document, moved, arguments.until, state_cycle)
-    folder = os.path.dirname(os.path.abspath(arguments.scenario))
-    simulator = Simulator(cli.simulator(arguments.avrora), folder, arguments.timeout)
-    with ProcessTails(simulator, scenario, arguments.jobs, state) as tails:
-        check = check_of(arguments, tails, scenario, order)
-        program, sharing = program_of(arguments, simulator, document, moved[-1])
-        sweep = Sweep(tails, scenario, check, program, sharing)
+    options = Options(arguments.quick, arguments.grid, arguments.all, arguments.per_place, arguments.stop, arguments.runs)
+    with prepared(arguments) as sweep:
         print_plan(sweep)
-        options = Options(
-            arguments.quick, arguments.grid, arguments.all, arguments.per_place, arguments.stop, arguments.runs
-        )
         results = run_all(sweep, options)
         print_totals(sweep, results, options)
         found = sweep.findings()
         for number, finding in enumerate(found, 1):
             print_finding(sweep, number, finding)
         if found and arguments.out:
-            write_earliest(arguments.out, sweep, found[0].first(), folder)
+            write_earliest(arguments.out, sweep, found[0].first(), folder_of(arguments.scenario))
     return Status.NOT_MET if results.failures else Status.GOOD
+
+
+@contextmanager
+def prepared(arguments: argparse.Namespace) -> Iterator[Sweep]:
+    """The sweep that the words say, with its classes, before any of them is run."""
+    document = document_of(arguments.scenario)
+    moved, order = moved_events(arguments)
+    if arguments.quick and not (arguments.elf and isinstance(moved[-1].event, InputByte)):
+        raise BadWords("--quick goes by what handlers share with main: it needs -e, and a byte that moves")
+    if arguments.expect and arguments.check:
+        raise BadWords("either --expect or --check")
+    if arguments.state and arguments.expect:
+        raise BadWords("--expect wants the whole trace, and a state has no rows of what was before it")
+    state = files.read_bytes(arguments.state) if arguments.state else None
+    state_cycle = State.of_text(state.decode("ascii", "replace"), arguments.state).cycle if state else None
+    scenario = moved_scenario(document, moved, arguments.until, state_cycle)
+    simulator = Simulator(cli.simulator(arguments.avrora), folder_of(arguments.scenario), arguments.timeout)
+    with ProcessTails(simulator, scenario, arguments.jobs, state) as tails:
+        check = check_of(arguments, tails, scenario, order)
+        program, sharing = program_of(arguments, simulator, document, moved[-1])
+        yield Sweep(tails, scenario, check, program, sharing)
+
+
+def folder_of(scenario: str) -> str:
+    """Where the images of a scenario are."""
+    return os.path.dirname(os.path.abspath(scenario))
 
 
 def document_of(path: str) -> dict[str, object]:

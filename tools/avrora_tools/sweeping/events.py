@@ -3,7 +3,7 @@
 A move gives each event of the sweep a value: the cycle in which a byte arrives, or a link's latency.
 """
 import re
-from collections.abc import Mapping, Sequence
+from collections.abc import Callable, Mapping, Sequence
 from dataclasses import dataclass, field
 from typing import Any
 
@@ -132,7 +132,7 @@ class MovedScenario:
         return {**self.document, "input": inputs, "window": [0, 0]}
 
     def changed(self, move: Sequence[int | None], window: tuple[int, int], until: int, begins: int) -> Document:
-        new = {**self.document, "cycles": until, "window": list(window)}
+        new: dict[str, Any] = {**self.document, "cycles": until, "window": list(window)}
         for place, (moved, value) in enumerate(zip(self.moved, move)):
             if isinstance(moved.event, InputByte):
                 script = self.scripts[place]
@@ -236,7 +236,7 @@ def parsed_event(kind: str, text: str) -> Moved:
     try:
         if not match:
             raise ValueError
-        event = {"input": input_byte, "start": start, "latency": link_latency}[kind](match[1])
+        event: Event = PARSERS[kind](match[1])
         span = Span(int(match[2]), int(match[3]), int(match[4] or 1))
     except ValueError:
         forms = {"input": "N:I=A..B", "start": "N=A..B", "latency": "FROM-TO=A..B"}
@@ -258,3 +258,6 @@ def start(text: str) -> InputByte:
 def link_latency(text: str) -> LinkLatency:
     sender, hearer = (int(part) for part in text.split("-"))
     return LinkLatency(sender, hearer)
+
+
+PARSERS: dict[str, Callable[[str], Event]] = {"input": input_byte, "start": start, "latency": link_latency}

@@ -15,6 +15,8 @@ DIVIDERS = {0: (1, 8, 32, 64, 128, 256, 1024), 1: (1, 8, 64, 256, 1024), 2: (1, 
 CONTROL = {0: "TCCR", 1: "TCCRB", 2: "TCCR", 3: "TCCRB"}
 CLOCK_SELECT = 7
 
+SLOW = 64  # the divider of a clock that is slow enough for its clocks to be counted
+
 
 @dataclass(frozen=True)
 class Enter:
@@ -32,9 +34,10 @@ class Use:
 
 @dataclass(frozen=True)
 class Clock:
-    """A timer's clock has come since the timer's registers were used last."""
+    """A timer's clock has come since the timer's registers were used last; where clocks are counted, how often so far."""
 
     timer: int
+    count: int = 0
 
 
 @dataclass(frozen=True)
@@ -58,9 +61,13 @@ def dividers(node: Node) -> dict[int, int]:
     return found
 
 
-def steps(rows: Iterable[Row], sharing: Sharing, clocks: dict[int, int]) -> Iterator[Step]:
-    """The steps of the order, of the rows of one node."""
-    last_use: dict[int, int] = {}
+def steps(
+    rows: Iterable[Row], sharing: Sharing, clocks: dict[int, int], counted_from: int | None = None
+) -> Iterator[Step]:
+    """The steps of the order, of the rows of one node. With a cycle to count from the slow clocks are counted, so that two
+    orders differ also where a clock has come before the first of two uses in the one, and behind the last in the other."""
+    slow = {timer for timer, divider in clocks.items() if divider >= SLOW and counted_from is not None}
+    last_use: dict[int, int] = {timer: counted_from or 0 for timer in slow}
     depth = 0
     for row in rows:
         if row.kind == "enter":
@@ -73,7 +80,8 @@ def steps(rows: Iterable[Row], sharing: Sharing, clocks: dict[int, int]) -> Iter
             divider = clocks[timer]
             # The clock comes at the end of each cycle whose next one is a multiple of the divider.
             if timer in last_use and row.cycle // divider > last_use[timer] // divider:
-                yield Step(Clock(timer), row.cycle, address, depth)
+                count = (row.cycle - (counted_from or 0)) // divider if timer in slow else 0
+                yield Step(Clock(timer, count), row.cycle, address, depth)
             last_use[timer] = row.cycle
         if timers or address in sharing.watched:
             yield Step(Use(address), row.cycle, address, depth)

@@ -104,7 +104,7 @@ class Sweep:
         assert self.sharing is not None
         rows = processor_rows(output, self.node, window)
         heard = [line.split(b" ", 4)[1:4] for line in output.splitlines() if b" heard 1" in line or b" heard 2" in line]
-        order = [step.what for step in steps(rows, self.sharing, clocks)]
+        order = [step.what for step in steps(rows, self.sharing, clocks, window[0])]
         return hash((tuple(order), tuple(map(tuple, heard))))
 
     def clocks(self) -> dict[int, int]:
