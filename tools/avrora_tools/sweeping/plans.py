@@ -43,7 +43,7 @@ def in_rounds(cells: Sequence[Cell], between: Mapping[int, str], per_place: int 
 
 def spread(count: int) -> list[int]:
     """The numbers below `count`: the first and the last, and then each time the middle of what is left between."""
-    return sorted(range(count), key=lambda i: (0 < i < count - 1, -(i & -i), i))
+    return sorted(range(count), key=lambda i: (1, -(i & -i), i) if 0 < i < count - 1 else (0, 0, i))
 
 
 @dataclass
