@@ -1,5 +1,5 @@
 -- The program memories of a scenario that accepted texts give have bytes.
-use Rattle.std.proofs.Common.{ℕ, ◌≤◌, arith}
+use Rattle.std.proofs.Common.{arith}
 use Rattle.std.specs.List.{All}
 use Rattle.node_runner.specs.Accepted.{IsAccepted}
 use Rattle.node_runner.specs.Scenario.{ScenarioOf}

@@ -46,8 +46,8 @@ pub fn node_law()
     ensures sends { (t : ℕ) (s : NodeState) → t < 2 ^ 40 → NodeWithin t s → ByteWithin (sends_in t s) }
 {}
 
-/// What is saved of a node of a run of accepted texts, at the beginning of any cycle, is accepted, and the node that is restored from it
-/// is that node.
+/// What is saved of a node of a run of accepted texts, at the beginning of any cycle, is accepted, and the node that is
+/// restored from it is that node.
 pub fn saved_law()
     ensures { (sc : ScenarioOf) (k c : ℕ) → IsAccepted sc → c ≤ sc.topo.limit
         → IsSaved sc k c (node_at (fleet_of sc) k c) }

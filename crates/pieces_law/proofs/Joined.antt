@@ -1,11 +1,9 @@
 -- The pieces of a run that is saved and resumed are the whole run.
-use Rattle.std.proofs.Common.{◌≡◌, ℕ, ◌+◌, ◌*◌, ◌%◌, ◌^◌, ◌<◌, ◌≤◌, ◌==◌, ◌&&◌, nat_le, nat_lt, Bool, true, false, if◌then◌else◌, List, ◌++◌, length, Option, Some, None, Result, Ok, Err, refl, sym, ap, ◌∙◌, subst, arith}
-use Rattle.std.specs.List.{All, flat_map}
+use Rattle.std.proofs.Common.{◌≡◌, ℕ, ◌+◌, ◌*◌, ◌%◌, ◌^◌, ◌<◌, ◌≤◌, ◌==◌, ◌&&◌, nat_le, nat_lt, Bool, true, false, if◌then◌else◌, List, ◌++◌, length, Some, Result, Ok, refl, sym, ap, ◌∙◌, subst, arith}
 use Rattle.std.proofs.lemmas.Bool.{ltb-true}
 use Rattle.std.proofs.lemmas.Bool.Decides.{nat_tests}
 use Rattle.std.proofs.lemmas.List.Concat.{flat_map-append}
 use Rattle.std.proofs.lemmas.List.Elements.{All-weaker}
-use Rattle.air_base.specs.declared.air.Send.{Send}
 use Rattle.world_core.specs.Kept.{epoch}
 use Rattle.world_core.specs.Order.{run_rows, world_at}
 use Rattle.node_core.specs.declared.row.Row.{Row}
@@ -14,7 +12,7 @@ use Rattle.node_runner.specs.Run.{kept_at}
 use Rattle.node_runner.specs.Scenario.{IsScenario, ScenarioOf, fleet_of}
 use Rattle.node_runner.proofs.Accepted.{is_scenario}
 use Rattle.node_laws.proofs.Images.{images_are}
-use Rattle.state_text.specs.Bounds.{IsState, is_cut}
+use Rattle.state_text.specs.Bounds.{IsState}
 use Rattle.state_text.specs.Text.{StateOf, state_text}
 use Rattle.state_text.specs.declared.fault.StateFault.{StateFault}
 use Rattle.state_text.specs.declared.fault.StateFault.TheVariants.{PastEnd}
@@ -24,10 +22,10 @@ use Rattle.checkpoint_text.specs.State.{rules_of, saved_at, state_in}
 use Rattle.checkpoint_laws.proofs.Accepted.{accepted}
 use Rattle.checkpoint_laws.proofs.Kept.{goes_on}
 use Rattle.trace_writer.specs.Line.{row_line, rows_text}
-use Rattle.command_words.specs.Words.{Head, Save, Run, Resume, asked_by}
+use Rattle.command_words.specs.Words.{Head, Save, Run, Resume}
 use Rattle.command_words.proofs.Forms.{form_of, in_limits}
 use Rattle.command_plans.specs.Plan.{Plan, Give, Refuse, BadState, and_then}
-use Rattle.command_plans.specs.Reading.{Files, Accepted, Accepts, Says, Verdict, verdict}
+use Rattle.command_plans.specs.Reading.{Files, Accepted, Accepts, Says, verdict}
 use Rattle.command_plans.specs.declared.trouble.StateCause.TheVariants as cause
 use Rattle.commands.specs.Job.{Job, TraceJob, HeadJob, SaveJob, ResumeJob, output}
 use Rattle.commands.specs.Plan.{cut_or, cut_plan, network_plan, plan, plan_for, plan_of, state_or, state_plan}

@@ -1,15 +1,13 @@
 -- How many sends are saved of a run.
-use Rattle.std.proofs.Common.{◌≡◌, ℕ, zero, suc, ◌+◌, ◌-◌, ◌*◌, ◌/◌, ◌^◌, ◌<◌, ◌≤◌, ◌==◌, Bool, List, [], ◌∷◌, length, map, take, get_or, refl, sym, ap, ◌∙◌, subst, inl, inr, arith, suc-mul}
+use Rattle.std.proofs.Common.{◌≡◌, ℕ, zero, suc, ◌+◌, ◌-◌, ◌*◌, ◌/◌, ◌<◌, ◌≤◌, ◌==◌, List, [], length, map, take, refl, sym, ap, ◌∙◌, inl, inr, arith, suc-mul}
 use Rattle.std.specs.List.{All, filter, range_with_len}
 use Rattle.std.proofs.Math.Nat.{le-div_iff_mul-le}
 use Rattle.std.proofs.lemmas.Bool.{cases_lt}
-use Rattle.std.proofs.lemmas.List.{get_or_past}
 use Rattle.std.proofs.lemmas.List.Elements.{All-filter, All-weaker}
-use Rattle.std.proofs.lemmas.List.FromFn.{get_or-map-range_with_len, length-map-range_with_len}
+use Rattle.std.proofs.lemmas.List.FromFn.{get_or-map-range_with_len}
 use Rattle.air_base.specs.declared.air.Send.{Send}
 use Rattle.world_core.specs.declared.world.WorldFacts.{WorldFacts}
 use Rattle.world_core.specs.Kept.{is_kept}
-use Rattle.world_core.specs.Lawful.{IsLawful}
 use Rattle.world_core.specs.Order.{facts_of, world_at}
 use Rattle.world_core.specs.Posted.{sent_of}
 use Rattle.world_core.specs.Sends.{sends_below, sends_of}

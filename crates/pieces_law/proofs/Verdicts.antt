@@ -1,5 +1,5 @@
 -- The verdict of a plan that goes on by what another one got.
-use Rattle.std.proofs.Common.{◌≡◌, ℕ, ◌≤◌, nat_lt, Bool, true, false, cond, List, length, Option, Some, None, refl, sym, ap, ◌∙◌, subst, arith}
+use Rattle.std.proofs.Common.{◌≡◌, ℕ, ◌≤◌, nat_lt, Bool, true, false, cond, List, length, Option, Some, None, refl, sym, ap, ◌∙◌, arith}
 use Rattle.std.proofs.lemmas.Bool.Decides.{nat_tests}
 use Rattle.command_plans.specs.Plan.{Plan, Give, Refuse, Read, Refusal, and_then}
 use Rattle.command_plans.specs.Reading.{Files, Verdict, Untold, Refused, Accepted, on_bytes, verdict}

@@ -1,7 +1,7 @@
 -- A run in pieces: what `head` writes, and what `resume` writes of what `save` wrote. Own to this simulator.
 use Rattle.std.specs.Prelude.{◌≡◌, ℕ, ◌≤◌, ◌++◌, List, Some, length}
 use Rattle.command_words.specs.Words.{Head, Resume, Run, Save, asked_by}
-use Rattle.command_plans.specs.Reading.{Files, Accepted, Accepts, verdict}
+use Rattle.command_plans.specs.Reading.{Files, Accepted, verdict}
 use Rattle.commands.specs.Job.{Job, output}
 use Rattle.commands.specs.Plan.{network_plan, plan}
 

@@ -7,12 +7,14 @@ ghost use Rattle.command_plans.specs.Reading.{Accepted, Accepts, Files, verdict}
 ghost use Rattle.commands.specs.Job.{Job, output};
 ghost use Rattle.commands.specs.Plan.{network_plan, plan};
 ghost use Rattle.node_runner.specs.Accepted.{IsAccepted};
-ghost use Rattle.node_runner.specs.Scenario.{ScenarioOf};
+ghost use Rattle.node_runner.specs.Scenario.{IsScenario, ScenarioOf};
 ghost use Rattle.pieces_law.specs.Pieces.{AreThePieces, IsInPieces};
 
-/// Where the words of a command have a network accepted, that is the network that accepted texts give.
+/// A network that a command has accepted is one that accepted texts give, and it is a scenario. So what the laws of the
+/// order and of saved states ask for holds of it.
 pub fn network_law()
-    ensures { (files : Files) (file : List ℕ) (network : ScenarioOf) → verdict files (network_plan file) ≡ Accepted network → IsAccepted network }
+    ensures texts { (files : Files) (file : List ℕ) (network : ScenarioOf) → verdict files (network_plan file) ≡ Accepted network → IsAccepted network }
+    ensures scenario { (files : Files) (file : List ℕ) (network : ScenarioOf) → verdict files (network_plan file) ≡ Accepted network → IsScenario network }
 {}
 
 /// Where `save FILE N` is accepted, so are `head FILE N` and `run FILE`, and `resume FILE STATE` over what `save` wrote,

@@ -1,5 +1,5 @@
 -- What holds of each scenario that a text says.
-use Rattle.std.proofs.Common.{◌≡◌, ℕ, List, Option, Some, None, Result, Ok, Err, refl, sym, subst}
+use Rattle.std.proofs.Common.{◌≡◌, ℕ, List, Option, Some, None, Ok, refl, sym, subst}
 use Rattle.toml.specs.Data.{Members}
 use Rattle.world_core.specs.Topology.{IsTopology}
 use Rattle.scenario_file.specs.Faults.{document_of, document_fault}
