@@ -79,7 +79,7 @@ impl Machine {
             return 0;
         }
         let before = core.sreg.bits;
-        match execute_waiting(op, self.program.flash(), core, &mut self.bus) {
+        match execute_waiting(op, &self.program, core, &mut self.bus) {
             Ok(done) => {
                 if owes(op, before, core.sreg.bits) {
                     return 0;

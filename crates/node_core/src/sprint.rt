@@ -110,7 +110,7 @@ fn one_step(
     ensures apart { leaves_board result ≡ true → bus.new.board ≡ bus.old.board }
 {
     let op = program.op_at(slots, core.pc);
-    let (after, executed) = execute_plain(op, program.flash(), regs, core, bus);
+    let (after, executed) = execute_plain(op, program, regs, core, bus);
     told(after, executed, count)
 }
 
