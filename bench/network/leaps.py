@@ -228,6 +228,17 @@ def look_alike(it):
             (0, lds(FLAG, 24) + [word("and_", d=24, r=24)] + where(Z, True, 2)))
     it.case("behind", "", ["100 0 end 51 running"], 100, (0, [word("sbis", A=UCSRA, b=7)] + back(0)))
     it.case("before", "", ["100 0 end 75 running"], 100, (0, [NOP, word("sbis", A=UCSRA, b=7)] + back(2)))
+    # One that counts up begins in 1 + 3 j, and one by SUBI alone: of 200 rounds the last in 598. By two of 1,000 there are 500 rounds of four
+    # cycles, from 2 on. DEC begins in 1 + 4 j where MOV stands behind it: of 200 rounds the last in 797.
+    brne = where(Z, False, 1)
+    for name, words, end, count in (
+        ("up", [ldi(16, 56), word("inc", d=16), *brne], 600, 401), ("subi_alone", [ldi(20, 200), word("subi", d=4, K=1), *brne], 600, 401),
+        ("sbiw_two", [ldi(24, 1000 % 256), ldi(25, 1000 // 256), word("sbiw", d=0, K=2), *brne], 2001, 1002),
+        ("subi_two", [ldi(20, 1000 % 256), ldi(22, 1000 // 256), word("subi", d=4, K=2), word("sbci", d=6, K=0), *where(Z, False, 2)], 2001, 1502),
+        ("counted_twice", [ldi(16, 200), word("dec", d=16), word("mov", d=17, r=16), *where(Z, False, 2)], 800, 601),
+    ):
+        it.case(name, "Counters that are lowered otherwise than by one, or are not all that a round changes." if name == "up" else "",
+                [f"{end} 0 stop {len(words):04X} reserved opcode", f"3000 0 end {count} stopped"], 3000, (0, words))
     # SUBI begins in 1 + 4 j, of 200 rounds the last in 797
     it.case("same_byte", "SBCI of the byte that SUBI lowered.", ["800 0 stop 0004 reserved opcode", "900 0 end 601 stopped"], 900,
             (0, [ldi(16, 200), word("subi", d=0, K=1), word("sbci", d=0, K=0)] + where(Z, False, 2)))
