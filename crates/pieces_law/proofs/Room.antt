@@ -1,5 +1,5 @@
 -- How many sends are saved of a run.
-use Rattle.std.proofs.Common.{◌≡◌, ℕ, zero, suc, ◌+◌, ◌-◌, ◌*◌, ◌/◌, ◌<◌, ◌≤◌, ◌==◌, List, [], length, map, take, refl, sym, ap, ◌∙◌, inl, inr, arith, suc-mul}
+use Rattle.std.proofs.Common.{◌≡◌, ℕ, zero, suc, ◌+◌, ◌*◌, ◌/◌, ◌<◌, ◌≤◌, ◌==◌, List, [], length, map, take, refl, sym, ap, ◌∙◌, inl, inr, arith, suc-mul}
 use Rattle.std.specs.List.{All, filter, range_with_len}
 use Rattle.std.proofs.Math.Nat.{le-div_iff_mul-le}
 use Rattle.std.proofs.lemmas.Bool.{cases_lt}
