@@ -11,7 +11,7 @@ from draw import OCR0, SPH, TCCR0, TIMSK, UCSRA, UCSRB, UDR, hex_text, ldi, out,
 from facts import Networks
 
 TCNT0, SREG, FLAG = 0x32, 0x3F, 0x100
-C, Z = 0, 1
+C, Z, N, V, S, H = range(6)
 NOP, RETI, SEI = word("nop"), word("reti"), word("bset", s=7)
 JMP_50 = [word("jmp", k=0), 0x50]
 
@@ -70,8 +70,8 @@ def polls(it):
     it.case("sbis_cut", "", ["100 0 end 68 running"], 100, (0, send))
     it.case("sbis_late", "", ["100 0 instr 0004 sbis 0x0B, 5", "101 0 instr 0005 rjmp .-4", "103 0 instr 0004 sbis 0x0B, 5", "110 0 end 75 running"],
             110, (0, send), window=(100, 104))
-    # SBIC begins in 3 j, RJMP in 3 j + 1: below 1,048,582 that is 349,528 and 349,527 times
-    it.case("sbic", "By SBIC, over the end of an epoch.", ["1048582 0 end 699055 running"], 1_048_582, (0, [word("sbic", A=UCSRA, b=5)] + back(1)))
+    # SBIC begins in 3 j, RJMP in 3 j + 1: below 262,150 that is 87,384 and 87,383 times
+    it.case("sbic", "By SBIC, over the end of an epoch.", ["262150 0 end 174767 running"], 262_150, (0, [word("sbic", A=UCSRA, b=5)] + back(1)))
     # IN begins in 2 + 4 j, in 102 first behind an arrival in 100. SBRS skips in 103 and 104, UDR0 is read in 105 and written in 106: the
     # frame ends in 266. 2 + 25 * 3 + 4 instructions, and RJMP to itself from 107 on, 97 times below 300.
     it.case("in_sbrs", "By IN, SBRS and RJMP, up to a byte that arrives.", ["266 0 serial 41", "300 0 end 178 running"], 300,
@@ -118,6 +118,33 @@ def delays(it):
     it.case("subi_cut", "One that the run ends in, one that a window begins in.", ["5003 0 end 4003 running"], 5003, (0, subi))
     it.case("subi_late", "", ["5000 0 instr 0005 sbci r25, 0x00", "5001 0 instr 0006 brbc 1, .-8", "5003 0 instr 0003 subi r18, 0x01", *end],
             6000, (0, subi), window=(5000, 5004))
+
+
+def other_flags(it):
+    """Delays that end by another flag than Z. `rounds` of them are taken; a branch that goes on takes one cycle."""
+    # DEC begins in 1 + 3 j, and a word behind BRPL or its like is reached two cycles behind the last. N is set at FF, so 65 rounds; V at 7F, so 129
+    # from 0; of 200 on N is set down to 80 and V at 7F, so S is clear at 7E first, behind 74.
+    # SBIW begins in 2 + 4 j: N is set at FFFF, V at 7FFF, S is clear at 7FFE first.
+    # SUBI begins in 2 + 4 j, what it leaves of the flags is what SBCI leaves: H is set where the low twelve bits were 0, N at FFFF, V at 7FFF,
+    # and S is clear at 7FFE first.
+    dec, sbiw = [word("dec", d=16)], [word("sbiw", d=0, K=1)]
+    subi, sbci = [word("subi", d=4, K=1)], [word("sbci", d=6, K=0)]
+    for name, body, flag, on, value, rounds in (
+        ("dec_n", dec, N, False, 0x40, 65), ("dec_v", dec, V, False, 0, 129), ("dec_s", dec, S, True, 200, 74),
+        ("sbiw_n", sbiw, N, False, 300, 301), ("sbiw_v", sbiw, V, False, 0x8100, 257), ("sbiw_s", sbiw, S, True, 0x8100, 258),
+        ("subi_h", subi + sbci, H, False, 0x2345, 838), ("subi_n", subi + sbci, N, False, 0x0105, 262),
+        ("subi_v", subi + sbci, V, False, 0x8123, 292), ("subi_s", subi + sbci, S, True, 0x8123, 293),
+    ):
+        low, high = (16, None) if body is dec else (24, 25) if body is sbiw else (20, 22)
+        start = [ldi(low, value % 256)] + ([ldi(high, value // 256)] if high else [])
+        cycles, count = (3 if body is dec else 4), len(body) + 1
+        stop, words = len(start) + rounds * cycles - 1, len(start) + count
+        it.case(name, "Delays that end by N, V, S or H." if name == "dec_n" else "",
+                [f"{stop} 0 stop {words:04X} reserved opcode", f"4000 0 end {len(start) + rounds * count} stopped"], 4000,
+                (0, start + body + where(flag, on, len(body))))
+    # Of three bytes, the highest 10: 102 rounds lower 100102 to 100000, and the next one borrows from a half. SUBI begins in 3 + 5 j.
+    three = [ldi(20, 0x02), ldi(22, 0x01), ldi(23, 0x10), *subi, *sbci, word("sbci", d=7, K=0)] + where(H, False, 3)
+    it.case("three_h", "", ["1297 0 stop 0007 reserved opcode", "2000 0 end 1039 stopped"], 2000, (0, three))
 
 
 def seen(it):
@@ -189,7 +216,7 @@ def look_alike(it):
 
 def main():
     it = Leaps(folder_of_words(__doc__), ["worked out by hand, as bench/network/leaps.py has it at each; the traces are also those of bench/network/network.py."])
-    for part in (polls, flags, delays, seen, seen_pairs, look_alike):
+    for part in (polls, flags, delays, other_flags, seen, seen_pairs, look_alike):
         part(it)
     it.write("networks", "leaps.txt")
 

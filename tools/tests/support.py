@@ -20,14 +20,16 @@ LONG = 600
 
 LOOPBACK = "127.0.0.1"
 
-sys.path.append(TOOLS)
 sys.dont_write_bytecode = True
+
+# How the tools are run: by the interpreter of these tests, from the checkout.
+TOOL = [sys.executable, "-B", TOOLS]
 
 
 def run_tool(name, *words, stdin="", env=None):
     """Runs a tool by the interpreter of these tests; its status, output and errors."""
     done = subprocess.run(
-        [sys.executable, "-B", f"{TOOLS}/{name}", *words],
+        [*TOOL, name, *words],
         input=stdin if isinstance(stdin, bytes) else stdin.encode(),
         capture_output=True,
         check=False,

@@ -8,10 +8,10 @@ import unittest
 import xml.etree.ElementTree
 
 from campaign_runs import CAMPAIGN, CASE, SCENARIO, Outcomes, folder, hidden_dask, let_go, run_campaign, starts
-from support import LONG, TOOLS, needs_module, run_tool, wait_for
+from support import LONG, TOOL, needs_module, run_tool, wait_for
+from avrora_tools import campaigns
+from avrora_tools.errors import BadInput
 
-import campaigns
-from traces import BadInput
 
 
 class TheFile(unittest.TestCase):
@@ -175,7 +175,7 @@ class WithoutDask(Outcomes, unittest.TestCase):
             _, _, errors, _ = run_campaign(path, "--processes", "2")
             self.assertIn("python3-distributed", errors)
             status, _, errors, _ = run_campaign(path, "--anew", "--scheduler", "tcp://127.0.0.1:9")
-            self.assertEqual(status, 2)
+            self.assertEqual(status, 3)
             self.assertIn("python3-distributed", errors)
 
     def test_changed_content_is_run_again(self):
@@ -226,7 +226,7 @@ class WithoutDask(Outcomes, unittest.TestCase):
     def test_two_at_once(self):
         with folder() as path:
             env = {**os.environ, "CAMPAIGN_LOG": f"{path}/log", "CAMPAIGN_HELD": "0", **hidden_dask(path)}
-            words = [sys.executable, f"{TOOLS}/campaign", "--avrora", f"{path}/avrora", f"{path}/c.toml"]
+            words = [*TOOL, "campaign", "--avrora", f"{path}/avrora", f"{path}/c.toml"]
             first = subprocess.Popen(words, env=env, stdout=subprocess.DEVNULL, stderr=subprocess.DEVNULL)
             wait_for(lambda: os.path.exists(f"{path}/log"))
             status, _, errors, _ = run_campaign(path)
@@ -251,7 +251,3 @@ class WithoutDask(Outcomes, unittest.TestCase):
             run_campaign(path)
             suite = xml.etree.ElementTree.parse(f"{path}/c.results/junit.xml").getroot().find("testsuite")
             self.assertEqual((suite.get("tests"), suite.get("failures"), suite.get("errors")), ("5", "2", "1"))
-
-
-if __name__ == "__main__":
-    unittest.main()

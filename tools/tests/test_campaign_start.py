@@ -1,26 +1,13 @@
 """campaign: what it starts, how it is ended, and what it says of a scenario that is refused."""
-import importlib.machinery
-import importlib.util
 import os
 import signal
 import subprocess
-import sys
 import unittest
 
 from campaign_runs import folder, hidden_dask, let_go
-from support import LONG, TOOLS, TOP, wait_for
-
-import campaigns
-import pools
-import runs
-
-
-def script():
-    """The module of the script campaign."""
-    loader = importlib.machinery.SourceFileLoader("campaign", f"{TOOLS}/campaign")
-    module = importlib.util.module_from_spec(importlib.util.spec_from_loader("campaign", loader))
-    loader.exec_module(module)
-    return module
+from support import LONG, TOOL, TOP, wait_for
+from avrora_tools import campaigns, pools, runs
+from avrora_tools.commands import campaign as campaign_command
 
 
 class Start(unittest.TestCase):
@@ -32,7 +19,7 @@ class Start(unittest.TestCase):
 
     def test_it_is_built_where_avrora_is(self):
         """What ./avrora has proved and built is taken, and not built anew."""
-        room = script().BUILT
+        room = campaign_command.BUILT
         with open(f"{TOP}/avrora", encoding="utf-8") as file:
             words = file.read()
         self.assertIn(f"\nroom=$top/{room}\n", words)
@@ -44,7 +31,7 @@ class End(unittest.TestCase):
         """SIGTERM ends it as ^C does, also where that is ignored, and nothing is left that Python warns of."""
         with folder() as path:
             env = {**os.environ, "CAMPAIGN_LOG": f"{path}/log", "CAMPAIGN_HELD": "0", **hidden_dask(path)}
-            words = [sys.executable, f"{TOOLS}/campaign", "--avrora", f"{path}/avrora", f"{path}/c.toml"]
+            words = [*TOOL, "campaign", "--avrora", f"{path}/avrora", f"{path}/c.toml"]
             words = ["/bin/sh", "-c", 'trap "" INT; exec "$@"', "sh", *words]
             campaign = subprocess.Popen(words, env=env, stdout=subprocess.DEVNULL, stderr=subprocess.PIPE)
             wait_for(lambda: os.path.exists(f"{path}/log"))
@@ -63,7 +50,7 @@ class Refused(unittest.TestCase):
         with folder(text) as path:
             (run,) = campaigns.read(f"{path}/c.toml").runs
         line = run.scenario.splitlines().index("byte_time = 100") + 1
-        result = script().explained(run, runs.answer(runs.REFUSED, "avrora: scenario refused: OutOfRange"))
+        result = campaign_command.explained(run, runs.answer(runs.REFUSED, "avrora: scenario refused: OutOfRange"))
         self.assertEqual(
             result["message"].splitlines(),
             [
@@ -72,8 +59,4 @@ class Refused(unittest.TestCase):
             ],
         )
         good = runs.answer(runs.PASSED)
-        self.assertEqual(script().explained(run, good), good)
-
-
-if __name__ == "__main__":
-    unittest.main()
+        self.assertEqual(campaign_command.explained(run, good), good)

@@ -9,7 +9,7 @@ import sys
 import unittest
 
 from campaign_runs import CAMPAIGN, Outcomes, folder, let_go, run_campaign, starts
-from support import LOOPBACK, TOOLS, needs_loopback, needs_module, wait_for
+from support import LOOPBACK, TOOL, needs_loopback, needs_module, wait_for
 
 
 @needs_module("distributed", "python3-distributed")
@@ -80,9 +80,9 @@ class OnACluster(unittest.TestCase):
         return next((worker for worker in self.workers if os.path.exists(f"{self.path}/held-{worker.pid}")), None)
 
     def test_a_worker_is_killed(self):
-        words = [f"{TOOLS}/campaign", "--avrora", f"{self.path}/avrora", "--scheduler", self.address]
+        words = [*TOOL, "campaign", "--avrora", f"{self.path}/avrora", "--scheduler", self.address]
         with open(f"{self.path}/said", "w+", encoding="utf-8") as said:
-            words = [sys.executable, *words, f"{self.path}/c.toml"]
+            words = [*words, f"{self.path}/c.toml"]
             campaign = self.start(words, stdout=said, stderr=subprocess.STDOUT)
             worker = wait_for(self.worker_that_is_held)
             wait_for(lambda: self.results() >= 10)
@@ -105,7 +105,3 @@ class OnACluster(unittest.TestCase):
         self.assertEqual(
             {row["parameters"]["latency"] for row in rows}, {int(latency) for latency in starts(self.path)}
         )
-
-
-if __name__ == "__main__":
-    unittest.main()

@@ -73,11 +73,7 @@ class Console(unittest.TestCase):
 
     def test_no_such_node(self):
         status, out, err = run_tool("console", "-n", "9", stdin=TRACE)
-        self.assertEqual((status, out, err), (2, "", "console: the trace has no row of these nodes\n"))
+        self.assertEqual((status, out, err), (2, "", "avrora-tools console: the trace has no row of these nodes\n"))
 
     def test_nothing_written(self):
         self.assertEqual(self.console(trace="5 0 sent 41\n"), "")
-
-
-if __name__ == "__main__":
-    unittest.main()

@@ -4,8 +4,8 @@ import sys
 import unittest
 
 from support import DATA, TOP, data, needs_module, run_tool, scratch
-import expectations
-from traces import BadInput
+from avrora_tools import expectations
+from avrora_tools.errors import BadInput
 
 TRACE = """\
 10 0 sent 72
@@ -280,7 +280,7 @@ class Command(unittest.TestCase):
                 self.assertIn("not ok 1", out)
                 self.assertIn(why, out)
             status, _, err = run_tool("expect", "--trace", "-", case, case)
-            self.assertEqual((status, err), (2, "expect: --trace - is read once, so it serves one case\n"))
+            self.assertEqual((status, err), (2, "avrora-tools expect: --trace - is read once, so it serves one case\n"))
             status, out, _ = run_tool("expect", case)
             self.assertEqual(status, 2)
             self.assertIn("no run, node or trace", out)
@@ -309,7 +309,3 @@ class Command(unittest.TestCase):
             (failed,) = suite.iter("failure")
             self.assertIn("did not write", failed.get("message"))
             self.assertIn("- '<&>'", failed.text)
-
-
-if __name__ == "__main__":
-    unittest.main()

@@ -135,16 +135,12 @@ class Links(unittest.TestCase):
 
     def test_cut_off(self):
         status, _, err = self.links(TRACE[:-3])
-        self.assertEqual((status, err), (2, "links: standard input, line 15: the trace is cut off in this line\n"))
+        self.assertEqual((status, err), (2, "avrora-tools links: standard input, line 15: the trace is cut off in this line\n"))
 
     def test_no_scenario(self):
         with scratch("net.toml", "cycles = 1\n") as path:
             status, _, err = run_tool("links", path, f"{DATA}/relay.trace")
-        self.assertEqual((status, err), (2, f"links: {path}: scenario refused: NoNodes: no table [[node]]\n"))
+        self.assertEqual((status, err), (2, f"avrora-tools links: {path}: scenario refused: NoNodes: no table [[node]]\n"))
 
     def test_from_a_pipe(self):
         self.assertEqual(run_tool("links", f"{DATA}/relay.toml", stdin=data("relay.trace"))[0], 0)
-
-
-if __name__ == "__main__":
-    unittest.main()

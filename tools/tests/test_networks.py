@@ -6,9 +6,9 @@ import tomllib
 import unittest
 
 from support import DATA, data, run_tool, scratch
-import networks
-import scenarios
-from traces import BadInput
+from avrora_tools import networks, scenarios
+from avrora_tools.commands import window
+from avrora_tools.errors import BadInput
 
 
 class Shapes(unittest.TestCase):
@@ -165,12 +165,8 @@ class Window(unittest.TestCase):
 
     def test_keys_over_lines(self):
         text = 'window = [1,\n 2,\n]\nnode = [{image = "x"}]\n"cycles" = 100 # cycles = 5\n[[link]]\nfrom = 0\n'
-        namespace = {}
-        with open(f"{DATA}/../../window", encoding="utf-8") as file:
-            source = file.read().split("parser = ")[0]
-        exec(compile(source, "window", "exec"), namespace)
         self.assertEqual(
-            tomllib.loads(namespace["windowed"](text, 3, 4)),
+            tomllib.loads(window.windowed(text, 3, 4)),
             {"cycles": 4, "window": [3, 4], "node": [{"image": "x"}], "link": [{"from": 0}]},
         )
 
@@ -197,18 +193,14 @@ class Window(unittest.TestCase):
             self.assertEqual(tomllib.loads(text), whole | {"cycles": 1_048_582, "window": [1_048_576, 1_048_582]})
             status, out, err = run_tool(*words, "1_048_575", "1_048_582")
             why = f"{saved}: it is of cycle 1,048,576, and the window begins before that"
-            self.assertEqual((status, out, err), (2, "", f"window: {why}\n"))
+            self.assertEqual((status, out, err), (2, "", f"avrora-tools window: {why}\n"))
 
     def test_no_trace(self):
         with scratch("avrora", "#!/bin/sh\necho hello\n") as avrora:
             os.chmod(avrora, 0o755)
             status, out, err = run_tool("window", "--avrora", avrora, f"{DATA}/relay.toml", "5", "6")
-        self.assertEqual((status, out, err), (2, "", "window: what the simulator wrote is no trace: hello\n"))
+        self.assertEqual((status, out, err), (2, "", "avrora-tools window: what the simulator wrote is no trace: hello\n"))
 
     def test_no_simulator(self):
         status, _, err = run_tool("window", "--avrora", "/nowhere", f"{DATA}/relay.toml", "5", "6")
-        self.assertEqual((status, err), (2, "window: cannot run /nowhere: No such file or directory\n"))
-
-
-if __name__ == "__main__":
-    unittest.main()
+        self.assertEqual((status, err), (2, "avrora-tools window: cannot run /nowhere: No such file or directory\n"))

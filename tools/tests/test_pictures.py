@@ -114,7 +114,7 @@ class Page(unittest.TestCase):
 
     def test_no_rows_of_the_nodes(self):
         status, _, err = run_tool("timeline", "-n", "9", f"{DATA}/relay.trace")
-        self.assertEqual((status, err), (2, "timeline: the trace has no row of these nodes\n"))
+        self.assertEqual((status, err), (2, "avrora-tools timeline: the trace has no row of these nodes\n"))
 
     PROBE = """<script>
 goToClash(true); paint();
@@ -296,7 +296,3 @@ class Waves(unittest.TestCase):
             for time, name, value in changes(dump)
             if time and not name.endswith((".sample", ".serial"))
         )
-
-
-if __name__ == "__main__":
-    unittest.main()

@@ -5,9 +5,8 @@ import random
 import unittest
 
 from support import DATA, data, needs_module, run_tool, scratch
-import programs
-import traces
-from traces import BadInput
+from avrora_tools import programs, traces
+from avrora_tools.errors import BadInput
 
 ELF = f"{DATA}/relay.elf"
 
@@ -128,14 +127,14 @@ class Annotate(unittest.TestCase):
     def test_no_elf(self):
         status, out, err = run_tool("annotate", "-e", f"{DATA}/relay.toml", f"{DATA}/relay.trace")
         self.assertEqual((status, out), (2, ""))
-        self.assertIn(f"annotate: {DATA}/relay.toml: no ELF file", err)
+        self.assertIn(f"avrora-tools annotate: {DATA}/relay.toml: no ELF file", err)
 
     def test_missing_package(self):
         with scratch("elftools.py", "raise ImportError") as path:
             status, _, err = run_tool(
                 "annotate", "-e", ELF, f"{DATA}/relay.trace", env={"PYTHONPATH": path.rsplit("/", 1)[0]}
             )
-        self.assertEqual(status, 2)
+        self.assertEqual(status, 3)
         self.assertIn("has no pyelftools. Debian: apt-get install python3-pyelftools", err)
 
 
@@ -226,7 +225,7 @@ class Profile(unittest.TestCase):
 
     def test_no_such_node(self):
         status, _, err = run_tool("profile", "-n", "9", stdin=WINDOW)
-        self.assertEqual((status, err), (2, "profile: the trace has no row of these nodes\n"))
+        self.assertEqual((status, err), (2, "avrora-tools profile: the trace has no row of these nodes\n"))
 
     def test_asleep_to_the_end(self):
         trace = "".join(WINDOW.splitlines(keepends=True)[:3])
@@ -268,7 +267,7 @@ class Profile(unittest.TestCase):
     def test_broken_monitor(self):
         for line in ("0 at 0010 1\n", "0 lid 10\n", "64 lead 1\n", "0 lead 10"):
             status, _, err = run_tool("profile", stdin=self.MONITOR + line)
-            self.assertEqual((status, err), (2, "profile: standard input, line 9: no line of a monitor\n"))
+            self.assertEqual((status, err), (2, "avrora-tools profile: standard input, line 9: no line of a monitor\n"))
 
     def test_no_instructions(self):
         """In a trace, and in what a monitor writes of a scenario without a window."""
@@ -316,7 +315,3 @@ class Profile(unittest.TestCase):
             [["calls"]]
             + [line.split() for line in ("1 USART0_RX_vect > __vector_18", "1 __vector_18 > put", "1 main > transfer")],
         )
-
-
-if __name__ == "__main__":
-    unittest.main()

@@ -3,12 +3,12 @@ import sys
 import unittest
 
 from support import TOP, run_tool, scratch
+from avrora_tools import scenarios
+from avrora_tools.errors import BadInput
 
 sys.path.append(f"{TOP}/bench/scenario")
 import cases
-import scenarios
-from scenarios import Air, Link, Scenario, answer
-from traces import BadInput
+from avrora_tools.scenarios import Air, Link, Scenario, answer
 
 
 class Causes(unittest.TestCase):
@@ -108,12 +108,12 @@ class Why(unittest.TestCase):
 
     def test_no_file(self):
         status, _, err = run_tool("why", "/nowhere.toml")
-        self.assertEqual((status, err), (2, "why: cannot read /nowhere.toml: No such file or directory\n"))
+        self.assertEqual((status, err), (2, "avrora-tools why: cannot read /nowhere.toml: No such file or directory\n"))
 
     def test_no_text(self):
         with scratch("bad.toml", b"\xff\xfe") as path:
             status, _, err = run_tool("why", path)
-        self.assertEqual((status, err), (2, f"why: {path}: no text in UTF-8\n"))
+        self.assertEqual((status, err), (2, f"avrora-tools why: {path}: no text in UTF-8\n"))
 
 
 def network(links, **keys):
@@ -190,7 +190,3 @@ class Loading(unittest.TestCase):
     def test_refused(self):
         with self.assertRaisesRegex(BadInput, r"x: scenario refused: NoNodes: no table \[\[node\]\]"):
             Scenario.of_text("cycles = 1", "x")
-
-
-if __name__ == "__main__":
-    unittest.main()

@@ -142,7 +142,7 @@ class Compared(unittest.TestCase):
 class Refused(unittest.TestCase):
     def says(self, text, message, *words):
         status, out, err = run_tool("inspect", *words, "-", stdin=text)
-        self.assertEqual((status, out, err), (2, "", f"inspect: {message}\n"))
+        self.assertEqual((status, out, err), (2, "", f"avrora-tools inspect: {message}\n"))
 
     def test_no_state(self):
         self.says("5 0 sent 41\n", "standard input, line 1: no state: it does not begin with `avrora state 1`")
@@ -170,7 +170,3 @@ class Refused(unittest.TestCase):
                 status, _, err = run_tool("inspect", "--dump", text, "-", stdin=state(BUSY))
                 self.assertEqual(status, 2)
                 self.assertIn(f"{text} is no range of data addresses", err)
-
-
-if __name__ == "__main__":
-    unittest.main()

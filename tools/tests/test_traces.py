@@ -7,9 +7,10 @@ import subprocess
 import sys
 import unittest
 
-from support import DATA, TOOLS, data, run_tool, scratch
-import traces
-from traces import BadInput, Row
+from support import DATA, TOOL, data, run_tool, scratch
+from avrora_tools import main, cli, files, traces
+from avrora_tools.errors import BadInput
+from avrora_tools.traces import Row
 
 
 def parsed(text, whole=False):
@@ -67,7 +68,7 @@ class Rows(unittest.TestCase):
             self.assertIn("line 1: no row of a trace: ", err)
         for tool, words in (("why", []), ("annotate", ["-s"])):
             status, out, err = run_tool(tool, *words, "/dev/zero")
-            self.assertEqual((status, out, err), (2, "", f"{tool}: /dev/zero: more than 16,777,216 bytes\n"))
+            self.assertEqual((status, out, err), (2, "", f"avrora-tools {tool}: /dev/zero: more than 16,777,216 bytes\n"))
 
     def test_cycles_that_fall(self):
         with self.assertRaisesRegex(BadInput, "t, line 2: cycle 4 stands behind cycle 5"):
@@ -83,7 +84,7 @@ class Rows(unittest.TestCase):
         with scratch("cut.trace", "5 0 serial 41\n6 0 serial 4") as path:
             status, out, err = run_tool("console", path)
         self.assertEqual((status, out), (0, "           5  0 | A\n"))
-        self.assertEqual(err, f"console: {path}, line 2: cut off, and left out\n")
+        self.assertEqual(err, f"avrora-tools console: {path}, line 2: cut off, and left out\n")
 
     def test_cut_off_behind_a_line(self):
         """A whole trace has an end row of each node that has a row."""
@@ -106,7 +107,7 @@ class Rows(unittest.TestCase):
             with self.subTest(), scratch("relay.trace.gz", content) as path:
                 status, _, err = run_tool("console", path)
                 self.assertEqual(status, 2)
-                self.assertIn("console: cannot read", err)
+                self.assertIn("avrora-tools console: cannot read", err)
 
 
 # The tools that read a trace, each with the words that it wants before it.
@@ -127,7 +128,7 @@ class Ends(unittest.TestCase):
         for name, words in READERS.items():
             with self.subTest(name):
                 status, out, err = run_tool(name, *words, trace, stdin=stdin)
-                self.assertEqual((status, out, err), (2, "", f"{name}: {message}\n"))
+                self.assertEqual((status, out, err), (2, "", f"avrora-tools {name}: {message}\n"))
 
     def test_no_trace(self):
         self.each_says("-", "standard input, line 1: no row of a trace: ok 5 nodes", "ok 5 nodes\n")
@@ -143,7 +144,7 @@ class Ends(unittest.TestCase):
         for name, words in (("console", ["--hex"]), ("annotate", []), ("vcd", ["-n", "0"])):
             with self.subTest(name):
                 tool = subprocess.Popen(
-                    [sys.executable, "-B", f"{TOOLS}/{name}", *words, "-"],
+                    [*TOOL, name, *words, "-"],
                     stdin=subprocess.PIPE,
                     stdout=subprocess.PIPE,
                     stderr=subprocess.PIPE,
@@ -156,49 +157,43 @@ class Ends(unittest.TestCase):
     def test_full_device(self):
         with open("/dev/full", "wb") as full:
             done = subprocess.run(
-                [sys.executable, "-B", f"{TOOLS}/console", f"{DATA}/relay.trace"],
+                [*TOOL, "console", f"{DATA}/relay.trace"],
                 stdout=full,
                 stderr=subprocess.PIPE,
                 check=False,
             )
-        self.assertEqual((done.returncode, done.stderr), (1, b"console: write failed: No space left on device\n"))
+        self.assertEqual((done.returncode, done.stderr), (3, b"avrora-tools console: write failed: No space left on device\n"))
 
     def test_help_has_an_example(self):
-        for name in sorted(os.listdir(TOOLS)):
-            if name == "test" or "." in name or not os.path.isfile(f"{TOOLS}/{name}"):
-                continue
+        for name in main.names():
             with self.subTest(name):
                 status, out, err = run_tool(name, "--help")
                 self.assertEqual((status, err), (0, ""))
-                self.assertIn(f"example:\n  tools/{name} ", out)
+                self.assertIn(f"example:\n  avrora-tools {name} ", out)
 
 
 class Words(unittest.TestCase):
     def test_node_set(self):
-        self.assertEqual(traces.node_set("0,2-4,63"), {0, 2, 3, 4, 63})
+        self.assertEqual(cli.node_set("0,2-4,63"), {0, 2, 3, 4, 63})
         for text in ("", "a", "4-2", "64", "1-", "1,,2"):
             with self.subTest(text), self.assertRaises(argparse.ArgumentTypeError):
-                traces.node_set(text)
+                cli.node_set(text)
 
     def test_shown(self):
-        self.assertEqual(traces.shown_byte(0x72), "72 'r'")
-        self.assertEqual(traces.shown_byte(0x0A), "0A")
-        self.assertEqual(traces.shown_cycle(7_372_800, 7_372_800), "    1.000000s")
+        self.assertEqual(cli.shown_byte(0x72), "72 'r'")
+        self.assertEqual(cli.shown_byte(0x0A), "0A")
+        self.assertEqual(cli.shown_cycle(7_372_800, 7_372_800), "    1.000000s")
 
 
 class WholeFiles(unittest.TestCase):
     def test_whole_or_not_at_all(self):
         with scratch("out", "before") as path:
-            with self.assertRaises(ZeroDivisionError), traces.whole_file(path) as file:
+            with self.assertRaises(ZeroDivisionError), files.whole_file(path) as file:
                 file.write("half")
                 1 / 0
             with open(path, encoding="utf-8") as file:
                 self.assertEqual(file.read(), "before")
-            traces.write_whole(path, "after")
+            files.write_whole(path, "after")
             with open(path, encoding="utf-8") as file:
                 self.assertEqual(file.read(), "after")
             self.assertEqual(os.listdir(os.path.dirname(path)), ["out"])
-
-
-if __name__ == "__main__":
-    unittest.main()

@@ -12,8 +12,8 @@ use Rattle.board_io.specs.Cycle.{timers_leap}
 use Rattle.board_io.specs.Lagging.{IsIdle}
 use Rattle.board_io.specs.Lines.{lines_of}
 use Rattle.board_io.proofs.Lags.{lines_clock}
-use Rattle.world_core.specs.NodeRun.{Comes, Timed}
-use Rattle.world_core.proofs.QuietCycles.{comes_none}
+use Rattle.air_base.specs.NodeRun.{Comes, Timed}
+use Rattle.air_base.proofs.QuietCycles.{comes_none}
 use Rattle.node_core.specs.declared.bus.NodeBus.{NodeBus}
 use Rattle.node_core.specs.declared.machine.Machine.{Machine}
 use Rattle.node_core.specs.declared.row.Row.{Row}

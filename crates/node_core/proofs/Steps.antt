@@ -9,20 +9,20 @@ use Rattle.board_io.specs.Board.{sleep_mode}
 use Rattle.board_io.specs.Cycle.{timers_leap}
 use Rattle.data_space.specs.declared.bus.Done.{Done}
 use Rattle.data_space.specs.Sequence.{Outcome}
-use Rattle.world_core.specs.NodeRun.{Comes, Timed, passed_rows}
-use Rattle.world_core.proofs.QuietCycles.{comes_step}
+use Rattle.air_base.specs.NodeRun.{Comes, Timed, passed_rows}
+use Rattle.air_base.proofs.QuietCycles.{comes_step}
 use Rattle.node_core.specs.declared.bus.NodeBus.{NodeBus}
 use Rattle.data_space.specs.declared.cpu.Core.{Core}
 use Rattle.data_space.specs.declared.cpu.Cpu.{Cpu}
 use Rattle.data_space.specs.declared.cpu.Registers.{Registers}
 use Rattle.data_space.specs.Core.{whole}
-use Rattle.instruction_table.specs.declared.instructions.After.{After}
-use Rattle.instruction_table.specs.declared.instructions.After.TheVariants as after
+use Rattle.avr_core.specs.declared.instructions.After.{After}
+use Rattle.avr_core.specs.declared.instructions.After.TheVariants as after
 use Rattle.node_core.specs.declared.machine.Machine.{Machine}
 use Rattle.node_core.specs.declared.row.Row.{Row}
 use Rattle.node_core.specs.declared.row.Kind.TheVariants as kind
 use Rattle.node_core.specs.Bus.{bus_at, bus_get, bus_put, with_board}
-use Rattle.instruction_table.specs.Execute.{is_sleep, after_at, is_plain}
+use Rattle.avr_core.specs.Execute.{is_sleep, after_at, is_plain}
 use Rattle.node_core.specs.Cycle.{first_word, instructed, instructed_rows, is_idle, is_other, is_refused, node_kind, op_now, owes, row, second_word}
 use Rattle.node_core.specs.Execute.{executed}
 use Rattle.node_core.specs.Inside.{IsCalm, MayAct, is_told}
@@ -33,7 +33,7 @@ use Rattle.node_core.specs.Shown.{shown}
 use Rattle.node_core.specs.State.{NodeState}
 use Rattle.node_core.proofs.Clocks.{executed_clock}
 use Rattle.node_core.proofs.Quiet.{is_enabled, may_access, may_change, quiet}
-use Rattle.instruction_table.proofs.Executes.{plain_awake, takes}
+use Rattle.avr_core.proofs.Executes.{plain_awake, takes}
 use Rattle.node_core.proofs.Stops.{stops_there}
 use Rattle.node_core.proofs.Wakes.{wakes}
 use Rattle.node_core.proofs.Ran.{goes_on, ran, ran_rows}

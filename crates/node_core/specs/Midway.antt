@@ -4,13 +4,13 @@ use Rattle.std.specs.Prelude.{◌≡◌, ◌<◌, ◌≤◌, ◌+◌, ◌-◌, �
 use Rattle.avr_base.specs.declared.stop.StopCause.{StopCause}
 use Rattle.node_core.specs.declared.row.Row.{Row}
 use Rattle.node_core.specs.declared.row.Kind.TheVariants as kind
-use Rattle.world_core.specs.NodeRun.{AllQuiet, Timed, Comes, passed, passed_rows}
+use Rattle.air_base.specs.NodeRun.{AllQuiet, Timed, Comes, passed, passed_rows}
 use Rattle.data_space.specs.declared.bus.Done.{Done}
 use Rattle.data_space.specs.declared.cpu.Core.{Core}
 use Rattle.data_space.specs.declared.cpu.Registers.{Registers}
 use Rattle.data_space.specs.Core.{whole}
-use Rattle.instruction_table.specs.declared.instructions.After.{After}
-use Rattle.instruction_table.specs.declared.instructions.After.TheVariants as after
+use Rattle.avr_core.specs.declared.instructions.After.{After}
+use Rattle.avr_core.specs.declared.instructions.After.TheVariants as after
 use Rattle.node_core.specs.declared.machine.Machine.{Machine}
 use Rattle.node_core.specs.declared.sprint.Step.{Step}
 use Rattle.node_core.specs.declared.sprint.Step.TheVariants.{Single, Plain, Jumped, Loaded, Stored, Enabled, Stopped, Left}

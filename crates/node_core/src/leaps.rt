@@ -7,9 +7,9 @@ ghost use Rattle.node_core.specs.Midway.{IsSprinted};
 ghost use Rattle.serial_ports.specs.Script.{script_byte};
 
 use crate::NodeBus;
-use instruction_table::execute_waiting;
 use crate::machine::Machine;
 use crate::processor::{due, owes};
+use avr_core::execute_waiting;
 use avr_decoder::{Class, Op};
 use data_space::Cpu;
 

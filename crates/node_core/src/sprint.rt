@@ -10,9 +10,9 @@ ghost use Rattle.avr_program.specs.Program.{slots_below};
 ghost use Rattle.serial_ports.specs.Script.{script_byte};
 
 use crate::NodeBus;
-use instruction_table::{After, execute_plain};
 use crate::machine::Machine;
 use avr_base::StopCause;
+use avr_core::{After, execute_plain};
 use avr_program::{Program, Slot};
 use data_space::{Core, Cpu, Done, Registers};
 

@@ -6,7 +6,7 @@ use Rattle.data_space.specs.declared.cpu.Cpu.{Cpu}
 use Rattle.data_space.specs.Core.{whole}
 use Rattle.ihex_loader.specs.Flash.{Image}
 use Rattle.node_core.specs.Midway.{IsStep, over, step_of}
-use Rattle.instruction_table.proofs.Lefts.{told}
+use Rattle.avr_core.proofs.Lefts.{told}
 use Rattle.node_core.specs.Bus.{bus_get, bus_put}
 use Rattle.node_core.proofs.Steps.{did, leaves_devices, leaves_flag}
 use Rattle.node_core.proofs.sprint.one_step.Goals as goal

@@ -1,0 +1,4 @@
+"""`python -m avrora_tools`."""
+from avrora_tools.main import main
+
+main()

@@ -1,0 +1,222 @@
+"""Shows in words what a state says, and what differs between two."""
+import argparse
+import re
+
+from avrora_tools import cli, programs, scenarios, states, traces
+from avrora_tools.errors import BadInput
+
+SUMMARY = "a state in words; what differs between two"
+
+DESCRIPTION = """Shows what `avrora save` wrote: each node's processor, stack and devices, and what is on the air. With
+a second state it tells instead what differs, by name: the number of the first state, then that of the second. Addresses
+of the program are word addresses, as in a trace. Status of a comparison: 0 nothing differs, 1 something does."""
+
+FLAGS = "ITHSVNZC"
+STACK_BYTES = 16
+MOST_DIFFERENCES = 64  # of the bytes of one node, unless all are asked for
+DIVIDERS = {0: (1, 8, 32, 64, 128, 256, 1024), 1: (1, 8, 64, 256, 1024)}
+MODES16 = {1: ", CTC to OCRA", 3: ", CTC to ICR"}
+RADIO = ("idle", "waits for the byte to send", "3 answers left", "2 answers left", "1 answer left")
+
+# ---- one state
+
+
+def plural(count, what):
+    return f"{count:,} {what}" + "s" * (count != 1)
+
+
+def heading(node):
+    stop = node.stop()
+    state = f"stopped: {stop}" if stop else "asleep" if node["asleep"] else "awake"
+    waits = [f"{plural(node['cycles left'], 'cycle')} left of what it does"] * bool(node["cycles left"])
+    waits += ["an instruction is owed"] * bool(node["owed"])
+    return ", ".join([state, plural(node["instructions"], "instruction"), *waits])
+
+
+def flags_text(sreg):
+    """SREG as letters, capital where the flag is set."""
+    return "".join(letter if sreg >> (7 - place) & 1 else letter.lower() for place, letter in enumerate(FLAGS))
+
+
+def processor(node, program):
+    place = f" {program.place(node['PC'])}" if program else ""
+    sreg = f"SREG {node['SREG']:02X} {flags_text(node['SREG'])}"
+    yield "processor", f"PC {node['PC']:04X}{place}, SP {node['SP']:04X}, {sreg}, RAMPZ {node['RAMPZ']}"
+    for first in (0, 16):
+        yield f"r{first} to r{first + 15}", node.data[first : first + 16].hex(" ").upper()
+    pairs = (node["r26"] | node["r27"] << 8, node["r28"] | node["r29"] << 8, node["r30"] | node["r31"] << 8)
+    yield "pointers", "X {:04X}, Y {:04X}, Z {:04X}".format(*pairs)
+    first = node["SP"] + 1
+    if states.SRAM_FIRST <= first < states.DATA_END:
+        yield "stack", f"from {first:04X} on: {node.data[first : first + STACK_BYTES].hex(' ').upper()}"
+
+
+def timer(node, number):
+    it = node.timer(number)
+    wide = number in (1, 3)
+    control, digits = it["TCCRB" if wide else "TCCR"], 4 if wide else 2
+    select = control & 7
+    dividers = DIVIDERS[0 if number == 0 else 1]
+    clock = "halted"
+    if 1 <= select <= len(dividers):
+        clock = f"a clock each {plural(dividers[select - 1], 'cycle')}"
+    mode = MODES16.get(control >> 3 & 3, "") if wide else ", CTC" * (control >> 3 & 1)
+    values = [name for name in it if name.startswith(("TCNT", "OCR", "ICR")) and "blocked" not in name]
+    shown = ", ".join(f"{name} {it[name]:0{digits}X}" for name in values)
+    marks = [name for name in it if name.startswith(("TOV", "OCF", "ICF")) and it[name]]
+    marks += ["the next clock is blocked"] * bool(it["TCNT blocked"])
+    marks += [f"TEMP {it.get('TEMP', 0):02X}"] * bool(it.get("TEMP"))
+    return f"{clock}{mode}, {shown}" + "".join(f", {mark}" for mark in marks)
+
+
+def until(end, cycle):
+    return f"until cycle {end:,} (in {end - cycle:,})" if end >= cycle else f"until cycle {end:,}, which is over"
+
+
+def usart(node, cycle):
+    parts = [f"UCSR0B {node['UCSR0B']:02X}, UCSR0C {node['UCSR0C']:02X}, UBRR {node['UBRR0']}"]
+    parts += [name for name in ("U2X", "TXC", "DOR") if node[name]]
+    if node["frame"]:
+        parts.append(f"sends {cli.shown_byte(node['frame byte'])} {until(node['frame end'], cycle)}")
+    if node["waiting"]:
+        parts.append(f"then {cli.shown_byte(node['waiting byte'])}")
+    if node["received"]:
+        received = [node["received 1"], node["received 2"]][: node["received"]]
+        parts.append("received " + " ".join(map(cli.shown_byte, received)))
+    return ", ".join(parts)
+
+
+def spi(node, cycle):
+    parts = [f"SPCR {node['SPCR']:02X}, SPDR {node['SPDR']:02X}"]
+    parts += [name for name in ("SPI2X", "SPIF", "WCOL") if node[name]]
+    parts += [f"SPSR showed {name}" for name in ("SPIF", "WCOL") if node[f"{name} seen"]]
+    if node["transfer"]:
+        parts.append(f"transfers {node['transfer byte']:02X} {until(node['transfer end'], cycle)}")
+    return ", ".join(parts)
+
+
+def radio(node, cycle):
+    state = node["radio"]
+    parts = [RADIO[state] if state < len(RADIO) else f"state {state}"]
+    if state >= 2:
+        parts.append("of heard {} {:02X} {}".format(node["heard status"], node["heard byte"], node["heard age"]))
+    if node["radio free"] > cycle:
+        parts.append(f"busy {until(node['radio free'], cycle)}")
+    return ", ".join(parts)
+
+
+def io_text(node):
+    """The I/O registers that keep a byte other than 0."""
+    return ", ".join(f"{name} {node.data[at]:02X}" for at, name in states.IO_NAMES.items() if node.data[at])
+
+
+def dump(node, first, end):
+    """The data space from `first` on and below `end`, 16 bytes a line."""
+    for at in range(first, end, 16):
+        part = node.data[at : min(at + 16, end)]
+        text = "".join(chr(byte) if 0x20 <= byte < 0x7F else "." for byte in part)
+        yield f"  {at:04X}  {part.hex(' ').upper():<47}  {text}"
+
+
+def show_node(state, k, program, span):
+    node = state.nodes[k]
+    print(f"node {k}: {heading(node)}")
+    rows = list(processor(node, program)) + [(f"timer {n}", timer(node, n)) for n in range(4)]
+    rows += [("USART0", usart(node, state.cycle)), ("SPI", spi(node, state.cycle)), ("radio", radio(node, state.cycle))]
+    rows.append(("I/O", io_text(node)))
+    for name, text in rows:
+        print(f"  {name:<10} {text}".rstrip())
+    for line in dump(node, *span) if span else ():
+        print(line)
+
+
+def show(state, nodes, all_programs, span):
+    bytes_ = plural(len(state.sends), "byte")
+    print(f"cycle {state.cycle:,}, {plural(len(state.nodes), 'node')}, {bytes_} that may still be heard")
+    for k in nodes:
+        show_node(state, k, all_programs.of(k), span)
+    for cycle, node, byte in state.sends:
+        if node in nodes:
+            print(f"node {node} sent {cli.shown_byte(byte)} in cycle {cycle:,}, {state.cycle - cycle:,} before")
+
+# ---- two states
+
+
+def differences(a, b, program):
+    """What differs between two nodes: a name, what the first has, what the second has."""
+    for name in states.NAMES:
+        if a[name] != b[name]:
+            texts = [states.shown_number(name, node[name]) for node in (a, b)]
+            if name == "PC" and program:
+                texts = [f"{text} {program.place(node[name])}" for text, node in zip(texts, (a, b))]
+            if name == "SREG":
+                texts = [f"{text} {flags_text(node[name])}" for text, node in zip(texts, (a, b))]
+            yield name, *texts
+
+
+def byte_differences(a, b):
+    for at in range(states.IO_FIRST, states.DATA_END):
+        if a.data[at] != b.data[at]:
+            yield states.data_name(at), f"{a.data[at]:02X}", f"{b.data[at]:02X}"
+
+
+def compare(a, b, nodes, all_programs, most):
+    """Tells what differs; whether something does."""
+    found = []
+    if a.cycle != b.cycle:
+        found.append(f"cycle: {a.cycle}, {b.cycle}")
+    if len(a.nodes) != len(b.nodes):
+        found.append(f"nodes: {len(a.nodes)}, {len(b.nodes)}")
+    for k in nodes:
+        if k < min(len(a.nodes), len(b.nodes)):
+            one, two = a.nodes[k], b.nodes[k]
+            found += [f"node {k} {name}: {x}, {y}" for name, x, y in differences(one, two, all_programs.of(k))]
+            bytes_ = [f"node {k} {name}: {x}, {y}" for name, x, y in byte_differences(one, two)]
+            found += bytes_[:most]
+            if len(bytes_) > most:
+                found.append(f"node {k}: {len(bytes_) - most} bytes more differ (--all tells them)")
+    for sends, others, which in ((a.sends, b.sends, "first"), (b.sends, a.sends, "second")):
+        for cycle, node, byte in sends:
+            if (cycle, node, byte) not in others and node in nodes:
+                found.append(f"node {node} sent {byte:02X} in cycle {cycle}: only in the {which}")
+    print("\n".join(found) if found else "nothing differs")
+    return bool(found)
+
+# ---- the command line
+
+
+def span_of(text):
+    """A range of data addresses FIRST-LAST, as the first one and the one behind the last, for argparse."""
+    match = re.fullmatch(r"(?:0x)?([0-9A-Fa-f]{1,4})-(?:0x)?([0-9A-Fa-f]{1,4})", text)
+    first, end = (int(match[1], 16), int(match[2], 16) + 1) if match else (1, 0)
+    if not first < end <= states.DATA_END:
+        raise argparse.ArgumentTypeError(f"{text} is no range of data addresses such as 100-13F, up to 10FF")
+    return first, end
+
+
+def run(arguments):
+    state = states.State.load(arguments.state)
+    scenario = scenarios.Scenario.load(arguments.scenario) if arguments.scenario else None
+    all_programs = programs.Programs(arguments.elf, scenario)
+    other = states.State.load(arguments.other) if arguments.other else None
+    count = max(len(state.nodes), len(other.nodes) if other else 0)
+    nodes = sorted(arguments.nodes if arguments.nodes is not None else range(count))
+    if nodes and nodes[-1] >= count:
+        raise BadInput(f"{arguments.state}: there is no node {nodes[-1]}, as there are {count}")
+    if other:
+        most = states.DATA_END if arguments.all else MOST_DIFFERENCES
+        return 1 if compare(state, other, nodes, all_programs, most) else 0
+    show(state, nodes, all_programs, arguments.dump)
+    return 0
+
+
+def configure(parser: argparse.ArgumentParser) -> None:
+    cli.describe(parser, DESCRIPTION, "inspect -n 1 -e packet.elf --dump 100-13F packet.state")
+    parser.add_argument("-n", "--nodes", type=cli.node_set, metavar="NODES", help="these alone, such as 0,2-4")
+    parser.add_argument(
+        "--dump", type=span_of, metavar="FIRST-LAST", help="the data space between these addresses too, such as 100-13F"
+    )
+    parser.add_argument("--all", action="store_true", help="of two states all bytes that differ")
+    programs.add_programs(parser)
+    parser.add_argument("state", metavar="STATE")
+    parser.add_argument("other", nargs="?", metavar="OTHER", help="a second state, to compare with")

@@ -1,0 +1,107 @@
+"""Writes the scenario of a network of some shape."""
+import argparse
+import re
+
+from avrora_tools import cli, networks, traces
+from avrora_tools.errors import BadInput
+
+SUMMARY = "writes the scenario of a network of some shape"
+
+DESCRIPTION = f"""Writes the scenario of a network of a shape to the standard output. The images are those of the nodes
+in order, IMAGE*COUNT one that COUNT nodes have. Links go both ways. Shapes:
+{networks.SHAPES}.
+The number of each node arrives at its USART0 as the first byte: at node 0 in cycle --at, at each next one --stagger
+cycles later. A node that learns it before its receiver is enabled loses it and waits for ever. Nodes that learn it in
+the same cycle run in lockstep, so that all that they send clashes. A byte time that is shorter than the firmware's
+round of sampling loses bytes. See docs/FIRMWARE.md, "Three losses that nothing reports". Nodes that do not hear each
+other, as those about a star's middle, clash all the same unless the stagger is longer than a packet of theirs.
+The same words write the same text."""
+
+
+def two_numbers(text):
+    match = re.fullmatch(r"(\d+)(?:,|\.\.)(\d+)", text)
+    if not match:
+        raise argparse.ArgumentTypeError(f"{text} is no pair A..B")
+    return int(match[1]), int(match[2])
+
+
+def link_spans(text):
+    """FROM-TO=A..B,C..D: a link, and when it is open."""
+    match = re.fullmatch(r"(\d+)-(\d+)=(\d+\.\.\d+(?:,\d+\.\.\d+)*)", text)
+    if not match:
+        raise argparse.ArgumentTypeError(f"{text} is no FROM-TO=A..B,C..D")
+    return (int(match[1]), int(match[2])), [two_numbers(span) for span in match[3].split(",")]
+
+
+def node_bytes(text):
+    """NODE=HEX: bytes that arrive at a node."""
+    match = re.fullmatch(r"(\d+)=((?:[0-9A-Fa-f]{2})+)", text)
+    if not match:
+        raise argparse.ArgumentTypeError(f"{text} is no NODE=HEX")
+    return int(match[1]), match[2].upper()
+
+
+def run(arguments):
+    if arguments.link_latency and arguments.link_latency[0] > arguments.link_latency[1]:
+        raise BadInput("--link-latency: the lower number is the first")
+    print(
+        networks.scenario(
+            arguments.shape,
+            networks.counted(arguments.image),
+            cycles=arguments.cycles,
+            latency=arguments.latency,
+            byte_time=arguments.byte_time,
+            window=arguments.window,
+            seed=arguments.seed,
+            link_latency=arguments.link_latency,
+            at=arguments.at,
+            stagger=arguments.stagger,
+            spans=dict(arguments.open),
+            numbers=not arguments.no_numbers,
+            inputs=dict(arguments.input),
+            every=arguments.every,
+        ),
+        end="",
+    )
+
+
+def configure(parser: argparse.ArgumentParser) -> None:
+    cli.describe(parser, DESCRIPTION, "mknet --cycles 500000 --input 0=0102 grid:8 flood.hex*64 > network.toml")
+    parser.add_argument("--cycles", type=cli.positive, default=networks.CYCLES, help="of the run (%(default)s)")
+    parser.add_argument(
+        "--latency", type=cli.positive, default=networks.LATENCY, help="of all links, in cycles (%(default)s)"
+    )
+    parser.add_argument("--link-latency", type=two_numbers, metavar="A..B", help="each link's own, drawn by the seed")
+    parser.add_argument("--byte-time", type=cli.positive, default=networks.BYTE_TIME, help="in cycles (%(default)s)")
+    parser.add_argument(
+        "--window", type=two_numbers, default=(0, 0), metavar="A..B", help="instructions are traced in these cycles"
+    )
+    parser.add_argument("--seed", type=int, default=0, help="for what is drawn (%(default)s)")
+    parser.add_argument(
+        "--at", type=cli.natural, default=networks.AT, help="cycle in which node 0 learns its number (%(default)s)"
+    )
+    parser.add_argument(
+        "--stagger", type=cli.natural, default=networks.STAGGER, help="cycles until the next node does (%(default)s)"
+    )
+    parser.add_argument("--no-numbers", action="store_true", help="no byte arrives at USART0")
+    parser.add_argument(
+        "--input",
+        type=node_bytes,
+        action="append",
+        default=[],
+        metavar="NODE=HEX",
+        help="bytes that arrive at a node behind its number",
+    )
+    parser.add_argument(
+        "--every", type=cli.positive, default=networks.EVERY, help="cycles from one byte to the next (%(default)s)"
+    )
+    parser.add_argument(
+        "--open",
+        type=link_spans,
+        action="append",
+        default=[],
+        metavar="FROM-TO=A..B,..",
+        help="a link that is open in these cycles alone",
+    )
+    parser.add_argument("shape", metavar="SHAPE")
+    parser.add_argument("image", nargs="+", metavar="IMAGE[*COUNT]")

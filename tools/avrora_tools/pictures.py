@@ -1,0 +1,202 @@
+"""A trace as a picture: SVG for papers."""
+import html
+import re
+
+from avrora_tools import cli
+
+
+# The picture: its colours and line widths. The names of the classes are those of EVENTS.
+STYLE = """.sent{fill:#3b6fb6}.heard{stroke:#1a8f3c;stroke-width:1.3}.clash{stroke:#d11;stroke-width:1.8}
+.quiet{stroke:#bbb;stroke-width:.7}
+.serial{fill:#a06a00}.asleep{fill:#dcdcec}.enter{stroke:#7a3fa0;stroke-width:.8}.stopped{fill:#e4e4e4}.stop{fill:#000}
+.grid{stroke:#e6e6e6}.line{stroke:#f0f0f0}.way{stroke:#d11;stroke-width:.6;opacity:.45}
+.hop{stroke:#1a8f3c;stroke-width:.5;opacity:.4}text{fill:#222}"""
+
+MAX_WAYS = 250  # lines from sends to where they were heard
+MAX_TITLED = 20_000  # events that each have a text of their own to hover
+MARGIN = 92  # left of the cycles, in pixels
+RIGHT = 12
+TOP = 30
+BOTTOM = 36
+TICKS = 10
+
+
+class Picture:
+    """The drawing as SVG."""
+
+    def __init__(self, drawing, hz, width, shows_quiet):
+        self.drawing, self.hz, self.width, self.shows_quiet = drawing, hz, width, shows_quiet
+        self.nodes = sorted(drawing.lanes)
+        self.row = {node: number for number, node in enumerate(self.nodes)}
+        self.step = 12 if len(self.nodes) > 32 else 18 if len(self.nodes) > 12 else 26
+        self.height = TOP + self.step * len(self.nodes) + BOTTOM
+        self.scale = (width - MARGIN - RIGHT) / max(1, drawing.end - drawing.first)
+        self.count = sum(lane.count() for lane in drawing.lanes.values())
+        self.titled = self.count <= MAX_TITLED
+        self.out = []
+
+    def text(self):
+        self.out = [
+            f'<svg xmlns="http://www.w3.org/2000/svg" viewBox="0 0 {self.width} {self.height}" width="{self.width}" '
+            f'height="{self.height}" font-family="DejaVu Sans,sans-serif" font-size="10"><style>{STYLE}</style>'
+            '<rect width="100%" height="100%" fill="#fff"/>'
+        ]
+        self.draw_grid()
+        for node in self.nodes:
+            self.draw_lane(node)
+        self.draw_ways()
+        self.draw_legend()
+        return "\n".join(self.out) + "\n</svg>\n"
+
+    def x(self, cycle):
+        return round(
+            MARGIN + (min(max(cycle, self.drawing.first), self.drawing.end) - self.drawing.first) * self.scale, 2
+        )
+
+    def y(self, node):
+        return TOP + self.row[node] * self.step
+
+    def draw_grid(self):
+        step = tick_step((self.drawing.end - self.drawing.first) / TICKS)
+        for cycle in range(-(-self.drawing.first // step) * step, self.drawing.end, step):
+            label = f"{1000 * cycle / self.hz:.2f} ms" if self.hz else f"{cycle:,}"
+            x = self.x(cycle)
+            self.out.append(
+                f'<line class="grid" x1="{x}" x2="{x}" y1="{TOP - 6}" y2="{self.height - BOTTOM + 4}"/>'
+                f'<text x="{x}" y="{TOP - 12}" text-anchor="middle">{label}</text>'
+            )
+        first, end = self.drawing.window
+        if end > self.drawing.first and first < min(end, self.drawing.end):
+            width = max(2, self.x(end) - self.x(first))
+            self.out.append(
+                f'<rect x="{self.x(first)}" y="{TOP - 6}" width="{width:.2f}" height="3" fill="#f5a623">'
+                f"<title>instructions are traced from {first:,} to {end:,}</title></rect>"
+            )
+
+    def draw_lane(self, node):
+        lane, y, high = self.drawing.lanes[node], self.y(node), self.step - 3
+        self.out.append(
+            f'<text x="{MARGIN - 6}" y="{y + high / 2 + 3.5}" text-anchor="end">'
+            f"{html.escape(self.drawing.name(node))}</text>"
+            f'<line class="line" x1="{MARGIN}" x2="{self.width - RIGHT}" y1="{y + high + 1}" y2="{y + high + 1}"/>'
+        )
+        for cycle, _ in lane.stop:
+            self.out.append(
+                f'<rect class="stopped" x="{self.x(cycle)}" y="{y}" '
+                f'width="{self.width - RIGHT - self.x(cycle):.2f}" height="{high}"/>'
+            )
+        for cycle, cycles in lane.asleep:
+            self.add(
+                f'<rect class="asleep" x="{self.x(cycle)}" y="{y}" width="{max(.3, cycles * self.scale):.2f}" '
+                f'height="{high}"',
+                f"node {node} asleep from {cycle:,} to {cycle + cycles:,}",
+            )
+        (self.draw_each if self.titled else self.draw_paths)(node, lane, y, high)
+        for cycle, cause in lane.stop:
+            self.add(
+                f'<path class="stop" d="M{self.x(cycle)} {y}l8 {high / 2}l-8 {high / 2}z"',
+                f"{cycle:,}: node {node} stopped at {cause}",
+            )
+
+    def add(self, tag, title):
+        self.out.append(f"{tag}><title>{html.escape(title)}</title></{tag[1:].split()[0]}>")
+
+    def draw_each(self, node, lane, y, high):
+        """Each event as a shape of its own, which says on hovering what it is."""
+        for cycle, byte in lane.sent:
+            width = max(1, (min(cycle + self.drawing.byte_time, self.drawing.end) - cycle) * self.scale - 0.4)
+            self.add(
+                f'<rect class="sent" x="{self.x(cycle)}" y="{y + 1}" width="{width:.2f}" height="{high * .4:.1f}"',
+                f"{cycle:,}: node {node} sent {cli.shown_byte(byte)}",
+            )
+        for (cycle,) in lane.quiet if self.shows_quiet else ():
+            self.tick("quiet", cycle, y + high * 0.78, y + high, f"{cycle:,}: node {node} heard nothing")
+        for cycle, byte, age, sender in lane.heard:
+            whose = f" of node {sender}" if sender >= 0 else ""
+            self.tick(
+                "heard",
+                cycle,
+                y + high * 0.64,
+                y + high,
+                f"{cycle:,}: node {node} heard {cli.shown_byte(byte)}{whose}, age {age}",
+            )
+        for cycle, byte, senders in lane.clash:
+            whose = f" of nodes {', '.join(map(str, senders))}" if senders else ""
+            self.tick("clash", cycle, y + high * 0.5, y + high, f"{cycle:,}: a clash{whose} at node {node}")
+        for cycle, byte in lane.serial:
+            self.add(
+                f'<circle class="serial" cx="{self.x(cycle)}" cy="{y + high * .54:.1f}" r="{min(2.4, high * .18):.1f}"',
+                f"{cycle:,}: node {node} wrote {cli.shown_byte(byte)} to USART0",
+            )
+
+    def tick(self, name, cycle, top, bottom, title):
+        x = self.x(cycle)
+        self.add(f'<line class="{name}" x1="{x}" x2="{x}" y1="{top:.1f}" y2="{bottom:.1f}"', title)
+
+    def draw_paths(self, node, lane, y, high):
+        """All events of a kind as one path, those of half a pixel as one stroke."""
+        kinds = [
+            ("sent", 1, 0.4, max(0.6, self.drawing.byte_time * self.scale)),
+            ("heard", 0.64, 0.36, 0.6),
+            ("serial", 0.44, 0.2, 0.6),
+            ("clash", 0.5, 0.5, 0.8),
+        ]
+        if self.shows_quiet:
+            kinds.insert(1, ("quiet", 0.78, 0.22, 0.5))
+        for kind, top, part, width in kinds:
+            events = getattr(lane, kind)
+            places = sorted({round(2 * self.x(event[0])) for event in events})
+            if not places:
+                continue
+            colour = re.search(rf"\.{kind}{{(?:fill|stroke):([^;}}]+)", STYLE)[1]
+            shift = width / 2 if kind == "sent" else 0
+            top = y + 1 if kind == "sent" else y + high * top
+            strokes = "".join(f"M{place / 2 + shift:g} {top:.1f}v{high * part:.1f}" for place in places)
+            self.out.append(
+                f'<path stroke="{colour}" stroke-width="{width:.2f}" d="{strokes}">'
+                f"<title>node {node}: {kind}, {len(events):,}</title></path>"
+            )
+
+    def draw_ways(self):
+        """Thin lines from sends to where they were heard, where there are few."""
+        if not self.titled or len(self.drawing.ways) > MAX_WAYS:
+            return
+        high = self.step - 3
+        for kind, sender, sent, hearer, cycle in self.drawing.ways:
+            if sender in self.row and sent >= self.drawing.first:
+                name = "way" if kind == "clash" else "hop"
+                self.line(name, self.x(sent), self.y(sender) + high * 0.4, self.x(cycle), self.y(hearer) + high * 0.64)
+
+    def line(self, name, x, y, end_x, end_y):
+        self.out.append(f'<line class="{name}" x1="{x}" y1="{y:.1f}" x2="{end_x}" y2="{end_y:.1f}"/>')
+
+    def draw_legend(self):
+        y = self.height - 12
+        signs = (
+            ('<rect class="sent" x="{x}" y="{top}" width="16" height="8"/>', "a byte on the air", 140),
+            ('<line class="heard" x1="{x}" x2="{x}" y1="{top}" y2="{y}"/>', "heard", 80),
+            ('<line class="clash" x1="{x}" x2="{x}" y1="{top}" y2="{y}"/>', "a clash", 85),
+            ('<circle class="serial" cx="{x}" cy="{middle}" r="2.4"/>', "USART0", 85),
+            ('<path class="stop" d="M{x} {top}l8 4l-8 4z"/>', "stopped", 90),
+            ('<rect class="asleep" x="{x}" y="{top}" width="16" height="8"/>', "asleep, in the window", 0),
+        )
+        x = MARGIN
+        for sign, words, width in signs:
+            self.out.append(
+                sign.format(x=x, y=y, top=y - 8, middle=y - 4) + f'<text x="{x + 21}" y="{y}">{words}</text>'
+            )
+            x += width
+        self.out.append(
+            f'<text x="{self.width - RIGHT}" y="{y}" text-anchor="end">'
+            f"cycles {self.drawing.first:,} to {self.drawing.end:,}</text>"
+        )
+
+
+def tick_step(least):
+    """The least of 1, 2, 5, 10, 20, 50, .. that is no less than `least`."""
+    step = 1
+    while True:
+        for factor in (1, 2, 5):
+            if step * factor >= least:
+                return step * factor
+        step *= 10
