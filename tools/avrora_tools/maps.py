@@ -5,6 +5,7 @@ import tomllib
 from collections.abc import Callable, Iterable, Mapping, Sequence
 from dataclasses import dataclass
 
+from avrora_tools import networks
 from avrora_tools.errors import BadInput
 
 Ends = tuple[int, int]  # the node that is heard, the one that hears
@@ -107,6 +108,27 @@ def places_of(text: str, name: str, count: int) -> list[Point]:
     if document:
         raise BadInput(f"{name}: {next(iter(document))!r} is no node: there are {count}")
     return found
+
+
+def shape_places(shape: str, count: int, seed: int) -> list[Point]:
+    """Where the nodes of a shape of mknet lie: in rows, in a square as the seed draws them, on a line, or on a circle, in a
+    star about node 0."""
+    name, _, value = shape.partition(":")
+    if name in ("grid", "torus"):
+        return [(float(node % int(value)), float(node // int(value))) for node in range(count)]
+    if name == "geo":
+        return [(float(x), float(y)) for x, y in networks.drawn_places(count, seed)]
+    if name == "line":
+        return [(float(node), 0.0) for node in range(count)]
+    leaves = [node for node in range(count) if node or name != "star"]
+    turn = 2 * math.pi / max(1, len(leaves))
+    circle = {node: (math.cos(turn * k), math.sin(turn * k)) for k, node in enumerate(leaves)}
+    return [circle.get(node, (0.0, 0.0)) for node in range(count)]
+
+
+def places_text(places: Sequence[Point]) -> str:
+    """Places as TOML."""
+    return "".join(f"{node} = [{x:.4f}, {y:.4f}]\n" for node, (x, y) in enumerate(places))
 
 
 def is_coordinate(value: object) -> bool:
