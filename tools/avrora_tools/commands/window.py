@@ -21,11 +21,11 @@ def windowed(text, first, end):
     """The scenario's text with another cycle limit and window."""
     lines = text.splitlines()
     name = ""
-    for tokens in scenarios.statements(text):
+    for tokens in toml.statements(text):
         words = [word for word, _ in tokens]
         if words[0] == "[":
             name = words[0]
-        elif not name and scenarios.bare(words[0]) in ("cycles", "window") and words[1:2] == ["="]:
+        elif not name and toml.bare(words[0]) in ("cycles", "window") and words[1:2] == ["="]:
             for number in range(tokens[0][1], tokens[-1][1] + 1):
                 lines[number - 1] = ""
     return f"cycles = {end}\nwindow = [{first}, {end}]\n" + "\n".join(lines) + "\n"
