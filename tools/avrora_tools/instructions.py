@@ -34,13 +34,21 @@ def decimal(count: int) -> Operand:
     return Operand(lambda bits: f"{bits}", one_of([f"{n}" for n in range(count)]))
 
 
+# Even numbers from -128 to 126, and from -4,096 to 4,094, with their signs.
+SHORT_WAY = r"\+(?:[02468]|[1-9][02468]|1[01][02468]|12[0246])|-(?:[2468]|[1-9][02468]|1[01][02468]|12[02468])"
+LONG_WAY = (
+    r"\+(?:[02468]|[1-9][0-9]?[02468]|[1-3][0-9]{2}[02468]|40[0-8][02468]|409[024])"
+    r"|-(?:[2468]|[1-9][0-9]?[02468]|[1-3][0-9]{2}[02468]|40[0-8][02468]|409[0246])"
+)
+
+
 def relative(bits: int) -> Operand:
     """A signed number of words, printed as bytes from the next instruction on."""
 
     def shown(field: int) -> str:
         return f".{2 * (field - (field >> (bits - 1) << bits)):+d}"
 
-    return Operand(shown, one_of([shown(field) for field in range(1 << bits)]))
+    return Operand(shown, rf"\.(?:{LONG_WAY if bits == 12 else SHORT_WAY})")
 
 
 ANY = register(0)
@@ -203,14 +211,20 @@ class Encoding:
         """Leaves X, Y and Z, which are no fields, as they stand."""
         return lambda match: match[0] if match[0] in "XYZ" else operand(match)
 
-    def texts(self) -> str:
-        """A regular expression of all its texts."""
-        parts = re.split("([A-Za-z@])", self.operands)
-        forms = [
+    def words(self) -> list[str]:
+        """A regular expression for each word of its texts: the mnemonic, and the operands with what stands behind."""
+        return [re.escape(self.mnemonic), *map(self.form, self.operands.split())]
+
+    def form(self, operand: str) -> str:
+        parts = re.split("([A-Za-z@])", operand)
+        return "".join(
             "0x[0-9A-F]{4}" if part == SECOND else OPERANDS[part].texts if part in OPERANDS else re.escape(part)
             for part in parts
-        ]
-        return re.escape(self.mnemonic) + (re.escape(" ") + "".join(forms) if self.operands else "")
+        )
+
+    def texts(self) -> str:
+        """A regular expression of all its texts."""
+        return " ".join(self.words())
 
 
 TABLE = [Encoding(line) for line in ENCODINGS.split("\n") if line]

@@ -161,7 +161,7 @@ class TraceReader:
         if self.end is None and self.traced:
             self.end = self.traced[1]
         elif limit is not None:
-            self.end = min(self.end, limit)
+            self.end = min(self.end or 0, limit)
         return int(self.end or 0)
 
     def finish(self, limit: int | None) -> None:
