@@ -5,7 +5,8 @@ from typing import Any
 
 from avrora_tools import files
 from avrora_tools.errors import BadInput
-from avrora_tools.programs import Program, is_long
+from avrora_tools.instructions import is_long
+from avrora_tools.programs import Program
 from avrora_tools.states import DATA_END, SRAM_FIRST, Node
 from avrora_tools.variables import DATA_SPACE, reader
 
@@ -146,8 +147,7 @@ class Unwinder:
 
 def code_word(program: Program, word: int) -> int:
     """A word of the program memory; as erased flash is, where the program has none."""
-    content = program.code[2 * word : 2 * word + 2]
-    return int.from_bytes(content, "little") if len(content) == 2 else 0xFFFF
+    return program.word_at(word)
 
 
 def byte_at(node: Node, address: int | None, else_: int) -> int:

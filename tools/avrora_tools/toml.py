@@ -224,3 +224,9 @@ def bare(key: str) -> str:
     return key[1:-1] if key[:1] in ('"', "'") and key[-1:] == key[:1] else key
 
 
+
+
+def quoted(text: str) -> str:
+    """A text as TOML has it."""
+    escaped = text.replace("\\", "\\\\").replace('"', '\\"')
+    return '"' + re.sub(r"[\x00-\x1f\x7f]", lambda match: f"\\u{ord(match[0]):04X}", escaped) + '"'

@@ -216,7 +216,7 @@ def span_of(text):
 def run(arguments):
     state = states.State.load(arguments.state)
     scenario = scenarios.Scenario.load(arguments.scenario) if arguments.scenario else None
-    all_programs = programs.Programs(arguments.elf, scenario)
+    all_programs = programs.Programs(arguments.elf, scenario, arguments.force)
     other = states.State.load(arguments.other) if arguments.other else None
     count = max(len(state.nodes), len(other.nodes) if other else 0)
     nodes = sorted(arguments.nodes if arguments.nodes is not None else range(count))

@@ -10,8 +10,8 @@ from types import TracebackType
 from typing import Protocol
 
 from avrora_tools.errors import BadInput, CannotWork
-from avrora_tools.networks import quoted
 from avrora_tools.sweeping.events import EPOCH, Document, Move, MovedScenario
+from avrora_tools.toml import quoted
 
 Window = tuple[int, int]
 NO_WINDOW = (0, 0)
