@@ -195,6 +195,25 @@ def seen_pairs(it):
             (0, JMP_50), (0x1E, handler), (0x50, words))
 
 
+def stores(it):
+    """Stores to SREG between two events, which turn I on and off. TCCR0 is written in 14, so OCF0 is set in 14 + OCR0; SREG is written in 15.
+    The handler begins four cycles behind the entry, sends 80 in a frame of 160 cycles, and goes back behind seven. The loop is RJMP."""
+    handler = [out(UDR, 17), out(TIMSK, 1), RETI]
+    start = put(SPH, 0x10) + put(TIMSK, 0x02) + put(UCSRB, 0x08)
+    for name, ocr, behind, rows in (
+        # RJMP begins in 16 + 2 j, so the entry is in 116; from 126 on 87 times more: 14 + 50 + 3 + 87
+        ("sreg_on", 100, [], ["280 0 serial 80", "300 0 end 154 running"]),
+        # off again in 17: RJMP begins in 18 + 2 j, 141 times: 14 + 2 + 141
+        ("sreg_off", 100, [NOP, out(SREG, 18)], ["300 0 end 157 running"]),
+        # set in the cycle of the store: the NOP in 16 is owed, the entry is in 17, RJMP begins in 27 + 2 j, 137 times: 14 + 1 + 3 + 137
+        ("sreg_on_due", 1, [NOP], ["181 0 serial 80", "300 0 end 155 running"]),
+        ("sreg_off_due", 3, [NOP, out(SREG, 18)], ["300 0 end 157 running"]),
+    ):
+        words = start + put(OCR0, ocr) + [ldi(17, 0x80), ldi(18, 0), ldi(16, 1), out(TCCR0, 16), out(SREG, 17)] + behind + back(0)
+        it.case(name, "Stores to SREG that turn interrupts on and off, far from the next one and in the cycle that sets its flag." if name == "sreg_on" else "",
+                rows, 300, (0, JMP_50), (0x1E, handler), (0x50, words))
+
+
 def look_alike(it):
     # IN begins in 10 + 4 j and finds 41, 42 and 00, each once
     it.case("udr0", "Loops that only look so. A read of UDR0 takes a byte.", ["21 0 stop 000D reserved opcode", "100 0 end 19 stopped"], 100,
@@ -209,6 +228,17 @@ def look_alike(it):
             (0, lds(FLAG, 24) + [word("and_", d=24, r=24)] + where(Z, True, 2)))
     it.case("behind", "", ["100 0 end 51 running"], 100, (0, [word("sbis", A=UCSRA, b=7)] + back(0)))
     it.case("before", "", ["100 0 end 75 running"], 100, (0, [NOP, word("sbis", A=UCSRA, b=7)] + back(2)))
+    # One that counts up begins in 1 + 3 j, and one by SUBI alone: of 200 rounds the last in 598. By two of 1,000 there are 500 rounds of four
+    # cycles, from 2 on. DEC begins in 1 + 4 j where MOV stands behind it: of 200 rounds the last in 797.
+    brne = where(Z, False, 1)
+    for name, words, end, count in (
+        ("up", [ldi(16, 56), word("inc", d=16), *brne], 600, 401), ("subi_alone", [ldi(20, 200), word("subi", d=4, K=1), *brne], 600, 401),
+        ("sbiw_two", [ldi(24, 1000 % 256), ldi(25, 1000 // 256), word("sbiw", d=0, K=2), *brne], 2001, 1002),
+        ("subi_two", [ldi(20, 1000 % 256), ldi(22, 1000 // 256), word("subi", d=4, K=2), word("sbci", d=6, K=0), *where(Z, False, 2)], 2001, 1502),
+        ("counted_twice", [ldi(16, 200), word("dec", d=16), word("mov", d=17, r=16), *where(Z, False, 2)], 800, 601),
+    ):
+        it.case(name, "Counters that are lowered otherwise than by one, or are not all that a round changes." if name == "up" else "",
+                [f"{end} 0 stop {len(words):04X} reserved opcode", f"3000 0 end {count} stopped"], 3000, (0, words))
     # SUBI begins in 1 + 4 j, of 200 rounds the last in 797
     it.case("same_byte", "SBCI of the byte that SUBI lowered.", ["800 0 stop 0004 reserved opcode", "900 0 end 601 stopped"], 900,
             (0, [ldi(16, 200), word("subi", d=0, K=1), word("sbci", d=0, K=0)] + where(Z, False, 2)))
@@ -216,7 +246,7 @@ def look_alike(it):
 
 def main():
     it = Leaps(folder_of_words(__doc__), ["worked out by hand, as bench/network/leaps.py has it at each; the traces are also those of bench/network/network.py."])
-    for part in (polls, flags, delays, other_flags, seen, seen_pairs, look_alike):
+    for part in (polls, flags, delays, other_flags, seen, seen_pairs, stores, look_alike):
         part(it)
     it.write("networks", "leaps.txt")
 

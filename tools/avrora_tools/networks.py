@@ -69,11 +69,16 @@ def grid(width, count, closed):
 
 def near(distance, count, seed):
     """Nodes in a square of side 1 that lie at most `distance` apart; their places are drawn by the seed."""
-    draw = random.Random(seed)
-    places = [(draw.random(), draw.random()) for _ in range(count)]
+    places = drawn_places(count, seed)
     return [
         (low, high) for high in range(count) for low in range(high) if math.dist(places[low], places[high]) <= distance
     ]
+
+
+def drawn_places(count, seed):
+    """Places in a square of side 1, drawn by the seed."""
+    draw = random.Random(seed)
+    return [(draw.random(), draw.random()) for _ in range(count)]
 
 
 def scenario(

@@ -25,7 +25,7 @@ use arith_step::{MulKind, adiw, asr, com, dec, inc, lsr, neg, ror, sbiw};
 use avr_base::{Reg, Sreg, StopCause};
 use avr_decoder::{Class, Op};
 use data_space::{Bus, Core, Cpu, Done, Registers, pair, reg};
-use ihex_loader::Flash;
+use ihex_loader::ProgramMemory;
 
 /// What an instruction may leave that a loop over instructions looks at.
 #[derive(Clone, Copy)]
@@ -163,14 +163,14 @@ fn flag_set(s: u8, reported: Done) -> Executed
 /// nothing else of the instruction happens, so the program counter is still the instruction's.
 #[inline(always)]
 #[tactic(auto, unfolding(crate::specs::Execute::executed_over, crate::specs::ArithShapes::sets_flag, crate::specs::ArithShapes::swaps, crate::specs::ArithTable::effect, crate::specs::FlowShapes::branched, crate::specs::FlowShapes::skipping, crate::specs::FlowTable::flow_effect, crate::specs::MemoryTable::memory_effect))]
-pub fn execute_plain<B: Bus>(
+pub fn execute_plain<P: ProgramMemory, B: Bus>(
     op: &Op,
-    flash: &Flash,
+    program: &P,
     regs: &mut Registers,
     core: &mut Core,
     bus: &mut B,
 ) -> Executed
-    ensures { record { after = result.0; reported = result.1; cpu = whole regs.new core.new; bus = bus.new } ≡ left_by B.get_gives B.put_gives flash.now.bytes op.now (whole regs.old core.old) bus.old }
+    ensures { record { after = result.0; reported = result.1; cpu = whole regs.new core.new; bus = bus.new } ≡ left_by B.get_gives B.put_gives (P.image program.now).bytes op.now (whole regs.old core.old) bus.old }
 {
     let x = Reg::numbered(26);
     let y = Reg::numbered(28);
@@ -247,11 +247,27 @@ pub fn execute_plain<B: Bus>(
         Op::Ijmp => ended(jump(2, z_pointer(regs), core)),
         Op::Brbs { s, k } => branched(bit(true, s % 8, core.sreg.bits), k, core),
         Op::Brbc { s, k } => branched(bit(false, s % 8, core.sreg.bits), k, core),
-        Op::Cpse { d, r } => ended(skip(reg(regs, d) == reg(regs, r), flash, core)),
-        Op::Sbrs { r, b } => ended(skip(bit(true, b % 8, reg(regs, r)), flash, core)),
-        Op::Sbrc { r, b } => ended(skip(bit(false, b % 8, reg(regs, r)), flash, core)),
-        Op::Sbis { a, b } => loaded(skip_by_io(a, b % 8, true, flash, regs, core, bus)),
-        Op::Sbic { a, b } => loaded(skip_by_io(a, b % 8, false, flash, regs, core, bus)),
+        Op::Cpse { d, r } => ended(skip(reg(regs, d) == reg(regs, r), program.as_flash(), core)),
+        Op::Sbrs { r, b } => ended(skip(bit(true, b % 8, reg(regs, r)), program.as_flash(), core)),
+        Op::Sbrc { r, b } => ended(skip(bit(false, b % 8, reg(regs, r)), program.as_flash(), core)),
+        Op::Sbis { a, b } => loaded(skip_by_io(
+            a,
+            b % 8,
+            true,
+            program.as_flash(),
+            regs,
+            core,
+            bus,
+        )),
+        Op::Sbic { a, b } => loaded(skip_by_io(
+            a,
+            b % 8,
+            false,
+            program.as_flash(),
+            regs,
+            core,
+            bus,
+        )),
         Op::Call { k } => accessed(called(k, regs, core, bus)),
         Op::Rcall { k } => stored(call_near(k, regs, core, bus)),
         Op::Icall => stored(call_at_z(regs, core, bus)),
@@ -298,12 +314,17 @@ pub fn execute_plain<B: Bus>(
         Op::Pop { d } => accessed(pop(d, regs, core, bus)),
         Op::Sbi { a, b } => stored(set_bit(a, b % 8, true, regs, core, bus)),
         Op::Cbi { a, b } => stored(set_bit(a, b % 8, false, regs, core, bus)),
-        Op::LpmR0 => ended(load_program(Reg::numbered(0), flash, regs, core)),
-        Op::LpmZ { d } => ended(load_program(d, flash, regs, core)),
-        Op::LpmZInc { d } => ended(load_program_post_increment(d, flash, regs, core)),
-        Op::ElpmR0 => ended(load_extended(Reg::numbered(0), flash, regs, core)),
-        Op::ElpmZ { d } => ended(load_extended(d, flash, regs, core)),
-        Op::ElpmZInc { d } => ended(load_extended_post_increment(d, flash, regs, core)),
+        Op::LpmR0 => ended(load_program(Reg::numbered(0), program.as_flash(), regs, core)),
+        Op::LpmZ { d } => ended(load_program(d, program.as_flash(), regs, core)),
+        Op::LpmZInc { d } => ended(load_program_post_increment(d, program.as_flash(), regs, core)),
+        Op::ElpmR0 => ended(load_extended(Reg::numbered(0), program.as_flash(), regs, core)),
+        Op::ElpmZ { d } => ended(load_extended(d, program.as_flash(), regs, core)),
+        Op::ElpmZInc { d } => ended(load_extended_post_increment(
+            d,
+            program.as_flash(),
+            regs,
+            core,
+        )),
         Op::Bclr { s } => stored(Ok(retire(1, set_flag(s % 8, false, core), core))),
         Op::Bset { s } => flag_set(s, retire(1, set_flag(s % 8, true, core), core)),
         Op::Reti => enabled(reti(regs, core, bus)),
@@ -313,18 +334,18 @@ pub fn execute_plain<B: Bus>(
 
 // The same, clause by clause.
 #[inline(always)]
-fn told_plain<B: Bus>(
+fn told_plain<P: ProgramMemory, B: Bus>(
     op: &Op,
-    flash: &Flash,
+    program: &P,
     regs: &mut Registers,
     core: &mut Core,
     bus: &mut B,
 ) -> Executed
     ensures which { is_some result.1 ≡ is_plain op.now }
-    ensures some { IfSome result.1 (λ r. record { result = r; cpu = whole regs.new core.new; bus = bus.new } ≡ executed_over B.get_gives B.put_gives flash.now.bytes op.now (whole regs.old core.old) bus.old) }
+    ensures some { IfSome result.1 (λ r. record { result = r; cpu = whole regs.new core.new; bus = bus.new } ≡ executed_over B.get_gives B.put_gives (P.image program.now).bytes op.now (whole regs.old core.old) bus.old) }
     ensures none { IfNone result.1 ((whole regs.new core.new ≡ whole regs.old core.old) × (bus.new ≡ bus.old)) }
 {
-    execute_plain(op, flash, regs, core, bus)
+    execute_plain(op, program, regs, core, bus)
 }
 
 // SLEEP, or an instruction that halts the node.
@@ -350,18 +371,18 @@ fn execute_other<B: Bus>(
 /// Executes an instruction of any class, as [`execute_plain`] does. One that halts the node is an `Err`, and changes
 /// nothing.
 #[inline(never)]
-pub fn execute<B: Bus>(
+pub fn execute<P: ProgramMemory, B: Bus>(
     op: &Op,
-    flash: &Flash,
+    program: &P,
     cpu: &mut Cpu,
     bus: &mut B,
 ) -> Result<Done, StopCause>
-    ensures outcome { record { result = result; cpu = cpu.new; bus = bus.new } ≡ executed_over B.get_gives B.put_gives flash.now.bytes op.now cpu.old bus.old }
+    ensures outcome { record { result = result; cpu = cpu.new; bus = bus.new } ≡ executed_over B.get_gives B.put_gives (P.image program.now).bytes op.now cpu.old bus.old }
     // so the cycles can be counted down
     ensures takes { IfOk result (λ d. 1 ≤ d.cycles) }
 {
     let (mut regs, mut core) = cpu.parts();
-    let result = match told_plain(op, flash, &mut regs, &mut core, bus) {
+    let result = match told_plain(op, program, &mut regs, &mut core, bus) {
         (_, Some(result)) => result,
         (_, None) => execute_other(op, &mut regs, &mut core, bus),
     };
@@ -373,13 +394,13 @@ pub fn execute<B: Bus>(
 /// few, the frame of the whole table would cost more than they do.
 #[inline]
 #[tactic(auto, unfolding(crate::specs::Execute::executed_over, crate::specs::FlowTable::flow_effect))]
-pub fn execute_waiting<B: Bus>(
+pub fn execute_waiting<P: ProgramMemory, B: Bus>(
     op: &Op,
-    flash: &Flash,
+    program: &P,
     cpu: &mut Cpu,
     bus: &mut B,
 ) -> Result<Done, StopCause>
-    ensures outcome { record { result = result; cpu = cpu.new; bus = bus.new } ≡ executed_over B.get_gives B.put_gives flash.now.bytes op.now cpu.old bus.old }
+    ensures outcome { record { result = result; cpu = cpu.new; bus = bus.new } ≡ executed_over B.get_gives B.put_gives (P.image program.now).bytes op.now cpu.old bus.old }
 {
     match *op {
         Op::Rjmp { k } => {
@@ -391,11 +412,11 @@ pub fn execute_waiting<B: Bus>(
         Op::Sbis { a, b } | Op::Sbic { a, b } => {
             let on = matches!(op, Op::Sbis { .. });
             let (regs, mut core) = cpu.parts();
-            let result = skip_by_io(a, b % 8, on, flash, &regs, &mut core, bus);
+            let result = skip_by_io(a, b % 8, on, program.as_flash(), &regs, &mut core, bus);
             cpu.sreg = core.sreg;
             cpu.pc = core.pc;
             result
         }
-        _ => execute(op, flash, cpu, bus),
+        _ => execute(op, program, cpu, bus),
     }
 }

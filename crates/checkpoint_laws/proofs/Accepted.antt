@@ -15,7 +15,8 @@ use Rattle.node_core.specs.State.{NodeState}
 use Rattle.node_runner.specs.Run.{kept_at}
 use Rattle.node_runner.specs.Scenario.{IsScenario, ScenarioOf, fleet_of}
 use Rattle.node_runner.proofs.Sound.{sound}
-use Rattle.node_laws.specs.Scenario.{AreImages, IsSaved}
+use Rattle.node_laws.specs.Scenario.{IsSaved}
+use Rattle.node_laws.proofs.Images.{AreImages}
 use Rattle.node_laws.proofs.Restores.{saved}
 use Rattle.node_laws.proofs.Worlds.{world_in}
 use Rattle.state_text.specs.Bounds.{HasNode, IsState, is_cut}

@@ -70,7 +70,7 @@ pub fn execute(
     if class != named {
         return None;
     }
-    match node_core::execute(&op, program.flash(), &mut m.cpu, &mut m.memory) {
+    match node_core::execute(&op, program, &mut m.cpu, &mut m.memory) {
         Ok(done) => Some(Report {
             value: Some(u16::from(done.cycles)),
             sleep: done.sleep,

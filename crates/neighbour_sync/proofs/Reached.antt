@@ -35,11 +35,11 @@ module _ (P : ℕ → Type 0) where
       subst P (sym e) (last 0 0 (omega arith))
   among_case t j n k (no d) a lt linked next = next (omega arith)
 
-  among : (t : Topology) (j n k : ℕ) → All P (each_below n (one t j)) → k < n → is_linked t k j ≡ true → P k
+  pub among : (t : Topology) (j n k : ℕ) → All P (each_below n (one t j)) → k < n → is_linked t k j ≡ true → P k
   among t j zero k a lt linked = absurd (omega arith)
   among t j (suc n) k a lt linked = among_case t j n k (ℕ_discrete k n) a lt linked (λ less. among t j n k (all_left (each_below n (one t j)) (one t j n) a) less linked)
 
-left_of : (a b : Bool) → (a && b) ≡ true → a ≡ true
+pub left_of : (a b : Bool) → (a && b) ≡ true → a ≡ true
 left_of true b e = refl
 left_of false b e = e
 

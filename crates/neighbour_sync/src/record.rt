@@ -67,7 +67,9 @@ impl Air {
     ghost use Rattle.std.specs.List.{Contains};
     ghost use Rattle.world_core.specs.Sends.{IsSendNumber};
     ghost use Rattle.world_core.specs.Kept.{epoch, IsPostedTo};
+    ghost use Rattle.world_core.specs.Consistent.{IsConsistent};
     ghost use Rattle.neighbour_sync.specs.Loads.{AreReached, pair_of};
+    ghost use Rattle.neighbour_sync.specs.Shows.{shown};
     ghost use Rattle.neighbour_sync.specs.Record.{first_record, with_loads, cut_at, IsSound, IsPost, IsSample};
 
     /// The empty record, which takes its room for sends here.
@@ -173,10 +175,12 @@ impl Air {
     }
 
     /// The recorded samples, in the order in which they were taken: each is the true one, and all that it could hear is
-    /// posted.
+    /// posted. With the clocks of all nodes at the floor, as they are between two sessions, the record is a consistent
+    /// state.
     pub fn samples(&self) -> &[(Ask, Heard)]
         ensures value { result.now ≡ self.now.samples }
         ensures sound { IsSound self.now }
+        ensures consistent { IsConsistent (shown self.now (replicate self.now.world.topo.nodes self.now.floor)) }
     {
         &self.samples
     }

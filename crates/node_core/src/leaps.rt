@@ -1,7 +1,7 @@
 // Loops that wait, leapt over in whole rounds up to the next event.
 ghost use Rattle.std.specs.Prelude.{◌≡◌, ◌≤◌, ◌<◌, ◌+◌, ◌^◌, ℕ, None, false, true, IfSome};
 ghost use Rattle.board_io.specs.Lines.{lines_of};
-ghost use Rattle.node_core.specs.Inside.{MayAct};
+ghost use Rattle.node_core.specs.Inside.{MayAct, is_told};
 ghost use Rattle.node_core.specs.Leaps.{IsLoad, IsRound, IsStill, IsStillStep, is_steering};
 ghost use Rattle.node_core.specs.Midway.{IsSprinted};
 ghost use Rattle.serial_ports.specs.Script.{script_byte};
@@ -79,7 +79,7 @@ impl Machine {
             return 0;
         }
         let before = core.sreg.bits;
-        match execute_waiting(op, self.program.flash(), core, &mut self.bus) {
+        match execute_waiting(op, &self.program, core, &mut self.bus) {
             Ok(done) => {
                 if owes(op, before, core.sreg.bits) {
                     return 0;
@@ -120,7 +120,7 @@ impl Machine {
     #[inline(never)]
     fn poll(&mut self, cycle: u64, end: u64) -> u64
         requires may { MayAct cycle self.old }
-        requires behind { self.old.to ≤ cycle }
+        requires untold { (i : ℕ) → cycle + i < end → is_told self.old.from self.old.to (cycle + i) ≡ false }
         requires within { cycle ≤ end }
         requires early { end ≤ 2 ^ 40 }
         requires none { (i : ℕ) → cycle + i < end → script_byte self.old.script (cycle + i) ≡ None }
@@ -143,7 +143,7 @@ impl Machine {
     #[inline(never)]
     pub fn leap(&mut self, cycle: u64, end: u64) -> u64
         requires may { MayAct cycle self.old }
-        requires behind { self.old.to ≤ cycle }
+        requires untold { (i : ℕ) → cycle + i < end → is_told self.old.from self.old.to (cycle + i) ≡ false }
         requires within { cycle ≤ end }
         requires early { end ≤ 2 ^ 40 }
         requires none { (i : ℕ) → cycle + i < end → script_byte self.old.script (cycle + i) ≡ None }

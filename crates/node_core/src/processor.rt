@@ -185,7 +185,7 @@ impl Machine {
             return 0;
         }
         let before = self.cpu.sreg.bits;
-        match execute(&op, self.program.flash(), &mut self.cpu, &mut self.bus) {
+        match execute(&op, &self.program, &mut self.cpu, &mut self.bus) {
             Ok(done) => {
                 let owed = owes(&op, before, self.cpu.sreg.bits);
                 self.end(cycle, pc, owed, done)

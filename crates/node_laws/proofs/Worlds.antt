@@ -19,7 +19,7 @@ use Rattle.air_base.specs.declared.air.Send.{Send}
 use Rattle.air_base.proofs.Each.{All_each}
 use Rattle.node_laws.specs.Within.{ByteWithin, HeardWithin}
 use Rattle.node_laws.specs.Node.{AreBytes, NodeWithin}
-use Rattle.node_laws.specs.Scenario.{AreImages}
+use Rattle.node_laws.proofs.Images.{AreImages}
 use Rattle.node_laws.proofs.Nodes.{node_reset_within, node_sends_within, ticked_within}
 use Rattle.node_laws.proofs.Fixed.{fixed, fixed_ticked}
 

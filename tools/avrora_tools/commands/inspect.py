@@ -3,13 +3,18 @@ import argparse
 import re
 
 from avrora_tools import cli, programs, scenarios, states, traces
-from avrora_tools.errors import BadInput
+from avrora_tools.errors import BadInput, BadWords
+from avrora_tools.inspection import View
 
 SUMMARY = "a state in words; what differs between two"
 
 DESCRIPTION = """Shows what `avrora save` wrote: each node's processor, stack and devices, and what is on the air. With
 a second state it tells instead what differs, by name: the number of the first state, then that of the second. Addresses
-of the program are word addresses, as in a trace. Status of a comparison: 0 nothing differs, 1 something does."""
+of the program are word addresses, as in a trace. Status of a comparison: 0 nothing differs, 1 something does.
+
+With -e it also tells which functions have not returned, as far as their frames tell, and how low the stack has been: the
+lowest byte above the variables that is not 0, as all memory is 0 at reset. With -g variables have their types and values:
+-g 'queue*', or -g '*' for all; one that is static in a function is called FUNCTION.NAME."""
 
 FLAGS = "ITHSVNZC"
 STACK_BYTES = 16
@@ -118,23 +123,37 @@ def dump(node, first, end):
         yield f"  {at:04X}  {part.hex(' ').upper():<47}  {text}"
 
 
-def show_node(state, k, program, span):
+def show_node(state, k, view, span, patterns):
     node = state.nodes[k]
     print(f"node {k}: {heading(node)}")
-    rows = list(processor(node, program)) + [(f"timer {n}", timer(node, n)) for n in range(4)]
+    rows = list(processor(node, view.program if view else None))
+    rows += list(view.rows(node)) if view else []
+    rows += [(f"timer {n}", timer(node, n)) for n in range(4)]
     rows += [("USART0", usart(node, state.cycle)), ("SPI", spi(node, state.cycle)), ("radio", radio(node, state.cycle))]
     rows.append(("I/O", io_text(node)))
     for name, text in rows:
         print(f"  {name:<10} {text}".rstrip())
+    for line in view.global_lines(node, patterns) if view else ():
+        print(line)
     for line in dump(node, *span) if span else ():
         print(line)
 
 
-def show(state, nodes, all_programs, span):
+def views_of(nodes, all_programs, patterns):
+    """What is read of the program of each node. Raises BadInput where variables are asked for that none has."""
+    by_program = {program: View(program) for k in nodes if (program := all_programs.of(k))}
+    for pattern in patterns:
+        if not any(view.has(pattern) for view in by_program.values()):
+            raise BadInput(f"-g {pattern}: no program of these nodes has such a variable")
+    return {k: by_program.get(all_programs.of(k)) for k in nodes}
+
+
+def show(state, nodes, all_programs, span, patterns):
+    views = views_of(nodes, all_programs, patterns)
     bytes_ = plural(len(state.sends), "byte")
     print(f"cycle {state.cycle:,}, {plural(len(state.nodes), 'node')}, {bytes_} that may still be heard")
     for k in nodes:
-        show_node(state, k, all_programs.of(k), span)
+        show_node(state, k, views[k], span, patterns)
     for cycle, node, byte in state.sends:
         if node in nodes:
             print(f"node {node} sent {cli.shown_byte(byte)} in cycle {cycle:,}, {state.cycle - cycle:,} before")
@@ -203,10 +222,12 @@ def run(arguments):
     nodes = sorted(arguments.nodes if arguments.nodes is not None else range(count))
     if nodes and nodes[-1] >= count:
         raise BadInput(f"{arguments.state}: there is no node {nodes[-1]}, as there are {count}")
+    if arguments.globals and (other or not arguments.elf):
+        raise BadWords("-g tells variables of one state, and needs their program (-e)")
     if other:
         most = states.DATA_END if arguments.all else MOST_DIFFERENCES
         return 1 if compare(state, other, nodes, all_programs, most) else 0
-    show(state, nodes, all_programs, arguments.dump)
+    show(state, nodes, all_programs, arguments.dump, arguments.globals)
     return 0
 
 
@@ -215,6 +236,9 @@ def configure(parser: argparse.ArgumentParser) -> None:
     parser.add_argument("-n", "--nodes", type=cli.node_set, metavar="NODES", help="these alone, such as 0,2-4")
     parser.add_argument(
         "--dump", type=span_of, metavar="FIRST-LAST", help="the data space between these addresses too, such as 100-13F"
+    )
+    parser.add_argument(
+        "-g", "--globals", action="append", default=[], metavar="PATTERN", help="the variables with such names, with -e"
     )
     parser.add_argument("--all", action="store_true", help="of two states all bytes that differ")
     programs.add_programs(parser)

@@ -2,7 +2,7 @@
 import argparse
 import collections
 
-from avrora_tools import cli, files, scenarios, traces
+from avrora_tools import cli, files, maps, scenarios, traces
 from avrora_tools.errors import BadInput
 from avrora_tools.traces import CLASH, ONE_BYTE
 
@@ -149,6 +149,25 @@ def print_nodes(reader):
         print(f"{node:>8} {reader.sends[node]:>8,} {sum(heard):>8,} " + " ".join(f"{number:>8,}" for number in heard))
 
 
+def draw_map(arguments, reader):
+    """Draws the network, and tells what is odd about who hears whom."""
+    counts = reader.fates.counts
+    links = {
+        (link.sender, link.hearer): maps.Quality(
+            counts[(link.sender, link.hearer), "sent"] - counts[(link.sender, link.hearer), "closed"],
+            *(counts[(link.sender, link.hearer), fate] for fate in ("clean", "clashed", "unheard")),
+        )
+        for link in reader.scenario.links
+    }
+    count = len(reader.scenario.images)
+    places = maps.laid_out(count, links)
+    if arguments.places:
+        places = maps.places_of(files.read_text(arguments.places), files.shown(arguments.places), count)
+    files.write_whole(arguments.map, maps.drawn(places, links))
+    odd = maps.oddities(count, list(links))
+    print("\n" + "\n".join(odd) if odd else "")
+
+
 def run(arguments):
     reader = Reader(scenarios.Scenario.load(arguments.scenario), arguments.clashes)
     for row in traces.rows(arguments.trace, whole=True):
@@ -162,6 +181,8 @@ def run(arguments):
     reader.fates.end_all()
     print_links(reader, arguments.losses)
     print_nodes(reader)
+    if arguments.map:
+        draw_map(arguments, reader)
     total = sum(reader.samples.values())
     if reader.faults:
         print(
@@ -177,5 +198,7 @@ def configure(parser: argparse.ArgumentParser) -> None:
     cli.describe(parser, DESCRIPTION, "links --clashes flood.toml flood.trace")
     parser.add_argument("--clashes", action="store_true", help="tell each clash, with the sends that clashed")
     parser.add_argument("--losses", action="store_true", help="links alone that lost a byte")
+    parser.add_argument("--map", metavar="FILE", help="draw the network, with the quality of each link, as SVG")
+    parser.add_argument("--places", metavar="FILE", help="where the map has the nodes: a TOML file of lines NODE = [x, y]")
     parser.add_argument("scenario", metavar="SCENARIO")
     cli.add_trace(parser)

@@ -2,8 +2,9 @@
 import argparse
 import re
 
-from avrora_tools import cli, networks, traces
+from avrora_tools import cli, files, maps, networks, scenarios
 from avrora_tools.errors import BadInput
+from avrora_tools.terminal import warn
 
 SUMMARY = "writes the scenario of a network of some shape"
 
@@ -14,8 +15,8 @@ The number of each node arrives at its USART0 as the first byte: at node 0 in cy
 cycles later. A node that learns it before its receiver is enabled loses it and waits for ever. Nodes that learn it in
 the same cycle run in lockstep, so that all that they send clashes. A byte time that is shorter than the firmware's
 round of sampling loses bytes. See docs/FIRMWARE.md, "Three losses that nothing reports". Nodes that do not hear each
-other, as those about a star's middle, clash all the same unless the stagger is longer than a packet of theirs.
-The same words write the same text."""
+other, as those about a star's middle, clash all the same unless the stagger is longer than a packet of theirs; such a star,
+nodes that nothing reaches and parts that no link joins are told. The same words write the same text."""
 
 
 def two_numbers(text):
@@ -44,25 +45,29 @@ def node_bytes(text):
 def run(arguments):
     if arguments.link_latency and arguments.link_latency[0] > arguments.link_latency[1]:
         raise BadInput("--link-latency: the lower number is the first")
-    print(
-        networks.scenario(
-            arguments.shape,
-            networks.counted(arguments.image),
-            cycles=arguments.cycles,
-            latency=arguments.latency,
-            byte_time=arguments.byte_time,
-            window=arguments.window,
-            seed=arguments.seed,
-            link_latency=arguments.link_latency,
-            at=arguments.at,
-            stagger=arguments.stagger,
-            spans=dict(arguments.open),
-            numbers=not arguments.no_numbers,
-            inputs=dict(arguments.input),
-            every=arguments.every,
-        ),
-        end="",
+    images = networks.counted(arguments.image)
+    text = networks.scenario(
+        arguments.shape,
+        images,
+        cycles=arguments.cycles,
+        latency=arguments.latency,
+        byte_time=arguments.byte_time,
+        window=arguments.window,
+        seed=arguments.seed,
+        link_latency=arguments.link_latency,
+        at=arguments.at,
+        stagger=arguments.stagger,
+        spans=dict(arguments.open),
+        numbers=not arguments.no_numbers,
+        inputs=dict(arguments.input),
+        every=arguments.every,
     )
+    print(text, end="")
+    links = [(link.sender, link.hearer) for link in scenarios.Scenario.of_text(text, "the network").links]
+    for odd in maps.oddities(len(images), links):
+        warn(odd)
+    if arguments.places:
+        files.write_whole(arguments.places, maps.places_text(maps.shape_places(arguments.shape, len(images), arguments.seed)))
 
 
 def configure(parser: argparse.ArgumentParser) -> None:
@@ -103,5 +108,6 @@ def configure(parser: argparse.ArgumentParser) -> None:
         metavar="FROM-TO=A..B,..",
         help="a link that is open in these cycles alone",
     )
+    parser.add_argument("--places", metavar="FILE", help="also write where the nodes lie, for --places of links")
     parser.add_argument("shape", metavar="SHAPE")
     parser.add_argument("image", nargs="+", metavar="IMAGE[*COUNT]")

@@ -12,33 +12,33 @@ use Rattle.node_core.proofs.Steps.{did, leaves_devices, leaves_flag}
 use Rattle.node_core.proofs.sprint.one_step.Goals as goal
 
 pub returns-clause-step : goal.returns-clause-step
-returns-clause-step c first same may behind =
-    let e = told bus_get bus_put c.flash.result.now.bytes c.op_at-op.result.now (whole c.args.regs.now c.args.core.now) c.args.bus.now _ c.execute_plain-after.ensures in
+returns-clause-step c first same may untold =
+    let e = told bus_get bus_put c.args.program.now.bytes c.op_at-op.result.now (whole c.args.regs.now c.args.core.now) c.args.bus.now _ c.execute_plain-after.ensures in
     let x = c.execute_plain-after.new in
     let a = c.args in
     let m : Machine = over a.regs.now a.core.now a.bus.now a.count.now first in
     let t : ℕ = a.bus.now.board.clock in
     let o = c.execute_plain-after.result in
     let fetched = c.op_at-op.ensures ∙ ap (λ (p : Image). op_of p.bytes a.core.now.pc) (sym same) in
-    let there = did t m c.op_at-op.result.now fetched may behind (whole x.regs x.core) x.bus c.flash.result.now.bytes (ap (λ (p : Image). p.bytes) (c.flash.ensures ∙ sym same))
+    let there = did t m c.op_at-op.result.now fetched may untold (whole x.regs x.core) x.bus c.args.program.now.bytes (ap (λ (p : Image). p.bytes) (sym same))
     o.0 o.1 e.0 e.1 e.2 e.3 in
     subst (λ (k : Step). IsStep t k m (over x.regs x.core x.bus c.told.new.count first)) (sym c.told.ensures.step)
     (subst (λ (n : ℕ). IsStep t (step_of o.0 o.1) m (over x.regs x.core x.bus n first)) (sym c.told.ensures.count) there)
 
 pub returns-clause-flag : goal.returns-clause-flag
 returns-clause-flag c =
-    let e = told bus_get bus_put c.flash.result.now.bytes c.op_at-op.result.now (whole c.args.regs.now c.args.core.now) c.args.bus.now _ c.execute_plain-after.ensures in
+    let e = told bus_get bus_put c.args.program.now.bytes c.op_at-op.result.now (whole c.args.regs.now c.args.core.now) c.args.bus.now _ c.execute_plain-after.ensures in
     let x = c.execute_plain-after.new in
     let a = c.args in
     let o = c.execute_plain-after.result in
     let from : Cpu = whole a.regs.now a.core.now in
-    leaves_flag c.flash.result.now.bytes c.op_at-op.result.now from (whole x.regs x.core) a.bus.now x.bus o.0 o.1 e.0 e.2 c.told.result c.told.ensures.step
+    leaves_flag c.args.program.now.bytes c.op_at-op.result.now from (whole x.regs x.core) a.bus.now x.bus o.0 o.1 e.0 e.2 c.told.result c.told.ensures.step
 
 pub returns-clause-apart : goal.returns-clause-apart
 returns-clause-apart c =
-    let e = told bus_get bus_put c.flash.result.now.bytes c.op_at-op.result.now (whole c.args.regs.now c.args.core.now) c.args.bus.now _ c.execute_plain-after.ensures in
+    let e = told bus_get bus_put c.args.program.now.bytes c.op_at-op.result.now (whole c.args.regs.now c.args.core.now) c.args.bus.now _ c.execute_plain-after.ensures in
     let x = c.execute_plain-after.new in
     let a = c.args in
     let o = c.execute_plain-after.result in
     let from : Cpu = whole a.regs.now a.core.now in
-    leaves_devices c.flash.result.now.bytes c.op_at-op.result.now from (whole x.regs x.core) a.bus.now x.bus o.0 o.1 e.0 e.2 c.told.result c.told.ensures.step
+    leaves_devices c.args.program.now.bytes c.op_at-op.result.now from (whole x.regs x.core) a.bus.now x.bus o.0 o.1 e.0 e.2 c.told.result c.told.ensures.step

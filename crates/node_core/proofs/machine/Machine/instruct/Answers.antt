@@ -1,7 +1,6 @@
 use Rattle.std.proofs.Common.{◌≡◌, ◌++◌, Bool, List, refl, sym, ap, ◌∙◌, arith}
 use Rattle.std.specs.Prelude.{Ok, Err}
 use Rattle.data_space.specs.Sequence.{Outcome}
-use Rattle.ihex_loader.specs.Flash.{Image}
 use Rattle.node_core.specs.declared.row.Row.{Row}
 use Rattle.node_core.specs.declared.bus.NodeBus.{NodeBus}
 use Rattle.node_core.specs.Cycle.{after_instruction}
@@ -19,7 +18,7 @@ owes-owed-requires c =
     let o = c.op-op.result in
     let a : Outcome NodeBus = record { result = c.execute.result; cpu = c.execute.new.cpu; bus = c.execute.new.bus } in
     let flash = c.args.self.now.program.bytes in
-    let done : a ≡ executed flash o m.cpu m.bus = c.execute.ensures.outcome ∙ ap (λ (f : Image). executed f.bytes o m.cpu m.bus) c.flash.ensures in
+    let done : a ≡ executed flash o m.cpu m.bus = c.execute.ensures.outcome in
     sei_left_on flash o m.cpu m.bus c.in-Ok.done c.execute.result c.execute.new.cpu c.in-Ok.is (ap (λ (x : Outcome NodeBus). x.result) done) (ap (λ (x : Outcome NodeBus). x.cpu) done)
 
 pub returns-then-refuses : goal.returns-then-refuses
@@ -42,7 +41,7 @@ returns-in-Ok c =
     let s : NodeState = shown m in
     let a : Outcome NodeBus = record { result = c.execute.result; cpu = c.execute.new.cpu; bus = c.execute.new.bus } in
     let flash = c.args.self.now.program.bytes in
-    let done : a ≡ executed flash o m.cpu m.bus = c.execute.ensures.outcome ∙ ap (λ (f : Image). executed f.bytes o m.cpu m.bus) c.flash.ensures in
+    let done : a ≡ executed flash o m.cpu m.bus = c.execute.ensures.outcome in
     let runs = sym c.refuses.ensures ∙ c.if-refuses.false in
     record {
       state = c.end.ensures.state
@@ -61,7 +60,7 @@ returns-in-Err c =
     let o = c.op-op.result in
     let a : Outcome NodeBus = record { result = c.execute.result; cpu = c.execute.new.cpu; bus = c.execute.new.bus } in
     let flash = c.args.self.now.program.bytes in
-    let done : a ≡ executed flash o m.cpu m.bus = c.execute.ensures.outcome ∙ ap (λ (f : Image). executed f.bytes o m.cpu m.bus) c.flash.ensures in
+    let done : a ≡ executed flash o m.cpu m.bus = c.execute.ensures.outcome in
     let runs = sym c.refuses.ensures ∙ c.if-refuses.false in
     record {
       state = c.halt-in-Err.ensures.state ∙ ran c.args.cycle m o c.op-op.ensures runs c.requires.now a flash refl done (Err c.in-Err.cause) c.in-Err.is;

@@ -1,7 +1,6 @@
 use Rattle.std.proofs.Common.{◌≡◌, sym, ap, ◌∙◌}
 use Rattle.avr_decoder.specs.declared.op.Op.{Op}
 use Rattle.data_space.specs.Sequence.{Outcome}
-use Rattle.ihex_loader.specs.Flash.{Image}
 use Rattle.node_core.specs.declared.bus.NodeBus.{NodeBus}
 use Rattle.node_core.specs.declared.machine.Machine.{Machine}
 use Rattle.node_core.specs.Execute.{executed}
@@ -15,7 +14,7 @@ pub owes-requires : goal.owes-requires
 owes-requires c =
     let o = c.op_at-op.result.now in
     let a : Outcome NodeBus = record { result = c.execute_waiting.result; cpu = c.execute_waiting.new.cpu; bus = c.execute_waiting.new.bus } in
-    let flash = c.flash.result.now.bytes in
+    let flash = c.args.self.now.program.bytes in
     let done : a ≡ executed flash o c.args.core.now c.args.self.now.bus = c.execute_waiting.ensures.outcome in
     sei_left_on flash o c.args.core.now c.args.self.now.bus c.in-Ok.done c.execute_waiting.result c.execute_waiting.new.cpu c.in-Ok.is (ap (λ (x : Outcome NodeBus). x.result) done) (ap (λ (x : Outcome NodeBus). x.cpu) done)
 
@@ -23,14 +22,14 @@ pub returns-then-owes-clause-same : goal.returns-then-owes-clause-same
 returns-then-owes-clause-same c =
     let m : Machine = c.args.self.now in
     let a : Outcome NodeBus = record { result = c.execute_waiting.result; cpu = c.execute_waiting.new.cpu; bus = c.execute_waiting.new.bus } in
-    let still = leaves c.op_at-op.result.now m.bus (c.is_still.ensures c.if-not-is_still.false) c.flash.result.now.bytes c.args.core.now a c.execute_waiting.ensures.outcome in
+    let still = leaves c.op_at-op.result.now m.bus (c.is_still.ensures c.if-not-is_still.false) c.args.self.now.program.bytes c.args.core.now a c.execute_waiting.ensures.outcome in
     λ i. let x : Machine = record m { bus = still i } in x
 
 pub returns-else-owes-clause-same : goal.returns-else-owes-clause-same
 returns-else-owes-clause-same c =
     let m : Machine = c.args.self.now in
     let a : Outcome NodeBus = record { result = c.execute_waiting.result; cpu = c.execute_waiting.new.cpu; bus = c.execute_waiting.new.bus } in
-    let still = leaves c.op_at-op.result.now m.bus (c.is_still.ensures c.if-not-is_still.false) c.flash.result.now.bytes c.args.core.now a c.execute_waiting.ensures.outcome in
+    let still = leaves c.op_at-op.result.now m.bus (c.is_still.ensures c.if-not-is_still.false) c.args.self.now.program.bytes c.args.core.now a c.execute_waiting.ensures.outcome in
     λ i. let x : Machine = record m { bus = still i } in x
 
 pub returns-else-owes-clause-step : goal.returns-else-owes-clause-step
@@ -39,7 +38,7 @@ returns-else-owes-clause-step c some =
     let o : Op = c.op_at-op.result.now in
     let h : IsStill o m.bus = c.is_still.ensures c.if-not-is_still.false in
     let a : Outcome NodeBus = record { result = c.execute_waiting.result; cpu = c.execute_waiting.new.cpu; bus = c.execute_waiting.new.bus } in
-    let done : a ≡ executed m.program.bytes o c.args.core.now m.bus = c.execute_waiting.ensures.outcome ∙ ap (λ (f : Image). executed f.bytes o c.args.core.now m.bus) c.flash.ensures in
+    let done : a ≡ executed m.program.bytes o c.args.core.now m.bus = c.execute_waiting.ensures.outcome in
     record {
       none = sym c.due.ensures ∙ none_of c.due.result (sym c.is_some.ensures ∙ c.if-is_some.false);
       some = some;
@@ -54,5 +53,5 @@ pub returns-in-Err-clause-same : goal.returns-in-Err-clause-same
 returns-in-Err-clause-same c =
     let m : Machine = c.args.self.now in
     let a : Outcome NodeBus = record { result = c.execute_waiting.result; cpu = c.execute_waiting.new.cpu; bus = c.execute_waiting.new.bus } in
-    let still = leaves c.op_at-op.result.now m.bus (c.is_still.ensures c.if-not-is_still.false) c.flash.result.now.bytes c.args.core.now a c.execute_waiting.ensures.outcome in
+    let still = leaves c.op_at-op.result.now m.bus (c.is_still.ensures c.if-not-is_still.false) c.args.self.now.program.bytes c.args.core.now a c.execute_waiting.ensures.outcome in
     λ i. let x : Machine = record m { bus = still i } in x

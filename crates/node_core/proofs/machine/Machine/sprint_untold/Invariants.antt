@@ -3,7 +3,7 @@ use Rattle.avr_program.specs.Program.{slots_below}
 use Rattle.node_core.specs.declared.machine.Machine.{Machine}
 use Rattle.board_io.specs.Lagging.{IsClear}
 use Rattle.node_core.specs.Midway.{IsTurning}
-use Rattle.node_core.proofs.machine.Machine.sprint.Given as goal
+use Rattle.node_core.proofs.machine.Machine.sprint_untold.Given as goal
 
 abbrev pub invariant-loop-self : goal.invariant-loop-self
 invariant-loop-self l = record {

@@ -1,0 +1,125 @@
+"""Charge by a table of currents: what each node draws awake, asleep, and by its radio."""
+import re
+import tomllib
+from collections.abc import Mapping, Sequence
+from dataclasses import dataclass, fields
+
+from avrora_tools.cli import CLOCK, node_set
+from avrora_tools.errors import BadInput
+from avrora_tools.monitor_reports import NodeReport
+
+SECONDS_AN_HOUR, HOURS_A_DAY = 3_600, 24
+
+
+@dataclass(frozen=True)
+class Currents:
+    """Milliamperes: of the processor awake and asleep, of the radio while a byte is on the air and else."""
+
+    awake: float
+    asleep: float
+    sending: float
+    listening: float
+
+
+@dataclass(frozen=True)
+class Table:
+    """The currents of all nodes, of some by their numbers, and the clock in cycles a second; a battery in mA h, if any."""
+
+    common: Currents
+    by_node: Mapping[int, Currents]
+    hz: float = float(CLOCK)
+    battery: float | None = None
+
+    def of(self, node: int) -> Currents:
+        return self.by_node.get(node, self.common)
+
+
+@dataclass(frozen=True)
+class Account:
+    """The charge of a node over a span, in mA s. What the processor drew in cycles without an owner is not known: `unknown`
+    is the difference between awake and asleep all the time, and `asleep` has the lower of the two."""
+
+    awake: float
+    asleep: float
+    sending: float
+    listening: float
+    unknown: float
+
+    @property
+    def least(self) -> float:
+        return self.awake + self.asleep + self.sending + self.listening
+
+    @property
+    def most(self) -> float:
+        return self.least + self.unknown
+
+
+def account(node: NodeReport, currents: Currents, byte_time: int, hz: float) -> Account:
+    """The charge of a node. From its stop on a node draws nothing here."""
+    seconds = 1 / hz
+    running = node.cycles - node.stopped
+    on_air = min(node.sent * byte_time, running)
+    lower, higher = sorted((currents.awake, currents.asleep))
+    return Account(
+        node.awake * currents.awake * seconds,
+        (node.asleep * currents.asleep + node.lead * lower) * seconds,
+        on_air * currents.sending * seconds,
+        (running - on_air) * currents.listening * seconds,
+        node.lead * (higher - lower) * seconds,
+    )
+
+
+def duty_cycle(node: NodeReport) -> tuple[float, float]:
+    """Which part of its time the node was awake: at least and at most."""
+    running = node.cycles - node.stopped
+    return (node.awake / running, (node.awake + node.lead) / running) if running else (0.0, 0.0)
+
+
+def whole(accounts: Sequence[Account]) -> Account:
+    """The sum of accounts."""
+    return Account(*(sum(getattr(one, part.name) for one in accounts) for part in fields(Account)))
+
+
+def table_of(text: str, name: str) -> Table:
+    """The table of currents in a TOML text. Raises BadInput where it is none."""
+    try:
+        document = tomllib.loads(text)
+    except tomllib.TOMLDecodeError as fault:
+        raise BadInput(f"{name}: no TOML: {fault}") from None
+    names = [part.name for part in fields(Currents)]
+    if unknown := set(document) - {*names, "hz", "battery", "node"}:
+        raise BadInput(f"{name}: a table of currents has no key {sorted(unknown)[0]}")
+    common = Currents(*(current(document, key, name) for key in names))
+    by_node: dict[int, Currents] = {}
+    tables = document.get("node", {})
+    if not isinstance(tables, dict) or not all(isinstance(table, dict) for table in tables.values()):
+        raise BadInput(f"{name}: the currents of some nodes stand in tables such as [node.3] or [node.'1-4']")
+    for key, table in tables.items():
+        if unknown := set(table) - set(names):
+            raise BadInput(f"{name}: [node.{key}] has no key {sorted(unknown)[0]}")
+        own = Currents(*(current(table, part, name) if part in table else getattr(common, part) for part in names))
+        by_node.update(dict.fromkeys(nodes_of(key, name), own))
+    hz = current(document, "hz", name) if "hz" in document else float(CLOCK)
+    battery = current(document, "battery", name) if "battery" in document else None
+    if hz == 0:
+        raise BadInput(f"{name}: hz is above 0")
+    return Table(common, by_node, hz, battery)
+
+
+def nodes_of(key: str, name: str) -> set[int]:
+    try:
+        return node_set(key)
+    except Exception:  # argparse's, which says it for a command line
+        raise BadInput(f"{name}: [node.{re.sub(r'[^ -~]', '?', key)}] names no nodes such as 3 or '1-4'") from None
+
+
+def current(table: Mapping[str, object], key: str, name: str) -> float:
+    value = table.get(key)
+    if isinstance(value, bool) or not isinstance(value, (int, float)) or not 0 <= value < 1e12:
+        raise BadInput(f"{name}: {key} is to be a number of at least 0" + ("" if key in table else ", and is not there"))
+    return float(value)
+
+
+def milliampere_hours(charge: float) -> float:
+    """Of a charge in mA s."""
+    return charge / SECONDS_AN_HOUR

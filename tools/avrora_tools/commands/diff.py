@@ -1,0 +1,101 @@
+"""Tells what differs between two traces."""
+import argparse
+from collections.abc import Iterator
+
+from avrora_tools import cli, programs, scenarios, traces
+from avrora_tools.commands.annotate import Notes
+from avrora_tools.differences import Alignment, NodeDifference, differences
+from avrora_tools.errors import BadWords, Status
+from avrora_tools.traces import Row
+
+SUMMARY = "what differs between two traces: first rows, and what is later, gone or new"
+
+DESCRIPTION = """Compares two traces node by node. Of each node that differs it shows the first row that is not the same,
+with the rows about it: `-` before those of the first trace, `+` before those of the second. Of the rows behind it, it tells
+by kind how many are the same but in other cycles, by how much, and which are gone or new. Rows of a kind are compared in
+their order, without their cycles (of a sample without its age too); where they are not the same the next ones that are are
+sought among 64.
+
+Status 0: no row differs; 1: one does; 2: bad words or a file that is no trace."""
+
+COLUMN = 44  # where notes on a row begin
+
+
+def run(arguments: argparse.Namespace) -> int:
+    if arguments.first == arguments.second == "-":
+        raise BadWords("only one of two traces can come from the standard input")
+    scenario = scenarios.Scenario.load(arguments.scenario) if arguments.scenario else None
+    notes = Notes(programs.Programs(arguments.elf, scenario))
+    first, second = (chosen(arguments, name) for name in (arguments.first, arguments.second))
+    nodes = differences(first, second, not arguments.without_cycles)
+    same = [number for number, node in nodes.items() if not node.has_parted]
+    for number, node in nodes.items():
+        if node.has_parted:
+            print_node(number, node, notes)
+    if same:
+        print(f"the same: node{'s' * (len(same) > 1)} {', '.join(map(str, same))}")
+    return Status.GOOD if len(same) == len(nodes) else Status.NOT_MET
+
+
+def chosen(arguments: argparse.Namespace, name: str) -> Iterator[Row]:
+    """The rows of the nodes and kinds that are asked for."""
+    for row in traces.rows(name):
+        if (arguments.nodes is None or row.node in arguments.nodes) and row.kind in arguments.kinds:
+            yield row
+
+
+def print_node(number: int, node: NodeDifference, notes: Notes) -> None:
+    print(f"node {number}: {node.same:,} rows are the same, and then")
+    for mark, rows in ((" ", node.before), ("-", node.behind[0]), ("+", node.behind[1])):
+        for row in rows:
+            print(f"  {mark} {row_text(row, notes)}")
+        if not rows and mark != " ":
+            print(f"  {mark} no row more")
+    for kind, alignment in node.rest.items():
+        print(f"  {kind}: {', '.join(counts(alignment))}")
+
+
+def row_text(row: Row, notes: Notes) -> str:
+    text = " ".join(map(str, row))
+    note = notes.of(row)
+    return f"{text:<{COLUMN}} ; {note}" if note else text
+
+
+def counts(alignment: Alignment) -> Iterator[str]:
+    """What became of the rows of a kind, in words."""
+    if alignment.unmoved:
+        yield f"{alignment.unmoved:,} the same"
+    if alignment.moved:
+        yield f"{alignment.moved:,} the same but {shift_text(*alignment.shifts)}"
+    for word, count, rows in (("gone", alignment.gone_count, alignment.gone), ("new", alignment.new_count, alignment.new)):
+        if count:
+            told = ", ".join(f"{row.rest} in {row.cycle}" for row in rows)
+            yield f"{count:,} {word} ({told}{', ..' if count > len(rows) else ''})"
+
+
+def shift_text(least: int, most: int) -> str:
+    if least == most:
+        return f"{abs(least):,} cycles {'later' if least > 0 else 'earlier'}"
+    if least > 0:
+        return f"{least:,} to {most:,} cycles later"
+    if most < 0:
+        return f"{-most:,} to {-least:,} cycles earlier"
+    return f"{-least:,} cycles earlier to {most:,} later"
+
+
+def kinds(text: str) -> set[str]:
+    """The kinds of rows that a text such as serial,sent lists, for argparse."""
+    found = set(text.split(","))
+    if unknown := sorted(found - set(traces.KINDS)):
+        raise argparse.ArgumentTypeError(f"{unknown[0] or 'nothing'} is no kind of row: {', '.join(traces.KINDS)}")
+    return found
+
+
+def configure(parser: argparse.ArgumentParser) -> None:
+    cli.describe(parser, DESCRIPTION, "diff -e relay.elf before.trace after.trace")
+    cli.add_nodes(parser)
+    parser.add_argument("-k", "--kinds", type=kinds, default=set(traces.KINDS), help="these kinds of rows alone, such as serial,sent")
+    parser.add_argument("--without-cycles", action="store_true", help="rows that only come in other cycles do not differ")
+    programs.add_programs(parser)
+    parser.add_argument("first", metavar="A", help="a trace: a file, .gz too, or - for the standard input")
+    parser.add_argument("second", metavar="B", help="another")

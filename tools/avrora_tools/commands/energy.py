@@ -1,0 +1,113 @@
+"""Charge and duty cycle of each node, by what `avrora monitor` wrote and a table of currents."""
+import argparse
+import html
+
+from avrora_tools import cli, files, scenarios
+from avrora_tools.budgets import HOURS_A_DAY, Account, Table, account, duty_cycle, milliampere_hours, table_of, whole
+from avrora_tools.errors import BadInput, Status
+from avrora_tools.monitor_reports import NodeReport, parse
+from avrora_tools.terminal import warn
+
+SUMMARY = "charge and duty cycle of each node, by a table of currents"
+
+DESCRIPTION = """Tells the charge that each node draws and its duty cycle, by what `avrora monitor` wrote of a scenario and
+a TOML file of currents in mA:
+
+  awake = 8.0        # of the processor
+  asleep = 3.2
+  sending = 12.0     # of the radio, while a byte is on the air
+  listening = 7.0    # of the radio, all other time
+  hz = 7_372_800     # cycles a second; this, where it is absent
+  battery = 2_500    # mA h; then it is told how many days it lasts
+  [node.'1-4']       # other currents of some nodes
+  listening = 0.5
+
+Cycles without an owner (`lead`: the window began within a sleep or an instruction) may be awake or asleep, so what depends
+on them is told as a span. A byte that is sent counts for a whole byte time. From its stop on a node draws nothing. Means and
+days are those of the window of the report."""
+
+PARTS = {"awake": "#c0392b", "asleep": "#a9b8d0", "sending": "#3b6fb6", "listening": "#7bbf8a", "unknown": "#e0e0e0"}
+
+
+def run(arguments: argparse.Namespace) -> int:
+    table = table_of(files.read_text(arguments.currents), files.shown(arguments.currents))
+    scenario = scenarios.Scenario.load(arguments.scenario)
+    nodes = parse(files.read_text(arguments.report), files.shown(arguments.report))
+    if len(nodes) != len(scenario.images):
+        raise BadInput(
+            f"{files.shown(arguments.report)}: it has {len(nodes)} nodes, and the scenario {len(scenario.images)}: not its report"
+        )
+    if unknown := sorted(set(table.by_node) - set(range(len(nodes)))):
+        raise BadInput(f"{files.shown(arguments.currents)}: there is no node {unknown[0]}")
+    if not nodes[0].cycles:
+        raise BadInput(f"{files.shown(arguments.report)}: the window of the report has no cycles")
+    accounts = [account(node, table.of(k), scenario.byte_time, table.hz) for k, node in enumerate(nodes)]
+    print_table(nodes, accounts, table)
+    if stopped := [k for k, node in enumerate(nodes) if node.stopped]:
+        warn(f"node {stopped[0]} stopped, and draws nothing from then on")
+    if arguments.svg:
+        files.write_whole(arguments.svg, picture(accounts, nodes[0].cycles / table.hz))
+    return Status.GOOD
+
+
+def print_table(nodes: list[NodeReport], accounts: list[Account], table: Table) -> None:
+    seconds = nodes[0].cycles / table.hz
+    print(f"{nodes[0].cycles:,} cycles, {seconds:.6g} s at {table.hz:,.0f} Hz")
+    print(f"{'node':>7} {'awake':>15} {'sent':>7} {'mA':>15} {'mA h':>21} {'mA h a day':>15}" + " days" * bool(table.battery))
+    rows = [(str(k), duty_cycle(node), node.sent, one) for k, (node, one) in enumerate(zip(nodes, accounts))]
+    duties = [row[1] for row in rows]
+    mean = sum(low for low, _ in duties) / len(rows), sum(high for _, high in duties) / len(rows)
+    rows.append(("network", mean, sum(node.sent for node in nodes), whole(accounts)))
+    for name, duty, sent, one in rows:
+        least, most = one.least / seconds, one.most / seconds
+        days = ""
+        if table.battery and name != "network":
+            days = f" {between(table.battery / (most * HOURS_A_DAY), table.battery / (least * HOURS_A_DAY), '.0f')}" if least else " -"
+        print(
+            f"{name:>7} {between(100 * duty[0], 100 * duty[1], '.2f') + '%':>15} {sent:>7,} {between(least, most, '.3f'):>15} "
+            f"{between(milliampere_hours(one.least), milliampere_hours(one.most), '.4g'):>21} "
+            f"{between(least * HOURS_A_DAY, most * HOURS_A_DAY, '.2f'):>15}{days}"
+        )
+
+
+def between(least: float, most: float, form: str) -> str:
+    """A value, or a span where the two ends do not look the same."""
+    one, two = format(least, form), format(most, form)
+    return one if one == two else f"{one}..{two}"
+
+
+BAR, GAP, LEFT, RIGHT, TOP, BOTTOM = 16, 6, 60, 90, 34, 24
+
+
+def picture(accounts: list[Account], seconds: float, width: int = 900) -> str:
+    """A bar for each node, of what its mean current is made of, as SVG."""
+    greatest = max(one.most for one in accounts) or 1.0
+    scale = (width - LEFT - RIGHT) / greatest
+    height = TOP + len(accounts) * (BAR + GAP) + BOTTOM
+    out = [
+        f'<svg xmlns="http://www.w3.org/2000/svg" viewBox="0 0 {width} {height}" width="{width}" height="{height}" '
+        'font-family="DejaVu Sans,sans-serif" font-size="11"><rect width="100%" height="100%" fill="#fff"/>'
+    ]
+    for place, (part, colour) in enumerate(PARTS.items()):
+        x = LEFT + 120 * place
+        out.append(f'<rect x="{x}" y="10" width="12" height="12" fill="{colour}"/><text x="{x + 17}" y="20">{html.escape(part)}</text>')
+    for k, one in enumerate(accounts):
+        x, y = float(LEFT), float(TOP + k * (BAR + GAP))
+        out.append(f'<text x="{LEFT - 8}" y="{y + BAR - 4}" text-anchor="end">node {k}</text>')
+        for part, colour in PARTS.items():
+            long = getattr(one, part) * scale
+            title = f"node {k}, {part}: {getattr(one, part) / seconds:.4g} mA"
+            out.append(
+                f'<rect x="{x:.1f}" y="{y}" width="{long:.1f}" height="{BAR}" fill="{colour}"><title>{title}</title></rect>'
+            )
+            x += long
+        out.append(f'<text x="{x + 6:.1f}" y="{y + BAR - 4}">{between(one.least / seconds, one.most / seconds, ".3f")} mA</text>')
+    return "\n".join(out) + "\n</svg>\n"
+
+
+def configure(parser: argparse.ArgumentParser) -> None:
+    cli.describe(parser, DESCRIPTION, "energy currents.toml packet.toml packet.profile")
+    parser.add_argument("--svg", metavar="FILE", help="a picture too: a bar for each node")
+    parser.add_argument("currents", metavar="CURRENTS", help="the currents, a TOML file")
+    parser.add_argument("scenario", metavar="SCENARIO", help="whose report it is: its byte time says how long a byte is sent")
+    parser.add_argument("report", nargs="?", default="-", metavar="REPORT", help="what `avrora monitor` wrote; - or none: the standard input")

@@ -1,0 +1,279 @@
+"""Moves one event of a scenario, or two, cycle by cycle, and tells after which moves a check fails, and where."""
+import argparse
+import os
+import re
+import tomllib
+from collections.abc import Iterator
+from contextlib import contextmanager
+
+from avrora_tools import cli, expectations, files, programs, scenarios
+from avrora_tools.errors import BadInput, BadWords, Status
+from avrora_tools.states import State
+from avrora_tools.sweeping import findings as grouping
+from avrora_tools.sweeping.events import InputByte, Move, Moved, MovedScenario, moved_scenario, parsed_event
+from avrora_tools.sweeping.findings import Finding
+from avrora_tools.sweeping.plans import Cell
+from avrora_tools.sweeping.sharing import Sharing, objects_of
+from avrora_tools.sweeping.simulation import ProcessTails, Simulator, scenario_text
+from avrora_tools.sweeping.sweep import Options, Results, Sweep
+from avrora_tools.sweeping.rows import written
+from avrora_tools.sweeping.verdicts import CaseCheck, Check, Compare, PredicateCheck, SerialCheck, nodes_of, predicate_of
+from avrora_tools.terminal import Progress
+
+SUMMARY = "moves an event cycle by cycle, and tells which moves break a run and where"
+
+DESCRIPTION = """Moves an event of a scenario through a span of cycles and checks each run. What moves, with its span A..B:
+  --input N:I=A..B       byte I of node N's input, with the bytes behind it
+  --start N=A..B         the first byte of node N's input, by which its program starts
+  --latency F-T=A..B     the latency of the link from node F to node T
+Two of them make a grid; A..B/STEP takes each STEP-th value alone.
+
+Cycles in which a byte's arrival makes one and the same execution are one class, and one run of each class is made. All
+classes are run, unless --quick, --runs, --stop, --per-place or a step says otherwise; then it is told how many were not.
+--quick is a first look: a clean one proves nothing.
+
+Each run is checked at its end, which is the deadline of all that is checked: the scenario's `cycles`, or --until. Unless
+--expect or --check says otherwise each node is to write to USART0 what it writes in the run that is not moved.
+With -e, of the program of the node whose byte moves, functions, lines and what handlers share with main have their names,
+and it is told where a failing run parts from one that passes.
+
+Status 0: no run fails; 1: one does; 2: the words or the files are bad."""
+
+MOST_SPANS = 4  # stretches of a finding that are told
+MOST_TEXTS = 3  # and kinds of failure
+BEFORE, BEHIND = 200, 2_000  # cycles of the window of the earliest failing run, about where its byte is noticed
+
+
+def run(arguments: argparse.Namespace) -> int:
+    options = Options(arguments.quick, arguments.grid, arguments.all, arguments.per_place, arguments.stop, arguments.runs)
+    with prepared(arguments) as sweep:
+        print_plan(sweep)
+        results = run_all(sweep, options)
+        print_totals(sweep, results, options)
+        found = sweep.findings()
+        for number, finding in enumerate(found, 1):
+            print_finding(sweep, number, finding)
+        if found and arguments.out:
+            write_earliest(arguments.out, sweep, found[0].first(), folder_of(arguments.scenario))
+    return Status.NOT_MET if results.failures else Status.GOOD
+
+
+@contextmanager
+def prepared(arguments: argparse.Namespace) -> Iterator[Sweep]:
+    """The sweep that the words say, with its classes, before any of them is run."""
+    document = document_of(arguments.scenario)
+    moved, order = moved_events(arguments)
+    if arguments.quick and not (arguments.elf and isinstance(moved[-1].event, InputByte)):
+        raise BadWords("--quick goes by what handlers share with main: it needs -e, and a byte that moves")
+    if arguments.expect and arguments.check:
+        raise BadWords("either --expect or --check")
+    if arguments.state and arguments.expect:
+        raise BadWords("--expect wants the whole trace, and a state has no rows of what was before it")
+    state = files.read_bytes(arguments.state) if arguments.state else None
+    state_cycle = State.of_text(state.decode("ascii", "replace"), arguments.state).cycle if state else None
+    scenario = moved_scenario(document, moved, arguments.until, state_cycle)
+    simulator = Simulator(cli.simulator(arguments.avrora), folder_of(arguments.scenario), arguments.timeout)
+    with ProcessTails(simulator, scenario, arguments.jobs, state) as tails:
+        check = check_of(arguments, tails, scenario, order)
+        program, sharing = program_of(arguments, simulator, document, moved[-1])
+        yield Sweep(tails, scenario, check, program, sharing)
+
+
+def folder_of(scenario: str) -> str:
+    """Where the images of a scenario are."""
+    return os.path.dirname(os.path.abspath(scenario))
+
+
+def document_of(path: str) -> dict[str, object]:
+    """A scenario's document. Raises BadInput where the simulator would refuse it."""
+    text = files.read_text(path)
+    scenarios.Scenario.of_text(text, files.shown(path))
+    return tomllib.loads(text.removeprefix("\ufeff"))
+
+
+def moved_events(arguments: argparse.Namespace) -> tuple[list[Moved], list[int]]:
+    """What moves, a byte last where there is one; and the place in it of each event of the command line."""
+    words = arguments.moved or []
+    if not 1 <= len(words) <= 2:
+        raise BadWords("one event moves, or two: --input, --start, --latency")
+    given = [parsed_event(kind, text) for kind, text in words]
+    order = sorted(range(len(given)), key=lambda i: isinstance(given[i].event, InputByte))
+    if len(given) == 2 and given[0].event == given[1].event:
+        raise BadWords("the two events are one")
+    return [given[i] for i in order], [order.index(i) for i in range(len(given))]
+
+
+def program_of(
+    arguments: argparse.Namespace, simulator: Simulator, document: dict[str, object], last: Moved
+) -> tuple[programs.Program | None, Sharing | None]:
+    if not arguments.elf:
+        return None, None
+    program = programs.Program(arguments.elf)
+    event = last.event
+    node = event.node if isinstance(event, InputByte) else event.hearer
+    nodes: list[dict[str, str]] = document["node"]  # type: ignore[assignment]
+    listing = simulator.call("disasm", nodes[node]["image"]).decode().splitlines()
+    return program, Sharing(program, listing, objects_of(arguments.elf))
+
+
+def check_of(arguments: argparse.Namespace, tails: ProcessTails, scenario: MovedScenario, order: list[int]) -> Check:
+    if arguments.check:
+        return PredicateCheck(tails.head, predicate_of(arguments.check), order)
+    if arguments.expect:
+        return CaseCheck(tails.head, expectations.read_case(arguments.expect))
+    nodes = nodes_of(len(scenario.document["node"]), arguments.nodes)
+    good = written(reference(arguments, tails, scenario))
+    try:
+        re.compile(arguments.drop)
+    except re.error as fault:
+        raise BadWords(f"--drop: {fault}") from None
+    return SerialCheck(tails.head, good, nodes, Compare(arguments.compare), os.fsencode(arguments.drop))
+
+
+def reference(arguments: argparse.Namespace, tails: ProcessTails, scenario: MovedScenario) -> tuple[bytes, ...]:
+    """The rows of the run that is not moved, in pieces."""
+    unmoved = scenario.unmoved() if not arguments.base else base_move(arguments.base, scenario)
+    comes_later = all(
+        value >= scenario.begins for value, m in zip(unmoved, scenario.moved) if isinstance(m.event, InputByte)
+    )
+    if comes_later:
+        return tails.head, tails.output(unmoved)
+    if arguments.state or arguments.base:
+        raise BadInput(
+            f"the run that is not moved has its event before cycle {scenario.begins:,}, in which the runs begin: --base names "
+            "a value for another run to compare with"
+        )
+    path = tails.written({**scenario.document, "cycles": scenario.until, "window": [0, 0]})
+    return (tails.simulator.call("run", "--plain", path),)
+
+
+def base_move(values: list[int], scenario: MovedScenario) -> Move:
+    if len(values) != len(scenario.moved):
+        raise BadWords(f"--base takes a value for each event that moves, {len(scenario.moved)} in all, bytes last")
+    return tuple(values)
+
+
+# ---- what is printed
+
+
+def print_plan(sweep: Sweep) -> None:
+    events = " and ".join(f"{m.event} from {m.span.first:,} to {m.span.last:,}" for m in sweep.scenario.moved)
+    moves = sum(len(cell.arrivals.moves) for cell in sweep.cells)
+    print(f"{events}: {moves:,} moves, {len(sweep.cells):,} classes; each run ends at {sweep.scenario.until:,}")
+    if sweep.sharing and sweep.sharing.things:
+        print(f"used by handlers and by main: {', '.join(sweep.sharing.things)}")
+
+
+def run_all(sweep: Sweep, options: Options) -> Results:
+    progress = Progress(prints=True)
+    told = False
+    results = sweep.results
+    for results in sweep.run(options):
+        if results.first_failure and not told:
+            move, wrong, runs, seconds = results.first_failure
+            print(f"first failure: run {runs:,}, {seconds:.2f} s: {shown_move(move)}: {wrong}", flush=True)
+            told = True
+        if progress.due():
+            progress.tell(f"{results.runs:,} runs, {len(results.failures):,} classes fail")
+    progress.end()
+    return results
+
+
+def print_totals(sweep: Sweep, results: Results, options: Options) -> None:
+    speed = results.runs / results.seconds if results.seconds else 0
+    print(
+        f"{len(results.failures):,} of {len(results.ran):,} classes fail; {results.runs:,} runs in {results.seconds:.1f} s "
+        f"({speed:.0f} a second)"
+    )
+    if missed := sweep.classes_not_run():
+        print(f"{missed:,} of {len(sweep.cells):,} classes were not run")
+    if options.quick and not results.failures:
+        print("this was a first look, which proves nothing: without --quick all classes are run")
+
+
+def print_finding(sweep: Sweep, number: int, finding: Finding) -> None:
+    spots = " and ".join(grouping.lines_of(finding.spots))
+    used = sweep.thing_in_use(finding)
+    texts = grouping.counted([sweep.results.failures[cell] for cell in finding.failing])
+    print(
+        f"{number}. {finding.failing_arrivals:,} of {finding.arrivals:,} arrivals while {spots}"
+        + (f"; {used}" if used else "")
+        + f": {texts[0][0]}"
+    )
+    for text, count in texts[1:MOST_TEXTS]:
+        print(f"   also ({count:,} classes): {text}")
+    if len(texts) > MOST_TEXTS:
+        print(f"   and {len(texts) - MOST_TEXTS:,} other failures")
+    stretches = grouping.spans(finding.failing)
+    told = ", ".join(f"{first:,}" if first == last else f"{first:,} to {last:,}" for first, last in stretches[:MOST_SPANS])
+    more = len(stretches) - MOST_SPANS
+    print(f"   moves: {told}" + (f" and {more:,} more stretches" if more > 0 else ""))
+    if late := sweep.late(finding):
+        print(f"   late: node {late[0]} writes it in cycle {late[1]:,}, {late[1] - sweep.scenario.until:,} behind the end of the run")
+    if parting := sweep.parting(finding):
+        print(f"   in run {shown_move(finding.first().move())} {parting}")
+
+
+def shown_move(move: Move) -> str:
+    return ", ".join(f"{value:,}" for value in move)
+
+
+def write_earliest(path: str, sweep: Sweep, cell: Cell, folder: str) -> None:
+    """Writes the scenario of a failing run with a window about where its byte is noticed; a state too where it needs one."""
+    move, point, scenario = cell.move(), cell.arrivals.point, sweep.scenario
+    at = point.cycle if point else move[-1] if isinstance(scenario.moved[-1].event, InputByte) else 0
+    window = max(scenario.begins, at - BEFORE), min(scenario.until, at + BEHIND)
+    whole = None if sweep.tails.begins_in_given_state else scenario.whole_scenario(move, window)
+    document = whole or scenario.scenario(move, window)
+    files.write_whole(path, scenario_text(document))
+    words = ["run", os.path.abspath(path)]
+    if whole is None:
+        files.write_whole(f"{path}.state", sweep.tails.state or b"")
+        words = ["resume", os.path.abspath(path), os.path.abspath(f"{path}.state")]
+    print(f"earliest: avrora -C {os.path.relpath(folder)} {' '.join(words)}")
+
+
+# ---- the command line
+
+
+class AddMoved(argparse.Action):
+    """Collects what moves, in the order of the command line."""
+
+    def __call__(self, parser: object, namespace: argparse.Namespace, values: object, option: str | None = None) -> None:
+        namespace.moved = [*(namespace.moved or []), ((option or "").lstrip("-"), values)]
+
+
+def configure(parser: argparse.ArgumentParser) -> None:
+    cli.describe(parser, DESCRIPTION, "sweep torn.toml --start 0=270_000..273_999 --until 300_000 -e torn.elf")
+    parser.set_defaults(moved=None)
+    for option, form in (("--input", "N:I=A..B"), ("--start", "N=A..B"), ("--latency", "F-T=A..B")):
+        parser.add_argument(option, action=AddMoved, metavar=form, help="what moves, and its span")
+    parser.add_argument("--until", type=cli.positive, metavar="CYCLE", help="where each run ends: the deadline of all that is checked")
+    parser.add_argument("--state", metavar="STATE", help="go on from this state of the scenario")
+    parser.add_argument("--expect", metavar="CASE", help="check each run by this case of `expect`")
+    parser.add_argument("--check", metavar="FILE", help="check each run by the function check(run) of this Python file")
+    parser.add_argument(
+        "--compare",
+        choices=[it.value for it in Compare],
+        default=Compare.BYTES.value,
+        help="how serial output is compared: byte for byte, or with bytes or lines in any order (%(default)s)",
+    )
+    parser.add_argument("--drop", default="", metavar="PATTERN", help="leave what matches out of the serial output first")
+    cli.add_nodes(parser)
+    parser.add_argument("--base", type=cli.natural, action="append", metavar="VALUE", help="compare with the run of this move")
+    parser.add_argument("-e", "--elf", metavar="ELF", help="the program of the node whose byte moves")
+    parser.add_argument("--out", metavar="FILE", help="write the earliest failing scenario, with a window about the arrival")
+    parser.add_argument("--all", action="store_true", help="run each move, and not one of each class")
+    parser.add_argument("--quick", action="store_true", help="a first look: not all classes are run")
+    parser.add_argument("--grid", type=cli.positive, default=64, metavar="N", help="--quick runs each N-th class at least (%(default)s)")
+    parser.add_argument("--per-place", type=cli.positive, metavar="N", help="run N classes of each interrupted instruction at most")
+    parser.add_argument("--stop", action="store_true", help="end at the first failure")
+    parser.add_argument("--runs", type=cli.positive, metavar="N", help="end after N runs")
+    parser.add_argument("--jobs", type=cli.positive, default=processors(), metavar="N", help="runs at a time (%(default)s)")
+    parser.add_argument("--timeout", type=cli.positive, default=60, metavar="S", help="seconds that a run may take (%(default)s)")
+    cli.add_simulator(parser)
+    parser.add_argument("scenario", metavar="SCENARIO")
+
+
+def processors() -> int:
+    return len(os.sched_getaffinity(0))

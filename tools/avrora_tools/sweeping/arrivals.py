@@ -1,0 +1,144 @@
+"""Classes of arrivals: the cycles in which a byte of USART0 can arrive and make one and the same execution.
+
+Up to the byte's arrival each run is the run in which it never comes, so one trace of that run tells the past of all. In it
+stand the points at which an arrival can be noticed: a boundary at which the interrupt USART0 RX could be entered, each cycle
+of a sleep, and an instruction that reads or writes a register of the port. Bytes that arrive between the same two points
+make one execution, cycle for cycle. Where it is not known whether a point is one it counts as one, which makes more classes
+and never fewer. (Not looked for: a program whose stack lies over the registers, or that writes SREG through a pointer.)
+"""
+import re
+from collections.abc import Iterable, Iterator, Sequence
+from dataclasses import dataclass
+
+from avrora_tools.sweeping.interrupts import Contradiction, InterruptFlag, Known
+from avrora_tools.traces import Row
+
+USART0_RX = 0x24
+
+# An instruction that names UDR0, UCSR0B, UCSR0A (0x0A to 0x0C as I/O registers) or UCSR0C (which cuts what arrives), and one
+# that may reach them through a pointer.
+NAMES_PORT = re.compile(r"(?:in|out|sbi|cbi|sbis|sbic) .*\b0x0[ABC]\b|(?:lds|sts) .*\b0x(?:002[ABC]|0095)\b")
+POINTER_ACCESS = re.compile(r"(?:ld|ldd|st|std) ")
+
+
+@dataclass(frozen=True)
+class Place:
+    """What a node is at when an arrival is noticed: the address to return to, the handlers it is in (by their vectors, the
+    inner one last), whether it sleeps."""
+
+    address: int
+    handlers: tuple[int, ...] = ()
+    asleep: bool = False
+
+
+@dataclass(frozen=True)
+class Point:
+    """A cycle at which an arrival can be noticed."""
+
+    cycle: int
+    place: Place
+
+
+@dataclass(frozen=True)
+class ArrivalClass:
+    """Values of a moved event that make one execution. Without a point the event is never noticed, or, of an event that is
+    no arrival, it is not known where."""
+
+    moves: range
+    point: Point | None = None
+
+
+@dataclass(frozen=True)
+class Start:
+    """What is known of a node as its rows begin: the cycle, the flag I, and where it sleeps, if it does."""
+
+    cycle: int
+    interrupts: Known = None
+    asleep_at: int | None = None
+
+
+def points(rows: Iterable[Row], start: Start, end: int) -> Iterator[Point]:
+    """The points below `end`, of a node's `instr`, `enter` and `stop` rows."""
+    return Watch(start).points(rows, end)
+
+
+class Watch:
+    """Goes through the rows of a node."""
+
+    def __init__(self, start: Start) -> None:
+        self.flag = InterruptFlag(start.interrupts)
+        self.handlers: list[int] = []
+        self.asleep_at = start.asleep_at  # the address to return to from the sleep
+        self.next = start.cycle + 1  # the first cycle of the sleep that is no point yet
+
+    def points(self, rows: Iterable[Row], end: int) -> Iterator[Point]:
+        for row in rows:
+            yield from self.sleep_until(row.cycle)
+            if row.kind == "enter":
+                yield from self.enter(row)
+            elif row.kind == "stop":
+                yield Point(row.cycle, self.place(int(row.rest[:4], 16)))
+                return  # what arrives later is never noticed
+            else:
+                yield from self.execute(row)
+        yield from self.sleep_until(end)
+
+    def place(self, address: int) -> Place:
+        return Place(address, tuple(self.handlers))
+
+    def sleep_until(self, cycle: int) -> Iterator[Point]:
+        """Each cycle of a sleep that an interrupt could end."""
+        if self.asleep_at is not None and self.flag.is_set is not False:
+            place = Place(self.asleep_at, tuple(self.handlers), True)
+            yield from (Point(c, place) for c in range(self.next, cycle))
+            self.next = cycle
+
+    def enter(self, row: Row) -> Iterator[Point]:
+        vector, back = int(row.rest[:4], 16), int(row.rest[5:], 16)
+        slept, self.asleep_at = self.asleep_at is not None, None
+        if not self.flag.may_enter():
+            raise Contradiction
+        if vector >= USART0_RX:  # one with a lower vector goes first, also where the byte has come
+            yield Point(row.cycle, Place(back, tuple(self.handlers), slept))
+        self.flag.enter()
+        self.handlers.append(vector)
+
+    def execute(self, row: Row) -> Iterator[Point]:
+        address, text = int(row.rest[:4], 16), row.rest[5:]
+        self.asleep_at = None
+        if self.flag.may_enter() or NAMES_PORT.match(text) or POINTER_ACCESS.match(text):
+            yield Point(row.cycle, self.place(address))
+        self.flag.execute(text)
+        if text == "reti" and self.handlers:
+            self.handlers.pop()
+        elif text == "sleep":
+            self.asleep_at, self.next = address + 1, row.cycle + 1
+
+
+def classes(rows: Sequence[Row], start: Start, first: int, last: int, end: int) -> list[ArrivalClass]:
+    """The classes of the arrivals from `first` to `last`, in their order; `end` is the cycle behind the rows. An arrival in
+    the cycle of a point is noticed at the next one, as the processor comes first in each cycle."""
+    try:
+        found = list(points(rows, start, end))
+    except Contradiction:  # take nothing for known, and go by the points alone
+        found = list(points_without_flag(rows, start, end))
+    result, begun = [], first
+    for point in found:
+        until = min(point.cycle, last + 1)
+        if until > begun:
+            result.append(ArrivalClass(range(begun, until), point))
+            begun = until
+    if begun <= last:
+        result.append(ArrivalClass(range(begun, last + 1)))
+    return result
+
+
+def points_without_flag(rows: Sequence[Row], start: Start, end: int) -> Iterator[Point]:
+    """Each boundary of an instruction, and each cycle between two: whatever the flag is, no point is missed."""
+    cycle = start.cycle
+    address = start.asleep_at or 0
+    for row in rows:
+        address = int(row.rest[5:9] if row.kind == "enter" else row.rest[:4], 16)
+        yield from (Point(c, Place(address)) for c in range(cycle + 1, row.cycle + 1))
+        cycle = row.cycle
+    yield from (Point(c, Place(address)) for c in range(cycle + 1, end))

@@ -1,0 +1,124 @@
+"""Runs the moves of a sweep. `Tails` is all that the rest of a sweep knows of it; today each run is a process of its own."""
+import os
+import subprocess
+import tempfile
+import threading
+from collections import deque
+from collections.abc import Iterable, Iterator, Sequence
+from concurrent.futures import Future, ThreadPoolExecutor
+from types import TracebackType
+from typing import Protocol
+
+from avrora_tools.errors import BadInput, CannotWork
+from avrora_tools.networks import quoted
+from avrora_tools.sweeping.events import EPOCH, Document, Move, MovedScenario
+
+Window = tuple[int, int]
+NO_WINDOW = (0, 0)
+
+
+class Tails(Protocol):
+    """Runs that all begin in one state (or at reset), each with its events moved."""
+
+    def outputs(self, jobs: Iterable[tuple[Move, Window]]) -> Iterator[bytes]:
+        """The rows of each run, from where runs begin on, in the order of the jobs; jobs are taken as they are needed."""
+
+    def output(self, move: Sequence[int | None], window: Window = NO_WINDOW, until: int | None = None) -> bytes:
+        """The rows of one run; a byte whose value is None never comes."""
+
+
+class Simulator:
+    """The program, called in the folder of a scenario's images."""
+
+    def __init__(self, program: str, folder: str, timeout: float) -> None:
+        self.program, self.folder, self.timeout = program, folder, timeout
+
+    def call(self, *words: str) -> bytes:
+        """What the program writes. Raises BadInput with what it says where it refuses its input."""
+        try:
+            done = subprocess.run(
+                [self.program, *words], cwd=self.folder, stdin=subprocess.DEVNULL, capture_output=True, timeout=self.timeout
+            )
+        except subprocess.TimeoutExpired:
+            raise CannotWork(f"a run took more than {self.timeout:g} seconds (--timeout)") from None
+        except OSError as fault:
+            raise CannotWork(f"cannot run {self.program}: {fault.strerror}") from None
+        if done.returncode:
+            said = done.stderr.decode(errors="replace").strip() or f"status {done.returncode}"
+            raise BadInput(f"{' '.join(words[:1])}: {said}")
+        return done.stdout
+
+
+class ProcessTails:
+    """Each run is a process. Some run at a time, and never more ahead than that of what is asked for."""
+
+    def __init__(self, simulator: Simulator, scenario: MovedScenario, jobs: int, state: bytes | None = None) -> None:
+        """`state` is that of the cycle in which the runs begin; without it the simulator makes it."""
+        self.simulator, self.scenario, self.jobs = simulator, scenario, jobs
+        self.folder = tempfile.TemporaryDirectory(prefix="avrora-sweep-")
+        self.names = threading.local()
+        self.state_path: str | None = None
+        self.head = b""  # the rows before the state, where they are known
+        self.begins_in_given_state = state is not None
+        if state is None and scenario.begins:
+            state = self.saved()
+        if state is not None:
+            self.state_path = os.path.join(self.folder.name, "state")
+            with open(self.state_path, "wb") as file:
+                file.write(state)
+        self.state = state
+
+    def __enter__(self) -> "ProcessTails":
+        return self
+
+    def __exit__(self, kind: type[BaseException] | None, fault: BaseException | None, trace: TracebackType | None) -> None:
+        self.folder.cleanup()
+
+    def saved(self) -> bytes:
+        epochs = str(self.scenario.begins // EPOCH)
+        path = self.written(self.scenario.before())
+        self.head = self.simulator.call("head", path, epochs)
+        return self.simulator.call("save", path, epochs)
+
+    def written(self, document: Document) -> str:
+        """Writes a scenario to the file of this thread; its path."""
+        path: str | None = getattr(self.names, "path", None)
+        if path is None:
+            path = self.names.path = os.path.join(self.folder.name, f"{threading.get_ident()}.toml")
+        with open(path, "w", encoding="utf-8") as file:
+            file.write(scenario_text(document))
+        return path
+
+    def output(self, move: Sequence[int | None], window: Window = NO_WINDOW, until: int | None = None) -> bytes:
+        path = self.written(self.scenario.scenario(move, window, until))
+        if self.state_path:
+            return self.simulator.call("resume", path, self.state_path)
+        return self.simulator.call("run", "--plain", path)
+
+    def outputs(self, jobs: Iterable[tuple[Move, Window]]) -> Iterator[bytes]:
+        waiting: deque[Future[bytes]] = deque()
+        with ThreadPoolExecutor(self.jobs) as pool:
+            try:
+                for move, window in jobs:
+                    waiting.append(pool.submit(self.output, move, window))
+                    if len(waiting) > self.jobs:
+                        yield waiting.popleft().result()
+                while waiting:
+                    yield waiting.popleft().result()
+            finally:
+                pool.shutdown(cancel_futures=True)
+
+
+def scenario_text(document: Document) -> str:
+    """The text of a scenario."""
+    arrays = {key: value for key, value in document.items() if key in ("node", "link", "input")}
+    lines = [f"{key} = {value_text(value)}" for key, value in document.items() if key not in arrays]
+    for name, tables in arrays.items():
+        for table in tables:
+            lines += ["", f"[[{name}]]", *(f"{key} = {value_text(value)}" for key, value in table.items())]
+    return "\n".join(lines) + "\n"
+
+
+def value_text(value: object) -> str:
+    """A value of a scenario as TOML: a text, a whole number, or a list of such."""
+    return quoted(value) if isinstance(value, str) else str(value)

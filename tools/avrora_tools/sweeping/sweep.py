@@ -1,0 +1,157 @@
+"""A sweep from its scenario to its findings."""
+import time
+from collections.abc import Iterator, Mapping, Sequence
+from dataclasses import dataclass, field
+
+from avrora_tools.programs import Program
+from avrora_tools.states import State
+from avrora_tools.sweeping import evidence
+from avrora_tools.sweeping.cells import CellMaker
+from avrora_tools.sweeping.events import EPOCH, InputByte, Move, MovedScenario
+from avrora_tools.sweeping.findings import Finding, Spots, findings
+from avrora_tools.sweeping.ordering import Clock, Enter, dividers, steps
+from avrora_tools.sweeping.plans import Cell, FirstLook, in_rounds
+from avrora_tools.sweeping.rows import processor_rows
+from avrora_tools.sweeping.sharing import Sharing
+from avrora_tools.sweeping.simulation import NO_WINDOW, ProcessTails, Window
+from avrora_tools.sweeping.verdicts import Check, SerialCheck
+
+
+@dataclass(frozen=True)
+class Options:
+    """What the user chose."""
+
+    quick: bool = False
+    grid: int = 64
+    each_move: bool = False
+    per_place: int | None = None
+    stop: bool = False
+    runs: int | None = None
+
+
+@dataclass
+class Results:
+    """What came of the runs so far."""
+
+    failures: dict[Cell, str] = field(default_factory=dict)
+    ran: dict[Cell, None] = field(default_factory=dict)
+    runs: int = 0
+    seconds: float = 0.0
+    first_failure: tuple[Move, str, int, float] | None = None  # the move, what is wrong, after so many runs and seconds
+
+
+class Sweep:
+    """One sweep."""
+
+    def __init__(
+        self, tails: ProcessTails, scenario: MovedScenario, check: Check, program: Program | None, sharing: Sharing | None
+    ) -> None:
+        self.tails, self.scenario, self.check = tails, scenario, check
+        self.program, self.sharing = program, sharing
+        last = scenario.moved[-1].event
+        self.node = last.node if isinstance(last, InputByte) else last.hearer
+        state = State.of_text(tails.state.decode(), "the state") if tails.state else None
+        self.state = state
+        self.cells = list(CellMaker(tails, scenario, state).cells())
+        self.between: Mapping[int, str] = sharing.between if sharing else {}
+        self.results = Results()
+
+    def run(self, options: Options) -> Iterator[Results]:
+        """Makes the runs, and tells after each what has come of them."""
+        begun = time.monotonic()
+        outputs = self.first_look(options) if options.quick else self.all_outputs(options)
+        for cell, move, output in outputs:
+            results = self.results
+            results.runs += 1
+            results.ran[cell] = None
+            results.seconds = time.monotonic() - begun
+            if wrong := self.check.failure(move, output):
+                results.failures.setdefault(cell, wrong)
+                results.first_failure = results.first_failure or (move, wrong, results.runs, results.seconds)
+            yield results
+            if results.failures and options.stop or results.runs == options.runs:
+                return
+
+    def chosen(self, cell: Cell, options: Options) -> list[Move]:
+        """The moves of a class that are run: one of those that are asked for, or all of them."""
+        span = self.scenario.moved[-1].span
+        moves = [(*cell.before, x) for x in cell.arrivals.moves if (x - span.first) % span.step == 0]
+        return moves if options.each_move else moves[:1]
+
+    def all_outputs(self, options: Options) -> Iterator[tuple[Cell, Move, bytes]]:
+        cells = in_rounds(self.cells, self.between, options.per_place)
+        jobs = [(cell, move) for cell in cells for move in self.chosen(cell, options)]
+        outputs = self.tails.outputs((move, NO_WINDOW) for _, move in jobs)
+        for (cell, move), output in zip(jobs, outputs):
+            yield cell, move, output
+
+    def first_look(self, options: Options) -> Iterator[tuple[Cell, Move, bytes]]:
+        by_values: dict[Move, list[Cell]] = {}
+        for cell in self.cells:
+            if self.chosen(cell, options):
+                by_values.setdefault(cell.before, []).append(cell)
+        clocks = self.clocks()
+        for cells in by_values.values():
+            look = FirstLook(cells, self.between, options.grid, self.scenario.until)
+            for jobs in look.rounds():
+                moves = [(self.chosen(cells[i], options)[0], window) for i, window in jobs]
+                for (i, window), (move, _), output in zip(jobs, moves, self.tails.outputs(moves)):
+                    look.orders[i, window] = self.order_of(output, window, clocks)
+                    yield cells[i], move, output
+
+    def order_of(self, output: bytes, window: Window, clocks: dict[int, int]) -> int:
+        """A number that tells orders of uses apart."""
+        assert self.sharing is not None
+        rows = processor_rows(output, self.node, window)
+        heard = [line.split(b" ", 4)[1:4] for line in output.splitlines() if b" heard 1" in line or b" heard 2" in line]
+        order = [step.what for step in steps(rows, self.sharing, clocks, window[0])]
+        return hash((tuple(order), tuple(map(tuple, heard))))
+
+    def clocks(self) -> dict[int, int]:
+        """The dividers of the node's timers: those of the state, or of the end of the first epoch."""
+        state = self.state
+        if state is None and self.scenario.document["cycles"] > EPOCH:
+            unmoved = self.tails.written({**self.scenario.document, "window": [0, 0]})
+            state = State.of_text(self.tails.simulator.call("save", unmoved, "1").decode(), "the state")
+        return dividers(state.nodes[self.node]) if state else {}
+
+    def findings(self) -> list[Finding]:
+        ran = [cell for cell in self.cells if cell in self.results.ran]
+        return findings(ran, self.results.failures, Spots(self.program))
+
+    def classes_not_run(self) -> int:
+        return len(self.cells) - len(self.results.ran)
+
+    def late(self, finding: Finding) -> tuple[int, int] | None:
+        """Where what the earliest run lacks does come, behind the end of the runs: the node and the cycle."""
+        cycles = self.scenario.document["cycles"]
+        if not isinstance(self.check, SerialCheck) or self.scenario.until >= cycles:
+            return None
+        return self.check.late(self.tails.output(finding.first().move(), until=cycles))
+
+    def parting(self, finding: Finding) -> str | None:
+        """Where the earliest failing run parts from a near one that passes: a handler or a clock that comes between two uses
+        where the other side is tried first."""
+        if self.sharing is None:
+            return None
+        ran = [cell for cell in self.cells if cell in self.results.ran]
+        clocks = self.clocks()
+        found = None
+        for passing in evidence.neighbours(ran, self.results.failures, finding.first()):
+            window = evidence.window_about((finding.first(), passing), self.scenario.begins, self.scenario.until)
+            one = evidence.parting(self.tails, self.sharing, clocks, self.node, finding.first(), passing, window)
+            if one and one.failing and isinstance(one.failing.what, (Enter, Clock)) and one.behind and one.ahead:
+                return evidence.described(one, self.sharing)
+            found = found or one
+        return evidence.described(found, self.sharing) if found else None
+
+    def thing_in_use(self, finding: Finding) -> str | None:
+        """What is used by the code that the arrivals of a finding interrupt, and by handlers too."""
+        places: Sequence[int] = [place.address for cell in finding.failing if (place := cell.place()) and not place.asleep]
+        things = dict.fromkeys(self.between[address] for address in places if address in self.between)
+        if not things or self.sharing is None:
+            return None
+        users = dict.fromkeys(user for thing in things for user in self.sharing.users(thing))
+        names = " and ".join("the sleep" if thing == "sleep" else f"`{thing}`" for thing in things)
+        are = "are" if len(things) > 1 else "is"
+        return f"{names} {are} used here and in {' and '.join(f'`{user}`' for user in users)}"

@@ -1,0 +1,391 @@
+"""The variables of a program by their names, types and values, from the DWARF of its ELF file and a node's memory."""
+import struct
+from collections.abc import Callable, Iterator, Sequence
+from dataclasses import dataclass
+from typing import Any, Protocol
+
+from avrora_tools import files
+from avrora_tools.errors import BadInput
+from avrora_tools.states import DATA_END, SRAM_FIRST
+from avrora_tools.terminal import missing
+
+DATA_SPACE = 0x800000  # where avr-gcc's ELF files put the data space
+
+# DWARF: the operation that gives an address, and how a base type is encoded.
+OP_ADDR = 0x03
+BOOLEAN, FLOAT, SIGNED, SIGNED_CHAR, UNSIGNED, UNSIGNED_CHAR = 0x02, 0x04, 0x05, 0x06, 0x07, 0x08
+
+MOST_ELEMENTS = 24  # of an array that are shown, runs of one value taken together
+MOST_DEPTH = 8
+
+
+class Memory(Protocol):
+    """A data space, and what stands where."""
+
+    def read(self, address: int, size: int) -> bytes: ...
+
+    def object_at(self, address: int) -> str | None:
+        """The variable, and the place in it, that an address lies in."""
+
+    def function_at(self, word: int) -> str | None:
+        """The function that begins at a word address."""
+
+
+class Type(Protocol):
+    """A type of C."""
+
+    @property
+    def name(self) -> str: ...
+
+    @property
+    def size(self) -> int: ...
+
+    def shown(self, data: bytes, memory: Memory, depth: int = 0) -> str:
+        """A value, given its bytes."""
+
+
+@dataclass(frozen=True)
+class Base:
+    """A number, a character, a truth value."""
+
+    name: str
+    size: int
+    encoding: int
+    is_text: bool = False  # plain `char`, and not a number of eight bits
+
+    def number(self, data: bytes) -> int:
+        return int.from_bytes(data, "little", signed=self.encoding in (SIGNED, SIGNED_CHAR))
+
+    def shown(self, data: bytes, memory: Memory, depth: int = 0) -> str:
+        if self.encoding == FLOAT and self.size == 4:
+            return f"{struct.unpack('<f', data)[0]:g}"
+        value = self.number(data)
+        if self.encoding == BOOLEAN:
+            return {0: "false", 1: "true"}.get(value, str(value))
+        if self.is_text and 0x20 <= value <= 0x7E:
+            return f"{value} {chr(value)!r}"
+        return str(value)
+
+
+@dataclass(frozen=True)
+class Enumeration:
+    name: str
+    size: int
+    values: tuple[tuple[int, str], ...]
+
+    def shown(self, data: bytes, memory: Memory, depth: int = 0) -> str:
+        value = int.from_bytes(data, "little")
+        return dict(self.values).get(value, str(value))
+
+
+@dataclass(frozen=True)
+class Pointer:
+    """A pointer to data, or to a function."""
+
+    name: str
+    is_code: bool
+    size: int = 2
+
+    def shown(self, data: bytes, memory: Memory, depth: int = 0) -> str:
+        value = int.from_bytes(data, "little")
+        if value == 0:
+            return "0"
+        target = memory.function_at(value) if self.is_code else memory.object_at(value)
+        return f"0x{value:04X}" + (f" {'' if self.is_code else '&'}{target}" if target else "")
+
+
+@dataclass(frozen=True)
+class Array:
+    element: Type
+    count: int
+
+    @property
+    def name(self) -> str:
+        return f"{self.element.name}[{self.count}]"
+
+    @property
+    def size(self) -> int:
+        return self.element.size * self.count
+
+    def shown(self, data: bytes, memory: Memory, depth: int = 0) -> str:
+        if isinstance(self.element, Base) and self.element.is_text and (text := text_of(data)):
+            return text
+        if depth >= MOST_DEPTH:
+            return "{..}"
+        long = self.element.size
+        parts = [self.element.shown(data[i : i + long], memory, depth + 1) for i in range(0, len(data), long)]
+        return "{" + ", ".join(taken_together(parts)) + "}"
+
+
+def text_of(data: bytes) -> str | None:
+    """An array of characters that has nothing but a text and zeros behind it."""
+    text = data.rstrip(b"\0")
+    if text and all(0x20 <= byte <= 0x7E or byte in b"\n\r\t" for byte in text):
+        return '"' + ascii(text)[2:-1].replace('"', '\\"') + '"'
+    return None
+
+
+def taken_together(parts: Sequence[str]) -> list[str]:
+    """Values of an array with runs of one as `0 x 14`, and no more than so many."""
+    found: list[tuple[str, int]] = []
+    for part in parts:
+        if found and found[-1][0] == part:
+            found[-1] = (part, found[-1][1] + 1)
+        else:
+            found.append((part, 1))
+    texts = [part if times == 1 else f"{part} x {times}" for part, times in found[:MOST_ELEMENTS]]
+    return texts + [f".. {len(found) - MOST_ELEMENTS} more"] * (len(found) > MOST_ELEMENTS)
+
+
+@dataclass(frozen=True)
+class Member:
+    """A member of a structure; of one of some bits their number, and how far they lie from the lowest."""
+
+    name: str
+    at: int
+    type: Type
+    bits: int | None = None
+    low_bit: int = 0
+
+
+@dataclass(frozen=True)
+class Structure:
+    """A structure, or a union."""
+
+    name: str
+    size: int
+    members: tuple[Member, ...]
+
+    def shown(self, data: bytes, memory: Memory, depth: int = 0) -> str:
+        if depth >= MOST_DEPTH:
+            return "{..}"
+        return "{" + ", ".join(f"{one.name} {self.member(one, data, memory, depth)}" for one in self.members) + "}"
+
+    def member(self, one: Member, data: bytes, memory: Memory, depth: int) -> str:
+        part = data[one.at : one.at + one.type.size]
+        if one.bits is None:
+            return one.type.shown(part, memory, depth + 1)
+        return str(int.from_bytes(part, "little") >> one.low_bit & (1 << one.bits) - 1)
+
+
+@dataclass(frozen=True)
+class Renamed:
+    """A type by another name, or with a qualifier."""
+
+    name: str
+    type: Type
+
+    @property
+    def size(self) -> int:
+        return self.type.size
+
+    def shown(self, data: bytes, memory: Memory, depth: int = 0) -> str:
+        return self.type.shown(data, memory, depth)
+
+
+@dataclass(frozen=True)
+class Opaque:
+    """A type of which nothing is known but its size: its bytes."""
+
+    name: str
+    size: int
+
+    def shown(self, data: bytes, memory: Memory, depth: int = 0) -> str:
+        return data.hex(" ").upper() or "nothing"
+
+
+@dataclass(frozen=True)
+class Variable:
+    """A variable in the SRAM. One that is static within a function has the function's name before its own."""
+
+    name: str
+    address: int
+    type: Type
+
+    @property
+    def end(self) -> int:
+        return self.address + max(self.type.size, 1)
+
+
+def place_in(type_: Type, offset: int) -> str:
+    """The place in a variable that lies so many bytes behind its begin, as C names it."""
+    while isinstance(type_, Renamed):
+        type_ = type_.type
+    if isinstance(type_, Array) and type_.element.size:
+        return f"[{offset // type_.element.size}]{place_in(type_.element, offset % type_.element.size)}"
+    if isinstance(type_, Structure):
+        for member in type_.members:
+            if member.at <= offset < member.at + member.type.size:
+                return f".{member.name}{place_in(member.type, offset - member.at)}"
+    return f"+{offset}" if offset else ""
+
+
+# ---- from DWARF
+
+
+def variables_of(path: str) -> list[Variable]:
+    """The variables of the ELF file `path`, by their addresses. Raises BadInput where it has no DWARF."""
+    with files.opened(path) as file:
+        try:
+            elf = reader()(file)
+            if not elf.has_dwarf_info():
+                raise BadInput(f"{files.shown(path)}: it says nothing of variables; compile with -gdwarf-2")
+            found = {(one.address, one.name): one for unit in elf.get_dwarf_info().iter_CUs() for one in Unit(unit).variables()}
+        except BadInput:
+            raise
+        except Exception as fault:  # whatever a broken file leads the library to
+            raise BadInput(f"{files.shown(path)}: no ELF file: {fault or type(fault).__name__}") from None
+    return [one for _, one in sorted(found.items())]
+
+
+def reader() -> Any:
+    """What reads ELF files. Raises CannotWork where pyelftools is missing."""
+    try:
+        from elftools.elf.elffile import ELFFile
+    except ImportError:
+        raise missing("pyelftools", "python3-pyelftools") from None
+    return ELFFile
+
+
+class Unit:
+    """The variables and types of a compilation unit."""
+
+    def __init__(self, unit: Any) -> None:
+        self.unit = unit
+        self.types: dict[int, Type] = {}
+
+    def variables(self) -> Iterator[Variable]:
+        yield from self.within(self.unit.get_top_DIE(), "")
+
+    def within(self, entry: Any, prefix: str) -> Iterator[Variable]:
+        for child in entry.iter_children():
+            if child.tag == "DW_TAG_variable":
+                if (address := address_of(child)) is not None and (name := self.attribute(child, "DW_AT_name")):
+                    yield Variable(prefix + name.decode("utf-8", "replace"), address, self.type_of(child))
+            elif child.tag in ("DW_TAG_subprogram", "DW_TAG_inlined_subroutine", "DW_TAG_lexical_block"):
+                name = self.attribute(child, "DW_AT_name") if child.tag == "DW_TAG_subprogram" else None
+                yield from self.within(child, f"{name.decode('utf-8', 'replace')}." if name else prefix)
+
+    def attribute(self, entry: Any, name: str) -> Any:
+        """An attribute of an entry, or of the one that it stands for."""
+        while entry is not None:
+            if name in entry.attributes:
+                return entry.attributes[name].value
+            entry = self.origin(entry)
+        return None
+
+    def origin(self, entry: Any) -> Any:
+        for name in ("DW_AT_abstract_origin", "DW_AT_specification"):
+            if name in entry.attributes:
+                return entry.get_DIE_from_attribute(name)
+        return None
+
+    def type_of(self, entry: Any) -> Type:
+        """The type that an entry has."""
+        while entry is not None and "DW_AT_type" not in entry.attributes:
+            entry = self.origin(entry)
+        if entry is None:
+            return Opaque("void", 0)
+        return self.type(entry.get_DIE_from_attribute("DW_AT_type"))
+
+    def type(self, entry: Any) -> Type:
+        known = self.types.get(entry.offset)
+        if known is None:
+            self.types[entry.offset] = Opaque("..", 0)  # of one that has itself as a part, which C forbids
+            known = self.types[entry.offset] = self.made(entry)
+        return known
+
+    def made(self, entry: Any) -> Type:
+        name = (self.attribute(entry, "DW_AT_name") or b"").decode("utf-8", "replace")
+        size = int(self.attribute(entry, "DW_AT_byte_size") or 0)
+        makers: dict[str, Callable[[], Type]] = {
+            "DW_TAG_base_type": lambda: Base(name, size, int(self.attribute(entry, "DW_AT_encoding")), name == "char"),
+            "DW_TAG_enumeration_type": lambda: Enumeration(name or "enum", size, tuple(enumerators(entry))),
+            "DW_TAG_pointer_type": lambda: self.pointer(entry),
+            "DW_TAG_array_type": lambda: self.array(entry),
+            "DW_TAG_structure_type": lambda: self.structure(entry, name or "struct", size),
+            "DW_TAG_union_type": lambda: self.structure(entry, name or "union", size),
+            "DW_TAG_typedef": lambda: self.renamed(entry, name),
+            "DW_TAG_const_type": lambda: self.type_of(entry),
+            "DW_TAG_volatile_type": lambda: self.type_of(entry),
+            "DW_TAG_subroutine_type": lambda: Opaque("function", 0),
+        }
+        return makers.get(entry.tag, lambda: Opaque(name or "?", size))()
+
+    def renamed(self, entry: Any, name: str) -> Type:
+        type_ = self.type_of(entry)
+        if isinstance(type_, Base) and type_.is_text:
+            return Renamed(name, Base(type_.name, type_.size, type_.encoding))
+        return Renamed(name, type_)
+
+    def pointer(self, entry: Any) -> Pointer:
+        if "DW_AT_type" not in entry.attributes:
+            return Pointer("void *", False)
+        target = entry.get_DIE_from_attribute("DW_AT_type")
+        is_code = target.tag == "DW_TAG_subroutine_type"
+        # A structure may have a pointer to itself, so only the name of the target is looked at.
+        name = "function" if is_code else (self.attribute(named(target), "DW_AT_name") or b"..").decode("utf-8", "replace")
+        return Pointer(f"{name} *", is_code)
+
+    def array(self, entry: Any) -> Type:
+        counts = [self.count(child) for child in entry.iter_children() if child.tag == "DW_TAG_subrange_type"]
+        found = self.type_of(entry)
+        for count in reversed(counts):
+            found = Array(found, count)
+        return found
+
+    def count(self, entry: Any) -> int:
+        if (count := self.attribute(entry, "DW_AT_count")) is not None:
+            return int(count)
+        bound = self.attribute(entry, "DW_AT_upper_bound")
+        return int(bound) + 1 if isinstance(bound, int) else 0
+
+    def structure(self, entry: Any, name: str, size: int) -> Structure:
+        return Structure(name, size, tuple(self.member(one) for one in entry.iter_children() if one.tag == "DW_TAG_member"))
+
+    def member(self, entry: Any) -> Member:
+        type_ = self.type_of(entry)
+        name = (self.attribute(entry, "DW_AT_name") or b"(unnamed)").decode("utf-8", "replace")
+        bits = self.attribute(entry, "DW_AT_bit_size")
+        if bits is None:
+            return Member(name, member_offset(entry), type_)
+        # DWARF 2 counts bits from the highest of the storage unit.
+        low_bit = 8 * type_.size - int(self.attribute(entry, "DW_AT_bit_offset") or 0) - int(bits)
+        return Member(name, member_offset(entry), type_, int(bits), low_bit)
+
+
+def named(entry: Any) -> Any:
+    """The entry behind qualifiers."""
+    while entry.tag in ("DW_TAG_const_type", "DW_TAG_volatile_type") and "DW_AT_type" in entry.attributes:
+        entry = entry.get_DIE_from_attribute("DW_AT_type")
+    return entry
+
+
+def address_of(entry: Any) -> int | None:
+    """The SRAM address at which a variable stands always, or None."""
+    location = entry.attributes.get("DW_AT_location")
+    block = location.value if location else None
+    if not isinstance(block, list) or len(block) != 5 or block[0] != OP_ADDR:
+        return None
+    address = int.from_bytes(bytes(block[1:]), "little") - DATA_SPACE
+    return address if SRAM_FIRST <= address < DATA_END else None
+
+
+def enumerators(entry: Any) -> Iterator[tuple[int, str]]:
+    for child in entry.iter_children():
+        if child.tag == "DW_TAG_enumerator":
+            yield int(child.attributes["DW_AT_const_value"].value), child.attributes["DW_AT_name"].value.decode("utf-8", "replace")
+
+
+def member_offset(entry: Any) -> int:
+    """How far a member lies behind the begin of its structure: a number, or DWARF 2's operation that adds one."""
+    location = entry.attributes.get("DW_AT_data_member_location")
+    if location is None:
+        return 0
+    if isinstance(location.value, int):
+        return location.value
+    value = shift = 0
+    for byte in location.value[1:]:  # behind DW_OP_plus_uconst stands a number in LEB128
+        value |= (byte & 0x7F) << shift
+        shift += 7
+    return value

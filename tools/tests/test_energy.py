@@ -1,0 +1,147 @@
+"""Charge by a table of currents. The report and the sums are worked out by hand from docs/FORMATS.md, "Profiles"."""
+import re
+from dataclasses import astuple
+
+import pytest
+
+from avrora_tools.budgets import Currents, account, duty_cycle, milliampere_hours, table_of, whole
+from avrora_tools.errors import BadInput
+from avrora_tools.monitor_reports import Share, parse
+from support import run_tool
+
+# 1,000 cycles: node 0 awake for 300 of them (290 by two instructions, 10 by a vector), 200 without an owner, 2 bytes sent;
+# node 1 sleeps from the first cycle on and stops in cycle 400.
+REPORT = """0 lead 200
+0 at 0050 10 90
+0 at 0052 100 200
+0 vector 0018 2 10
+0 asleep 500
+0 stopped 0
+0 charge 3924
+1 lead 0
+1 at 0051 1 1
+1 asleep 399
+1 stopped 600
+1 charge 407
+"""
+
+CURRENTS = """
+awake = 8
+asleep = 2.0
+sending = 20
+listening = 10
+hz = 1_000
+"""
+
+SCENARIO = 'cycles = 1_000\nbyte_time = 256\nnode = [{ image = "a.hex" }, { image = "b.hex" }]\n'
+
+
+def test_a_report_is_read():
+    zero, one = parse(REPORT, "r")
+    assert (zero.lead, zero.awake, zero.asleep, zero.stopped, zero.sent, zero.cycles) == (200, 300, 500, 0, 2, 1_000)
+    assert zero.vectors == {0x18: Share(2, 10)} and zero.instructions[0x52] == Share(100, 200)
+    assert (one.awake, one.asleep, one.stopped, one.sent, one.cycles) == (1, 399, 600, 0, 1_000)
+
+
+@pytest.mark.parametrize(
+    "old, new, line",
+    [
+        ("0 lead 200", "0 lead 0200", 1),
+        ("0 lead 200", "1 lead 200", 1),
+        ("0 at 0052", "0 at 0050", 3),
+        ("0 at 0052", "0 at 52", 3),
+        ("0 asleep 500\n", "", 5),
+        ("charge 3924", "charge 3925", 7),
+        ("charge 3924", "charge 2388", 7),
+        ("1 asleep 399", "1 asleep 398", 12),
+        ("1 charge 407\n", "1 charge 407", 12),
+        ("1 charge 407\n", "", 12),
+        (REPORT, "", 1),
+    ],
+)
+def test_a_damaged_report_is_refused_at_its_line(old, new, line):
+    with pytest.raises(BadInput, match=rf"^r, line {line}: no report"):
+        parse(REPORT.replace(old, new), "r")
+
+
+def test_the_account_of_a_node():
+    table = table_of(CURRENTS, "c")
+    zero, one = (account(node, table.common, 256, table.hz) for node in parse(REPORT, "r"))
+    # 300 ms at 8 mA; 500 asleep and 200 unknown at 2 mA at least, at 8 at most; 512 ms sending, the other 488 listening.
+    assert astuple(zero) == pytest.approx((2.4, 1.4, 10.24, 4.88, 1.2))
+    assert (zero.least, zero.most) == pytest.approx((18.92, 20.12))
+    # until its stop in 400: 1 ms awake, 399 asleep, all of it listening
+    assert astuple(one) == pytest.approx((0.008, 0.798, 0, 4.0, 0))
+    assert whole([zero, one]).most == pytest.approx(20.12 + 4.806)
+    assert milliampere_hours(7_200) == 2.0
+
+
+def test_the_duty_cycle_has_the_lead_as_a_span_and_no_stop():
+    zero, one = parse(REPORT, "r")
+    assert duty_cycle(zero) == (0.3, 0.5)
+    assert duty_cycle(one) == (0.0025, 0.0025)
+
+
+def test_a_table_of_some_nodes():
+    table = table_of(CURRENTS + "battery = 100\n[node.'1,3-4']\nlistening = 0\n", "c")
+    assert table.of(0) == Currents(8, 2, 20, 10)
+    assert table.of(3) == Currents(8, 2, 20, 0)
+    assert (table.hz, table.battery) == (1_000, 100)
+
+
+@pytest.mark.parametrize(
+    "text",
+    [
+        "awake = 1",
+        CURRENTS + "awkae = 1",
+        CURRENTS.replace("awake = 8", "awake = -8"),
+        CURRENTS.replace("awake = 8", "awake = true"),
+        CURRENTS.replace("awake = 8", "awake = '8'"),
+        CURRENTS.replace("awake = 8", "awake = nan"),
+        CURRENTS.replace("awake = 8", "awake = inf"),
+        CURRENTS.replace("1_000", "0"),
+        CURRENTS + "[node.x]\nawake = 1",
+        CURRENTS + "[node.99]\nawake = 1",
+        CURRENTS + "[node.1]\nhz = 1",
+        CURRENTS + "node = 5",
+        "awake = ",
+    ],
+)
+def test_what_is_no_table_is_refused(text):
+    with pytest.raises(BadInput):
+        table_of(text, "c")
+
+
+@pytest.fixture
+def inputs(tmp_path):
+    for name, text in (("c.toml", CURRENTS), ("s.toml", SCENARIO), ("r.profile", REPORT)):
+        (tmp_path / name).write_text(text)
+    return [str(tmp_path / name) for name in ("c.toml", "s.toml", "r.profile")]
+
+
+def test_the_table_and_the_picture(inputs, tmp_path):
+    picture = tmp_path / "bars.svg"
+    status, out, err = run_tool("energy", *inputs, "--svg", str(picture))
+    assert status == 0 and "node 1 stopped" in err
+    first, _, zero, one, network = out.splitlines()
+    assert first == "1,000 cycles, 1 s at 1,000 Hz"
+    assert zero.split() == ["0", "30.00..50.00%", "2", "18.920..20.120", "0.005256..0.005589", "454.08..482.88"]
+    assert one.split() == ["1", "0.25%", "0", "4.806", "0.001335", "115.34"]
+    name, duty, sent, current = network.split()[:4]
+    assert (name, sent, current) == ("network", "2", "23.726..24.926")
+    assert [float(part) for part in duty.rstrip("%").split("..")] == pytest.approx([15.125, 25.125], abs=0.006)
+    text = picture.read_text()
+    assert text.startswith("<svg") and text.count("<title>node 0, ") == 5 and "18.920..20.120 mA" in text
+    widths = dict(re.findall(r'width="([\d.]+)" height="16" fill="(#\w+)"', text)[i][::-1] for i in range(5))
+    assert float(widths["#c0392b"]) / float(widths["#3b6fb6"]) == pytest.approx(2.4 / 10.24, rel=0.01)
+
+
+def test_the_report_of_another_scenario_is_refused(inputs, tmp_path):
+    (tmp_path / "s.toml").write_text(SCENARIO.replace(', { image = "b.hex" }', ""))
+    status, out, err = run_tool("energy", *inputs)
+    assert (status, out) == (2, "") and "2 nodes, and the scenario 1" in err
+
+
+def test_the_report_comes_from_the_standard_input_too(inputs):
+    assert run_tool("energy", *inputs[:2], stdin=REPORT)[0] == 0
+    assert run_tool("energy", *inputs[:2], stdin="")[0] == 2

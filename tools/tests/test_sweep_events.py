@@ -1,0 +1,124 @@
+"""What moves, and the scenario of a move; expected scenarios are written by hand."""
+import tomllib
+
+import pytest
+
+from avrora_tools.errors import BadInput, BadWords
+from avrora_tools.sweeping.events import EPOCH, InputByte, LinkLatency, Moved, Span, moved_scenario, parsed_event
+from avrora_tools.sweeping.simulation import scenario_text
+
+DOCUMENT = tomllib.loads(
+    """
+version = 1
+cycles = 2_000_000
+node = [{ image = "a.hex" }, { image = "b.hex" }]
+link = [{ from = 0, to = 1 }, { from = 1, to = 0, latency = 50 }]
+input = [{ node = 0, at = 1_000, hex = "00" }, { node = 1, at = 600_000, every = 10_000, hex = "010203" }]
+"""
+)
+
+
+def byte(node, index, first, last, step=1):
+    return Moved(InputByte(node, index), Span(first, last, step))
+
+
+def script(scenario, move, node=1, **options):
+    return next(table for table in scenario.scenario(move, **options)["input"] if table["node"] == node)
+
+
+def test_a_first_byte_moves_with_those_behind_it():
+    scenario = moved_scenario(DOCUMENT, [byte(1, 0, 700_000, 700_100)], 900_000)
+    assert scenario.begins == 2 * EPOCH
+    assert script(scenario, (700_050,)) == {"node": 1, "at": 700_050, "every": 10_000, "hex": "010203"}
+    assert script(scenario, (None,))["hex"] == ""
+    document = scenario.scenario((700_050,), (5, 9))
+    assert (document["cycles"], document["window"], document["version"]) == (900_000, [5, 9], 1)
+    assert scenario.unmoved() == (600_000,)
+
+
+def test_a_byte_behind_the_state_leaves_the_bytes_before_it():
+    scenario = moved_scenario(DOCUMENT, [byte(1, 2, 800_000, 800_100)], None)
+    assert scenario.begins == 3 * EPOCH  # 786,432: bytes 0 and 1 came before
+    assert script(scenario, (800_007,)) == {"node": 1, "at": 800_007, "every": 10_000, "hex": "03"}
+    assert next(t["hex"] for t in scenario.before()["input"] if t["node"] == 1) == "0102"
+
+
+def test_the_last_byte_moves_alone_where_one_goes_before_it():
+    document = DOCUMENT | {"input": [{"node": 1, "at": 600_000, "hex": "0141"}]}
+    scenario = moved_scenario(document, [byte(1, 1, 620_000, 665_535)], None)
+    assert scenario.begins == 2 * EPOCH
+    assert script(scenario, (620_001,)) == {"node": 1, "at": 600_000, "every": 20_001, "hex": "0141"}
+    assert script(scenario, (None,))["hex"] == "01"
+    assert scenario.whole_scenario((620_001,), (0, 0))["input"] == scenario.scenario((620_001,))["input"]
+
+
+@pytest.mark.parametrize(
+    "moved",
+    [
+        byte(1, 2, 615_000, 618_000),  # bytes 0 and 1 are still to come, in another distance
+        byte(1, 1, 605_000, 606_000),  # byte 2 would not stay
+        byte(1, 3, 700_000, 700_001),  # no such byte
+        byte(0, 0, 900_000, 2_000_000),  # the run ends before
+        Moved(LinkLatency(1, 1), Span(1, 2)),  # no such link
+        Moved(LinkLatency(0, 1), Span(1, 65_536)),  # no such latency
+    ],
+)
+def test_moves_that_no_scenario_says_are_refused(moved):
+    with pytest.raises(BadInput):
+        moved_scenario(DOCUMENT, [moved], None)
+
+
+def test_a_byte_that_would_come_too_far_behind_the_one_before_is_refused():
+    document = DOCUMENT | {"input": [{"node": 1, "at": 600_000, "hex": "0141"}]}
+    moved_scenario(document, [byte(1, 1, 620_000, 665_535)], None)
+    with pytest.raises(BadInput, match="at most 65,535"):
+        moved_scenario(document, [byte(1, 1, 620_000, 665_536)], None)
+
+
+def test_a_latency_moves_from_reset_and_needs_version_two():
+    scenario = moved_scenario(DOCUMENT, [Moved(LinkLatency(1, 0), Span(40, 60))], None)
+    assert scenario.begins == 0 and scenario.unmoved() == (50,)
+    new = scenario.scenario((44,))
+    assert new["version"] == 2 and new["link"] == [{"from": 0, "to": 1}, {"from": 1, "to": 0, "latency": 44}]
+    assert moved_scenario(DOCUMENT, [Moved(LinkLatency(0, 1), Span(1, 9))], None).unmoved() == (3_072,)
+
+
+def test_two_events_make_a_grid_and_two_bytes_of_a_node_do_not():
+    scenario = moved_scenario(DOCUMENT, [byte(0, 0, 700_000, 700_009), byte(1, 0, 800_000, 800_009)], None)
+    assert scenario.begins == 2 * EPOCH
+    new = scenario.scenario((700_001, 800_002))
+    assert [table["at"] for table in new["input"]] == [700_001, 800_002]
+    with pytest.raises(BadWords):
+        moved_scenario(DOCUMENT, [byte(1, 0, 700_000, 700_009), byte(1, 1, 800_000, 800_009)], None)
+
+
+def test_a_state_of_the_user_is_where_runs_begin():
+    assert moved_scenario(DOCUMENT, [byte(1, 0, 700_000, 700_100)], None, EPOCH).begins == EPOCH
+    with pytest.raises(BadInput, match="begins before"):
+        moved_scenario(DOCUMENT, [byte(1, 0, 700_000, 700_100)], None, 3 * EPOCH)
+
+
+@pytest.mark.parametrize(
+    "kind, text, event, span",
+    [
+        ("input", "3:1=1_000..2_000", InputByte(3, 1), Span(1_000, 2_000)),
+        ("start", "3=5..9/2", InputByte(3, 0), Span(5, 9, 2)),
+        ("latency", "0-2=1..65_535", LinkLatency(0, 2), Span(1, 65_535)),
+    ],
+)
+def test_words(kind, text, event, span):
+    assert parsed_event(kind, text) == Moved(event, span)
+
+
+@pytest.mark.parametrize(
+    "kind, text",
+    [("input", "3=1..2"), ("start", "3:1=1..2"), ("latency", "0=1..2"), ("input", "0:0=9..1"), ("input", "0:0=1"), ("start", "x=1..2"), ("start", "0=1..5/0")],
+)
+def test_bad_words(kind, text):
+    with pytest.raises(BadWords):
+        parsed_event(kind, text)
+
+
+def test_a_document_is_written_as_toml():
+    document = {**DOCUMENT, "window": [0, 5]} | {"node": [{"image": 'a "b" \\ \x7f.hex'}]}
+    assert tomllib.loads(scenario_text(document)) == document

@@ -1,0 +1,188 @@
+"""Sweeps of examples/races by the program that AVRORA_PROGRAM names: each race is found, at its line, and its fix is clean.
+
+How many arrivals fail follows from the instructions: an arrival in a cycle of one is noticed at the next, so as many fail as
+the instructions between the first and the last use take cycles, each time that the code is passed."""
+import os
+import re
+import shutil
+import subprocess
+from pathlib import Path
+
+import pytest
+
+from support import TOP, run_tool
+
+RACES = Path(TOP) / "examples" / "races"
+PROGRAM = os.environ.get("AVRORA_PROGRAM")
+
+needs_program = pytest.mark.skipif(not PROGRAM, reason="AVRORA_PROGRAM names no program")
+needs_compiler = pytest.mark.skipif(not shutil.which("avr-gcc"), reason="avr-gcc is not installed")
+
+pytestmark = needs_program
+
+
+def marked_lines(source):
+    """The lines of a source that say where its race is."""
+    return [n for n, line in enumerate((RACES / source).read_text().splitlines(), 1) if re.search(r"the race|to here", line)]
+
+
+@pytest.fixture(scope="module")
+def races(tmp_path_factory):
+    """A copy of the folder with the ELF files beside the images, where the compiler is there."""
+    folder = tmp_path_factory.mktemp("examples") / "races"
+    shutil.copytree(RACES, folder)
+    shutil.copy2(RACES.parent / "radio.h", folder.parent)
+    if shutil.which("avr-gcc"):
+        images = {path.name: path.read_bytes() for path in folder.glob("*.hex")}
+        subprocess.run([folder / "build"], check=True, capture_output=True)
+        for name, content in images.items():
+            if (folder / name).read_bytes() != content:
+                pytest.fail(f"{name} is not what its source makes: run examples/races/build")
+    return folder
+
+
+def sweep(folder, *words):
+    here = os.getcwd()
+    os.chdir(folder)
+    try:
+        return run_tool("sweep", "--jobs", "2", *words)
+    finally:
+        os.chdir(here)
+
+
+# A race, the words of its sweep, how many arrivals of each visit fail, and of how many visits.
+SWEEPS = [
+    # The read of the low half takes two cycles.
+    ("torn", ["--start", "0=270_950..271_100", "--until", "300_000"], 2, 1),
+    # LDS of the flag takes two, and two tests one each.
+    ("wake", ["--start", "0=514_150..514_250", "--until", "530_000"], 4, 1),
+    # LDS two, SUBI one.
+    ("ring", ["--start", "0=271_200..271_400", "--until", "300_000", "--compare", "any-order"], 3, 1),
+    # The read of the low half is the one instruction that SEI owes: a tick within the nine cycles from CLI on comes behind it.
+    ("ticks", ["--start", "0=384_100..384_250", "--until", "397_000", "--check", "ticks_check.py"], 11, 1),
+    # From the read of TCNT1L to the write of TIFR five cycles, each 1,024.
+    ("late", ["--start", "0=270_200..271_400", "--until", "300_000"], 5, 2),
+    # As torn, of two visits 253 cycles apart.
+    ("data", ["--start", "0=291_100..291_500", "--until", "320_000"], 2, 2),
+    # From the read of `queued` that makes the place (in cycle 443,346) to the end of `queued++` (443,366).
+    ("alarm", ["--input", "2:1=443_300..443_420", "--until", "660_000", "--compare", "lines"], 20, 1),
+]
+
+
+@pytest.fixture(scope="module", params=SWEEPS, ids=[row[0] for row in SWEEPS])
+def swept(request, races):
+    """A race, with what its sweep printed: with the names of the program where the compiler is there."""
+    name, words, each, visits = request.param
+    elf = ["-e", f"{name}.elf"] if shutil.which("avr-gcc") else []
+    status, out, err = sweep(races, f"{name}.toml", *words, *elf)
+    assert (status, err) == (1, "")
+    return name, out, each, visits
+
+
+def test_a_race_is_found(swept):
+    _, out, each, visits = swept
+    assert re.findall(r"^\d+\. ([\d,]+) of", out, re.M) == [str(each * visits)]
+    moves = re.search(r"moves: (.*)", out)[1]
+    stretches = [[int(end.replace(",", "")) for end in part.split(" to ")] for part in re.split(r", (?=\d+,\d+ to)", moves)]
+    assert [last - first + 1 for first, last in stretches] == [each] * visits
+
+
+@needs_compiler
+def test_the_report_names_the_racing_line(swept):
+    name, out, _, _ = swept
+    parting = re.search(r"^   in run .* between .*", out, re.M)[0]
+    lines = {int(number) for number in re.findall(rf"{name}\.c:(\d+)", parting)}
+    if name == "alarm":  # what is marked is the call; the lines are those of the function that is called
+        assert "`enqueue` (alarm.c:23-27); `queued` is used here and in `USART0_RX_vect`" in out
+        assert lines and lines <= set(range(23, 28))
+    else:
+        assert lines and lines <= set(marked_lines(f"{name}.c"))
+
+
+@pytest.mark.parametrize("name, words", [row[:2] for row in SWEEPS], ids=[row[0] for row in SWEEPS])
+def test_its_fix_is_clean_over_the_same_span(races, name, words):
+    status, out, err = sweep(races, f"{name}-fixed.toml", *words)
+    assert (status, err) == (0, "")
+    assert re.search(r"^0 of ([\d,]+) classes fail; \1 runs", out, re.M)
+
+
+@needs_compiler
+@pytest.mark.parametrize("name, words", [row[:2] for row in SWEEPS], ids=[row[0] for row in SWEEPS])
+def test_a_first_look_finds_each_race_and_says_what_it_is(races, name, words):
+    status, out, _ = sweep(races, f"{name}.toml", *words, "-e", f"{name}.elf", "--quick")
+    assert status == 1
+    assert re.search(r"^[\d,]+ of [\d,]+ classes were not run$", out, re.M)
+
+
+@needs_compiler
+def test_a_clean_first_look_proves_nothing(races):
+    status, out, _ = sweep(races, "torn-fixed.toml", *SWEEPS[0][1], "-e", "torn-fixed.elf", "--quick")
+    assert status == 0 and "first look, which proves nothing" in out
+
+
+def test_the_earliest_failure_is_written_as_a_scenario_that_fails(races, tmp_path):
+    words = ["--input", "2:1=443_340..443_350", "--until", "660_000", "--compare", "lines", "--out", str(tmp_path / "failed.toml")]
+    status, out, _ = sweep(races, "alarm.toml", *words)
+    assert status == 1
+    command = re.search(r"earliest: avrora -C (\S+) (resume .*)", out)
+    rows = subprocess.run([PROGRAM, *command[2].split()], cwd=races, capture_output=True, text=True, check=True).stdout
+    assert re.search(r"^4433\d\d 2 enter 0024 0084$", rows, re.M)  # between the two reads, in the window
+
+
+def test_late_is_told_apart_from_lost(races):
+    out = sweep(races, "wake.toml", "--start", "0=514_208..514_211", "--until", "530_000")[1]
+    assert re.search(r"late: node 0 writes it in cycle 7[67]\d,\d\d\d", out)  # behind the tick of cycle 768,000
+    out = sweep(races, "late.toml", "--start", "0=270_304..270_308", "--until", "300_000")[1]
+    assert "late: node" not in out
+
+
+def test_a_case_of_expect_checks_each_run(races, tmp_path):
+    case = tmp_path / "answer.expect"
+    case.write_text('within 514_000..530_000: text 0 "A"\nnever * * stop *\n')
+    status, out, err = sweep(races, "wake.toml", "--start", "0=514_200..514_215", "--expect", str(case))
+    assert (status, err) == (1, "")
+    assert re.search(r"^1\. 4 of ", out, re.M) and "node 0 did not write within 514000..530000" in out
+
+
+def test_a_state_of_the_user_gives_the_same_verdicts(races, tmp_path):
+    state = tmp_path / "wake.state"
+    with open(state, "wb") as file:
+        subprocess.run([PROGRAM, "save", "wake.toml", "1"], cwd=races, stdout=file, check=True)
+    out = sweep(races, "wake.toml", "--start", "0=514_200..514_215", "--until", "530_000", "--state", str(state))[1]
+    assert "moves: 514,208 to 514,211" in out
+
+
+def test_two_events_make_a_grid(races):
+    """The later start of node 3 moves its readings, so they are left out; the race of node 2 stays where it is."""
+    words = ["--start", "3=262_200..262_201", "--input", "2:1=443_344..443_349", "--compare", "lines", "--drop", "3r\n"]
+    out = sweep(races, "alarm.toml", "--until", "660_000", *words)[1]
+    assert "12 moves" in out and re.search(r"^1\. 8 of 12 ", out, re.M)  # 443,346 to 443,349, twice
+
+
+def test_a_latency_moves(races):
+    out = sweep(races, "alarm.toml", "--latency", "1-0=100..103", "--until", "300_000")
+    assert out[0] == 0 and "0 of 4 classes fail; 4 runs" in out[1]
+
+
+def test_a_step_takes_some_moves_and_tells_the_classes_that_were_not_run(races):
+    out = sweep(races, "late.toml", "--start", "0=270_300..270_319/5", "--until", "300_000")[1]
+    assert "1 of 4 classes fail; 4 runs" in out and "16 of 20 classes were not run" in out
+
+
+@pytest.mark.parametrize(
+    "words",
+    [
+        [],
+        ["--start", "0=270_000..270_010", "--quick"],
+        ["--start", "0=270_000..270_010", "--until", "500_000"],
+        ["--start", "1=270_000..270_010"],
+        ["--input", "0:1=270_000..270_010"],
+        ["--start", "0=270_000..270_010", "--expect", "x", "--check", "y"],
+        ["--start", "0=270_000..270_010", "--check", "/nowhere.py"],
+        ["--start", "0=270_000..270_010", "--drop", "("],
+        ["--start", "0=5..6", "--start", "0=5..6"],
+    ],
+)
+def test_bad_words_have_status_two(races, words):
+    status, out, err = sweep(races, "torn.toml", *words)
+    assert (status, out) == (2, "") and err.count("\n") == 1
