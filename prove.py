@@ -8,6 +8,11 @@ leaves the program at ROOM/PROGRAM. What is proved of a crate is kept in ROOM to
 crate or of one below it. Exit status: 0 the program is there, 1 a crate was not proved or built, 2 bad words, 128 and its number
 after a signal, which ends the checks too.
 
+    prove.py --adopt FILE ROOM
+
+puts FILE, the program of a release of this commit, at ROOM/avrora_program: it stands in for one that is proved here, until the
+commit or a source changes. Exit status: 0 it is there, 1 it is not that of such a release.
+
 Each crate is proved by one `rattle build` of the kit, over the statements of the crates below it; that ends well only for a
 crate that is proved. The gate, `rt ci`, proves them so too, and does more: it takes nothing that was kept, looks for
 contracts that no call can meet, tries the must-fail edits, and runs the programs as two compilers build them.
@@ -23,6 +28,10 @@ import sys
 import time
 
 TOP = os.path.dirname(os.path.realpath(__file__))
+
+sys.path.insert(0, f"{TOP}/scripts")
+
+import proved  # pylint: disable=wrong-import-position
 
 # The folders of a crate that its proof and its code are made from.
 PARTS = ("src", "specs", "proofs")
@@ -43,6 +52,9 @@ MEMORY_OF_A_CHECK = 2_500_000_000
 
 # How many forked copies may share a check: with more it gets no faster.
 MOST_COPIES = 4
+
+# The program that a release has.
+RELEASED = "avrora_program"
 
 # What rattle says of what went well.
 WENT_WELL = re.compile(r"(statements|logic|crate|axioms|by-macro|built:|  +|logic=proved) ?|.*: (proved|assumed)$|note: ")
@@ -162,7 +174,7 @@ class Room:
             return False
 
     def clear(self, crate):
-        for path in (f"{self.folder}/{crate.name}.sum", self.made(crate)):
+        for path in (f"{self.folder}/{crate.name}.sum", adopted_mark(self.folder, crate.name), self.made(crate)):
             if os.path.isdir(path):
                 shutil.rmtree(path)
             elif os.path.lexists(path):
@@ -372,13 +384,67 @@ def raise_signalled(number, _frame):
     raise Signalled(number)
 
 
+def adopted_mark(folder, program):
+    """Where the PROVED of a program lies that was not proved here, but adopted."""
+    return f"{folder}/{program}.adopted"
+
+
+def is_adopted(folder, program):
+    """Whether the program was adopted, and still is one of this commit; where it no longer is, that is said."""
+    if not os.path.exists(adopted_mark(folder, program)):
+        return False
+    try:
+        proved.checked(f"{folder}/{program}")
+    except proved.NotFit as why:
+        print(f"avrora: the program that was adopted is not used: {why}", file=sys.stderr)
+        return False
+    return True
+
+
+def is_proved_here(folder):
+    """Whether the released program lies there because it was proved here, as far as a kit is there to tell."""
+    try:
+        room = Room(folder, Kit(), crates_below(RELEASED))
+    except NotProved:
+        return False
+    return room.is_kept(room.crates[RELEASED])
+
+
+def adopt(program, folder):
+    """Takes the program of a release of this commit in place of one that is proved here; the exit status."""
+    try:
+        said = proved.checked(program)
+        mark = proved.with_program(program)
+    except proved.NotFit as why:
+        print(f"avrora: {why}", file=sys.stderr)
+        return 1
+    os.makedirs(folder, exist_ok=True)
+    with open(f"{folder}/lock", "w", encoding="utf-8") as lock:
+        fcntl.flock(lock, fcntl.LOCK_EX)
+        if is_proved_here(folder) or os.path.realpath(program) == f"{folder}/{RELEASED}":
+            print("avrora: nothing is adopted: the program is there already", file=sys.stderr)
+            return 0
+        for path in (f"{folder}/{RELEASED}.sum", f"{folder}/{RELEASED}"):
+            if os.path.lexists(path):
+                os.remove(path)
+        # the mark comes last: a program without one is not used
+        shutil.copy(program, f"{folder}/{RELEASED}")
+        shutil.copyfile(mark, adopted_mark(folder, RELEASED))
+    print(f"avrora: adopted: {program} of release {said.release}; of commit {said.commit}, proved elsewhere, with {said.kit_line()}; the gate there: {said.gate}", file=sys.stderr)
+    return 0
+
+
 def main(words):
     end_by_signals(raise_signalled)
+    if len(words) == 3 and words[0] == "--adopt":
+        return adopt(words[1], os.path.realpath(words[2]))
     if len(words) != 2:
-        print("usage: prove.py PROGRAM ROOM", file=sys.stderr)
+        print("usage: prove.py PROGRAM ROOM, or prove.py --adopt FILE ROOM", file=sys.stderr)
         return 2
     program, folder = words
     try:
+        if is_adopted(os.path.realpath(folder), program):
+            return 0
         room = Room(os.path.realpath(folder), Kit(), crates_below(program))
         if room.is_kept(room.crates[program]):
             return 0

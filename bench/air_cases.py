@@ -516,7 +516,7 @@ def drawn_logs(draw):
     return lines
 
 
-EPOCH = 1048576
+EPOCH = 262144
 
 
 class Record:

@@ -127,8 +127,42 @@ def entry_from_sleep_stops():
     return image((0, words)), 40, ["11 0 instr 000B sleep", "16 0 stop 000C address past 0x10FF", "40 0 end 12 stopped"], ["enter", "asleep"]
 
 
+def sleep_mode_no_sleep():
+    # MCUCR with SE and a sleep mode other than idle: no instruction but SLEEP stops. RJMP to NOP and NOP take three cycles.
+    return (image((0, put(0x55, 0x30) + [NOP, op("rjmp k", k=-2)])), 8,
+            ["2 0 instr 0002 nop", "3 0 instr 0003 rjmp .-4", "5 0 instr 0002 nop", "6 0 instr 0003 rjmp .-4", "8 0 end 6 running"], ["stop"])
+
+
+def rcall_at_reset():
+    # The stack pointer is 0 at reset: the low byte of the return address is pushed into r0, and the next push stops past the SRAM.
+    return image((0, [op("rcall k", k=0)])), 8, ["0 0 stop 0000 address past 0x10FF", "8 0 end 0 stopped"], ["instr"]
+
+
+def two_due(start, first, second):
+    # Nine words of `start`, one cycle each, lead to two flags that are set and enabled. r17 is counted down from 12 in cycles 9 to 44,
+    # RCALL takes three, and RETI, which turns I on, begins in 48: NOP behind it, then the entry of the lower vector, whose RETI begins
+    # in 57; RJMP behind that, and the other one. 9 + 1 + 24 + 2 + 1 + 1 + 1 + 1 + 5 instructions begin below 80.
+    words = start + ldi(12, 17) + [op("dec rD", d=17), op("brbc s, k", s=1, k=-2), op("rcall k", k=2), NOP, HERE, RETI]
+    wanted = ["48 0 instr 000F reti", "52 0 instr 000D nop", f"53 0 enter {first:04X} 000E", f"57 0 instr {first:04X} reti",
+              "61 0 instr 000E rjmp .-2", f"63 0 enter {second:04X} 000E", f"67 0 instr {second:04X} reti", "71 0 instr 000E rjmp .-2", "80 0 end 45 running"]
+    return image((0, words), (first, [RETI]), (second, [RETI])), 80, wanted, []
+
+
+def due_timer_and_spi():
+    # OCF0 is set by the clock of cycle 7, which finds 0; SPIF in cycle 8 + 32.
+    spdr, tccr0 = op("out A, rR", A=0x2F - 0x20, r=16), op("out A, rR", A=0x33, r=16)
+    return two_due(STACK + put(0x57, 0x02) + put(0x2D, 0xD0) + ldi(0x01) + [tccr0, spdr], 0x1E, 0x22)
+
+
+def due_compare_and_overflow():
+    # TCNT0 is 255: TOV0 is set by the clock of cycle 7, OCF0 by that of cycle 8, which finds 0.
+    return two_due(STACK + put(0x57, 0x03) + put(0x52, 0xFF) + put(0x53, 0x01) + [NOP], 0x1E, 0x20)
+
+
 CORNERS = {"serial_before_sent": serial_before_sent, "entry_over_sreg": entry_over_sreg,
-           "refused_sleep_is_the_owed_one": refused_sleep_is_the_owed_one, "entry_from_sleep_stops": entry_from_sleep_stops}
+           "refused_sleep_is_the_owed_one": refused_sleep_is_the_owed_one, "entry_from_sleep_stops": entry_from_sleep_stops,
+           "sleep_mode_no_sleep": sleep_mode_no_sleep, "rcall_at_reset": rcall_at_reset, "due_timer_and_spi": due_timer_and_spi,
+           "due_compare_and_overflow": due_compare_and_overflow}
 
 
 def main():

@@ -1,11 +1,11 @@
 #!/usr/bin/env bash
 # Speed and memory of `save` and `resume`: bench/resume.sh [PROGRAM] (the program that ./avrora builds where absent). Each network
-# is cut behind its first epoch of 1,048,576 cycles. Of the fastest of five runs it prints the processor time in user mode that the
+# is cut behind its first epoch of 262,144 cycles. Of the fastest of five runs it prints the processor time in user mode that the
 # cycles behind the cut take with `resume`, and with `run --plain` (the whole run less `head`), and how many times as long that
 # is; where valgrind is installed, the same by host instructions. Then what a state of 64 nodes takes to write and to read, what
 # large and hostile texts take, and the memory of long runs.
 set -eu
-epoch=1048576
+epoch=262144
 . "$(dirname "$0")/program.sh"
 cp "$top"/bench/ring.hex "$top"/bench/sleep.hex "$top"/bench/make0/* "$work"
 cd "$work"

@@ -29,9 +29,11 @@ peer=
 if cc -O2 -w -o "$work/peer" "$top/bench/peer.c" -lsimavr 2>/dev/null && command -v avr-objcopy >/dev/null; then peer=$work/peer; fi
 
 images="registers mixed floats ticks ticks400 kernel counter uart delay ends ring sleep"
+# Programs that nobody looked at while the simulator was made fast.
+images="$images sha1 aes crc memcpy list sort matrix printf"
+cp "$top"/bench/*.hex "$top"/bench/everyday/*.hex "$work"
 cd "$work"
 for image in $images; do
-    cp "$top/bench/$image.hex" .
     printf 'version = 3\ncycles = %d\nnode = [{ image = "%s.hex" }]\n' "$cycles" "$image" >"$image.toml"
     ours=("$program" run --plain "$image.toml")
     if [ -n "$peer" ] && [ "$image" != ring ] && [ "$image" != sleep ]; then
@@ -59,9 +61,9 @@ count() {
 
 if command -v valgrind >/dev/null; then
     for image in $images; do
-        count "$top/bench/$image.hex" 100000
+        count "$image.hex" 100000
         h=$host e=$executed
-        count "$top/bench/$image.hex" 300000
+        count "$image.hex" 300000
         awk -v n="$image" -v h="$((host - h))" -v e="$((executed - e))" 'BEGIN { printf (h < e ? "%s: %.2f" : "%s: %.0f") " host instructions an instruction\n", n, h / e }'
     done
 fi

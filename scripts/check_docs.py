@@ -12,6 +12,7 @@ at the end for the rest. A command whose program or package is not installed is 
 Exit status: 0 all is right, 1 something is wrong, 2 bad words.
 """
 import argparse
+import contextlib
 import fnmatch
 import functools
 import os
@@ -36,6 +37,9 @@ MOST_BYTES = {
 
 # The documents whose commands are run.
 WITH_COMMANDS = ("README.md", "docs/FIRMWARE.md", "docs/FORMATS.md", "docs/FAULTS.md", "tools/README.md")
+
+# What would have the commands use another program.
+LENT = ("AVRORA", "AVRORA_PROGRAM")
 
 # Where the names are that documents may use, and what no document is checked against.
 SOURCES = ("avrora", "prove.py", "crates.txt", "crates/", "bench/", "scripts/", "tools/", "examples/", ".ci/")
@@ -91,7 +95,7 @@ def words():
 
 def documents():
     """The documents by path, each with its text."""
-    paths = [it for it in tracked() if it == "README.md" or re.fullmatch(r"(docs|tools)/[^/]*\.md", it)]
+    paths = [it for it in tracked() if it in ("README.md", "CHANGELOG.md") or re.fullmatch(r"(docs|tools)/[^/]*\.md", it)]
     return {path: (TOP / path).read_text(encoding="utf-8") for path in paths}
 
 
@@ -211,14 +215,32 @@ def commands(text):
             yield found
 
 
-def missing(command):
+class Here:
+    """Where commands run: in copies of what they use, on this machine, in which `./avrora` finds a program and proves nothing."""
+
+    def __init__(self, program):
+        self.program = program
+
+    @contextlib.contextmanager
+    def place(self):
+        """A copy, which goes again."""
+        with tempfile.TemporaryDirectory() as top:
+            copy_for(self.program, Path(top))
+            yield top
+
+    def run(self, command, place):
+        """Runs a command line in a folder; what it wrote comes together."""
+        environment = {key: value for key, value in os.environ.items() if key not in LENT}
+        return subprocess.run(["bash", "-c", command], cwd=place, env=environment, stdin=subprocess.DEVNULL, stdout=subprocess.PIPE, stderr=subprocess.STDOUT, timeout=600, check=False)
+
+
+def missing(command, shell):
     """The first program of a command line that is not installed."""
     for piece in re.split(r"\|\|?|&&|;|\(|\$\(", re.sub(r"'[^']*'|\"[^\"]*\"", "x", command)):
         parts = [it for it in piece.split() if not re.fullmatch(r"\w+=\S*", it)]
         if not parts or "/" in parts[0] or not re.fullmatch(r"[\w.+-]+", parts[0]):
             continue
-        found = subprocess.run(["bash", "-c", f"type {parts[0]}"], stdin=subprocess.DEVNULL, capture_output=True, check=False)
-        if found.returncode != 0:
+        if shell.run(f"type {parts[0]}", "/").returncode != 0:
             return parts[0]
     return None
 
@@ -235,7 +257,7 @@ def agrees(lines, wanted):
 def copy_for(program, folder):
     """A copy of what commands use, in which `./avrora` finds this program and proves nothing."""
     for path in tracked():
-        if path.startswith(("avrora", "docs/", "examples/", "tools/", "bench/", "README.md")):
+        if path.startswith(("avrora", "docs/", "examples/", "scripts/", "tools/", "bench/", "README.md")):
             (folder / path).parent.mkdir(parents=True, exist_ok=True)
             shutil.copy2(TOP / path, folder / path)
     (folder / "prove.py").write_text("# The program is there.\n", encoding="utf-8")
@@ -244,20 +266,19 @@ def copy_for(program, folder):
     (room / "avrora_program").symlink_to(program)
 
 
-def run_commands(path, text, program):
+def run_commands(path, text, shell):
     """What a document's commands print that does not stand there, and which are skipped."""
-    with tempfile.TemporaryDirectory() as top:
-        copy_for(program, Path(top))
+    with shell.place() as top:
         place = top
         for command, wanted, number in commands(text):
             where = f"{path}:{number}"
             if it := re.fullmatch(r"cd (\S+)", command):
                 place = os.path.join(place, it[1])
                 continue
-            if lacks := missing(command):
+            if lacks := missing(command, shell):
                 print(f"{where}: skipped, {lacks} is not installed: {command}")
                 continue
-            ran = subprocess.run(["bash", "-c", command], cwd=place, stdin=subprocess.DEVNULL, stdout=subprocess.PIPE, stderr=subprocess.STDOUT, timeout=600, check=False)
+            ran = shell.run(command, place)
             lines = ran.stdout.decode(errors="replace").splitlines()
             if ran.returncode == 2 and (lacks := re.search(r"\bpython3-[a-z0-9.]+\b", "\n".join(lines))):
                 print(f"{where}: skipped, {lacks[0]} is not installed: {command}")
@@ -292,7 +313,8 @@ def main():
     wrong = [it for path, text in texts.items() for check in (sizes, links, names, counts) for it in check(path, text)]
     wrong += crates(texts)
     if program:
-        wrong += [it for path in WITH_COMMANDS if path in texts for it in run_commands(path, texts[path], os.path.abspath(program))]
+        shell = Here(os.path.abspath(program))
+        wrong += [it for path in WITH_COMMANDS if path in texts for it in run_commands(path, texts[path], shell)]
     for it in wrong:
         print(it)
     print(f"check_docs: {len(texts)} documents, {len(wrong)} wrong")

@@ -17,6 +17,8 @@ import time
 import unittest
 from pathlib import Path
 
+import fake_kit
+
 TOP = Path(__file__).resolve().parent.parent
 
 # Seconds that nothing takes but what hangs: a busy machine is no failure.
@@ -24,37 +26,6 @@ LONG = 600
 
 # What `./avrora` is a script for.
 NEEDS = ("bash", "awk", "python3")
-
-# It takes FAKE_SECONDS for a crate, in a copy of itself, and proves all but the crate FAKE_FAULT.
-RATTLE = """#!/usr/bin/env bash
-while (($#)); do
-    case $1 in --crate-name) name=$2 ;; -o) out=$2 ;; esac
-    shift
-done
-(exec -a "$0-copy" sleep "${FAKE_SECONDS:-0}") &
-wait $!
-if [[ $name == "${FAKE_FAULT:-}" ]]; then echo 'error: an open goal'; exit 1; fi
-echo 'logic=proved functions=1'
-: >"$out"
-"""
-
-# The program that it links: it writes its words and its folder, or refuses an image, a scenario, or its words.
-LINK = """#!/usr/bin/env bash
-while (($#)); do [[ $1 == -o ]] && out=$2; shift; done
-cat >"$out" <<'END'
-#!/usr/bin/env bash
-case $1 in
-    refused) echo 'avrora: a.hex: image refused: NoEnd' >&2; exit 5 ;;
-    selflink) echo 'avrora: a.toml: scenario refused: SelfLink' >&2; exit 4 ;;
-    bad) echo 'avrora: bad command line' >&2; exit 2 ;;
-    long) exec -a "$0-long" sleep 3600 ;;
-    *) echo "$* in ${PWD##*/}"; cat ;;
-esac
-END
-chmod +x "$out"
-"""
-
-CRATES = "low:\nmiddle: low\navrora_program: middle\n"
 
 
 class FirstRun(unittest.TestCase):
@@ -64,15 +35,13 @@ class FirstRun(unittest.TestCase):
         self.addCleanup(self.end_all)
         self.top = Path(self.place.name).resolve() / "repository"
         kit = self.top.parent / "kit"
-        for path, text in {"bin/rt": "#!/bin/sh\necho a kit\n", "bin/rattle": RATTLE, "bin/rattle-link": LINK, "KIT-ID": "a kit\n"}.items():
-            self.write(kit / path, text)
-        self.write(self.top / "crates.txt", CRATES)
-        for name, root in (("low", "lib"), ("middle", "lib"), ("avrora_program", "main")):
-            self.write(self.top / "crates" / name / "src" / f"{root}.rt", "// nothing\n")
-        (self.top / "docs").mkdir()
-        for path in ("avrora", "prove.py", "docs/FORMATS.md"):
+        fake_kit.write_kit(kit)
+        fake_kit.write_crates(self.top)
+        for folder in ("docs", "scripts"):
+            (self.top / folder).mkdir()
+        for path in ("avrora", "prove.py", "docs/FORMATS.md", "scripts/launcher.sh", "scripts/proved.py"):
             shutil.copy2(TOP / path, self.top / path)
-        self.environment = {**os.environ, "PATH": f"{kit / 'bin'}:{os.environ.get('PATH', os.defpath)}"}
+        self.environment = fake_kit.environment(kit)
         self.started = []
 
     def end_all(self):
@@ -83,12 +52,6 @@ class FirstRun(unittest.TestCase):
         for pid, _ in self.left():
             with contextlib.suppress(ProcessLookupError):
                 os.kill(int(pid), signal.SIGKILL)
-
-    @staticmethod
-    def write(path, text):
-        path.parent.mkdir(parents=True, exist_ok=True)
-        path.write_text(text, encoding="utf-8")
-        path.chmod(0o755)
 
     def start(self, *words, **more):
         environment = {**self.environment, **more.pop("fake", {})}

@@ -168,7 +168,7 @@ def cases(folder):
     it = Cases(folder)
     it.about("A node that stopped with a frame under way, whose end is behind the state's cycle.")
     it.file("pwm.hex", PWM)
-    it.file("stopped.toml", f'cycles = {EPOCH + 40_000}\nnode = [{{image = "pwm.hex"}}]\n')
+    it.file("stopped.toml", 'cycles = 300000\nnode = [{image = "pwm.hex"}]\n')
     it.cut("stopped.toml", 1)
     state = it.held["stopped_1.state"]
     assert state == state_by_hand()
@@ -191,9 +191,12 @@ def cases(folder):
     for k in range(8):
         it.file(f"make0_{k}.hex", image(words_of(0, k)))
     links = "".join(f"[[link]]\nfrom = {k}\nto = {(k + 1) % 8}\n" for k in range(8))
-    it.file("make0.toml", f"cycles = {2 * EPOCH + 20_000}\nlatency = 1\nbyte_time = 512\n" + "".join(f'[[node]]\nimage = "make0_{k}.hex"\n' for k in range(8)) + links)
-    for epochs in (1, 2):
-        it.cut("make0.toml", epochs, keeps=epochs == 1)
+    it.file("make0.toml", "cycles = 1000000\nlatency = 1\nbyte_time = 512\n" + "".join(f'[[node]]\nimage = "make0_{k}.hex"\n' for k in range(8)) + links)
+    for epochs in (1, 2, 3):
+        it.cut("make0.toml", epochs)
+    it.about("Four epochs are more than the network has cycles.")
+    it.call("head make0.toml 4")
+    it.call("save make0.toml 4")
     return it
 
 

@@ -11,7 +11,7 @@ from draw import OCR0, SPH, TCCR0, TIMSK, UCSRA, UCSRB, UDR, hex_text, ldi, out,
 from facts import Networks
 
 TCNT0, SREG, FLAG = 0x32, 0x3F, 0x100
-C, Z = 0, 1
+C, Z, N, V, S, H = range(6)
 NOP, RETI, SEI = word("nop"), word("reti"), word("bset", s=7)
 JMP_50 = [word("jmp", k=0), 0x50]
 
@@ -70,8 +70,8 @@ def polls(it):
     it.case("sbis_cut", "", ["100 0 end 68 running"], 100, (0, send))
     it.case("sbis_late", "", ["100 0 instr 0004 sbis 0x0B, 5", "101 0 instr 0005 rjmp .-4", "103 0 instr 0004 sbis 0x0B, 5", "110 0 end 75 running"],
             110, (0, send), window=(100, 104))
-    # SBIC begins in 3 j, RJMP in 3 j + 1: below 1,048,582 that is 349,528 and 349,527 times
-    it.case("sbic", "By SBIC, over the end of an epoch.", ["1048582 0 end 699055 running"], 1_048_582, (0, [word("sbic", A=UCSRA, b=5)] + back(1)))
+    # SBIC begins in 3 j, RJMP in 3 j + 1: below 262,150 that is 87,384 and 87,383 times
+    it.case("sbic", "By SBIC, over the end of an epoch.", ["262150 0 end 174767 running"], 262_150, (0, [word("sbic", A=UCSRA, b=5)] + back(1)))
     # IN begins in 2 + 4 j, in 102 first behind an arrival in 100. SBRS skips in 103 and 104, UDR0 is read in 105 and written in 106: the
     # frame ends in 266. 2 + 25 * 3 + 4 instructions, and RJMP to itself from 107 on, 97 times below 300.
     it.case("in_sbrs", "By IN, SBRS and RJMP, up to a byte that arrives.", ["266 0 serial 41", "300 0 end 178 running"], 300,
@@ -118,6 +118,33 @@ def delays(it):
     it.case("subi_cut", "One that the run ends in, one that a window begins in.", ["5003 0 end 4003 running"], 5003, (0, subi))
     it.case("subi_late", "", ["5000 0 instr 0005 sbci r25, 0x00", "5001 0 instr 0006 brbc 1, .-8", "5003 0 instr 0003 subi r18, 0x01", *end],
             6000, (0, subi), window=(5000, 5004))
+
+
+def other_flags(it):
+    """Delays that end by another flag than Z. `rounds` of them are taken; a branch that goes on takes one cycle."""
+    # DEC begins in 1 + 3 j, and a word behind BRPL or its like is reached two cycles behind the last. N is set at FF, so 65 rounds; V at 7F, so 129
+    # from 0; of 200 on N is set down to 80 and V at 7F, so S is clear at 7E first, behind 74.
+    # SBIW begins in 2 + 4 j: N is set at FFFF, V at 7FFF, S is clear at 7FFE first.
+    # SUBI begins in 2 + 4 j, what it leaves of the flags is what SBCI leaves: H is set where the low twelve bits were 0, N at FFFF, V at 7FFF,
+    # and S is clear at 7FFE first.
+    dec, sbiw = [word("dec", d=16)], [word("sbiw", d=0, K=1)]
+    subi, sbci = [word("subi", d=4, K=1)], [word("sbci", d=6, K=0)]
+    for name, body, flag, on, value, rounds in (
+        ("dec_n", dec, N, False, 0x40, 65), ("dec_v", dec, V, False, 0, 129), ("dec_s", dec, S, True, 200, 74),
+        ("sbiw_n", sbiw, N, False, 300, 301), ("sbiw_v", sbiw, V, False, 0x8100, 257), ("sbiw_s", sbiw, S, True, 0x8100, 258),
+        ("subi_h", subi + sbci, H, False, 0x2345, 838), ("subi_n", subi + sbci, N, False, 0x0105, 262),
+        ("subi_v", subi + sbci, V, False, 0x8123, 292), ("subi_s", subi + sbci, S, True, 0x8123, 293),
+    ):
+        low, high = (16, None) if body is dec else (24, 25) if body is sbiw else (20, 22)
+        start = [ldi(low, value % 256)] + ([ldi(high, value // 256)] if high else [])
+        cycles, count = (3 if body is dec else 4), len(body) + 1
+        stop, words = len(start) + rounds * cycles - 1, len(start) + count
+        it.case(name, "Delays that end by N, V, S or H." if name == "dec_n" else "",
+                [f"{stop} 0 stop {words:04X} reserved opcode", f"4000 0 end {len(start) + rounds * count} stopped"], 4000,
+                (0, start + body + where(flag, on, len(body))))
+    # Of three bytes, the highest 10: 102 rounds lower 100102 to 100000, and the next one borrows from a half. SUBI begins in 3 + 5 j.
+    three = [ldi(20, 0x02), ldi(22, 0x01), ldi(23, 0x10), *subi, *sbci, word("sbci", d=7, K=0)] + where(H, False, 3)
+    it.case("three_h", "", ["1297 0 stop 0007 reserved opcode", "2000 0 end 1039 stopped"], 2000, (0, three))
 
 
 def seen(it):
@@ -168,6 +195,25 @@ def seen_pairs(it):
             (0, JMP_50), (0x1E, handler), (0x50, words))
 
 
+def stores(it):
+    """Stores to SREG between two events, which turn I on and off. TCCR0 is written in 14, so OCF0 is set in 14 + OCR0; SREG is written in 15.
+    The handler begins four cycles behind the entry, sends 80 in a frame of 160 cycles, and goes back behind seven. The loop is RJMP."""
+    handler = [out(UDR, 17), out(TIMSK, 1), RETI]
+    start = put(SPH, 0x10) + put(TIMSK, 0x02) + put(UCSRB, 0x08)
+    for name, ocr, behind, rows in (
+        # RJMP begins in 16 + 2 j, so the entry is in 116; from 126 on 87 times more: 14 + 50 + 3 + 87
+        ("sreg_on", 100, [], ["280 0 serial 80", "300 0 end 154 running"]),
+        # off again in 17: RJMP begins in 18 + 2 j, 141 times: 14 + 2 + 141
+        ("sreg_off", 100, [NOP, out(SREG, 18)], ["300 0 end 157 running"]),
+        # set in the cycle of the store: the NOP in 16 is owed, the entry is in 17, RJMP begins in 27 + 2 j, 137 times: 14 + 1 + 3 + 137
+        ("sreg_on_due", 1, [NOP], ["181 0 serial 80", "300 0 end 155 running"]),
+        ("sreg_off_due", 3, [NOP, out(SREG, 18)], ["300 0 end 157 running"]),
+    ):
+        words = start + put(OCR0, ocr) + [ldi(17, 0x80), ldi(18, 0), ldi(16, 1), out(TCCR0, 16), out(SREG, 17)] + behind + back(0)
+        it.case(name, "Stores to SREG that turn interrupts on and off, far from the next one and in the cycle that sets its flag." if name == "sreg_on" else "",
+                rows, 300, (0, JMP_50), (0x1E, handler), (0x50, words))
+
+
 def look_alike(it):
     # IN begins in 10 + 4 j and finds 41, 42 and 00, each once
     it.case("udr0", "Loops that only look so. A read of UDR0 takes a byte.", ["21 0 stop 000D reserved opcode", "100 0 end 19 stopped"], 100,
@@ -182,6 +228,17 @@ def look_alike(it):
             (0, lds(FLAG, 24) + [word("and_", d=24, r=24)] + where(Z, True, 2)))
     it.case("behind", "", ["100 0 end 51 running"], 100, (0, [word("sbis", A=UCSRA, b=7)] + back(0)))
     it.case("before", "", ["100 0 end 75 running"], 100, (0, [NOP, word("sbis", A=UCSRA, b=7)] + back(2)))
+    # One that counts up begins in 1 + 3 j, and one by SUBI alone: of 200 rounds the last in 598. By two of 1,000 there are 500 rounds of four
+    # cycles, from 2 on. DEC begins in 1 + 4 j where MOV stands behind it: of 200 rounds the last in 797.
+    brne = where(Z, False, 1)
+    for name, words, end, count in (
+        ("up", [ldi(16, 56), word("inc", d=16), *brne], 600, 401), ("subi_alone", [ldi(20, 200), word("subi", d=4, K=1), *brne], 600, 401),
+        ("sbiw_two", [ldi(24, 1000 % 256), ldi(25, 1000 // 256), word("sbiw", d=0, K=2), *brne], 2001, 1002),
+        ("subi_two", [ldi(20, 1000 % 256), ldi(22, 1000 // 256), word("subi", d=4, K=2), word("sbci", d=6, K=0), *where(Z, False, 2)], 2001, 1502),
+        ("counted_twice", [ldi(16, 200), word("dec", d=16), word("mov", d=17, r=16), *where(Z, False, 2)], 800, 601),
+    ):
+        it.case(name, "Counters that are lowered otherwise than by one, or are not all that a round changes." if name == "up" else "",
+                [f"{end} 0 stop {len(words):04X} reserved opcode", f"3000 0 end {count} stopped"], 3000, (0, words))
     # SUBI begins in 1 + 4 j, of 200 rounds the last in 797
     it.case("same_byte", "SBCI of the byte that SUBI lowered.", ["800 0 stop 0004 reserved opcode", "900 0 end 601 stopped"], 900,
             (0, [ldi(16, 200), word("subi", d=0, K=1), word("sbci", d=0, K=0)] + where(Z, False, 2)))
@@ -189,7 +246,7 @@ def look_alike(it):
 
 def main():
     it = Leaps(folder_of_words(__doc__), ["worked out by hand, as bench/network/leaps.py has it at each; the traces are also those of bench/network/network.py."])
-    for part in (polls, flags, delays, seen, seen_pairs, look_alike):
+    for part in (polls, flags, delays, other_flags, seen, seen_pairs, stores, look_alike):
         part(it)
     it.write("networks", "leaps.txt")
 

@@ -9,7 +9,7 @@ import re
 import sys
 from pathlib import Path
 
-EPOCH, MOST_STATE, END_MOST = 1_048_576, 4_194_304, 2**41
+EPOCH, MOST_STATE, END_MOST = 262_144, 4_194_304, 2**41
 TITLE = "avrora state 1"
 CORE, TIMERS, PORTS, IO_BYTES, SRAM_BYTES = 41, 38, 29, 224, 4_096
 IO_FIRST = 0x20

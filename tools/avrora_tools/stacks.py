@@ -141,13 +141,7 @@ class Unwinder:
         return far & CALL_MASK == CALL and near == function
 
     def opcode(self, word: int) -> int:
-        return code_word(self.program, word & 0xFFFF)
-
-
-def code_word(program: Program, word: int) -> int:
-    """A word of the program memory; as erased flash is, where the program has none."""
-    content = program.code[2 * word : 2 * word + 2]
-    return int.from_bytes(content, "little") if len(content) == 2 else 0xFFFF
+        return self.program.word_at(word & 0xFFFF)
 
 
 def byte_at(node: Node, address: int | None, else_: int) -> int:

@@ -1,7 +1,7 @@
 // What is answered to a question or a step, or is to be answered.
 use crate::fault::Fault;
 use crate::words::{Section, byte_of};
-use world_core::{Heard, Sampled};
+use air_base::{Heard, Sampled};
 
 /// An answer.
 #[derive(Clone, Copy, Debug, PartialEq, Eq)]

@@ -3,9 +3,9 @@ ghost use Rattle.std.specs.Prelude.{◌≡◌, ◌↔◌, IfOk, IfSome, IsTrue};
 ghost use Rattle.std.specs.List.{Contains};
 ghost use Rattle.world_core.specs.Sends.{sends_of, sends_below, IsSendNumber};
 
+use air_base::{Ask, Send};
 use list_world::ListWorld;
 use std::alloc::{AllocError, Global};
-use world_core::{Ask, Send};
 
 /// How many sends of one node lie below a cycle.
 #[tactic(auto, unfolding(world_core::specs::Sends::sends_below))]

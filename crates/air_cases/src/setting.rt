@@ -1,8 +1,9 @@
 // What the lines of a case file have set: a topology, with the sends and samples of a world.
 use crate::{Fault, Section, byte_of};
+use air_base::{Ask, Heard, Send};
 use list_world::ListWorld;
 use std::alloc::Global;
-use world_core::{Ask, Heard, Link, Send, Span, Topo, TopoFault, WorldFault};
+use world_core::{Link, Span, Topo, TopoFault, WorldFault};
 
 /// What is set, for what is to come.
 #[derive(Drop)]

@@ -3,9 +3,10 @@ ghost use Rattle.std.specs.Prelude.{◌<◌, ◌↔◌, IsTrue};
 ghost use Rattle.std.specs.List.{All};
 
 use crate::plain::are_inside;
+use air_base::Send;
 use air_cases::{Answer, Fault, own_sends};
 use std::alloc::Global;
-use world_core::{Send, SendLog, Topo};
+use world_core::{SendLog, Topo};
 
 // Whether all these sends lie below a cycle.
 fn are_below(sends: &[Send], cycle: u64) -> bool

@@ -7,10 +7,11 @@ ghost use Rattle.world_core.specs.Kept.{is_kept};
 ghost use Rattle.world_core.specs.Consistent.{IsConsistent};
 ghost use Rattle.air_facts.specs.ByNode.{NodeAgrees, NodesPostedFor, SampleAgrees};
 
+use air_base::{Ask, Heard, Send};
 use air_cases::{count_below, is_asked, own_sends};
 use list_world::{ListWorld, heard_of};
 use std::alloc::{AllocError, Global};
-use world_core::{Ask, Heard, Send, Topo, World};
+use world_core::{Topo, World};
 
 fn are_same(a: &[Send], b: &[Send]) -> bool
     ensures { IsTrue result ↔ (a.now ≡ b.now) }

@@ -5,11 +5,12 @@ ghost use Rattle.world_core.specs.Topology.{IsShort};
 use crate::logs::listens;
 use crate::plain::{are_inside, is_consistent};
 use crate::setting::Setting;
+use air_base::Ask;
 use air_cases::{Answer, Fault, Section, byte_of, is_asked};
 use list_world::{ListWorld, heard_of};
 use std::alloc::Global;
 use sync_core::{Core, ReplayFault, Step, replay};
-use world_core::{Ask, Topo, TopoFault, World, WorldFault};
+use world_core::{Topo, TopoFault, World, WorldFault};
 
 fn of_topo(got: Result<Topo, TopoFault>) -> Answer {
     match got {

@@ -1,9 +1,10 @@
 // What the lines of a case file have set: a topology and a world, steps, and a state.
 use crate::logs::push;
+use air_base::{Ask, Heard, Send};
 use air_cases::{Fault, Section, byte_of, copy_of, samples_of, send_of, sends_of};
 use std::alloc::Global;
 use sync_core::Step;
-use world_core::{Ask, Heard, Send, SendLog};
+use world_core::SendLog;
 
 /// What is set, for the questions to come.
 #[derive(Drop)]

@@ -1,6 +1,6 @@
 -- The frames, the sure frames and the open part of a list, one step on.
 use Rattle.std.proofs.Common.{◌≡◌, ℕ, zero, suc, ◌+◌, ◌-◌, ◌<◌, Bool, true, false, cond, List, [], ◌∷◌, ◌++◌, length, drop, refl, ap, ◌∙◌, arith}
-use Rattle.world_core.specs.declared.air.Send.{Send}
+use Rattle.air_base.specs.declared.air.Send.{Send}
 use Rattle.air_sniffer.specs.declared.frame.Frame.{Frame}
 use Rattle.air_sniffer.specs.Head.{send_at, begins_frame, is_open}
 use Rattle.air_sniffer.specs.Frames.{frame_of, begun, passed, frames_behind, frames}

@@ -4,7 +4,7 @@ use Rattle.std.proofs.lemmas.List.{append-nil}
 use Rattle.std.proofs.lemmas.List.Elements.{filter-append}
 use Rattle.std.specs.Prelude.{◌==◌}
 use Rattle.world_core.specs.Sends.{sends_of}
-use Rattle.world_core.specs.declared.air.Send.{Send}
+use Rattle.air_base.specs.declared.air.Send.{Send}
 use Rattle.air_sniffer.specs.declared.frame.Frame.{Frame}
 use Rattle.air_sniffer.specs.Head.{is_open}
 use Rattle.air_sniffer.specs.Frames.{begun, passed, frames_behind, frames}

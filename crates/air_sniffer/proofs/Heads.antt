@@ -3,7 +3,7 @@ use Rattle.std.proofs.Common.{◌≡◌, ℕ, ◌+◌, ◌<◌, ◌≤◌, ◌&&
 use Rattle.std.specs.Prelude.{nat_le, nat_lt}
 use Rattle.std.proofs.lemmas.Bool.Decides.{nat_tests}
 use Rattle.std.proofs.lemmas.List.{get_or_append_left, take-append-le, drop-append-le, length-drop}
-use Rattle.world_core.specs.declared.air.Send.{Send}
+use Rattle.air_base.specs.declared.air.Send.{Send}
 use Rattle.air_sniffer.specs.declared.frame.Frame.{Frame}
 use Rattle.air_sniffer.specs.Head.{no_send, send_at, fits, head_fits, is_whole, begins_frame, is_open}
 use Rattle.air_sniffer.specs.Frames.{frame_of, begun, passed}

@@ -1,6 +1,6 @@
 -- An open list is one of which more sends can make a frame.
 use Rattle.std.proofs.Common.{◌≡◌, ℕ, ◌<◌, ◌&&◌, Bool, true, false, List, [], ◌∷◌, ◌++◌, length, replicate, refl, sym, ap, ◌∙◌, arith, length-append}
-use Rattle.world_core.specs.declared.air.Send.{Send}
+use Rattle.air_base.specs.declared.air.Send.{Send}
 use Rattle.air_sniffer.specs.Head.{no_send, head_fits, is_whole, begins_frame, is_open}
 use Rattle.air_sniffer.proofs.Heads.{open_parts, same_head, is_whole_of, fourth_most, same_at, none, some, start_of}
 

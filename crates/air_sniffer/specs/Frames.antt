@@ -1,6 +1,6 @@
 -- The frames of a list of sends.
 use Rattle.std.specs.Prelude.{ℕ, zero, suc, ◌+◌, ◌-◌, if◌then◌else◌, List, [], ◌∷◌, ◌++◌, map, take, drop}
-use Rattle.world_core.specs.declared.air.Send.{Send}
+use Rattle.air_base.specs.declared.air.Send.{Send}
 use Rattle.air_sniffer.specs.declared.frame.Frame.{Frame}
 use Rattle.air_sniffer.specs.Head.{send_at, begins_frame}
 

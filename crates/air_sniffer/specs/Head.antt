@@ -1,6 +1,6 @@
 -- How a list of sends begins. A frame is the bytes AA, AA, 7E, n, and then n bytes, where n is from 1 to 32.
 use Rattle.std.specs.Prelude.{ℕ, ◌+◌, Bool, ◌&&◌, ◌||◌, not, nat_le, nat_lt, List, length, slice_index_or}
-use Rattle.world_core.specs.declared.air.Send.{Send}
+use Rattle.air_base.specs.declared.air.Send.{Send}
 
 abbrev pub no_send : Send
 no_send = record { node = 0; cycle = 0; byte = 0 }

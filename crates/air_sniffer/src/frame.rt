@@ -1,7 +1,7 @@
 // A frame, and what bytes it has.
+use air_base::Send;
 use arrayvec::ArrayVec;
 use std::marker::Model;
-use world_core::Send;
 
 /// The payload of a frame: its bytes, at most 32.
 #[derive(Drop)]

@@ -1,7 +1,7 @@
 // What follows from the definitions alone.
 ghost use Rattle.std.specs.Prelude.{◌≡◌, ℕ, ◌≤◌, ◌+◌, [], ◌∷◌, ◌++◌, List, true, false, drop, length};
 ghost use Rattle.world_core.specs.Sends.{sends_of};
-ghost use Rattle.world_core.specs.declared.air.Send.{Send};
+ghost use Rattle.air_base.specs.declared.air.Send.{Send};
 ghost use Rattle.air_sniffer.specs.Head.{send_at, begins_frame, is_open};
 ghost use Rattle.air_sniffer.specs.Frames.{frame_of, frames};
 ghost use Rattle.air_sniffer.specs.declared.frame.Frame.{Frame};

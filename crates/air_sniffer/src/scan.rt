@@ -4,8 +4,8 @@ ghost use Rattle.air_sniffer.specs.Head.{fits, head_fits, is_whole, is_open, beg
 ghost use Rattle.air_sniffer.specs.Frames.{frame_of, begun, passed};
 
 use crate::{Frame, Payload};
+use air_base::Send;
 use std::alloc::AllocError;
-use world_core::Send;
 
 // Whether the byte at this place is one of these, if there is one.
 fn fits(sends: &[Send], place: usize, least: u8, most: u8) -> bool

@@ -6,9 +6,10 @@ ghost use Rattle.air_sniffer.specs.Sniffed.{sure, open_part};
 
 use crate::Frame;
 use crate::scan::{is_open, step};
+use air_base::Send;
 use std::alloc::{AllocError, Global};
 use std::marker::Model;
-use world_core::{NoMemory, Send};
+use world_core::NoMemory;
 
 /// A sniffer of what one node sends. It holds the sends that may still become a frame, which are at most 35.
 #[derive(Drop)]

@@ -1,3 +1,2 @@
 pub mod Carries
-pub mod KeepsI
 pub mod Signs

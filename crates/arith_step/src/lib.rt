@@ -1,12 +1,10 @@
-//! The instructions that work on registers and flags alone: arithmetic, logic, shifts, products, copies, single bits
-//! and flags; and below them their results and flags, one function for each rule of the AVR Instruction Set Manual.
-//! Each call is total and takes no memory.
+//! The results and flags of arithmetic, logic, shifts and products: one function for each rule of the AVR Instruction Set
+//! Manual, over bytes and words. Each call is total and takes no memory.
 #![tactic(auto)]
 
 mod differences;
 mod flags;
 mod products;
-pub mod shapes;
 mod shifts;
 mod signed;
 mod sums;

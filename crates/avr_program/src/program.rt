@@ -6,7 +6,7 @@ ghost use Rattle.avr_program.specs.Program.{op_of, slots_below};
 use crate::decoded::{Decoded, Slot};
 use avr_base::NoMemory;
 use avr_decoder::Op;
-use ihex_loader::Flash;
+use ihex_loader::{Flash, ProgramMemory};
 use std::alloc::Global;
 use std::marker::Model;
 use std::sync::Arc;
@@ -109,5 +109,14 @@ impl Program {
         ensures { result ≡ op_of self.now.bytes pc }
     {
         *self.op_at(self.slots(), pc)
+    }
+}
+
+impl ProgramMemory for Program {
+    ghost image = { λ p. p };
+
+    #[inline]
+    fn as_flash(&self) -> &Flash {
+        self.flash()
     }
 }

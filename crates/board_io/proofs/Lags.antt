@@ -8,7 +8,7 @@ use Rattle.board_io.specs.Cycle.{air_of, board_air, board_answered, board_begun,
 use Rattle.serial_ports.specs.declared.radio.TransferOutcome.{TransferOutcome}
 use Rattle.serial_ports.specs.declared.radio.TransferOutcome.TheVariants.{Answer, Send, Ask}
 use Rattle.serial_ports.specs.declared.radio.Radio.{Radio}
-use Rattle.world_core.specs.declared.air.Heard.{Heard}
+use Rattle.air_base.specs.declared.air.Heard.{Heard}
 use Rattle.board_io.specs.Lagging.{IsAhead, IsClear, IsIdle, caught_up}
 use Rattle.board_io.specs.Lines.{lines_of}
 use Rattle.board_io.proofs.Leaps.{leap_quiet, leap_zero}

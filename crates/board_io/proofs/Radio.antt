@@ -29,7 +29,7 @@ use Rattle.avr_timers.specs.declared.timer8.Timer8.{Timer8}
 use Rattle.avr_timers.specs.Registers8 as reg8
 use Rattle.serial_ports.specs.declared.usart.Usart.{Usart}
 use Rattle.serial_ports.specs.UsartRegisters as usart
-use Rattle.world_core.specs.declared.air.Heard.{Heard}
+use Rattle.air_base.specs.declared.air.Heard.{Heard}
 
 -- ---- a cycle
 end_radio : (m : TransferOutcome) (r : Radio) (b : Board) → (transfer_end m r b).radio ≡ r

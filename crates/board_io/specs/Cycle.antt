@@ -18,7 +18,7 @@ use Rattle.avr_timers.specs.Timer16 as timer16
 use Rattle.avr_timers.specs.Timer8 as timer8
 use Rattle.serial_ports.specs.declared.usart.Usart.{Usart}
 use Rattle.serial_ports.specs.Usart as usart
-use Rattle.world_core.specs.declared.air.Heard.{Heard}
+use Rattle.air_base.specs.declared.air.Heard.{Heard}
 
 abbrev pub timers_cycle : ℕ → Board → Board
 timers_cycle t b = record b {

@@ -5,9 +5,9 @@ ghost use Rattle.avr_timers.specs.Timer16 as timer16;
 ghost use Rattle.avr_timers.specs.Timer8 as timer8;
 
 use crate::Board;
+use air_base::Heard;
 use avr_timers::{Timer8, Timer16};
 use serial_ports::{TransferOutcome, ended_byte};
-use world_core::Heard;
 
 /// What the radio of a node does on the air in a cycle.
 #[derive(Clone, Copy)]

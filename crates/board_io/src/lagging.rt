@@ -4,9 +4,9 @@ ghost use Rattle.board_io.specs.Lagging.{IsClear, IsIdle};
 
 use crate::ahead::{Forecast, clear_until};
 use crate::{Board, Clock, CycleOutput, Sleep};
+use air_base::Heard;
 use avr_base::{Lines, Vector};
 use std::marker::Model;
-use world_core::Heard;
 
 /// A board, as the node runs it. Contracts see the board of its clock's cycle; behind that its timers lag, since most
 /// cycles only count: they are made up for at an access to a timer and at an event, and until the next event the

@@ -5,7 +5,7 @@ use Rattle.std.specs.List.{All, AllByRecursion, range_with_len}
 use Rattle.std.proofs.lemmas.Bool.{and_parts, ltb-true}
 use Rattle.std.proofs.lemmas.List.Elements.{All-filter, All-head, All-tail}
 use Rattle.std.proofs.lemmas.List.FromFn.{length-map-range_with_len}
-use Rattle.world_core.specs.declared.air.Send.{Send}
+use Rattle.air_base.specs.declared.air.Send.{Send}
 use Rattle.world_core.specs.Kept.{is_kept}
 use Rattle.world_core.specs.Order.{node_at, world_after, world_at}
 use Rattle.board_io.specs.Kept.{io_of}
@@ -15,7 +15,8 @@ use Rattle.node_core.specs.State.{NodeState}
 use Rattle.node_runner.specs.Run.{kept_at}
 use Rattle.node_runner.specs.Scenario.{IsScenario, ScenarioOf, fleet_of}
 use Rattle.node_runner.proofs.Sound.{sound}
-use Rattle.node_laws.specs.Scenario.{AreImages, IsSaved}
+use Rattle.node_laws.specs.Scenario.{IsSaved}
+use Rattle.node_laws.proofs.Images.{AreImages}
 use Rattle.node_laws.proofs.Restores.{saved}
 use Rattle.node_laws.proofs.Worlds.{world_in}
 use Rattle.state_text.specs.Bounds.{HasNode, IsState, is_cut}

@@ -6,13 +6,13 @@ use Rattle.std.specs.List.{All, AllPairs, filter}
 use Rattle.std.proofs.lemmas.Bool.Decides.{nat_tests}
 use Rattle.std.proofs.lemmas.List.Elements.{All-filter, All-head, All-tail, All-weaker, filter_passes}
 use Rattle.std.proofs.lemmas.List.Kept.{AllPairs-filter}
-use Rattle.world_core.specs.declared.air.Send.{Send}
-use Rattle.world_core.specs.Each.{each_below}
+use Rattle.air_base.specs.declared.air.Send.{Send}
+use Rattle.air_base.specs.Each.{each_below}
 use Rattle.world_core.specs.Kept as record_of
 use Rattle.world_core.specs.Order.{Fleet, Moment, node_at, send_of, world_at}
 use Rattle.world_core.specs.Sound.{IsSound}
 use Rattle.world_core.specs.Topology.{Topology}
-use Rattle.world_core.proofs.Each.{All_each}
+use Rattle.air_base.proofs.Each.{All_each}
 use Rattle.world_core.proofs.Sends.{all_inside, each_cycle, first, next_sends}
 use Rattle.state_text.specs.Bounds.{are_sends, follows, is_kept, kept_behind}
 use Rattle.checkpoint_text.proofs.Ordered.{of_one}

@@ -10,7 +10,8 @@ use Rattle.node_core.specs.Numbers.{numbers_of}
 use Rattle.node_core.specs.State.{NodeState}
 use Rattle.node_runner.specs.Run.{kept_at}
 use Rattle.node_runner.specs.Scenario.{IsRestoredIn, IsScenario, ScenarioOf, fleet_of}
-use Rattle.node_laws.specs.Scenario.{AreImages, IsSaved}
+use Rattle.node_laws.specs.Scenario.{IsSaved}
+use Rattle.node_laws.proofs.Images.{AreImages}
 use Rattle.node_laws.proofs.Restores.{saved}
 use Rattle.checkpoint_text.specs.NodeOf.{node_of}
 use Rattle.checkpoint_text.specs.Onward.{onward, saved_node}

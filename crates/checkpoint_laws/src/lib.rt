@@ -4,24 +4,24 @@
 
 ghost use Rattle.std.specs.Prelude.{◌≡◌, ℕ, ◌<◌, ◌≤◌, ◌++◌, true};
 ghost use Rattle.world_core.specs.Order.{node_at, run_rows, world_at};
-ghost use Rattle.node_runner.specs.Scenario.{IsScenario, ScenarioOf, fleet_of};
-ghost use Rattle.node_laws.specs.Scenario.{AreImages};
+ghost use Rattle.node_runner.specs.Accepted.{IsAccepted};
+ghost use Rattle.node_runner.specs.Scenario.{ScenarioOf, fleet_of};
 ghost use Rattle.checkpoint_text.specs.NodeOf.{node_of};
 ghost use Rattle.checkpoint_text.specs.Onward.{onward, saved_node};
 ghost use Rattle.checkpoint_text.specs.State.{rules_of, saved_at};
 ghost use Rattle.state_text.specs.Bounds.{IsState, is_cut};
 
-/// What is saved of a run at a cycle is each node as it is then, and the rows of the whole run are those of the cycles
-/// before it and then those of the run that goes on from what was saved.
+/// What is saved of a run of accepted texts at a cycle is each node as it is then, and the rows of the whole run are
+/// those of the cycles before it and then those of the run that goes on from what was saved.
 pub fn onward_law()
-    ensures nodes { (sc : ScenarioOf) (c k : ℕ) → IsScenario sc → AreImages sc → c ≤ sc.topo.limit → k < sc.topo.nodes
+    ensures nodes { (sc : ScenarioOf) (c k : ℕ) → IsAccepted sc → c ≤ sc.topo.limit → k < sc.topo.nodes
         → node_of sc k (saved_node (saved_at sc c) k) ≡ node_at (fleet_of sc) k c }
-    ensures rows { (sc : ScenarioOf) (c : ℕ) → IsScenario sc → AreImages sc → c ≤ sc.topo.limit
+    ensures rows { (sc : ScenarioOf) (c : ℕ) → IsAccepted sc → c ≤ sc.topo.limit
         → run_rows (fleet_of sc) ≡ (world_at (fleet_of sc) c).rows ++ run_rows (onward sc (saved_at sc c)) }
 {}
 
-/// What is saved of a run at the end of an epoch below the limit keeps each bound of a state's text, so that it is
-/// accepted.
+/// What is saved of a run of accepted texts at the end of an epoch below the limit keeps each bound of a state's text,
+/// so that it is accepted.
 pub fn accepted_law()
-    ensures { (sc : ScenarioOf) (c : ℕ) → IsScenario sc → AreImages sc → is_cut sc.topo c ≡ true → IsState (rules_of sc) (saved_at sc c) }
+    ensures { (sc : ScenarioOf) (c : ℕ) → IsAccepted sc → is_cut sc.topo c ≡ true → IsState (rules_of sc) (saved_at sc c) }
 {}

@@ -10,7 +10,7 @@ use Rattle.std.proofs.lemmas.List.Kept.{AllPairs-cons}
 use Rattle.std.proofs.lemmas.List.Quantifiers.{position-Some}
 use Rattle.world_core.specs.Chain.{Rises}
 use Rattle.world_core.specs.Topology.{Topology}
-use Rattle.world_core.specs.declared.air.Send.{Send}
+use Rattle.air_base.specs.declared.air.Send.{Send}
 use Rattle.device_base.specs.Numbers.{part}
 use Rattle.avr_timers.specs.Numbers8.{fits as fits8}
 use Rattle.avr_timers.specs.Numbers16.{fits as fits16}

@@ -2,15 +2,15 @@
 use Rattle.std.proofs.Common.{◌≡◌, ℕ, zero, suc, ◌+◌, ◌-◌, ◌<◌, ◌≤◌, List, [], ◌∷◌, ◌++◌, refl, sym, subst, ◌∙◌, ap, arith, append_assoc}
 use Rattle.std.specs.List.{filter}
 use Rattle.std.proofs.lemmas.List.Elements.{filter-append}
-use Rattle.world_core.specs.declared.air.Send.{Send}
-use Rattle.world_core.specs.Each.{each_below}
+use Rattle.air_base.specs.declared.air.Send.{Send}
+use Rattle.air_base.specs.Each.{each_below}
 use Rattle.world_core.specs.Heard.{heard}
 use Rattle.world_core.specs.Kept.{is_kept}
-use Rattle.world_core.specs.NodeKind.{ticked, ticked_rows}
+use Rattle.air_base.specs.NodeKind.{ticked, ticked_rows}
 use Rattle.world_core.specs.Order.{Fleet, Moment, end_rows, node_at, resumed, run_rows, send_of, world_after, world_at}
 use Rattle.world_core.specs.Resumed.{GoesOn}
 use Rattle.world_core.specs.Sends.{sends_of}
-use Rattle.world_core.proofs.Each.{each_same}
+use Rattle.air_base.proofs.Each.{each_same}
 use Rattle.world_core.proofs.Final.{through}
 use Rattle.world_core.proofs.Resumed.{resumes}
 use Rattle.checkpoint_text.proofs.Hearing.{kept_heard}

@@ -3,12 +3,12 @@ use Rattle.std.proofs.Common.{◌≡◌, ◌≢◌, ℕ, suc, ◌+◌, ◌-◌, 
 use Rattle.std.proofs.lemmas.List.{get_or-set_same, get_or-set_other, get_or_append_left, get_or-append_right, get_or_default, length-append}
 use Rattle.std.proofs.Common.{get_or}
 use native.Mathlib.Decide.{ℕ_discrete}
-use Rattle.world_core.specs.declared.air.Heard.{Heard}
-use Rattle.world_core.specs.declared.air.Send.{Send}
-use Rattle.world_core.specs.Each.{each_below}
-use Rattle.world_core.specs.NodeKind.{NodeKind}
-use Rattle.world_core.specs.NodeRun.{Timed}
-use Rattle.world_core.proofs.Each.{each_same}
+use Rattle.air_base.specs.declared.air.Heard.{Heard}
+use Rattle.air_base.specs.declared.air.Send.{Send}
+use Rattle.air_base.specs.Each.{each_below}
+use Rattle.air_base.specs.NodeKind.{NodeKind}
+use Rattle.air_base.specs.NodeRun.{Timed}
+use Rattle.air_base.proofs.Each.{each_same}
 use Rattle.node_core.specs.declared.row.Row.{Row}
 use Rattle.node_core.specs.State.{NodeState}
 use Rattle.node_core.specs.Cycle.{end_row}

@@ -5,15 +5,15 @@ use Rattle.std.specs.List.Sorted.{IsNonDecreasingBy, IsStableByKey}
 use Rattle.std.specs.Ordering.{nat_cmp}
 use Rattle.std.proofs.lemmas.Bool.Decides.{nat_tests}
 use native.Mathlib.Decide.{ℕ_discrete}
-use Rattle.world_core.specs.declared.air.Send.{Send}
+use Rattle.air_base.specs.declared.air.Send.{Send}
 use Rattle.world_core.specs.Chain.{Rises}
-use Rattle.world_core.specs.Each.{each_below}
+use Rattle.air_base.specs.Each.{each_below}
 use Rattle.world_core.specs.Kept.{is_kept}
-use Rattle.world_core.specs.NodeRun.{Timed}
+use Rattle.air_base.specs.NodeRun.{Timed}
 use Rattle.world_core.specs.Order.{Fleet, Moment, end_rows, node_at, rows_between, world_at}
 use Rattle.world_core.specs.Sends.{sends_of}
 use Rattle.world_core.proofs.Alone.{rows_none}
-use Rattle.world_core.proofs.Each.{each_same}
+use Rattle.air_base.proofs.Each.{each_same}
 use Rattle.world_core.proofs.OrderRows.{rows_merged}
 use Rattle.world_core.proofs.Sends.{first}
 use Rattle.world_core.proofs.Sorted.{Agree}

@@ -3,15 +3,15 @@
 use Rattle.std.proofs.Common.{◌≡◌, ℕ, zero, suc, ◌+◌, ◌<◌, ◌≤◌, List, [], ◌++◌, sym, ◌∙◌, ap, arith, append-nil, append_assoc, add-zero}
 use Rattle.std.specs.List.{All}
 use Rattle.std.proofs.lemmas.List.Elements.{All-nil, All-cons}
-use Rattle.world_core.specs.declared.air.Heard.{Heard}
-use Rattle.world_core.specs.declared.air.Send.{Send}
+use Rattle.air_base.specs.declared.air.Heard.{Heard}
+use Rattle.air_base.specs.declared.air.Send.{Send}
 use Rattle.std.specs.declared.option.Option.{Option}
 use Rattle.std.specs.Prelude.{Some, None}
-use Rattle.world_core.specs.Each.{each_below}
-use Rattle.world_core.specs.NodeKind.{ticked, ticked_rows}
+use Rattle.air_base.specs.Each.{each_below}
+use Rattle.air_base.specs.NodeKind.{ticked, ticked_rows}
 use Rattle.world_core.specs.Order.{Fleet, Moment, hears, node_at, rows_in, send_of, world_at}
 use Rattle.world_core.specs.Sends.{sends_of}
-use Rattle.world_core.proofs.Each.{All_each, each_same}
+use Rattle.air_base.proofs.Each.{All_each, each_same}
 use Rattle.world_core.proofs.Sends.{next}
 use Rattle.world_core.proofs.Sorted.{agrees}
 use Rattle.checkpoint_text.specs.Alone.{alone, alone_rows, alone_sends}

@@ -7,19 +7,19 @@ use Rattle.std.proofs.lemmas.List.Kept.{AllPairs-cons, AllPairs-filter}
 use Rattle.std.proofs.lemmas.Bool.{false≢true}
 use Rattle.std.specs.declared.option.Option.{Option}
 use Rattle.std.proofs.lemmas.Bool.Decides.{nat_tests}
-use Rattle.world_core.specs.declared.air.Heard.{Heard}
-use Rattle.world_core.specs.declared.air.Send.{Send}
+use Rattle.air_base.specs.declared.air.Heard.{Heard}
+use Rattle.air_base.specs.declared.air.Send.{Send}
 use Rattle.world_core.specs.Chain.{Rises}
-use Rattle.world_core.specs.Each.{each_below}
+use Rattle.air_base.specs.Each.{each_below}
 use Rattle.world_core.specs.Heard.{heard}
 use Rattle.world_core.specs.Kept.{is_kept}
-use Rattle.world_core.specs.NodeKind.{IsSteady}
-use Rattle.world_core.specs.NodeRun.{Timed}
+use Rattle.air_base.specs.NodeKind.{IsSteady}
+use Rattle.air_base.specs.NodeRun.{Timed}
 use Rattle.world_core.specs.Order.{Fleet, hears, node_at, rows_between, send_of, world_at}
 use Rattle.world_core.specs.Sends.{sends_of}
 use Rattle.world_core.specs.Topology.{Topology, latency_of, reach}
 use Rattle.world_core.proofs.Alone.{rows_join}
-use Rattle.world_core.proofs.Each.{All_each, each_same, filter_whole}
+use Rattle.air_base.proofs.Each.{All_each, each_same, filter_whole}
 use Rattle.world_core.proofs.Final.{filter_swap, through}
 use Rattle.checkpoint_text.specs.Alone.{AllRan, GoesAlone, HasRun, alone, alone_rows, alone_sends, node_in, sent_by}
 use Rattle.checkpoint_text.specs.Paused.{AtRest, CanPost, IsPaused}

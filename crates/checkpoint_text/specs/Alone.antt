@@ -1,11 +1,11 @@
 -- One node that runs by itself, cycle after cycle, where what it hears in each cycle is given. These are words of
 -- contracts, and no part of what a run is.
 use Rattle.std.specs.Prelude.{◌≡◌, ◌⊎◌, ℕ, zero, suc, ◌+◌, ◌-◌, ◌≤◌, ◌<◌, Bool, true, false, List, [], ◌++◌, length, slice_index_or}
-use Rattle.world_core.specs.declared.air.Heard.{Heard}
-use Rattle.world_core.specs.declared.air.Send.{Send}
-use Rattle.world_core.specs.Each.{each_below}
-use Rattle.world_core.specs.NodeKind.{NodeKind, ticked, ticked_rows}
-use Rattle.world_core.specs.NodeRun.{Timed}
+use Rattle.air_base.specs.declared.air.Heard.{Heard}
+use Rattle.air_base.specs.declared.air.Send.{Send}
+use Rattle.air_base.specs.Each.{each_below}
+use Rattle.air_base.specs.NodeKind.{NodeKind, ticked, ticked_rows}
+use Rattle.air_base.specs.NodeRun.{Timed}
 use Rattle.world_core.specs.Order.{send_of}
 
 -- the state after n cycles from cycle t on, where h says what is heard in a cycle

@@ -1,16 +1,16 @@
 -- All nodes of a run at one cycle, and the record of the sends that may still be heard. These are words of contracts.
 use Rattle.std.specs.Prelude.{◌≡◌, ℕ, ◌<◌, ◌≤◌, false, List, [], ◌∷◌, length}
 use Rattle.std.specs.List.{All, filter}
-use Rattle.world_core.specs.declared.air.Send.{Send}
+use Rattle.air_base.specs.declared.air.Send.{Send}
 use Rattle.world_core.specs.Chain.{IsAfter, Rises}
 use Rattle.world_core.specs.Kept.{is_kept}
-use Rattle.world_core.specs.NodeRun.{Timed}
+use Rattle.air_base.specs.NodeRun.{Timed}
 use Rattle.world_core.specs.Order.{Fleet, node_at, rows_between, world_at}
 use Rattle.world_core.specs.Sends.{sends_of}
 use Rattle.node_core.specs.declared.row.Row.{Row}
 use Rattle.node_core.specs.State.{NodeState}
 use Rattle.node_core.specs.Cycle.{end_row}
-use Rattle.world_core.specs.Each.{each_below}
+use Rattle.air_base.specs.Each.{each_below}
 use Rattle.node_runner.specs.Scenario.{IsScenario, ScenarioOf}
 use Rattle.state_text.specs.Text.{StateOf}
 use Rattle.checkpoint_text.specs.Alone.{HasRun, node_in}

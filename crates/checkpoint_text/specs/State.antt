@@ -2,7 +2,7 @@
 use Rattle.std.specs.Prelude.{◌≡◌, ℕ, ◌^◌, ◌<◌, ◌==◌, ◌&&◌, nat_le, Bool, true, false, List, length, map, slice_index, is_none, Option, Some, None, Result}
 use Rattle.std.specs.List.{AllByRecursion, range_with_len}
 use Rattle.world_core.specs.Order.{node_at}
-use Rattle.world_core.specs.declared.air.Send.{Send}
+use Rattle.air_base.specs.declared.air.Send.{Send}
 use Rattle.board_io.specs.Kept.{first_refused, io_of}
 use Rattle.node_core.specs.Numbers.{first_outside, numbers_of}
 use Rattle.node_core.specs.State.{NodeState}

@@ -6,9 +6,10 @@ ghost use Rattle.world_core.specs.Heard.{heard};
 ghost use Rattle.node_core.specs.Cycle.{node_kind};
 ghost use Rattle.checkpoint_text.specs.Alone.{GoesAlone, RunsAlone, Steps};
 
+use air_base::Send;
 use avr_base::NoMemory;
 use node_core::{Node, Reached};
-use world_core::{Send, SendLog, Topo};
+use world_core::{SendLog, Topo};
 
 // Goes on to the node's next send or sample before the cycle `end`, whose cycle is finished, and answers whether there
 // was one. Where there was none, the node has come to `end`, or stopped before.

@@ -10,13 +10,14 @@ ghost use Rattle.checkpoint_text.specs.Paused.{IsPaused};
 
 use crate::alone::run_alone;
 use crate::record::post;
+use air_base::Send;
 use avr_base::NoMemory;
 use node_core::Node;
 use node_runner::{Scenario, lookahead};
 use state_text::StateParts;
 use std::alloc::Global;
 use std::snapshot::Snapshot;
-use world_core::{Send, SendLog, Topo};
+use world_core::{SendLog, Topo};
 
 // Each node runs by itself up to the cycle `end`, or until it has stopped. What they send, one node's after another's.
 fn run_each(

@@ -1,31 +1,84 @@
 // The record of the sends that may still be heard.
-ghost use Rattle.std.specs.Prelude.{◌≡◌, ◌<◌, ◌++◌, ◌⊎◌, IfOk, OnOk};
+ghost use Rattle.std.specs.Prelude.{◌≡◌, ◌<◌, ◌≤◌, ◌+◌, ◌^◌, ◌++◌, ◌⊎◌, length, IfOk, OnOk};
 ghost use Rattle.std.specs.List.{All, filter};
-ghost use Rattle.world_core.specs.Chain.{Rises};
+ghost use Rattle.world_core.specs.Chain.{Rises, log_of};
 ghost use Rattle.world_core.specs.Kept.{is_kept};
 ghost use Rattle.checkpoint_text.specs.Paused.{CanPost};
 
+use air_base::Send;
 use avr_base::NoMemory;
 use std::alloc::Global;
-use world_core::{Send, SendLog, Topo};
+use world_core::{SendLog, Topo};
 
-/// A record of these sends, of which each node's rise.
-pub fn record_of(alloc: Global, sends: &[Send]) -> Result<SendLog, NoMemory>
+// Puts sends into the record, behind those that it has. There is room for them.
+fn append(log: &mut SendLog, sends: &[Send])
     requires nodes { All (λ x. x.node < 64) sends.now }
-    requires rises { Rises sends.now }
-    ensures { IfOk result (λ log. log.sends ≡ sends.now) }
+    requires rises { Rises (log.old.sends ++ sends.now) }
+    requires room { length log.old.sends + length sends.now ≤ log.old.room }
+    ensures { log.new ≡ log_of (log.old.sends ++ sends.now) log.old.room }
 {
-    let Ok(mut log) = SendLog::new(alloc, sends.len()) else {
-        return Err(NoMemory);
-    };
     for send in sends {
         log.push(*send);
     }
+}
+
+/// A record of these sends, of which each node's rise, with room for `room`.
+pub fn record_of(alloc: Global, sends: &[Send], room: usize) -> Result<SendLog, NoMemory>
+    requires nodes { All (λ x. x.node < 64) sends.now }
+    requires rises { Rises sends.now }
+    requires room { length sends.now ≤ room }
+    ensures { IfOk result (λ log. log ≡ log_of sends.now room) }
+{
+    let Ok(mut log) = SendLog::new(alloc, room) else {
+        return Err(NoMemory);
+    };
+    append(&mut log, sends);
     Ok(log)
 }
 
-/// Puts sends into the record, behind those that it has. Where there are any, what is over at the cycle `floor` is
-/// dropped.
+// Drops what is over at the cycle `floor`, and takes more room where less than half would be free behind `more` sends
+// more: so a send is copied a few times at most, however often a record is full.
+fn make_room(
+    alloc: Global,
+    topo: &Topo,
+    log: &mut SendLog,
+    more: usize,
+    floor: u64,
+) -> Result<(), NoMemory>
+    requires more { more < 2 ^ 63 }
+    requires nodes { All (λ x. x.node < 64) log.old.sends }
+    requires rises { Rises log.old.sends }
+    ensures sends { OnOk result (log.new.sends ≡ filter (is_kept topo.now floor) log.old.sends) }
+    ensures room { OnOk result (length log.new.sends + more ≤ log.new.room) }
+{
+    log.cut(topo, floor);
+    let room = (log.sends().len() + more).saturating_mul(2);
+    if room <= log.room() {
+        return Ok(());
+    }
+    let longer = record_of(alloc, log.sends(), room)?;
+    *log = longer;
+    Ok(())
+}
+
+// Puts sends into a record that has no room for them, behind what of it is not over at the cycle `floor`.
+fn post_to_full(
+    alloc: Global,
+    topo: &Topo,
+    log: &mut SendLog,
+    sends: &[Send],
+    floor: u64,
+) -> Result<(), NoMemory>
+    requires { CanPost log.old.sends sends.now }
+    ensures { OnOk result (log.new.sends ≡ filter (is_kept topo.now floor) log.old.sends ++ sends.now) }
+{
+    make_room(alloc, topo, log, sends.len(), floor)?;
+    append(log, sends);
+    Ok(())
+}
+
+/// Puts sends into the record, behind those that it has. Where there is no room for them, what is over at the cycle
+/// `floor` is dropped first.
 pub fn post(
     alloc: Global,
     topo: &Topo,
@@ -36,12 +89,9 @@ pub fn post(
     requires { CanPost log.old.sends sends.now }
     ensures { OnOk result ((log.new.sends ≡ log.old.sends ++ sends.now) ⊎ (log.new.sends ≡ filter (is_kept topo.now floor) log.old.sends ++ sends.now)) }
 {
-    if sends.is_empty() {
-        return Ok(());
+    if log.room() < log.sends().len() + sends.len() {
+        return post_to_full(alloc, topo, log, sends, floor);
     }
-    log.cut(topo, floor);
-    let mut all = Vec::from_slice(alloc, log.sends())?;
-    all.extend_from_slice(sends)?;
-    *log = record_of(alloc, &all)?;
+    append(log, sends);
     Ok(())
 }

@@ -1,8 +1,8 @@
 // The rows of an epoch.
 ghost use Rattle.std.specs.Prelude.{◌≡◌, ◌≤◌, ◌<◌, ◌++◌, ℕ, true, false, length, [], ◌∷◌, IfOk, OnOk, if◌then◌else◌};
 ghost use Rattle.std.specs.List.{All};
-ghost use Rattle.world_core.specs.Each.{each_below};
-ghost use Rattle.world_core.specs.NodeRun.{Timed};
+ghost use Rattle.air_base.specs.Each.{each_below};
+ghost use Rattle.air_base.specs.NodeRun.{Timed};
 ghost use Rattle.node_core.specs.Cycle.{end_row};
 ghost use Rattle.node_core.specs.State.{NodeState};
 ghost use Rattle.node_core.specs.declared.row.Row.{Row};

@@ -120,7 +120,7 @@ impl Saved {
     {
         let limit = scenario.lawful_topo().limit();
         let nodes = nodes_of(alloc, scenario, state)?;
-        let log = record_of(alloc, &state.sends)?;
+        let log = record_of(alloc, &state.sends, state.sends.len())?;
         Ok(Saved {
             alloc,
             scenario: Snapshot::of(scenario),

@@ -6,12 +6,12 @@ ghost use Rattle.state_text.specs.Text.{state_text};
 ghost use Rattle.state_text.specs.Writing.{node_of};
 ghost use Rattle.checkpoint_text.specs.State.{IsAt, parts_of, saved_with};
 
+use air_base::Send;
 use node_core::Node;
 use node_runner::{Runner, Scenario};
 use sim_io::{Sink, SinkFault};
 use state_text::{Nodes, write};
 use std::marker::Model;
-use world_core::Send;
 
 // The nodes of a run, none of which has a sample unanswered.
 #[derive(Drop)]

@@ -5,7 +5,8 @@
 #![tactic(auto)]
 
 use commands::run_program;
-use sim_io::{Sink, StdSink, write_all};
+use fleet_threads::OpenGate;
+use sim_io::{DirStore, Sink, StdSink, write_all};
 use std::env::{self, Env};
 use std::fs::Files;
 use std::io;
@@ -105,7 +106,14 @@ fn do_words<R: Env + Threads + Wait + Files + AllocGlobal + Sync, O: Sink>(
 fn main(rt: HostRuntime) -> ExitCode {
     let mut out = StdSink::new(io::writer(&rt));
     match do_words(&rt, &mut out) {
-        Ok(true) => run_program(&rt, rt.stderr()),
+        Ok(true) => ExitCode::from(run_program(
+            &rt,
+            &rt,
+            &mut DirStore::new(&rt),
+            &mut out,
+            &mut StdSink::new(rt.stderr()),
+            &OpenGate,
+        )),
         Ok(false) => ExitCode::SUCCESS,
         Err(Failed) => ExitCode::FAILURE,
     }

@@ -17,8 +17,8 @@ fn borrowed<'w>(alloc: Global, owned: &'w [String]) -> Result<Vec<&'w str>, Allo
 
 /// The words after the program's name; `None` where they cannot be had: for want of memory, or where one is no UTF-8.
 /// They are there for as long as the process runs, so nobody has to let go of them.
-pub fn words_given<R: Env + AllocGlobal>(rt: &R) -> Option<&'static [&'static str]> {
-    let owned: Vec<String> = env::args(rt).ok()?.skip(1).collect(rt.alloc()).ok()?;
-    let words = borrowed(rt.alloc(), owned.leak()).ok()?;
+pub fn words_given<V: Env>(env: &V, alloc: Global) -> Option<&'static [&'static str]> {
+    let owned: Vec<String> = env::args(&(env, alloc)).ok()?.skip(1).collect(alloc).ok()?;
+    let words = borrowed(alloc, owned.leak()).ok()?;
     Some(words.leak())
 }

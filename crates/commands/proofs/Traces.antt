@@ -8,8 +8,8 @@ use Rattle.sim_io.proofs.Taken.{extended-extended}
 use Rattle.node_core.specs.declared.row.Row.{Row}
 use Rattle.trace_writer.specs.Line.{row_line, rows_text}
 use Rattle.node_core.specs.State.{NodeState}
-use Rattle.world_core.specs.NodeKind.{ticked_rows}
-use Rattle.world_core.specs.Each.{each_below}
+use Rattle.air_base.specs.NodeKind.{ticked_rows}
+use Rattle.air_base.specs.Each.{each_below}
 use Rattle.world_core.specs.Order.{Fleet, world_after, world_at, hears, end_rows, run_rows}
 use Rattle.node_runner.specs.Scenario.{ScenarioOf, IsScenario, fleet_of}
 use Rattle.node_runner.specs.Run.{rows_upto}

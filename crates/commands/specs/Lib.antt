@@ -5,3 +5,4 @@ pub mod Job
 pub mod Plan
 pub mod TopClause
 pub mod Parts
+pub mod Program

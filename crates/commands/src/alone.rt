@@ -24,7 +24,7 @@ use std::alloc::Global;
 /// | `check FILE` | how many nodes, links and cycles the network of the scenario in FILE has; it is not run |
 /// | `disasm FILE` | the address and the text of each instruction of the image in FILE, a line each |
 /// | `asm FILE` | the program of the source in assembly in FILE, as an image in Intel HEX |
-/// | `head FILE N` | the trace of the first N epochs of 1,048,576 cycles, of the network of the scenario in FILE |
+/// | `head FILE N` | the trace of the first N epochs of 262,144 cycles, of the network of the scenario in FILE |
 /// | `save FILE N` | the state in which it is then |
 /// | `resume FILE STATE` | the trace of that network from the state in STATE on |
 /// | `make NUMBER` | what came out of the sample network of NUMBER: how often its nodes sent, and what they heard |

@@ -2,8 +2,8 @@
 //! a job (`prepare`); the job is done, which writes rows, a listing or a report; and the end is reported. The one
 //! clause of the top call `avrora`, `TopClause`, says what each status wrote, and when it comes; `avrora_alone` is the
 //! same on one thread. `run` and `make` give each node of their network a thread; all other jobs are done on one.
-//! `run_program` is `avrora` over the real files and streams, which is what `main` does, as a call, so that each
-//! program that is run by the gate has the same one.
+//! `run_program` is the program but for what is real: `main` hands in the process's words, files and streams. So the
+//! gate runs the program itself over others.
 #![tactic(auto)]
 
 mod alone;

@@ -3,12 +3,12 @@ ghost use Rattle.std.specs.Prelude.{◌≤◌, ◌^◌};
 
 use crate::answers::Answer;
 use crate::numbers::{address, byte, cycle};
+use air_base::Heard;
 use avr_base::Vector;
 use avr_timers::TimerFlags;
 use board_io::{Board, OnAir};
 use data_space::{Bus, Cpu, load, store};
 use serial_ports::ReceiveBuffer;
-use world_core::Heard;
 
 /// A sample hears one byte.
 pub const HEARD: Heard = Heard {

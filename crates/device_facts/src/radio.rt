@@ -4,8 +4,8 @@ ghost use Rattle.std.specs.Prelude.{◌≤◌, ◌^◌};
 use crate::answers::Answer;
 use crate::numbers::{byte, cycle, short};
 use crate::saved::saved_radio;
+use air_base::Heard;
 use serial_ports::{Radio, TransferOutcome};
-use world_core::Heard;
 
 // What a sample hears where nothing else is said: one byte.
 const HEARD: Heard = Heard {

@@ -31,7 +31,7 @@ use Rattle.avr_timers.specs.Timer8 as timer8
 use Rattle.avr_timers.specs.declared.timer16.Timer16.{Timer16}
 use Rattle.avr_timers.specs.Timer16 as timer16
 use Rattle.serial_ports.specs.declared.usart.Usart.{Usart}
-use Rattle.world_core.specs.declared.air.Heard.{Heard}
+use Rattle.air_base.specs.declared.air.Heard.{Heard}
 use Rattle.device_laws.specs.States.{IsBoard, IsKept, IsRadio, IsSpi, IsTimer16, IsTimer8, IsUsart, IsWithin}
 use Rattle.device_laws.proofs.Timers.{again_16, again_8, cleared_16, cleared_8, cycle_16, cycle_8, get_16_kept, kept_if, leap_16, leap_8, put_16_kept, put_8_kept}
 use Rattle.device_laws.proofs.Ports.{arrived_kept, finished_kept, get_spi_kept, get_usart_kept, put_spi_kept, put_usart_kept, radio_kept, spif_kept, txc_kept, usart_cycle_kept, within}

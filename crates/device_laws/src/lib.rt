@@ -9,7 +9,7 @@ ghost use Rattle.board_io.specs.Cycle.{board_answered, board_begun, timers_leap}
 ghost use Rattle.board_io.specs.Lines.{entered_of};
 ghost use Rattle.board_io.specs.Registers.{io_get, io_put};
 ghost use Rattle.device_laws.specs.States.{IsBoard};
-ghost use Rattle.world_core.specs.declared.air.Heard.{Heard};
+ghost use Rattle.air_base.specs.declared.air.Heard.{Heard};
 
 /// A board after reset is in such a state.
 pub fn reset_law()

@@ -6,15 +6,15 @@ use Rattle.std.specs.List.Sorted.{IsNonDecreasingBy}
 use Rattle.std.proofs.lemmas.List.Elements.{filter-append, All-append, All-nil, All-cons, All-weaker, All-filter}
 use Rattle.std.proofs.lemmas.Bool.Decides.{nat_tests}
 use native.Mathlib.Decide.{dec_le, ℕ_discrete}
-use Rattle.world_core.specs.declared.air.Send.{Send}
-use Rattle.world_core.specs.Each.{each_below}
+use Rattle.air_base.specs.declared.air.Send.{Send}
+use Rattle.air_base.specs.Each.{each_below}
 use Rattle.world_core.specs.Chain.{LogFacts}
 use Rattle.world_core.specs.Kept.{is_kept}
 use Rattle.world_core.specs.Order.{Fleet, Moment, facts_of, node_at, send_of, world_at}
 use Rattle.world_core.specs.Posted.{sent_of}
 use Rattle.world_core.specs.Sends.{sends_below, sends_of}
 use Rattle.world_core.specs.Sound.{IsSound}
-use Rattle.world_core.proofs.Each.{All_each, filter_none, filter_whole}
+use Rattle.air_base.proofs.Each.{All_each, filter_none, filter_whole}
 use Rattle.world_core.proofs.Final.{filter_swap}
 use Rattle.world_core.proofs.Counts.{no_sends_past}
 use Rattle.world_core.proofs.OrderRows.{stopped_count, stopped_state}

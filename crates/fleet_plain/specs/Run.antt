@@ -1,7 +1,7 @@
 -- A run in epochs. Own to this simulator.
 use Rattle.std.specs.Prelude.{◌≡◌, ℕ, ◌≤◌, false, List}
 use Rattle.std.specs.List.{All}
-use Rattle.world_core.specs.declared.air.Send.{Send}
+use Rattle.air_base.specs.declared.air.Send.{Send}
 use Rattle.world_core.specs.Kept.{epoch, kept_room_of}
 use Rattle.world_core.specs.Chain.{LogFacts}
 use Rattle.node_runner.specs.Scenario.{ScenarioOf, IsScenario}

@@ -12,13 +12,14 @@ ghost use Rattle.node_runner.specs.Place.{Place};
 use crate::fleet::run_to;
 use crate::gather::{ends_at, gather, start};
 use crate::sends::ordered;
+use air_base::Send;
 use avr_base::NoMemory;
 use node_core::Row;
 use node_runner::{Runner, Scenario, sort};
 use std::alloc::Global;
 use std::marker::Model;
 use std::snapshot::Snapshot;
-use world_core::{EPOCH, Send, SendLog, Topo};
+use world_core::{EPOCH, SendLog, Topo};
 
 // Room for the sends of an epoch, and those before it that can still be heard.
 fn room_for(topo: &Topo) -> usize

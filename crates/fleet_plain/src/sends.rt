@@ -4,8 +4,8 @@ ghost use Rattle.std.specs.List.Sorted.{IsNonDecreasingBy, IsStableByKey};
 ghost use Rattle.std.specs.Ordering.{nat_cmp};
 ghost use Rattle.fleet_plain.specs.Kept.{AreOrdered};
 
+use air_base::Send;
 use std::alloc::{AllocError, Global};
-use world_core::Send;
 
 // In order of node; those of one node stay in their order.
 fn sort_by_node(sends: &mut Vec<Send>) -> Result<(), AllocError>

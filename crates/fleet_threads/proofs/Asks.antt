@@ -1,6 +1,6 @@
 -- What the answers of the air, waiting or not, have in common.
 use Rattle.std.proofs.Common.{◌≡◌, ℕ, ◌∷◌, [], ◌++◌, List, true, replicate, suc, ap}
-use Rattle.world_core.specs.declared.air.Heard.{Heard as HeardValue}
+use Rattle.air_base.specs.declared.air.Heard.{Heard as HeardValue}
 use Rattle.world_core.specs.declared.world.WorldFacts.{WorldFacts}
 use Rattle.neighbour_sync.specs.Seats.{NodeFacts, node_asked}
 use Rattle.neighbour_sync.specs.declared.answers.SampleAttempt.{SampleAttempt}

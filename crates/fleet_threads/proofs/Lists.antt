@@ -1,9 +1,11 @@
 -- Lists of nodes: their numbers, and what holds of each.
-use Rattle.std.proofs.Common.{◌≡◌, ℕ, zero, suc, ◌+◌, ◌<◌, List, [], ◌∷◌, ◌++◌, length, get_or, set, refl, sym, subst, ◌∙◌, ap, arith}
+use Rattle.std.proofs.Common.{◌≡◌, ℕ, zero, suc, ◌+◌, ◌≤◌, ◌<◌, List, [], ◌∷◌, ◌++◌, length, get_or, set, refl, sym, subst, ◌∙◌, ap, arith}
 use Rattle.std.proofs.lemmas.List.{length_push, map_push, length-map, get_or-map, get_or-set_same, get_or-set_other}
+use Rattle.std.proofs.lemmas.List.Sums.{sum_by-set}
 use native.Mathlib.Decide.{ℕ_discrete}
 use Rattle.fleet_threads.specs.declared.member.Member.{Member}
-use Rattle.fleet_threads.specs.Member.{IsOver, InOrder, numbers, number_of}
+use Rattle.fleet_threads.specs.Answers.{LooksOnce}
+use Rattle.fleet_threads.specs.Member.{IsOver, InOrder, all_looks, looks_of, numbers, number_of}
 
 pub pushed : (xs ys : List Member) (m : Member) → ys ≡ xs ++ m ∷ [] → numbers ys ≡ numbers xs ++ m.runner.number ∷ []
 pushed xs ys m e = ap numbers e ∙ map_push number_of xs m
@@ -33,6 +35,13 @@ over_case end xs i m lt all here j d (no e) l = subst (IsOver end) (sym (get_or-
 
 pub one_more_over : (end : ℕ) (xs : List Member) (i : ℕ) (m : Member) → i < length xs → ((j : ℕ) (d : Member) → j < i → IsOver end (get_or xs j d)) → IsOver end m → (j : ℕ) (d : Member) → j < i + 1 → IsOver end (get_or (set xs i m) j d)
 one_more_over end xs i m lt all here j d l = over_case end xs i m lt all here j d (ℕ_discrete j i) l
+
+-- one of them has looked once more, at most
+pub one_more_look : (xs : List Member) (i : ℕ) (d m : Member) → i < length xs → d ≡ get_or xs i d → LooksOnce d.air m.air → all_looks (set xs i m) ≤ all_looks xs + 1
+one_more_look xs i d m lt is once =
+    let sums : all_looks (set xs i m) + looks_of (get_or xs i d) ≡ all_looks xs + looks_of m = sum_by-set looks_of xs i m d lt in
+    let same : looks_of d ≡ looks_of (get_or xs i d) = ap looks_of is in
+    omega arith
 
 -- the numbers of nodes in order tell where each stands
 pub ordered : (n : ℕ) (xs ys : List Member) → InOrder n xs → numbers ys ≡ numbers xs → InOrder n ys

@@ -1,12 +1,13 @@
 -- What a step makes of a node that is under way.
 use Rattle.std.specs.Prelude.{is_some, nat_lt}
-use Rattle.std.proofs.Common.{◌≡◌, ℕ, ◌+◌, ◌-◌, ◌<◌, ◌≤◌, ◌⊎◌, inl, inr, ⊎_elim, min, max, Bool, true, false, cond, not, ◌&&◌, ◌||◌, List, [], ◌∷◌, refl, sym, subst, ◌∙◌, ap, arith}
+use Rattle.std.proofs.Common.{◌≡◌, ℕ, ◌+◌, ◌-◌, ◌<◌, ◌≤◌, ◌⊎◌, inl, inr, ⊎_elim, min, max, Bool, true, false, cond, not, ◌&&◌, ◌||◌, List, [], ◌∷◌, ◌++◌, length, refl, sym, subst, ◌∙◌, ap, arith}
 use Rattle.std.specs.List.{Contains}
 use Rattle.std.proofs.lemmas.Bool.{false≢true}
+use Rattle.std.proofs.lemmas.List.{length_push}
 use native.Mathlib.Decide.{dec_le}
 use Rattle.atomic_table.specs.Seated.{TableId}
-use Rattle.world_core.specs.declared.air.Send.{Send}
-use Rattle.world_core.specs.declared.air.Heard.{Heard as HeardValue}
+use Rattle.air_base.specs.declared.air.Send.{Send}
+use Rattle.air_base.specs.declared.air.Heard.{Heard as HeardValue}
 use Rattle.world_core.specs.declared.world.WorldFacts.{WorldFacts}
 use Rattle.world_core.specs.Sends.{sends_below, IsSendNumber}
 use Rattle.world_core.specs.Lawful.{IsLawful}
@@ -31,7 +32,8 @@ use Rattle.node_runner.specs.Flight.{IsAt, Advanced}
 use Rattle.node_runner.proofs.Advance.{adv_answer, adv_turn, adv_ask, adv_ended, adv_sent, sent_early, noted_plain}
 use Rattle.node_runner.proofs.Places.{live_taken, still_over, home}
 use Rattle.fleet_threads.specs.declared.member.Member.{Member}
-use Rattle.fleet_threads.specs.Answers.{HasLooked, IsAnswered}
+use Rattle.fleet_threads.specs.Answers.{HasLooked, IsAnswered, LooksOnce}
+use Rattle.neighbour_sync.specs.Tries.{IsTried}
 use Rattle.fleet_threads.specs.Member.{IsPlaced, IsUnderWay, word_of}
 use Rattle.world_core.proofs.Ahead.{below_ahead}
 
@@ -57,6 +59,16 @@ has_looked w a b s (Heard h) e = e.1
 has_looked w a b s (NotYet k c) e = e
 has_looked w a b s Halted e = e
 has_looked w a b s NoAnswer e = e
+
+-- a try looks at the halt once
+tried : (old new : NodeFacts) (n : ℕ) → new.halts ≡ old.halts ++ n ∷ [] → LooksOnce old new
+tried old new n e = let a = ap length e in let b = length_push old.halts n in omega arith
+
+pub tried_once : (w : WorldFacts) (old : NodeFacts) (s : ℕ) (r : SampleAttempt) (new : NodeFacts) → IsTried w old s r new → LooksOnce old new
+tried_once w old s (Heard h) new e = tried old new 0 (ap (λ (n : NodeFacts). n.halts) e.1.2)
+tried_once w old s (NotYet k c) new e = tried old new 0 (ap (λ (n : NodeFacts). n.halts) e.1.1)
+tried_once w old s Halted new e = tried old new 1 (ap (λ (n : NodeFacts). n.halts) e)
+tried_once w old s NoAnswer new e = tried old new 0 (ap (λ (n : NodeFacts). n.halts) e.2)
 
 -- the node whose sample is unanswered is live
 pub asking_live : (end : ℕ) (p : Place) → p.asking ≡ true → is_live end p ≡ true

@@ -1,6 +1,6 @@
 -- A node in an epoch. Own to this simulator.
 use Rattle.std.specs.Prelude.{◌≡◌, ℕ, ◌+◌, ◌≤◌, ◌<◌, false, if◌then◌else◌, List, map, length, slice_index_or}
-use Rattle.std.specs.List.{All}
+use Rattle.std.specs.List.{All, sum_by}
 use Rattle.atomic_table.specs.Seated.{TableId}
 use Rattle.world_core.specs.declared.world.WorldFacts.{WorldFacts}
 use Rattle.world_core.specs.Sends.{sends_below}
@@ -45,6 +45,13 @@ pub record IsUnderWay (t : TableId) (w : WorldFacts) (sc : ScenarioOf) (floor en
 -- what one step leaves of a node: the same node, still under way
 abbrev pub GoesOn : TableId → WorldFacts → ScenarioOf → ℕ → ℕ → Member → Member → Type 0
 GoesOn t w sc floor end old new = IsUnderWay t w sc floor end new × (new.runner.number ≡ old.runner.number)
+
+-- how often the node has looked at the halt, as it does in each try to sample the air; and how often all of them have
+abbrev pub looks_of : Member → ℕ
+looks_of m = length m.air.halts
+
+abbrev pub all_looks : List Member → ℕ
+all_looks ms = sum_by looks_of ms
 
 -- the node has come to the end, or stopped before, and its clock word stands there; or it has halted
 abbrev pub IsOver : ℕ → Member → Type 0

@@ -1,7 +1,8 @@
 // One node of the fleet, in an epoch.
 ghost use Rattle.std.specs.Prelude.{◌≡◌, ◌≤◌};
 ghost use Rattle.std.specs.List.{Contains};
-ghost use Rattle.fleet_threads.specs.Answers.{IsAnswered};
+ghost use Rattle.fleet_threads.specs.declared.member.Sampling.TheVariants.{Tries};
+ghost use Rattle.fleet_threads.specs.Answers.{IsAnswered, LooksOnce};
 
 use crate::gate::Gate;
 use neighbour_sync::{NodeAir, SampleAttempt, SampleOutcome, Session, Shared};
@@ -40,7 +41,7 @@ impl Drop for Member {
 pub enum Sampling {
     /// It waits, as a node does that has a thread of its own.
     Waits,
-    /// It lets others go on, and tries again at its next step.
+    /// It lets others go on, and tries again at its next step: it looks at the halt once, and waits for no clock.
     Tries,
 }
 
@@ -55,7 +56,8 @@ fn ask<N: Session, R: Wait>(
     requires session { (air.old.table ≡ N.table) × (air.old.world ≡ N.world) }
     requires asked { Contains N.world.asks record { node = air.old.number; cycle = cycle } }
     requires floor { N.floor ≤ cycle }
-    ensures { IsAnswered N.world air.old cycle result air.new }
+    ensures answer { IsAnswered N.world air.old cycle result air.new }
+    ensures once { sampling ≡ Tries → LooksOnce air.old air.new }
 {
     match sampling {
         Sampling::Tries => air.try_sample(rt, shared, cycle),
@@ -71,6 +73,8 @@ impl Member {
     ghost use Rattle.std.specs.Prelude.{◌≡◌, ◌≤◌, ◌+◌, true, false};
     ghost use Rattle.world_core.specs.Sends.{sends_below};
     ghost use Rattle.node_runner.specs.Place.{Place, is_live, sends_passed};
+    ghost use Rattle.fleet_threads.specs.declared.member.Sampling.TheVariants.{Tries};
+    ghost use Rattle.fleet_threads.specs.Answers.{LooksOnce};
     ghost use Rattle.fleet_threads.specs.Member.{IsUnderWay, GoesOn, IsOver};
 
     /// The number of its node.
@@ -90,7 +94,8 @@ impl Member {
     // Tells all nodes to halt, and halts.
     fn halt<N: Session>(&mut self, shared: &Shared<Scenario, N>, scenario: &Scenario, end: u64)
         requires { IsUnderWay N.table N.world scenario.now N.floor end self.old }
-        ensures { IsUnderWay N.table N.world scenario.now N.floor end self.new × (self.new.runner ≡ self.old.runner) }
+        ensures on { IsUnderWay N.table N.world scenario.now N.floor end self.new × (self.new.runner ≡ self.old.runner) }
+        ensures looks { self.new.air.halts ≡ self.old.air.halts }
     {
         // Only the contract names them.
         let _ = scenario;
@@ -106,6 +111,7 @@ impl Member {
         ensures member { IsUnderWay N.table N.world scenario.now N.floor end self.new }
         ensures runner { self.new.runner ≡ self.old.runner }
         ensures halted { self.new.halted ≡ self.old.halted }
+        ensures looks { self.new.air.halts ≡ self.old.air.halts }
         ensures over { is_live end self.old.runner ≡ false → self.new.air.clock ≡ end }
     {
         // Only the contract names it.
@@ -130,7 +136,8 @@ impl Member {
     )
         requires member { IsUnderWay N.table N.world scenario.now N.floor end self.old }
         requires none { sends_below N.world.sends self.old.air.number (sent + self.old.gap) ≤ sends_passed self.old.runner }
-        ensures { GoesOn N.table N.world scenario.now N.floor end self.old self.new }
+        ensures on { GoesOn N.table N.world scenario.now N.floor end self.old self.new }
+        ensures looks { self.new.air.halts ≡ self.old.air.halts }
     {
         // Only the contract names it.
         let _ = scenario;
@@ -150,7 +157,8 @@ impl Member {
     )
         requires member { IsUnderWay N.table N.world scenario.now N.floor end self.old }
         requires asking { self.old.runner.asking ≡ true }
-        ensures { GoesOn N.table N.world scenario.now N.floor end self.old self.new }
+        ensures on { GoesOn N.table N.world scenario.now N.floor end self.old self.new }
+        ensures once { sampling ≡ Tries → LooksOnce self.old.air self.new.air }
     {
         let cycle = self.runner.cycle();
         match ask(rt, shared, sampling, &mut self.air, cycle) {
@@ -172,7 +180,8 @@ impl Member {
         requires member { IsUnderWay N.table N.world scenario.now N.floor end self.old }
         requires calm { self.old.runner.asking ≡ false }
         requires live { is_live end self.old.runner ≡ true }
-        ensures { GoesOn N.table N.world scenario.now N.floor end self.old self.new }
+        ensures on { GoesOn N.table N.world scenario.now N.floor end self.old self.new }
+        ensures looks { self.new.air.halts ≡ self.old.air.halts }
     {
         gate.reached(rt, self.runner.number(), self.turn);
         self.turn = self.turn.saturating_add(1);
@@ -192,8 +201,8 @@ impl Member {
         }
     }
 
-    /// One step: the node raises its clock word, and then samples or takes a turn. Whether it is over for this epoch:
-    /// the node has come to the end or stopped, or it has halted.
+    /// One step: the node raises its clock word, and then samples or takes a turn. Where it only tries to sample, it
+    /// looks once at most. Whether it is over for this epoch: the node has come to the end or stopped, or it has halted.
     pub fn step<N: Session, R: Wait, G: Gate>(
         &mut self,
         rt: &R,
@@ -205,6 +214,7 @@ impl Member {
     ) -> bool
         requires { IsUnderWay N.table N.world scenario.now N.floor end self.old }
         ensures on { GoesOn N.table N.world scenario.now N.floor end self.old self.new }
+        ensures once { sampling ≡ Tries → LooksOnce self.old.air self.new.air }
         ensures over { result ≡ true → IsOver end self.new }
     {
         if self.halted {

@@ -130,10 +130,12 @@ impl Model for ThreadRun {
 }
 
 impl ThreadRun {
-    ghost use Rattle.std.specs.Prelude.{◌≡◌, ◌<◌, ◌≤◌, ◌+◌, ◌++◌, ◌==◌, min, true, false, IfOk, OnOk};
+    ghost use Rattle.std.specs.Prelude.{◌≡◌, ◌<◌, ◌≤◌, ◌+◌, ◌++◌, ◌==◌, min, true, false, replicate, IfOk, OnOk};
     ghost use Rattle.world_core.specs.Kept.{epoch, IsPostedTo};
     ghost use Rattle.world_core.specs.Order.{facts_of};
     ghost use Rattle.node_runner.specs.Scenario.{fleet_of, IsScenario};
+    ghost use Rattle.world_core.specs.Consistent.{IsConsistent};
+    ghost use Rattle.neighbour_sync.specs.Shows.{shown};
     ghost use Rattle.node_runner.specs.Run.{RunAt, rows_upto};
 
     /// The run before its first epoch: all nodes at reset.
@@ -176,15 +178,21 @@ impl ThreadRun {
         self.floor
     }
 
-    /// The record between two epochs. It is cut at the floor, and all sends below that were posted in it.
+    /// The record between two epochs. It is cut at the floor, and all sends below that were posted in it. With the clocks
+    /// of all nodes, each of which stands at the floor, it is a consistent state.
     pub fn air(&self) -> &Air
         requires { self.now.failed ≡ false }
         ensures world { result.now.world ≡ facts_of (fleet_of self.now.scenario) }
         ensures floor { result.now.floor ≡ self.now.floor }
         ensures posted { IsPostedTo result.now.world self.now.floor result.now.sent }
+        ensures consistent { IsConsistent (shown result.now (replicate result.now.world.topo.nodes result.now.floor)) }
     {
         match &self.parts {
-            Some(parts) => &parts.air,
+            Some(parts) => {
+                // The call's clause says that the state is consistent.
+                let _consistent = parts.air.samples();
+                &parts.air
+            }
             None => unreachable!(),
         }
     }

@@ -1,8 +1,8 @@
 // A thread for each node of an epoch.
-ghost use Rattle.std.specs.Prelude.{◌≡◌, true, [], IfErr, IfOk};
+ghost use Rattle.std.specs.Prelude.{◌≡◌, ◌+◌, ◌≤◌, true, [], length, IfErr, IfOk};
 ghost use Rattle.std.specs.List.{All};
 ghost use Rattle.std.specs.Thread.{IsSync};
-ghost use Rattle.fleet_threads.specs.Member.{IsUnderWay, IsBack, IsOver, numbers};
+ghost use Rattle.fleet_threads.specs.Member.{IsUnderWay, IsBack, IsOver, numbers, all_looks};
 ghost use Rattle.fleet_threads.specs.Nodes.{IsHanded, AreBegun, AreBack};
 
 use crate::gate::Gate;
@@ -83,7 +83,8 @@ struct Progress {
     moved: bool,
 }
 
-// One step of each node for which no thread was found.
+// One step of each node for which no thread was found. None of them waits: all together look at the halt once each, at
+// most.
 fn round<N: Session, R: Wait, G: Gate>(
     rt: &R,
     shared: &Shared<Scenario, N>,
@@ -95,6 +96,7 @@ fn round<N: Session, R: Wait, G: Gate>(
     requires { All (IsUnderWay N.table N.world scenario.now N.floor end) waiting.old.items }
     ensures all { All (IsUnderWay N.table N.world scenario.now N.floor end) waiting.new.items }
     ensures numbers { numbers waiting.new.items ≡ numbers waiting.old.items }
+    ensures once { all_looks waiting.new.items ≤ all_looks waiting.old.items + length waiting.old.items }
     ensures over { result.over ≡ true → All (IsOver end) waiting.new.items }
 {
     let mut over = true;

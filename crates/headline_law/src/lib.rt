@@ -1,12 +1,16 @@
-//! The headline of the pure machine in one clause.
+//! The headline in one clause: of the pure machine, and of the words and the record of running threads.
 #![tactic(auto)]
 
-ghost use Rattle.std.specs.Prelude.{◌≡◌, List};
+ghost use Rattle.std.specs.Prelude.{◌≡◌, List, ℕ};
 ghost use Rattle.std.specs.List.{All};
+ghost use Rattle.atomic_table.specs.Table.{State};
 ghost use Rattle.world_core.specs.Order.{facts_of, hears, world_at};
 ghost use Rattle.world_core.specs.Steps.{opening};
 ghost use Rattle.node_runner.specs.Scenario.{IsScenario, ScenarioOf, fleet_of};
 ghost use Rattle.sync_core.specs.Moves.{IsForGood, Move, MayMoveAll, after_moves};
+ghost use Rattle.neighbour_sync.specs.declared.rule.View.{View};
+ghost use Rattle.neighbour_sync.specs.Record.{AirRecord};
+ghost use Rattle.neighbour_sync.specs.Shows.{shown, AreShown};
 
 /// Of every scenario, whatever allowed raises, posts, samples and cuts come from the opening, in whatever order: each
 /// recorded sample is what the node hears in that cycle of the single global order, and no later move alters it.
@@ -15,4 +19,13 @@ pub fn order_gives_each_sample()
         → All (λ x. x.1 ≡ hears (fleet_of s) x.0.cycle (world_at (fleet_of s) x.0.cycle) x.0.node) (after_moves (opening (facts_of (fleet_of s))) moves).samples }
     ensures for_good { (s : ScenarioOf) (moves : List Move) → IsScenario s → MayMoveAll (opening (facts_of (fleet_of s))) moves
         → All (IsForGood (after_moves (opening (facts_of (fleet_of s))) moves)) (after_moves (opening (facts_of (fleet_of s))) moves).samples }
+{}
+
+/// Of every scenario, whatever words and record show a state of that machine, as those of running threads do (`state_law`
+/// and `step_law` of `neighbour_sync`): each recorded sample is what the node hears in that cycle of the single global
+/// order, and no later move alters it.
+pub fn order_gives_each_running_sample()
+    ensures order { (s : ScenarioOf) (words : State (Unit {0}) View) (r : AirRecord) (clocks : List ℕ) → IsScenario s → r.world ≡ facts_of (fleet_of s) → AreShown words r clocks
+        → All (λ x. x.1 ≡ hears (fleet_of s) x.0.cycle (world_at (fleet_of s) x.0.cycle) x.0.node) r.samples }
+    ensures for_good { (words : State (Unit {0}) View) (r : AirRecord) (clocks : List ℕ) → AreShown words r clocks → All (IsForGood (shown r clocks)) r.samples }
 {}

@@ -1,4 +1,5 @@
 pub mod Bases
+pub mod Bytes
 pub mod Determined
 pub mod Digits
 pub mod Faultless

@@ -34,6 +34,19 @@ impl Model for Flash {
     ghost invariant = { λ f. (length f.bytes.items ≡ 131072) × (f.used ≤ 131072) };
 }
 
+/// What holds a flash, as a program with its instructions decoded does.
+pub trait ProgramMemory {
+    ghost use Rattle.std.specs.Prelude.{◌≡◌};
+    ghost use Rattle.ihex_loader.specs.Flash.{Image};
+
+    /// What that flash is.
+    ghost image: { Self → Image };
+
+    /// The flash.
+    fn as_flash(&self) -> &Flash
+        ensures { result.now ≡ image self.now };
+}
+
 impl Flash {
     /// The byte at the byte address `a`, which is below 131,072.
     #[inline]

@@ -1,6 +1,6 @@
 // Laws of the definitions.
 ghost use Rattle.std.specs.Prelude.{◌≡◌, ◌∷◌, ℕ, List, None};
-ghost use Rattle.hex.specs.Hex.{encode_lower, encode_upper};
+ghost use Rattle.hex.specs.Hex.{IsBytes, encode_lower, encode_upper};
 ghost use Rattle.ihex_loader.specs.Flash.{Image};
 ghost use Rattle.ihex_loader.specs.Image.{image, hex_fault, lines_of};
 ghost use Rattle.ihex_loader.specs.Accepted.{IsImage};
@@ -20,4 +20,10 @@ pub fn accepted_image_is_determined()
 pub fn written_record_is_read()
     ensures upper { (kind offset : ℕ) (bytes : List ℕ) → IsWritable kind offset bytes → line_of (58 ∷ encode_upper (record_bytes kind offset bytes)) ≡ Record kind offset bytes }
     ensures lower { (kind offset : ℕ) (bytes : List ℕ) → IsWritable kind offset bytes → line_of (58 ∷ encode_lower (record_bytes kind offset bytes)) ≡ Record kind offset bytes }
+{}
+
+/// A law of the definitions that `load` is proved by, with nothing to run: the flash that a file gives has bytes, each
+/// below 256, whatever stands in the file.
+pub fn image_has_bytes()
+    ensures { (bytes : List ℕ) → IsBytes (image bytes).bytes }
 {}

@@ -13,7 +13,7 @@ mod rows;
 mod text;
 
 pub use fault::{HexFault, LineFault};
-pub use flash::{Flash, flash_of};
-pub use law::{accepted_image_is_determined, written_record_is_read};
+pub use flash::{Flash, ProgramMemory, flash_of};
+pub use law::{accepted_image_is_determined, image_has_bytes, written_record_is_read};
 pub use loader::load;
 pub use text::hex_text;

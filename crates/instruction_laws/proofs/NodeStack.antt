@@ -7,9 +7,9 @@ use Rattle.board_io.specs.declared.board.Board.{Board}
 use Rattle.data_space.specs.declared.cpu.Cpu.{Cpu}
 use Rattle.data_space.specs.Core.{advanced, with_reg}
 use Rattle.data_space.specs.Sequence.{Outcome}
-use Rattle.bus_step.specs.FlowShapes.{calls}
-use Rattle.bus_step.specs.FlowTable.{flow_effect}
-use Rattle.bus_step.specs.MemoryTable.{memory_effect}
+use Rattle.avr_core.specs.FlowShapes.{calls}
+use Rattle.avr_core.specs.FlowTable.{flow_effect}
+use Rattle.avr_core.specs.MemoryTable.{memory_effect}
 use Rattle.node_core.specs.declared.bus.NodeBus.{NodeBus}
 use Rattle.node_core.specs.Bus.{bus_get, bus_put, with_board}
 use Rattle.instruction_laws.specs.Branches.{reg}

@@ -2,7 +2,7 @@
 use Rattle.std.proofs.Common.{◌≡◌, ◌≢◌, ℕ, ◌+◌, ◌*◌, ◌<◌, length, length-set, sym, ap, ◌∙◌, arith}
 use Rattle.std.proofs.lemmas.List.{get_or-set_same, get_or-set_other}
 use Rattle.avr_base.specs.declared.sreg.Sreg.{Sreg}
-use Rattle.arith_step.specs.Shapes.{to_reg}
+use Rattle.avr_core.specs.ArithShapes.{to_reg}
 use Rattle.data_space.specs.declared.cpu.Cpu.{Cpu}
 use Rattle.data_space.specs.Core.{advanced}
 use Rattle.instruction_laws.specs.Branches.{AreApart, IsCore, reg, word, word_in}

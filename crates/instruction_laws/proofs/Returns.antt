@@ -7,12 +7,12 @@ use Rattle.data_space.specs.declared.cpu.Cpu.{Cpu}
 use Rattle.data_space.specs.Core.{advanced, with_reg}
 use Rattle.data_space.specs.Space.{Access, answers, popped, pushed}
 use Rattle.data_space.specs.Sequence.{popped_word, pushed_word, then_do}
-use Rattle.bus_step.specs.FlowShapes as flow
-use Rattle.bus_step.specs.FlowShapes.{at_pc, calls, jumped, pushes_return, returns}
-use Rattle.bus_step.specs.FlowTable.{flow_effect}
-use Rattle.bus_step.specs.MemoryShapes as memory
-use Rattle.bus_step.specs.MemoryShapes.{pops, pushes}
-use Rattle.bus_step.specs.MemoryTable.{memory_effect}
+use Rattle.avr_core.specs.FlowShapes as flow
+use Rattle.avr_core.specs.FlowShapes.{at_pc, calls, jumped, pushes_return, returns}
+use Rattle.avr_core.specs.FlowTable.{flow_effect}
+use Rattle.avr_core.specs.MemoryShapes as memory
+use Rattle.avr_core.specs.MemoryShapes.{pops, pushes}
+use Rattle.avr_core.specs.MemoryTable.{memory_effect}
 use Rattle.instruction_laws.specs.Branches.{reg}
 use Rattle.instruction_laws.specs.Stack.{Accesses, ComesBack, IsStack, TakesReturn, ended, then_flow, then_memory}
 use Rattle.instruction_laws.proofs.Stack.{at_sp, popped_out, pushed_out}

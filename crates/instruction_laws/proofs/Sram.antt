@@ -17,12 +17,12 @@ use Rattle.data_space.specs.Memory.{zeros}
 use Rattle.data_space.specs.Space.{Access}
 use Rattle.data_space.specs.Sequence.{pushed_word}
 use Rattle.data_space.proofs.Keeps.{Got, Keeps, Put, then_kept, word_pushed}
-use Rattle.bus_step.proofs.FlowKeeps.{flow_keeps}
-use Rattle.bus_step.proofs.MemoryKeeps.{memory_keeps}
+use Rattle.avr_core.proofs.FlowKeeps.{flow_keeps}
+use Rattle.avr_core.proofs.MemoryKeeps.{memory_keeps}
 use Rattle.node_core.specs.declared.bus.NodeBus.{NodeBus}
 use Rattle.node_core.specs.Bus.{board_got, board_put, bus_at, bus_get, bus_put, reset_bus}
 use Rattle.node_core.specs.Cycle.{acted, after_entry, after_instruction, begun_in, cpu_cycle, devices_cycle, entered, instructed, is_refused, op_now}
-use Rattle.instruction_table.specs.Execute.{executed_over}
+use Rattle.avr_core.specs.Execute.{executed_over}
 use Rattle.node_core.specs.Execute.{executed, executed_by}
 use Rattle.node_core.specs.Interrupts.{due, entry}
 use Rattle.node_core.specs.State.{NodeState}

@@ -5,10 +5,10 @@ use Rattle.std.specs.Prelude.{Bool, ℤ, ◌≡◌, ◌≢◌, ℕ, ◌+◌, ◌
 use Rattle.arith_step.specs.Whole.{signed}
 use Rattle.avr_base.specs.Flags.{C, S, Z, has_flag}
 use Rattle.avr_decoder.specs.declared.op.Op.{Op}
-use Rattle.arith_step.specs.Table.{arith_cpu}
+use Rattle.avr_core.specs.ArithTable.{arith_cpu}
 use Rattle.data_space.specs.declared.cpu.Cpu.{Cpu}
 use Rattle.data_space.specs.Sequence.{Outcome}
-use Rattle.bus_step.specs.FlowShapes.{branched, ends}
+use Rattle.avr_core.specs.FlowShapes.{branched, ends}
 
 -- the byte in general register d
 abbrev pub reg : ℕ → Cpu → ℕ

@@ -7,8 +7,8 @@ use Rattle.avr_decoder.specs.declared.op.Op.TheVariants as op
 use Rattle.data_space.specs.declared.cpu.Cpu.{Cpu}
 use Rattle.data_space.specs.Core.{advanced}
 use Rattle.data_space.specs.Sequence.{Outcome, done}
-use Rattle.bus_step.specs.FlowTable.{flow_effect}
-use Rattle.bus_step.specs.MemoryTable.{memory_effect}
+use Rattle.avr_core.specs.FlowTable.{flow_effect}
+use Rattle.avr_core.specs.MemoryTable.{memory_effect}
 
 -- a bus, by what its accesses give
 pub record Accesses (B : Type 0) : Type 0 where

@@ -8,13 +8,13 @@ ghost use Rattle.avr_decoder.specs.Opcodes.{op_at};
 ghost use Rattle.avr_decoder.specs.Words.{is_two_words, words_of};
 ghost use Rattle.avr_decoder.specs.declared.op.Op.TheVariants as op;
 ghost use Rattle.avr_base.specs.Flags.{C, S, Z, has_flag};
-ghost use Rattle.arith_step.specs.Table.{arith_cpu};
+ghost use Rattle.avr_core.specs.ArithTable.{arith_cpu};
 ghost use Rattle.data_space.specs.declared.cpu.Cpu.{Cpu};
 ghost use Rattle.instruction_laws.specs.Branches.{AreApart, AreBytes, IsCompared, IsCore, both, branches, reg, word, word_in};
 ghost use Rattle.data_space.specs.Core.{advanced, with_reg};
 ghost use Rattle.arith_step.specs.Whole.{signed};
-ghost use Rattle.bus_step.specs.FlowTable.{flow_effect};
-ghost use Rattle.bus_step.specs.MemoryTable.{memory_effect};
+ghost use Rattle.avr_core.specs.FlowTable.{flow_effect};
+ghost use Rattle.avr_core.specs.MemoryTable.{memory_effect};
 ghost use Rattle.instruction_laws.specs.Stack.{Accesses, ComesBack, IsMemory, IsStack, TakesReturn, ended, then_memory};
 ghost use Rattle.instruction_laws.specs.Sram.{HasStack, NodeComesBack, has_sram, node_accesses, sram_first, sram_last, then_executed, with_byte};
 ghost use Rattle.board_io.specs.declared.board.Board.{Board};
@@ -23,7 +23,7 @@ ghost use Rattle.node_core.specs.Bus.{bus_put, reset_bus, with_board};
 ghost use Rattle.node_core.specs.Cycle.{begun_in, finished_in};
 ghost use Rattle.node_core.specs.Execute.{executed};
 ghost use Rattle.node_core.specs.State.{NodeState};
-ghost use Rattle.world_core.specs.declared.air.Heard.{Heard};
+ghost use Rattle.air_base.specs.declared.air.Heard.{Heard};
 
 /// After CP, and after CPI, the flags compare the two bytes.
 pub fn compare_law()

@@ -1,6 +1,6 @@
 -- A world's laws are what its lists keep entry by entry.
-use Rattle.world_core.specs.declared.air.Send.{Send}
-use Rattle.world_core.specs.declared.air.Ask.{Ask}
+use Rattle.air_base.specs.declared.air.Send.{Send}
+use Rattle.air_base.specs.declared.air.Ask.{Ask}
 use Rattle.world_core.specs.declared.world.WorldFacts.{WorldFacts}
 use Rattle.world_core.specs.FirstFault.{AllKeep}
 use Rattle.world_core.specs.Topology.{IsTopology}

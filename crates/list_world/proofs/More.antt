@@ -4,8 +4,8 @@ use Rattle.std.specs.Prelude.{bit_or}
 use Rattle.std.specs.List.{filter}
 use Rattle.std.specs.Int.Bits.{or_zero_r}
 use Rattle.std.proofs.lemmas.List.Elements.{filter_more}
-use Rattle.world_core.specs.declared.air.Send.{Send}
-use Rattle.world_core.specs.declared.air.Heard.{Heard}
+use Rattle.air_base.specs.declared.air.Send.{Send}
+use Rattle.air_base.specs.declared.air.Heard.{Heard}
 use Rattle.world_core.specs.Topology.{Topology}
 use Rattle.world_core.specs.Heard.{heard, age_of, is_audible, heard_as, heard_from, or_of}
 use Rattle.world_core.specs.HeardMore.{heard_with}

@@ -4,7 +4,8 @@ ghost use Rattle.std.specs.List.{All};
 ghost use Rattle.world_core.specs.Topology.{IsInside};
 ghost use Rattle.world_core.specs.Heard.{heard, is_audible};
 
-use world_core::{Heard, Send, Topo, heard_with};
+use air_base::{Heard, Send};
+use world_core::{Topo, heard_with};
 
 // Whether the node hears the send in this cycle.
 fn hears(topo: &Topo, send: &Send, node: u8, cycle: u64) -> bool

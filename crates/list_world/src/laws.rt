@@ -4,7 +4,8 @@ ghost use Rattle.world_core.specs.FirstFault.{AllKeep, IsFirstFault};
 ghost use Rattle.world_core.specs.Topology.{IsInside};
 ghost use Rattle.world_core.specs.Lawful.{IsNextSend, IsNextAsk};
 
-use world_core::{Ask, Send, Topo};
+use air_base::{Ask, Send};
+use world_core::Topo;
 
 // Whether an entry of this node may come in this cycle, where `free` is the cycle from which on each node may have one.
 fn may_come(topo: &Topo, free: &[u64], node: u8, cycle: u64) -> bool

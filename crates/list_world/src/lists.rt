@@ -2,8 +2,9 @@
 ghost use Rattle.std.specs.Prelude.{◌≡◌};
 
 use crate::laws::{ask_fault, send_fault};
+use air_base::{Ask, Send};
 use std::marker::Model;
-use world_core::{Ask, Send, Topo, World, WorldFault};
+use world_core::{Topo, World, WorldFault};
 
 /// A world that is given by its lists.
 #[derive(Drop)]

@@ -37,6 +37,25 @@ views_stay w s v ws h clocks sents halt k x g =
       stopped = λ e. halt ∙ n.stopped e;
     }
 
+-- the seat has loaded one clock more
+pub look_kept : (w : WorldFacts) (s : Table) (k c : ℕ) (h : KeepsRule w s) → KeepsRule w record { words = s.words; homes = s.homes; views = set s.views 0 (with_load h.air k c) }
+look_kept w s k c h =
+    let v = with_load h.air k c in
+    record {
+      words = h.words;
+      air = v;
+      first = set_here s.views 0 v (let q = h.seats in omega arith);
+      is_air = record { is_air = h.is_air.is_air; world = h.is_air.world; made = h.is_air.made; sent = h.is_air.sent };
+      seats = length-set s.views 0 v ∙ h.seats;
+      nodes = views_stay w s v s.words h (λ j jt. refl) (λ j jt. omega arith) refl;
+      unmade = h.unmade;
+      counts = h.counts;
+      enough = h.enough;
+      within = h.within;
+      passed = h.passed;
+      halt = h.halt;
+    }
+
 pub loads : (w : WorldFacts) (slots id k : ℕ) (me : Seat) → me.0.is_air ≡ true → k < w.topo.nodes
     → Allows (KeepsRule w) slots id me (clock_at k) (λ n. n) (clock_loaded (step slots (clock_at k) 0 0 none) me)
 loads w slots id k me t kt =
@@ -47,21 +66,8 @@ loads w slots id k me t kt =
     let v = with_load me.0 (line_of i) c in
     let world : me.0.world ≡ w = ap (λ (u : View). u.world) (sym same) ∙ h.is_air.world in
     let sent : me.0.sent ≡ h.air.sent = ap (λ (u : View). u.sent) (sym same) in
-    let made : me.0.made ≡ h.air.made = ap (λ (u : View). u.made) (sym same) in
-    let kept : KeepsRule w record { words = s.words; homes = s.homes; views = set s.views 0 v } = record {
-      words = h.words;
-      air = v;
-      first = set_here s.views 0 v (let q = h.seats in omega arith);
-      is_air = record { is_air = t; world = world; made = rw made h.is_air.made; sent = rw sent h.is_air.sent };
-      seats = length-set s.views 0 v ∙ h.seats ∙ ap suc (sym made);
-      nodes = views_stay w s v s.words h (λ j jt. refl) (λ j jt. omega arith) refl;
-      unmade = rw made h.unmade;
-      counts = rw sent h.counts;
-      enough = rw sent h.enough;
-      within = h.within;
-      passed = rw sent h.passed;
-      halt = h.halt;
-    } in
+    let kept : KeepsRule w record { words = s.words; homes = s.homes; views = set s.views 0 v } =
+    subst (λ (u : View). KeepsRule w record { words = s.words; homes = s.homes; views = set s.views 0 (with_load u (line_of i) c) }) same (look_kept w s (line_of i) c h) in
     let B : ℕ → WorldFacts → List ℕ → Type 0 = λ j x l. sends_below x.sends j c ≤ sent_of l j in
     let b : B (line_of i) me.0.world me.0.sent = subst (λ (j : ℕ). B j me.0.world me.0.sent) (sym (line k)) (subst (λ (x : WorldFacts). B k x me.0.sent) (sym world) (subst (B k w) (sym sent) (h.passed k kt))) in
     (v, subst (λ (ws : List ℕ). KeepsRule w record { words = ws; homes = s.homes; views = set s.views 0 v }) (sym (set-get_or s.words i 0)) kept, (refl, b)))
@@ -72,7 +78,7 @@ each_count sent k P j lt new old (yes e) = let n = sent_of sent k + 1 in subst (
 each_count sent k P j lt new old (no d) = subst (P j) (sym (get_or-set_other sent k j (sent_of sent k + 1) 0 d)) old
 
 -- each sent word is what the list of numbers says
-each_sent : (words sent : List ℕ) (n k j : ℕ) → sent_at n k < length words → k < length sent → get_or words (sent_at n j) 0 ≡ sent_of sent j → Dec (j ≡ k)
+pub each_sent : (words sent : List ℕ) (n k j : ℕ) → sent_at n k < length words → k < length sent → get_or words (sent_at n j) 0 ≡ sent_of sent j → Dec (j ≡ k)
     → get_or (set words (sent_at n k) (sent_of sent k + 1)) (sent_at n j) 0 ≡ sent_of (set sent k (sent_of sent k + 1)) j
 each_sent words sent n k j room lt old (yes e) =
     let c = sent_of sent k + 1 in
@@ -82,7 +88,7 @@ each_sent words sent n k j room lt old (no d) =
     beside words (sent_at n k) (sent_at n j) c (λ q. d (omega arith)) ∙ old ∙ sym (get_or-set_other sent k j c 0 d)
 
 -- one more send of node k is posted
-counted : (w : WorldFacts) (s : Table) (k : ℕ) (h : KeepsRule w s) → k < w.topo.nodes → sent_of h.air.sent k < length (sends_of k w.sends)
+pub counted : (w : WorldFacts) (s : Table) (k : ℕ) (h : KeepsRule w s) → k < w.topo.nodes → sent_of h.air.sent k < length (sends_of k w.sends)
     → KeepsRule w (written s (sent_at w.topo.nodes k) (sent_of h.air.sent k + 1) 0 (with_sent h.air k))
 counted w s k h kt further =
     let n = w.topo.nodes in

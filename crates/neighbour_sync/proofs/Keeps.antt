@@ -3,9 +3,9 @@ use Rattle.std.proofs.Common.{◌≡◌, ℕ, ◌+◌, ◌<◌, ◌≤◌, List,
 use Rattle.std.specs.Prelude.{nat_le}
 use Rattle.std.specs.List.{Contains, filter}
 use Rattle.std.proofs.lemmas.List.Elements.{All-push, All-filter, All-weaker}
-use Rattle.world_core.specs.declared.air.Send.{Send}
-use Rattle.world_core.specs.declared.air.Ask.{Ask}
-use Rattle.world_core.specs.declared.air.Heard.{Heard}
+use Rattle.air_base.specs.declared.air.Send.{Send}
+use Rattle.air_base.specs.declared.air.Ask.{Ask}
+use Rattle.air_base.specs.declared.air.Heard.{Heard}
 use Rattle.world_core.specs.declared.world.WorldFacts.{WorldFacts}
 use Rattle.world_core.specs.Topology.{Topology}
 use Rattle.world_core.specs.Heard.{heard}
@@ -19,14 +19,31 @@ use Rattle.world_core.proofs.Records.{record_opens, record_posted, record_sample
 use Rattle.world_core.specs.Chain.{LogFacts, log_of}
 use Rattle.neighbour_sync.specs.Seats.{AirFacts, air_counted}
 use Rattle.neighbour_sync.specs.Loads.{looked}
-use Rattle.neighbour_sync.specs.Record.{AirRecord, IsSound, with_send}
+use Rattle.neighbour_sync.specs.Record.{AirRecord, IsSound, with_send, with_sample, cut_at}
 use Rattle.neighbour_sync.specs.Held.{record_of, IsHeld}
 
-posted_sound : (r : AirRecord) (x : Send) → IsSound r → IsSendNumber r.world (sent_of r.sent x.node) x → x.cycle < r.floor + epoch → IsSound (with_send r x)
+pub posted_sound : (r : AirRecord) (x : Send) → IsSound r → IsSendNumber r.world (sent_of r.sent x.node) x → x.cycle < r.floor + epoch → IsSound (with_send r x)
 posted_sound r x h next early = record {
   lawful = h.lawful;
   recorded = record_posted r.world r.floor r.sent r.sends r.samples x h.lawful h.recorded next;
   early = All-push (λ y. y.cycle < r.floor + epoch) r.sends x h.early early;
+  within = h.within;
+}
+
+pub sampled_sound : (r : AirRecord) (j s : ℕ) (h : Heard) → IsSound r → Contains r.world.asks record { node = j; cycle = s } → r.floor ≤ s → AllPostedFor r.world r.sent j s → h ≡ heard r.world.topo r.sends j s → IsSound (with_sample r j s h)
+sampled_sound r j s h i asked late reached is = record {
+  lawful = i.lawful;
+  recorded = record_sampled r.world r.floor r.sent r.sends r.samples j s h i.lawful i.recorded asked late reached is;
+  early = i.early;
+  within = i.within;
+}
+
+pub cut_sound : (r : AirRecord) (f : ℕ) → IsSound r → r.floor ≤ f → f ≤ r.world.topo.limit → IsPostedTo r.world f r.sent → IsSound (cut_at r f)
+cut_sound r f i rises within posted = record {
+  lawful = i.lawful;
+  recorded = record_cut r.world r.floor f r.sent r.sends r.samples i.recorded rises posted;
+  early = All-weaker (λ x. x.cycle < r.floor + epoch) (λ x. x.cycle < f + epoch) (λ x lt. omega arith) (filter (is_kept r.world.topo f) r.sends) (All-filter (is_kept r.world.topo f) (λ x. x.cycle < r.floor + epoch) r.sends i.early);
+  within = within;
 }
 
 -- there is room for one more
@@ -46,19 +63,14 @@ held_posted a new t l m floor samples x h next early is grown =
 pub held_looked : (a new : AirFacts) (t : Topology) (l : LogFacts) (floor : ℕ) (samples : List (Ask × Heard)) (more : List (ℕ × ℕ)) → IsHeld a t l floor samples → new ≡ looked a more → IsHeld new t l floor samples
 held_looked a new t l floor samples more h is =
     subst (λ (b : AirFacts). IsHeld b t l floor samples) (sym is)
-    record { topo = h.topo; sound = record { lawful = h.sound.lawful; recorded = h.sound.recorded; early = h.sound.early }; room = h.room }
+    record { topo = h.topo; sound = record { lawful = h.sound.lawful; recorded = h.sound.recorded; early = h.sound.early; within = h.sound.within }; room = h.room }
 
 pub held_sampled : (a : AirFacts) (t : Topology) (l : LogFacts) (floor : ℕ) (samples more : List (Ask × Heard)) (j s : ℕ) (h : Heard) → IsHeld a t l floor samples → Contains a.world.asks record { node = j; cycle = s } → floor ≤ s
     → AllPostedFor a.world a.sent j s → h ≡ heard t l.sends j s → more ≡ samples ++ (record { node = j; cycle = s }, h) ∷ [] → IsHeld a t l floor more
 held_sampled a t l floor samples more j s h held asked late reached is pushed =
-    let i = held.sound in
     subst (IsHeld a t l floor) (sym pushed) record {
       topo = held.topo;
-      sound = record {
-        lawful = i.lawful;
-        recorded = record_sampled a.world floor a.sent l.sends samples j s h i.lawful i.recorded asked late reached (is ∙ ap (λ (u : Topology). heard u l.sends j s) held.topo);
-        early = i.early;
-      };
+      sound = sampled_sound (record_of a floor l.sends samples) j s h held.sound asked late reached (is ∙ ap (λ (u : Topology). heard u l.sends j s) held.topo);
       room = held.room;
     }
 
@@ -66,18 +78,13 @@ pub sample_true : (a : AirFacts) (t : Topology) (l : LogFacts) (floor : ℕ) (sa
 sample_true a t l floor samples j s h held late reached is =
     is ∙ ap (λ (u : Topology). heard u l.sends j s) held.topo ∙ record_right a.world floor a.sent l.sends samples j s held.sound.lawful held.sound.recorded late reached
 
-pub held_cut : (a : AirFacts) (t : Topology) (l m : LogFacts) (floor f : ℕ) (samples kept : List (Ask × Heard)) → IsHeld a t l floor samples → floor ≤ f → IsPostedTo a.world f a.sent
+pub held_cut : (a : AirFacts) (t : Topology) (l m : LogFacts) (floor f : ℕ) (samples kept : List (Ask × Heard)) → IsHeld a t l floor samples → floor ≤ f → f ≤ a.world.topo.limit → IsPostedTo a.world f a.sent
     → m ≡ log_of (filter (is_kept t f) l.sends) l.room → kept ≡ filter (λ x. nat_le f x.0.cycle) samples → IsHeld a t m f kept
-held_cut a t l m floor f samples kept held rises posted cut dropped =
-    let i = held.sound in
+held_cut a t l m floor f samples kept held rises within posted cut dropped =
     let same : log_of (filter (is_kept t f) l.sends) l.room ≡ log_of (filter (is_kept a.world.topo f) l.sends) l.room = ap (λ (u : Topology). log_of (filter (is_kept u f) l.sends) l.room) held.topo in
     subst (λ (n : LogFacts). IsHeld a t n f kept) (sym (cut ∙ same)) (subst (IsHeld a t (log_of (filter (is_kept a.world.topo f) l.sends) l.room) f) (sym dropped) record {
       topo = held.topo;
-      sound = record {
-        lawful = i.lawful;
-        recorded = record_cut a.world floor f a.sent l.sends samples i.recorded rises posted;
-        early = All-weaker (λ x. x.cycle < floor + epoch) (λ x. x.cycle < f + epoch) (λ x lt. omega arith) (filter (is_kept a.world.topo f) l.sends) (All-filter (is_kept a.world.topo f) (λ x. x.cycle < floor + epoch) l.sends i.early);
-      };
+      sound = cut_sound (record_of a floor l.sends samples) f held.sound rises within posted;
       room = held.room;
     })
 
@@ -90,6 +97,6 @@ held_first a w t l samples law world sent topo empty none =
     let room : kept_room_of a.world.topo epoch ≤ kept_room_of t epoch = subst (λ (u : Topology). kept_room_of u epoch ≤ kept_room_of t epoch) topo' (omega arith) in
     subst (λ (n : LogFacts). IsHeld a t n 0 samples) (sym empty) (subst (IsHeld a t (log_of [] (kept_room_of t epoch)) 0) (sym none) record {
       topo = topo';
-      sound = record { lawful = law'; recorded = rw sent' (record_opens a.world); early = λ i d lt. absurd (omega arith) };
+      sound = record { lawful = law'; recorded = rw sent' (record_opens a.world); early = λ i d lt. absurd (omega arith); within = omega arith };
       room = room;
     })

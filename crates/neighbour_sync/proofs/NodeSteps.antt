@@ -17,7 +17,7 @@ use Rattle.neighbour_sync.proofs.Words.{here, beside, has_place}
 use Rattle.neighbour_sync.proofs.Views.{Table, Seat, written, seat_inside, node_allowed}
 
 -- what a step of a node's seat may do: its view v becomes u, and the words become ws
-record Follows (w : WorldFacts) (s : Table) (sent : List ℕ) (v u : View) (ws : List ℕ) : Type 0 where
+pub record Follows (w : WorldFacts) (s : Table) (sent : List ℕ) (v u : View) (ws : List ℕ) : Type 0 where
   len : length ws ≡ length s.words
   is_node : u.is_air ≡ false
   world : u.world ≡ v.world
@@ -62,7 +62,7 @@ each_clock w s sent v u ws P k f new lt old (yes e) =
     subst (λ (m : ℕ). P m (get_or ws (clock_at m) 0)) (sym e) (subst (P v.number) (sym f.clock) new)
 each_clock w s sent v u ws P k f new lt old (no d) = subst (P k) (sym (f.clocks k d lt)) old
 
-follows_keep : (w : WorldFacts) (s : Table) (v u : View) (ws : List ℕ) (h : KeepsRule w s) → get_elem? s.views (suc v.number) ≡ some v → Follows w s h.air.sent v u ws
+pub follows_keep : (w : WorldFacts) (s : Table) (v u : View) (ws : List ℕ) (h : KeepsRule w s) → get_elem? s.views (suc v.number) ≡ some v → Follows w s h.air.sent v u ws
     → KeepsRule w record { words = ws; homes = s.homes; views = set s.views (suc v.number) u }
 follows_keep w s v u ws h at f =
     let lt = seat_inside w s v.number v h at in
@@ -135,7 +135,7 @@ asks w slots id me t =
     (λ s h at. let u = with_halt me.0 (get_or s.words i 0) in
     (u, loads w s i me.0 u h at (stays w s me.0 u h at t refl refl refl refl (h.nodes me.0.number me.0 at).told), (refl, h.halt)))
 
-raised : (w : WorldFacts) (s : Table) (v : View) (c : ℕ) (h : KeepsRule w s) → get_elem? s.views (suc v.number) ≡ some v → v.is_air ≡ false
+pub raised : (w : WorldFacts) (s : Table) (v : View) (c : ℕ) (h : KeepsRule w s) → get_elem? s.views (suc v.number) ≡ some v → v.is_air ≡ false
     → c ≤ w.topo.limit → sends_below w.sends v.number c ≤ v.told → Follows w s h.air.sent v (with_clock v c) (set s.words (clock_at v.number) c)
 raised w s v c h at t le below =
     let i = clock_at v.number in

@@ -3,7 +3,7 @@ use Rattle.std.proofs.Common.{◌≡◌, ℕ, zero, suc, ◌+◌, ◌<◌, ◌�
 use Rattle.std.specs.List.{All}
 use native.Mathlib.Decide.{ℕ_discrete, dec_le}
 use Rattle.world_core.specs.declared.world.WorldFacts.{WorldFacts}
-use Rattle.world_core.specs.Each.{each_below}
+use Rattle.air_base.specs.Each.{each_below}
 use Rattle.world_core.specs.Topology.{Topology, is_linked, is_reached_in, place_in, latency_of, neighbours}
 use Rattle.world_core.specs.Sends.{sends_below}
 use Rattle.world_core.specs.Posted.{sent_of, AllPostedFor}
@@ -35,11 +35,11 @@ module _ (P : ℕ → Type 0) where
       subst P (sym e) (last 0 0 (omega arith))
   among_case t j n k (no d) a lt linked next = next (omega arith)
 
-  among : (t : Topology) (j n k : ℕ) → All P (each_below n (one t j)) → k < n → is_linked t k j ≡ true → P k
+  pub among : (t : Topology) (j n k : ℕ) → All P (each_below n (one t j)) → k < n → is_linked t k j ≡ true → P k
   among t j zero k a lt linked = absurd (omega arith)
   among t j (suc n) k a lt linked = among_case t j n k (ℕ_discrete k n) a lt linked (λ less. among t j n k (all_left (each_below n (one t j)) (one t j n) a) less linked)
 
-left_of : (a b : Bool) → (a && b) ≡ true → a ≡ true
+pub left_of : (a b : Bool) → (a && b) ≡ true → a ≡ true
 left_of true b e = refl
 left_of false b e = e
 

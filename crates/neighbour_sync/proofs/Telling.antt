@@ -1,8 +1,8 @@
 -- What the record's answers tell of it, and a look of a node at its sent word.
 use Rattle.std.proofs.Common.{◌≡◌, ◌≤◌, ℕ, List, ◌++◌, ◌∙◌, ap, subst, sym, append_assoc, refl, arith}
 use Rattle.world_core.specs.declared.world.WorldFacts.{WorldFacts}
-use Rattle.world_core.specs.declared.air.Sampled.{Sampled}
-use Rattle.world_core.specs.declared.air.Sampled.TheVariants.{Heard, NotYet, NoMemory}
+use Rattle.air_base.specs.declared.air.Sampled.{Sampled}
+use Rattle.air_base.specs.declared.air.Sampled.TheVariants.{Heard, NotYet, NoMemory}
 use Rattle.world_core.specs.Settled.{truth}
 use Rattle.neighbour_sync.specs.Seats.{NodeFacts, node_told}
 use Rattle.neighbour_sync.specs.Loads.{AreReached}
@@ -10,7 +10,7 @@ use Rattle.neighbour_sync.specs.Record.{AirRecord, IsSample, with_loads, cut_at}
 use Rattle.neighbour_sync.specs.Told.{IsTold}
 
 pub told : (w : WorldFacts) (r : AirRecord) (j s : ℕ) (a : Sampled) (new : AirRecord) → r.world ≡ w → IsSample r j s a new → IsTold w j s a
-told w r j s (Heard h) new e t = t.0 ∙ ap (λ (v : WorldFacts). truth v j s) e
+told w r j s (Heard h) new e t = t.1.right ∙ ap (λ (v : WorldFacts). truth v j s) e
 told w r j s (NotYet k c) new e t = tt
 told w r j s NoMemory new e t = tt
 

@@ -1,8 +1,8 @@
 -- What a node may take of the record's answer. Own to this simulator.
 use Rattle.std.specs.Prelude.{◌≡◌, ℕ}
 use Rattle.world_core.specs.declared.world.WorldFacts.{WorldFacts}
-use Rattle.world_core.specs.declared.air.Sampled.{Sampled}
-use Rattle.world_core.specs.declared.air.Sampled.TheVariants.{Heard, NotYet, NoMemory}
+use Rattle.air_base.specs.declared.air.Sampled.{Sampled}
+use Rattle.air_base.specs.declared.air.Sampled.TheVariants.{Heard, NotYet, NoMemory}
 use Rattle.world_core.specs.Settled.{truth}
 
 -- what is heard is the true answer to a sample of node j in cycle s; the other answers tell nothing

@@ -1,5 +1,5 @@
 // What the calls of the record answer, and what a node is answered that samples the air.
-use world_core::Heard;
+use air_base::Heard;
 
 /// The answer to one try.
 #[derive(Clone, Copy)]

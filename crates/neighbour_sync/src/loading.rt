@@ -5,6 +5,7 @@ ghost use Rattle.world_core.specs.Kept.{IsPostedTo};
 ghost use Rattle.world_core.specs.Lawful.{IsLawful};
 ghost use Rattle.neighbour_sync.specs.Seats.{air_loaded};
 ghost use Rattle.neighbour_sync.specs.Loads.{looked, pair_of, IsReached, IsBehind, AreReached};
+ghost use Rattle.neighbour_sync.specs.Looks.{IsSeenPast, AreSeenPast};
 
 use crate::{AirSeat, Behind, Clocks};
 use world_core::{Topo, World};
@@ -22,7 +23,7 @@ fn late_clock<W: World>(
     requires topo { topo.now ≡ seat.old.world.topo }
     requires node { from < topo.now.nodes }
     ensures none { IfNone result (IsReached seat.old.world seat.old.sent node cycle from) }
-    ensures looks { IfNone result ((more : List (ℕ × ℕ)) × (seat.new ≡ looked seat.old more)) }
+    ensures looks { IfNone result ((more : List (ℕ × ℕ)) × (seat.new ≡ looked seat.old more) × IsSeenPast seat.old.world node cycle more from) }
     ensures some { IfSome result (λ c. IsBehind seat.old.world node cycle from c) }
     ensures load { IfSome result (λ c. seat.new ≡ air_loaded seat.old from c) }
 {
@@ -38,6 +39,7 @@ fn late_clock<W: World>(
 }
 
 /// The first node that node `node` may hear in this cycle and that is not far enough, as its clock was loaded last.
+/// Where there is none, a clock of each that may be heard was loaded that is past what may be heard of it.
 pub fn first_behind<W: World>(
     clocks: &Clocks<W>,
     seat: &mut AirSeat,
@@ -49,7 +51,7 @@ pub fn first_behind<W: World>(
     requires topo { topo.now ≡ seat.old.world.topo }
     requires lawful { IsLawful seat.old.world }
     ensures none { IfNone result (AllPostedFor seat.old.world seat.old.sent node cycle) }
-    ensures looks { IfNone result ((more : List (ℕ × ℕ)) × (seat.new ≡ looked seat.old more)) }
+    ensures looks { IfNone result ((more : List (ℕ × ℕ)) × (seat.new ≡ looked seat.old more) × AreSeenPast seat.old.world node cycle more) }
     ensures some { IfSome result (λ b. IsBehind seat.old.world node cycle b.node b.clock) }
     ensures load { IfSome result (λ b. (more : List (ℕ × ℕ)) × (seat.new ≡ looked seat.old (more ++ pair_of b ∷ []))) }
 {

@@ -4,9 +4,10 @@ use crate::answers::{SampleAttempt, SampleOutcome};
 use crate::session::Session;
 use crate::shared::Shared;
 use crate::steps::{record, see_posted, try_once};
+use air_base::Send;
 use std::marker::Model;
 use std::sync::{Arc, Wait};
-use world_core::{Send, Topo, World};
+use world_core::{Topo, World};
 
 /// A node's part of the air: its seat at the clock words, and the topology, by which it sees for whom it has to wait.
 /// All nodes hold one topology together.

@@ -5,9 +5,10 @@ ghost use Rattle.world_core.specs.Kept.{epoch, kept_room_of};
 
 use crate::loading::{first_behind, first_below};
 use crate::{AirSeat, Behind, Clocks, Posted};
+use air_base::{Ask, Heard, Sampled, Send};
 use std::alloc::Global;
 use std::marker::Model;
-use world_core::{Ask, EPOCH, Heard, NoMemory, Sampled, Send, SendLog, Topo, World};
+use world_core::{EPOCH, NoMemory, SendLog, Topo, World};
 
 /// The record of the sends and samples of a world, with the air's seat. Whenever no call is at work on it, each
 /// recorded sample is what the one order of all cycles gives, and no send that is still to be posted can alter it. Its
@@ -66,7 +67,9 @@ impl Air {
     ghost use Rattle.std.specs.List.{Contains};
     ghost use Rattle.world_core.specs.Sends.{IsSendNumber};
     ghost use Rattle.world_core.specs.Kept.{epoch, IsPostedTo};
+    ghost use Rattle.world_core.specs.Consistent.{IsConsistent};
     ghost use Rattle.neighbour_sync.specs.Loads.{AreReached, pair_of};
+    ghost use Rattle.neighbour_sync.specs.Shows.{shown};
     ghost use Rattle.neighbour_sync.specs.Record.{first_record, with_loads, cut_at, IsSound, IsPost, IsSample};
 
     /// The empty record, which takes its room for sends here.
@@ -172,10 +175,12 @@ impl Air {
     }
 
     /// The recorded samples, in the order in which they were taken: each is the true one, and all that it could hear is
-    /// posted.
+    /// posted. With the clocks of all nodes at the floor, as they are between two sessions, the record is a consistent
+    /// state.
     pub fn samples(&self) -> &[(Ask, Heard)]
         ensures value { result.now ≡ self.now.samples }
         ensures sound { IsSound self.now }
+        ensures consistent { IsConsistent (shown self.now (replicate self.now.world.topo.nodes self.now.floor)) }
     {
         &self.samples
     }

@@ -3,10 +3,11 @@ ghost use Rattle.std.specs.Prelude.{◌≡◌};
 
 use crate::session::Session;
 use crate::{Air, Clocks, Posted};
+use air_base::{Sampled, Send};
 use crossbeam_utils::CachePadded;
 use std::marker::{Model, PhantomData};
 use std::sync::{Mutex, Wait};
-use world_core::{Sampled, Send, World};
+use world_core::World;
 
 // What lies under the lock: the record of the session. Whenever the lock is free it is of the session's table and
 // world, and cut at its floor; and it is a record at rest, so that each of its samples is the true one and final.

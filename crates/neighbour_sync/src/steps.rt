@@ -11,9 +11,10 @@ use crate::looking::first_behind;
 use crate::session::Session;
 use crate::shared::Shared;
 use crate::{Clocks, NodeSeat, Posted};
+use air_base::{Sampled, Send};
 use crossbeam_utils::Backoff;
 use std::sync::Wait;
-use world_core::{Sampled, Send, Topo, World};
+use world_core::{Topo, World};
 
 /// Posts a send under the lock until it stands in the record.
 pub fn record<W: World, N: Session, R: Wait>(rt: &R, shared: &Shared<W, N>, send: Send, number: u64)

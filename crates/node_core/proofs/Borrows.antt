@@ -12,8 +12,8 @@ use Rattle.avr_base.specs.Lines.{due_of, pending_of}
 use Rattle.avr_base.specs.declared.interrupts.Lines.{Lines}
 use Rattle.avr_base.proofs.Computed.{all_from, all_from-at}
 use Rattle.arith_step.specs.Bytes.{subtracted}
-use Rattle.arith_step.specs.Shapes.{subtracts, subtracts_with_carry}
-use Rattle.arith_step.specs.Table.{arith_cpu, effect}
+use Rattle.avr_core.specs.ArithShapes.{subtracts, subtracts_with_carry}
+use Rattle.avr_core.specs.ArithTable.{arith_cpu, effect}
 use Rattle.arith_step.specs.Whole.{one_if, overflows, signed, with_carries, with_sign, xor}
 use Rattle.avr_decoder.specs.declared.op.Op.TheVariants as op
 use Rattle.data_space.specs.declared.cpu.Cpu.{Cpu}

@@ -13,15 +13,15 @@ use Rattle.avr_decoder.specs.declared.op.Class.TheVariants as class
 use Rattle.avr_decoder.specs.declared.op.Op.{Op}
 use Rattle.avr_decoder.specs.declared.op.Op.TheVariants as op
 use Rattle.arith_step.specs.Bytes.{decremented, subtracted}
-use Rattle.arith_step.specs.Shapes.{subtracts_with_carry}
-use Rattle.arith_step.specs.Table.{arith_cpu, arith_done, effect}
+use Rattle.avr_core.specs.ArithShapes.{subtracts_with_carry}
+use Rattle.avr_core.specs.ArithTable.{arith_cpu, arith_done, effect}
 use Rattle.arith_step.specs.Whole.{overflows, signed, with_sign}
 use Rattle.arith_step.specs.Words.{subtracted_word}
 use Rattle.arith_step.proofs.Signs.{decrement_by_signs}
 use Rattle.avr_base.specs.Flags.{C, has_flag, with_flag}
 use Rattle.board_io.specs.Lines.{lines_of}
-use Rattle.bus_step.specs.FlowShapes.{bit_is, branched, ends}
-use Rattle.bus_step.specs.FlowTable.{flow_effect}
+use Rattle.avr_core.specs.FlowShapes.{bit_is, branched, ends}
+use Rattle.avr_core.specs.FlowTable.{flow_effect}
 use Rattle.data_space.specs.declared.cpu.Cpu.{Cpu}
 use Rattle.data_space.specs.Core.{pair_at, with_reg}
 use Rattle.data_space.specs.Sequence.{Outcome, done}
@@ -33,7 +33,7 @@ use Rattle.node_core.specs.Cycle.{op_now, owes}
 use Rattle.node_core.specs.Execute.{executed, executed_by}
 use Rattle.node_core.specs.Leaps.{IsBeside, IsCountdown, IsLowering, IsStillStep, Walk, bus_later, counter_at, goes, lowered, spared, stays, with_counter}
 use Rattle.node_core.specs.Shown.{shown}
-use Rattle.instruction_table.proofs.Executes.{arith_awake, is_arith}
+use Rattle.avr_core.proofs.Executes.{arith_awake, is_arith}
 use Rattle.node_core.proofs.Ran.{by_class}
 
 -- ---- two registers

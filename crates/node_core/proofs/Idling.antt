@@ -8,7 +8,7 @@ use Rattle.board_io.specs.Lines.{lines_of}
 use Rattle.board_io.proofs.Leaps.{leap_next, leap_quiet, leap_zero}
 use Rattle.avr_base.specs.declared.interrupts.Lines.{Lines}
 use Rattle.avr_base.specs.Lines.{due_of}
-use Rattle.world_core.specs.NodeRun.{passed, passed_rows, AllQuiet}
+use Rattle.air_base.specs.NodeRun.{passed, passed_rows, AllQuiet}
 use Rattle.node_core.specs.Bus.{with_board}
 use Rattle.node_core.specs.State.{NodeState}
 use Rattle.node_core.specs.Cycle.{node_kind, acted, acted_rows, asks_in, begun_in, begun_rows, cpu_cycle, cpu_rows, instructed, instructed_rows, sends_in}

@@ -12,22 +12,22 @@ use Rattle.avr_decoder.specs.declared.op.Class.{Class}
 use Rattle.avr_decoder.specs.declared.op.Class.TheVariants as class
 use Rattle.avr_decoder.specs.declared.op.Op.{Op}
 use Rattle.avr_decoder.specs.declared.op.Op.TheVariants as op
-use Rattle.arith_step.specs.Table.{arith_cycles}
-use Rattle.arith_step.proofs.KeepsI.{arith_keeps_i, sets_a_flag}
-use Rattle.bus_step.specs.FlowTable.{flow_effect}
-use Rattle.bus_step.specs.MemoryTable.{memory_effect}
-use Rattle.bus_step.proofs.Flags.{flow_keeps_flags, memory_keeps_flags, writes_in_flow, writes_in_memory}
+use Rattle.avr_core.specs.ArithTable.{arith_cycles}
+use Rattle.avr_core.proofs.KeepsI.{arith_keeps_i, sets_a_flag}
+use Rattle.avr_core.specs.FlowTable.{flow_effect}
+use Rattle.avr_core.specs.MemoryTable.{memory_effect}
+use Rattle.avr_core.proofs.Flags.{flow_keeps_flags, memory_keeps_flags, writes_in_flow, writes_in_memory}
 use Rattle.data_space.specs.declared.bus.Done.{Done}
 use Rattle.data_space.specs.declared.cpu.Cpu.{Cpu}
 use Rattle.node_core.specs.declared.bus.NodeBus.{NodeBus}
-use Rattle.instruction_table.specs.declared.instructions.After.{After}
-use Rattle.instruction_table.specs.declared.instructions.After.TheVariants as after
+use Rattle.avr_core.specs.declared.instructions.After.{After}
+use Rattle.avr_core.specs.declared.instructions.After.TheVariants as after
 use Rattle.node_core.specs.Bus.{bus_get, bus_put}
 use Rattle.node_core.specs.Cycle.{is_sei}
-use Rattle.instruction_table.specs.Execute.{after_of, executed_over, is_short_back}
+use Rattle.avr_core.specs.Execute.{after_of, executed_over, is_short_back}
 use Rattle.node_core.specs.Execute.{executed, executed_by}
 use Rattle.node_core.specs.Midway.{turned_on}
-use Rattle.instruction_table.proofs.Executes.{is_arith}
+use Rattle.avr_core.proofs.Executes.{is_arith}
 
 -- behind which the flag I may be another
 abbrev pub may_change : After → Bool

@@ -11,7 +11,7 @@ use Rattle.data_space.specs.declared.cpu.Cpu.{Cpu}
 use Rattle.data_space.specs.Space.{Access}
 use Rattle.avr_base.specs.declared.interrupts.Vector.{Vector}
 use Rattle.serial_ports.specs.Script.{script_byte}
-use Rattle.world_core.specs.declared.air.Heard.{Heard}
+use Rattle.air_base.specs.declared.air.Heard.{Heard}
 use Rattle.node_core.specs.declared.bus.NodeBus.{NodeBus}
 use Rattle.node_core.specs.Bus.{bus_at}
 use Rattle.node_core.specs.State.{NodeState}

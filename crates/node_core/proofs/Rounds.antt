@@ -15,7 +15,7 @@ use Rattle.serial_ports.specs.Script.{script_byte}
 use Rattle.node_core.specs.declared.bus.NodeBus.{NodeBus}
 use Rattle.node_core.specs.declared.machine.Machine.{Machine}
 use Rattle.node_core.specs.Bus.{with_board}
-use Rattle.node_core.specs.Inside.{IsCalm, MayAct}
+use Rattle.node_core.specs.Inside.{IsCalm, MayAct, is_told}
 use Rattle.node_core.specs.Interrupts.{due}
 use Rattle.node_core.specs.Leaps.{IsStillStep, Walk, stays, goes, bus_later}
 use Rattle.node_core.specs.Midway.{IsSprinted, IsSprinting, IsStepped}
@@ -37,7 +37,7 @@ pub record IsOpen (t n : ℕ) (m : Machine) : Type 0 where
   pub going : m.stop ≡ None
   pub free : m.wait ≡ 0
   pub awake : m.asleep ≡ false
-  pub behind : m.to ≤ t
+  pub untold : (i : ℕ) → i < n → is_told m.from m.to (t + i) ≡ false
   pub now : m.bus.board.clock ≡ t
   pub few : m.count ≤ 2 ^ 40 + t
   pub idle : IsIdle t n (unclocked m.bus.board)
@@ -60,7 +60,7 @@ module _ (t all : ℕ) (m : Machine) (open_ : IsOpen t all m) where
       let count : m.count ≡ m.count + 0 = omega arith in
       let same : m ≡ later t 0 0 m.cpu m = λ i. let x : Machine = record m { bus = with_board m.bus (board i); count = count i } in x in
       subst (λ (x : Machine). IsSprinting t (t + 0) m x) same
-      (subst (λ (u : ℕ). IsSprinting t u m m) at (begins t m o.going o.free o.awake o.behind o.now o.few))
+      (subst (λ (u : ℕ). IsSprinting t u m m) at (begins t m o.going o.free o.awake o.now o.few))
 
   none_at : (n c : ℕ) (cpu : Cpu) → n < all → due_of cpu.sreg.bits (lines_of m.bus.board) ≡ None → due (shown (later t n c cpu m)) ≡ None
   none_at n c cpu l none =
@@ -68,15 +68,13 @@ module _ (t all : ℕ) (m : Machine) (open_ : IsOpen t all m) where
       ap (λ (b : Board). due_of cpu.sreg.bits (lines_of b)) (sym (leap_clock 0 t n m.bus.board))
       ∙ (ap (due_of cpu.sreg.bits) (lines ∙ lines_clock 0 m.bus.board) ∙ none)
 
-  stepped : (n c k : ℕ) (from to : Cpu) → IsStillStep k m from to
+  stepped : (n c k : ℕ) (from to : Cpu) → n < all → IsStillStep k m from to
       → IsStepped (t + n) k (later t n c from m) (let x : Machine = record (later t n c from m) { cpu = to; owed = false; count = m.count + c + 1 } in x)
-  stepped n c k from to s =
+  stepped n c k from to l s =
       let o = open_ in
       let x : Machine = later t n c from m in
       let a : Outcome NodeBus = record { result = Ok (done k); cpu = to; bus = x.bus } in
-      let behind = o.behind in
-      let still : m.to ≤ t + n = omega (arith, behind) in
-      gone (t + n) x s.op s.fetched (runs_on (shown x) s.op s.wakes) refl still a m.program.bytes refl (s.does (t + n) t n) (done k) refl false
+      gone (t + n) x s.op s.fetched (runs_on (shown x) s.op s.wakes) refl (o.untold n l) a m.program.bytes refl (s.does (t + n) t n) (done k) refl false
       s.settled refl s.some o.awake o.going o.free
 
   next : (n c k : ℕ) (from to : Cpu) → n + k ≤ all → IsStillStep k m from to → IsSprinting t (t + n) m (later t n c from m) → IsSprinting t (t + (n + k)) m (later t (n + k) (c + 1) to m)
@@ -103,7 +101,7 @@ module _ (t all : ℕ) (m : Machine) (open_ : IsOpen t all m) where
       let state : (let y : Machine = record w { bus = bus } in shown y)
       ≡ (let s : NodeState = record (shown w) { bus = with_board (shown w).bus (timers_leap (t + n) k (shown w).bus.board) } in s) =
       λ z. (let s : NodeState = record (shown w) { bus = with_board (shown w).bus (board z) } in s) in
-      let went = sprint.goes t (t + n) m x h k w (none_at n c from (omega (arith, l, some)) s.none) (stepped n c k from to s) bus calm state (sym on) in
+      let went = sprint.goes t (t + n) m x h k w (none_at n c from (omega (arith, l, some)) s.none) (stepped n c k from to (omega (arith, l, some)) s) bus calm state (sym on) in
       subst (λ (u : ℕ). IsSprinting t u m (later t (n + k) (c + 1) to m)) on
       (subst (λ (y : Machine). IsSprinting t (t + n + k) m y)
       (λ z. let y : Machine = record m { cpu = to; bus = bus; owed = sym open_.owed z; count = count z } in y) went)
@@ -151,7 +149,7 @@ module _ (t all : ℕ) (m : Machine) (open_ : IsOpen t all m) where
         subst (λ (x : Machine). IsSprinted t (t + all) false m x) (sym same) (sprint.stays t (t + all) m (later t all (k * count) (after k) m) there)
 
 -- rounds that the board passed, of a node that is m still
-module _ (t k length count : ℕ) (m x : Machine) (same : x ≡ m) (may : MayAct t m) (behind : m.to ≤ t) (owed : m.owed ≡ false) (none : (i : ℕ) → i < k * length → script_byte m.script (t + i) ≡ None)
+module _ (t k length count : ℕ) (m x : Machine) (same : x ≡ m) (may : MayAct t m) (untold : (i : ℕ) → i < k * length → is_told m.from m.to (t + i) ≡ false) (owed : m.owed ≡ false) (none : (i : ℕ) → i < k * length → script_byte m.script (t + i) ≡ None)
     (after : ℕ → Cpu) (first : after 0 ≡ m.cpu) (round : (j : ℕ) → j < k → Walk m (after j) length count (after (suc j))) (board : Board)
     (idle : IsIdle x.bus.board.clock (k * length) (unclocked x.bus.board)) (state : unclocked board ≡ timers_leap x.bus.board.clock (k * length) (unclocked x.bus.board))
     (clock : board.clock ≡ x.bus.board.clock + k * length) where
@@ -164,7 +162,7 @@ module _ (t k length count : ℕ) (m x : Machine) (same : x ≡ m) (may : MayAct
     going = may.going;
     free = may.free;
     awake = may.awake;
-    behind = behind;
+    untold = untold;
     now = may.now;
     few = may.few;
     idle = subst (λ (y : Machine). IsIdle t (k * length) (unclocked y.bus.board)) same (subst (λ (u : ℕ). IsIdle u (k * length) (unclocked x.bus.board)) now idle);

@@ -2,8 +2,8 @@
 use Rattle.std.proofs.Common.{◌≡◌, ℕ, ◌+◌, ◌^◌, ◌≤◌, ◌++◌, Bool, false, None, List, [], add-zero, sym, ◌∙◌, subst, arith}
 use Rattle.std.proofs.lemmas.Bool.{false≢true}
 use Rattle.node_core.specs.declared.row.Row.{Row}
-use Rattle.world_core.specs.NodeRun.{AllQuiet, Comes, Timed, passed, passed_rows}
-use Rattle.world_core.proofs.QuietCycles.{comes_leap, comes_more}
+use Rattle.air_base.specs.NodeRun.{AllQuiet, Comes, Timed, passed, passed_rows}
+use Rattle.air_base.proofs.QuietCycles.{comes_leap, comes_more}
 use Rattle.node_core.specs.declared.machine.Machine.{Machine}
 use Rattle.node_core.specs.Inside.{IsWhole}
 use Rattle.node_core.specs.State.{NodeState}

@@ -8,14 +8,14 @@ use Rattle.avr_base.specs.declared.stop.StopCause.{StopCause}
 use Rattle.data_space.specs.declared.bus.Done.{Done}
 use Rattle.data_space.specs.declared.cpu.Cpu.{Cpu}
 use Rattle.data_space.specs.Space.{Access}
-use Rattle.arith_step.specs.Shapes.{sets_flag}
-use Rattle.arith_step.specs.Table.{effect}
+use Rattle.avr_core.specs.ArithShapes.{sets_flag}
+use Rattle.avr_core.specs.ArithTable.{effect}
 use Rattle.data_space.specs.Sequence.{popped_word, then_do}
-use Rattle.bus_step.specs.FlowShapes.{ends, jumped, returns_enabling}
-use Rattle.bus_step.specs.FlowTable.{flow_effect}
+use Rattle.avr_core.specs.FlowShapes.{ends, jumped, returns_enabling}
+use Rattle.avr_core.specs.FlowTable.{flow_effect}
 use Rattle.node_core.specs.declared.bus.NodeBus.{NodeBus}
 use Rattle.node_core.specs.Bus.{bus_get}
-use Rattle.instruction_table.specs.Execute.{executed_over}
+use Rattle.avr_core.specs.Execute.{executed_over}
 use Rattle.node_core.specs.Execute.{executed}
 use Rattle.avr_decoder.specs.declared.op.Op.{Op}
 use Rattle.avr_decoder.specs.declared.op.Op.TheVariants as op

@@ -12,8 +12,8 @@ use Rattle.board_io.specs.Cycle.{timers_leap}
 use Rattle.board_io.specs.Lagging.{IsIdle}
 use Rattle.board_io.specs.Lines.{lines_of}
 use Rattle.board_io.proofs.Lags.{lines_clock}
-use Rattle.world_core.specs.NodeRun.{Comes, Timed}
-use Rattle.world_core.proofs.QuietCycles.{comes_none}
+use Rattle.air_base.specs.NodeRun.{Comes, Timed}
+use Rattle.air_base.proofs.QuietCycles.{comes_none}
 use Rattle.node_core.specs.declared.bus.NodeBus.{NodeBus}
 use Rattle.node_core.specs.declared.machine.Machine.{Machine}
 use Rattle.node_core.specs.declared.row.Row.{Row}
@@ -24,7 +24,7 @@ use Rattle.data_space.specs.declared.cpu.Registers.{Registers}
 use Rattle.serial_ports.specs.Script.{ScriptBytes, script_byte}
 use Rattle.node_core.specs.Bus.{with_board}
 use Rattle.node_core.specs.Cycle.{instructed, instructed_rows, node_kind, row}
-use Rattle.node_core.specs.Inside.{IsCalm, MayAct}
+use Rattle.node_core.specs.Inside.{IsCalm, MayAct, is_told}
 use Rattle.node_core.specs.Interrupts.{due}
 use Rattle.node_core.specs.Midway.{IsActed, IsMidway, IsSprinted, IsSprinting, IsStepped, IsStopping, IsTurning, MayEnd, beside, over, owing, turned_on}
 use Rattle.node_core.specs.Shown.{shown}
@@ -54,8 +54,8 @@ clear_due m e = none_due m (by_flag (has_flag m.cpu.sreg.bits I))
     by_flag false = refl
 
 -- at its beginning
-pub begins : (t : ℕ) (m : Machine) → m.stop ≡ None → m.wait ≡ 0 → m.asleep ≡ false → m.to ≤ t → m.bus.board.clock ≡ t → m.count ≤ 2 ^ 40 + t → IsSprinting t t m m
-begins t m going free awake behind clock count =
+pub begins : (t : ℕ) (m : Machine) → m.stop ≡ None → m.wait ≡ 0 → m.asleep ≡ false → m.bus.board.clock ≡ t → m.count ≤ 2 ^ 40 + t → IsSprinting t t m m
+begins t m going free awake clock count =
     let v : Timed NodeState Row = record { cycle = t; asking = false; state = shown m; rows = m.rows.items } in
     record {
       from = omega arith;
@@ -63,7 +63,8 @@ begins t m going free awake behind clock count =
       going = going;
       free = free;
       awake = awake;
-      behind = behind;
+      opens = refl;
+      closes = refl;
       clock = clock;
       script = refl;
       count = count;
@@ -120,18 +121,18 @@ module _ (t at : ℕ) (old m : Machine) (h : IsSprinting t at old m) where
       record { going = h.going; free = h.free; awake = h.awake; now = h.clock; few = count; early = early; room = omega (arith, len, wide, room) }
 
   -- and goes on as another does from there
-  pub joins : (c : ℕ) (x : Machine) → IsSprinted at c false m x → x.to ≡ m.to → IsSprinting t c old x
-  joins c x q to =
+  pub joins : (c : ℕ) (x : Machine) → IsSprinted at c false m x → x.from ≡ m.from → x.to ≡ m.to → IsSprinting t c old x
+  joins c x q opens closes =
       let from = h.from in
       let on = q.from in
-      let behind = h.behind in
       record {
         from = omega (arith, from, on);
         comes = comes_on v at c (shown m) (shown x) m.rows.items x.rows.items h.comes (q.comes refl);
         going = q.going refl;
         free = q.free refl;
         awake = q.awake refl;
-        behind = omega (arith, behind, on, to);
+        opens = opens ∙ h.opens;
+        closes = closes ∙ h.closes;
         clock = q.clock;
         script = q.script refl ∙ h.script;
         count = q.few refl;
@@ -195,8 +196,6 @@ module _ (t at : ℕ) (old m : Machine) (h : IsSprinting t at old m) where
         let some = p.some in
         let count = h.count in
         let more = p.count in
-        let behind = h.behind in
-        let to = p.to in
         let from = h.from in
         let x : Machine = record w { bus = bus } in
         let there = went v at n m w m.rows.items h.comes h.going h.free h.awake none p calm in
@@ -206,7 +205,8 @@ module _ (t at : ℕ) (old m : Machine) (h : IsSprinting t at old m) where
           going = p.going;
           free = p.free;
           awake = p.awake;
-          behind = omega (arith, behind, to);
+          opens = p.opens ∙ h.opens;
+          closes = p.closes ∙ h.closes;
           clock = clock;
           script = p.script ∙ h.script;
           count = omega (arith, count, more, some);
@@ -241,6 +241,13 @@ silent t at end old m same from none i l =
     ap (λ (x : ScriptBytes). script_byte x (at + i)) same
     ∙ subst (λ (u : ℕ). script_byte old.script u ≡ None) there (none (at - t + i) (omega (arith, l, from)))
 
+-- and no instruction is told
+pub untold : (t at end : ℕ) (old m : Machine) → m.from ≡ old.from → m.to ≡ old.to → t ≤ at → ((i : ℕ) → t + i ≤ end → is_told old.from old.to (t + i) ≡ false) → (i : ℕ) → at + i ≤ end → is_told m.from m.to (at + i) ≡ false
+untold t at end old m opens closes from none i l =
+    let there : t + (at - t + i) ≡ at + i = omega (arith, from) in
+    (λ j. is_told (opens j) (closes j) (at + i))
+    ∙ subst (λ (u : ℕ). is_told old.from old.to u ≡ false) there (none (at - t + i) (omega (arith, l, from)))
+
 -- ---- a machine whose core stands beside it, with what it owes
 abbrev pub turning : Machine → Registers → Core → ℕ → Machine
 turning self regs core owed_to = owing (nat_lt self.count owed_to) (beside regs core self)
@@ -249,6 +256,16 @@ pub acts : (t end : ℕ) (first self : Machine) (regs : Registers) (core : Core)
     → end ≤ 2 ^ 40 → vec_len first.rows < vec_capacity first.rows → MayAct self.bus.board.clock (turning self regs core owed_to)
 acts t end first self regs core owed_to h early room =
     let within = h.within in may t self.bus.board.clock first (turning self regs core owed_to) h.runs (omega (arith, within, early)) room
+
+-- the instruction that begins now is not told
+pub still : (t end : ℕ) (first self : Machine) (regs : Registers) (core : Core) (owed_to : ℕ) (h : IsTurning t end first self regs core owed_to)
+    → ((i : ℕ) → t + i ≤ end → is_told first.from first.to (t + i) ≡ false) → is_told self.from self.to self.bus.board.clock ≡ false
+still t end first self regs core owed_to h none =
+    let at : ℕ = self.bus.board.clock in
+    let within = h.within in
+    let here : at + 0 ≡ at = omega arith in
+    subst (λ (u : ℕ). is_told self.from self.to u ≡ false) here
+    (untold t at end first (turning self regs core owed_to) h.runs.opens h.runs.closes h.runs.from none 0 (omega (arith, within)))
 
 -- ---- a step of a sprint, of n cycles
 module _ (t end : ℕ) (first self : Machine) (regs : Registers) (core : Core) (owed_to : ℕ) (h : IsTurning t end first self regs core owed_to)

@@ -9,20 +9,20 @@ use Rattle.avr_base.specs.declared.sreg.Sreg.{Sreg}
 use Rattle.avr_decoder.specs.Words.{words_of}
 use Rattle.avr_decoder.specs.declared.op.Op.{Op}
 use Rattle.avr_decoder.specs.declared.op.Op.TheVariants as op
-use Rattle.bus_step.specs.FlowShapes.{bit_is, branched, calls, jumped, relative, returns}
-use Rattle.bus_step.specs.FlowShapes.{ends as flow_ends}
-use Rattle.bus_step.specs.FlowTable.{flow_effect}
-use Rattle.bus_step.specs.MemoryShapes.{displaced, ends, loads, pops, pushes, stores}
-use Rattle.bus_step.specs.MemoryTable.{memory_effect, x, y, z}
+use Rattle.avr_core.specs.FlowShapes.{bit_is, branched, calls, jumped, relative, returns}
+use Rattle.avr_core.specs.FlowShapes.{ends as flow_ends}
+use Rattle.avr_core.specs.FlowTable.{flow_effect}
+use Rattle.avr_core.specs.MemoryShapes.{displaced, ends, loads, pops, pushes, stores}
+use Rattle.avr_core.specs.MemoryTable.{memory_effect, x, y, z}
 use Rattle.data_space.specs.declared.bus.Done.{Done}
 use Rattle.data_space.specs.declared.cpu.Cpu.{Cpu}
 use Rattle.data_space.specs.Core.{advanced, core_of, pair_at, with_reg}
 use Rattle.data_space.specs.Sequence.{Outcome, done, popped_word, pushed_word, then_do}
 use Rattle.data_space.specs.Space.{Access, answered, answers, loaded, lowered, popped, pushed, stored, taken, takes, unless_stopped}
 use Rattle.node_core.specs.declared.bus.NodeBus.{NodeBus}
-use Rattle.instruction_table.specs.declared.instructions.After.{After}
-use Rattle.instruction_table.specs.declared.instructions.After.TheVariants as after
-use Rattle.instruction_table.specs.Execute.{in_sram, after_at, after_of, executed_over, accesses_sram, calls_by_sram, falls_through, returns_by_sram}
+use Rattle.avr_core.specs.declared.instructions.After.{After}
+use Rattle.avr_core.specs.declared.instructions.After.TheVariants as after
+use Rattle.avr_core.specs.Execute.{in_sram, after_at, after_of, executed_over, accesses_sram, calls_by_sram, falls_through, returns_by_sram}
 use Rattle.node_core.specs.Bus.{bus_get, bus_put}
 use Rattle.node_core.specs.Cycle.{is_sei}
 use Rattle.node_core.specs.Execute.{executed}

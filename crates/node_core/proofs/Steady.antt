@@ -9,7 +9,7 @@ use Rattle.data_space.specs.declared.bus.Done.{Done}
 use Rattle.avr_base.specs.declared.interrupts.Vector.{Vector}
 use Rattle.node_core.specs.declared.row.Row.{Row}
 use Rattle.node_core.specs.declared.row.Kind.{Kind as RowKind}
-use Rattle.world_core.specs.NodeKind.{IsSteady}
+use Rattle.air_base.specs.NodeKind.{IsSteady}
 use Rattle.node_core.specs.Bus.{bus_at}
 use Rattle.node_core.specs.State.{NodeState}
 use Rattle.node_core.specs.Execute.{executed}

@@ -1,7 +1,6 @@
 -- A step of a sprint: the processor's part of its cycle, of an instruction that goes on.
-use Rattle.std.proofs.Common.{◌≡◌, ℕ, ◌+◌, ◌-◌, ◌≤◌, ◌&&◌, ◌++◌, nat_le, nat_lt, Bool, true, false, cond, Option, None, Some, List, [], is_some, append-nil, refl, sym, subst, ap, ◌∙◌, arith}
+use Rattle.std.proofs.Common.{◌≡◌, ℕ, ◌+◌, ◌-◌, ◌≤◌, ◌&&◌, ◌++◌, nat_lt, Bool, true, false, cond, Option, None, Some, List, [], is_some, append-nil, refl, sym, subst, ap, ◌∙◌, arith}
 use Rattle.std.proofs.lemmas.Bool.{false≢true}
-use Rattle.std.proofs.lemmas.Bool.Decides.{nat_tests}
 use Rattle.std.specs.Prelude.{Result, Ok, Err, IfOk, IfSome, IfNone, ◌||◌}
 use Rattle.avr_base.specs.declared.stop.StopCause.{StopCause}
 use Rattle.avr_decoder.specs.declared.op.Op.{Op}
@@ -9,23 +8,23 @@ use Rattle.board_io.specs.Board.{sleep_mode}
 use Rattle.board_io.specs.Cycle.{timers_leap}
 use Rattle.data_space.specs.declared.bus.Done.{Done}
 use Rattle.data_space.specs.Sequence.{Outcome}
-use Rattle.world_core.specs.NodeRun.{Comes, Timed, passed_rows}
-use Rattle.world_core.proofs.QuietCycles.{comes_step}
+use Rattle.air_base.specs.NodeRun.{Comes, Timed, passed_rows}
+use Rattle.air_base.proofs.QuietCycles.{comes_step}
 use Rattle.node_core.specs.declared.bus.NodeBus.{NodeBus}
 use Rattle.data_space.specs.declared.cpu.Core.{Core}
 use Rattle.data_space.specs.declared.cpu.Cpu.{Cpu}
 use Rattle.data_space.specs.declared.cpu.Registers.{Registers}
 use Rattle.data_space.specs.Core.{whole}
-use Rattle.instruction_table.specs.declared.instructions.After.{After}
-use Rattle.instruction_table.specs.declared.instructions.After.TheVariants as after
+use Rattle.avr_core.specs.declared.instructions.After.{After}
+use Rattle.avr_core.specs.declared.instructions.After.TheVariants as after
 use Rattle.node_core.specs.declared.machine.Machine.{Machine}
 use Rattle.node_core.specs.declared.row.Row.{Row}
 use Rattle.node_core.specs.declared.row.Kind.TheVariants as kind
 use Rattle.node_core.specs.Bus.{bus_at, bus_get, bus_put, with_board}
-use Rattle.instruction_table.specs.Execute.{is_sleep, after_at, is_plain}
+use Rattle.avr_core.specs.Execute.{is_sleep, after_at, is_plain}
 use Rattle.node_core.specs.Cycle.{first_word, instructed, instructed_rows, is_idle, is_other, is_refused, node_kind, op_now, owes, row, second_word}
 use Rattle.node_core.specs.Execute.{executed}
-use Rattle.node_core.specs.Inside.{IsCalm, MayAct}
+use Rattle.node_core.specs.Inside.{IsCalm, MayAct, is_told}
 use Rattle.node_core.specs.Interrupts.{due}
 use Rattle.node_core.specs.Midway.{IsActed, IsMidway, IsStep, IsStepped, IsStopping, counted, leaves_board, leaves_i, owing, step_of, turned_on}
 use Rattle.node_core.specs.declared.sprint.Step.{Step}
@@ -33,7 +32,7 @@ use Rattle.node_core.specs.Shown.{shown}
 use Rattle.node_core.specs.State.{NodeState}
 use Rattle.node_core.proofs.Clocks.{executed_clock}
 use Rattle.node_core.proofs.Quiet.{is_enabled, may_access, may_change, quiet}
-use Rattle.instruction_table.proofs.Executes.{plain_awake, takes}
+use Rattle.avr_core.proofs.Executes.{plain_awake, takes}
 use Rattle.node_core.proofs.Stops.{stops_there}
 use Rattle.node_core.proofs.Wakes.{wakes}
 use Rattle.node_core.proofs.Ran.{goes_on, ran, ran_rows}
@@ -43,12 +42,8 @@ use Rattle.node_core.proofs.Strides.{passed_there}
 pub runs_on : (s : NodeState) (o : Op) → is_sleep o ≡ false → is_refused s o ≡ false
 runs_on s o e = ap (λ (b : Bool). b && is_other (sleep_mode s.bus.board)) e
 
-and_false : (b c : Bool) → c ≡ false → (b && c) ≡ false
-and_false true c e = e
-and_false false c e = refl
-
--- behind the window, of an instruction that does not sleep
-module _ (t : ℕ) (m : Machine) (o : Op) (fetched : o ≡ op_now (shown m)) (runs : is_refused (shown m) o ≡ false) (now : m.bus.board.clock ≡ t) (behind : m.to ≤ t)
+-- of an instruction that is not told and does not sleep
+module _ (t : ℕ) (m : Machine) (o : Op) (fetched : o ≡ op_now (shown m)) (runs : is_refused (shown m) o ≡ false) (now : m.bus.board.clock ≡ t) (untold : is_told m.from m.to t ≡ false)
     (a : Outcome NodeBus) (flash : List ℕ) (kept : flash ≡ m.program.bytes) (done : a ≡ executed flash o m.cpu m.bus) (d : Done) (ok : a.result ≡ Ok d) where
   abbrev s : NodeState
   s = shown m
@@ -68,9 +63,8 @@ module _ (t : ℕ) (m : Machine) (o : Op) (fetched : o ≡ op_now (shown m)) (ru
 
   pub stepped_rows : instructed_rows t (shown m) ≡ []
   stepped_rows =
-      let window : (nat_le m.from t && nat_lt t m.to) ≡ false = and_false _ _ (let b : nat_lt t m.to ≡ false = grind (arith, nat_tests) in b) in
       sym (ran_rows t m o fetched runs now a flash kept done [] (Ok d) ok)
-      ∙ ap (λ (b : Bool). cond b (row t s (kind.Instr s.cpu.pc (first_word s) (second_word s))) []) window
+      ∙ ap (λ (b : Bool). cond b (row t s (kind.Instr s.cpu.pc (first_word s) (second_word s))) []) untold
 
   pub gone : (b : Bool) → b ≡ owes o m.cpu.sreg.bits a.cpu.sreg.bits → d.sleep ≡ false → 1 ≤ d.cycles → m.asleep ≡ false → m.stop ≡ None → m.wait ≡ 0
       → IsStepped t d.cycles m (let x : Machine = record m { cpu = a.cpu; bus = a.bus; owed = b; count = m.count + 1 } in x)
@@ -82,24 +76,25 @@ module _ (t : ℕ) (m : Machine) (o : Op) (fetched : o ≡ op_now (shown m)) (ru
     going = going;
     awake = awake;
     free = free;
-    to = refl;
+    opens = refl;
+    closes = refl;
     script = refl;
     count = refl;
     clock = ap (λ (x : Outcome NodeBus). x.bus.board.clock) done ∙ executed_clock flash o m.cpu m.bus;
   }
 
--- ---- a plain instruction behind the window
+-- ---- a plain instruction that is not told
 module _ (t : ℕ) (m : Machine) (o : Op) (fetched : o ≡ op_now (shown m)) (plain : is_plain o ≡ true) (may : MayAct t m)
     (a : Outcome NodeBus) (flash : List ℕ) (kept : flash ≡ m.program.bytes) (done : a ≡ executed flash o m.cpu m.bus) where
   runs : is_refused (shown m) o ≡ false
   runs = runs_on (shown m) o (plain_awake o plain)
 
   -- owing what is owed behind it
-  pub plain_goes : (b : Bool) → b ≡ owes o m.cpu.sreg.bits a.cpu.sreg.bits → (d : Done) → a.result ≡ Ok d → m.to ≤ t
+  pub plain_goes : (b : Bool) → b ≡ owes o m.cpu.sreg.bits a.cpu.sreg.bits → (d : Done) → a.result ≡ Ok d → is_told m.from m.to t ≡ false
       → IsStepped t d.cycles m (let x : Machine = record m { cpu = a.cpu; bus = a.bus; owed = b; count = m.count + 1 } in x)
-  plain_goes b owed d ok behind =
+  plain_goes b owed d ok untold =
       let some : IfOk {E = StopCause} (Ok d) (λ (e : Done). 1 ≤ e.cycles) = subst (λ (r : Result Done StopCause). IfOk r (λ (e : Done). 1 ≤ e.cycles)) ok (takes bus_get bus_put a flash o m.cpu m.bus done) in
-      gone t m o fetched runs may.now behind a flash kept done d ok b owed
+      gone t m o fetched runs may.now untold a flash kept done d ok b owed
       (wakes a flash o m.cpu m.bus d done ok (plain_awake o plain)) some may.awake may.going may.free
 
   -- by what it leaves
@@ -125,8 +120,8 @@ module _ (t : ℕ) (m : Machine) (o : Op) (fetched : o ≡ op_now (shown m)) (pl
     clock = ap (λ (x : Outcome NodeBus). x.bus.board.clock) done ∙ executed_clock flash o m.cpu m.bus;
   }
 
--- ---- an instruction behind the window as a step of a sprint
-module _ (t : ℕ) (m : Machine) (o : Op) (fetched : o ≡ op_now (shown m)) (may : MayAct t m) (behind : m.to ≤ t)
+-- ---- an instruction that is not told as a step of a sprint
+module _ (t : ℕ) (m : Machine) (o : Op) (fetched : o ≡ op_now (shown m)) (may : MayAct t m) (untold : is_told m.from m.to t ≡ false)
     (to : Cpu) (there : NodeBus) (flash : List ℕ) (kept : flash ≡ m.program.bytes) where
   abbrev reached : ℕ → Machine
   reached count = record m { cpu = to; bus = there; count = count }
@@ -139,7 +134,7 @@ module _ (t : ℕ) (m : Machine) (o : Op) (fetched : o ≡ op_now (shown m)) (ma
     a = record { result = Ok d; cpu = to; bus = there }
 
     goes : (b : Bool) → b ≡ owes o m.cpu.sreg.bits to.sreg.bits → IsStepped t d.cycles m (owing b (reached (m.count + 1)))
-    goes b owed = plain_goes t m o fetched plain may a flash kept some b owed d refl behind
+    goes b owed = plain_goes t m o fetched plain may a flash kept some b owed d refl untold
 
     by_after : (k : After) → k ≡ after_at o m.cpu → IsStep t (step_of k (Some (Ok d))) m (reached (m.count + 1))
     by_after after.Single e =

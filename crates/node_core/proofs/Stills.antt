@@ -3,7 +3,7 @@ use Rattle.std.proofs.Common.{◌≡◌, ℕ, ◌+◌, ◌-◌, ◌%◌, ◌/◌
 use Rattle.std.proofs.lemmas.Bool.{false≢true}
 use Rattle.std.specs.Prelude.{if◌then◌else◌, slice_index}
 use Rattle.avr_base.specs.declared.stop.StopCause.{StopCause}
-use Rattle.arith_step.specs.Table.{arith_cpu, arith_done}
+use Rattle.avr_core.specs.ArithTable.{arith_cpu, arith_done}
 use Rattle.avr_decoder.specs.Class.{class_of}
 use Rattle.avr_decoder.specs.declared.op.Class.TheVariants as class
 use Rattle.avr_decoder.specs.declared.op.Op.{Op}
@@ -12,11 +12,11 @@ use Rattle.board_io.specs.declared.board.Board.{Board}
 use Rattle.board_io.specs.Board.{clock_at}
 use Rattle.board_io.specs.Lagging.{ReadsStill}
 use Rattle.board_io.proofs.Leaps.{leap_zero}
-use Rattle.bus_step.specs.FlowShapes.{at_pc, bit_is, branched, ends, relative, skipped, skips_by_io}
-use Rattle.bus_step.specs.FlowTable.{flow_effect}
-use Rattle.bus_step.specs.MemoryShapes.{loads}
-use Rattle.bus_step.specs.MemoryShapes as memory
-use Rattle.bus_step.specs.MemoryTable.{memory_effect}
+use Rattle.avr_core.specs.FlowShapes.{at_pc, bit_is, branched, ends, relative, skipped, skips_by_io}
+use Rattle.avr_core.specs.FlowTable.{flow_effect}
+use Rattle.avr_core.specs.MemoryShapes.{loads}
+use Rattle.avr_core.specs.MemoryShapes as memory
+use Rattle.avr_core.specs.MemoryTable.{memory_effect}
 use Rattle.data_space.specs.declared.bus.Done.{Done}
 use Rattle.data_space.specs.declared.cpu.Cpu.{Cpu}
 use Rattle.data_space.specs.Core.{advanced, with_reg}
@@ -26,7 +26,7 @@ use Rattle.node_core.specs.declared.bus.NodeBus.{NodeBus}
 use Rattle.node_core.specs.Bus.{board_got, bus_get, with_board}
 use Rattle.node_core.specs.Execute.{executed}
 use Rattle.node_core.specs.Leaps.{IsLoad, IsStill, LoadsStill, bus_later, is_steering}
-use Rattle.instruction_table.proofs.Executes.{arith_awake, is_arith}
+use Rattle.avr_core.proofs.Executes.{arith_awake, is_arith}
 use Rattle.node_core.proofs.Ran.{by_class}
 use Rattle.node_core.proofs.Wakes.{wakes}
 

@@ -6,11 +6,11 @@ use Rattle.avr_decoder.specs.Class.{class_of}
 use Rattle.avr_decoder.specs.declared.op.Class.{Class}
 use Rattle.avr_decoder.specs.declared.op.Class.TheVariants as class
 use Rattle.avr_decoder.specs.declared.op.Op.{Op}
-use Rattle.bus_step.proofs.Stops.{flow_stops, memory_stops}
+use Rattle.avr_core.proofs.Stops.{flow_stops, memory_stops}
 use Rattle.data_space.specs.declared.bus.Done.{Done}
 use Rattle.data_space.specs.declared.cpu.Cpu.{Cpu}
 use Rattle.data_space.proofs.Stops.{Stops}
-use Rattle.instruction_table.specs.Execute.{executed_over, executed_over_by}
+use Rattle.avr_core.specs.Execute.{executed_over, executed_over_by}
 
 module _ {B : Type 0} (get : B → ℕ → Result (ℕ × B) StopCause) (put : B → ℕ → ℕ → Result B StopCause) where
   stops_by : (k : Class) (flash : List ℕ) (o : Op) (cpu : Cpu) (bus : B) → Stops cpu.pc (executed_over_by get put k flash o cpu bus)

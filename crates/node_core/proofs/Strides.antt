@@ -6,8 +6,8 @@ use Rattle.board_io.proofs.Lags.{leap_add}
 use Rattle.board_io.proofs.Leaps.{leap_quiet}
 use Rattle.node_core.specs.declared.row.Row.{Row}
 use Rattle.serial_ports.specs.Script.{script_byte}
-use Rattle.world_core.specs.NodeRun.{Comes, Timed, passed_rows}
-use Rattle.world_core.proofs.QuietCycles.{comes_step}
+use Rattle.air_base.specs.NodeRun.{Comes, Timed, passed_rows}
+use Rattle.air_base.proofs.QuietCycles.{comes_step}
 use Rattle.board_io.specs.declared.cycle.OnAir.{OnAir}
 use Rattle.board_io.specs.declared.cycle.OnAir.TheVariants.{Quiet, Sent, Asks}
 use Rattle.node_core.specs.Bus.{with_board}

@@ -7,7 +7,7 @@ use Rattle.node_core.specs.Cycle.{air_after, asks_in, begun_in, begun_rows, devi
 use Rattle.node_core.specs.Midway.{IsMidway, IsRested}
 use Rattle.node_core.specs.Shown.{shown}
 use Rattle.node_core.specs.State.{NodeState}
-use Rattle.world_core.specs.NodeRun.{Comes, Timed}
+use Rattle.air_base.specs.NodeRun.{Comes, Timed}
 use Rattle.node_core.proofs.Runs.{rested_comes}
 use Rattle.node_core.proofs.Strides.{IsOnAir, ended, ended_air, ended_rows, joined}
 

@@ -11,11 +11,11 @@ use Rattle.board_io.specs.Registers.{io_get, io_put}
 use Rattle.data_space.specs.declared.cpu.Cpu.{Cpu}
 use Rattle.data_space.specs.Sequence.{pushed_word}
 use Rattle.data_space.proofs.Keeps.{Got, Keeps, Put, then_kept, word_pushed}
-use Rattle.bus_step.proofs.FlowKeeps.{flow_keeps}
-use Rattle.bus_step.proofs.MemoryKeeps.{memory_keeps}
+use Rattle.avr_core.proofs.FlowKeeps.{flow_keeps}
+use Rattle.avr_core.proofs.MemoryKeeps.{memory_keeps}
 use Rattle.node_core.specs.declared.bus.NodeBus.{NodeBus}
 use Rattle.node_core.specs.Bus.{board_got, board_put, bus_get, bus_put}
-use Rattle.instruction_table.specs.Execute.{executed_over}
+use Rattle.avr_core.specs.Execute.{executed_over}
 use Rattle.node_core.specs.Execute.{executed, executed_by}
 use Rattle.node_core.specs.Interrupts.{entry}
 

@@ -14,13 +14,13 @@ use Rattle.data_space.specs.declared.cpu.Cpu.{Cpu}
 use Rattle.data_space.specs.Core.{pair_at, with_pair}
 use Rattle.data_space.specs.Space.{Access, loaded, popped, pushed, stored, unless_stopped}
 use Rattle.data_space.specs.Sequence.{Outcome, popped_word, then_do}
-use Rattle.bus_step.specs.FlowShapes.{bit_is, branched, calls, pushes_return, relative, returns, returns_enabling, skips_by_io}
-use Rattle.bus_step.specs.FlowTable.{flow_effect}
-use Rattle.bus_step.specs.MemoryShapes.{decremented, displaced, loads, loads_post_increment, loads_pre_decrement, stores, stores_post_increment, stores_pre_decrement, pushes, pops, sets_bit}
-use Rattle.bus_step.specs.MemoryTable.{memory_effect, x, y, z}
+use Rattle.avr_core.specs.FlowShapes.{bit_is, branched, calls, pushes_return, relative, returns, returns_enabling, skips_by_io}
+use Rattle.avr_core.specs.FlowTable.{flow_effect}
+use Rattle.avr_core.specs.MemoryShapes.{decremented, displaced, loads, loads_post_increment, loads_pre_decrement, stores, stores_post_increment, stores_pre_decrement, pushes, pops, sets_bit}
+use Rattle.avr_core.specs.MemoryTable.{memory_effect, x, y, z}
 use Rattle.node_core.specs.declared.bus.NodeBus.{NodeBus}
 use Rattle.node_core.specs.Bus.{bus_get, bus_put}
-use Rattle.instruction_table.specs.Execute.{is_sleep, executed_over}
+use Rattle.avr_core.specs.Execute.{is_sleep, executed_over}
 use Rattle.node_core.specs.Execute.{executed, executed_by}
 
 abbrev Wakes : {B : Type 0} → Outcome B → Type 0

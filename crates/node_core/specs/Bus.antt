@@ -25,7 +25,6 @@ abbrev pub board_put : NodeBus → Result Board StopCause → Result NodeBus Sto
 board_put bus (Ok board) = Ok (with_board bus board)
 board_put bus (Err cause) = Err cause
 
-
 -- a load
 unfoldable pub bus_get : NodeBus → ℕ → Result (ℕ × NodeBus) StopCause
 bus_get bus at =

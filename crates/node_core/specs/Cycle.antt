@@ -26,12 +26,12 @@ use Rattle.node_core.specs.declared.row.Kind.{Kind as RowKind}
 use Rattle.node_core.specs.declared.row.Kind.TheVariants as kind
 use Rattle.node_core.specs.declared.row.NodeEnd.{NodeEnd}
 use Rattle.node_core.specs.declared.row.NodeEnd.TheVariants as end
-use Rattle.world_core.specs.declared.air.Heard.{Heard}
-use Rattle.world_core.specs.NodeKind.{NodeKind}
+use Rattle.air_base.specs.declared.air.Heard.{Heard}
+use Rattle.air_base.specs.NodeKind.{NodeKind}
 use Rattle.node_core.specs.declared.bus.NodeBus.{NodeBus}
 use Rattle.node_core.specs.Bus.{bus_at, with_board}
 use Rattle.node_core.specs.State.{NodeState}
-use Rattle.instruction_table.specs.Execute.{is_sleep}
+use Rattle.avr_core.specs.Execute.{is_sleep}
 use Rattle.node_core.specs.Execute.{executed}
 use Rattle.node_core.specs.Interrupts.{due, entry}
 use Rattle.serial_ports.specs.Script.{script_byte}

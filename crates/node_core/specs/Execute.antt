@@ -4,7 +4,7 @@ use Rattle.avr_decoder.specs.declared.op.Op.{Op}
 use Rattle.avr_decoder.specs.declared.op.Class.{Class}
 use Rattle.data_space.specs.declared.cpu.Cpu.{Cpu}
 use Rattle.data_space.specs.Sequence.{Outcome}
-use Rattle.instruction_table.specs.Execute.{executed_over, executed_over_by}
+use Rattle.avr_core.specs.Execute.{executed_over, executed_over_by}
 use Rattle.node_core.specs.declared.bus.NodeBus.{NodeBus}
 use Rattle.node_core.specs.Bus.{bus_get, bus_put}
 

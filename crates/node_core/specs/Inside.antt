@@ -1,7 +1,7 @@
 -- What holds of the inside of a node between two calls: an instruction takes at least a cycle, so its count cannot
 -- wrap; the clock of its board shows the next cycle of the devices; in the middle of a sample there is room for the row
 -- of what is heard, and the transfer that samples runs.
-use Rattle.std.specs.Prelude.{◌≡◌, ℕ, ◌+◌, ◌^◌, ◌≤◌, ◌<◌, Bool, true, false, None, is_some, if◌then◌else◌, vec_len, vec_capacity}
+use Rattle.std.specs.Prelude.{◌≡◌, ℕ, ◌+◌, ◌^◌, ◌≤◌, ◌<◌, ◌&&◌, nat_le, nat_lt, Bool, true, false, None, is_some, if◌then◌else◌, vec_len, vec_capacity}
 use Rattle.node_core.specs.declared.machine.Machine.{Machine}
 use Rattle.node_core.specs.Bus.{with_board}
 use Rattle.node_core.specs.State.{NodeState}
@@ -25,6 +25,10 @@ pub record MayAct (t : ℕ) (m : Machine) : Type 0 where
   pub few : m.count ≤ 2 ^ 40 + t
   pub early : t ≤ 2 ^ 40
   pub room : vec_len m.rows < vec_capacity m.rows
+
+-- whether an instruction that begins in cycle t has a row, by the window from `from` on and below `to`
+abbrev pub is_told : ℕ → ℕ → ℕ → Bool
+is_told from to t = nat_le from t && nat_lt t to
 
 -- n cycles from cycle t on in which the devices end nothing and no byte arrives, as far as the ends that stand now tell
 pub record IsCalm (t n : ℕ) (s : NodeState) : Type 0 where

@@ -17,7 +17,7 @@ use Rattle.node_core.specs.declared.countdowns.Lowering.{Lowering}
 use Rattle.node_core.specs.declared.leaps.Round.{Round}
 use Rattle.node_core.specs.declared.machine.Machine.{Machine}
 use Rattle.node_core.specs.Bus.{bus_get, with_board}
-use Rattle.instruction_table.specs.Execute.{is_sleep}
+use Rattle.avr_core.specs.Execute.{is_sleep}
 use Rattle.node_core.specs.Cycle.{op_now, owes}
 use Rattle.node_core.specs.Execute.{executed}
 use Rattle.node_core.specs.Shown.{shown}

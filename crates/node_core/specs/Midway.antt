@@ -4,13 +4,13 @@ use Rattle.std.specs.Prelude.{◌≡◌, ◌<◌, ◌≤◌, ◌+◌, ◌-◌, �
 use Rattle.avr_base.specs.declared.stop.StopCause.{StopCause}
 use Rattle.node_core.specs.declared.row.Row.{Row}
 use Rattle.node_core.specs.declared.row.Kind.TheVariants as kind
-use Rattle.world_core.specs.NodeRun.{AllQuiet, Timed, Comes, passed, passed_rows}
+use Rattle.air_base.specs.NodeRun.{AllQuiet, Timed, Comes, passed, passed_rows}
 use Rattle.data_space.specs.declared.bus.Done.{Done}
 use Rattle.data_space.specs.declared.cpu.Core.{Core}
 use Rattle.data_space.specs.declared.cpu.Registers.{Registers}
 use Rattle.data_space.specs.Core.{whole}
-use Rattle.instruction_table.specs.declared.instructions.After.{After}
-use Rattle.instruction_table.specs.declared.instructions.After.TheVariants as after
+use Rattle.avr_core.specs.declared.instructions.After.{After}
+use Rattle.avr_core.specs.declared.instructions.After.TheVariants as after
 use Rattle.node_core.specs.declared.machine.Machine.{Machine}
 use Rattle.node_core.specs.declared.sprint.Step.{Step}
 use Rattle.node_core.specs.declared.sprint.Step.TheVariants.{Single, Plain, Jumped, Loaded, Stored, Enabled, Stopped, Left}
@@ -60,7 +60,8 @@ pub record IsStepped (t n : ℕ) (old new : Machine) : Type 0 where
   pub going : new.stop ≡ None
   pub awake : new.asleep ≡ false
   pub free : new.wait ≡ 0
-  pub to : new.to ≡ old.to
+  pub opens : new.from ≡ old.from
+  pub closes : new.to ≡ old.to
   pub script : new.script ≡ old.script
   pub count : new.count ≡ old.count + 1
   pub clock : new.bus.board.clock ≡ old.bus.board.clock
@@ -130,15 +131,15 @@ leaves_board (Plain n) = true
 leaves_board (Jumped n) = true
 leaves_board _ = false
 
--- from cycle t on it executed instruction after instruction behind the window, and stands at the beginning of cycle
--- `at`
+-- from cycle t on it executed instruction after instruction, told none, and stands at the beginning of cycle `at`
 pub record IsSprinting (t at : ℕ) (old m : Machine) : Type 0 where
   pub from : t ≤ at
   pub comes : Comes node_kind (record { cycle = t; asking = false; state = shown old; rows = old.rows.items }) at (shown m) m.rows.items
   pub going : m.stop ≡ None
   pub free : m.wait ≡ 0
   pub awake : m.asleep ≡ false
-  pub behind : m.to ≤ at
+  pub opens : m.from ≡ old.from
+  pub closes : m.to ≡ old.to
   pub clock : m.bus.board.clock ≡ at
   pub script : m.script ≡ old.script
   pub count : m.count ≤ 2 ^ 40 + at

@@ -1,6 +1,6 @@
 -- What a run of a node answers, and where the node then stands.
 use Rattle.std.specs.Prelude.{◌≡◌, ℕ, ◌≤◌, ◌<◌, false, is_some}
-use Rattle.world_core.specs.NodeRun.{Timed, Rests, Stops, Sends, Asks}
+use Rattle.air_base.specs.NodeRun.{Timed, Rests, Stops, Sends, Asks}
 use Rattle.node_core.specs.declared.row.Row.{Row}
 use Rattle.node_core.specs.State.{NodeState}
 use Rattle.node_core.specs.Cycle.{node_kind}

@@ -1,12 +1,12 @@
 // The data space of a node beside the core.
 ghost use Rattle.std.specs.Prelude.{◌≡◌, ◌≤◌, true, false, Ok, Err, OnOk, IfOk, OnErr, IfErr};
-ghost use Rattle.instruction_table.specs.Execute.{in_sram};
+ghost use Rattle.avr_core.specs.Execute.{in_sram};
 ghost use Rattle.node_core.specs.Leaps.{LoadsStill};
 
 use avr_base::{NoMemory, StopCause};
+use avr_core::is_in_sram;
 use board_io::LaggingBoard;
 use data_space::{Bus, Sram};
-use instruction_table::is_in_sram;
 use std::alloc::Global;
 
 /// What a node holds beside the core (ATmega128 datasheet, "SRAM Data Memory"): the internal SRAM at data addresses

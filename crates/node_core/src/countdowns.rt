@@ -1,7 +1,7 @@
 // Loops that count a number down and do nothing else, as a delay loop does.
 ghost use Rattle.std.specs.Prelude.{◌≡◌, ◌≤◌, ◌<◌, ◌+◌, ◌*◌, ◌%◌, ◌^◌, ℕ, None, false, true, length, slice_index, IfSome};
 ghost use Rattle.board_io.specs.Lines.{lines_of};
-ghost use Rattle.node_core.specs.Inside.{MayAct};
+ghost use Rattle.node_core.specs.Inside.{MayAct, is_told};
 ghost use Rattle.node_core.specs.Leaps.{IsBeside, IsCountdown, IsLongLowering, IsLowering, counter_at, spared, with_counter};
 ghost use Rattle.node_core.specs.Midway.{IsSprinted};
 ghost use Rattle.serial_ports.specs.Script.{script_byte};
@@ -224,7 +224,7 @@ impl Machine {
     #[inline(never)]
     pub fn count_down(&mut self, cycle: u64, end: u64) -> u64
         requires may { MayAct cycle self.old }
-        requires behind { self.old.to ≤ cycle }
+        requires untold { (i : ℕ) → cycle + i < end → is_told self.old.from self.old.to (cycle + i) ≡ false }
         requires within { cycle ≤ end }
         requires early { end ≤ 2 ^ 40 }
         requires none { (i : ℕ) → cycle + i < end → script_byte self.old.script (cycle + i) ≡ None }

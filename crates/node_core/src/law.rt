@@ -1,6 +1,6 @@
 // What the order of all nodes asks of a node.
 ghost use Rattle.std.specs.Prelude.{◌≡◌};
-ghost use Rattle.world_core.specs.NodeKind.{IsSteady};
+ghost use Rattle.air_base.specs.NodeKind.{IsSteady};
 ghost use Rattle.node_core.specs.State.{NodeState};
 ghost use Rattle.node_core.specs.Cycle.{node_kind};
 

@@ -1,15 +1,15 @@
 // Loops that wait, leapt over in whole rounds up to the next event.
 ghost use Rattle.std.specs.Prelude.{◌≡◌, ◌≤◌, ◌<◌, ◌+◌, ◌^◌, ℕ, None, false, true, IfSome};
 ghost use Rattle.board_io.specs.Lines.{lines_of};
-ghost use Rattle.node_core.specs.Inside.{MayAct};
+ghost use Rattle.node_core.specs.Inside.{MayAct, is_told};
 ghost use Rattle.node_core.specs.Leaps.{IsLoad, IsRound, IsStill, IsStillStep, is_steering};
 ghost use Rattle.node_core.specs.Midway.{IsSprinted};
 ghost use Rattle.serial_ports.specs.Script.{script_byte};
 
 use crate::NodeBus;
-use instruction_table::execute_waiting;
 use crate::machine::Machine;
 use crate::processor::{due, owes};
+use avr_core::execute_waiting;
 use avr_decoder::{Class, Op};
 use data_space::Cpu;
 
@@ -120,7 +120,7 @@ impl Machine {
     #[inline(never)]
     fn poll(&mut self, cycle: u64, end: u64) -> u64
         requires may { MayAct cycle self.old }
-        requires behind { self.old.to ≤ cycle }
+        requires untold { (i : ℕ) → cycle + i < end → is_told self.old.from self.old.to (cycle + i) ≡ false }
         requires within { cycle ≤ end }
         requires early { end ≤ 2 ^ 40 }
         requires none { (i : ℕ) → cycle + i < end → script_byte self.old.script (cycle + i) ≡ None }
@@ -143,7 +143,7 @@ impl Machine {
     #[inline(never)]
     pub fn leap(&mut self, cycle: u64, end: u64) -> u64
         requires may { MayAct cycle self.old }
-        requires behind { self.old.to ≤ cycle }
+        requires untold { (i : ℕ) → cycle + i < end → is_told self.old.from self.old.to (cycle + i) ≡ false }
         requires within { cycle ≤ end }
         requires early { end ≤ 2 ^ 40 }
         requires none { (i : ℕ) → cycle + i < end → script_byte self.old.script (cycle + i) ≡ None }

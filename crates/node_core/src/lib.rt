@@ -19,8 +19,8 @@ mod rows;
 mod sprint;
 mod stride;
 
+pub use avr_core::execute;
 pub use bus::NodeBus;
-pub use instruction_table::execute;
 pub use law::steady_law;
 pub use node::{Node, Reached};
 pub use restore::RestoreFault;

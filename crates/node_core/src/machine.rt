@@ -7,12 +7,12 @@ ghost use Rattle.serial_ports.specs.Script.{script_byte};
 
 use crate::rows::put_row;
 use crate::{Kind, NodeBus, Row};
+use air_base::Heard;
 use avr_base::StopCause;
 use avr_program::Program;
 use board_io::OnAir;
 use data_space::Cpu;
 use serial_ports::Script;
-use world_core::Heard;
 
 /// The rows that a cycle makes at most: the processor's, a frame's, and one of the radio's before and after its sample.
 pub const ROWS_OF_A_CYCLE: usize = 4;

@@ -1,12 +1,13 @@
 // A node.
 ghost use Rattle.std.specs.Prelude.{◌≡◌, ◌<◌, ◌≤◌, ◌+◌, ◌-◌, ◌^◌, [], true, false, IfOk, slice_index};
-ghost use Rattle.world_core.specs.NodeRun.{answered};
+ghost use Rattle.air_base.specs.NodeRun.{answered};
 ghost use Rattle.node_core.specs.State.{reset};
 ghost use Rattle.node_core.specs.Cycle.{node_kind, end_row};
 ghost use Rattle.node_core.specs.Reached.{IsReached};
 
 use crate::machine::{Machine, ROWS_OF_A_CYCLE};
 use crate::{Kind, NodeBus, NodeEnd, Row};
+use air_base::Heard;
 use avr_base::{NoMemory, StopCause};
 use avr_program::Program;
 use board_io::OnAir;
@@ -15,7 +16,6 @@ use serial_ports::Script;
 use std::alloc::Global;
 use std::marker::Model;
 use std::mem;
-use world_core::Heard;
 
 /// Where a run of a node ended.
 #[derive(Clone, Copy)]
@@ -53,7 +53,7 @@ impl Drop for Node {
 }
 
 impl Model for Node {
-    ghost use Rattle.world_core.specs.NodeRun.{Timed};
+    ghost use Rattle.air_base.specs.NodeRun.{Timed};
     ghost use Rattle.node_core.specs.declared.row.Row.{Row};
     ghost use Rattle.node_core.specs.State.{NodeState};
     ghost use Rattle.node_core.specs.Shown.{shown};

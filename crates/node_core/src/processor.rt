@@ -1,6 +1,6 @@
 // The processor's part of a cycle: an instruction, or the entry of an interrupt.
 ghost use Rattle.std.specs.Prelude.{◌≡◌, ◌==◌, ◌<◌, ◌≤◌, ◌+◌, ◌-◌, ◌^◌, ◌%◌, ◌++◌, ◌&&◌, ◌||◌, nat_le, nat_lt, None, Some, true, false, vec_len, vec_capacity};
-ghost use Rattle.instruction_table.specs.Execute.{is_sleep};
+ghost use Rattle.avr_core.specs.Execute.{is_sleep};
 ghost use Rattle.node_core.specs.Cycle.{acted, acted_rows, cpu_cycle, cpu_rows, entered, entered_rows, instructed, instructed_rows, is_idle, is_other, is_refused, is_sei, op_now, owes, row, row_within};
 ghost use Rattle.avr_decoder.specs.Class.{class_of};
 ghost use Rattle.avr_decoder.specs.declared.op.Class.TheVariants as class;
@@ -14,12 +14,12 @@ ghost use Rattle.board_io.specs.Lines.{lines_of};
 ghost use Rattle.ihex_loader.specs.Flash.{word_at};
 ghost use Rattle.avr_base.specs.Lines.{due_of, pending_of};
 
-use instruction_table::execute;
 use crate::interrupts::enter;
 use crate::machine::Machine;
 use crate::rows::{is_within, put_row, tell, tell_instruction, unless_told};
 use crate::{Kind, Row};
 use avr_base::{Sreg, StopCause, Vector};
+use avr_core::execute;
 use avr_decoder::Op;
 use board_io::{LaggingBoard, Sleep};
 use data_space::Done;

@@ -1,6 +1,6 @@
 // The rows of a trace.
+use air_base::Heard;
 use avr_base::StopCause;
-use world_core::Heard;
 
 /// How a node stands when a run is over.
 #[derive(Clone, Copy)]

@@ -1,7 +1,7 @@
 // Instructions of a node, one behind another, while nothing is due.
-ghost use Rattle.std.specs.Prelude.{◌≡◌, ◌≤◌, ◌<◌, ◌+◌, ◌^◌, nat_le, nat_lt, ℕ, None, true};
+ghost use Rattle.std.specs.Prelude.{◌≡◌, ◌≤◌, ◌<◌, ◌+◌, ◌^◌, nat_le, nat_lt, ℕ, None, true, false, IfSome};
 ghost use Rattle.board_io.specs.Lagging.{IsClear};
-ghost use Rattle.node_core.specs.Inside.{MayAct};
+ghost use Rattle.node_core.specs.Inside.{MayAct, is_told};
 ghost use Rattle.node_core.specs.Interrupts.{due};
 ghost use Rattle.node_core.specs.Midway.{IsSprinted, IsSprinting, IsStep, IsStepped, MayEnd, beside, counted, leaves_board, leaves_i, over, owing, step_of};
 ghost use Rattle.node_core.specs.Shown.{shown};
@@ -10,9 +10,9 @@ ghost use Rattle.avr_program.specs.Program.{slots_below};
 ghost use Rattle.serial_ports.specs.Script.{script_byte};
 
 use crate::NodeBus;
-use instruction_table::{After, execute_plain};
 use crate::machine::Machine;
 use avr_base::StopCause;
+use avr_core::{After, execute_plain};
 use avr_program::{Program, Slot};
 use data_space::{Core, Cpu, Done, Registers};
 
@@ -47,6 +47,10 @@ pub enum Step {
 
 // How many short jumps back are passed by at most behind one at which no loop waits.
 const MOST_UNSEEN: u8 = 15;
+
+// How many cycles a leap passes at least that takes less than to execute them: a trial takes as long as some twenty
+// instructions.
+const WORTH: u64 = 32;
 
 // Whether the flag I is on, the highest of SREG.
 #[inline]
@@ -90,7 +94,7 @@ fn told(after: After, executed: Option<Result<Done, StopCause>>, count: &mut u64
     }
 }
 
-// The first cycle of an instruction behind the window, where nothing is due, over what it may change of a machine: the
+// The first cycle of an instruction that is not told, where nothing is due, over what it may change of a machine: the
 // parts of the core, which stand beside it, the data space and the count. Of one that goes on, the effect and the count
 // are written.
 #[inline(always)]
@@ -104,7 +108,7 @@ fn one_step(
 ) -> Step
     requires slots { slots.now ≡ slots_below 65536 program.now.bytes }
     requires few { count.old ≤ 2 ^ 41 }
-    ensures step { (m : Machine) → m.program ≡ program.now → MayAct bus.old.board.clock (over regs.old core.old bus.old count.old m) → m.to ≤ bus.old.board.clock
+    ensures step { (m : Machine) → m.program ≡ program.now → MayAct bus.old.board.clock (over regs.old core.old bus.old count.old m) → is_told m.from m.to bus.old.board.clock ≡ false
         → IsStep bus.old.board.clock result (over regs.old core.old bus.old count.old m) (over regs.new core.new bus.new count.new m) }
     ensures flag { leaves_i result ≡ true → nat_lt core.new.sreg.bits 128 ≡ nat_lt core.old.sreg.bits 128 }
     ensures apart { leaves_board result ≡ true → bus.new.board ≡ bus.old.board }
@@ -157,10 +161,28 @@ impl Machine {
         self.bus.board.now()
     }
 
-    /// Executes instructions from `cycle` on, behind the window and up to `end`, below which no byte arrives, while no
-    /// interrupt line is up and the devices end nothing. It ends before SLEEP and before an instruction that halts the
-    /// node.
-    pub fn sprint(&mut self, cycle: u64, end: u64) -> Sprinted
+    // The last cycle of those from `cycle` on and up to `end` before the window, or of all behind it: an instruction that
+    // begins by then has no row. `None` within the window.
+    #[inline]
+    fn last_untold(&self, cycle: u64, end: u64) -> Option<u64>
+        requires within { cycle ≤ end }
+        ensures within { IfSome result (λ last. last ≤ end) }
+        ensures on { IfSome result (λ last. cycle ≤ last) }
+        ensures untold { IfSome result (λ last. (i : ℕ) → cycle + i ≤ last → is_told self.now.from self.now.to (cycle + i) ≡ false) }
+    {
+        if cycle >= self.to {
+            return Some(end);
+        }
+        if cycle >= self.from {
+            return None;
+        }
+        Some(end.min(self.from - 1))
+    }
+
+    /// Executes instructions from `cycle` on, before the window or behind it and up to `end`, below which no byte arrives,
+    /// while no interrupt line is up and the devices end nothing. It ends before SLEEP and before an instruction that
+    /// halts the node. Where a line is up, it only leaps over a loop that waits, and, by `back`, only behind a jump back.
+    pub fn sprint(&mut self, cycle: u64, end: u64, back: bool) -> Sprinted
         requires may { MayAct cycle self.old }
         requires within { cycle ≤ end }
         requires early { end ≤ 2 ^ 40 }
@@ -168,7 +190,34 @@ impl Machine {
         ensures sprinted { IsSprinted cycle result.at result.inside self.old self.new }
         ensures within { result.at ≤ end }
     {
-        if cycle < self.to || self.owed || self.bus.board.lines().bits != 0 {
+        let Some(last) = self.last_untold(cycle, end) else {
+            return Sprinted {
+                at: cycle,
+                inside: false,
+            };
+        };
+        if back && self.bus.board.lines().bits != 0 {
+            let passed = self.leap(cycle, last);
+            return Sprinted {
+                at: cycle + passed,
+                inside: false,
+            };
+        }
+        // it executes the instruction that begins at its end, too
+        self.sprint_untold(cycle, last)
+    }
+
+    // The same where none of the instructions that begin by `end` has a row.
+    fn sprint_untold(&mut self, cycle: u64, end: u64) -> Sprinted
+        requires may { MayAct cycle self.old }
+        requires within { cycle ≤ end }
+        requires early { end ≤ 2 ^ 40 }
+        requires none { (i : ℕ) → cycle + i < end → script_byte self.old.script (cycle + i) ≡ None }
+        requires untold { (i : ℕ) → cycle + i ≤ end → is_told self.old.from self.old.to (cycle + i) ≡ false }
+        ensures sprinted { IsSprinted cycle result.at result.inside self.old self.new }
+        ensures within { result.at ≤ end }
+    {
+        if self.owed || self.bus.board.lines().bits != 0 {
             return Sprinted {
                 at: cycle,
                 inside: false,
@@ -179,7 +228,7 @@ impl Machine {
         // SREG behind the last instruction that may have changed the flag I
         let mut flags = core.sreg.bits;
         // How many short jumps back are still to be passed by, and how many were behind the last: twice as many each time
-        // that the loop there does not wait, since a program that computes has many of them.
+        // that no leap was worth its trial, since a program that computes has many of them.
         let mut unseen = 0;
         let mut passed_by: u8 = 1;
         // Up to this count of instructions one is owed before an interrupt, which shows once the sprint ends.
@@ -259,7 +308,7 @@ impl Machine {
                 }
             }
             let at = self.gather(&regs, core, owed_to);
-            if self.leap(at, end) == 0 {
+            if self.leap(at, end) < WORTH {
                 passed_by = passed_by
                     .saturating_mul(2)
                     .saturating_add(1)

@@ -12,12 +12,12 @@ use Rattle.data_space.specs.Core.{advanced, pair_at, with_pair, with_reg}
 use Rattle.data_space.specs.Space.{Access, answered, answers, loaded, lowered, popped, pushed, stored, taken, takes, unless_stopped}
 use Rattle.data_space.specs.Sequence.{done, popped_word, pushed_word, then_do}
 use Rattle.ihex_loader.specs.Flash.{byte_at, word_at}
-use Rattle.bus_step.specs.FlowShapes.{bit_is, branched, calls, jumped, pushes_return, relative, returns, returns_enabling, skipped, skipping, skips_by_io}
-use Rattle.bus_step.specs.FlowShapes as flow
-use Rattle.bus_step.specs.FlowTable.{flow_effect}
-use Rattle.bus_step.specs.MemoryShapes.{decremented, displaced, extended_z, loads, loads_extended, loads_extended_post_increment, loads_post_increment, loads_pre_decrement, loads_program, loads_program_post_increment, pops, pushes, sets_bit, stores, stores_post_increment, stores_pre_decrement, with_extended_z}
-use Rattle.bus_step.specs.MemoryShapes as memory
-use Rattle.bus_step.specs.MemoryTable.{memory_effect, x, y, z}
+use Rattle.avr_core.specs.FlowShapes.{bit_is, branched, calls, jumped, pushes_return, relative, returns, returns_enabling, skipped, skipping, skips_by_io}
+use Rattle.avr_core.specs.FlowShapes as flow
+use Rattle.avr_core.specs.FlowTable.{flow_effect}
+use Rattle.avr_core.specs.MemoryShapes.{decremented, displaced, extended_z, loads, loads_extended, loads_extended_post_increment, loads_post_increment, loads_pre_decrement, loads_program, loads_program_post_increment, pops, pushes, sets_bit, stores, stores_post_increment, stores_pre_decrement, with_extended_z}
+use Rattle.avr_core.specs.MemoryShapes as memory
+use Rattle.avr_core.specs.MemoryTable.{memory_effect, x, y, z}
 use Rattle.node_laws.specs.Node.{AreBytes, CoreWithin}
 use Rattle.node_laws.proofs.Cores.{OpWithin, advanced_in, flag_in, pair_in, pair_most, pc_in, rampz_in, reg_in, sp_in, sreg_in}
 

@@ -54,7 +54,7 @@ use Rattle.serial_ports.specs.declared.spi_registers.SpiReg.TheVariants as spire
 use Rattle.serial_ports.specs.SpiRegisters as spi_registers
 use Rattle.serial_ports.specs.declared.spi.Spi.{Spi}
 use Rattle.serial_ports.specs.declared.usart.Usart.{Usart}
-use Rattle.world_core.specs.declared.air.Heard.{Heard}
+use Rattle.air_base.specs.declared.air.Heard.{Heard}
 use Rattle.device_laws.specs.States.{IsBoard, IsUsart}
 use Rattle.device_laws.proofs.Timers.{kept_if}
 use Rattle.node_laws.specs.Within.{BoardWithin, ByteWithin, HeardWithin, InboxWithin, RadioWithin, ReadWithin, SpiWithin, Timer16Within, Timer8Within, UsartWithin, WrittenWithin}

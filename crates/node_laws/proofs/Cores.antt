@@ -12,8 +12,8 @@ use Rattle.avr_base.proofs.Bits.{flag_off, flag_on}
 use Rattle.avr_decoder.specs.declared.op.Op.{Op}
 use Rattle.avr_decoder.specs.declared.op.Op.TheVariants as op
 use Rattle.arith_step.specs.Bytes.{added, complemented, decremented, incremented, logical, shifted, subtracted}
-use Rattle.arith_step.specs.Shapes.{adds, becomes_bits, carry, compares, compares_with_carry, loads_bit, multiplies, sets_flag, subtracts, subtracts_with_carry, swaps, to_pair, to_reg}
-use Rattle.arith_step.specs.Table.{arith_cpu, arith_cycles, effect}
+use Rattle.avr_core.specs.ArithShapes.{adds, becomes_bits, carry, compares, compares_with_carry, loads_bit, multiplies, sets_flag, subtracts, subtracts_with_carry, swaps, to_pair, to_reg}
+use Rattle.avr_core.specs.ArithTable.{arith_cpu, arith_cycles, effect}
 use Rattle.arith_step.specs.Whole.{one_if, with_carries, with_sign}
 use Rattle.arith_step.specs.Words.{added_word, first_factor, is_fractional, multiplied, product, second_factor, subtracted_word}
 use Rattle.arith_step.specs.declared.products.MulKind.{MulKind}

@@ -17,8 +17,8 @@ use Rattle.node_core.specs.State.{NodeState}
 use Rattle.node_core.specs.declared.bus.NodeBus.{NodeBus}
 use Rattle.node_core.proofs.Radio.{gap_begun, gap_finished}
 use Rattle.serial_ports.specs.Script.{ScriptBytes}
-use Rattle.world_core.specs.NodeKind.{ticked}
-use Rattle.world_core.specs.declared.air.Heard.{Heard}
+use Rattle.air_base.specs.NodeKind.{ticked}
+use Rattle.air_base.specs.declared.air.Heard.{Heard}
 
 pub record Given : Type 0 where
   pub number : ℕ

@@ -8,5 +8,6 @@ pub mod Nodes
 pub mod Fits
 pub mod Widths
 pub mod Fixed
+pub mod Images
 pub mod Worlds
 pub mod Restores

@@ -30,7 +30,7 @@ use Rattle.device_laws.proofs.Timers.{kept_if}
 use Rattle.ihex_loader.specs.Flash.{word_at}
 use Rattle.node_core.specs.Bus.{board_got, board_put, bus_at, bus_get, bus_put, with_board}
 use Rattle.node_core.specs.Cycle.{acted, after_entry, after_instruction, asks_after, asks_in, begun_in, cpu_cycle, devices_cycle, entered, first_word, finished_in, instructed, is_refused, node_kind, op_now, second_word, sends_after, sends_in}
-use Rattle.instruction_table.specs.Execute.{executed_over}
+use Rattle.avr_core.specs.Execute.{executed_over}
 use Rattle.node_core.specs.Execute.{executed, executed_by}
 use Rattle.node_core.specs.Interrupts.{due, entry, vectored}
 use Rattle.node_core.specs.State.{NodeState, reset}
@@ -39,8 +39,8 @@ use Rattle.serial_ports.specs.Script.{ScriptBytes, script_byte}
 use Rattle.serial_ports.specs.declared.radio.TransferOutcome.{TransferOutcome}
 use Rattle.serial_ports.specs.declared.radio.TransferOutcome.TheVariants.{Answer, Send, Ask}
 use Rattle.serial_ports.specs.declared.radio.Radio.{Radio}
-use Rattle.world_core.specs.NodeKind.{ticked}
-use Rattle.world_core.specs.declared.air.Heard.{Heard}
+use Rattle.air_base.specs.NodeKind.{ticked}
+use Rattle.air_base.specs.declared.air.Heard.{Heard}
 use Rattle.node_laws.specs.Within.{BoardWithin, ByteWithin, HeardWithin, ReadWithin, WrittenWithin}
 use Rattle.node_laws.specs.Node.{AreBytes, BusWithin, CoreWithin, NodeWithin}
 use Rattle.node_laws.proofs.Boards.{board_from, cycle_within, entered_within, read_within, reset_within, sends_within, set_clock, write_within}

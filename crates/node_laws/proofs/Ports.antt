@@ -24,7 +24,7 @@ use Rattle.serial_ports.specs.declared.radio.Radio.{Radio}
 use Rattle.serial_ports.specs.declared.radio.RadioState.{RadioState}
 use Rattle.serial_ports.specs.declared.radio.RadioState.TheVariants.{Idle, ToSend, ToSample, Status, Byte, Age}
 use Rattle.serial_ports.specs.Radio.{in_state, radio_answered, radio_transfer, selected_transfer}
-use Rattle.world_core.specs.declared.air.Heard.{Heard}
+use Rattle.air_base.specs.declared.air.Heard.{Heard}
 use Rattle.device_laws.proofs.Timers.{kept_if, same_ok}
 use Rattle.node_laws.specs.Within.{ByteWithin, HeardWithin, InboxWithin, RadioWithin, ShiftWithin, SpiWithin, StateWithin, UsartWithin}
 

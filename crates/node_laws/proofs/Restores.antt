@@ -22,7 +22,8 @@ use Rattle.node_runner.specs.Scenario.{IsRestoredIn, IsScenario, ScenarioOf, fle
 use Rattle.world_core.specs.Order.{node_at}
 use Rattle.node_laws.specs.Within.{BoardWithin}
 use Rattle.node_laws.specs.Node.{AreBytes, NodeWithin}
-use Rattle.node_laws.specs.Scenario.{AreImages, IsSaved}
+use Rattle.node_laws.specs.Scenario.{IsSaved}
+use Rattle.node_laws.proofs.Images.{AreImages}
 use Rattle.node_laws.proofs.Boards.{kept_byte}
 use Rattle.node_laws.proofs.Fixed.{Fixed, fixed}
 use Rattle.node_laws.proofs.Fits.{none_outside_of}

@@ -10,16 +10,16 @@ use Rattle.node_core.specs.Cycle.{node_kind}
 use Rattle.node_core.specs.State.{NodeState}
 use Rattle.node_core.specs.declared.row.Row.{Row}
 use Rattle.node_runner.specs.Scenario.{IsScenario, ScenarioOf, fleet_of, image_at, script_at}
-use Rattle.world_core.specs.Each.{each_below}
+use Rattle.air_base.specs.Each.{each_below}
 use Rattle.world_core.specs.Heard.{age_of, heard, heard_from, is_audible, or_of}
 use Rattle.world_core.specs.Order.{Fleet, Moment, hears, node_at, send_of, stepped, world_after}
 use Rattle.world_core.specs.Topology.{Topology}
-use Rattle.world_core.specs.declared.air.Heard.{Heard}
-use Rattle.world_core.specs.declared.air.Send.{Send}
-use Rattle.world_core.proofs.Each.{All_each}
+use Rattle.air_base.specs.declared.air.Heard.{Heard}
+use Rattle.air_base.specs.declared.air.Send.{Send}
+use Rattle.air_base.proofs.Each.{All_each}
 use Rattle.node_laws.specs.Within.{ByteWithin, HeardWithin}
 use Rattle.node_laws.specs.Node.{AreBytes, NodeWithin}
-use Rattle.node_laws.specs.Scenario.{AreImages}
+use Rattle.node_laws.proofs.Images.{AreImages}
 use Rattle.node_laws.proofs.Nodes.{node_reset_within, node_sends_within, ticked_within}
 use Rattle.node_laws.proofs.Fixed.{fixed, fixed_ticked}
 

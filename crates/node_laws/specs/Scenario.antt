@@ -1,15 +1,10 @@
 -- What is saved of a node of a run, and that it is accepted again as that node.
 use Rattle.std.specs.Prelude.{◌≡◌, ℕ, ◌^◌, ◌<◌, None, List, length, slice_index}
-use Rattle.std.specs.List.{All}
 use Rattle.board_io.specs.Kept.{first_refused, io_of}
 use Rattle.node_core.specs.Numbers.{first_outside, numbers_of}
 use Rattle.node_core.specs.State.{NodeState}
 use Rattle.node_runner.specs.Scenario.{IsRestoredIn, ScenarioOf}
 use Rattle.node_laws.specs.Node.{AreBytes}
-
--- program memories have bytes, as their type in the code says
-abbrev pub AreImages : ScenarioOf → Type 0
-AreImages sc = All (λ image. AreBytes image.bytes) sc.images
 
 -- bytes, so many of them
 pub record HasBytes (count : ℕ) (xs : List ℕ) : Type 0 where

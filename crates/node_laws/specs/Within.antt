@@ -16,7 +16,7 @@ use Rattle.serial_ports.specs.declared.radio.RadioState.{RadioState}
 use Rattle.serial_ports.specs.declared.radio.RadioState.TheVariants.{Idle, ToSend, ToSample, Status, Byte, Age}
 use Rattle.serial_ports.specs.declared.spi.Spi.{Spi}
 use Rattle.serial_ports.specs.declared.usart.Usart.{Usart}
-use Rattle.world_core.specs.declared.air.Heard.{Heard}
+use Rattle.air_base.specs.declared.air.Heard.{Heard}
 
 pub record Timer8Within (tm : Timer8) : Type 0 where
   pub count : tm.count ≤ 255

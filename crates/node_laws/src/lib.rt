@@ -13,13 +13,14 @@ ghost use Rattle.device_laws.specs.States.{IsBoard};
 ghost use Rattle.node_core.specs.Cycle.{node_kind, sends_in};
 ghost use Rattle.node_core.specs.State.{NodeState, reset};
 ghost use Rattle.node_laws.specs.Node.{AreBytes, NodeWithin};
-ghost use Rattle.node_laws.specs.Scenario.{AreImages, IsSaved};
+ghost use Rattle.node_laws.specs.Scenario.{IsSaved};
 ghost use Rattle.node_laws.specs.Within.{BoardWithin, ByteWithin, HeardWithin, ReadWithin, WrittenWithin};
-ghost use Rattle.node_runner.specs.Scenario.{IsScenario, ScenarioOf, fleet_of};
+ghost use Rattle.node_runner.specs.Accepted.{IsAccepted};
+ghost use Rattle.node_runner.specs.Scenario.{ScenarioOf, fleet_of};
 ghost use Rattle.serial_ports.specs.Script.{ScriptBytes};
-ghost use Rattle.world_core.specs.NodeKind.{ticked};
+ghost use Rattle.air_base.specs.NodeKind.{ticked};
 ghost use Rattle.world_core.specs.Order.{node_at};
-ghost use Rattle.world_core.specs.declared.air.Heard.{Heard};
+ghost use Rattle.air_base.specs.declared.air.Heard.{Heard};
 
 /// The numbers of a board are within their bounds after reset, and each call leaves them there: a read of a register,
 /// which gives a byte; a write of a byte; serving an interrupt; and a whole cycle of the devices, by what a sample in
@@ -45,9 +46,9 @@ pub fn node_law()
     ensures sends { (t : ℕ) (s : NodeState) → t < 2 ^ 40 → NodeWithin t s → ByteWithin (sends_in t s) }
 {}
 
-/// What is saved of a node of a run, at the beginning of any cycle, is accepted, and the node that is restored from it
-/// is that node.
+/// What is saved of a node of a run of accepted texts, at the beginning of any cycle, is accepted, and the node that is
+/// restored from it is that node.
 pub fn saved_law()
-    ensures { (sc : ScenarioOf) (k c : ℕ) → IsScenario sc → AreImages sc → c ≤ sc.topo.limit
+    ensures { (sc : ScenarioOf) (k c : ℕ) → IsAccepted sc → c ≤ sc.topo.limit
         → IsSaved sc k c (node_at (fleet_of sc) k c) }
 {}

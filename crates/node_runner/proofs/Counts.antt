@@ -1,6 +1,6 @@
 -- A runner's count is its number of noted sends.
 use Rattle.std.proofs.Common.{◌≡◌, ℕ, ◌+◌, ◌-◌, Bool, true, false, cond, arith}
-use Rattle.world_core.specs.NodeRun.{Timed}
+use Rattle.air_base.specs.NodeRun.{Timed}
 use Rattle.node_core.specs.declared.row.Row.{Row}
 use Rattle.node_core.specs.State.{NodeState}
 use Rattle.node_runner.specs.Place.{Place, IsRunner, noted_of, sends_passed}

@@ -2,10 +2,10 @@
 use Rattle.std.proofs.Common.{◌≡◌, ℕ, ◌+◌, ◌-◌, ◌<◌, ◌≤◌, min, Bool, true, false, cond, not, ◌&&◌, ◌||◌, Some, [], length, refl, sym, subst, ◌∙◌, ap, arith, inl, inr, add-zero, length-append}
 use Rattle.std.specs.Prelude.{is_some, nat_lt}
 use Rattle.std.proofs.Math.Nat.{sub-zero}
-use Rattle.world_core.specs.declared.air.Heard.{Heard}
+use Rattle.air_base.specs.declared.air.Heard.{Heard}
 use Rattle.world_core.specs.Sends.{sends_of, sends_below, IsSendNumber}
 use Rattle.world_core.specs.Settled.{truth}
-use Rattle.world_core.specs.NodeRun.{Timed, Rests, Sends, Asks, answered}
+use Rattle.air_base.specs.NodeRun.{Timed, Rests, Sends, Asks, answered}
 use Rattle.node_core.specs.declared.row.Row.{Row}
 use Rattle.node_core.specs.State.{NodeState}
 use Rattle.node_core.specs.Cycle.{node_kind}

@@ -1,4 +1,5 @@
 pub mod Sound
+pub mod Accepted
 pub mod Counts
 pub mod Events
 pub mod Advance

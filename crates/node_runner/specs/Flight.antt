@@ -1,6 +1,6 @@
 -- Where a node stands in an epoch, and one step of it. Own to this simulator.
 use Rattle.std.specs.Prelude.{◌≡◌, ℕ, ◌+◌, ◌-◌, ◌*◌, ◌≤◌, ◌<◌, ◌⊎◌, true, false, is_some, if◌then◌else◌, List, [], ◌∷◌, ◌++◌, slice_index_or}
-use Rattle.world_core.specs.declared.air.Send.{Send}
+use Rattle.air_base.specs.declared.air.Send.{Send}
 use Rattle.world_core.specs.Sends.{IsSendNumber}
 use Rattle.node_core.specs.Cycle.{node_kind}
 use Rattle.world_core.specs.Order.{facts_of, node_at}

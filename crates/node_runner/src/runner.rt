@@ -8,12 +8,12 @@ ghost use Rattle.node_runner.specs.Place.{HasEnded, is_live, rows_of, noted_of, 
 ghost use Rattle.node_runner.specs.Event.{IsEvent};
 
 use crate::Scenario;
+use air_base::{Heard, Send};
 use avr_base::NoMemory;
 use node_core::{Node, Reached, Row};
 use std::alloc::Global;
 use std::marker::Model;
 use std::snapshot::Snapshot;
-use world_core::{Heard, Send};
 
 /// What a node did.
 #[derive(Drop, Clone, Copy)]

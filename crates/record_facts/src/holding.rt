@@ -1,8 +1,8 @@
 // What the record of an air is to hold.
+use air_base::{Ask, Heard, Send};
 use air_cases::{Fault, Section, samples_of, sends_of};
 use neighbour_sync::Air;
 use std::alloc::Global;
-use world_core::{Ask, Heard, Send};
 
 // The sends, in this order.
 fn expect_sends(air: &Air, sends: &[Send]) -> Result<(), Fault> {

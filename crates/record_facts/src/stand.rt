@@ -3,11 +3,12 @@ ghost use Rattle.std.specs.Prelude.{◌≡◌};
 ghost use Rattle.std.specs.List.{All};
 
 use crate::answer::{of_cut, of_posted};
+use air_base::Ask;
 use air_cases::{Answer, Fault, count_below, is_asked, send_number};
 use list_world::ListWorld;
 use neighbour_sync::{Air, Clocks, NodeSeat};
 use std::alloc::Global;
-use world_core::{Ask, EPOCH, World};
+use world_core::{EPOCH, World};
 
 /// All that steps on the record of a world.
 #[derive(Drop)]

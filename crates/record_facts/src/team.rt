@@ -4,13 +4,14 @@ ghost use Rattle.std.specs.List.{All, Contains};
 ghost use Rattle.world_core.specs.Sends.{sends_below, IsSendNumber};
 
 use crate::answer::{of_passed, of_tried};
+use air_base::Ask;
 use air_cases::{Answer, Fault, Section, byte_of, count_below, is_asked, send_number};
 use list_world::ListWorld;
 use neighbour_sync::{NodeAir, Session, Shared};
 use std::alloc::Global;
 use std::marker::PhantomData;
 use std::sync::Wait;
-use world_core::{Ask, EPOCH, World};
+use world_core::{EPOCH, World};
 
 /// The parts of all nodes, in order of number.
 #[derive(Drop)]

@@ -2,13 +2,13 @@
 ghost use Rattle.std.specs.Prelude.{◌≤◌, ◌^◌};
 
 use crate::trials::Trial;
+use air_base::Heard;
 use avr_program::Program;
 use ihex_loader::load;
 use node_core::{Node, Row};
 use scenario_file::{BYTE_TIME, no_script};
 use serial_ports::Script;
 use std::alloc::Global;
-use world_core::Heard;
 
 // More than the sends and samples of any run here.
 const TURNS: usize = 16;

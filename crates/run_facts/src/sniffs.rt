@@ -2,12 +2,12 @@
 // cut.
 ghost use Rattle.std.specs.Prelude.{◌≤◌, length};
 
+use air_base::Send;
 use air_sniffer::{Frame, Sniffer};
 use sim_io::{Sink, write_all};
 use std::alloc::Global;
 use std::fs::Files;
 use stored_cases::{Failed, LineCases, do_lines, write_line};
-use world_core::Send;
 
 // Node 0 sends the bytes of this line from cycle 0 on, 512 cycles apart, and node 1 sends AA one cycle behind each.
 fn sends_of(alloc: Global, line: &str) -> Result<Vec<Send>, Failed> {

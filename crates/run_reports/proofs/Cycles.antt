@@ -8,8 +8,8 @@ use Rattle.avr_base.specs.declared.stop.StopCause.{StopCause}
 use Rattle.avr_base.specs.declared.interrupts.Vector.{Vector}
 use Rattle.board_io.specs.Cycle.{board_sends, board_serial}
 use Rattle.data_space.specs.declared.bus.Done.{Done}
-use Rattle.world_core.specs.declared.air.Heard.{Heard}
-use Rattle.world_core.specs.NodeKind.{ticked_rows}
+use Rattle.air_base.specs.declared.air.Heard.{Heard}
+use Rattle.air_base.specs.NodeKind.{ticked_rows}
 use Rattle.node_core.specs.declared.row.Row.{Row}
 use Rattle.node_core.specs.declared.row.Kind.{Kind}
 use Rattle.node_core.specs.Bus.{bus_at}

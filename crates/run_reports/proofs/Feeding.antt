@@ -3,11 +3,11 @@ use Rattle.std.proofs.Common.{◌≡◌, ℕ, zero, suc, List, [], ◌∷◌, �
 use Rattle.std.specs.List.{flat_map}
 use Rattle.std.proofs.lemmas.Grind.{flat_map-append}
 use Rattle.std.proofs.lemmas.List.{map-append}
-use Rattle.world_core.specs.declared.air.Send.{Send}
-use Rattle.world_core.specs.Each.{each_below}
+use Rattle.air_base.specs.declared.air.Send.{Send}
+use Rattle.air_base.specs.Each.{each_below}
 use Rattle.world_core.specs.Order.{facts_of, run_rows}
 use Rattle.world_core.specs.Sends.{sends_of}
-use Rattle.world_core.proofs.Each.{each_same}
+use Rattle.air_base.proofs.Each.{each_same}
 use Rattle.node_core.specs.declared.row.Row.{Row}
 use Rattle.node_runner.specs.Scenario.{ScenarioOf, IsScenario, fleet_of}
 use Rattle.node_runner.specs.Run.{rows_upto}

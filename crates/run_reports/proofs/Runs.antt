@@ -5,9 +5,9 @@ use Rattle.std.proofs.lemmas.Bool.Decides.{nat_tests}
 use Rattle.std.proofs.lemmas.List.Elements.{filter-append, All-append, All-cons, All-nil}
 use Rattle.std.proofs.lemmas.List.Sums.{count_by-le-length, length-filter}
 use native.Mathlib.Decide.{ℕ_discrete}
-use Rattle.world_core.specs.Each.{each_below}
+use Rattle.air_base.specs.Each.{each_below}
 use Rattle.world_core.specs.Order.{Fleet, world_at, world_after, hears, node_at, rows_in, end_rows, run_rows}
-use Rattle.world_core.proofs.Each.{filter_none, All_each, each_same}
+use Rattle.air_base.proofs.Each.{filter_none, All_each, each_same}
 use Rattle.world_core.proofs.OrderRows.{rows_from, rows_bear}
 use Rattle.node_core.specs.declared.row.Row.{Row}
 use Rattle.node_core.specs.State.{NodeState}

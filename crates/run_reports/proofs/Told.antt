@@ -6,12 +6,12 @@ use Rattle.avr_base.specs.declared.stop.StopCause.{StopCause}
 use Rattle.avr_base.specs.declared.interrupts.Vector.{Vector}
 use Rattle.board_io.specs.Cycle.{board_sends, board_serial}
 use Rattle.data_space.specs.declared.bus.Done.{Done}
-use Rattle.world_core.specs.declared.air.Heard.{Heard}
-use Rattle.world_core.specs.declared.air.Send.{Send}
-use Rattle.world_core.specs.Each.{each_below}
-use Rattle.world_core.specs.NodeKind.{ticked_rows}
+use Rattle.air_base.specs.declared.air.Heard.{Heard}
+use Rattle.air_base.specs.declared.air.Send.{Send}
+use Rattle.air_base.specs.Each.{each_below}
+use Rattle.air_base.specs.NodeKind.{ticked_rows}
 use Rattle.world_core.specs.Order.{Fleet, facts_of, hears, node_at, run_rows, send_of, world_after, world_at, end_rows}
-use Rattle.world_core.proofs.Each.{each_none, each_same}
+use Rattle.air_base.proofs.Each.{each_none, each_same}
 use Rattle.node_core.specs.declared.row.Row.{Row}
 use Rattle.node_core.specs.Bus.{bus_at}
 use Rattle.node_core.specs.State.{NodeState}

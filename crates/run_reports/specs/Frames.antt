@@ -2,8 +2,8 @@
 use Rattle.std.specs.Prelude.{ℕ, Option, Some, None, List, ◌++◌, length, codes, decimal}
 use Rattle.std.specs.List.{filter_map, flat_map}
 use Rattle.sim_io.specs.Digits.{hex2}
-use Rattle.world_core.specs.declared.air.Send.{Send}
-use Rattle.world_core.specs.Each.{each_below}
+use Rattle.air_base.specs.declared.air.Send.{Send}
+use Rattle.air_base.specs.Each.{each_below}
 use Rattle.world_core.specs.Order.{facts_of}
 use Rattle.world_core.specs.Sends.{sends_of}
 use Rattle.node_core.specs.declared.row.Row.{Row}

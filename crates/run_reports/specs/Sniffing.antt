@@ -1,8 +1,8 @@
 -- The sniffers of all nodes, and what they gave. Own to this simulator.
 use Rattle.std.specs.Prelude.{ℕ, List, [], ◌∷◌, ◌++◌}
 use Rattle.std.specs.List.{flat_map}
-use Rattle.world_core.specs.declared.air.Send.{Send}
-use Rattle.world_core.specs.Each.{each_below}
+use Rattle.air_base.specs.declared.air.Send.{Send}
+use Rattle.air_base.specs.Each.{each_below}
 use Rattle.world_core.specs.Sends.{sends_of}
 use Rattle.air_sniffer.specs.Frames.{frames}
 use Rattle.air_sniffer.specs.Sniffed.{SnifferFacts, fed, line_of, open_part, sniffer_of, sure}

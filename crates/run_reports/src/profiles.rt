@@ -1,7 +1,7 @@
 // The profiles of all nodes.
 ghost use Rattle.std.specs.Prelude.{◌≡◌, ◌≤◌, ◌<◌, ◌-◌, ◌^◌, length, IfOk, OnOk};
 ghost use Rattle.std.specs.List.{filter};
-ghost use Rattle.world_core.specs.Each.{each_below};
+ghost use Rattle.air_base.specs.Each.{each_below};
 ghost use Rattle.world_core.specs.Order.{run_rows};
 ghost use Rattle.node_monitors.specs.Matters.{matters};
 ghost use Rattle.node_runner.specs.Scenario.{fleet_of};

@@ -4,11 +4,11 @@ ghost use Rattle.std.specs.List.{flat_map};
 ghost use Rattle.run_reports.specs.Frames.{frame_line};
 
 use crate::frame_lines::put_frame;
+use air_base::Send;
 use air_sniffer::{Frame, Sniffer};
 use avr_base::NoMemory;
 use std::alloc::{AllocError, Global};
 use std::marker::Model;
-use world_core::Send;
 
 /// A sniffer, and the frames that it gave.
 #[derive(Drop)]

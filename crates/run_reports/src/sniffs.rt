@@ -5,11 +5,11 @@ ghost use Rattle.run_reports.specs.Frames.{send_told, sends_told};
 ghost use Rattle.run_reports.specs.Sniffing.{fed_more, of_each, unfed, watch_text};
 
 use crate::sniffing::Sniffing;
+use air_base::Send;
 use avr_base::NoMemory;
 use node_core::{Kind, Row};
 use node_runner::Scenario;
 use std::alloc::{AllocError, Global};
-use world_core::Send;
 
 // The send that a row tells, if it does.
 fn send_told(row: &Row) -> Option<Send>

@@ -4,7 +4,7 @@ use Rattle.std.proofs.Math.Nat.{mod_self, mod-eq_of_lt, eq-or-lt_of_le}
 use Rattle.std.proofs.lemmas.List.FromFn.{length-map-range_with_len, get_or-map-range_with_len}
 use Rattle.std.proofs.lemmas.List.{get_or-take}
 use Rattle.std.specs.List.{Contains, range_with_len}
-use Rattle.world_core.specs.declared.air.Link.{Link}
+use Rattle.world_core.specs.declared.link_table.Link.{Link}
 use Rattle.world_core.specs.Topology.{HasRanges, IsNewLink, IsTopology, is_linked}
 use Rattle.world_core.proofs.Links.{contains_from, any_from}
 use Rattle.sample_maker.specs.Network.{IsNext, link_from, ring_links, ring_topology}

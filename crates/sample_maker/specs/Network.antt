@@ -1,7 +1,7 @@
 -- The network of a sample: nodes in a ring. Own to this simulator.
 use Rattle.std.specs.Prelude.{◌≡◌, ◌≢◌, ℕ, ◌+◌, ◌%◌, ◌<◌, ◌==◌, if◌then◌else◌, List, [], map}
 use Rattle.std.specs.List.{range_with_len}
-use Rattle.world_core.specs.declared.air.Link.{Link}
+use Rattle.world_core.specs.declared.link_table.Link.{Link}
 use Rattle.world_core.specs.Topology.{Topology, topology}
 
 -- each node is heard by the next one, and the last by node 0

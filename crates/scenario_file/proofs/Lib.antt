@@ -7,3 +7,4 @@ pub mod LinkLists
 pub mod Clean
 pub mod Topologies
 pub mod Law
+pub mod Said

@@ -7,7 +7,7 @@ use Rattle.std.proofs.lemmas.Map.Steps.{length-le_from_distinct_below}
 use Rattle.scenario_file.proofs.Lists.{length_map}
 use Rattle.std.proofs.lemmas.Bool.{cases_Bool, false≢true}
 use Rattle.std.proofs.lemmas.Bool.Decides.{nat_tests}
-use Rattle.world_core.specs.declared.air.Link.{Link}
+use Rattle.world_core.specs.declared.link_table.Link.{Link}
 use Rattle.world_core.specs.FirstFault.{AllKeep}
 use Rattle.world_core.specs.Topology.{IsNewLink}
 use Rattle.scenario_file.specs.Faults.{same_link, two_equal}

@@ -2,7 +2,7 @@
 use Rattle.std.proofs.Common.{◌≡◌, ℕ, ◌+◌, ◌<◌, List, [], ◌∷◌, ◌++◌, length, map, get_or, take, refl, sym, ap, ◌∙◌, arith, append_assoc}
 use Rattle.std.proofs.lemmas.List.{take_more, length-take-le, map-append}
 use Rattle.toml.specs.Data.{Data}
-use Rattle.world_core.specs.declared.air.Span.{Span}
+use Rattle.world_core.specs.declared.spans.Span.{Span}
 use Rattle.scenario_file.specs.Scenario.{spans_at, spans_from}
 use Rattle.scenario_file.proofs.Lists.{length_map}
 

@@ -9,8 +9,8 @@ use Rattle.std.proofs.lemmas.List.{length-append}
 use Rattle.std.proofs.lemmas.List.Elements.{All-cons}
 use Rattle.std.proofs.lemmas.List.Sums.{sum_by-cons}
 use Rattle.toml.specs.Data.{Data, integer, array, table, Members, get_member}
-use Rattle.world_core.specs.declared.air.Link.{Link}
-use Rattle.world_core.specs.declared.air.Span.{Span}
+use Rattle.world_core.specs.declared.link_table.Link.{Link}
+use Rattle.world_core.specs.declared.spans.Span.{Span}
 use Rattle.world_core.specs.Topology.{topology, IsTopology, IsSpan, IsSpanOrder}
 use Rattle.scenario_file.specs.Document.{on_table, on_array, at_key, array_elements, values_in, elements, members_of, is_whole, number_of, number_at, pair_of, pair_or}
 use Rattle.scenario_file.specs.Rules.{version_of, most_cycles, fits, is_node, is_span_behind, end_of, are_spans_behind, are_spans, has_window, has_ranges}

@@ -5,7 +5,7 @@ use Rattle.std.specs.Str.{is_utf8}
 use Rattle.std.specs.List.{list_any, list_all, count_by}
 use Rattle.toml.specs.Data.{Data, Members}
 use Rattle.toml.specs.Parse.{parse_document}
-use Rattle.world_core.specs.declared.air.Link.{Link}
+use Rattle.world_core.specs.declared.link_table.Link.{Link}
 use Rattle.scenario_file.specs.Document.{keys_in, elements, on_table, on_array, at_key, members_of, number_at}
 use Rattle.scenario_file.specs.Rules.{version_of, is_known, lacks_key, has_kinds, has_ranges, amount, most_amount}
 use Rattle.scenario_file.specs.declared.keys.Keys.{Keys}

@@ -3,7 +3,7 @@ use Rattle.std.specs.Prelude.{ℕ, zero, suc, ◌≡◌, ◌+◌, ◌-◌, ◌�
 use Rattle.toml.specs.Data.{Data, Members}
 use Rattle.hex.specs.Hex.{decode_of}
 use Rattle.hex.specs.declared.error.FromHexError.{FromHexError}
-use Rattle.world_core.specs.declared.air.Span.{Span}
+use Rattle.world_core.specs.declared.spans.Span.{Span}
 use Rattle.world_core.specs.Topology.{Topology, topology}
 use Rattle.serial_ports.specs.Script.{ScriptBytes}
 use Rattle.scenario_file.specs.Document.{elements, members_of, number_at, text_at, pair_of, pair_or, pair_at}

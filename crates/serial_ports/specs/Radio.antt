@@ -6,7 +6,7 @@ use Rattle.serial_ports.specs.declared.radio.TransferOutcome.TheVariants.{Answer
 use Rattle.serial_ports.specs.declared.radio.Radio.{Radio}
 use Rattle.serial_ports.specs.declared.radio.RadioState.{RadioState}
 use Rattle.serial_ports.specs.declared.radio.RadioState.TheVariants.{Idle, ToSend, ToSample, Status, Byte, Age}
-use Rattle.world_core.specs.declared.air.Heard.{Heard}
+use Rattle.air_base.specs.declared.air.Heard.{Heard}
 
 abbrev pub reset_radio : ℕ → Radio
 reset_radio byte_time = record { byte_time = byte_time; free = 0; state = Idle }

@@ -6,7 +6,7 @@ use Rattle.serial_ports.specs.Numbers.{owned}
 use Rattle.serial_ports.specs.declared.radio.Radio.{Radio}
 use Rattle.serial_ports.specs.declared.radio.RadioState.{RadioState}
 use Rattle.serial_ports.specs.declared.radio.RadioState.TheVariants.{Idle, ToSend, ToSample, Status, Byte, Age}
-use Rattle.world_core.specs.declared.air.Heard.{Heard}
+use Rattle.air_base.specs.declared.air.Heard.{Heard}
 
 -- a sample that still is to be answered is none of the five: it is answered before the next transfer
 abbrev pub state_number : RadioState → ℕ

@@ -1,7 +1,7 @@
 // The radio, transfer by transfer.
 ghost use Rattle.std.specs.Prelude.{◌≡◌, ◌≤◌, ◌+◌, ◌^◌, ℕ};
 
-use world_core::Heard;
+use air_base::Heard;
 
 /// What the byte of the next transfer is to a radio.
 #[derive(Clone, Copy)]

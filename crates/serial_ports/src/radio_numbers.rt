@@ -4,8 +4,8 @@ ghost use Rattle.serial_ports.specs.RadioNumbers.{are_numbers, heard_in, state_n
 
 use crate::numbers::owned;
 use crate::{Radio, RadioState};
+use air_base::Heard;
 use device_base::all_fit;
-use world_core::Heard;
 
 impl Radio {
     ghost use Rattle.serial_ports.specs.RadioNumbers.{HasNumbers, fits, numbers_of};

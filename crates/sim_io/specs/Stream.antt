@@ -7,13 +7,13 @@ pub record StreamSink : Type 0 where
   -- what the writer holds, where it tells
   pub contents : Option (List ℕ)
 
--- what a writer tells now, where it told at first
-abbrev pub told : Option (List ℕ) → Option (List ℕ) → Option (List ℕ)
-told None now = None
-told (Some first) now = now
+-- what the writer holds now, where it told what it held at first
+abbrev pub told_since : Option (List ℕ) → Option (List ℕ) → Option (List ℕ)
+told_since None now = None
+told_since (Some first) now = now
 
--- a writer that told at first tells still
-abbrev pub GoesOn : Option (List ℕ) → Option (List ℕ) → Type 0
-GoesOn None now = Unit {0}
-GoesOn (Some first) None = ⊥
-GoesOn (Some first) (Some now) = Unit {0}
+-- a writer that told what it held at first tells it still
+abbrev pub TellsStill : Option (List ℕ) → Option (List ℕ) → Type 0
+TellsStill None now = Unit {0}
+TellsStill (Some first) None = ⊥
+TellsStill (Some first) (Some now) = Unit {0}

@@ -19,13 +19,13 @@ pub struct StdSink<W: Write + Drop> {
 }
 
 impl<W: Write + Drop> Model for StdSink<W> {
-    ghost use Rattle.sim_io.specs.Stream.{StreamSink, told, GoesOn};
+    ghost use Rattle.sim_io.specs.Stream.{StreamSink, told_since, TellsStill};
 
     ghost Value = { StreamSink };
 
-    ghost view = { λ s. record { faults = s.count; contents = told (W.contents s.first.value) (W.contents s.writer) } };
+    ghost view = { λ s. record { faults = s.count; contents = told_since (W.contents s.first.value) (W.contents s.writer) } };
 
-    ghost invariant = { λ s. GoesOn (W.contents s.first.value) (W.contents s.writer) };
+    ghost invariant = { λ s. TellsStill (W.contents s.first.value) (W.contents s.writer) };
 }
 
 impl<W: Write + Drop> StdSink<W> {

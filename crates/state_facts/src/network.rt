@@ -19,7 +19,7 @@ fn no_program(alloc: Global) -> Result<Program, Failed> {
 /// cycles and the byte time of 512.
 pub fn two_nodes(alloc: Global) -> Result<Scenario, Failed> {
     let links = vec![in alloc; Link { from: 0, to: 1 }]?;
-    let Ok(topo) = Topo::new(2, 4_000_000, 272, 512, links) else {
+    let Ok(topo) = Topo::new(2, 1_000_000, 272, 512, links) else {
         return Err(Failed);
     };
     let text = ScenarioText {

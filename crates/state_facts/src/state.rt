@@ -44,7 +44,7 @@ fn node_line(
 pub fn base(alloc: Global) -> Result<Text, Failed> {
     let mut lines = Vec::new(alloc);
     lines.push(String::from_str(alloc, "avrora state 1")?)?;
-    lines.push(String::from_str(alloc, "cycle 1048576")?)?;
+    lines.push(String::from_str(alloc, "cycle 262144")?)?;
     for node in 0..2 {
         lines.push(node_line(alloc, "core", node, 41, " 0")?)?;
         lines.push(node_line(alloc, "timers", node, 38, " 0")?)?;
@@ -60,8 +60,8 @@ pub fn base(alloc: Global) -> Result<Text, Failed> {
         }
         lines.push(sram)?;
     }
-    lines.push(String::from_str(alloc, "send 0 1047832 A5")?)?;
-    lines.push(String::from_str(alloc, "send 1 1048575 5A")?)?;
+    lines.push(String::from_str(alloc, "send 0 261400 A5")?)?;
+    lines.push(String::from_str(alloc, "send 1 262143 5A")?)?;
     lines.push(String::from_str(alloc, "end")?)?;
     Ok(Text {
         lines,

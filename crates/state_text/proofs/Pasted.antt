@@ -9,7 +9,7 @@ use Rattle.std.proofs.lemmas.List.{append-nil, take_more}
 use Rattle.std.proofs.lemmas.List.Folds.{flat_map-map}
 use Rattle.hex.specs.Hex.{encode_with, encode_upper, upper_digits}
 use Rattle.sim_io.specs.Digits.{hex2}
-use Rattle.world_core.specs.declared.air.Send.{Send}
+use Rattle.air_base.specs.declared.air.Send.{Send}
 use Rattle.state_text.specs.Parts.{line_of, ended}
 use Rattle.state_text.specs.Text.{NodeOf, StateOf, numbers_line, bytes_line, node_lines, nodes_lines, send_line, cycle_line, tail_lines, state_lines, state_text}
 use Rattle.state_text.specs.Writing.{IsSized, head, node_of, numbers_text, spaced}

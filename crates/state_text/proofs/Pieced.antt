@@ -5,7 +5,7 @@ use Rattle.std.specs.Prelude.{slice_index}
 use Rattle.std.proofs.lemmas.List.{drop-drop, take_all}
 use Rattle.hex.specs.Hex.{encode_upper}
 use Rattle.sim_io.specs.Digits.{hex2}
-use Rattle.world_core.specs.declared.air.Send.{Send}
+use Rattle.air_base.specs.declared.air.Send.{Send}
 use Rattle.state_text.specs.Parts.{ended}
 use Rattle.state_text.specs.Text.{NodeOf, StateOf, numbers_line, node_lines, nodes_lines, send_line, state_text}
 use Rattle.state_text.specs.Writing.{Out, IsPut, head, node_of, numbers_text, spaced}

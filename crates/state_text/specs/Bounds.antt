@@ -3,7 +3,7 @@ use Rattle.std.specs.Prelude.{◌≡◌, ℕ, ◌+◌, ◌%◌, ◌^◌, ◌<◌
 use Rattle.std.specs.List.{AllByRecursion}
 use Rattle.world_core.specs.Topology.{Topology, reach}
 use Rattle.world_core.specs.Kept.{epoch}
-use Rattle.world_core.specs.declared.air.Send.{Send}
+use Rattle.air_base.specs.declared.air.Send.{Send}
 use Rattle.state_text.specs.Text.{NodeOf, StateOf}
 
 pub record Rules : Type 0 where

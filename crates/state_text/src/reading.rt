@@ -12,8 +12,9 @@ use crate::lines::Lines;
 use crate::numbers::{bytes_in, is_decimal, numbers_in, only_bytes, value};
 use crate::parts::{Parts, behind_node};
 use crate::state::{NodeParts, StateParts};
+use air_base::Send;
 use std::alloc::Global;
-use world_core::{EPOCH, Send, Topo};
+use world_core::{EPOCH, Topo};
 
 #[tactic(auto, unfolding(crate::specs::Reading::title_at))]
 fn title(lines: &mut Lines<'_>) -> Result<(), StateFault>

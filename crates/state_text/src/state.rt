@@ -1,6 +1,6 @@
 // A saved state as plain data.
+use air_base::Send;
 use std::marker::Model;
-use world_core::Send;
 
 /// What a state has of a node. A contract sees it as its `NodeOf`.
 pub struct NodeParts {

@@ -9,8 +9,8 @@ ghost use Rattle.state_text.specs.Writing.{IsPut, IsSized, head, node_of, number
 
 use crate::nodes::Nodes;
 use crate::page::Page;
+use air_base::Send;
 use sim_io::{Sink, SinkFault, write_all};
-use world_core::Send;
 
 // Appends numbers, each behind a space.
 fn put_numbers<O: Sink>(numbers: &[u64], page: &mut Page, sink: &mut O)

@@ -122,8 +122,10 @@ fn do_stream<O: Sink>(
     out: &mut O,
 ) -> Result<(), Failed> {
     let mut writer = Halting::new(Vec::<u8>::new(alloc), step, turns);
-    let mut sink = StdSink::new(&mut writer);
-    let wrote = write_all(&mut sink, text.as_bytes());
+    let wrote = {
+        let mut sink = StdSink::new(&mut writer);
+        write_all(&mut sink, text.as_bytes())
+    };
     write_taken(wrote, writer.inner().as_slice(), out)
 }
 

@@ -1,8 +1,8 @@
 -- Lists of steps and cuts of the record, in whatever order they come. Own to this simulator.
 use Rattle.std.specs.Prelude.{◌≡◌, ℕ, ◌≤◌, List, [], ◌∷◌}
 use Rattle.std.specs.List.{Contains}
-use Rattle.world_core.specs.declared.air.Ask.{Ask}
-use Rattle.world_core.specs.declared.air.Heard.{Heard}
+use Rattle.air_base.specs.declared.air.Ask.{Ask}
+use Rattle.air_base.specs.declared.air.Heard.{Heard}
 use Rattle.world_core.specs.Heard.{heard}
 use Rattle.world_core.specs.Settled.{truth}
 use Rattle.world_core.specs.Consistent.{AirState}

@@ -1,7 +1,7 @@
 -- What a sample answers: what is heard, or the first node that it has to wait for. Own to this simulator.
 use Rattle.std.specs.Prelude.{◌≡◌, ℕ, ◌-◌, ◌≤◌, ◌<◌, true, List}
-use Rattle.world_core.specs.declared.air.Sampled.{Sampled}
-use Rattle.world_core.specs.declared.air.Sampled.TheVariants.{Heard, NotYet, NoMemory}
+use Rattle.air_base.specs.declared.air.Sampled.{Sampled}
+use Rattle.air_base.specs.declared.air.Sampled.TheVariants.{Heard, NotYet, NoMemory}
 use Rattle.world_core.specs.Topology.{Topology, is_needed, latency_of}
 use Rattle.world_core.specs.Settled.{truth}
 use Rattle.world_core.specs.Consistent.{AirState, clock_of}

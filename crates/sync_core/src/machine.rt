@@ -1,8 +1,9 @@
 // The state machine.
 use crate::behind::first_behind;
+use air_base::{Ask, Heard, Sampled, Send};
 use std::alloc::Global;
 use std::marker::Model;
-use world_core::{Ask, Heard, NoMemory, Sampled, Send, SendLog, World};
+use world_core::{NoMemory, SendLog, World};
 
 /// The clocks of all nodes, the numbers of their posted sends, and the record of sends and samples, in one world.
 /// They are consistent at every moment: each recorded sample is what all sends of the world give, and no send that is

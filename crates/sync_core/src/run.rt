@@ -7,9 +7,10 @@ ghost use Rattle.world_core.specs.Steps.{opening, MayRaise};
 ghost use Rattle.sync_core.specs.Run.{MayStep, after_step, IsStepped, IsReplayed, IsReplayFault};
 
 use crate::{Core, ReplayFault, Step};
+use air_base::{Ask, Sampled, Send};
 use list_world::ListWorld;
 use std::alloc::Global;
-use world_core::{Ask, NoMemory, Sampled, Send, World};
+use world_core::{NoMemory, World};
 
 // How many sends of one node lie below a cycle.
 #[tactic(auto, unfolding(world_core::specs::Sends::sends_below))]

@@ -1,6 +1,6 @@
 -- A node of a world without sends has none to be passed.
 use Rattle.std.proofs.Common.{◌≡◌, ℕ, ◌≤◌, List, [], sym, subst, arith}
-use Rattle.world_core.specs.declared.air.Send.{Send}
+use Rattle.air_base.specs.declared.air.Send.{Send}
 use Rattle.world_core.specs.Sends.{sends_below}
 
 none_of : (k c n : ℕ) → sends_below [] k c ≤ n

@@ -4,10 +4,11 @@ ghost use Rattle.std.specs.List.{All};
 ghost use Rattle.world_core.specs.Sends.{sends_of};
 ghost use Rattle.world_core.specs.Kept.{epoch};
 
+use air_base::{Ask, Send};
 use list_world::ListWorld;
 use neighbour_sync::{NodeAir, SampleOutcome, Session, Shared};
 use std::sync::Wait;
-use world_core::{Ask, EPOCH, Send, World};
+use world_core::{EPOCH, World};
 
 /// Whether all sends lie below this floor and an epoch.
 pub fn are_early(sends: &[Send], floor: u64) -> bool

@@ -9,6 +9,7 @@ ghost use Rattle.neighbour_sync.specs.Parts.{AreParts};
 
 use crate::nodes::{are_early, sample_all, send_all};
 use crate::world::line_world;
+use air_base::Send;
 use air_cases::own_sends;
 use list_world::ListWorld;
 use neighbour_sync::{Air, Clocks, NodeAir, Session, Shared, open_air};
@@ -16,7 +17,7 @@ use std::alloc::Global;
 use std::marker::Brand;
 use std::sync::Wait;
 use std::thread::{Threads, join};
-use world_core::{Send, World};
+use world_core::World;
 
 // How many bytes node 0 sends.
 const BYTES: u64 = 1_000;

@@ -4,8 +4,9 @@ ghost use Rattle.std.specs.Prelude.{◌≡◌, ◌≤◌, ◌<◌, ◌+◌, ◌*
 ghost use Rattle.std.specs.List.{All};
 ghost use Rattle.world_core.specs.Topology.{IsInside};
 
+use air_base::Send;
 use std::alloc::Global;
-use world_core::{Link, NoMemory, Send, SendLog, Topo};
+use world_core::{Link, NoMemory, SendLog, Topo};
 
 const NODES: u8 = 64;
 

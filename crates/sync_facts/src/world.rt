@@ -1,7 +1,8 @@
 // The world of the trials.
+use air_base::{Ask, Send};
 use list_world::ListWorld;
 use std::alloc::Global;
-use world_core::{Ask, Link, Send, Topo};
+use world_core::{Link, Topo};
 
 const LATENCY: u64 = 300;
 

@@ -1,7 +1,7 @@
 //! Networks with each node on a thread of its own, beside gates that hold a node until another one has come far enough:
 //! so the stored run shows that two nodes are under way at once, that a node waits at a sample, and that one which
 //! waits for nobody goes ahead. A body on one thread, one that does not wait and one in lockstep each fail one of them.
-//! `command_facts` runs it.
+//! The whole program is run, but for `main`. `command_facts` runs it.
 #![tactic(auto)]
 
 mod gates;
@@ -16,11 +16,11 @@ use std::sync::atomic::{AtomicBool, AtomicU64, Ordering};
 use std::thread::Threads;
 use stored_cases::{Failed, write_line};
 
-static RUN: [&str; 2] = ["run", "gates.toml"];
+static RUN: [&str; 3] = ["avrora", "run", "gates.toml"];
 
-static MAKE: [&str; 2] = ["make", "0"];
+static MAKE: [&str; 3] = ["avrora", "make", "0"];
 
-static LONG: [&str; 2] = ["run", "gates_long.toml"];
+static LONG: [&str; 3] = ["avrora", "run", "gates_long.toml"];
 
 // Whether what is to be so was seen to be so.
 fn write_seen<O: Sink>(what: &str, seen: bool, out: &mut O) -> Result<(), Failed> {
@@ -96,7 +96,7 @@ fn second_is_late<R: Threads + Wait + Files + AllocGlobal + Sync, O: Sink>(
     write_seen("it went ahead", !told.gave_up() && told.has(1, 0), out)
 }
 
-// The rows of the first epoch, of 1,024 turns, are written before the second is run.
+// The rows of the first epoch, of 256 turns, are written before the second is run.
 fn epochs<R: Threads + Wait + Files + AllocGlobal + Sync, O: Sink>(
     rt: &R,
     out: &mut O,
@@ -105,16 +105,12 @@ fn epochs<R: Threads + Wait + Files + AllocGlobal + Sync, O: Sink>(
     let last = AtomicU64::new(0);
     write_call(rt, &LONG, Some(0), &LastTurn(&last), out)?;
     write_seen(
-        "no turn above 1023 was told",
-        last.load(Ordering::SeqCst) <= 1_023,
+        "no turn above 255 was told",
+        last.load(Ordering::SeqCst) <= 255,
         out,
     )?;
     write_call(rt, &LONG, None, &LastTurn(&last), out)?;
-    write_seen(
-        "turn 1024 was told",
-        last.load(Ordering::SeqCst) >= 1_024,
-        out,
-    )
+    write_seen("turn 256 was told", last.load(Ordering::SeqCst) >= 256, out)
 }
 
 /// Does the runs beside all gates, one after another, and writes what was seen.

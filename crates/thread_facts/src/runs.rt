@@ -1,12 +1,13 @@
-// The runs that gates look at: one network through `run_threads`, and the same by the words of the command line.
+// The runs that gates look at: one network through `run_threads`, and the same by the program and its words.
 use avr_program::Program;
-use commands::avrora;
+use commands::run_program;
 use fleet_threads::{Gate, run_threads};
 use ihex_loader::{Flash, load};
 use memory_io::MemSink;
 use node_runner::Scenario;
 use scenario_file::{ScenarioText, no_script};
 use sim_io::{DirStore, Sink, write_all};
+use std::env::{Env, FillError};
 use std::fs::Files;
 use std::sync::Wait;
 use std::thread::Threads;
@@ -54,8 +55,40 @@ pub fn write_rows<R: Threads + Wait + Files + AllocGlobal + Sync, G: Gate + Sync
     Ok(trace_writer::write(rows.as_slice(), out)?)
 }
 
-/// Writes the status that these words come to over the files beside the program, and what stands on both streams. The
-/// write to the output with the number `fails`, from 0, fails, if there is one.
+// An environment with these words, the program's name among them, and no variable.
+#[derive(Drop)]
+struct Given<'w> {
+    words: &'w [&'w str],
+}
+
+impl<'w> Env for Given<'w> {
+    fn arg(&self, i: usize, buf: &mut [u8]) -> Result<usize, FillError> {
+        let Some(word) = self.words.get(i) else {
+            return Err(FillError::NotPresent);
+        };
+        let bytes = word.as_bytes();
+        if bytes.len() > buf.len() {
+            return Err(FillError::TooLong);
+        }
+        buf[..bytes.len()].copy_from_slice(bytes);
+        Ok(bytes.len())
+    }
+
+    fn var(&self, name: &str, buf: &mut [u8]) -> Result<usize, FillError> {
+        let _ = name;
+        let _ = buf;
+        Err(FillError::NotPresent)
+    }
+
+    fn var_at(&self, i: usize, buf: &mut [u8]) -> Result<usize, FillError> {
+        let _ = i;
+        let _ = buf;
+        Err(FillError::NotPresent)
+    }
+}
+
+/// Writes the status with which the program ends that is called by these words, its name first, over the files beside
+/// it, and what stands on both streams. The write to the output with the number `fails`, from 0, fails, if there is one.
 pub fn write_call<R: Threads + Wait + Files + AllocGlobal + Sync, G: Gate + Sync, O: Sink>(
     rt: &R,
     words: &[&str],
@@ -71,8 +104,9 @@ pub fn write_call<R: Threads + Wait + Files + AllocGlobal + Sync, G: Gate + Sync
     let mut taken = MemSink::new(alloc, AMPLE, AMPLE, fail)?;
     let mut said = MemSink::new(alloc, AMPLE, AMPLE, Vec::new(alloc))?;
     let mut store = DirStore::new(rt);
-    let status = avrora(rt, alloc, words, &mut store, &mut taken, &mut said, gate);
-    write_number("status", u64::from(status.number()), out)?;
+    let given = Given { words };
+    let status = run_program(rt, &given, &mut store, &mut taken, &mut said, gate);
+    write_number("status", u64::from(status), out)?;
     write_all(out, taken.taken())?;
     Ok(write_all(out, said.taken())?)
 }

@@ -5,13 +5,13 @@ use Rattle.std.proofs.lemmas.Bool.Decides.{nat_tests}
 use Rattle.world_core.specs.Topology.{is_linked, is_open, latency_of}
 use Rattle.world_core.specs.Heard.{is_audible, age_of, heard_from, heard}
 use Rattle.world_core.specs.Settled.{truth}
-use Rattle.world_core.specs.Each.{each_below}
-use Rattle.world_core.specs.NodeKind.{ticked}
-use Rattle.world_core.specs.NodeRun.{passed, passed_rows, AllQuiet}
+use Rattle.air_base.specs.Each.{each_below}
+use Rattle.air_base.specs.NodeKind.{ticked}
+use Rattle.air_base.specs.NodeRun.{passed, passed_rows, AllQuiet}
 use Rattle.world_core.specs.Order.{Fleet, Moment, world_at, facts_of, node_at, hears, rows_in, rows_between}
 use Rattle.world_core.specs.Sound.{IsSound}
 use Rattle.world_core.proofs.Final.{latency_from}
-use Rattle.world_core.proofs.Each.{each_same}
+use Rattle.air_base.proofs.Each.{each_same}
 use Rattle.world_core.proofs.Sends.{next, filter_early}
 
 too_early : (linked opened : Bool) (l s t d : ℕ) → 1 ≤ l → s ≤ t → (linked && (opened && (nat_le (t + l) s && nat_lt s (t + l + d)))) ≡ false

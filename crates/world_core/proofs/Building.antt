@@ -8,7 +8,7 @@ use Rattle.std.proofs.lemmas.List.Quantifiers.{all_pairs_push}
 use Rattle.std.proofs.lemmas.List.Elements.{All-push}
 use Rattle.std.proofs.lemmas.Bool.{false≢true}
 use native.Mathlib.Decide.{ℕ_discrete}
-use Rattle.world_core.specs.declared.air.Send.{Send}
+use Rattle.air_base.specs.declared.air.Send.{Send}
 use Rattle.world_core.specs.Sends.{sends_of}
 use Rattle.world_core.specs.declared.ways.JumpPointer.{JumpPointer}
 use Rattle.world_core.specs.Chain.{no_send, send_at, way_at, newest, Rises, AreBack, IsLog, IsAfter}

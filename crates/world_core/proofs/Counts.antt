@@ -5,13 +5,13 @@ use Rattle.std.specs.List.{filter, All}
 use Rattle.std.proofs.lemmas.List.Elements.{filter-append, All-filter}
 use Rattle.std.proofs.lemmas.Bool.Decides.{nat_tests}
 use native.Mathlib.Decide.{dec_le, ℕ_discrete}
-use Rattle.world_core.specs.declared.air.Send.{Send}
+use Rattle.air_base.specs.declared.air.Send.{Send}
 use Rattle.world_core.specs.declared.world.WorldFacts.{WorldFacts}
 use Rattle.world_core.specs.Topology.{IsInside}
 use Rattle.world_core.specs.Sends.{sends_of, sends_below, IsSendNumber}
 use Rattle.world_core.specs.Posted.{sent_of, posted, IsWhole}
 use Rattle.world_core.specs.Lawful.{IsLawful}
-use Rattle.world_core.specs.Each.{each_below}
+use Rattle.air_base.specs.Each.{each_below}
 use Rattle.world_core.proofs.Order.{Only, only_own, test, untest}
 
 fewer_case : (b d : ℕ) (x : Send) (xs : List Send) (u v : Bool) → nat_lt x.cycle b ≡ u → nat_lt x.cycle d ≡ v → b ≤ d

@@ -4,8 +4,8 @@ use Rattle.std.specs.Prelude.{nat_le, nat_lt, not}
 use Rattle.std.specs.List.{filter, All, list_any}
 use Rattle.std.proofs.lemmas.List.Folds.{Any-from_list_any, list_any-from_Any}
 use Rattle.std.proofs.lemmas.Bool.Decides.{nat_tests}
-use Rattle.world_core.specs.declared.air.Send.{Send}
-use Rattle.world_core.specs.declared.air.Span.{Span}
+use Rattle.air_base.specs.declared.air.Send.{Send}
+use Rattle.world_core.specs.declared.spans.Span.{Span}
 use Rattle.world_core.specs.declared.world.WorldFacts.{WorldFacts}
 use Rattle.world_core.specs.Topology.{Topology, IsTopology, IsHearable, is_linked, is_needed, is_open_in, is_in_time, is_reached_in, has_span, latency_of, place_in, reach}
 use Rattle.world_core.specs.Sends.{sends_of, sends_below}

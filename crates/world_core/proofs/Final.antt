@@ -5,8 +5,8 @@ use Rattle.std.specs.List.{All, filter, list_any}
 use Rattle.std.proofs.lemmas.List.Elements.{filter-append}
 use Rattle.std.proofs.lemmas.List.Folds.{Any-from_list_any, list_any-from_Any}
 use Rattle.std.proofs.lemmas.Bool.Decides.{nat_tests}
-use Rattle.world_core.specs.declared.air.Send.{Send}
-use Rattle.world_core.specs.declared.air.Span.{Span}
+use Rattle.air_base.specs.declared.air.Send.{Send}
+use Rattle.world_core.specs.declared.spans.Span.{Span}
 use Rattle.world_core.specs.declared.world.WorldFacts.{WorldFacts}
 use Rattle.world_core.specs.Topology.{Topology, IsTopology, is_linked, is_open, is_open_in, is_in_time, is_reached_in, is_needed, latency_of, place_in, greatest, reach, has_span}
 use Rattle.world_core.specs.Heard.{is_audible, age_of, heard}

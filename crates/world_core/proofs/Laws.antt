@@ -5,15 +5,15 @@ use Rattle.std.proofs.lemmas.List.Elements.{filter-append, All-append, All-nil, 
 use Rattle.std.proofs.lemmas.List.Quantifiers.{all_pairs_push}
 use Rattle.std.proofs.lemmas.Bool.Decides.{nat_tests}
 use native.Mathlib.Decide.{dec_le}
-use Rattle.world_core.specs.declared.air.Send.{Send}
-use Rattle.world_core.specs.declared.air.Ask.{Ask}
-use Rattle.world_core.specs.declared.air.Heard.{Heard}
-use Rattle.world_core.specs.Each.{each_below}
+use Rattle.air_base.specs.declared.air.Send.{Send}
+use Rattle.air_base.specs.declared.air.Ask.{Ask}
+use Rattle.air_base.specs.declared.air.Heard.{Heard}
+use Rattle.air_base.specs.Each.{each_below}
 use Rattle.world_core.specs.Sends.{sends_of, asks_of}
 use Rattle.world_core.specs.Lawful.{IsLawful}
 use Rattle.world_core.specs.Order.{Fleet, Moment, send_of, ask_of, world_at, facts_of, node_at, hears}
 use Rattle.world_core.specs.Sound.{IsSound}
-use Rattle.world_core.proofs.Each.{filter_none, filter_each, All_each, each_one}
+use Rattle.air_base.proofs.Each.{filter_none, filter_each, All_each, each_one}
 use Rattle.world_core.proofs.Sends.{next, first, each_cycle, sends_next, next_asks, all_inside}
 
 same_node : (a b : ℕ) → a ≡ b → (a == b) ≡ true

@@ -3,7 +3,6 @@ pub mod Looks
 pub mod NodeByNode
 pub mod Building
 pub mod Cutting
-pub mod Each
 pub mod Sends
 pub mod Alone
 pub mod OrderSteps
@@ -11,7 +10,6 @@ pub mod Laws
 pub mod Sorted
 pub mod OrderRows
 pub mod Resumed
-pub mod QuietCycles
 pub mod LinkRows
 pub mod NeighbourRows
 pub mod FirstFaults

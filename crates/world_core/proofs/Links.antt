@@ -6,7 +6,7 @@ use Rattle.std.proofs.lemmas.List.{get_or_default, take_more, length-take-le}
 use Rattle.std.proofs.lemmas.List.Folds.{Any-from_list_any, list_any-from_Any, list_any_none}
 use Rattle.std.proofs.lemmas.Bool.{false≢true}
 use Rattle.std.proofs.lemmas.Bool.Decides.{nat_tests}
-use Rattle.world_core.specs.declared.air.Link.{Link}
+use Rattle.world_core.specs.declared.link_table.Link.{Link}
 use Rattle.world_core.specs.declared.faults.TopoFault.{TopoFault}
 use Rattle.world_core.specs.declared.faults.TopoFault.TheVariants.{Range, SelfLink, TwiceLinked}
 use Rattle.world_core.specs.FirstFault.{KeepsBelow}

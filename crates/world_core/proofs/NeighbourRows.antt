@@ -5,9 +5,9 @@ use Rattle.std.specs.List.{list_any}
 use Rattle.std.proofs.lemmas.List.{get_or-set_same, get_or-set_other}
 use Rattle.std.proofs.lemmas.Bool.Decides.{nat_tests}
 use native.Mathlib.Decide.{ℕ_discrete}
-use Rattle.world_core.specs.declared.air.Link.{Link}
+use Rattle.world_core.specs.declared.link_table.Link.{Link}
 use Rattle.world_core.specs.declared.neighbours.NodeList.{NodeList}
-use Rattle.world_core.specs.Each.{each_below}
+use Rattle.air_base.specs.Each.{each_below}
 use Rattle.world_core.specs.Topology.{Topology, IsTopology, is_linked, neighbours}
 use Rattle.world_core.specs.LinkTable.{entry_at, IsTableOf}
 use Rattle.world_core.specs.NeighbourTable.{no_nodes, listed, row_at, entered, AreEntered}

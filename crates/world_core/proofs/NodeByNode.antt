@@ -6,9 +6,9 @@ use Rattle.std.specs.Int.Bits.{or_zero_r}
 use Rattle.std.proofs.lemmas.Nat.{or_comm}
 use Rattle.std.proofs.lemmas.List.Elements.{filter-append, All-append}
 use native.Mathlib.Decide.{dec_le, ℕ_discrete}
-use Rattle.world_core.specs.declared.air.Send.{Send}
-use Rattle.world_core.specs.declared.air.Heard.{Heard}
-use Rattle.world_core.specs.Each.{each_below}
+use Rattle.air_base.specs.declared.air.Send.{Send}
+use Rattle.air_base.specs.declared.air.Heard.{Heard}
+use Rattle.air_base.specs.Each.{each_below}
 use Rattle.world_core.specs.Topology.{Topology, is_linked, is_open, is_in_time, latency_of, neighbours}
 use Rattle.world_core.specs.Heard.{heard, heard_as, heard_from, or_of, is_audible, age_of}
 use Rattle.world_core.specs.HeardMore.{heard_with}

@@ -4,13 +4,13 @@ use Rattle.std.specs.List.{All}
 use Rattle.std.specs.List.Sorted.{IsNonDecreasingBy}
 use Rattle.std.proofs.lemmas.List.Elements.{All-append, All-nil}
 use Rattle.world_core.specs.Sends.{sends_below}
-use Rattle.world_core.specs.Each.{each_below}
-use Rattle.world_core.specs.NodeKind.{IsSteady}
-use Rattle.world_core.specs.NodeRun.{passed, IsQuiet, AllQuiet}
+use Rattle.air_base.specs.Each.{each_below}
+use Rattle.air_base.specs.NodeKind.{IsSteady}
+use Rattle.air_base.specs.NodeRun.{passed, IsQuiet, AllQuiet}
 use Rattle.world_core.specs.Order.{Fleet, Moment, world_at, facts_of, node_at, hears, rows_in, rows_between}
 use Rattle.world_core.specs.Sound.{IsSound}
 use Rattle.world_core.specs.Stands.{QuietBetween}
-use Rattle.world_core.proofs.Each.{each_none}
+use Rattle.air_base.proofs.Each.{each_none}
 use Rattle.world_core.proofs.Alone.{passes, rows_quiet}
 use Rattle.world_core.proofs.Sends.{next}
 use Rattle.world_core.proofs.Sorted.{Agree, merged}

@@ -4,17 +4,17 @@ use Rattle.std.specs.List.{Contains}
 use Rattle.std.proofs.lemmas.List.{get_or_at, length_push}
 use Rattle.std.proofs.lemmas.List.Elements.{Contains-append_left, Contains-append_right, Contains-push}
 use Rattle.std.proofs.lemmas.Bool.{false≢true}
-use Rattle.world_core.specs.declared.air.Send.{Send}
-use Rattle.world_core.specs.declared.air.Ask.{Ask}
-use Rattle.world_core.specs.declared.air.Heard.{Heard}
+use Rattle.air_base.specs.declared.air.Send.{Send}
+use Rattle.air_base.specs.declared.air.Ask.{Ask}
+use Rattle.air_base.specs.declared.air.Heard.{Heard}
 use Rattle.world_core.specs.Sends.{sends_of, sends_below, IsSendNumber}
 use Rattle.world_core.specs.Settled.{truth}
-use Rattle.world_core.specs.Each.{each_below}
-use Rattle.world_core.specs.NodeRun.{passed, passed_rows, IsQuiet, AllQuiet, Timed, Comes, Rests, Sends, Asks, answered}
+use Rattle.air_base.specs.Each.{each_below}
+use Rattle.air_base.specs.NodeRun.{passed, passed_rows, IsQuiet, AllQuiet, Timed, Comes, Rests, Sends, Asks, answered}
 use Rattle.world_core.specs.Order.{Fleet, send_of, ask_of, world_at, facts_of, node_at, rows_between}
 use Rattle.world_core.specs.Sound.{IsSound}
 use Rattle.world_core.specs.Stands.{Stands, QuietBetween}
-use Rattle.world_core.proofs.Each.{each_contains}
+use Rattle.air_base.proofs.Each.{each_contains}
 use Rattle.world_core.proofs.Sends.{sends_next, next_asks, sends_front, count_is}
 use Rattle.world_core.proofs.Alone.{passes, rows_quiet, rows_join, rows_one, rows_begun, rows_finished, node_begun, node_finished, cond_true, cond_false}
 

@@ -1,8 +1,8 @@
 -- A run that begins again in a moment of the world goes on as the world does.
 use Rattle.std.proofs.Common.{◌≡◌, ℕ, zero, suc, ◌+◌, ◌++◌, [], refl, sym, subst, ◌∙◌, arith, append-nil, append_assoc}
-use Rattle.world_core.specs.Each.{each_below}
+use Rattle.air_base.specs.Each.{each_below}
 use Rattle.world_core.specs.Heard.{heard}
-use Rattle.world_core.specs.NodeKind.{ticked, ticked_rows}
+use Rattle.air_base.specs.NodeKind.{ticked, ticked_rows}
 use Rattle.world_core.specs.Order.{Fleet, Moment, stepped, send_of, ask_of, world_after, resumed}
 use Rattle.world_core.specs.Resumed.{GoesOn}
 

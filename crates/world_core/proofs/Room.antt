@@ -6,7 +6,7 @@ use Rattle.std.proofs.lemmas.List.Elements.{All-filter, filter_passes}
 use Rattle.std.proofs.lemmas.List.{length-take}
 use Rattle.std.proofs.lemmas.Bool.Decides.{nat_tests}
 use native.Mathlib.Decide.{ℕ_discrete}
-use Rattle.world_core.specs.declared.air.Send.{Send}
+use Rattle.air_base.specs.declared.air.Send.{Send}
 use Rattle.world_core.specs.declared.world.WorldFacts.{WorldFacts}
 use Rattle.world_core.specs.Topology.{Topology, IsInside, reach}
 use Rattle.world_core.specs.Sends.{sends_of}

@@ -7,7 +7,7 @@ use Rattle.std.proofs.lemmas.List.Folds.{list_any-from_Any, list_any_none}
 use Rattle.std.proofs.lemmas.List.{get_or_default}
 use Rattle.std.proofs.lemmas.Bool.Decides.{nat_tests}
 use native.Mathlib.Decide.{ℕ_discrete, dec_le}
-use Rattle.world_core.specs.declared.air.Span.{Span}
+use Rattle.world_core.specs.declared.spans.Span.{Span}
 use Rattle.world_core.specs.Topology.{IsSpanOrder, has_span, is_open_in, is_reached_in}
 use Rattle.world_core.specs.SpanSearch.{begins_by, EndsAt}
 

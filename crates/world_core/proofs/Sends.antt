@@ -5,13 +5,13 @@ use Rattle.std.specs.List.{filter, All}
 use Rattle.std.proofs.lemmas.List.Elements.{filter-append, All-append, All-nil, All-cons, All-weaker}
 use Rattle.std.proofs.lemmas.Bool.Decides.{nat_tests}
 use native.Mathlib.Decide.{dec_le}
-use Rattle.world_core.specs.declared.air.Send.{Send}
+use Rattle.air_base.specs.declared.air.Send.{Send}
 use Rattle.world_core.specs.Sends.{sends_of, sends_below}
 use Rattle.world_core.proofs.Final.{filter_swap}
-use Rattle.world_core.specs.Each.{each_below}
+use Rattle.air_base.specs.Each.{each_below}
 use Rattle.world_core.specs.Order.{Fleet, Moment, stepped, send_of, ask_of, world_after, world_at, facts_of, node_at}
 use Rattle.world_core.specs.Sound.{IsSound}
-use Rattle.world_core.proofs.Each.{filter_none, filter_whole, filter_each, All_each, each_one}
+use Rattle.air_base.proofs.Each.{filter_none, filter_whole, filter_each, All_each, each_one}
 
 -- a send of cycle t, of node k
 send_cycle : (P : Send → Type 0) (t k : ℕ) (o : Option ℕ) → ((b : ℕ) → o ≡ Some b → P (record { node = k; cycle = t; byte = b })) → All P (send_of t k o)

@@ -6,8 +6,8 @@ use Rattle.std.specs.List.Sorted.{IsNonDecreasingBy}
 use Rattle.std.proofs.lemmas.List.Elements.{All-append, All-cons, All-head, All-tail, All-weaker, All-filter}
 use Rattle.std.proofs.lemmas.Bool.Decides.{nat_tests}
 use native.Mathlib.Decide.{dec_le, ℕ_discrete}
-use Rattle.world_core.specs.Each.{each_below}
-use Rattle.world_core.proofs.Each.{filter_none, filter_each, All_each, each_same, each_none, each_one}
+use Rattle.air_base.specs.Each.{each_below}
+use Rattle.air_base.proofs.Each.{filter_none, filter_each, All_each, each_same, each_none, each_one}
 
 same_key : (a b : ℕ) → a ≡ b → (a == b) ≡ true
 same_key a b e = grind (arith, nat_tests)

@@ -1,7 +1,7 @@
 -- A list of sends with, for each node, a way back along its own sends. Own to this simulator.
 use Rattle.std.specs.Prelude.{◌≡◌, ℕ, zero, suc, ◌<◌, ◌≤◌, ◌==◌, if◌then◌else◌, List, length, slice_index, slice_index_or}
 use Rattle.std.specs.List.{All, AllPairs}
-use Rattle.world_core.specs.declared.air.Send.{Send}
+use Rattle.air_base.specs.declared.air.Send.{Send}
 use Rattle.world_core.specs.declared.ways.JumpPointer.{JumpPointer}
 
 abbrev pub no_send : Send

@@ -1,9 +1,9 @@
 -- When the clocks of all nodes, the counts of their posted sends, and the record of sends and samples agree. Own to
 -- this simulator.
 use Rattle.std.specs.Prelude.{◌≡◌, ℕ, ◌≤◌, List, length, slice_index}
-use Rattle.world_core.specs.declared.air.Send.{Send}
-use Rattle.world_core.specs.declared.air.Ask.{Ask}
-use Rattle.world_core.specs.declared.air.Heard.{Heard}
+use Rattle.air_base.specs.declared.air.Send.{Send}
+use Rattle.air_base.specs.declared.air.Ask.{Ask}
+use Rattle.air_base.specs.declared.air.Heard.{Heard}
 use Rattle.world_core.specs.declared.world.WorldFacts.{WorldFacts}
 use Rattle.world_core.specs.Lawful.{IsLawful}
 use Rattle.world_core.specs.Sends.{sends_below}

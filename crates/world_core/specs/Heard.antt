@@ -1,8 +1,8 @@
 -- What a node hears that samples the air in a cycle. Own to this simulator.
 use Rattle.std.specs.Prelude.{ℕ, ◌-◌, ◌/◌, min, Bool, ◌&&◌, bit_or, List, [], ◌∷◌}
 use Rattle.std.specs.List.{filter}
-use Rattle.world_core.specs.declared.air.Send.{Send}
-use Rattle.world_core.specs.declared.air.Heard.{Heard}
+use Rattle.air_base.specs.declared.air.Send.{Send}
+use Rattle.air_base.specs.declared.air.Heard.{Heard}
 use Rattle.world_core.specs.Topology.{Topology, is_linked, is_open, is_in_time, latency_of}
 
 -- node j hears the send x in cycle s: over a link that was open when it was sent, from the latency on, for the byte

@@ -1,7 +1,7 @@
 -- What is heard with one audible send more, as the code adds them up.
 use Rattle.std.specs.Prelude.{ℕ, min, bit_or, ◌==◌, if◌then◌else◌}
-use Rattle.world_core.specs.declared.air.Send.{Send}
-use Rattle.world_core.specs.declared.air.Heard.{Heard}
+use Rattle.air_base.specs.declared.air.Send.{Send}
+use Rattle.air_base.specs.declared.air.Heard.{Heard}
 use Rattle.world_core.specs.Heard.{heard_as}
 
 abbrev pub heard_with : (Send → ℕ) → Heard → Send → Heard

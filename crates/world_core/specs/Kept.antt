@@ -1,7 +1,7 @@
 -- The kept part of a bounded record: which sends are still kept at a floor, and which are gone. Own to this simulator.
 use Rattle.std.specs.Prelude.{◌≡◌, ℕ, ◌+◌, ◌*◌, ◌/◌, ◌≤◌, Bool, nat_le, nat_lt, List, length, take, drop}
 use Rattle.std.specs.List.{All, filter}
-use Rattle.world_core.specs.declared.air.Send.{Send}
+use Rattle.air_base.specs.declared.air.Send.{Send}
 use Rattle.world_core.specs.declared.world.WorldFacts.{WorldFacts}
 use Rattle.world_core.specs.Topology.{Topology, reach}
 use Rattle.world_core.specs.Sends.{sends_of, sends_below}

@@ -1,8 +1,8 @@
 -- The laws of a world of the air, and the first entry of a list that breaks one. Own to this simulator.
 use Rattle.std.specs.Prelude.{ℕ, ◌+◌, ◌≤◌, List}
 use Rattle.std.specs.List.{All, AllPairs}
-use Rattle.world_core.specs.declared.air.Send.{Send}
-use Rattle.world_core.specs.declared.air.Ask.{Ask}
+use Rattle.air_base.specs.declared.air.Send.{Send}
+use Rattle.air_base.specs.declared.air.Ask.{Ask}
 use Rattle.world_core.specs.declared.world.WorldFacts.{WorldFacts}
 use Rattle.world_core.specs.declared.faults.WorldFault.{WorldFault}
 use Rattle.world_core.specs.declared.faults.WorldFault.TheVariants.{SendOrder, AskOrder}

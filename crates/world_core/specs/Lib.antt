@@ -4,9 +4,6 @@ pub mod Order
 pub mod Sound
 pub mod Stands
 pub mod Resumed
-pub mod Each
-pub mod NodeKind
-pub mod NodeRun
 pub mod FirstFault
 pub mod Topology
 pub mod SpanSearch

@@ -1,7 +1,7 @@
 -- For each node the nodes that it hears, as a table of lists. Own to this simulator.
 use Rattle.std.specs.Prelude.{◌≡◌, ℕ, ◌<◌, ◌≤◌, nat_lt, if◌then◌else◌, List, [], ◌∷◌, take, slice_index_or}
 use Rattle.world_core.specs.declared.neighbours.NodeList.{NodeList}
-use Rattle.world_core.specs.Each.{each_below}
+use Rattle.air_base.specs.Each.{each_below}
 use Rattle.world_core.specs.LinkTable.{entry_at}
 
 abbrev pub no_nodes : NodeList

@@ -1,13 +1,13 @@
 -- The single global order of cycles, over any kind of node, from any moment on. Own to this simulator.
 use Rattle.std.specs.Prelude.{ℕ, zero, suc, ◌+◌, ◌-◌, Bool, if◌then◌else◌, Option, Some, None, List, [], ◌∷◌, ◌++◌}
-use Rattle.world_core.specs.declared.air.Send.{Send}
-use Rattle.world_core.specs.declared.air.Ask.{Ask}
-use Rattle.world_core.specs.declared.air.Heard.{Heard}
+use Rattle.air_base.specs.declared.air.Send.{Send}
+use Rattle.air_base.specs.declared.air.Ask.{Ask}
+use Rattle.air_base.specs.declared.air.Heard.{Heard}
 use Rattle.world_core.specs.declared.world.WorldFacts.{WorldFacts}
-use Rattle.world_core.specs.Each.{each_below}
+use Rattle.air_base.specs.Each.{each_below}
 use Rattle.world_core.specs.Topology.{Topology}
 use Rattle.world_core.specs.Heard.{heard}
-use Rattle.world_core.specs.NodeKind.{NodeKind, ticked, ticked_rows}
+use Rattle.air_base.specs.NodeKind.{NodeKind, ticked, ticked_rows}
 
 -- all nodes of a network, and the moment in which they begin
 pub record Fleet (S R : Type 0) : Type 0 where

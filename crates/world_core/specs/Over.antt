@@ -1,7 +1,7 @@
 -- What the walk back along a node's sends meets. Own to this simulator.
 use Rattle.std.specs.Prelude.{◌≡◌, ℕ, ◌+◌, ◌-◌, ◌<◌, List, [], ◌∷◌}
-use Rattle.world_core.specs.declared.air.Send.{Send}
-use Rattle.world_core.specs.declared.air.Heard.{Heard}
+use Rattle.air_base.specs.declared.air.Send.{Send}
+use Rattle.air_base.specs.declared.air.Heard.{Heard}
 use Rattle.world_core.specs.Topology.{Topology, latency_of}
 use Rattle.world_core.specs.HeardMore.{heard_with}
 use Rattle.world_core.specs.Chain.{send_at}

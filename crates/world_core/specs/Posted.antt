@@ -1,8 +1,8 @@
 -- What is posted of a world's sends: the first so many of each node. Own to this simulator.
 use Rattle.std.specs.Prelude.{◌≡◌, ℕ, ◌+◌, ◌-◌, ◌≤◌, true, List, take, slice_index}
-use Rattle.world_core.specs.declared.air.Send.{Send}
+use Rattle.air_base.specs.declared.air.Send.{Send}
 use Rattle.world_core.specs.declared.world.WorldFacts.{WorldFacts}
-use Rattle.world_core.specs.Each.{each_below}
+use Rattle.air_base.specs.Each.{each_below}
 use Rattle.world_core.specs.Topology.{is_needed, latency_of}
 use Rattle.world_core.specs.Sends.{sends_of, sends_below}
 

@@ -1,8 +1,8 @@
 -- Each node's sends and samples, and how many sends lie below a cycle. Own to this simulator.
 use Rattle.std.specs.Prelude.{◌≡◌, ℕ, ◌<◌, ◌==◌, nat_lt, List, length, slice_index_or}
 use Rattle.std.specs.List.{filter}
-use Rattle.world_core.specs.declared.air.Send.{Send}
-use Rattle.world_core.specs.declared.air.Ask.{Ask}
+use Rattle.air_base.specs.declared.air.Send.{Send}
+use Rattle.air_base.specs.declared.air.Ask.{Ask}
 use Rattle.world_core.specs.declared.world.WorldFacts.{WorldFacts}
 
 -- the sends of node k, in order

@@ -2,7 +2,7 @@
 use Rattle.std.specs.Prelude.{◌≡◌, ℕ, ◌+◌, ◌≤◌, ◌<◌}
 use Rattle.std.specs.List.{All, AllPairs}
 use Rattle.world_core.specs.Topology.{IsTopology}
-use Rattle.world_core.specs.NodeKind.{IsSteady}
+use Rattle.air_base.specs.NodeKind.{IsSteady}
 use Rattle.world_core.specs.Sends.{sends_of}
 use Rattle.world_core.specs.Order.{Fleet}
 

@@ -1,7 +1,7 @@
 -- What a search among spans that stand in order answers: the span of a link that has begun last by a cycle.
 use Rattle.std.specs.Prelude.{◌≡◌, ℕ, ◌≤◌, ◌<◌, Bool, true, false, ◌&&◌, ◌||◌, ◌==◌, nat_le, nat_lt, List, length, slice_index_or}
 use Rattle.std.specs.List.{All}
-use Rattle.world_core.specs.declared.air.Span.{Span}
+use Rattle.world_core.specs.declared.spans.Span.{Span}
 use Rattle.world_core.specs.declared.spans.LastSpan.{LastSpan}
 use Rattle.world_core.specs.declared.spans.LastSpan.TheVariants.{Always, NotYet, Until}
 use Rattle.world_core.specs.Topology.{has_span}

@@ -1,7 +1,7 @@
 -- One node of the global order, at the beginning of a cycle or in the middle of one that samples. Own to this
 -- simulator.
 use Rattle.std.specs.Prelude.{◌≡◌, ℕ, ◌<◌, ◌≤◌, Bool, true, if◌then◌else◌, List, [], ◌++◌}
-use Rattle.world_core.specs.NodeRun.{Timed, IsQuiet}
+use Rattle.air_base.specs.NodeRun.{Timed, IsQuiet}
 use Rattle.world_core.specs.Order.{Fleet, node_at, rows_between}
 
 abbrev pub state_of : {S R : Type 0} → Fleet S R → ℕ → ℕ → Bool → S

@@ -1,11 +1,11 @@
 -- The topology of a network of nodes, and which topologies there are. Own to this simulator.
 use Rattle.std.specs.Prelude.{◌≡◌, ◌≢◌, ℕ, suc, ◌+◌, ◌≤◌, ◌<◌, max, Bool, true, not, ◌&&◌, ◌||◌, ◌==◌, nat_le, nat_lt, if◌then◌else◌, List, [], ◌∷◌, length, take, slice_index_or}
 use Rattle.std.specs.List.{All, AllPairs, Contains, list_any}
-use Rattle.world_core.specs.declared.air.Link.{Link}
-use Rattle.world_core.specs.declared.air.Span.{Span}
+use Rattle.world_core.specs.declared.link_table.Link.{Link}
+use Rattle.world_core.specs.declared.spans.Span.{Span}
 use Rattle.world_core.specs.declared.faults.TopoFault.{TopoFault}
 use Rattle.world_core.specs.declared.faults.TopoFault.TheVariants.{Range, SelfLink, TwiceLinked}
-use Rattle.world_core.specs.Each.{each_below}
+use Rattle.air_base.specs.Each.{each_below}
 use Rattle.world_core.specs.FirstFault.{AllKeep, IsFirstFault}
 
 pub record Topology : Type 0 where

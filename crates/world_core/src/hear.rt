@@ -3,7 +3,8 @@ ghost use Rattle.std.specs.Prelude.{◌≡◌};
 ghost use Rattle.world_core.specs.Heard.{age_of};
 ghost use Rattle.world_core.specs.HeardMore.{heard_with};
 
-use crate::{Heard, Send, Topo};
+use crate::Topo;
+use air_base::{Heard, Send};
 
 // For how long the node has heard the send, in steps of 16 cycles.
 fn age(topo: &Topo, send: &Send, node: u8, cycle: u64) -> u64

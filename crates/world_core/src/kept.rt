@@ -2,7 +2,7 @@
 // does nothing.
 ghost use Rattle.std.specs.Prelude.{◌≡◌, ◌↔◌, ℕ, ◌≤◌, ◌<◌, ◌+◌, true, List, length};
 ghost use Rattle.std.specs.List.{All};
-ghost use Rattle.world_core.specs.declared.air.Send.{Send};
+ghost use Rattle.air_base.specs.declared.air.Send.{Send};
 ghost use Rattle.world_core.specs.declared.world.WorldFacts.{WorldFacts};
 ghost use Rattle.world_core.specs.Topology.{Topology, IsTopology, IsHearable, IsInside, is_needed};
 ghost use Rattle.world_core.specs.Heard.{heard};

@@ -4,7 +4,6 @@
 //! the single global order of cycles, which says what all nodes do, with its laws.
 #![tactic(auto)]
 
-mod air;
 mod faults;
 mod global;
 mod hear;
@@ -18,11 +17,12 @@ mod topo;
 mod ways;
 mod world;
 
-pub use air::{Ask, Heard, Link, Sampled, Send, Span};
 pub use faults::{NoMemory, TopoFault, WorldFault};
 pub use global::{lawful_law, resumption_law, truth_law};
 pub use hear::heard_with;
 pub use kept::{EPOCH, cut_law, kept_law, needed_law, part_law, room_law};
+pub use link_table::Link;
 pub use log::SendLog;
+pub use spans::Span;
 pub use topo::Topo;
 pub use world::{World, WorldFacts};

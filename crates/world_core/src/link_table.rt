@@ -2,7 +2,14 @@
 ghost use Rattle.std.specs.Prelude.{◌≡◌, ℕ, ◌+◌, ◌<◌, ◌&&◌, ◌==◌, if◌then◌else◌, length};
 ghost use Rattle.world_core.specs.LinkTable.{entry_at, filled};
 
-use crate::Link;
+/// A link of a topology: a node that hears another one.
+#[derive(Clone, Copy)]
+pub struct Link {
+    /// The number of the node that is heard.
+    pub from: u8,
+    /// The number of the node that hears it.
+    pub to: u8,
+}
 
 /// Who hears whom among 64 nodes: entry 64 * j + k is one more than the place of the link from node k to node j, or 0.
 #[derive(Clone, Copy)]

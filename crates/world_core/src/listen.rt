@@ -8,7 +8,8 @@ ghost use Rattle.world_core.specs.Chain.{newest, Rises, IsChain, AreNewest, IsPl
 ghost use Rattle.world_core.specs.Over.{heard_over, IsYoung};
 
 use crate::ways::JumpPointer;
-use crate::{Heard, Send, Topo, heard_with};
+use crate::{Topo, heard_with};
+use air_base::{Heard, Send};
 
 // Whether at this place, counted from 1, stands a send of node `from` that is too young to be heard.
 fn is_young(topo: &Topo, sends: &[Send], place: usize, from: u8, node: u8, cycle: u64) -> bool

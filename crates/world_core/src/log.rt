@@ -1,7 +1,8 @@
 // The record of sends.
 use crate::listen::listen;
 use crate::ways::{JumpPointer, chained, keep, no_places, way_from};
-use crate::{Heard, NoMemory, Send, Topo};
+use crate::{NoMemory, Topo};
+use air_base::{Heard, Send};
 use std::alloc::Global;
 use std::marker::Model;
 

@@ -2,11 +2,19 @@
 ghost use Rattle.std.specs.Prelude.{◌≡◌, ◌↔◌, ℕ, ◌+◌, ◌-◌, nat_lt, ◌<◌, ◌≤◌, true, false, length, slice_index_or, IsTrue};
 ghost use Rattle.std.specs.List.{All, AllPairs};
 ghost use Rattle.std.specs.List.Sorted.{IsPartitionPoint};
-ghost use Rattle.world_core.specs.declared.air.Span.{Span};
 ghost use Rattle.world_core.specs.Topology.{IsSpan, IsSpanOrder, is_open_in, is_reached_in};
 ghost use Rattle.world_core.specs.SpanSearch.{begins_by, IsLastBegun};
 
-use crate::Span;
+/// A span of cycles in which a link is open.
+#[derive(Clone, Copy)]
+pub struct Span {
+    /// The place of the link in the list of links.
+    pub link: u32,
+    /// The first cycle.
+    pub from: u64,
+    /// The cycle after the last.
+    pub until: u64,
+}
 
 /// Which span of a link has begun last by a cycle.
 #[derive(Clone, Copy)]

@@ -22,6 +22,8 @@ pub struct Topo {
     links: Vec<Link>,
     own: Vec<u64>,
     spans: Vec<Span>,
+    // the greatest latency of all
+    reach: u64,
     table: LinkTable,
     // the nodes that each node hears, of `table`
     neighbours: NeighbourTable,
@@ -38,6 +40,7 @@ impl Drop for Topo {
             links: _,
             own: _,
             spans: _,
+            reach: _,
             table: _,
             neighbours: _,
         } = self;
@@ -45,7 +48,8 @@ impl Drop for Topo {
 }
 
 impl Model for Topo {
-    ghost use Rattle.world_core.specs.Topology.{Topology, topology, IsTopology};
+    ghost use Rattle.std.specs.Prelude.{◌≡◌};
+    ghost use Rattle.world_core.specs.Topology.{Topology, topology, IsTopology, greatest};
     ghost use Rattle.world_core.specs.LinkTable.{IsTableOf};
     ghost use Rattle.world_core.specs.NeighbourTable.{AreEntered};
 
@@ -53,7 +57,7 @@ impl Model for Topo {
 
     ghost view = { λ t. topology t.nodes t.limit t.latency t.byte_time t.links.items t.own.items t.spans.items };
 
-    ghost invariant = { λ t. IsTopology (topology t.nodes t.limit t.latency t.byte_time t.links.items t.own.items t.spans.items) × IsTableOf t.links.items t.table.rows × AreEntered t.table.rows t.nodes 64 t.neighbours.rows };
+    ghost invariant = { λ t. IsTopology (topology t.nodes t.limit t.latency t.byte_time t.links.items t.own.items t.spans.items) × IsTableOf t.links.items t.table.rows × AreEntered t.table.rows t.nodes 64 t.neighbours.rows × (t.reach ≡ greatest t.own.items t.latency) };
 }
 
 // Whether each link ends at nodes that there are.
@@ -260,6 +264,7 @@ impl Topo {
         if !are_in_range(nodes, limit, latency, byte_time, &links, &own, &spans) {
             return Err(TopoFault::Range);
         }
+        let reach = greatest(&own, latency);
         match table_of(&links) {
             Ok(table) => Ok(Topo {
                 nodes,
@@ -269,6 +274,7 @@ impl Topo {
                 links,
                 own,
                 spans,
+                reach,
                 neighbours: NeighbourTable::of(&table, nodes),
                 table,
             }),
@@ -291,6 +297,7 @@ impl Topo {
             links,
             own,
             spans,
+            reach: self.reach,
             table: self.table,
             neighbours: self.neighbours,
         })
@@ -394,7 +401,7 @@ impl Topo {
         ensures lawful { IsTopology self.now }
         ensures most { (1 ≤ result) × (result ≤ 65535) }
     {
-        greatest(&self.own, self.latency)
+        self.reach
     }
 
     // When links are open, as a search among them wants it: in order, and none of them empty.

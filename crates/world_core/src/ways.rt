@@ -8,7 +8,8 @@ ghost use Rattle.std.specs.List.{All, filter};
 ghost use Rattle.world_core.specs.Kept.{is_kept};
 ghost use Rattle.world_core.specs.Chain.{newest, AreBack, IsChain, AreNewest};
 
-use crate::{Send, Topo};
+use crate::Topo;
+use air_base::Send;
 
 /// How to go back from a send. A place counts from 1, and 0 is none.
 #[derive(Clone, Copy)]

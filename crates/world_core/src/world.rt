@@ -1,7 +1,8 @@
 // A world of the air: everything that its nodes send, and every cycle in which one samples.
 ghost use Rattle.std.specs.Prelude.{◌≡◌};
 
-use crate::{Ask, Send, Topo};
+use crate::Topo;
+use air_base::{Ask, Send};
 use std::collections::LinkedList;
 
 /// What a world is, for contracts: its topology, all sends, and all samples. No value of it is made.

@@ -1,5 +1,5 @@
 use Rattle.std.proofs.Common.{ap, not}
-use Rattle.bus_step.specs.FlowTable.{flow_effect}
+use Rattle.avr_core.specs.FlowTable.{flow_effect}
 use Rattle.instruction_laws.specs.Branches.{branches}
 use Rattle.instruction_laws.proofs.branch_law.Goals as goal
 

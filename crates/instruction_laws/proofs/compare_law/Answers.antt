@@ -1,5 +1,5 @@
-use Rattle.arith_step.specs.Shapes.{compares}
-use Rattle.arith_step.specs.Table.{effect}
+use Rattle.avr_core.specs.ArithShapes.{compares}
+use Rattle.avr_core.specs.ArithTable.{effect}
 use Rattle.instruction_laws.specs.Branches.{reg}
 use Rattle.instruction_laws.proofs.Compared.{lower, equal, less}
 use Rattle.instruction_laws.proofs.compare_law.Goals as goal

@@ -1,5 +1,5 @@
-use Rattle.arith_step.specs.Shapes.{compares, compares_with_carry, subtracts_with_carry}
-use Rattle.arith_step.specs.Table.{effect}
+use Rattle.avr_core.specs.ArithShapes.{compares, compares_with_carry, subtracts_with_carry}
+use Rattle.avr_core.specs.ArithTable.{effect}
 use Rattle.instruction_laws.specs.Branches.{reg}
 use Rattle.instruction_laws.proofs.Compared.{words_lower, words_equal, words_less}
 use Rattle.instruction_laws.proofs.compare_words_law.Goals as goal

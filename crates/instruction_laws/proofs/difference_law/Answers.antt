@@ -1,6 +1,6 @@
 use Rattle.std.proofs.Common.{false, refl}
-use Rattle.arith_step.specs.Shapes.{subtracts, subtracts_with_carry}
-use Rattle.arith_step.specs.Table.{effect}
+use Rattle.avr_core.specs.ArithShapes.{subtracts, subtracts_with_carry}
+use Rattle.avr_core.specs.ArithTable.{effect}
 use Rattle.arith_step.specs.Bytes.{subtracted}
 use Rattle.instruction_laws.specs.Branches.{reg}
 use Rattle.instruction_laws.proofs.Pairs.{compared, differs}

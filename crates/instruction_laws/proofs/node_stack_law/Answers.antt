@@ -1,9 +1,9 @@
 use Rattle.std.proofs.Common.{refl}
 use Rattle.avr_decoder.specs.declared.op.Op.TheVariants as op
 use Rattle.data_space.specs.Core.{pair_at}
-use Rattle.bus_step.specs.FlowShapes.{relative}
-use Rattle.bus_step.specs.FlowTable.{flow_effect}
-use Rattle.instruction_table.specs.Execute.{executed_over}
+use Rattle.avr_core.specs.FlowShapes.{relative}
+use Rattle.avr_core.specs.FlowTable.{flow_effect}
+use Rattle.avr_core.specs.Execute.{executed_over}
 use Rattle.node_core.specs.Execute.{executed}
 use Rattle.instruction_laws.proofs.NodeStack.{comes_back, push_pop}
 use Rattle.instruction_laws.proofs.node_stack_law.Goals as goal

@@ -1,8 +1,8 @@
 use Rattle.std.proofs.Common.{refl}
 use Rattle.avr_decoder.specs.declared.op.Op.TheVariants as op
 use Rattle.data_space.specs.Core.{pair_at}
-use Rattle.bus_step.specs.FlowShapes.{relative}
-use Rattle.bus_step.specs.FlowTable.{flow_effect}
+use Rattle.avr_core.specs.FlowShapes.{relative}
+use Rattle.avr_core.specs.FlowTable.{flow_effect}
 use Rattle.instruction_laws.proofs.Returns.{comes_back}
 use Rattle.instruction_laws.proofs.return_law.Goals as goal
 

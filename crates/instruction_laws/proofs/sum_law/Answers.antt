@@ -1,5 +1,5 @@
-use Rattle.arith_step.specs.Shapes.{adds}
-use Rattle.arith_step.specs.Table.{effect}
+use Rattle.avr_core.specs.ArithShapes.{adds}
+use Rattle.avr_core.specs.ArithTable.{effect}
 use Rattle.instruction_laws.proofs.Pairs.{carries, sums}
 use Rattle.instruction_laws.proofs.sum_law.Goals as goal
 

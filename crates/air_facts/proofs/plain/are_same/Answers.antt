@@ -1,7 +1,7 @@
 use Rattle.std.proofs.Common.{◌≡◌, ◌&&◌, ◌==◌, true, subst, arith}
 use Rattle.std.proofs.lemmas.Slice.Eq.{slice_eq-Decides}
 use Rattle.std.proofs.lemmas.Bool.Decides.{nat_tests}
-use Rattle.world_core.specs.declared.air.Send.{Send}
+use Rattle.air_base.specs.declared.air.Send.{Send}
 use Rattle.air_facts.proofs.plain.are_same.Goals as goal
 
 same : (a b : Send) → ((a.node == b.node) && ((a.cycle == b.cycle) && (a.byte == b.byte))) ≡ true → a ≡ b

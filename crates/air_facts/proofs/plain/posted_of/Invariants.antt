@@ -1,5 +1,5 @@
 use Rattle.std.proofs.Common.{◌≡◌, take}
-use Rattle.world_core.specs.Each.{each_below}
+use Rattle.air_base.specs.Each.{each_below}
 use Rattle.world_core.specs.Sends.{sends_of}
 use Rattle.world_core.specs.Posted.{sent_of}
 use Rattle.air_facts.proofs.plain.posted_of.Given as goal

@@ -1,6 +1,6 @@
 use Rattle.std.proofs.Common.{sym, subst}
 use Rattle.std.specs.List.{All}
-use Rattle.world_core.specs.declared.air.Send.{Send}
+use Rattle.air_base.specs.declared.air.Send.{Send}
 use Rattle.world_core.specs.Topology.{Topology, IsInside}
 use Rattle.air_facts.proofs.ByNodes.{posted_inside}
 use Rattle.air_facts.proofs.plain.sample_agrees.Goals as goal

@@ -1,9 +1,9 @@
 use Rattle.std.proofs.Common.{◌≡◌, ◌⊎◌, ℕ, ◌+◌, ◌≤◌, ◌++◌, false, List, [], sym, subst, arith}
 use Rattle.std.specs.List.{All, filter}
-use Rattle.world_core.specs.declared.air.Send.{Send}
+use Rattle.air_base.specs.declared.air.Send.{Send}
 use Rattle.world_core.specs.Heard.{heard}
 use Rattle.world_core.specs.Kept.{is_kept}
-use Rattle.world_core.specs.NodeRun.{Timed}
+use Rattle.air_base.specs.NodeRun.{Timed}
 use Rattle.world_core.specs.Topology.{Topology, latency_of}
 use Rattle.node_core.specs.Cycle.{node_kind}
 use Rattle.node_core.specs.State.{NodeState}

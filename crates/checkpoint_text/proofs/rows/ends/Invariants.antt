@@ -1,5 +1,5 @@
 use Rattle.std.proofs.Common.{◌≡◌}
-use Rattle.world_core.specs.NodeRun.{Timed}
+use Rattle.air_base.specs.NodeRun.{Timed}
 use Rattle.node_core.specs.State.{NodeState}
 use Rattle.node_core.specs.declared.row.Row.{Row}
 use Rattle.checkpoint_text.specs.Paused.{ends_of}

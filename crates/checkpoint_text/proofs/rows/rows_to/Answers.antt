@@ -1,5 +1,5 @@
 use Rattle.std.proofs.Common.{◌≡◌, cond, ◌==◌, List, [], ◌++◌, length, ap, ◌∙◌, arith}
-use Rattle.world_core.specs.NodeRun.{Timed}
+use Rattle.air_base.specs.NodeRun.{Timed}
 use Rattle.world_core.specs.Topology.{Topology}
 use Rattle.node_core.specs.State.{NodeState}
 use Rattle.node_core.specs.declared.row.Row.{Row}

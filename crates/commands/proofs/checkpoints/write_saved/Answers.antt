@@ -1,6 +1,6 @@
 use Rattle.std.proofs.Common.{◌≡◌, ℕ, ◌*◌, ◌<◌, List, length, refl, ap, ◌∙◌, sym, subst}
 use Rattle.std.specs.Prelude.{slice_index_or}
-use Rattle.world_core.specs.declared.air.Send.{Send}
+use Rattle.air_base.specs.declared.air.Send.{Send}
 use Rattle.world_core.specs.Kept.{epoch}
 use Rattle.node_runner.specs.Place.{Place}
 use Rattle.node_runner.specs.Run.{RunAt, kept_at}

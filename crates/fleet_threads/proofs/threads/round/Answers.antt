@@ -3,7 +3,7 @@ use Rattle.std.proofs.lemmas.Bool.{false≢true}
 use Rattle.std.proofs.lemmas.List.Elements.{All-set}
 use Rattle.fleet_threads.specs.declared.member.Member.{Member}
 use Rattle.fleet_threads.specs.Member.{IsUnderWay}
-use Rattle.fleet_threads.proofs.Lists.{stepped, one_more_over}
+use Rattle.fleet_threads.proofs.Lists.{stepped, one_more_over, one_more_look}
 use Rattle.fleet_threads.proofs.threads.round.Goals.{then-not-step, else-not-step}
 use Rattle.fleet_threads.proofs.threads.round.Goals as goal
 
@@ -19,6 +19,7 @@ loop-k-preserved g c =
       all = All-set (IsUnderWay g.N.Session.table g.N.Session.world c.args.scenario.now g.N.Session.floor c.args.end) xs k new c.step.ensures.on.0 inv.all;
       numbers = stepped xs k c.index_mut.result.now new long (c.step.ensures.on.1 ∙ ap (λ (m : Member). m.runner.number) c.index_mut.ensures.value) ∙ inv.numbers;
       len = inv.len;
+      once = let one = c.step.ensures.once refl in let more = one_more_look xs k c.index_mut.result.now new long c.index_mut.ensures.value one in let before = inv.once in omega arith;
       over = (λ on. elim c.if-not-step.branch [
         | then-not-step w ↦ absurd (false≢true (sym w.over-is ∙ on))
         | else-not-step w ↦ one_more_over c.args.end xs k new long (inv.over (sym w.over-is ∙ on)) (c.step.ensures.over (let e : c.step.result ≡ true = search rules in e))
@@ -26,7 +27,7 @@ loop-k-preserved g c =
     }
 
 pub loop-k-init : goal.loop-k-init
-loop-k-init g c = record { all = c.requires; numbers = refl; len = refl; over = (λ on i d lt. absurd (omega arith)) }
+loop-k-init g c = record { all = c.requires; numbers = refl; len = refl; once = omega arith; over = (λ on i d lt. absurd (omega arith)) }
 
 pub step-requires : goal.step-requires
 step-requires g c =
@@ -44,3 +45,8 @@ pub returns-clause-over : goal.returns-clause-over
 returns-clause-over g c on k d lt =
     let len : length c.loop-k.waiting.items ≡ vec_len c.loop-k.waiting = search rules in
     c.loop-k.invariant.over on k d (omega (arith, lt, c.loop-k-test.false, c.len-k-end.ensures, c.loop-k.invariant.len, len))
+
+pub returns-clause-once : goal.returns-clause-once
+returns-clause-once g c =
+    let len : length c.loop-k.waiting.items ≡ vec_len c.loop-k.waiting = search rules in
+    omega (arith, c.loop-k.invariant.once, c.loop-k.auto.k-end, c.len-k-end.ensures, c.loop-k.invariant.len, len)

@@ -1,7 +1,7 @@
-use Rattle.std.proofs.Common.{◌≡◌, ◌<◌, ℕ, true, get_or, vec_len}
+use Rattle.std.proofs.Common.{◌≡◌, ◌+◌, ◌≤◌, ◌<◌, ℕ, true, get_or, vec_len}
 use Rattle.std.specs.List.{All}
 use Rattle.fleet_threads.specs.declared.member.Member.{Member}
-use Rattle.fleet_threads.specs.Member.{IsUnderWay, IsOver, numbers}
+use Rattle.fleet_threads.specs.Member.{IsUnderWay, IsOver, numbers, all_looks}
 use Rattle.fleet_threads.proofs.threads.round.Given as goal
 
 abbrev pub invariant-loop-k : goal.invariant-loop-k
@@ -9,5 +9,6 @@ invariant-loop-k g l = record {
   all : All (IsUnderWay g.N.Session.table g.N.Session.world l.scenario g.N.Session.floor l.end) l.waiting.items;
   numbers : numbers l.waiting.items ≡ numbers l.fn.waiting.items;
   len : vec_len l.waiting ≡ vec_len l.fn.waiting;
+  once : all_looks l.waiting.items ≤ all_looks l.fn.waiting.items + l.k;
   over : l.over ≡ true → (i : ℕ) (d : Member) → i < l.k → IsOver l.end (get_or l.waiting.items i d);
 }

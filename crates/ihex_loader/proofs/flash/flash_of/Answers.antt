@@ -1,5 +1,5 @@
 use Rattle.std.proofs.Common.{◌≡◌, ◌*◌, ℕ, List, length, ap, ◌∙◌, arith}
-use Rattle.ihex_loader.specs.Flash.{bytes_of_words, padded, word_at}
+use Rattle.ihex_loader.specs.Flash.{padded, word_at}
 use Rattle.ihex_loader.proofs.Words.{words_read_back}
 use Rattle.ihex_loader.proofs.flash.flash_of.Goals as goal
 

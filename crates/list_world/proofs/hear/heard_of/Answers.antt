@@ -1,6 +1,6 @@
 use Rattle.std.proofs.Common.{sym, ◌∙◌, arith}
 use Rattle.std.proofs.lemmas.Bool.{false≢true}
-use Rattle.world_core.specs.declared.air.Send.{Send}
+use Rattle.air_base.specs.declared.air.Send.{Send}
 use Rattle.world_core.specs.Heard.{age_of, is_audible}
 use Rattle.list_world.proofs.hear.heard_of.Goals as goal
 use Rattle.list_world.proofs.hear.heard_of.Goals.{then-hears, else-hears}

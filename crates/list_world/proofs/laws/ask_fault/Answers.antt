@@ -1,6 +1,6 @@
 use Rattle.std.proofs.Common.{sym, ◌∙◌, ◌<◌, ◌+◌, ℕ, List, take, get_or, set, length, arith, subst}
 use Rattle.std.proofs.lemmas.Bool.{false≢true}
-use Rattle.world_core.specs.declared.air.Ask.{Ask}
+use Rattle.air_base.specs.declared.air.Ask.{Ask}
 use Rattle.list_world.proofs.NextEntry.{IsFree, free_none, next_at, free_at, kept_at, fault_at}
 use Rattle.list_world.proofs.laws.ask_fault.Goals as goal
 

@@ -1,5 +1,5 @@
 use Rattle.std.proofs.Common.{take}
-use Rattle.world_core.specs.declared.air.Ask.{Ask}
+use Rattle.air_base.specs.declared.air.Ask.{Ask}
 use Rattle.world_core.specs.FirstFault.{KeepsBelow}
 use Rattle.world_core.specs.Lawful.{IsNextAsk}
 use Rattle.list_world.proofs.NextEntry.{IsFree}

@@ -1,5 +1,5 @@
 use Rattle.std.proofs.Common.{take}
-use Rattle.world_core.specs.declared.air.Send.{Send}
+use Rattle.air_base.specs.declared.air.Send.{Send}
 use Rattle.world_core.specs.FirstFault.{KeepsBelow}
 use Rattle.world_core.specs.Lawful.{IsNextSend}
 use Rattle.list_world.proofs.NextEntry.{IsFree}

@@ -1,6 +1,6 @@
 use Rattle.std.proofs.Common.{◌≡◌, ℕ, [], ◌∷◌, ◌++◌, sym, ◌∙◌, ap, subst}
 use Rattle.std.specs.List.{Contains}
-use Rattle.world_core.specs.declared.air.Sampled.{Sampled}
+use Rattle.air_base.specs.declared.air.Sampled.{Sampled}
 use Rattle.world_core.specs.Settled.{truth}
 use Rattle.neighbour_sync.specs.Seats.{NodeFacts}
 use Rattle.neighbour_sync.specs.Told.{IsTold}

@@ -1,6 +1,6 @@
 use Rattle.std.proofs.Common.{ℕ, ◌<◌, ◌≤◌}
 use Rattle.std.specs.Prelude.{slice_index_or}
-use Rattle.world_core.specs.declared.air.Link.{Link}
+use Rattle.world_core.specs.declared.link_table.Link.{Link}
 use Rattle.world_core.specs.Topology.{latency_of}
 use Rattle.world_core.specs.Kept.{epoch}
 use Rattle.node_runner.proofs.latency.lookahead.Given as goal

@@ -1,5 +1,5 @@
 use Rattle.std.proofs.Common.{◌≡◌, ◌≤◌, ◌-◌}
-use Rattle.world_core.specs.Each.{each_below}
+use Rattle.air_base.specs.Each.{each_below}
 use Rattle.run_reports.specs.Profiles.{profile_at}
 use Rattle.run_reports.proofs.profiles.put_all.Given as goal
 

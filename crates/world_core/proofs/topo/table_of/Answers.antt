@@ -1,5 +1,5 @@
 use Rattle.std.proofs.Common.{sym, ◌∙◌, arith}
-use Rattle.world_core.specs.declared.air.Link.{Link}
+use Rattle.world_core.specs.declared.link_table.Link.{Link}
 use Rattle.world_core.proofs.Links.{itself_at, twice_at, new_at, table_at, place_fits}
 use Rattle.world_core.proofs.topo.table_of.Goals as goal
 

@@ -1,6 +1,6 @@
 use Rattle.std.proofs.Common.{◌≡◌, map, take}
 use Rattle.arrayvec.specs.ArrayVec.{array_vec_len}
-use Rattle.world_core.specs.declared.air.Send.{Send}
+use Rattle.air_base.specs.declared.air.Send.{Send}
 use Rattle.air_sniffer.proofs.frame.Payload.of.Given as goal
 
 abbrev pub invariant-loop-send : goal.invariant-loop-send

@@ -1,7 +1,8 @@
 use Rattle.std.proofs.Common.{◌≡◌, ◌<◌, false, sym, subst, ap, ◌∙◌, arith}
 use Rattle.std.specs.List.{All}
 use Rattle.std.proofs.lemmas.List.Elements.{All-weaker}
-use Rattle.world_core.specs.declared.air.Send.{Send}
+use Rattle.air_base.specs.declared.air.Send.{Send}
+use Rattle.world_core.specs.Chain.{LogFacts}
 use Rattle.world_core.specs.Topology.{Topology}
 use Rattle.node_runner.specs.Scenario.{ScenarioOf}
 use Rattle.state_text.specs.Text.{StateOf}
@@ -30,7 +31,7 @@ invariant_of-result c =
       scenario = c.lawful_topo.ensures.sound;
       limit = limit;
       within = omega arith;
-      paused = (λ e. first_paused sc st c.in_ok-nodes.nodes.items c.in_ok-log.log.sends c.requires c.in_ok-nodes.ensures (c.in_ok-log.ensures ∙ sends));
+      paused = (λ e. first_paused sc st c.in_ok-nodes.nodes.items c.in_ok-log.log.sends c.requires c.in_ok-nodes.ensures (ap (λ (l : LogFacts). l.sends) c.in_ok-log.ensures ∙ sends));
     } in
     let at : (record { scenario = sc; state = st; floor = st.cycle; failed = false }) ≡ (record { scenario = c.of.result.value; state = c.of-2.result.value; floor = c.state.inside.cycle; failed = false }) =
     (λ i. record { scenario = sym c.of.ensures i; state = sym c.of-2.ensures i; floor = sym cycle i; failed = false }) in

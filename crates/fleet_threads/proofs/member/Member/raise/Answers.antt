@@ -1,4 +1,5 @@
-use Rattle.std.proofs.Common.{◌≡◌, ◌≤◌, max, refl, rules, arith}
+use Rattle.std.proofs.Common.{◌≡◌, ◌≤◌, max, refl, ap, rules, arith}
+use Rattle.neighbour_sync.specs.Seats.{NodeFacts}
 use Rattle.fleet_threads.specs.declared.member.Member.{Member}
 use Rattle.fleet_threads.specs.Member.{word_of}
 use Rattle.fleet_threads.proofs.Steps.{passed_raised, told_passed, word_within, raised}
@@ -18,3 +19,6 @@ returns-clause-member g c =
     let clock = c.requires.clock in
     let le : c.max-clock.result ≤ c.args.end = omega arith in
     raised _ _ _ _ _ old c.requires new c.max-clock.result refl refl c.raise.ensures le (passed_raised _ _ _ _ _ old c.requires _ e)
+
+pub returns-clause-looks : goal.returns-clause-looks
+returns-clause-looks g c = ap (λ (a : NodeFacts). a.halts) c.raise.ensures

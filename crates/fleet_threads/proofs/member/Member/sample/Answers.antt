@@ -1,4 +1,4 @@
-use Rattle.std.proofs.Common.{◌≤◌, refl, ap, arith}
+use Rattle.std.proofs.Common.{◌≤◌, length, refl, ap, arith}
 use Rattle.node_runner.specs.Place.{Place}
 use Rattle.fleet_threads.specs.declared.member.Member.{Member}
 use Rattle.fleet_threads.proofs.Steps.{asked_here, late, has_looked, looked, answered}
@@ -13,23 +13,32 @@ ask-requires-clause-floor g c =
     let h : g.N.Session.floor ≤ c.args.self.now.runner.cycle = late _ _ _ _ _ c.args.self.now c.requires.member c.requires.asking in
     omega arith
 
-pub returns-in-Heard : goal.returns-in-Heard
-returns-in-Heard g c =
-    let looked = c.in-Heard.ensures.1 in
+pub returns-in-Heard-clause-on : goal.returns-in-Heard-clause-on
+returns-in-Heard-clause-on g c =
+    let looked = c.in-Heard.ensures.answer.1 in
     let new : Member = record { runner = c.answer.new.self; air = c.ask.new.air; turn = c.args.self.now.turn; gap = c.args.self.now.gap; halted = c.args.self.now.halted } in
     answered _ _ _ _ _ c.args.self.now c.requires.member c.requires.asking new c.answer.ensures.place c.answer.ensures.count looked.number looked.table looked.world looked.told looked.clock refl
 
-pub returns-in-NotYet : goal.returns-in-NotYet
-returns-in-NotYet g c =
+pub returns-in-NotYet-clause-on : goal.returns-in-NotYet-clause-on
+returns-in-NotYet-clause-on g c =
     let m : Member = c.args.self.now in
     let new : Member = record { runner = m.runner; air = c.ask.new.air; turn = m.turn; gap = m.gap; halted = m.halted } in
-    (looked _ _ _ _ _ m c.requires.member new refl refl (has_looked g.N.Session.world m.air c.ask.new.air c.cycle-cycle.result c.ask.result c.ask.ensures), refl)
+    (looked _ _ _ _ _ m c.requires.member new refl refl (has_looked g.N.Session.world m.air c.ask.new.air c.cycle-cycle.result c.ask.result c.ask.ensures.answer), refl)
 
 pub halt-requires : goal.halt-requires
 halt-requires g c =
     let m : Member = c.args.self.now in
     let new : Member = record { runner = m.runner; air = c.ask.new.air; turn = m.turn; gap = m.gap; halted = m.halted } in
-    looked _ _ _ _ _ m c.requires.member new refl refl (has_looked g.N.Session.world m.air c.ask.new.air c.cycle-cycle.result c.ask.result c.ask.ensures)
+    looked _ _ _ _ _ m c.requires.member new refl refl (has_looked g.N.Session.world m.air c.ask.new.air c.cycle-cycle.result c.ask.result c.ask.ensures.answer)
 
-pub returns-in-Halted : goal.returns-in-Halted
-returns-in-Halted g c = (c.halt.ensures.0, ap (λ (p : Place). p.number) c.halt.ensures.1)
+pub returns-in-Halted-clause-on : goal.returns-in-Halted-clause-on
+returns-in-Halted-clause-on g c = (c.halt.ensures.on.0, ap (λ (p : Place). p.number) c.halt.ensures.on.1)
+
+pub returns-in-Heard-clause-once : goal.returns-in-Heard-clause-once
+returns-in-Heard-clause-once g c = c.ask.ensures.once
+
+pub returns-in-NotYet-clause-once : goal.returns-in-NotYet-clause-once
+returns-in-NotYet-clause-once g c = c.ask.ensures.once
+
+pub returns-in-Halted-clause-once : goal.returns-in-Halted-clause-once
+returns-in-Halted-clause-once g c = λ e. let looks = ap length c.halt.ensures.looks in let once = c.ask.ensures.once e in omega arith

@@ -1,6 +1,6 @@
 use Rattle.std.proofs.Common.{◌≡◌, ℕ, ◌≤◌, List, sym, ◌∙◌, ap, subst}
 use Rattle.std.specs.List.{filter}
-use Rattle.world_core.specs.declared.air.Send.{Send}
+use Rattle.air_base.specs.declared.air.Send.{Send}
 use Rattle.world_core.specs.Topology.{Topology}
 use Rattle.world_core.specs.Kept.{is_kept}
 use Rattle.world_core.specs.Chain.{LogFacts}
@@ -19,9 +19,10 @@ pub invariant_of-self-2 : goal.invariant_of-self-2
 invariant_of-self-2 g c =
     let f = c.self.inside in
     let rises : f.floor ≤ c.args.floor = subst (λ (r : AirRecord). r.floor ≤ c.args.floor) (sym c.self.view_is) c.requires.rises in
+    let within : c.args.floor ≤ f.seat.world.topo.limit = subst (λ (r : AirRecord). c.args.floor ≤ r.world.topo.limit) (sym c.self.view_is) c.requires.within in
     let looks = c.in_default.ensures.looks in
     held_looked f.seat c.first_below.new.seat f.topo c.cut.new.self c.args.floor c.drop_below.new.samples.items looks.0
-    (held_cut f.seat f.topo f.log c.cut.new.self f.floor c.args.floor f.samples.items c.drop_below.new.samples.items c.self.invariant rises c.in_default.ensures.none c.cut.ensures c.drop_below.ensures) looks.2
+    (held_cut f.seat f.topo f.log c.cut.new.self f.floor c.args.floor f.samples.items c.drop_below.new.samples.items c.self.invariant rises within c.in_default.ensures.none c.cut.ensures c.drop_below.ensures) looks.2
 
 pub returns-clause-cut : goal.returns-clause-cut
 returns-clause-cut g c =

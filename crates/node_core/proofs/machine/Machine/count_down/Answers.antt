@@ -40,7 +40,7 @@ returns-clause-sprinted c =
     let core : c.put_counter.new.core ≡ after k =
     c.put_counter.ensures ∙ ((λ i. with_counter l.low l.high (value.value i - k) x.cpu) ∙ ap (λ (y : Machine). lowered l k y.cpu y.cpu) same) in
     let byte : slice_index m.cpu.r l.low < 256 = subst (λ (y : Machine). slice_index y.cpu.r l.low < 256) same value.byte in
-    let there = leapt_over t k length down.round.count m x same r.may r.behind c.if-self.false (λ i l. r.none i (omega (arith, l, within, most)))
+    let there = leapt_over t k length down.round.count m x same r.may (λ i l. r.untold i (omega (arith, l, within, most))) c.if-self.false (λ i l. r.none i (omega (arith, l, within, most)))
     after (stands_first l m.cpu byte) (λ j lt. h.walks j (omega (arith, lt, few))) c.leap_rounds-rounds.new.self p.idle p.state p.clock in
     subst (λ (y : Cpu). IsSprinted t (t + k * length) false m
     (let z : Machine = record x { cpu = y; bus = (let b : NodeBus = record { sram = x.bus.sram; board = c.leap_rounds-rounds.new.self } in b); count = x.count + k * down.round.count } in z)) (sym core) there

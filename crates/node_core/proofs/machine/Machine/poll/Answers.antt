@@ -21,7 +21,7 @@ returns-clause-sprinted c =
     let p = c.leap_rounds-rounds.ensures in
     let within = p.within in
     let core : x.cpu ≡ m.cpu = ap (λ (y : Machine). y.cpu) same in
-    leapt_over c.args.cycle c.leap_rounds-rounds.result c.in-Some.round.length c.in-Some.round.count m x same r.may r.behind c.if-self.false
+    leapt_over c.args.cycle c.leap_rounds-rounds.result c.in-Some.round.length c.in-Some.round.count m x same r.may (λ i l. r.untold i (omega (arith, l, within))) c.if-self.false
     (λ i l. r.none i (omega (arith, l, within))) (λ j. x.cpu) core
     (λ j l. subst (λ (y : Cpu). Walk m y c.in-Some.round.length c.in-Some.round.count y) (sym core) round.walk)
     c.leap_rounds-rounds.new.self p.idle p.state p.clock

@@ -3,8 +3,8 @@ use Rattle.std.specs.Prelude.{vec_len, vec_capacity}
 use Rattle.node_core.specs.declared.machine.Machine.{Machine}
 use Rattle.node_core.specs.declared.row.Row.{Row}
 use Rattle.serial_ports.specs.Script.{ScriptBytes, script_byte}
-use Rattle.world_core.specs.NodeRun.{Comes, Timed}
-use Rattle.world_core.proofs.QuietCycles.{comes_none}
+use Rattle.air_base.specs.NodeRun.{Comes, Timed}
+use Rattle.air_base.proofs.QuietCycles.{comes_none}
 use Rattle.node_core.specs.Cycle.{node_kind}
 use Rattle.node_core.specs.Midway.{IsMidway}
 use Rattle.node_core.specs.Shown.{shown}

@@ -1,6 +1,6 @@
 use Rattle.std.proofs.Common.{◌≡◌, ◌≤◌, ◌+◌, ◌-◌, ◌^◌, None, false}
 use Rattle.std.specs.Prelude.{vec_len, vec_capacity}
-use Rattle.world_core.specs.NodeRun.{Comes}
+use Rattle.air_base.specs.NodeRun.{Comes}
 use Rattle.node_core.specs.Cycle.{node_kind}
 use Rattle.node_core.specs.Shown.{shown}
 use Rattle.node_core.proofs.machine.Machine.stride.Given as goal

@@ -1,5 +1,5 @@
 use Rattle.std.proofs.Common.{◌∙◌, ◌++◌, ap, take}
-use Rattle.world_core.specs.NodeRun.{Timed}
+use Rattle.air_base.specs.NodeRun.{Timed}
 use Rattle.node_core.specs.declared.row.Row.{Row}
 use Rattle.node_core.specs.Numbers.{numbers_of}
 use Rattle.node_core.specs.State.{NodeState}

@@ -1,7 +1,7 @@
 use Rattle.std.proofs.Common.{◌≡◌, ℕ, ◌+◌, Bool, true, false, is_some, refl, add-zero, sym, ap, ◌∙◌, subst, arith}
 use Rattle.node_core.specs.declared.row.Row.{Row}
-use Rattle.world_core.specs.NodeRun.{Timed, Comes}
-use Rattle.world_core.proofs.QuietCycles.{comes_none, running_next}
+use Rattle.air_base.specs.NodeRun.{Timed, Comes}
+use Rattle.air_base.proofs.QuietCycles.{comes_none, running_next}
 use Rattle.node_core.specs.State.{NodeState}
 use Rattle.node_core.specs.Shown.{shown}
 use Rattle.node_core.specs.Inside.{IsWhole}

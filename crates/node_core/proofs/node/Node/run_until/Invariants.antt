@@ -1,5 +1,5 @@
 use Rattle.std.proofs.Common.{◌≡◌, ◌≤◌, ◌+◌, ◌-◌, ◌^◌, None, false}
-use Rattle.world_core.specs.NodeRun.{Comes, AllRunning}
+use Rattle.air_base.specs.NodeRun.{Comes, AllRunning}
 use Rattle.node_core.specs.Cycle.{node_kind}
 use Rattle.node_core.specs.Shown.{shown}
 use Rattle.node_core.proofs.node.Node.run_until.Given as goal

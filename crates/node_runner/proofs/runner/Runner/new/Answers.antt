@@ -1,7 +1,7 @@
 use Rattle.std.proofs.Common.{◌≡◌, ℕ, false, [], sym, subst, ◌∙◌, ap}
 use Rattle.node_core.specs.declared.row.Row.{Row}
 use Rattle.world_core.specs.Topology.{Topology}
-use Rattle.world_core.specs.NodeRun.{Timed}
+use Rattle.air_base.specs.NodeRun.{Timed}
 use Rattle.node_core.specs.State.{NodeState, reset}
 use Rattle.node_runner.specs.Scenario.{ScenarioOf, image_at, script_at}
 use Rattle.node_runner.specs.Place.{IsRunner}

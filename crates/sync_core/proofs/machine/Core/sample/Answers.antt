@@ -1,8 +1,8 @@
 use Rattle.std.proofs.Common.{◌≡◌, ℕ, ◌<◌, length, vec_len, List, sym, ap, ◌∙◌, refl, subst, arith, rules}
 use Rattle.std.specs.List.{Contains}
-use Rattle.world_core.specs.declared.air.Sampled.{Sampled}
-use Rattle.world_core.specs.declared.air.Sampled.TheVariants.{Heard, NoMemory}
-use Rattle.world_core.specs.declared.air.Heard.{Heard as HeardValue}
+use Rattle.air_base.specs.declared.air.Sampled.{Sampled}
+use Rattle.air_base.specs.declared.air.Sampled.TheVariants.{Heard, NoMemory}
+use Rattle.air_base.specs.declared.air.Heard.{Heard as HeardValue}
 use Rattle.world_core.specs.Topology.{Topology}
 use Rattle.world_core.specs.Heard.{heard}
 use Rattle.world_core.specs.Settled.{truth}

@@ -2,7 +2,7 @@ use Rattle.std.proofs.Common.{filter, ◌≡◌, ◌<◌, ◌≤◌, length, Lis
 use Rattle.std.specs.Prelude.{vec_len, vec_capacity}
 use Rattle.std.specs.List.{All}
 use Rattle.std.proofs.lemmas.List.Elements.{All-filter}
-use Rattle.world_core.specs.declared.air.Send.{Send}
+use Rattle.air_base.specs.declared.air.Send.{Send}
 use Rattle.world_core.specs.Kept.{is_kept}
 use Rattle.world_core.specs.Chain.{IsChain, AreNewest}
 use Rattle.world_core.proofs.Cutting.{shorter, log_cut}

@@ -1,7 +1,7 @@
 use Rattle.std.proofs.Common.{◌≡◌, ℕ, suc, ◌<◌, ◌≤◌, ◌++◌, [], ◌∷◌, length, get_or, List, sym, subst, ◌∙◌, ap, arith, rules}
 use Rattle.std.specs.Prelude.{slice_index, slice_set, vec_len}
 use Rattle.std.specs.List.{All}
-use Rattle.world_core.specs.declared.air.Send.{Send}
+use Rattle.air_base.specs.declared.air.Send.{Send}
 use Rattle.world_core.specs.Sends.{sends_of}
 use Rattle.world_core.specs.declared.ways.JumpPointer.{JumpPointer}
 use Rattle.world_core.specs.Chain.{IsLog, IsAfter, LogFacts}

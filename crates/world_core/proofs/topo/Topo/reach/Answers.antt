@@ -7,4 +7,4 @@ pub returns-clause-most : goal.returns-clause-most
 returns-clause-most c =
     let i = c.self.inside in
     let r = c.self.invariant.0.ranges in
-    subst (λ (n : ℕ). (1 ≤ n) × (n ≤ 65535)) (sym (c.greatest.ensures ∙ ap (λ (l : List ℕ). greatest l i.latency) c.deref.ensures.value)) (greatest_in i.own.items i.latency 1 65535 r.own_in r.latency_from r.latency_to)
+    subst (λ (n : ℕ). (1 ≤ n) × (n ≤ 65535)) (sym c.self.invariant.3) (greatest_in i.own.items i.latency 1 65535 r.own_in r.latency_from r.latency_to)

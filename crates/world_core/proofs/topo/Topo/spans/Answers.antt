@@ -1,6 +1,6 @@
 use Rattle.std.proofs.Common.{◌<◌, sym, subst, ◌∙◌, ap}
 use Rattle.std.specs.List.{All, AllPairs}
-use Rattle.world_core.specs.declared.air.Span.{Span}
+use Rattle.world_core.specs.declared.spans.Span.{Span}
 use Rattle.world_core.specs.Topology.{Topology, IsSpanOrder}
 use Rattle.world_core.proofs.topo.Topo.spans.Goals as goal
 

@@ -1,0 +1,89 @@
+#!/usr/bin/env bash
+# Speed that no proof tells: bench/probes.sh [PROGRAM] counts host instructions for one AVR instruction of small programs, each of
+# which does one thing (the table below), and compares them with the most that each may take. It proves nothing: PROGRAM is one
+# that was built (that of ./avrora where absent, which proves it first). It takes under two minutes, and says that it is skipped
+# where valgrind is missing. Exit status: 0 all take no more, 1 one takes more or fails.
+#
+# Counts hardly vary from run to run or from machine to machine. The most is a tenth above what was counted last; where a change
+# makes a count fall, lower its line.
+set -eu
+if ! command -v valgrind >/dev/null; then
+    echo "bench/probes.sh: skipped, valgrind is not installed"
+    exit 0
+fi
+. "$(dirname "$0")/program.sh"
+program=$(realpath "$program")
+
+# NAME MOST WINDOW: SOURCE. Cycles are counted from 20,000 to 100,000. The window is `none`, or `late`: the last ten cycles of
+# the run, before which no instruction has a row. Lines of the source are parted by `|`; the stack ends at 0x10FF.
+probes() {
+    cat <<'TABLE'
+straight                     26 none: again: | ldi r20, 1 | dec r20 | ldi r20, 1 | dec r20 | ldi r20, 1 | dec r20 | ldi r20, 1 | dec r20 | ldi r20, 1 | dec r20 | ldi r20, 1 | dec r20 | rjmp again
+straight_late                26 late: again: | ldi r20, 1 | dec r20 | ldi r20, 1 | dec r20 | ldi r20, 1 | dec r20 | ldi r20, 1 | dec r20 | ldi r20, 1 | dec r20 | ldi r20, 1 | dec r20 | rjmp again
+dec2                         41 none: again: | ldi r20, 2 | loop: | dec r20 | brne loop | rjmp again
+dec3                         36 none: again: | ldi r20, 3 | loop: | dec r20 | brne loop | rjmp again
+dec4                         45 none: again: | ldi r20, 4 | loop: | dec r20 | brne loop | rjmp again
+dec5                         36 none: again: | ldi r20, 5 | loop: | dec r20 | brne loop | rjmp again
+dec8                         48 none: again: | ldi r20, 8 | loop: | dec r20 | brne loop | rjmp again
+dec255                     5.11 none: again: | ldi r20, 255 | loop: | dec r20 | brne loop | rjmp again
+delay                      0.03 none: again: | ldi r24, 255 | ldi r25, 255 | loop: | sbiw r24, 1 | brne loop | rjmp again
+delay_late                 0.03 late: again: | ldi r24, 255 | ldi r25, 255 | loop: | sbiw r24, 1 | brne loop | rjmp again
+delay_line_up                19 none: ldi r16, 1 | out 0x33, r16 | out 0x37, r16 | again: | ldi r24, 255 | ldi r25, 255 | loop: | sbiw r24, 1 | brne loop | rjmp again
+delay_subi_sbci            0.21 none: again: | ldi r24, 255 | ldi r25, 255 | loop: | subi r24, 1 | sbci r25, 0 | brne loop | rjmp again
+delay_sbiw_cp_cpc            44 none: ldi r22, 0 | again: | ldi r24, 255 | ldi r25, 255 | loop: | sbiw r24, 1 | cp r24, r22 | cpc r25, r22 | brne loop | rjmp again
+delay_adiw                   42 none: again: | ldi r24, 0 | ldi r25, 0 | loop: | adiw r24, 1 | brne loop | rjmp again
+delay_volatile               38 none: again: | ldi r24, 255 | sts 0x100, r24 | loop: | lds r24, 0x100 | subi r24, 1 | sts 0x100, r24 | tst r24 | brne loop | rjmp again
+spin                       0.02 none: again: | rjmp again
+spin_late                  0.02 late: again: | rjmp again
+spin_line_up                 14 none: ldi r16, 1 | out 0x33, r16 | out 0x37, r16 | again: | rjmp again
+spin_flag_each_cycle        793 none: ldi r16, 0 | out 0x31, r16 | ldi r16, 9 | out 0x33, r16 | again: | rjmp again
+poll_udre                  0.17 none: ldi r17, 8 | out 0x0A, r17 | ldi r17, 255 | out 0x09, r17 | again: | sts 0x2C, r16 | wait: | lds r16, 0x2B | sbrs r16, 5 | rjmp wait | rjmp again
+poll_udre_late             0.17 late: ldi r17, 8 | out 0x0A, r17 | ldi r17, 255 | out 0x09, r17 | again: | sts 0x2C, r16 | wait: | lds r16, 0x2B | sbrs r16, 5 | rjmp wait | rjmp again
+poll_udre_line_up            18 none: ldi r16, 1 | out 0x33, r16 | out 0x37, r16 | ldi r17, 8 | out 0x0A, r17 | ldi r17, 255 | out 0x09, r17 | again: | sts 0x2C, r16 | wait: | lds r16, 0x2B | sbrs r16, 5 | rjmp wait | rjmp again
+poll_udre_timer              13 none: ldi r16, 1 | out 0x33, r16 | ldi r17, 8 | out 0x0A, r17 | ldi r17, 255 | out 0x09, r17 | again: | sts 0x2C, r16 | wait: | lds r16, 0x2B | sbrs r16, 5 | rjmp wait | rjmp again
+poll_udre_flag_each_cycle   714 none: ldi r16, 0 | out 0x31, r16 | ldi r16, 9 | out 0x33, r16 | ldi r17, 8 | out 0x0A, r17 | ldi r17, 255 | out 0x09, r17 | again: | sts 0x2C, r16 | wait: | lds r16, 0x2B | sbrs r16, 5 | rjmp wait | rjmp again
+poll_udre_by_pointer         58 none: ldi r30, 0x2B | ldi r31, 0 | ldi r17, 8 | out 0x0A, r17 | ldi r17, 255 | out 0x09, r17 | again: | sts 0x2C, r16 | wait: | ld r16, Z | sbrs r16, 5 | rjmp wait | rjmp again
+poll_udre_by_call            58 none: ldi r16, 0x10 | out 0x3E, r16 | ldi r16, 0xFF | out 0x3D, r16 | ldi r17, 8 | out 0x0A, r17 | ldi r17, 255 | out 0x09, r17 | again: | sts 0x2C, r16 | wait: | rcall state | tst r24 | breq wait | rjmp again | state: | lds r24, 0x2B | andi r24, 0x20 | ret
+poll_udre_long               30 none: ldi r17, 8 | out 0x0A, r17 | ldi r17, 255 | out 0x09, r17 | again: | sts 0x2C, r16 | wait: | nop | nop | nop | nop | nop | nop | lds r16, 0x2B | sbrs r16, 5 | rjmp wait | rjmp again
+poll_spif                  2.51 none: ldi r16, 0x53 | out 0x0D, r16 | again: | out 0x0F, r16 | wait: | sbis 0x0E, 7 | rjmp wait | rjmp again
+poll_tifr                    60 none: ldi r16, 5 | out 0x33, r16 | ldi r17, 1 | again: | out 0x36, r17 | wait: | in r16, 0x36 | sbrs r16, 0 | rjmp wait | rjmp again
+call                         44 none: ldi r16, 0x10 | out 0x3E, r16 | ldi r16, 0xFF | out 0x3D, r16 | again: | call sub | rjmp again | sub: | ret
+rcall                        58 none: ldi r16, 0x10 | out 0x3E, r16 | ldi r16, 0xFF | out 0x3D, r16 | again: | rcall sub | rjmp again | sub: | ret
+icall                        57 none: ldi r16, 0x10 | out 0x3E, r16 | ldi r16, 0xFF | out 0x3D, r16 | ldi r30, 8 | ldi r31, 0 | again: | icall | rjmp again | sub: | ret
+load_post_increment          40 none: again: | ldi r26, 0 | ldi r27, 2 | ldi r28, 0 | ldi r29, 3 | ld r20, X+ | ld r20, X+ | ld r20, X+ | ld r20, X+ | ld r20, X+ | ld r20, X+ | ld r20, X+ | ld r20, X+ | ld r20, X+ | ld r20, X+ | ld r20, X+ | ld r20, X+ | rjmp again
+store_pre_decrement          49 none: again: | ldi r26, 0 | ldi r27, 2 | ldi r28, 0 | ldi r29, 3 | st -Y, r20 | st -Y, r20 | st -Y, r20 | st -Y, r20 | st -Y, r20 | st -Y, r20 | st -Y, r20 | st -Y, r20 | st -Y, r20 | st -Y, r20 | st -Y, r20 | st -Y, r20 | rjmp again
+load_displaced               29 none: again: | ldi r26, 0 | ldi r27, 2 | ldi r28, 0 | ldi r29, 3 | ldd r20, Y+5 | ldd r20, Y+5 | ldd r20, Y+5 | ldd r20, Y+5 | ldd r20, Y+5 | ldd r20, Y+5 | ldd r20, Y+5 | ldd r20, Y+5 | ldd r20, Y+5 | ldd r20, Y+5 | ldd r20, Y+5 | ldd r20, Y+5 | rjmp again
+load_flash                   27 none: again: | ldi r30, 0 | ldi r31, 0 | lpm r20, Z+ | lpm r20, Z+ | lpm r20, Z+ | lpm r20, Z+ | lpm r20, Z+ | lpm r20, Z+ | lpm r20, Z+ | lpm r20, Z+ | lpm r20, Z+ | lpm r20, Z+ | lpm r20, Z+ | lpm r20, Z+ | rjmp again
+push_pop                     32 none: ldi r16, 0x10 | out 0x3E, r16 | ldi r16, 0xFF | out 0x3D, r16 | again: | push r20 | pop r20 | push r20 | pop r20 | push r20 | pop r20 | push r20 | pop r20 | push r20 | pop r20 | push r20 | pop r20 | rjmp again
+TABLE
+}
+
+# HOST and EXECUTED of a run of so many cycles.
+count() {
+    local cycles=$1 window=$2
+    {
+        echo "cycles = $cycles"
+        [ "$window" = none ] || echo "window = [$((cycles - 10)), $cycles]"
+        echo 'node = [{ image = "probe.hex" }]'
+    } >"$work/probe.toml"
+    host=$(cd "$work" && valgrind --tool=callgrind --callgrind-out-file=/dev/null "$program" run --plain probe.toml 2>&1 >rows | awk '/Collected/ { print $4 }')
+    executed=$(awk 'END { print $(NF - 1) }' "$work/rows")
+}
+
+status=0
+while read -r name most window source; do
+    tr '|' '\n' <<<"$source" >"$work/probe.s"
+    if ! "$program" asm "$work/probe.s" >"$work/probe.hex"; then
+        echo "$name: no image"
+        status=1
+        continue
+    fi
+    count 20000 "${window%:}"
+    h=$host e=$executed
+    count 100000 "${window%:}"
+    awk -v n="$name" -v m="$most" -v h="$((host - h))" -v e="$((executed - e))" 'BEGIN {
+        if (e <= 0) { print n ": executes nothing"; exit 1 }
+        printf "%s: %.2f, at most %s%s\n", n, h / e, m, (h > m * e) ? ": MORE" : ""
+        exit (h > m * e) }' || status=1
+done < <(probes)
+exit $status

@@ -1,0 +1,7 @@
+//! What is sent over the air and what is heard, and what a node is to the order of all nodes: one cycle of it, and many
+//! cycles of one node by itself. Devices and nodes stand on this alone; who hears whom, and the order, are above.
+#![tactic(auto)]
+
+mod air;
+
+pub use air::{Ask, Heard, Sampled, Send};

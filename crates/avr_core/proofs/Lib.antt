@@ -1,0 +1,11 @@
+pub mod Executes
+pub mod Flags
+pub mod FlowKeeps
+pub mod FlowTakes
+pub mod KeepsI
+pub mod Lefts
+pub mod MemoryKeeps
+pub mod MemoryTakes
+pub mod Pushes
+pub mod Stops
+pub mod Takes

@@ -1,6 +1,0 @@
-pub mod Flags
-pub mod FlowKeeps
-pub mod FlowTakes
-pub mod MemoryKeeps
-pub mod MemoryTakes
-pub mod Stops

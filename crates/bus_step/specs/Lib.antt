@@ -1,4 +1,0 @@
-pub mod FlowShapes
-pub mod FlowTable
-pub mod MemoryShapes
-pub mod MemoryTable

@@ -1,4 +1,0 @@
-pub mod Takes
-pub mod Executes
-pub mod Pushes
-pub mod Lefts

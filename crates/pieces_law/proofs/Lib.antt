@@ -1,0 +1,5 @@
+pub mod Verdicts
+pub mod Networks
+pub mod Sizes
+pub mod Room
+pub mod Joined

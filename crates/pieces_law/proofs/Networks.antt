@@ -1,0 +1,97 @@
+-- A network that a command has accepted is that of accepted texts.
+use Rattle.std.proofs.Common.{◌≡◌, ℕ, suc, List, [], ◌∷◌, ◌++◌, length, map, Option, Some, None, Result, Ok, Err, refl, sym, ap, ◌∙◌, append_assoc, append-nil}
+use Rattle.std.specs.List.{All}
+use Rattle.std.proofs.lemmas.List.Elements.{All-cons, All-nil}
+use Rattle.ihex_loader.specs.Flash.{Image}
+use Rattle.ihex_loader.specs.Image.{hex_fault, image}
+use Rattle.ihex_loader.specs.declared.fault.HexFault.{HexFault}
+use Rattle.scenario_file.specs.Scenario.{ScenarioParts, scenario_in}
+use Rattle.scenario_file.specs.declared.fault.ScenarioFault.{ScenarioFault}
+use Rattle.node_runner.specs.Accepted.{IsAccepted}
+use Rattle.node_runner.specs.Scenario.{ScenarioOf}
+use Rattle.command_plans.specs.Plan.{Give, BadImage, BadScenario, and_then, image_or, image_plan, images_behind, images_plan, scenario_or, scenario_plan}
+use Rattle.command_plans.specs.Reading.{Files, Accepted, verdict}
+use Rattle.command_plans.specs.declared.trouble.ImageCause.TheVariants as image_cause
+use Rattle.command_plans.specs.declared.trouble.ScenarioCause.TheVariants as scenario_cause
+use Rattle.commands.specs.Network.{network_of}
+use Rattle.commands.specs.Plan.{network_plan}
+use Rattle.pieces_law.proofs.Verdicts.{parts, read}
+
+-- ---- the text of a scenario
+said_by : (files : Files) (name : List ℕ) (said : Result ScenarioParts ScenarioFault) (got : ScenarioParts) → verdict files (scenario_or name said) ≡ Accepted got → said ≡ Ok got
+unfolding verdict
+said_by files name (Ok it) got e = let same : it ≡ got = cc in ap Ok same
+said_by files name (Err fault) got e = absurd (cc)
+
+record SaidIn (got : ScenarioParts) : Type 0 where
+  text : List ℕ
+  says : scenario_in text ≡ Ok got
+
+said_in : (files : Files) (name : List ℕ) (got : ScenarioParts) → verdict files (scenario_plan name) ≡ Accepted got → SaidIn got
+said_in files name got e =
+    let r = read files name 524288 (BadScenario name scenario_cause.TooLong) (λ bytes. scenario_or name (scenario_in bytes)) got e in
+    record { text = r.bytes; says = said_by files name (scenario_in r.bytes) got r.after }
+
+-- ---- the texts of images
+record Loaded (got : Image) : Type 0 where
+  text : List ℕ
+  faultless : hex_fault text ≡ None
+  is : got ≡ image text
+
+loaded_by : (files : Files) (name : List ℕ) (fault : Option HexFault) (given got : Image) → verdict files (image_or name fault given) ≡ Accepted got → (fault ≡ None) × (got ≡ given)
+unfolding verdict
+loaded_by files name None given got e = (refl, cc)
+loaded_by files name (Some fault) given got e = absurd (cc)
+
+loaded : (files : Files) (name : List ℕ) (got : Image) → verdict files (image_plan name) ≡ Accepted got → Loaded got
+loaded files name got e =
+    let r = read files name 1048576 (BadImage name image_cause.TooLong) (λ bytes. image_or name (hex_fault bytes) (image bytes)) got e in
+    let l = loaded_by files name (hex_fault r.bytes) (image r.bytes) got r.after in
+    record { text = r.bytes; faultless = l.0; is = l.1 }
+
+abbrev IsFaultless : List ℕ → Type 0
+IsFaultless text = hex_fault text ≡ None
+
+record AllLoaded (before : List Image) (count : ℕ) (got : List Image) : Type 0 where
+  texts : List (List ℕ)
+  many : length texts ≡ count
+  faultless : All IsFaultless texts
+  is : got ≡ before ++ map image texts
+
+all_loaded : (files : Files) (before : List Image) (names : List (List ℕ)) (got : List Image) → verdict files (images_behind before names) ≡ Accepted got
+    → AllLoaded before (length names) got
+unfolding verdict images_behind
+all_loaded files before [] got e =
+    let same : before ≡ got = cc in
+    record { texts = []; many = refl; faultless = All-nil IsFaultless; is = sym same ∙ sym (append-nil before) }
+all_loaded files before (name ∷ names) got e =
+    let p = parts files (image_plan name) (λ flash. images_behind (before ++ flash ∷ []) names) got e in
+    let one = loaded files name p.got p.first in
+    let others = all_loaded files (before ++ p.got ∷ []) names got p.after in
+    record {
+      texts = one.text ∷ others.texts;
+      many = ap suc others.many;
+      faultless = All-cons IsFaultless one.text others.texts one.faultless others.faultless;
+      is = others.is ∙ append_assoc before (p.got ∷ []) (map image others.texts) ∙ ap (λ (i : Image). before ++ i ∷ map image others.texts) one.is;
+    }
+
+-- ---- a network
+network_is : (files : Files) (made network : ScenarioOf) → verdict files (Give made) ≡ Accepted network → network ≡ made
+unfolding verdict
+network_is files made network e = cc
+
+pub network_accepted : (files : Files) (file : List ℕ) (network : ScenarioOf) → verdict files (network_plan file) ≡ Accepted network → IsAccepted network
+network_accepted files file network e =
+    let p = parts files (scenario_plan file) (λ said. and_then (images_plan said.images) (λ images. Give (network_of said images))) network e in
+    let s = said_in files file p.got p.first in
+    let q = parts files (images_plan p.got.images) (λ images. Give (network_of p.got images)) network p.after in
+    let all = all_loaded files [] p.got.images q.got q.first in
+    record {
+      text = s.text;
+      parts = p.got;
+      says = s.says;
+      files = all.texts;
+      count = all.many;
+      faultless = all.faultless;
+      is = network_is files (network_of p.got q.got) network q.after ∙ ap (network_of p.got) all.is;
+    }

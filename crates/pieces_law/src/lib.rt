@@ -1,0 +1,29 @@
+//! A run that is saved and resumed writes what the whole run writes. Each law is the contract of a function that does
+//! nothing; it is about the definitions that a call of the program is proved to compute.
+#![tactic(auto)]
+
+ghost use Rattle.std.specs.Prelude.{◌≡◌, ◌++◌, ℕ, List};
+ghost use Rattle.command_plans.specs.Reading.{Accepted, Accepts, Files, verdict};
+ghost use Rattle.commands.specs.Job.{Job, output};
+ghost use Rattle.commands.specs.Plan.{network_plan, plan};
+ghost use Rattle.node_runner.specs.Accepted.{IsAccepted};
+ghost use Rattle.node_runner.specs.Scenario.{IsScenario, ScenarioOf};
+ghost use Rattle.pieces_law.specs.Pieces.{AreThePieces, IsInPieces};
+
+/// A network that a command has accepted is one that accepted texts give, and it is a scenario. So what the laws of the
+/// order and of saved states ask for holds of it.
+pub fn network_law()
+    ensures texts { (files : Files) (file : List ℕ) (network : ScenarioOf) → verdict files (network_plan file) ≡ Accepted network → IsAccepted network }
+    ensures scenario { (files : Files) (file : List ℕ) (network : ScenarioOf) → verdict files (network_plan file) ≡ Accepted network → IsScenario network }
+{}
+
+/// Where `save FILE N` is accepted, so are `head FILE N` and `run FILE`, and `resume FILE STATE` over what `save` wrote,
+/// which is not too long. What `head` writes and then what `resume` writes is what `run` writes.
+pub fn pieces_law()
+    ensures pieces { (files later : Files) (head save resume run : List (List ℕ)) (calls : IsInPieces files later head save resume run)
+        → AreThePieces files later head save resume run calls.saved }
+    // whatever these calls are accepted with
+    ensures joined { (files later : Files) (head save resume run : List (List ℕ)) (first rest whole : Job) → IsInPieces files later head save resume run
+        → Accepts files (plan head) first → Accepts later (plan resume) rest → Accepts files (plan run) whole
+        → output first ++ output rest ≡ output whole }
+{}

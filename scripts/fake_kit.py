@@ -1,0 +1,62 @@
+"""A kit that proves nothing, and three crates that say nothing, for tests of what goes on around the proving."""
+import os
+
+# It takes FAKE_SECONDS for a crate, in a copy of itself, and proves all but the crate FAKE_FAULT.
+RATTLE = """#!/usr/bin/env bash
+while (($#)); do
+    case $1 in --crate-name) name=$2 ;; -o) out=$2 ;; esac
+    shift
+done
+(exec -a "$0-copy" sleep "${FAKE_SECONDS:-0}") &
+wait $!
+if [[ $name == "${FAKE_FAULT:-}" ]]; then echo 'error: an open goal'; exit 1; fi
+echo 'logic=proved functions=1'
+: >"$out"
+"""
+
+# The program that it links: it writes its words and its folder, or refuses an image, a scenario, or its words.
+LINK = """#!/usr/bin/env bash
+while (($#)); do [[ $1 == -o ]] && out=$2; shift; done
+cat >"$out" <<'END'
+#!/usr/bin/env bash
+case $1 in
+    refused) echo 'avrora: a.hex: image refused: NoEnd' >&2; exit 5 ;;
+    selflink) echo 'avrora: a.toml: scenario refused: SelfLink' >&2; exit 4 ;;
+    bad) echo 'avrora: bad command line' >&2; exit 2 ;;
+    long) exec -a "$0-long" sleep 3600 ;;
+    *) echo "$* in ${PWD##*/}"; cat ;;
+esac
+END
+chmod +x "$out"
+"""
+
+# What the kit says that it is, and the crates, each with those that it uses.
+IDENTITY = "fake-kit logic 0123456789abcdef"
+CRATES = "low:\nmiddle: low\navrora_program: middle\n"
+
+
+def write(path, text):
+    """Writes a file that can be run."""
+    path.parent.mkdir(parents=True, exist_ok=True)
+    path.write_text(text, encoding="utf-8")
+    path.chmod(0o755)
+
+
+def write_kit(folder):
+    """Writes the kit into a folder, a Path."""
+    for path, text in {"bin/rt": f"#!/bin/sh\necho {IDENTITY}\n", "bin/rattle": RATTLE, "bin/rattle-link": LINK, "KIT-ID": f"{IDENTITY}\n"}.items():
+        write(folder / path, text)
+
+
+def write_crates(top):
+    """Writes the crates into a repository whose top is a Path."""
+    write(top / "crates.txt", CRATES)
+    for name, root in (("low", "lib"), ("middle", "lib"), ("avrora_program", "main")):
+        write(top / "crates" / name / "src" / f"{root}.rt", "// nothing\n")
+
+
+def environment(kit=None):
+    """The environment of a command that finds the kit, or else finds no other one, and is lent no program."""
+    kept = {key: value for key, value in os.environ.items() if key not in ("AVRORA", "AVRORA_PROGRAM")}
+    path = [it for it in os.environ.get("PATH", os.defpath).split(":") if kit or not os.path.exists(f"{it}/rt")]
+    return {**kept, "PATH": ":".join([f"{kit}/bin", *path] if kit else path)}

@@ -1,0 +1,165 @@
+# What the two launchers of the program share: `avrora` at the top of a checkout, and `bin/avrora` of a release. They read this in
+# once they have set
+#   called    how a user calls them, as the usage shows it
+#   formats   the path of FORMATS.md
+#   own_help  lines of the usage for words that are the launcher's alone, or nothing
+#   notice    a sentence of the usage about the first command, or nothing
+# and they have the functions `version`, which writes the lines of --version; `find_program`, which sets `program` to the path of
+# the program, or ends with NOT_THERE and one line that says why; and `own_words`, which does what its words ask and ends, if they
+# are the launcher's alone.
+
+# The exit statuses that a launcher gives or explains; the program's own are below NOT_THERE.
+readonly BAD_WORDS=2 CANNOT_READ=3 BAD_SCENARIO=4 BAD_IMAGE=5 BAD_SOURCE=7 BAD_STATE=8 NOT_THERE=10
+
+# What the program takes for granted of a processor, by the names of /proc/cpuinfo: x86-64-v2 (pni is SSE3).
+readonly NEEDED_OF_PROCESSOR='cx16 lahf_lm pni popcnt sse4_1 sse4_2 ssse3'
+
+usage() {
+    cat <<TEXT
+Usage: $called [-C DIR] COMMAND
+
+  run FILE            run the network of the scenario FILE, and write its trace
+  run --plain FILE    the same, on one thread
+  monitor FILE        run it up to the end of its window, and write where each node's cycles of the window went
+  sniff FILE          run it, and write the frames that its nodes send by radio
+  check FILE          read the scenario FILE and its images, and write how large the network is
+  head FILE N         run it for N epochs of 262144 cycles, and write their part of the trace
+  save FILE N         run it for N epochs, and write the state of the network
+  resume FILE STATE   run it from a state on, and write the rest of the trace
+  node FILE CYCLES    run the image FILE (Intel HEX) on one node for CYCLES cycles (1 to 10000000, no _), and write its trace
+  disasm FILE         list the instructions of the image FILE
+  asm FILE            write the program of FILE, a source in assembly, as an image
+  make NUMBER         run the sample network of NUMBER, 0 to 65535, and count what its nodes sent and heard
+  help, --help, -h    write this text
+  --version           write the commit, and the kit that the program is proved with
+${own_help:+$own_help
+}  -C DIR COMMAND      do the command in the folder DIR, where FILE and the images of a scenario are looked for
+
+${notice:+$notice
+}Exit status: 0 all is written, 1 writing failed, 2 bad command line, 3 a file cannot be read, 4 a scenario is refused,
+5 an image is refused, 6 out of memory, 7 a source is refused, 8 a state is refused, 9 the words cannot be had, 10 there is
+no program that can run here. docs/FORMATS.md has every row, format and status.
+TEXT
+}
+
+# A signal that is to end this script ends the command that it runs first.
+child= ended=
+stop() {
+    ended=$1
+    [[ -z $child ]] || kill -TERM "$child" 2>/dev/null
+}
+trap 'stop 129' HUP
+trap 'stop 130' INT
+trap 'stop 143' TERM
+
+# Runs a command to its end, and answers its status.
+run() {
+    "$@" <&0 &
+    child=$!
+    wait "$child"
+    local status=$?
+    while kill -0 "$child" 2>/dev/null; do # a signal came before its end
+        wait "$child"
+        status=$?
+    done
+    child=
+    [[ -z $ended ]] || exit "$ended"
+    return "$status"
+}
+
+# The row of FORMATS.md for the cause in the line that the program wrote, and what says where a scenario is at fault:
+# explain STATUS LINE
+explain() {
+    local part where=
+    case $1 in
+        "$BAD_SCENARIO") part=Scenarios where='; avrora-tools why FILE says where' ;;
+        "$BAD_IMAGE") part=Images ;;
+        "$BAD_STATE") part=States ;;
+        *) part=Sources ;;
+    esac
+    [[ $2 =~ refused:\ ([A-Za-z]+) && -r $formats ]] || return 0
+    awk -v part="## $part" -v where="$where" -v cause="\`${BASH_REMATCH[1]}\`" -F ' *[|] *' '
+        /^## / { within = index($0, part) == 1 }
+        within && index($2, cause) { gsub("`", "", $3); print "(" substr(cause, 2, length(cause) - 2) ": " $3 "; docs/FORMATS.md" where ")"; exit }
+    ' "$formats" >&2
+}
+
+# Sets `lacking` to what a processor lacks that the program needs, as the file FILE tells, which is like /proc/cpuinfo:
+# find_lacking FILE. Where there is no such file nothing is known to lack.
+find_lacking() {
+    local line flags= told= needed
+    lacking=
+    [[ -r $1 ]] || return 0
+    while IFS= read -r line; do
+        told=yes
+        if [[ $line == flags* ]]; then
+            flags=" ${line#*:} "
+            break
+        fi
+    done <"$1"
+    [[ -n $told ]] || return 0
+    for needed in $NEEDED_OF_PROCESSOR; do
+        [[ $flags == *" $needed "* ]] || lacking+=" $needed"
+    done
+    lacking=${lacking# }
+}
+
+# Ends where the program would end by the signal of an unknown instruction.
+require_processor() {
+    local lacking
+    find_lacking /proc/cpuinfo
+    if [[ -n $lacking ]]; then
+        echo "avrora: the program needs an x86-64-v2 processor, and this one lacks $lacking" >&2
+        exit "$NOT_THERE"
+    fi
+}
+
+# Does what the words ask, and ends with the status of it: launch WORD ..
+launch() {
+    local program said status line
+    [[ -e /dev/fd/0 ]] || exec </dev/null
+    while [[ ${1-} == -C && $# -ge 2 ]]; do
+        if ! cd -- "$2" 2>/dev/null; then
+            echo "avrora: cannot read $2" >&2
+            exit "$CANNOT_READ"
+        fi
+        shift 2
+    done
+    case ${1-} in
+        help | --help | -h)
+            usage
+            exit
+            ;;
+        --version)
+            version
+            exit
+            ;;
+        '' | -C) bad_words ;;
+    esac
+    own_words "$@"
+    require_processor
+    find_program
+    if [[ -t 2 ]] && said=$(mktemp); then
+        trap "rm -f $(printf %q "$said")" EXIT
+        run "$program" "$@" 2>"$said"
+        status=$?
+        cat "$said" >&2
+        line=$(tail -n 1 "$said" | tr -d '\0')
+        case $status in
+            "$BAD_SCENARIO" | "$BAD_IMAGE" | "$BAD_SOURCE" | "$BAD_STATE") explain "$status" "$line" ;;
+        esac
+    else
+        run "$program" "$@"
+        status=$?
+    fi
+    if [[ $status == "$BAD_WORDS" ]]; then
+        usage >&2
+    fi
+    exit "$status"
+}
+
+bad_words() {
+    echo 'avrora: bad command line' >&2
+    usage >&2
+    exit "$BAD_WORDS"
+}
