@@ -12,10 +12,10 @@ TRACE = """\
 20 0 heard 0 00 0
 30 1 heard 1 72 12
 40 1 serial 72
-50 0 sent 65
+50 1 sent 65
 60 1 heard 1 65 12
 70 1 serial 65
-80 1 stop 0102 .word 0xFFFF
+80 1 stop 0102 reserved opcode
 99 0 end 12 running
 99 1 end 7 stopped
 """
@@ -39,13 +39,18 @@ class Met(unittest.TestCase):
     def fails(self, *lines):
         self.assertIsNotNone(outcome("\n".join(lines)).failure)
 
+    def refused(self, *lines, says, trace=TRACE):
+        with self.assertRaises(BadInput) as refusal:
+            outcome("\n".join(lines), trace)
+        self.assertIn(says, str(refusal.exception))
+
     def test_rows_in_order(self):
         self.met("10 0 sent 72", "40 1 serial 72", "70 1 serial 65")
         self.fails("70 1 serial 65", "10 0 sent 72")
         self.fails("10 0 sent 72", "10 0 sent 72")  # a row is found once
 
     def test_parts(self):
-        self.met("* 0 sent *", "30 1 heard 1 72 *", "* 1 *", "80 1 stop 0102 .word 0xFFFF")
+        self.met("* 0 sent *", "30 1 heard 1 72 *", "* 1 *", "80 1 stop 0102 reserved opcode")
         self.met("5..15 * sent {71,72}", "..30 1 heard 1 72 11+-1", "40.. 1 heard *")
         self.met("10..1_0 0 sent 72")
         self.fails("11.. 0 sent 72")
@@ -55,7 +60,7 @@ class Met(unittest.TestCase):
         self.fails("10 0 sent 72 00")
 
     def test_cycles_since_the_row_before(self):
-        self.met("10 0 sent 72", "+20 1 heard *", "+0..10 1 serial 72", "+10+-0 0 sent *")
+        self.met("10 0 sent 72", "+20 1 heard *", "+0..10 1 serial 72", "+10+-0 1 sent *")
         self.fails("10 0 sent 72", "+0..19 1 heard *")
 
     def test_missing_row(self):
@@ -66,18 +71,18 @@ class Met(unittest.TestCase):
             "  10 0 sent 72\nbut of its node and kind:\n+ 40 1 serial 72\n+ 70 1 serial 65",
         )
         self.unmet(
-            "* 5 serial 73", says="line 1: this row did not come:\n- * 5 serial 73\nand none of its node and kind"
+            "* 0 serial 73", says="line 1: this row did not come:\n- * 0 serial 73\nand none of its node and kind"
         )
 
     def test_next(self):
-        self.met("10 0 sent 72", "next 20 0 heard *", "next 2: 50 0 sent 65")
+        self.met("10 0 sent 72", "next 20 0 heard *", "next 2: 50 1 sent 65")
         self.unmet(
             "10 0 sent 72",
             "next 30 1 heard *",
             says="line 2: this row was to come next, and came not:\n"
             "- 30 1 heard *\nafter this one:\n  10 0 sent 72\nbut these:\n+ 20 0 heard 0 00 0",
         )
-        self.fails("10 0 sent 72", "next 2: 50 0 sent 65")
+        self.fails("10 0 sent 72", "next 2: 50 1 sent 65")
 
     def test_never(self):
         self.met("never * * stop *", "10 0 sent 72", "never * * stop *", "70 1 serial 65")
@@ -86,10 +91,10 @@ class Met(unittest.TestCase):
             "never * 1 stop *",
             "* 0 end *",
             says="line 2: this row was never to come:\n- * 1 stop *\n"
-            "but it did:\n  50 0 sent 65\n  60 1 heard 1 65 12\n  70 1 serial 65\n> 80 1 stop 0102 .word 0xFFFF\n"
+            "but it did:\n  50 1 sent 65\n  60 1 heard 1 65 12\n  70 1 serial 65\n> 80 1 stop 0102 reserved opcode\n"
             "  99 0 end 12 running\n  99 1 end 7 stopped",
         )
-        self.fails("50 0 sent 65", "never * * stop *")  # to the end
+        self.fails("50 1 sent 65", "never * * stop *")  # to the end
         self.met("* 1 stop *", "never * * stop *")  # a row that is found is none that came between
 
     def test_within(self):
@@ -101,7 +106,7 @@ class Met(unittest.TestCase):
     def test_count(self):
         for sign, number in (("==", 2), ("!=", 3), ("<=", 2), (">=", 2), ("<", 3), (">", 1)):
             self.met(f"count {sign} {number}: * 1 serial *")
-        self.unmet("count == 3: * 1 serial *", says="line 1: == 3 rows wanted, 2 came:\n- * 1 serial *")
+        self.unmet("count == 3: * 1 serial *", says="line 1: == 3 rows wanted, 2 came:\n- * 1 serial *\n+ 40 1 serial 72\n+ 70 1 serial 65")
 
     def test_text(self):
         self.met(r'text 1 "\x72e"', "text 1 're' # a comment, and 'quotes'")
@@ -109,12 +114,12 @@ class Met(unittest.TestCase):
         self.met('text 0 "#"', trace="1 0 serial 23\n2 0 end 1 running\n")
 
     def test_only(self):
-        self.met("only 1 heard serial", "30 1 heard *", "next 40 1 serial *", "next 60 1 heard *", "count == 0: * 0 *")
+        self.met("only 1 heard serial", "30 1 heard *", "next 40 1 serial *", "next 60 1 heard *", "count == 0: * 1 heard 2 *")
         self.met("only 1 heard", 'text 1 "re"')  # text looks at all that a node writes
 
 
 class Golden(unittest.TestCase):
-    ROWS = "10 0 sent 72\n40 1 serial 72\n50 0 sent 65\n70 1 serial 65\n"
+    ROWS = "10 0 sent 72\n40 1 serial 72\n50 1 sent 65\n70 1 serial 65\n"
 
     def case(self, folder, text):
         path = f"{folder}/golden.expect"
@@ -130,20 +135,20 @@ class Golden(unittest.TestCase):
             folder = os.path.dirname(place)
             for text, rows in (
                 ("golden a.rows", self.ROWS),
-                ("golden a.rows without cycles", "0 sent 72\n1 serial 72\n0 sent 65\n1 serial 65\n"),
+                ("golden a.rows without cycles", "0 sent 72\n1 serial 72\n1 sent 65\n1 serial 65\n"),
             ):
                 case = self.case(folder, f"only sent serial\n{text}\n")
                 self.assertIsNone(self.check(case, save=True))
                 with open(f"{folder}/a.rows", encoding="utf-8") as file:
                     self.assertEqual(file.read(), rows)
                 self.assertIsNone(self.check(case))
-            self.assertIsNone(self.check(case, TRACE.replace("50 0 sent", "51 0 sent")))
-            self.assertIn("row 3 differs", self.check(case, TRACE.replace("50 0 sent 65", "50 0 sent 66")))
+            self.assertIsNone(self.check(case, TRACE.replace("50 1 sent", "51 1 sent")))
+            self.assertIn("row 3 differs", self.check(case, TRACE.replace("50 1 sent 65", "50 1 sent 66")))
 
     def test_difference_in_context(self):
         with scratch("a.rows", self.ROWS) as path:
             case = self.case(os.path.dirname(path), "only sent serial\ngolden a.rows\n")
-            said = self.check(case, TRACE.replace("50 0 sent 65", "55 0 sent 65")).splitlines()
+            said = self.check(case, TRACE.replace("50 1 sent 65", "55 1 sent 65")).splitlines()
             self.assertEqual(
                 said[1:],
                 [
@@ -151,20 +156,21 @@ class Golden(unittest.TestCase):
                     "+++ came",
                     " 10 0 sent 72",
                     " 40 1 serial 72",
-                    "-50 0 sent 65",
-                    "+55 0 sent 65",
+                    "-50 1 sent 65",
+                    "+55 1 sent 65",
                     " 70 1 serial 65",
                 ],
             )
             said = self.check(case, TRACE.replace("70 1 serial 65\n", "")).splitlines()
-            self.assertEqual(said[-2:], [" 50 0 sent 65", "-70 1 serial 65"])
-            said = self.check(case, TRACE.replace("80 1 stop 0102 .word 0xFFFF", "80 1 serial 41")).splitlines()
+            self.assertEqual(said[-2:], [" 50 1 sent 65", "-70 1 serial 65"])
+            said = self.check(case, TRACE.replace("80 1 stop 0102 reserved opcode", "80 1 serial 41")).splitlines()
             self.assertEqual(said[-2:], [" 70 1 serial 65", "+80 1 serial 41"])
 
     def test_no_file(self):
         with scratch("x") as place:
             case = self.case(os.path.dirname(place), "golden none.rows\n")
-            self.assertIn("(--save writes it)", self.check(case))
+            with self.assertRaisesRegex(BadInput, "cannot read .*none.rows: .*(--save writes it)"):
+                self.check(case)
 
     def test_not_saved_where_another_fails(self):
         with scratch("a.rows", self.ROWS) as path:
