@@ -134,6 +134,11 @@ def check_of(arguments: argparse.Namespace, tails: ProcessTails, scenario: Moved
 def reference(arguments: argparse.Namespace, tails: ProcessTails, scenario: MovedScenario) -> tuple[bytes, ...]:
     """The rows of the run that is not moved, in pieces."""
     unmoved = scenario.unmoved() if not arguments.base else base_move(arguments.base, scenario)
+    if any(v >= scenario.until for v, m in zip(unmoved, scenario.moved) if isinstance(m.event, InputByte)):
+        raise BadInput(
+            f"the run that is not moved has its event behind cycle {scenario.until:,}, in which the runs end: --base names a "
+            "value for another run to compare with"
+        )
     comes_later = all(
         value >= scenario.begins for value, m in zip(unmoved, scenario.moved) if isinstance(m.event, InputByte)
     )

@@ -148,7 +148,10 @@ class PredicateCheck:
 
     def failure(self, move: Move, output: bytes) -> str | None:
         moved = tuple(move[place] for place in self.events)
-        said = self.predicate(Run(moved, list(all_rows(output)), written((self.head, output))))
+        try:
+            said = self.predicate(Run(moved, list(all_rows(output)), written((self.head, output))))
+        except Exception as fault:  # whatever the user's function does
+            raise BadInput(f"check() of the predicate: {type(fault).__name__}: {fault}") from fault
         if said is not None and not isinstance(said, str):
             raise BadInput(f"check() of the predicate returned {said!r}: it is to be None, or a text that says what is wrong")
         return said
