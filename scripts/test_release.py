@@ -370,7 +370,7 @@ class Launcher(OfARepository):
         self.assertEqual(ran([*words[:-1], self.place / "nowhere"], self.place), (0, "\n", ""))
 
     def test_the_tools(self):
-        """They find the launcher of their release; it is the program here that knows no scenario."""
+        """They find the program of their release; the one here knows no scenario."""
         status, out, err = ran([self.top / "avrora-tools", "--version"], self.place)
         if status == 3:
             self.skipTest(err.strip())
