@@ -78,11 +78,16 @@ def grid(width: int, count: int, closed: bool) -> list[Pair]:
 
 def near(distance: float, count: int, seed: int) -> list[Pair]:
     """Nodes in a square of side 1 that lie at most `distance` apart; their places are drawn by the seed."""
-    draw = random.Random(seed)
-    places = [(draw.random(), draw.random()) for _ in range(count)]
+    places = drawn_places(count, seed)
     return [
         (low, high) for high in range(count) for low in range(high) if math.dist(places[low], places[high]) <= distance
     ]
+
+
+def drawn_places(count: int, seed: int) -> list[tuple[float, float]]:
+    """Places in a square of side 1, drawn by the seed."""
+    draw = random.Random(seed)
+    return [(draw.random(), draw.random()) for _ in range(count)]
 
 
 def scenario(

@@ -222,11 +222,3 @@ def statements(text: str) -> Iterator[list[Token]]:
 def bare(key: str) -> str:
     """A key without quotes."""
     return key[1:-1] if key[:1] in ('"', "'") and key[-1:] == key[:1] else key
-
-
-
-
-def quoted(text: str) -> str:
-    """A text as TOML has it."""
-    escaped = text.replace("\\", "\\\\").replace('"', '\\"')
-    return '"' + re.sub(r"[\x00-\x1f\x7f]", lambda match: f"\\u{ord(match[0]):04X}", escaped) + '"'

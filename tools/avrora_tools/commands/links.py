@@ -3,7 +3,7 @@ import argparse
 import collections
 from typing import NamedTuple
 
-from avrora_tools import cli, scenarios, traces
+from avrora_tools import cli, files, maps, scenarios, traces
 from avrora_tools.errors import BadInput, Status
 from avrora_tools.events import CLASH, NOTHING, ONE_BYTE, Event, Heard, Sent, Stop
 from avrora_tools.scenarios import OnAir, Scenario
@@ -172,10 +172,30 @@ def print_nodes(reader: Reader) -> None:
         print(f"{node:>8} {reader.sends[node]:>8,} {sum(heard):>8,} " + " ".join(f"{number:>8,}" for number in heard))
 
 
+def draw_map(arguments: argparse.Namespace, reader: Reader) -> None:
+    """Draws the network, and tells what is odd about who hears whom."""
+    counts = reader.fates.counts
+    links: dict[maps.Ends, maps.Quality] = {}
+    for link in reader.scenario.links:
+        ends = link.sender, link.hearer
+        sent = counts[ends, "sent"] - counts[ends, "closed"]
+        links[ends] = maps.Quality(sent, *(counts[ends, fate] for fate in ("clean", "clashed", "unheard")))
+    count = len(reader.scenario.images)
+    if arguments.places:
+        places = maps.places_of(files.read_text(arguments.places), files.shown(arguments.places), count)
+    else:
+        places = maps.laid_out(count, links)
+    files.write_whole(arguments.map, maps.drawn(places, links))
+    if odd := maps.oddities(count, list(links)):
+        print("\n" + "\n".join(odd))
+
+
 def configure(parser: argparse.ArgumentParser) -> None:
     cli.describe(parser, DESCRIPTION, "links --clashes flood.toml flood.trace")
     parser.add_argument("--clashes", action="store_true", help="tell each clash, with the sends that clashed")
     parser.add_argument("--losses", action="store_true", help="links alone that lost a byte")
+    parser.add_argument("--map", metavar="FILE", help="draw the network, with the quality of each link, as SVG")
+    parser.add_argument("--places", metavar="FILE", help="where the map has the nodes: a TOML file of lines NODE = [x, y]")
     parser.add_argument("--state", metavar="STATE", help="the state from which `avrora resume` wrote the trace")
     parser.add_argument("scenario", metavar="SCENARIO")
     cli.add_trace(parser)
@@ -195,6 +215,8 @@ def run(arguments: argparse.Namespace) -> int:
     reader.read(trace)
     print_links(reader, arguments.losses)
     print_nodes(reader)
+    if arguments.map:
+        draw_map(arguments, reader)
     total, sends = sum(reader.samples.values()), sum(reader.sends.values())
     if reader.faults:
         print(f"\n{reader.faults:,} of {total:,} samples and {sends:,} sends are not as they should be")

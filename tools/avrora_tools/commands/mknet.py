@@ -2,7 +2,8 @@
 import argparse
 import re
 
-from avrora_tools import cli, networks, traces
+from avrora_tools import cli, files, maps, networks, scenarios, traces
+from avrora_tools.terminal import warn
 
 SUMMARY = "writes the scenario of a network of some shape"
 
@@ -13,8 +14,8 @@ The number of each node arrives at its USART0 as the first byte: at node 0 in cy
 cycles later. A node that learns it before its receiver is enabled loses it and waits for ever. Nodes that learn it in
 the same cycle run in lockstep, so that all that they send clashes. A byte time that is shorter than the firmware's
 round of sampling loses bytes. See docs/FIRMWARE.md, "Three losses that nothing reports". Nodes that do not hear each
-other, as those about a star's middle, clash all the same unless the stagger is longer than a packet of theirs.
-The same words write the same text."""
+other, as those about a star's middle, clash all the same unless the stagger is longer than a packet of theirs; such a star,
+nodes that nothing reaches and parts that no link joins are told. The same words write the same text."""
 
 
 def two_numbers(text: str) -> networks.Pair:
@@ -41,25 +42,30 @@ def node_bytes(text: str) -> tuple[int, str]:
 
 
 def run(arguments: argparse.Namespace) -> int:
-    print(
-        networks.scenario(
-            arguments.shape,
-            networks.counted(arguments.image),
-            cycles=arguments.cycles,
-            latency=arguments.latency,
-            byte_time=arguments.byte_time,
-            window=arguments.window,
-            seed=arguments.seed,
-            link_latency=arguments.link_latency,
-            at=arguments.at,
-            stagger=arguments.stagger,
-            spans=dict(arguments.open),
-            numbers=not arguments.no_numbers,
-            inputs=dict(arguments.input),
-            every=arguments.every,
-        ),
-        end="",
+    images = networks.counted(arguments.image)
+    text = networks.scenario(
+        arguments.shape,
+        images,
+        cycles=arguments.cycles,
+        latency=arguments.latency,
+        byte_time=arguments.byte_time,
+        window=arguments.window,
+        seed=arguments.seed,
+        link_latency=arguments.link_latency,
+        at=arguments.at,
+        stagger=arguments.stagger,
+        spans=dict(arguments.open),
+        numbers=not arguments.no_numbers,
+        inputs=dict(arguments.input),
+        every=arguments.every,
     )
+    print(text, end="")
+    links = [(link.sender, link.hearer) for link in scenarios.Scenario.of_text(text, "the network").links]
+    for odd in maps.oddities(len(images), links):
+        warn(odd)
+    if arguments.places:
+        places = maps.shape_places(arguments.shape, len(images), arguments.seed)
+        files.write_whole(arguments.places, maps.places_text(places))
     return 0
 
 
@@ -101,5 +107,6 @@ def configure(parser: argparse.ArgumentParser) -> None:
         metavar="FROM-TO=A..B,..",
         help="a link that is open in these cycles alone",
     )
+    parser.add_argument("--places", metavar="FILE", help="also write where the nodes lie, for --places of links")
     parser.add_argument("shape", metavar="SHAPE")
     parser.add_argument("image", nargs="+", metavar="IMAGE[*COUNT]")
