@@ -17,7 +17,7 @@ FAULTS = (
     (PLACES, "`put_serial`", "`put_cereal`", "crates/node_core/src/machine.rt has no `put_cereal`"),
     (PLACES, r"\bKind::[A-Z]|\bKind\.TheVariants", r"\bKind::[a-z]", "nothing matches"),
     (PLACES, '"examples/*.h"', '"examples/*.hpp"', "there is no file examples/*.hpp"),
-    (PLACES, '"tools/avrora_tools/sweeping/*.py" = ', '"tools/avrora_tools/sleeping/*.py" = ', "is excepted, and nothing there matches"),
+    (PLACES, '"tools/tests/*" = ', '"tools/trials/*" = ', "is excepted, and nothing there matches"),
     (PLACES, 'change = "a stop cause"', 'change = "the cause of a stop"', 'no row of the changes is "the cause of a stop"'),
     (PLACES, "[clash", "[crash", "there is no list [clash]"),
     (ARCHITECTURE, "*all row*", "all its places", 'no row of the changes is "a row of the trace"'),

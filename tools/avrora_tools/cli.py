@@ -39,6 +39,16 @@ def add_trace(parser: argparse.ArgumentParser) -> None:
     )
 
 
+def add_head(parser: argparse.ArgumentParser) -> None:
+    parser.add_argument(
+        "--head", type=positive, metavar="N", help="the trace is what `avrora head FILE N` wrote, without end rows"
+    )
+
+
+def add_scenario(parser: argparse.ArgumentParser) -> None:
+    parser.add_argument("-s", "--scenario", metavar="SCENARIO", help="the scenario that was run")
+
+
 def add_nodes(parser: argparse.ArgumentParser) -> None:
     parser.add_argument("-n", "--nodes", type=node_set, metavar="NODES", help="these alone, such as 0,2-4")
 

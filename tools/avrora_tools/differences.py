@@ -16,6 +16,16 @@ TOLD = 3  # rows that are gone, and rows that are new, that are told
 
 FIRST, SECOND = 0, 1
 
+Queues = tuple[deque[Row], deque[Row]]  # of the first trace, and of the second
+
+
+def queues() -> Queues:
+    return deque(), deque()
+
+
+def lists() -> tuple[list[Row], list[Row]]:
+    return [], []
+
 
 def content(row: Row) -> str:
     """What a row says apart from its cycle: of a sample not the age either, which goes with the cycle."""
@@ -26,7 +36,7 @@ def content(row: Row) -> str:
 class Alignment:
     """Rows of one node and kind in two traces, in order, behind the first difference."""
 
-    queues: tuple[deque[Row], deque[Row]] = field(default_factory=lambda: (deque(), deque()))
+    queues: Queues = field(default_factory=queues)
     unmoved: int = 0  # the same, in the same cycle
     shifts: list[int] = field(default_factory=list)  # the least and the greatest shift of those that moved
     moved: int = 0
@@ -107,9 +117,9 @@ class NodeDifference:
 
     same: int = 0  # rows before the first difference
     before: deque[Row] = field(default_factory=lambda: deque(maxlen=CONTEXT))
-    behind: tuple[list[Row], list[Row]] = field(default_factory=lambda: ([], []))  # from the first difference on
+    behind: tuple[list[Row], list[Row]] = field(default_factory=lists)  # from the first difference on
     has_parted: bool = False
-    waiting: tuple[deque[Row], deque[Row]] = field(default_factory=lambda: (deque(), deque()))
+    waiting: Queues = field(default_factory=queues)
     rest: dict[str, Alignment] = field(default_factory=dict)  # by kind
 
     def feed(self, side: int, row: Row, with_cycles: bool) -> None:

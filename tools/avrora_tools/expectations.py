@@ -1,331 +1,223 @@
-"""Expectations of a trace: what a case of `expect` says, and whether a trace meets it. The format is in README.md.
+"""Whether a trace meets the expectations of a case.
 
-A trace is read once, row by row; what is kept of it is a few rows for the report.
+A trace is read once, row by row, to its end; what is kept of it is a few rows for the report.
 """
-import argparse
-import ast
 import collections
 import contextlib
 import difflib
 import itertools
-import operator
 import os
-import re
 import subprocess
 import tempfile
+import threading
+from collections.abc import Callable, Iterable, Iterator
+from typing import IO, BinaryIO, NamedTuple, Protocol, cast
 
-from avrora_tools import cli, files, traces
-from avrora_tools.errors import BadInput
+from avrora_tools import files, traces
+from avrora_tools.cases import (
+    COMPARISONS,
+    Case,
+    Count,
+    Expected,
+    Golden,
+    Lines,
+    Never,
+    Statement,
+    Text,
+    read_case,
+)
+from avrora_tools.errors import BadInput, CannotWork, Status, ToolError
+from avrora_tools.events import End, Serial, event_of
+from avrora_tools.patterns import Span
+from avrora_tools.scenarios import BYTE_TIME
+
+__all__ = ["Case", "Golden", "Outcome", "check", "read_case", "run_case"]
+
+CONTEXT = 3  # rows before and behind the row at fault
+MOST_ROWS = 10  # that a report of a count tells
+
+# Statuses of the simulator that tell that its input is at fault: a file cannot be read, or is refused.
+REFUSALS = (2, 3, 4, 5, 7, 8)
 
 
-# Rows of context before and behind the row at fault.
-CONTEXT = 3
+class Outcome(NamedTuple):
+    """What a check found: None or the text of all that is not met; rows that were looked at; expectations of the case; and
+    what is the matter where it is not met."""
 
-# What a check found: None or the text of the first failure; rows that were looked at; expectations of the case.
-Outcome = collections.namedtuple("Outcome", "failure rows expectations")
-
-Case = collections.namedtuple("Case", "path folder source nodes kinds statements")
-
-COMPARISONS = {
-    "==": operator.eq,
-    "!=": operator.ne,
-    "<=": operator.le,
-    ">=": operator.ge,
-    "<": operator.lt,
-    ">": operator.gt,
-}
-
-SOURCES = {"run": 1, "node": 2, "trace": 1}  # how many words follow each
-
-
-# Where a check ended: the row at fault, None at the end of the trace, and a few rows before and behind it; all as text.
-Place = collections.namedtuple("Place", "before row after")
-
-
-class Failure(Exception):
-    """An expectation that is not met. `explain(place)` makes the report."""
-
-    def __init__(self, explain):
-        super().__init__()
-        self.explain = explain
+    failure: str | None
+    rows: int
+    expectations: int
+    status: Status = Status.GOOD
 
 
 class Unmet(Exception):
-    """The report of a failure; it leaves what was begun to be saved behind."""
+    """A golden trace is not saved: something else is not met."""
 
 
-# A test of the part at `index` of a row: `accepts(value, base)`, where `base` is the cycle of the row found before.
-Test = collections.namedtuple("Test", "index accepts")
+def line_of(row: traces.TraceRow) -> str:
+    cycle, node, event = row
+    return f"{cycle} {node} {event.text}"
 
 
-class Pattern:
-    """A row with `*`, ranges, tolerances and sets as parts."""
+class Report:
+    """What is not met, with the rows about it, which come as they come."""
 
-    # The kind of a row and its node tell most rows apart, the cycle fewest.
-    ORDER = {2: 0, 1: 1, 0: 9}
+    def __init__(self, statement: Statement, why: str, details: Iterable[str] = ()) -> None:
+        self.statement, self.why, self.details = statement, why, list(details)
+        self.row: traces.TraceRow | None = None
+        self.before: list[traces.TraceRow] = []
+        self.after: list[traces.TraceRow] = []
+        self.again = 0  # how often it happened once more
 
-    def __init__(self, text):
-        self.text = text
-        words = text.split()
-        if len(words) < 3 and words[-1:] != ["*"]:
-            raise ValueError(f"`{text}` is no row: a cycle, a node and a kind, or * in place of each")
-        if len(words) > 2 and re.fullmatch("[a-z]+", words[2]) and words[2] not in traces.KINDS:
-            raise ValueError(f"no row has the kind {words[2]}")
-        self.open_end = words[-1] == "*"
-        self.is_relative = words[0][0] == "+"
-        self.length = len(words) - self.open_end
-        tests = [Test(index, accepts) for index, word in enumerate(words) if (accepts := part(word, index))]
-        self.tests = sorted(tests, key=lambda test: self.ORDER.get(test.index, test.index))
-        self.kin = [word if re.fullmatch("[0-9]+|[a-z]+", word) else None for word in (words + [None, None])[1:3]]
+    def show_after(self, row: traces.TraceRow) -> None:
+        if self.row is not row and len(self.after) < CONTEXT:
+            self.after.append(row)
 
-    def matches(self, parts, base):
-        if len(parts) < self.length or len(parts) > self.length and not self.open_end:
-            return False
-        return all(accepts(parts[index], base) for index, accepts in self.tests)
-
-    def is_kin(self, parts):
-        """Whether a row has the node and the kind of this one, as far as the pattern names them."""
-        return all(word is None or word == value for word, value in zip(self.kin, parts[1:3]))
+    def text(self, path: str) -> str:
+        lines = [f"{path}, line {self.statement.line}: {self.why}", *self.details]
+        if self.row:
+            lines += [f"  {line_of(row)}" for row in self.before] + [f"> {line_of(self.row)}"]
+            lines += [f"  {line_of(row)}" for row in self.after]
+        if self.again:
+            lines.append(f"and {self.again:,} more")
+        return "\n".join(lines)
 
 
-def part(word, index):
-    """The test of one part of a row; None where all values are good."""
-    if word == "*":
-        return None
-    if word[0] == "+" and index == 0:
-        low, high = bounds(word[1:])
-        return lambda value, base: low <= int(value) - base <= high
-    if word[0] == "{" and word[-1] == "}":
-        values = set(word[1:-1].split(","))
-        return lambda value, base: value in values
-    if ".." in word or "+-" in word:
-        low, high = bounds(word)
-        return lambda value, base: value.isdigit() and low <= int(value) <= high
-    return lambda value, base: value == word
+class Near(NamedTuple):
+    """The rows that were looked at last, and the reports of rows."""
+
+    before: collections.deque[traces.TraceRow]
+    told: list[Report]
 
 
-def bounds(word):
-    """The least and the greatest number that A..B, ..B, A.., C+-D or C stand for; digits may be grouped by _."""
-    match = re.fullmatch(r"(\d[\d_]*)?\.\.(\d[\d_]*)?", word)
-    if match and word != "..":
-        return int(match[1] or 0), int(match[2]) if match[2] else float("inf")
-    match = re.fullmatch(r"(\d[\d_]*)(?:\+-(\d[\d_]*))?", word)
-    if match:
-        middle, off = int(match[1]), int(match[2] or 0)
-        return middle - off, middle + off
-    raise ValueError(f"{word} is no A..B, ..B, A.., C+-D")
+class Watcher(Protocol):
+    """Looks at each row, and tells at the end what is not met."""
 
+    def feed(self, row: traces.TraceRow) -> None: ...
 
-# The statements of a case. Each has the number of its line, for messages; `span` is a range of cycles or None.
-Expected = collections.namedtuple("Expected", "line pattern most")  # at most so many rows between; None for any number
-Never = collections.namedtuple("Never", "line pattern span")
-Count = collections.namedtuple("Count", "line pattern span comparison wanted")
-Text = collections.namedtuple("Text", "line node text span")
-Golden = collections.namedtuple("Golden", "line path with_cycles")
-
-
-def read_case(path):
-    """The case in the file `path`. Raises BadInput that names the line at fault."""
-    folder = os.path.dirname(os.path.abspath(path))
-    source = nodes = kinds = None
-    statements = []
-    text = files.read_text(path)
-    if "\0" in text:
-        raise BadInput(f"{path}: no text")
-    for number, line in enumerate(text.splitlines(), 1):
-        words = without_comment(line).split()
-        try:
-            if not words:
-                continue
-            if words[0] in SOURCES:
-                source = read_source(words, source)
-            elif words[0] == "only":
-                nodes, kinds = read_only(words[1:])
-            else:
-                statements.append(read_statement(" ".join(words), without_comment(line).strip(), number, folder))
-        except (ValueError, SyntaxError, argparse.ArgumentTypeError) as fault:
-            raise BadInput(f"{path}, line {number}: {fault}") from None
-    if not statements:
-        raise BadInput(f"{path}: a case without an expectation")
-    return Case(path, folder, source, nodes, kinds, statements)
-
-
-def without_comment(line):
-    return re.match(r"""(?:"(?:\\.|[^"\\])*"|'(?:\\.|[^'\\])*'|[^#])*""", line)[0]
-
-
-def read_source(words, source):
-    if source:
-        raise ValueError("a second source of the trace")
-    if len(words) - 1 != SOURCES[words[0]]:
-        raise ValueError(f"after {words[0]} stand {SOURCES[words[0]]} words")
-    return tuple(words)
-
-
-def read_only(words):
-    nodes = kinds = None
-    for word in words:
-        if word[0].isdigit():
-            nodes = (nodes or set()) | cli.node_set(word)
-        elif word in traces.KINDS:
-            kinds = (kinds or set()) | {word}
-        else:
-            raise ValueError(f"{word} is no kind of row and no list of nodes")
-    return nodes, kinds
-
-
-def read_statement(text, line, number, folder):
-    """One statement; `text` is `line` with single spaces between its words."""
-    span = None
-    if match := re.fullmatch(r"within (\S+): (.*)", text):
-        span = bounds(match[1])
-        text, line = match[2], line.split(":", 1)[1].strip()
-    word, _, rest = text.partition(" ")
-    if word == "never":
-        return Never(number, Pattern(rest) if not span else absolute(rest), span)
-    if word == "count":
-        match = re.fullmatch(r"(==|!=|<=|>=|<|>) (\d[\d_]*): (.*)", rest)
-        if not match:
-            raise ValueError("a count is `count == N: ROW`, also with != <= >= < >")
-        return Count(number, absolute(match[3]), span, match[1], int(match[2]))
-    if word == "text":
-        return read_text(line, number, span)
-    if span:
-        raise ValueError("`within A..B:` stands before never, count and text alone")
-    if word == "golden":
-        match = re.fullmatch(r"(\S+)( without cycles)?", rest)
-        if not match:
-            raise ValueError("golden is `golden FILE` or `golden FILE without cycles`")
-        return Golden(number, os.path.join(folder, match[1]), not match[2])
-    if word == "next":
-        match = re.fullmatch(r"(?:(\d+): )?(.*)", rest)
-        return Expected(number, Pattern(match[2]), int(match[1] or 0))
-    return Expected(number, Pattern(text), None)
-
-
-def absolute(text):
-    """A row that no expected row goes before."""
-    pattern = Pattern(text)
-    if pattern.is_relative:
-        raise ValueError("cycles are counted from the row before only in rows that are expected in order")
-    return pattern
-
-
-def read_text(line, number, span):
-    match = re.fullmatch(r"""text\s+(\d+)\s+("(?:\\.|[^"\\])+"|'(?:\\.|[^'\\])+')""", line)
-    if not match:
-        raise ValueError('text is `text NODE "TEXT"`, with escapes as in Python')
-    value = ast.literal_eval(match[2])
-    if max(value) > "\xff":
-        raise ValueError(f"{max(value)} is no byte; write its bytes as \\x and two digits")
-    return Text(number, int(match[1]), value.encode("latin-1"), span)
+    def finish(self) -> list[Report]: ...
 
 
 class Sequence:
     """The rows that are expected in order, and those that must not come between."""
 
-    def __init__(self, case):
-        self.case = case
+    def __init__(self, case: Case, near: Near) -> None:
+        self.near = near
         self.steps = [s for s in case.statements if isinstance(s, Expected) or isinstance(s, Never) and not s.span]
         self.base = 0  # the cycle of the row found last
-        self.found = None  # its text
+        self.found: traces.TraceRow | None = None
+        self.reports: list[Report] = []
+        self.unwanted: dict[int, Report] = {}  # by the line of the statement
         self.begin(0)
 
-    def begin(self, step):
+    def begin(self, step: int) -> None:
         """Waits for the next expected row from `step` on."""
         end = step
         while end < len(self.steps) and isinstance(self.steps[end], Never):
             end += 1
-        self.nevers = self.steps[step:end]
+        self.nevers = [s for s in self.steps[step:end] if isinstance(s, Never)]
         self.step = end
-        self.expected = self.steps[end] if end < len(self.steps) else None
-        self.between = []  # the rows that came instead, for the report: the first ones, or the first of its kin
+        expected = self.steps[end] if end < len(self.steps) else None
+        self.expected = expected if isinstance(expected, Expected) else None
+        self.between: list[traces.TraceRow] = []  # what came instead, for the report: the first, or the first of its kin
         self.passed = 0
 
-    def feed(self, parts):
+    def feed(self, row: traces.TraceRow) -> None:
+        cycle, node, event = row
         expected = self.expected
         if expected:
-            if expected.pattern.matches(parts, self.base):
-                self.base = int(parts[0])
-                self.found = " ".join(parts)
+            if expected.pattern.matches(cycle, node, event, self.base):
+                self.base, self.found = cycle, row
                 self.begin(self.step + 1)
                 return
             self.passed += 1
-            if len(self.between) < CONTEXT and (expected.most is not None or expected.pattern.is_kin(parts)):
-                self.between.append(" ".join(parts))
+            if len(self.between) < CONTEXT and (expected.most is not None or expected.pattern.is_kin(node, event)):
+                self.between.append(row)
             if expected.most is not None and self.passed > expected.most:
-                raise Failure(lambda place: self.missing(f"was to come {rows_on(expected.most)}, and came not"))
+                self.reports.append(self.missing(expected, f"was to come {rows_on(expected.most)}, and came not"))
+                self.begin(self.step + 1)
         for never in self.nevers:
-            if never.pattern.matches(parts, self.base):
-                raise Failure(unwanted(self.case, never))
+            if never.pattern.matches(cycle, node, event, self.base):
+                note_unwanted(self.unwanted, never, self.near, row)
 
-    def finish(self):
+    def finish(self) -> list[Report]:
         if self.expected:
-            raise Failure(lambda place: self.missing("did not come"))
+            report = self.missing(self.expected, "did not come")
+            behind = sum(isinstance(step, Expected) for step in self.steps[self.step + 1 :])
+            if behind:
+                report.details.append(f"so {behind} more, expected behind it, {'was' if behind == 1 else 'were'} not looked for")
+            self.reports.append(report)
+        return self.reports + list(self.unwanted.values())
 
-    def missing(self, what):
-        expected = self.expected
-        report = [f"{self.case.path}, line {expected.line}: this row {what}:", f"- {expected.pattern.text}"]
-        report += ["after this one:", f"  {self.found}"] if self.found else []
+    def missing(self, expected: Expected, what: str) -> Report:
+        details = [f"- {expected.pattern.text}"]
+        details += ["after this one:", f"  {line_of(self.found)}"] if self.found else []
         if self.between:
-            report += ["but these:" if expected.most is not None else "but of its node and kind:"]
-            report += [f"+ {text}" for text in self.between]
+            details += ["but these:" if expected.most is not None else "but of its node and kind:"]
+            details += [f"+ {line_of(row)}" for row in self.between]
         elif expected.most is None:
-            report += ["and none of its node and kind"]
-        return "\n".join(report)
+            details += ["and none of its node and kind"]
+        return Report(expected, f"this row {what}:", details)
 
 
-def rows_on(most):
+def rows_on(most: int) -> str:
     return "next" if most == 0 else f"behind at most {most} others"
 
 
-def unwanted(case, never):
-    """The report of a row that was never to come."""
-    return lambda place: "\n".join(
-        [f"{case.path}, line {never.line}: this row was never to come:", f"- {never.pattern.text}", "but it did:"]
-        + [f"  {text}" for text in place.before]
-        + [f"> {place.row}"]
-        + [f"  {text}" for text in place.after]
-    )
-
-
-class Counter:
-    """How many rows match, in all or within a span."""
-
-    def __init__(self, case, count):
-        self.case, self.count, self.came = case, count, 0
-
-    def feed(self, parts):
-        count = self.count
-        if count.pattern.matches(parts, 0) and (not count.span or count.span[0] <= int(parts[0]) <= count.span[1]):
-            self.came += 1
-
-    def finish(self):
-        count = self.count
-        if not COMPARISONS[count.comparison](self.came, count.wanted):
-            text = (
-                f"{self.case.path}, line {count.line}: {count.comparison} {count.wanted} rows wanted"
-                f"{within(count.span)}, {self.came} came:\n- {count.pattern.text}"
-            )
-            raise Failure(lambda place: text)
-
-
-def within(span):
-    return f" within {span[0]}..{'' if span[1] == float('inf') else span[1]}" if span else ""
+def note_unwanted(reports: dict[int, Report], never: Never, near: Near, row: traces.TraceRow) -> None:
+    """Notes a row that was never to come; the first of a statement is told with the rows about it."""
+    if never.line in reports:
+        reports[never.line].again += 1
+        return
+    report = Report(never, "this row was never to come:", [f"- {never.pattern.text}", "but it did:"])
+    reports[never.line] = report
+    report.before, report.row = list(near.before), row
+    near.told.append(report)
 
 
 class NeverWithin:
     """A row that must not come within a span."""
 
-    def __init__(self, case, never):
-        self.case, self.never = case, never
+    def __init__(self, never: Never, span: Span, near: Near) -> None:
+        self.never, self.span, self.near = never, span, near
+        self.reports: dict[int, Report] = {}
 
-    def feed(self, parts):
-        if self.never.span[0] <= int(parts[0]) <= self.never.span[1] and self.never.pattern.matches(parts, 0):
-            raise Failure(unwanted(self.case, self.never))
+    def feed(self, row: traces.TraceRow) -> None:
+        cycle, node, event = row
+        if self.span.has(cycle) and self.never.pattern.matches(cycle, node, event, 0):
+            note_unwanted(self.reports, self.never, self.near, row)
 
-    def finish(self):
-        pass
+    def finish(self) -> list[Report]:
+        return list(self.reports.values())
+
+
+class Counter:
+    """How many rows match, in all or within a span."""
+
+    def __init__(self, count: Count) -> None:
+        self.count, self.came = count, 0
+        self.rows: list[traces.TraceRow] = []
+
+    def feed(self, row: traces.TraceRow) -> None:
+        cycle, node, event = row
+        if (not self.count.span or self.count.span.has(cycle)) and self.count.pattern.matches(cycle, node, event, 0):
+            self.came += 1
+            if len(self.rows) < MOST_ROWS:
+                self.rows.append(row)
+
+    def finish(self) -> list[Report]:
+        count = self.count
+        if COMPARISONS[count.comparison](self.came, count.wanted):
+            return []
+        why = f"{count.comparison} {count.wanted} rows wanted{within(count.span)}, {self.came} came:"
+        details = [f"- {count.pattern.text}", *(f"+ {line_of(row)}" for row in self.rows)]
+        if self.came > len(self.rows):
+            details.append(f"and {self.came - len(self.rows):,} more")
+        return [Report(count, why, details)]
+
+
+def within(span: Span | None) -> str:
+    return f" within {span}" if span else ""
 
 
 class Writes:
@@ -333,198 +225,311 @@ class Writes:
 
     SHOWN = 200  # bytes of what was written, for the report
 
-    def __init__(self, case, text):
-        self.case, self.text = case, text
-        self.last = b""
+    def __init__(self, text: Text) -> None:
+        self.text = text
+        self.written = bytearray()
         self.found = False
 
-    def serial(self, row):
+    def feed(self, row: traces.TraceRow) -> None:
+        cycle, node, event = row
         text = self.text
-        if self.found or row.node != text.node or text.span and not text.span[0] <= row.cycle <= text.span[1]:
+        if self.found or node != text.node or not isinstance(event, Serial) or text.span and not text.span.has(cycle):
             return
-        self.last = (self.last + bytes([int(row.rest, 16)]))[-max(self.SHOWN, len(text.text)) :]
-        self.found = self.last.endswith(text.text)
+        self.written.append(event.byte)
+        if not text.expression:
+            self.found = self.written.endswith(text.text)
+            del self.written[: -max(self.SHOWN, len(text.text))]
 
-    def finish(self):
-        if not self.found:
-            text = (
-                f"{self.case.path}, line {self.text.line}: node {self.text.node} did not write"
-                f"{within(self.text.span)}:\n- {printed(self.text.text)}\n"
-                f"what it wrote ends with:\n+ {printed(self.last)}"
-            )
-            raise Failure(lambda place: text)
+    def finish(self) -> list[Report]:
+        text = self.text
+        if self.found or text.expression and text.expression.search(self.written):
+            return []
+        wanted = printed(text.expression.pattern if text.expression else text.text)
+        what = "did not write what matches" if text.expression else "did not write"
+        details = [f"- {wanted}", "what it wrote ends with:", f"+ {printed(bytes(self.written[-self.SHOWN :]))}"]
+        return [Report(text, f"node {text.node} {what}{within(text.span)}:", details)]
 
 
-def printed(data):
+def printed(data: bytes) -> str:
     return ascii(data)[1:]  # without the b
+
+
+class WrittenLines:
+    """How many lines a node writes to USART0."""
+
+    def __init__(self, lines: Lines) -> None:
+        self.lines, self.came = lines, 0
+
+    def feed(self, row: traces.TraceRow) -> None:
+        cycle, node, event = row
+        if node == self.lines.node and isinstance(event, Serial) and event.byte == ord("\n"):
+            self.came += not self.lines.span or self.lines.span.has(cycle)
+
+    def finish(self) -> list[Report]:
+        lines = self.lines
+        if COMPARISONS[lines.comparison](self.came, lines.wanted):
+            return []
+        why = f"{lines.comparison} {lines.wanted} lines of node {lines.node} wanted{within(lines.span)}, {self.came} came"
+        return [Report(lines, why)]
 
 
 class GoldenTrace:
     """The rows of a file, all of them and no others."""
 
-    def __init__(self, case, golden):
-        self.case, self.golden = case, golden
+    def __init__(self, golden: Golden, stack: contextlib.ExitStack) -> None:
+        self.golden = golden
+        self.name = files.shown(golden.path)
         try:
-            self.file = open(golden.path, encoding="utf-8", errors="replace")
-        except OSError as fault:
-            text = f"{case.path}, line {golden.line}: cannot read {golden.path}: {fault.strerror} (--save writes it)"
-            raise Failure(lambda place: text) from None
+            self.file = stack.enter_context(open(golden.path, encoding="ascii", errors="replace", newline="\n"))
+        except (OSError, ValueError) as fault:
+            why = getattr(fault, "strerror", None) or fault
+            raise BadInput(f"cannot read {self.name}: {why} (--save writes it)") from None
         self.number = 0
-        self.before = collections.deque(maxlen=CONTEXT)
+        self.before: collections.deque[str] = collections.deque(maxlen=CONTEXT)
+        self.report: Report | None = None
+        self.came: list[str] = []  # from the difference on
+        self.wanted: list[str] = []
 
-    def shown(self, text):
-        return text if self.golden.with_cycles else text.split(" ", 1)[1]
+    def shown(self, row: traces.TraceRow) -> str:
+        cycle, node, event = row
+        return f"{cycle} {node} {event.text}" if self.golden.with_cycles else f"{node} {event.text}"
 
-    def feed(self, parts):
-        came = self.shown(" ".join(parts))
-        wanted = self.file.readline().rstrip("\n")
+    def next_row(self) -> str | None:
+        """The next row of the file. Raises BadInput where it is none."""
+        with files.readable(self.golden.path):
+            line = self.file.readline(traces.LONGEST_ROW)
+        if not line:
+            return None
         self.number += 1
+        parts = line.rstrip("\n").split(" ", 2 if self.golden.with_cycles else 1)
+        is_number = all(part.isdigit() for part in parts[:-1])
+        if not line.endswith("\n") or len(parts) != 2 + self.golden.with_cycles or not is_number or not event_of(parts[-1]):
+            raise BadInput(f"{self.name}, line {self.number}: no row: {files.printable(line[:60].rstrip())}")
+        return line.rstrip("\n")
+
+    def feed(self, row: traces.TraceRow) -> None:
+        if self.report:
+            if len(self.came) < 1 + CONTEXT:
+                self.came.append(self.shown(row))
+            return
+        came = self.shown(row)
+        wanted = self.next_row()
         if came != wanted:
-            raise Failure(lambda place: self.difference(wanted, [came, *map(self.shown, place.after)]))
+            self.differ(wanted, [came])
         self.before.append(came)
 
-    def finish(self):
-        wanted = self.file.readline().rstrip("\n")
-        if wanted:
-            self.number += 1
-            raise Failure(lambda place: self.difference(wanted, []))
+    def differ(self, wanted: str | None, came: list[str]) -> None:
+        number = self.number + (wanted is None)
+        self.report = Report(self.golden, f"row {number} differs from {self.name}:", ["--- expected", "+++ came"])
+        self.wanted = [row for row in [wanted, *(self.next_row() for _ in range(CONTEXT))] if row is not None]
+        self.came = came
+        self.shared = list(self.before)
 
-    def difference(self, wanted, came):
-        before = list(self.before)
-        rest = [line.rstrip("\n") for line in itertools.islice(self.file, CONTEXT)]
-        diff = difflib.unified_diff(before + [wanted] * bool(wanted) + rest, before + came, n=CONTEXT, lineterm="")
-        report = [
-            f"{self.case.path}, line {self.golden.line}: row {self.number} differs from {self.golden.path}:",
-            "--- expected",
-            "+++ came",
-        ]
-        return "\n".join(report + list(diff)[3:])
+    def finish(self) -> list[Report]:
+        if not self.report:
+            wanted = self.next_row()
+            if wanted is None:
+                return []
+            self.differ(wanted, [])
+        assert self.report
+        while self.next_row() is not None:  # what is no row is refused, wherever it stands
+            pass
+        diff = difflib.unified_diff(self.shared + self.wanted, self.shared + self.came, n=CONTEXT, lineterm="")
+        self.report.details += list(diff)[3:]
+        return [self.report]
 
 
 class SavedTrace:
     """Writes the rows to the file of a golden trace."""
 
-    def __init__(self, golden, stack):
+    def __init__(self, golden: Golden, stack: contextlib.ExitStack) -> None:
         self.golden = golden
-        self.file = stack.enter_context(files.whole_file(golden.path))
+        try:
+            self.file: IO[str] = stack.enter_context(files.whole_file(golden.path))
+        except OSError as fault:
+            raise CannotWork(f"cannot write {files.shown(golden.path)}: {fault.strerror}") from None
 
-    def feed(self, parts):
-        print(*(parts if self.golden.with_cycles else parts[1:]), file=self.file)
+    def feed(self, row: traces.TraceRow) -> None:
+        cycle, node, event = row
+        self.file.write(f"{cycle} {node} {event.text}\n" if self.golden.with_cycles else f"{node} {event.text}\n")
 
-    def finish(self):
-        pass
+    def finish(self) -> list[Report]:
+        return []
 
 
-def check(case, lines, save=False, name="the trace", ended=None):
-    """Whether a trace, an iterable of lines as bytes, meets the case: the first failure, or none. With `save` golden
+# Called behind the last row with whether one came; raises what is wrong with how the trace was made.
+Ended = Callable[[bool], None]
+
+
+def check(
+    case: Case,
+    source: Iterable[bytes] | BinaryIO,
+    save: bool = False,
+    name: str = "the trace",
+    ended: Ended | None = None,
+) -> Outcome:
+    """Whether a trace, a file or an iterable of bytes, meets the case: all that is not met, or none. With `save` golden
     traces are written anew, whatever they were, unless another expectation is not met. `ended` is called behind the
-    last line with whether a row came; it may raise Unmet and BadInput. Raises BadInput where the lines are no whole
-    trace."""
+    last row. Raises BadInput where the trace is not whole, or can never meet what is expected."""
+    blocks = traces.blocks_of(cast(BinaryIO, source)) if hasattr(source, "read") else iter(source)
+    # A case may expect what a scenario's byte time allows and another's does not.
+    trace = traces.Trace(blocks, name, traces.Form.WHOLE, least_gap=BYTE_TIME.start)
     looked = itertools.count()
-    try:
-        with contextlib.ExitStack() as stack:
-            watch(case, whole_trace(lines, name, ended), save, stack, looked)
-        failure = None
-    except Unmet as unmet:
-        failure = str(unmet)
-    return Outcome(failure, next(looked), len(case.statements))
+    failures: list[str] = []
+    with contextlib.suppress(Unmet), contextlib.ExitStack() as stack:
+        reports = watch(case, whole_trace(trace, blocks, ended), save, stack, looked)
+        refuse_impossible(case, trace)
+        reports.sort(key=lambda report: report.statement.line)
+        failures = [report.text(files.shown(case.path)) for report in reports]
+        if failures:
+            raise Unmet
+    rows = next(looked)
+    status = Status.NOT_MET if failures else Status.GOOD
+    return Outcome("\n".join(failures) or None, rows, len(case.statements), status)
 
 
-def whole_trace(lines, name, ended):
-    """The rows of a trace whose maker ended well. How it ended goes before what its lines lack."""
+def whole_trace(trace: traces.Trace, blocks: Iterator[bytes], ended: Ended | None) -> Iterator[traces.TraceRow]:
+    """The rows of a trace whose maker ended well. How it ended goes before what its rows lack."""
     came = False
     try:
-        for row in traces.parse(lines, name, whole=True):
+        for row in trace:
             came = True
             yield row
     except BadInput:
-        if ended and next(iter(lines), None) is None:
+        if ended and next(blocks, None) is None:
             ended(came)
         raise
     if ended:
         ended(came)
 
 
-def watch(case, rows, save, stack, looked):
-    """Shows the watchers of a case all rows. Raises Unmet where one is not content."""
-    before = collections.deque(maxlen=CONTEXT)
-    parts = None
-    seen = iter(())
-    try:
-        watchers, writers = watchers_of(case, save, stack)
-        seen = looked_at(case, rows, writers)
-        for parts in seen:
-            next(looked)
-            for watcher in watchers:
-                watcher.feed(parts)
-            before.append(parts)
-        parts = None
-        for watcher in watchers + writers:
-            watcher.finish()
-    except Failure as failure:
-        after = [" ".join(row) for row in itertools.islice(seen, CONTEXT)] if parts else []
-        place = Place([" ".join(row) for row in before], parts and " ".join(parts), after)
-        raise Unmet(failure.explain(place)) from None
-
-
-def looked_at(case, rows, writers):
-    """The rows of the case's nodes and kinds, each as its parts; what is written to USART0 goes to the `writers`
-    first."""
+def watch(
+    case: Case, rows: Iterator[traces.TraceRow], save: bool, stack: contextlib.ExitStack, looked: Iterator[int]
+) -> list[Report]:
+    """Shows the watchers of a case all rows; what they report."""
+    before: collections.deque[traces.TraceRow] = collections.deque(maxlen=CONTEXT)
+    told: list[Report] = []  # reports of rows, which tell what came behind
+    watchers, writers = watchers_of(case, save, stack, Near(before, told))
+    feeds = [watcher.feed for watcher in watchers]
+    nodes, kinds = case.nodes, case.kinds
     for row in rows:
-        if row.kind == "serial":
+        _, node, event = row
+        if writers and isinstance(event, Serial):
             for writer in writers:
-                writer.serial(row)
-        if (case.nodes is None or row.node in case.nodes) and (case.kinds is None or row.kind in case.kinds):
-            yield [str(row.cycle), str(row.node), row.kind, *row.rest.split()]
+                writer.feed(row)
+        if nodes is not None and node not in nodes or kinds is not None and event.kind not in kinds:
+            continue
+        next(looked)
+        for feed in feeds:
+            feed(row)
+        before.append(row)
+        for report in told:
+            report.show_after(row)
+    return [report for watcher in watchers + writers for report in watcher.finish()]
 
 
-def watchers_of(case, save, stack):
-    """What looks at each row, in the order in which failures are to be told; and what looks at USART0."""
-    watchers = [Sequence(case)]
-    writers = []
+def watchers_of(
+    case: Case, save: bool, stack: contextlib.ExitStack, near: Near
+) -> tuple[list[Watcher], list[Watcher]]:
+    """What looks at each row, and what looks at what is written to USART0."""
+    watchers: list[Watcher] = [Sequence(case, near)]
+    writers: list[Watcher] = []
     for statement in case.statements:
         if isinstance(statement, Golden):
-            watchers.append(SavedTrace(statement, stack) if save else GoldenTrace(case, statement))
-            if not save:
-                stack.callback(watchers[-1].file.close)
+            if save:
+                watchers.append(SavedTrace(statement, stack))
+            else:
+                watchers.append(GoldenTrace(statement, stack))
         elif isinstance(statement, Count):
-            watchers.append(Counter(case, statement))
+            watchers.append(Counter(statement))
         elif isinstance(statement, Never) and statement.span:
-            watchers.append(NeverWithin(case, statement))
+            watchers.append(NeverWithin(statement, statement.span, near))
         elif isinstance(statement, Text):
-            writers.append(Writes(case, statement))
+            writers.append(Writes(statement))
+        elif isinstance(statement, Lines):
+            writers.append(WrittenLines(statement))
     return watchers, writers
 
 
-def run_case(case, avrora, save=False):
-    """Makes the trace of the case, by the simulator `avrora` in the case's folder, and checks it as it comes. A run
-    that ends with another status than 0 is a failure. Raises BadInput where the case names no source or no trace, and
-    where such a run wrote no row: a scenario that is not there, or refused."""
+def refuse_impossible(case: Case, trace: traces.Trace) -> None:
+    """Raises BadInput where no row of the trace can match what a case expects: of a node that it does not have, or in
+    cycles behind its end."""
+    nodes, limit = len(trace.ended), trace.limit or 0
+    for node in sorted(case.nodes or ()):
+        if node >= nodes:
+            raise BadInput(f"{files.shown(case.path)}: `only` names node {node}, and the trace has {nodes} nodes")
+    for statement in case.statements:
+        why = ""
+        if isinstance(statement, (Expected, Never, Count)):
+            why = statement.pattern.why_not(nodes, limit)
+        if isinstance(statement, (Text, Lines)) and statement.node >= nodes:
+            why = f"the trace has no node {statement.node}, but nodes 0 to {nodes - 1}"
+        if isinstance(statement, (Never, Count, Text, Lines)) and statement.span:
+            of_end = isinstance(statement, (Never, Count)) and End.kind in statement.pattern.kinds
+            if statement.span.first > limit or statement.span.first == limit and not of_end:
+                why = f"the trace ends in cycle {limit}, before {statement.span}"
+        if why:
+            raise BadInput(f"{files.shown(case.path)}, line {statement.line}: {why}")
+
+
+def run_case(case: Case, avrora: str, save: bool = False, timeout: float | None = None) -> Outcome:
+    """Makes the trace of the case, by the simulator `avrora` in the case's folder, and checks it as it comes. Raises
+    BadInput where the case names no source or no trace, and where the run is refused; CannotWork where it fails, or takes
+    more than `timeout` seconds."""
     if case.source is None:
-        raise BadInput(f"{case.path}: no run, node or trace says where the rows come from")
+        raise BadInput(f"{files.shown(case.path)}: no run, node or trace says where the rows come from")
     if case.source[0] == "trace":
         path = os.path.join(case.folder, case.source[1])
-        with files.opened(path) as file:
-            return check(case, traces.lines_of(file), save, path)
+        return check(case, traces.file_blocks(path), save, files.shown(path))
     with tempfile.TemporaryFile() as errors:
         try:
-            process = subprocess.Popen([avrora, *case.source], cwd=case.folder, stdout=subprocess.PIPE, stderr=errors)
+            process = subprocess.Popen(
+                [avrora, *case.source],
+                cwd=case.folder,
+                stdin=subprocess.DEVNULL,
+                stdout=subprocess.PIPE,
+                stderr=errors,
+            )
         except OSError as fault:
-            raise BadInput(f"cannot run {avrora}: {fault.strerror}") from None
-        with process.stdout, contextlib.ExitStack() as stack:
-            stack.callback(process.wait)
-            stack.callback(process.kill)  # where the trace is not read to its end
-            return checked_run(case, process, errors, save)
+            raise CannotWork(f"cannot run {files.shown(avrora)}: {fault.strerror}") from None
+        assert process.stdout
+        try:
+            return checked_run(case, process, errors, save, timeout)
+        finally:
+            process.kill()  # where the trace is not read to its end
+            process.wait()
+            process.stdout.close()
 
 
-def checked_run(case, process, errors, save):
-    words = f"avrora {' '.join(case.source)}"
+def checked_run(
+    case: Case, process: subprocess.Popen[bytes], errors: IO[bytes], save: bool, timeout: float | None
+) -> Outcome:
+    words = f"avrora {' '.join(case.source or ())}"
+    late = threading.Event()
 
-    def ended(came):
-        """Raises Unmet where the run ended otherwise than well, BadInput where no row of a trace `came` of it."""
-        if process.wait():
+    def end_late() -> None:
+        late.set()
+        process.kill()
+
+    def ended(came: bool) -> None:
+        """Raises what is due where the run ended otherwise than well."""
+        status = process.wait()
+        if late.is_set():
+            raise CannotWork(f"{files.shown(case.path)}: {words}: it took more than {timeout:g} seconds")
+        if status:
             errors.seek(0)
-            said = errors.read().decode(errors="replace").strip()
-            raise (Unmet if came else BadInput)(f"{case.path}: {words}: status {process.returncode}: {said}")
+            said = files.printable(errors.read(4096).decode(errors="replace").strip())
+            fault: type[ToolError] = BadInput if status in REFUSALS else CannotWork
+            raise fault(f"{files.shown(case.path)}: {words}: status {status}: {said}")
 
-    return check(case, traces.lines_of(process.stdout), save, words, ended)
+    assert process.stdout
+    timer = threading.Timer(timeout, end_late) if timeout else None
+    if timer:
+        timer.daemon = True
+        timer.start()
+    try:
+        return check(case, traces.blocks_of(cast(BinaryIO, process.stdout)), save, words, ended)
+    finally:
+        if timer:
+            timer.cancel()
+

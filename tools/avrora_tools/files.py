@@ -77,7 +77,11 @@ def whole_file(path: str, binary: bool = False, lasting: bool = True) -> Iterato
     folder = os.path.dirname(os.path.abspath(path))
     handle, name = tempfile.mkstemp(dir=folder, prefix=f".{os.path.basename(path)}."[:100])
     try:
-        with open(handle, "wb") if binary else open(handle, "w", encoding="utf-8", errors="surrogateescape") as file:
+        file = cast(
+            IO[Any],
+            open(handle, "wb") if binary else open(handle, "w", encoding="utf-8", errors="surrogateescape"),
+        )
+        with file:
             yield file
             if lasting:
                 file.flush()

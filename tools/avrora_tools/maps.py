@@ -1,11 +1,10 @@
 """The map of a network: where its nodes are drawn, and how well each link does, as SVG; and what is odd about who hears whom."""
 import html
 import math
-import tomllib
 from collections.abc import Callable, Iterable, Mapping, Sequence
 from dataclasses import dataclass
 
-from avrora_tools import networks
+from avrora_tools import networks, toml
 from avrora_tools.errors import BadInput
 
 Ends = tuple[int, int]  # the node that is heard, the one that hears
@@ -96,9 +95,9 @@ WARMTH = 0.1  # how far a node moves at first, of the width
 def places_of(text: str, name: str, count: int) -> list[Point]:
     """The places in a TOML text, NODE = [x, y] of each node. Raises BadInput where it is no such text."""
     try:
-        document = tomllib.loads(text)
-    except tomllib.TOMLDecodeError as fault:
-        raise BadInput(f"{name}: no TOML: {fault}") from None
+        document = toml.loads(text)
+    except toml.NotToml as fault:
+        raise BadInput(f"{name}, line {fault.line}: no TOML: {fault.why}") from None
     found = []
     for node in range(count):
         place = document.pop(str(node), None)
@@ -117,7 +116,7 @@ def shape_places(shape: str, count: int, seed: int) -> list[Point]:
     if name in ("grid", "torus"):
         return [(float(node % int(value)), float(node // int(value))) for node in range(count)]
     if name == "geo":
-        return [(float(x), float(y)) for x, y in networks.drawn_places(count, seed)]
+        return networks.drawn_places(count, seed)
     if name == "line":
         return [(float(node), 0.0) for node in range(count)]
     leaves = [node for node in range(count) if node or name != "star"]

@@ -2,10 +2,12 @@
 import math
 import random
 import re
+from collections.abc import Mapping, Sequence
+from typing import Any
 
-from avrora_tools import scenarios
+from avrora_tools import scenarios, terminal
+from avrora_tools.cli import MAX_NODES
 from avrora_tools.errors import BadInput
-
 
 # What a scenario has where nothing else is said, in cycles. The start-up code of a program has cleared memory and
 # enabled the receiver by AT; STAGGER, a prime, is no multiple of what programs wait; BYTE_TIME is that of a scenario.
@@ -18,7 +20,14 @@ beside, above and below, torus:WIDTH: the same without edges, star: node 0 with 
 geo:RANGE: those at most RANGE apart, where nodes lie in a square of side 1 as the seed draws them"""
 
 
-def pairs_of(shape, count, seed=0):
+# A table of TOML.
+Table = dict[str, Any]
+
+# Two nodes, the lower one first; or the nodes at the head and at the end of a link.
+Pair = tuple[int, int]
+
+
+def pairs_of(shape: str, count: int, seed: int = 0) -> list[Pair]:
     """The pairs of linked nodes of a shape, the lower node first, in order. Raises BadInput where the shape is none."""
     name, _, value = shape.partition(":")
     if name in ("grid", "torus"):
@@ -38,36 +47,36 @@ def pairs_of(shape, count, seed=0):
     return sorted(set(found))
 
 
-def whole(shape, text):
-    if not re.fullmatch("[1-9][0-9]*", text):
+def whole(shape: str, text: str) -> int:
+    if not re.fullmatch("[1-9][0-9]{0,8}", text):
         raise BadInput(f"{shape}: {text or 'nothing'} is no whole number of at least 1")
     return int(text)
 
 
-def positive(shape, text):
+def positive(shape: str, text: str) -> float:
     try:
         value = float(text)
     except ValueError:
-        value = 0
+        value = 0.0
     if not 0 < value < math.inf:
         raise BadInput(f"{shape}: {text or 'nothing'} is no distance above 0")
     return value
 
 
-def grid(width, count, closed):
+def grid(width: int, count: int, closed: bool) -> list[Pair]:
     """Neighbours in rows of `width` nodes; a torus is closed at its edges, and its last row must be full."""
     if closed and count % width:
         raise BadInput(f"torus:{width}: {count} nodes are no whole rows")
-    found = []
+    found: list[Pair] = []
     for node in range(count):
         row, column = divmod(node, width)
         beside = node + 1 if column + 1 < width else row * width if closed else count
         below = node + width if node + width < count or not closed else column
-        found += [tuple(sorted((node, other))) for other in (beside, below) if other < count and other != node]
+        found += [(min(node, other), max(node, other)) for other in (beside, below) if other < count and other != node]
     return found
 
 
-def near(distance, count, seed):
+def near(distance: float, count: int, seed: int) -> list[Pair]:
     """Nodes in a square of side 1 that lie at most `distance` apart; their places are drawn by the seed."""
     places = drawn_places(count, seed)
     return [
@@ -75,29 +84,29 @@ def near(distance, count, seed):
     ]
 
 
-def drawn_places(count, seed):
+def drawn_places(count: int, seed: int) -> list[tuple[float, float]]:
     """Places in a square of side 1, drawn by the seed."""
     draw = random.Random(seed)
     return [(draw.random(), draw.random()) for _ in range(count)]
 
 
 def scenario(
-    shape,
-    images,
+    shape: str,
+    images: Sequence[str],
     *,
-    cycles=CYCLES,
-    latency=LATENCY,
-    byte_time=BYTE_TIME,
-    window=(0, 0),
-    seed=0,
-    link_latency=None,
-    at=AT,
-    stagger=STAGGER,
-    spans=None,
-    numbers=True,
-    inputs=None,
-    every=EVERY,
-):
+    cycles: int = CYCLES,
+    latency: int = LATENCY,
+    byte_time: int = BYTE_TIME,
+    window: Pair = (0, 0),
+    seed: int = 0,
+    link_latency: Pair | None = None,
+    at: int = AT,
+    stagger: int = STAGGER,
+    spans: Mapping[Pair, Sequence[Pair]] | None = None,
+    numbers: bool = True,
+    inputs: Mapping[int, str] | None = None,
+    every: int = EVERY,
+) -> str:
     """The text of a scenario of version 3: `images` are the names of the nodes' images, in order; all links go both
     ways.
 
@@ -105,56 +114,83 @@ def scenario(
     `numbers` is true each node's number arrives at its USART0 as the first byte, at cycle `at` and `stagger` cycles
     later for each node. `inputs` has further bytes that arrive at nodes, `every` cycles apart, as hexadecimal digits:
     node: digits. `spans` has the spans of links that are not always open: (from, to): [(first, end), ..].
-    Raises BadInput where it would be no scenario.
+    Raises BadInput where it would be no scenario, CannotWork where the library that writes TOML is missing.
     """
-    spans = dict(spans or {})
-    draw = random.Random(f"{seed} latencies")
-    out = [
-        f"# {shape}, {len(images)} nodes, seed {seed}",
-        "version = 3",
-        f"cycles = {cycles}",
-        f"latency = {latency}",
-        f"byte_time = {byte_time}",
-        f"window = [{window[0]}, {window[1]}]",
-    ]
-    for node, image in enumerate(images):
-        out += ["", f"[[node]]  # {node}", f"image = {quoted(image)}"]
-    for low, high in pairs_of(shape, len(images), seed):
-        for ends in ((low, high), (high, low)):
-            out += ["", "[[link]]", f"from = {ends[0]}", f"to = {ends[1]}"]
-            if link_latency:
-                out.append(f"latency = {draw.randint(*link_latency)}")
-            if ends in spans:
-                out.append(f"open = {[list(span) for span in spans.pop(ends)]}")
-    for node in sorted(set(range(len(images) if numbers else 0)) | set(inputs or {})):
-        digits = f"{node:02X}" * numbers + (inputs or {}).get(node, "")
-        out += ["", "[[input]]", f"node = {node}", f"at = {at + node * stagger}", f"hex = {quoted(digits)}"]
-        if len(digits) > 2:
-            out.append(f"every = {every}")
-    if spans:
-        raise BadInput(
-            f"{shape} has no link from {next(iter(spans))[0]} to {next(iter(spans))[1]} to be open for a while"
-        )
-    text = "\n".join(out) + "\n"
+    try:
+        import tomlkit
+    except ImportError:
+        raise terminal.missing("tomlkit", "python3-tomlkit") from None
+    links = links_of(shape, len(images), seed, link_latency, spans or {})
+    scripts = scripts_of(len(images) if numbers else 0, inputs or {}, at, stagger, every)
+    document = tomlkit.document()
+    document.add(tomlkit.comment(f"{shape}, {len(images)} nodes, seed {seed}"))
+    top: Table = {"version": 3, "cycles": cycles, "latency": latency, "byte_time": byte_time, "window": list(window)}
+    for key, value in top.items():
+        document.add(key, tomlkit.item(value))
+    nodes: list[Table] = [{"image": image} for image in images]
+    for name, tables in (("node", nodes), ("link", links), ("input", scripts)):
+        array = tomlkit.aot()
+        for number, content in enumerate(tables):
+            table = tomlkit.table()
+            if name == "node":
+                table.comment(str(number))
+            for key, value in content.items():
+                table.add(key, tomlkit.item(value))
+            table.add(tomlkit.nl())
+            array.append(table)
+        if tables:
+            document.add(tomlkit.nl())
+            document.add(name, array)
+    text = re.sub("\n{2,}", "\n\n", tomlkit.dumps(document)).rstrip("\n") + "\n"
     scenarios.Scenario.of_text(text, "the network")
     return text
 
 
-def counted(words):
+def links_of(
+    shape: str, count: int, seed: int, latencies: Pair | None, spans: Mapping[Pair, Sequence[Pair]]
+) -> list[Table]:
+    """The tables of the links of a shape, both ways."""
+    draw = random.Random(f"{seed} latencies")
+    if latencies and latencies[0] > latencies[1]:
+        raise BadInput(f"{latencies[0]} to {latencies[1]} is no range of latencies: the lower one comes first")
+    left = dict(spans)
+    found: list[Table] = []
+    for low, high in pairs_of(shape, count, seed):
+        for ends in ((low, high), (high, low)):
+            link: Table = {"from": ends[0], "to": ends[1]}
+            if latencies:
+                link["latency"] = draw.randint(*latencies)
+            if ends in left:
+                link["open"] = [list(span) for span in left.pop(ends)]
+            found.append(link)
+    if left:
+        first, end = next(iter(left))
+        raise BadInput(f"{shape} has no link from {first} to {end} to be open for a while")
+    return found
+
+
+def scripts_of(numbered: int, inputs: Mapping[int, str], at: int, stagger: int, every: int) -> list[Table]:
+    """The tables of what arrives at the nodes: of the first `numbered` their numbers, and the `inputs`."""
+    found: list[Table] = []
+    for node in sorted(set(range(numbered)) | set(inputs)):
+        digits = f"{node:02X}" * (node < numbered) + inputs.get(node, "")
+        script: Table = {"node": node, "at": at + node * stagger, "hex": digits}
+        if len(digits) > 2:
+            script["every"] = every
+        found.append(script)
+    return found
+
+
+def counted(words: Sequence[str]) -> list[str]:
     """The names of images that IMAGE*COUNT stands for. Raises BadInput where a word has no IMAGE, or no COUNT of 1 or
-    more."""
-    images = []
+    more, and where they are too many."""
+    images: list[str] = []
     for word in words:
-        name, star, count = word.rpartition("*")
-        if not star or not count.isdecimal():
-            name, count = word, 1
-        if not name.strip("*") or int(count) == 0:
+        match = re.fullmatch(r"(.*)\*([0-9]+)", word, re.DOTALL)
+        name, count = (match[1], match[2].lstrip("0")) if match else (word, "1")
+        if not name.strip("*") or not count:
             raise BadInput(f"{word or 'nothing'} is no IMAGE and no IMAGE*COUNT, where COUNT is 1 or more")
+        if len(count) > 9 or len(images) + int(count) > MAX_NODES:
+            raise BadInput(f"{word}: more than {MAX_NODES} nodes")
         images += [name] * int(count)
     return images
-
-
-def quoted(text):
-    """A TOML string."""
-    escaped = text.replace("\\", "\\\\").replace('"', '\\"')
-    return '"' + re.sub(r"[\x00-\x1f\x7f]", lambda match: f"\\u{ord(match[0]):04X}", escaped) + '"'

@@ -2,7 +2,8 @@
 import html
 import re
 
-from avrora_tools import cli
+from avrora_tools import cli, drawings
+from avrora_tools.drawings import Drawing, Lane
 
 
 # The picture: its colours and line widths. The names of the classes are those of EVENTS.
@@ -12,7 +13,9 @@ STYLE = """.sent{fill:#3b6fb6}.heard{stroke:#1a8f3c;stroke-width:1.3}.clash{stro
 .grid{stroke:#e6e6e6}.line{stroke:#f0f0f0}.way{stroke:#d11;stroke-width:.6;opacity:.45}
 .hop{stroke:#1a8f3c;stroke-width:.5;opacity:.4}text{fill:#222}"""
 
-MAX_WAYS = 250  # lines from sends to where they were heard
+# The colours of the classes.
+COLOURS = dict(re.findall(r"\.(\w+){(?:fill|stroke):([^;}]+)", STYLE))
+
 MAX_TITLED = 20_000  # events that each have a text of their own to hover
 MARGIN = 92  # left of the cycles, in pixels
 RIGHT = 12
@@ -24,18 +27,18 @@ TICKS = 10
 class Picture:
     """The drawing as SVG."""
 
-    def __init__(self, drawing, hz, width, shows_quiet):
+    def __init__(self, drawing: Drawing, hz: int | None, width: int, shows_quiet: bool) -> None:
         self.drawing, self.hz, self.width, self.shows_quiet = drawing, hz, width, shows_quiet
         self.nodes = sorted(drawing.lanes)
         self.row = {node: number for number, node in enumerate(self.nodes)}
         self.step = 12 if len(self.nodes) > 32 else 18 if len(self.nodes) > 12 else 26
         self.height = TOP + self.step * len(self.nodes) + BOTTOM
-        self.scale = (width - MARGIN - RIGHT) / max(1, drawing.end - drawing.first)
-        self.count = sum(lane.count() for lane in drawing.lanes.values())
+        self.scale = (width - MARGIN - RIGHT) / max(1, drawing.last_cycle - drawing.first)
+        self.count = sum(lane.count(*drawings.FIELDS) for lane in drawing.lanes.values())
         self.titled = self.count <= MAX_TITLED
-        self.out = []
+        self.out: list[str] = []
 
-    def text(self):
+    def text(self) -> str:
         self.out = [
             f'<svg xmlns="http://www.w3.org/2000/svg" viewBox="0 0 {self.width} {self.height}" width="{self.width}" '
             f'height="{self.height}" font-family="DejaVu Sans,sans-serif" font-size="10"><style>{STYLE}</style>'
@@ -48,17 +51,17 @@ class Picture:
         self.draw_legend()
         return "\n".join(self.out) + "\n</svg>\n"
 
-    def x(self, cycle):
+    def x(self, cycle: int) -> float:
         return round(
-            MARGIN + (min(max(cycle, self.drawing.first), self.drawing.end) - self.drawing.first) * self.scale, 2
+            MARGIN + (min(max(cycle, self.drawing.first), self.drawing.last_cycle) - self.drawing.first) * self.scale, 2
         )
 
-    def y(self, node):
+    def y(self, node: int) -> int:
         return TOP + self.row[node] * self.step
 
-    def draw_grid(self):
-        step = tick_step((self.drawing.end - self.drawing.first) / TICKS)
-        for cycle in range(-(-self.drawing.first // step) * step, self.drawing.end, step):
+    def draw_grid(self) -> None:
+        step = tick_step((self.drawing.last_cycle - self.drawing.first) / TICKS)
+        for cycle in range(-(-self.drawing.first // step) * step, self.drawing.last_cycle, step):
             label = f"{1000 * cycle / self.hz:.2f} ms" if self.hz else f"{cycle:,}"
             x = self.x(cycle)
             self.out.append(
@@ -66,14 +69,14 @@ class Picture:
                 f'<text x="{x}" y="{TOP - 12}" text-anchor="middle">{label}</text>'
             )
         first, end = self.drawing.window
-        if end > self.drawing.first and first < min(end, self.drawing.end):
+        if end > self.drawing.first and first < min(end, self.drawing.last_cycle):
             width = max(2, self.x(end) - self.x(first))
             self.out.append(
                 f'<rect x="{self.x(first)}" y="{TOP - 6}" width="{width:.2f}" height="3" fill="#f5a623">'
                 f"<title>instructions are traced from {first:,} to {end:,}</title></rect>"
             )
 
-    def draw_lane(self, node):
+    def draw_lane(self, node: int) -> None:
         lane, y, high = self.drawing.lanes[node], self.y(node), self.step - 3
         self.out.append(
             f'<text x="{MARGIN - 6}" y="{y + high / 2 + 3.5}" text-anchor="end">'
@@ -98,18 +101,18 @@ class Picture:
                 f"{cycle:,}: node {node} stopped at {cause}",
             )
 
-    def add(self, tag, title):
+    def add(self, tag: str, title: str) -> None:
         self.out.append(f"{tag}><title>{html.escape(title)}</title></{tag[1:].split()[0]}>")
 
-    def draw_each(self, node, lane, y, high):
+    def draw_each(self, node: int, lane: Lane, y: int, high: int) -> None:
         """Each event as a shape of its own, which says on hovering what it is."""
         for cycle, byte in lane.sent:
-            width = max(1, (min(cycle + self.drawing.byte_time, self.drawing.end) - cycle) * self.scale - 0.4)
+            width = max(1, (min(cycle + self.drawing.byte_time, self.drawing.last_cycle) - cycle) * self.scale - 0.4)
             self.add(
                 f'<rect class="sent" x="{self.x(cycle)}" y="{y + 1}" width="{width:.2f}" height="{high * .4:.1f}"',
                 f"{cycle:,}: node {node} sent {cli.shown_byte(byte)}",
             )
-        for (cycle,) in lane.quiet if self.shows_quiet else ():
+        for cycle, *_ in lane.events("quiet") if self.shows_quiet else ():
             self.tick("quiet", cycle, y + high * 0.78, y + high, f"{cycle:,}: node {node} heard nothing")
         for cycle, byte, age, sender in lane.heard:
             whose = f" of node {sender}" if sender >= 0 else ""
@@ -129,11 +132,11 @@ class Picture:
                 f"{cycle:,}: node {node} wrote {cli.shown_byte(byte)} to USART0",
             )
 
-    def tick(self, name, cycle, top, bottom, title):
+    def tick(self, name: str, cycle: int, top: float, bottom: float, title: str) -> None:
         x = self.x(cycle)
         self.add(f'<line class="{name}" x1="{x}" x2="{x}" y1="{top:.1f}" y2="{bottom:.1f}"', title)
 
-    def draw_paths(self, node, lane, y, high):
+    def draw_paths(self, node: int, lane: Lane, y: int, high: int) -> None:
         """All events of a kind as one path, those of half a pixel as one stroke."""
         kinds = [
             ("sent", 1, 0.4, max(0.6, self.drawing.byte_time * self.scale)),
@@ -144,22 +147,22 @@ class Picture:
         if self.shows_quiet:
             kinds.insert(1, ("quiet", 0.78, 0.22, 0.5))
         for kind, top, part, width in kinds:
-            events = getattr(lane, kind)
+            events = lane.events(kind)
             places = sorted({round(2 * self.x(event[0])) for event in events})
             if not places:
                 continue
-            colour = re.search(rf"\.{kind}{{(?:fill|stroke):([^;}}]+)", STYLE)[1]
+            colour = COLOURS[kind]
             shift = width / 2 if kind == "sent" else 0
             top = y + 1 if kind == "sent" else y + high * top
             strokes = "".join(f"M{place / 2 + shift:g} {top:.1f}v{high * part:.1f}" for place in places)
             self.out.append(
                 f'<path stroke="{colour}" stroke-width="{width:.2f}" d="{strokes}">'
-                f"<title>node {node}: {kind}, {len(events):,}</title></path>"
+                f"<title>node {node}: {kind}, {lane.count(kind):,}</title></path>"
             )
 
-    def draw_ways(self):
+    def draw_ways(self) -> None:
         """Thin lines from sends to where they were heard, where there are few."""
-        if not self.titled or len(self.drawing.ways) > MAX_WAYS:
+        if not self.titled or len(self.drawing.ways) > drawings.MAX_WAYS:
             return
         high = self.step - 3
         for kind, sender, sent, hearer, cycle in self.drawing.ways:
@@ -167,10 +170,10 @@ class Picture:
                 name = "way" if kind == "clash" else "hop"
                 self.line(name, self.x(sent), self.y(sender) + high * 0.4, self.x(cycle), self.y(hearer) + high * 0.64)
 
-    def line(self, name, x, y, end_x, end_y):
+    def line(self, name: str, x: float, y: float, end_x: float, end_y: float) -> None:
         self.out.append(f'<line class="{name}" x1="{x}" y1="{y:.1f}" x2="{end_x}" y2="{end_y:.1f}"/>')
 
-    def draw_legend(self):
+    def draw_legend(self) -> None:
         y = self.height - 12
         signs = (
             ('<rect class="sent" x="{x}" y="{top}" width="16" height="8"/>', "a byte on the air", 140),
@@ -188,11 +191,11 @@ class Picture:
             x += width
         self.out.append(
             f'<text x="{self.width - RIGHT}" y="{y}" text-anchor="end">'
-            f"cycles {self.drawing.first:,} to {self.drawing.end:,}</text>"
+            f"cycles {self.drawing.first:,} to {self.drawing.last_cycle:,}</text>"
         )
 
 
-def tick_step(least):
+def tick_step(least: float) -> int:
     """The least of 1, 2, 5, 10, 20, 50, .. that is no less than `least`."""
     step = 1
     while True:

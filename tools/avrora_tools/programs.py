@@ -2,19 +2,16 @@
 in a trace."""
 import argparse
 import bisect
-import collections
 import io
 import os
 import re
+from collections.abc import Iterator, Sequence
+from typing import Any, NamedTuple
 
-from avrora_tools import cli, files, terminal
+from avrora_tools import cli, files, images, instructions, terminal
 from avrora_tools.errors import BadInput
-
-
-try:
-    from elftools.elf.elffile import ELFFile
-except ImportError:
-    ELFFile = None
+from avrora_tools.events import Event, Instr
+from avrora_tools.scenarios import Scenario
 
 # The interrupts of the ATmega128 in the order of their vectors, two words each from word 2 on (its manual,
 # "Interrupts").
@@ -23,16 +20,21 @@ TIMER1_OVF TIMER0_COMP TIMER0_OVF SPI_STC USART0_RX USART0_UDRE USART0_TX ADC EE
 TIMER3_CAPT TIMER3_COMPA TIMER3_COMPB TIMER3_COMPC TIMER3_OVF USART1_RX USART1_UDRE USART1_TX TWI SPM_READY""".split()
 VECTORS = {2 * number: name for number, name in enumerate(INTERRUPTS, 1)}
 
-FLASH_BYTES = 0x20000
-
 # Labels that the linker and the C library set at the ends of things, which are no functions.
 NO_FUNCTION = re.compile(r"\..*|L0\x01.*|_etext|.*_(?:start|end)")
 
-# A function: its first word, the word behind it, its name.
-Function = collections.namedtuple("Function", "first end name")
+EXECUTABLE = 4  # the flag of a section with code
 
 
-def vector_name(word):
+class Function(NamedTuple):
+    """A function: its first word, the word behind it, its name."""
+
+    first: int
+    end: int
+    name: str
+
+
+def vector_name(word: int) -> str:
     """The interrupt whose vector is at `word`, as the C library names its handler."""
     return f"{VECTORS[word]}_vect" if word in VECTORS else f"vector {word:04X}"
 
@@ -40,39 +42,51 @@ def vector_name(word):
 class Program:
     """A linked program for the AVR."""
 
-    def __init__(self, path):
+    def __init__(self, path: str) -> None:
         """Reads the ELF file `path`. Raises BadInput where it is none, or none for the AVR."""
-        if ELFFile is None:
-            raise terminal.missing("pyelftools", "python3-pyelftools")
+        try:
+            from elftools.elf.elffile import ELFFile
+        except ImportError:
+            raise terminal.missing("pyelftools", "python3-pyelftools") from None
         self.path = path
+        self.name = files.shown(path)
         content = files.read_bytes(path)
         try:
             elf = ELFFile(io.BytesIO(content))
             if elf["e_machine"] != "EM_AVR":
-                raise BadInput(f"{path}: an ELF file for {elf['e_machine']}, and not for the AVR")
-            self.code = code_of(elf)
-            self.functions = functions_of(elf, len(self.code) // 2)
+                raise BadInput(f"{self.name}: an ELF file for {elf['e_machine']}, and not for the AVR")
+            self.flash = flash_of(elf)
+            self.functions = functions_of(elf, code_end_of(elf) // 2)
             self.lines = lines_of(elf)
-            if not self.lines and elf.get_section_by_name(".stab"):
-                terminal.warn(f"{path}: its source lines are in the form STABS; compile with -gdwarf-2 to see them")
+            has_stabs = elf.get_section_by_name(".stab") is not None
         except BadInput:
             raise
         except Exception as fault:  # whatever a broken file leads the library to
-            raise BadInput(f"{path}: no ELF file: {fault or type(fault).__name__}") from None
+            raise BadInput(f"{self.name}: no ELF file: {files.printable(str(fault)) or type(fault).__name__}") from None
+        if has_stabs and not self.lines:
+            terminal.warn(f"{self.name}: its source lines are in the form STABS; compile with -gdwarf-2 to see them")
         self.firsts = [function.first for function in self.functions]
         self.line_words = [word for word, _ in self.lines]
 
-    def function_at(self, word):
+    def word_at(self, address: int) -> int:
+        """A word of program memory."""
+        return int.from_bytes(self.flash[2 * address : 2 * address + 2], "little")
+
+    def instruction_at(self, address: int) -> str:
+        """The text of the instruction at a word address."""
+        return instructions.text_of(self.word_at(address), self.word_at((address + 1) % instructions.WORDS))
+
+    def function_at(self, word: int) -> Function | None:
         """The function that `word` lies in, or None."""
         place = bisect.bisect_right(self.firsts, word) - 1
         return self.functions[place] if place >= 0 and word < self.functions[place].end else None
 
-    def line_at(self, word):
+    def line_at(self, word: int) -> str | None:
         """The source line of `word`, as FILE:LINE, or None."""
         place = bisect.bisect_right(self.line_words, word) - 1
         return self.lines[place][1] if place >= 0 else None
 
-    def place(self, word):
+    def place(self, word: int) -> str:
         """The function, offset in bytes, and source line of `word`, as text."""
         function = self.function_at(word)
         offset = 2 * (word - function.first) if function else 0
@@ -80,39 +94,43 @@ class Program:
         line = self.line_at(word)
         return f"{name} {line}" if line else name
 
-    def instructions(self, function):
+    def instructions(self, function: Function) -> Iterator[int]:
         """The word addresses of a function's instructions."""
         word = function.first
         while word < function.end:
             yield word
-            word += 2 if is_long(int.from_bytes(self.code[2 * word : 2 * word + 2], "little")) else 1
+            word += 2 if instructions.is_long(self.word_at(word)) else 1
 
 
-def is_long(opcode):
-    """Whether an instruction has a second word: LDS, STS, JMP, CALL."""
-    return opcode & 0xFC0F == 0x9000 or opcode & 0xFE0C == 0x940C
+def flash_of(elf: Any) -> bytes:
+    """Program memory as the file's segments fill it, the first values of variables too."""
+    flash = bytearray([images.ERASED]) * images.FLASH_BYTES
+    for segment in elf.iter_segments():
+        first, content = segment["p_paddr"], segment.data() if segment["p_type"] == "PT_LOAD" else b""
+        if first + len(content) <= images.FLASH_BYTES:
+            flash[first : first + len(content)] = content
+    return bytes(flash)
 
 
-def code_of(elf):
-    """The bytes of flash up to the end of the last section with code."""
-    code = bytearray()
-    for section in elf.iter_sections():
-        start, end = section["sh_addr"], section["sh_addr"] + section["sh_size"]
-        if section["sh_type"] == "SHT_PROGBITS" and section["sh_flags"] & 4 and end <= FLASH_BYTES:
-            code.extend(bytes(max(0, end - len(code))))
-            code[start:end] = section.data()
-    return bytes(code)
+def code_end_of(elf: Any) -> int:
+    """The byte behind the last section with code."""
+    ends = [
+        section["sh_addr"] + section["sh_size"]
+        for section in elf.iter_sections()
+        if section["sh_type"] == "SHT_PROGBITS" and section["sh_flags"] & EXECUTABLE
+    ]
+    return max((end for end in ends if end <= images.FLASH_BYTES), default=0)
 
 
-def functions_of(elf, end):
+def functions_of(elf: Any, end: int) -> list[Function]:
     """The functions in order; each ends where the next begins, the last one at `end`."""
-    best = {}
+    best: dict[int, tuple[bool, bool, bool, str]] = {}
     table = elf.get_section_by_name(".symtab")
     for symbol in table.iter_symbols() if table else ():
         kind, section = symbol["st_info"]["type"], symbol["st_shndx"]
         if not isinstance(section, int) or kind not in ("STT_FUNC", "STT_NOTYPE") or NO_FUNCTION.fullmatch(symbol.name):
             continue
-        if not elf.get_section(section)["sh_flags"] & 4:
+        if not elf.get_section(section)["sh_flags"] & EXECUTABLE:
             continue  # data
         rank = (
             kind == "STT_FUNC",
@@ -126,11 +144,11 @@ def functions_of(elf, end):
     return [Function(word, after, best[word][-1]) for word, after in zip(words, words[1:] + [end])]
 
 
-def lines_of(elf):
+def lines_of(elf: Any) -> list[tuple[int, str | None]]:
     """The words at which a source line's code begins, in order, each with the line; none without DWARF."""
     if not elf.has_dwarf_info():
         return []
-    found = {}
+    found: dict[int, str | None] = {}
     dwarf = elf.get_dwarf_info()
     for unit in dwarf.iter_CUs():
         program = dwarf.line_program_for_CU(unit)
@@ -153,16 +171,21 @@ def lines_of(elf):
 class Programs:
     """The programs of a network's nodes."""
 
-    def __init__(self, words, scenario=None):
+    def __init__(self, words: Sequence[str], scenario: Scenario | None = None, force: bool = False) -> None:
         """`words` are ELF or NODES=ELF. With a scenario an ELF without nodes is that of the nodes whose image has its
-        name; else it is that of all nodes that no other word names."""
-        self.by_node = {}
-        self.others = None
-        self.all = []
+        name; else it is that of all nodes that no other word names. Raises BadInput where a program is another one than
+        a node's image, unless they are taken by `force`."""
+        self.by_node: dict[int, Program] = {}
+        self.others: Program | None = None
+        self.all: list[Program] = []
+        self.force = force
+        self.compared: set[tuple[int, Event]] = set()
         for word in words:
             self.add(word, scenario)
+        if scenario and not force:
+            self.compare_images(scenario)
 
-    def add(self, word, scenario):
+    def add(self, word: str, scenario: Scenario | None) -> None:
         match = re.fullmatch(r"([\d,-]+)=(.+)", word)
         try:
             nodes = cli.node_set(match[1]) if match else None
@@ -174,23 +197,63 @@ class Programs:
             nodes = {node for node, image in enumerate(scenario.images) if stem(image) == stem(program.path)}
             if not nodes:
                 raise BadInput(
-                    f"{program.path}: no node has the image {stem(program.path)}.hex; say which: -e NODES={word}"
+                    f"{program.name}: no node has the image {stem(program.path)}.hex; say which: -e NODES={word}"
                 )
         if nodes is None:
             self.others = program
         else:
             self.by_node.update(dict.fromkeys(nodes, program))
 
-    def of(self, node):
+    def of(self, node: int) -> Program | None:
         """The program of a node, or None."""
         return self.by_node.get(node, self.others)
 
+    def compare_images(self, scenario: Scenario) -> None:
+        """Raises BadInput where a program's memory is another one than that of the image of its node."""
+        flashes: dict[str, bytes] = {}
+        for node, image in enumerate(scenario.images):
+            program = self.of(node)
+            if program is None:
+                continue
+            if image not in flashes:
+                flashes[image] = images.load(os.path.join(scenario.folder, image))
+            if program.flash != flashes[image]:
+                word = first_difference(program.flash, flashes[image]) // 2
+                raise BadInput(
+                    f"{program.name}: another program than the image {files.shown(image)} of node {node}: they differ "
+                    f"from word {word:04X} on (--force takes it all the same)"
+                )
 
-def stem(path):
+    def compare(self, node: int, event: Event) -> None:
+        """Raises BadInput where a node executed what its program does not have."""
+        if not isinstance(event, Instr) or self.force or (node, event) in self.compared:
+            return
+        program = self.of(node)
+        if program is None:
+            return
+        if len(self.compared) > MOST_COMPARED:
+            self.compared.clear()
+        self.compared.add((node, event))
+        text = program.instruction_at(event.address)
+        if text != event.instruction:
+            raise BadInput(
+                f"{program.name}: another program than that of the trace: node {node} executed `{event.instruction}` at "
+                f"{event.address:04X}, where it has `{text}` (--force takes it all the same)"
+            )
+
+
+MOST_COMPARED = 65_536  # instructions that are known to be the program's
+
+
+def first_difference(one: bytes, other: bytes) -> int:
+    return next((at for at, (a, b) in enumerate(zip(one, other)) if a != b), min(len(one), len(other)))
+
+
+def stem(path: str) -> str:
     return os.path.splitext(os.path.basename(path))[0]
 
 
-def add_programs(parser):
+def add_programs(parser: argparse.ArgumentParser) -> None:
     parser.add_argument(
         "-e",
         "--elf",
@@ -199,4 +262,5 @@ def add_programs(parser):
         metavar="[NODES=]ELF",
         help="the program of all nodes, of NODES such as 0,2-4, or with -s of the nodes with an image of its name",
     )
-    parser.add_argument("-s", "--scenario", metavar="SCENARIO", help="says which image each node has")
+    parser.add_argument("--force", action="store_true", help="take a program that is not that of the image or the trace")
+    cli.add_scenario(parser)

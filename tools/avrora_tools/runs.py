@@ -23,7 +23,8 @@ import tempfile
 import time
 
 import avrora_tools
-from avrora_tools import expectations, traces
+from avrora_tools import expectations
+from avrora_tools.events import CLASH, ONE_BYTE
 
 
 PROGRAM = "avrora"  # the simulator's name in a shipment
@@ -129,7 +130,7 @@ def counted(trace):
         found[parts[2]] += 1
         if parts[2] == b"heard":
             found[b"heard " + parts[3]] += 1
-    one_byte, clash = (b"heard " + status.encode() for status in (traces.ONE_BYTE, traces.CLASH))
+    one_byte, clash = (b"heard %d" % status for status in (ONE_BYTE, CLASH))
     return dict(zip(COUNTS, (found[key] for key in (b"sent", one_byte, clash, b"serial", b"stop"))))
 
 

@@ -1,12 +1,15 @@
 """Scenarios: what one says, where it is at fault (docs/FORMATS.md, "Scenarios"), and what is on the air
 (docs/AIR.md)."""
 import collections
+import os
 import re
-import tomllib
+from typing import Any, NamedTuple
 
+from avrora_tools import toml
 from avrora_tools.cli import MAX_NODES
 from avrora_tools.errors import BadInput
-from avrora_tools.files import read_text, shown
+from avrora_tools.files import printable, read_text, shown
+from avrora_tools.toml import bare, statements
 
 # The causes of a refused scenario; of several that apply the simulator tells the first of this list.
 CAUSES = """NotToml UnknownKey Missing WrongKind OutOfRange NoNodes TooManyNodes SelfLink TwiceLinked TwiceScripted
@@ -19,8 +22,6 @@ MAX_SPANS = 4_096
 MAX_SCRIPT_BYTES = 65_536
 LATENCY = range(1, 65_535 + 1)
 BYTE_TIME = range(256, 4_096 + 1)
-MAX_DEPTH = 80  # of arrays and tables in one another
-TOO_DEEP = f"more than {MAX_DEPTH} arrays and tables in one another"
 DEFAULT_TIME = 3_072  # of the latency and of the byte time, in cycles
 
 # The keys of each table, with the version from on which a key has a meaning; and those that must be there.
@@ -32,29 +33,47 @@ TABLE_KEYS = {
 }
 NEEDED = {"node": ["image"], "link": ["from", "to"], "input": ["node", "at", "hex"]}
 
-# A fault: its cause, its place in words, the line it stands in (0 where none does), and what is wrong.
-Fault = collections.namedtuple("Fault", "cause place line text")
 
-# Who hears whom: the cycles from a send to where it is heard first, and the spans in which the link is open, or None.
-Link = collections.namedtuple("Link", "sender hearer latency spans")
+class Fault(NamedTuple):
+    """A fault of a scenario: its cause, its place in words, the line it stands in (0 where none does), what is wrong."""
+
+    cause: str
+    place: str
+    line: int
+    text: str
+
+
+# Spans of cycles: the first of each, and the one behind its last.
+Spans = list[list[int]]
+
+
+class Link(NamedTuple):
+    """Who hears whom: the cycles from a send to where it is heard first, and the spans in which it is open, or None."""
+
+    sender: int
+    hearer: int
+    latency: int
+    spans: Spans | None
 
 
 class Scenario:
     """A scenario that the simulator accepts, its images aside."""
 
-    def __init__(self, document):
-        """`document` is the TOML document of a text without faults."""
-        self.cycles = document["cycles"]
-        self.latency = document.get("latency", DEFAULT_TIME)
-        self.byte_time = document.get("byte_time", DEFAULT_TIME)
-        self.window = tuple(document.get("window", (0, 0)))
-        self.images = [table["image"] for table in document["node"]]
+    def __init__(self, document: dict[str, Any], folder: str = "") -> None:
+        """`document` is the TOML document of a text without faults; its images are sought in the `folder`."""
+        self.folder = folder
+        self.cycles: int = document["cycles"]
+        self.latency: int = document.get("latency", DEFAULT_TIME)
+        self.byte_time: int = document.get("byte_time", DEFAULT_TIME)
+        first, end = document.get("window", (0, 0))
+        self.window: tuple[int, int] = (first, end)
+        self.images: list[str] = [table["image"] for table in document["node"]]
         self.links = [
             Link(table["from"], table["to"], table.get("latency", self.latency), table.get("open"))
             for table in document.get("link", [])
         ]
 
-    def window_of(self, traced, ended):
+    def window_of(self, traced: tuple[int, int] | None, ended: int | None) -> tuple[int, int]:
         """The window of a trace: `traced` has the cycles of its first and its last instruction or entry row, and
         `ended` is the cycle of its end rows; each is None where there is no such row.
 
@@ -67,89 +86,63 @@ class Scenario:
         return (traced[0], ended or self.cycles) if traced else (0, 0)
 
     @classmethod
-    def load(cls, name):
+    def load(cls, name: str) -> "Scenario":
         """The scenario in the file `name`. Raises BadInput with the simulator's cause and the place of the fault."""
-        return cls.of_text(read_text(name), shown(name))
+        return cls.of_text(read_text(name), shown(name), os.path.dirname(name))
 
     @classmethod
-    def of_text(cls, text, name):
+    def of_text(cls, text: str, name: str, folder: str = "") -> "Scenario":
         found = faults(text)
         if found:
             raise BadInput(f"{name}: scenario refused: {described(found[0])}")
-        return cls(tomllib.loads(text))
+        return cls(toml.loads(text), folder)
 
 
-def described(fault):
+def described(fault: Fault) -> str:
     """One line on a fault: its cause, its line and place, what is wrong."""
     where = [f"line {fault.line}"] * bool(fault.line) + [fault.place] * bool(fault.place)
     return f"{fault.cause}, {', '.join(where)}: {fault.text}" if where else f"{fault.cause}: {fault.text}"
 
 
-def faults(text):
+def faults(text: str) -> list[Fault]:
     """All faults of a scenario's text, those of the cause that the simulator tells first."""
     if len(text.encode()) > MAX_BYTES:
         return [Fault("TooLong", "", 0, f"more than {MAX_BYTES:,} bytes")]
-    text = text.removeprefix("\ufeff")
     try:
-        document = tomllib.loads(text, parse_float=float_of)
-        fits(document)
-    except tomllib.TOMLDecodeError as fault:
-        return [not_toml(fault)]
-    except OverflowError as fault:
-        return [Fault("NotToml", "", 0, str(fault))]
-    except RecursionError:
-        return [Fault("NotToml", "", 0, TOO_DEEP)]
-    check = Check(document, places(text))
+        document = toml.loads(text)
+    except toml.NotToml as fault:
+        return [Fault("NotToml", f"column {fault.column}" if fault.column else "", fault.line, printable(fault.why))]
+    check = Check(document, places(text.removeprefix(toml.BYTE_ORDER_MARK)))
     check.all()
     return sorted(check.found, key=lambda fault: (CAUSES.index(fault.cause), fault.line))
 
 
-def not_toml(fault):
-    match = re.fullmatch(r"(.*) \(at line (\d+), column (\d+)\)", str(fault))
-    if not match:
-        return Fault("NotToml", "", 0, f"{fault} (read as TOML 1.0)")
-    return Fault("NotToml", f"column {match[3]}", int(match[2]), f"{match[1]} (read as TOML 1.0)")
-
-
-def float_of(text):
-    value = float(text)
-    if value in (float("inf"), -float("inf")) and "inf" not in text:
-        raise OverflowError(f"{text} is too large for a float of 64 bits")
-    return value
-
-
-def fits(value, depth=0):
-    """Raises OverflowError at a whole number outside 64 bits, and below too many arrays and tables."""
-    if type(value) is int and not -(2**63) <= value < 2**63:
-        raise OverflowError(f"{value} is no whole number of 64 bits")
-    if isinstance(value, (dict, list)):
-        if depth > MAX_DEPTH:
-            raise OverflowError(TOO_DEEP)
-        for part in value.values() if isinstance(value, dict) else value:
-            fits(part, depth + 1)
+# A place in a scenario: a table's name ("" is the top), its number, a key ("" is the table itself).
+Where = tuple[str, int, str]
 
 
 class Check:
     """One look through a document for all its faults."""
 
-    def __init__(self, document, lines):
+    def __init__(self, document: dict[str, Any], lines: dict[Where, int]) -> None:
         self.document = document
         self.lines = lines
-        self.found = []
+        self.found: list[Fault] = []
+        self.count = 0  # of nodes
         version = document.get("version")
         self.version = version if type(version) is int and version in (2, 3) else 1
 
-    def tell(self, cause, text, table="", number=0, key=""):
+    def tell(self, cause: str, text: str, table: str = "", number: int = 0, key: str = "") -> None:
         place = f"[[{table}]] {number}, {key}" if table and key else f"[[{table}]] {number}" if table else key
         line = self.lines.get((table, number, key)) or self.lines.get((table, number, "")) or 0
         self.found.append(Fault(cause, place, line, text))
 
-    def tables(self, name):
+    def tables(self, name: str) -> list[tuple[int, dict[str, Any]]]:
         """The tables of an array, each with its number; none where it is no array of tables."""
         value = self.document.get(name)
         return [(i, t) for i, t in enumerate(value) if isinstance(t, dict)] if isinstance(value, list) else []
 
-    def all(self):
+    def all(self) -> None:
         self.keys()
         self.top()
         self.count = len(self.document["node"]) if isinstance(self.document.get("node"), list) else 0
@@ -162,7 +155,7 @@ class Check:
         self.sums()
         self.whole_network()
 
-    def keys(self):
+    def keys(self) -> None:
         for key in self.document:
             if key not in TOP_KEYS:
                 self.tell("UnknownKey", "no key of a scenario", key=key)
@@ -185,7 +178,7 @@ class Check:
                     if key not in table:
                         self.tell("Missing", "it must be there", name, number, key)
 
-    def top(self):
+    def top(self) -> None:
         self.number(self.document, "version", range(1, 4))
         self.number(self.document, "cycles", range(1, MAX_CYCLES[self.version] + 1))
         self.number(self.document, "latency", LATENCY)
@@ -196,7 +189,7 @@ class Check:
             if not isinstance(value, list) or not all(isinstance(table, dict) for table in value):
                 self.tell("WrongKind", "no array of tables", key=name)
 
-    def number(self, table, key, allowed, name="", number=0):
+    def number(self, table: dict[str, Any], key: str, allowed: range, name: str = "", number: int = 0) -> None:
         """Tells a value that is no whole number, or none of those `allowed`."""
         value = table.get(key, allowed.start)
         if type(value) is not int:
@@ -204,7 +197,7 @@ class Check:
         elif value not in allowed:
             self.tell("OutOfRange", f"{value:,} is not {allowed.start:,} to {allowed.stop - 1:,}", name, number, key)
 
-    def window(self):
+    def window(self) -> None:
         value = self.document.get("window", [0, 0])
         if not is_pair(value):
             self.tell("WrongKind", f"{value!r} is no array of two whole numbers", key="window")
@@ -217,21 +210,21 @@ class Check:
         elif type(cycles) is int and value[1] > cycles:
             self.tell("OutOfRange", f"{value} ends past the limit of {cycles:,} cycles", key="window")
 
-    def image(self, number, table):
+    def image(self, number: int, table: dict[str, Any]) -> None:
         value = table.get("image", "x")
         if not isinstance(value, str):
             self.tell("WrongKind", f"{value!r} is no text", "node", number, "image")
         elif not 1 <= len(value.encode()) <= 255:
             self.tell("OutOfRange", f"a name of {len(value.encode())} bytes is not 1 to 255", "node", number, "image")
 
-    def node_number(self, table, key, name, number):
+    def node_number(self, table: dict[str, Any], key: str, name: str, number: int) -> None:
         value = table.get(key)
         if type(value) is int and value not in range(self.count):
             self.tell("OutOfRange", f"there is no node {value}, as there are {self.count}", name, number, key)
         elif key in table and type(value) is not int:
             self.tell("WrongKind", f"{value!r} is no whole number", name, number, key)
 
-    def link(self, number, table):
+    def link(self, number: int, table: dict[str, Any]) -> None:
         self.node_number(table, "from", "link", number)
         self.node_number(table, "to", "link", number)
         self.number(table, "latency", LATENCY, "link", number)
@@ -245,7 +238,7 @@ class Check:
         else:
             self.spans(number, spans)
 
-    def spans(self, number, spans):
+    def spans(self, number: int, spans: Spans) -> None:
         last = 0
         for first, end in spans:
             if not last <= first < end <= 2**40:
@@ -254,7 +247,7 @@ class Check:
                 return
             last = end
 
-    def script(self, number, table):
+    def script(self, number: int, table: dict[str, Any]) -> None:
         self.node_number(table, "node", "input", number)
         self.number(table, "at", range(2**40 + 1), "input", number)
         self.number(table, "every", range(1, 65_536), "input", number)
@@ -264,7 +257,7 @@ class Check:
         elif not re.fullmatch("([0-9A-Fa-f]{2})*", value):
             self.tell("OutOfRange", "no even number of hexadecimal digits", "input", number, "hex")
 
-    def sums(self):
+    def sums(self) -> None:
         spans = sum(len(t["open"]) for _, t in self.tables("link") if isinstance(t.get("open"), list))
         if spans > MAX_SPANS:
             self.tell("OutOfRange", f"{spans:,} pairs in all links; {MAX_SPANS:,} may be", key="open")
@@ -272,12 +265,12 @@ class Check:
         if digits > MAX_SCRIPT_BYTES:
             self.tell("OutOfRange", f"{digits:,} bytes in all inputs; {MAX_SCRIPT_BYTES:,} may be", key="hex")
 
-    def whole_network(self):
+    def whole_network(self) -> None:
         if self.count == 0:
             self.tell("NoNodes", "no table [[node]]")
         if self.count > MAX_NODES:
             self.tell("TooManyNodes", f"{self.count} nodes; {MAX_NODES} may be", "node", MAX_NODES)
-        first = {}
+        first: dict[Any, int] = {}
         for number, table in self.tables("link"):
             ends = table.get("from"), table.get("to")
             if ends[0] == ends[1] and ends[0] is not None:
@@ -287,7 +280,7 @@ class Check:
         for number, table in self.tables("input"):
             self.once(first, (table.get("node"),), number, "TwiceScripted", "input", f"of node {table.get('node')}")
 
-    def once(self, first, what, number, cause, name, words):
+    def once(self, first: dict[Any, int], what: tuple[Any, ...], number: int, cause: str, name: str, words: str) -> None:
         if not all(type(node) is int for node in what):
             return
         if what in first:
@@ -296,41 +289,16 @@ class Check:
         first.setdefault(what, number)
 
 
-def is_pair(value):
+def is_pair(value: object) -> bool:
     return isinstance(value, list) and len(value) == 2 and all(type(part) is int for part in value)
 
 
-TOKEN = re.compile(
-    r'"""(?:\\.|[^\\])*?"""|\'\'\'.*?\'\'\'|'  # strings of several lines
-    r'"(?:\\.|[^"\\\n])*"|\'[^\'\n]*\'|#[^\n]*|[ \t\r]+|[\[\]{},=.\n]|[^\s#"\'\[\]{},=.]+|.',
-    re.DOTALL,
-)
-
-
-def statements(text):
-    """The statements of a TOML text: lists of tokens, each a text with the number of its line, without blanks."""
-    line, depth, tokens = 1, 0, []
-    for token in TOKEN.findall(text):
-        if token in "[{":
-            depth += 1
-        elif token in "]}":
-            depth -= 1
-        if token == "\n" and depth == 0 and tokens:
-            yield tokens
-            tokens = []
-        elif token.strip() and token[0] != "#":
-            tokens.append((token, line))
-        line += token.count("\n")
-    if tokens:
-        yield tokens
-
-
-def places(text):
+def places(text: str) -> dict[Where, int]:
     """The lines of a scenario's text: of each table (name, number, "") and of each key (name, number, key); the name of
     the top is "". What TOML allows and nobody writes (dotted keys, tables in several pieces) may be left out."""
-    lines = {}
+    lines: dict[Where, int] = {}
     name, number = "", 0
-    count = collections.Counter()
+    count: collections.Counter[str] = collections.Counter()
     for tokens in statements(text):
         words = [word for word, _ in tokens]
         line = tokens[0][1]
@@ -350,7 +318,7 @@ def places(text):
     return lines
 
 
-def inline_tables(name, tokens, lines):
+def inline_tables(name: str, tokens: list[toml.Token], lines: dict[Where, int]) -> None:
     """The places in an array of inline tables."""
     depth, number = 0, -1
     for (token, line), (after, _) in zip(tokens, tokens[1:]):
@@ -362,38 +330,39 @@ def inline_tables(name, tokens, lines):
         depth += (token in "[{") - (token in "]}")
 
 
-def bare(key):
-    return key[1:-1] if key[:1] in ('"', "'") and key[-1:] == key[:1] else key
-
-
-def is_open(link, cycle):
+def is_open(link: Link, cycle: int) -> bool:
     """Whether what is sent in `cycle` passes the link."""
     return link.spans is None or any(first <= cycle < end for first, end in link.spans)
 
 
-# A byte on the air at a hearer: the sender, the cycle in which it was sent, the byte, and the link's latency.
-OnAir = collections.namedtuple("OnAir", "sender cycle byte latency")
+class OnAir(NamedTuple):
+    """A byte on the air at a hearer: the sender, the cycle in which it was sent, the byte, and the link's latency."""
+
+    sender: int
+    cycle: int
+    byte: int
+    latency: int
 
 
 class Air:
     """The sends of a trace, as far back as they can be heard, and what a sample hears of them (docs/AIR.md)."""
 
-    def __init__(self, scenario):
+    def __init__(self, scenario: Scenario) -> None:
         self.byte_time = scenario.byte_time
-        self.into = collections.defaultdict(list)
+        self.into: dict[int, list[Link]] = collections.defaultdict(list)
         for link in scenario.links:
             self.into[link.hearer].append(link)
         self.reach = max([scenario.latency, *(link.latency for link in scenario.links)])
-        self.sends = collections.defaultdict(collections.deque)
+        self.sends: dict[int, collections.deque[tuple[int, int]]] = collections.defaultdict(collections.deque)
 
-    def send(self, node, cycle, byte):
+    def send(self, node: int, cycle: int, byte: int) -> None:
         """Records a send, and forgets those of the node that nobody hears any more."""
         sends = self.sends[node]
         while sends and sends[0][0] + self.reach + self.byte_time <= cycle:
             sends.popleft()
         sends.append((cycle, byte))
 
-    def heard(self, hearer, cycle):
+    def heard(self, hearer: int, cycle: int) -> list[OnAir]:
         """The bytes that a sample of the node `hearer` in `cycle` hears, by sender. Sends of its cycle and of later
         ones change nothing, so they may be recorded or not."""
         found = []
@@ -407,7 +376,7 @@ class Air:
         return sorted(found)
 
 
-def answer(on_air, cycle):
+def answer(on_air: list[OnAir], cycle: int) -> tuple[int, int, int]:
     """Status, byte and age that a sample in `cycle` has of the bytes `on_air`."""
     if not on_air:
         return 0, 0, 0

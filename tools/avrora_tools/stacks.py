@@ -5,7 +5,7 @@ from typing import Any
 
 from avrora_tools import files
 from avrora_tools.errors import BadInput
-from avrora_tools.programs import Program, is_long
+from avrora_tools.programs import Program
 from avrora_tools.states import DATA_END, SRAM_FIRST, Node
 from avrora_tools.variables import DATA_SPACE, reader
 
@@ -138,16 +138,10 @@ class Unwinder:
         if near & RCALL_MASK == RCALL:
             offset = near & 0xFFF
             return (back + offset - (0x1000 if offset >= 0x800 else 0)) & 0xFFFF == function
-        return far & CALL_MASK == CALL and is_long(far) and self.opcode(back - 1) == function
+        return far & CALL_MASK == CALL and near == function
 
     def opcode(self, word: int) -> int:
-        return code_word(self.program, word & 0xFFFF)
-
-
-def code_word(program: Program, word: int) -> int:
-    """A word of the program memory; as erased flash is, where the program has none."""
-    content = program.code[2 * word : 2 * word + 2]
-    return int.from_bytes(content, "little") if len(content) == 2 else 0xFFFF
+        return self.program.word_at(word & 0xFFFF)
 
 
 def byte_at(node: Node, address: int | None, else_: int) -> int:

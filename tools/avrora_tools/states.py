@@ -40,25 +40,25 @@ PORTS += ["radio", "heard status", "heard byte:2", "heard age", "radio free"]
 NAMES = [name.partition(":")[0] for name in CORE + TIMERS + PORTS]
 DIGITS = [int(name.partition(":")[2] or 0) for name in CORE + TIMERS + PORTS]
 
-NUMBER, SENT = re.compile("0|[1-9][0-9]{0,19}"), re.compile(r"send (\d+) (\d+) ([0-9A-F]{2})")
+NUMBER, SENT = re.compile("0|[1-9][0-9]{0,12}"), re.compile("send (0|[1-9][0-9]?) (0|[1-9][0-9]{0,12}) ([0-9A-F]{2})")
 
 
 class Node:
     """A node of a state: its numbers by name, and its data space: general registers, I/O bytes that are kept, SRAM."""
 
-    def __init__(self, numbers, io, sram):
+    def __init__(self, numbers: list[int], io: bytes, sram: bytes) -> None:
         self.numbers = dict(zip(NAMES, numbers))
         self.data = bytes(byte & 0xFF for byte in numbers[:32]) + io + sram
 
-    def __getitem__(self, name):
+    def __getitem__(self, name: str) -> int:
         return self.numbers[name]
 
-    def stop(self):
+    def stop(self) -> str | None:
         """The cause that stopped it, or None."""
         number = self["stop"]
         return None if number == 0 else STOPS[number - 1] if number <= len(STOPS) else f"cause {number}"
 
-    def timer(self, number):
+    def timer(self, number: int) -> dict[str, int]:
         """The numbers of a timer by their names without its number, such as TCNT."""
         names = TIMER16 if number in (1, 3) else TIMER8
         bare = [name.partition(":")[0] for name in names]
@@ -68,24 +68,25 @@ class Node:
 class State:
     """A state: its cycle, its nodes, and the sends that may still be heard as (cycle, node, byte)."""
 
-    def __init__(self, cycle, nodes, sends):
+    def __init__(self, cycle: int, nodes: list[Node], sends: list[tuple[int, int, int]]) -> None:
         self.cycle, self.nodes, self.sends = cycle, nodes, sends
 
     @classmethod
-    def load(cls, name):
+    def load(cls, name: str) -> "State":
         """The state in the file `name`. Raises BadInput where it is none; whether it keeps all bounds the simulator
         says."""
         return cls.of_text(files.read_text(name), files.shown(name))
 
     @classmethod
-    def of_text(cls, text, name):
+    def of_text(cls, text: str, name: str) -> "State":
         lines = text.split("\n")
         if lines[0] != TITLE:
             raise BadInput(f"{name}, line 1: no state: it does not begin with `{TITLE}`")
         if len(lines) < 4 or lines[-2:] != ["end", ""]:
             raise BadInput(f"{name}: the state is cut off: it does not end with a line `end`")
         cycle = numbers(lines, 1, "cycle", 1, name)[0]
-        nodes, place = [], 2
+        nodes: list[Node] = []
+        place = 2
         while lines[place].startswith("core "):
             nodes.append(node_at(lines, place, len(nodes), name))
             place += 5
@@ -93,7 +94,7 @@ class State:
         return cls(cycle, nodes, sends)
 
 
-def node_at(lines, place, k, name):
+def node_at(lines: list[str], place: int, k: int, name: str) -> Node:
     found = numbers(lines, place, f"core {k}", len(CORE), name)
     found += numbers(lines, place + 1, f"timers {k}", len(TIMERS), name)
     found += numbers(lines, place + 2, f"ports {k}", len(PORTS), name)
@@ -101,39 +102,39 @@ def node_at(lines, place, k, name):
     return Node(found, io, data(lines, place + 4, f"sram {k}", DATA_END - SRAM_FIRST, name))
 
 
-def rest_of(lines, place, words, name):
+def rest_of(lines: list[str], place: int, words: str, name: str) -> str:
     if place >= len(lines) or not lines[place].startswith(words + " "):
         raise BadInput(f"{name}, line {place + 1}: no state: `{words}` is due here")
     return lines[place][len(words) + 1 :]
 
 
-def numbers(lines, place, words, count, name):
+def numbers(lines: list[str], place: int, words: str, count: int, name: str) -> list[int]:
     parts = rest_of(lines, place, words, name).split(" ")
     if len(parts) != count or not all(NUMBER.fullmatch(part) for part in parts):
         raise BadInput(f"{name}, line {place + 1}: no state: `{words}` and {count} numbers are due here")
     return [int(part) for part in parts]
 
 
-def data(lines, place, words, count, name):
+def data(lines: list[str], place: int, words: str, count: int, name: str) -> bytes:
     digits = rest_of(lines, place, words, name)
     if not re.fullmatch(f"([0-9A-F]{{2}}){{{count}}}", digits):
         raise BadInput(f"{name}, line {place + 1}: no state: `{words}` and {2 * count} digits are due here")
     return bytes.fromhex(digits)
 
 
-def send_at(lines, place, name):
+def send_at(lines: list[str], place: int, name: str) -> tuple[int, int, int]:
     match = SENT.fullmatch(lines[place])
     if not match:
         raise BadInput(f"{name}, line {place + 1}: no state: a `send` or `end` is due here")
     return int(match[2]), int(match[1]), int(match[3], 16)
 
 
-def shown_number(name, value):
+def shown_number(name: str, value: int) -> str:
     """A number of a node as text."""
     digits = DIGITS[NAMES.index(name)]
     return f"{value:0{digits}X}" if digits else str(value)
 
 
-def data_name(at):
+def data_name(at: int) -> str:
     """What a data address is called."""
     return f"0x{at:04X} {IO_NAMES[at]}" if at in IO_NAMES else f"0x{at:04X}"

@@ -10,6 +10,8 @@ import tempfile
 import time
 import unittest
 
+from avrora_tools import main
+
 TESTS = os.path.dirname(os.path.realpath(__file__))
 TOOLS = os.path.dirname(TESTS)
 TOP = os.path.dirname(TOOLS)
@@ -26,17 +28,40 @@ sys.dont_write_bytecode = True
 TOOL = [sys.executable, "-B", TOOLS]
 
 
-def run_tool(name, *words, stdin="", env=None):
-    """Runs a tool by the interpreter of these tests; its status, output and errors."""
-    done = subprocess.run(
-        [*TOOL, name, *words],
-        input=stdin if isinstance(stdin, bytes) else stdin.encode(),
-        capture_output=True,
-        check=False,
-        env={**os.environ, **(env or {})},
-        timeout=LONG,
-    )
-    return done.returncode, done.stdout.decode(), done.stderr.decode()
+def run_tool(*words, stdin="", env=None):
+    """Runs a tool as a process of its own; its status, output and errors.
+
+    The process is a fork of this one, which starts at once; a new interpreter where the environment says what it imports.
+    """
+    content = stdin if isinstance(stdin, bytes) else stdin.encode()
+    if "PYTHONPATH" in (env or {}):
+        done = subprocess.run(
+            [*TOOL, *words], input=content, capture_output=True, check=False, env={**os.environ, **env}, timeout=LONG
+        )
+        return done.returncode, done.stdout.decode(), done.stderr.decode()
+    with contextlib.ExitStack() as stack:
+        source, out, errors = streams = [stack.enter_context(tempfile.TemporaryFile()) for _ in range(3)]
+        source.write(content)
+        source.seek(0)
+        child = os.fork()
+        if child == 0:
+            be_tool(words, streams, env or {})
+        status = os.waitstatus_to_exitcode(os.waitpid(child, 0)[1])
+        out.seek(0)
+        errors.seek(0)
+        return status, out.read().decode(), errors.read().decode()
+
+
+def be_tool(words, streams, env):
+    """Ends this process as the tool."""
+    try:
+        for number, stream in enumerate(streams):
+            os.dup2(stream.fileno(), number)
+        sys.stdin, sys.stdout, sys.stderr = open(0), open(1, "w"), open(2, "w")
+        os.environ.update(env)
+        main.main(list(words))
+    finally:
+        os._exit(99)
 
 
 @contextlib.contextmanager

@@ -10,7 +10,7 @@ TRACE = """\
 400 0 serial 0D
 500 0 serial 0A
 600 0 serial 07
-700 1 stop 0102 .word 0xFFFF
+700 1 stop 0102 reserved opcode
 900 0 end 1 running
 """
 
@@ -24,12 +24,12 @@ class Console(unittest.TestCase):
     def test_lines(self):
         self.assertEqual(
             self.console(),
-            "         100  0 | Hi\n         200  1 | X\n         700  1 ! stop 0102 .word 0xFFFF\n"
+            "         100  0 | Hi\n         200  1 | X\n         700  1 ! stop 0102 reserved opcode\n"
             "         600  0 | \\x07\n",
         )
 
     def test_nodes(self):
-        self.assertEqual(self.console("-n", "1"), "         200  1 | X\n         700  1 ! stop 0102 .word 0xFFFF\n")
+        self.assertEqual(self.console("-n", "1"), "         200  1 | X\n         700  1 ! stop 0102 reserved opcode\n")
 
     def test_hex(self):
         self.assertEqual(self.console("--hex", "-n", "0"), "         100  0 | 48 69 0D 0A 07\n")

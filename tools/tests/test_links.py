@@ -83,8 +83,7 @@ class Links(unittest.TestCase):
             ("1200 2 heard 0 00 0", "1200 2 heard 1 41 68"),
             ("2700 2 heard 2 63 0", "2700 2 heard 1 42 37"),
             ("2700 2 heard 2 63 0", "2700 2 heard 2 61 0"),
-            ("2700 2 heard 2 63 0", "2700 2 heard 2 63 1"),
-            ("1200 2 heard 0 00 0", "1200 1 heard 2 00 0"),
+            ("1200 2 heard 0 00 0", "1200 1 heard 2 41 0"),
         ):
             with self.subTest(wrong):
                 status, out, _ = self.links(TRACE.replace(right, wrong))
@@ -121,17 +120,17 @@ class Links(unittest.TestCase):
     def test_another_scenario(self):
         status, _, err = run_tool("links", f"{DATA}/relay.toml", f"{DATA}/flood.trace")
         self.assertEqual(status, 2)
-        self.assertIn("the trace has node 5, and the scenario 5 nodes: not its trace", err)
+        self.assertIn("the scenario has 5 nodes, so it is not its trace", err)
 
     def test_rows_without_their_end(self):
         status, out, err = self.links(TRACE.replace("20000 2 end 1 running\n", ""))
         self.assertEqual((status, out), (2, ""))
-        self.assertIn("no end row of node 2: the trace is cut off, or a part of one", err)
+        self.assertIn("no end row of node 2: the trace is cut off, a part of one, or of another network", err)
 
     def test_a_scenario_of_more_nodes(self):
         status, out, err = self.links("20000 0 end 1 running\n20000 1 end 1 running\n")
         self.assertEqual((status, out), (2, ""))
-        self.assertIn("no end row of node 2, which the scenario has: not its trace, or cut off", err)
+        self.assertIn("no end row of node 2: the trace is cut off, a part of one, or of another network", err)
 
     def test_cut_off(self):
         status, _, err = self.links(TRACE[:-3])
@@ -144,3 +143,62 @@ class Links(unittest.TestCase):
 
     def test_from_a_pipe(self):
         self.assertEqual(run_tool("links", f"{DATA}/relay.toml", stdin=data("relay.trace"))[0], 0)
+
+
+# What `resume` writes from the end of the first epoch on, in the network of SCENARIO: a byte of node 0, sent 200 cycles
+# before, is on the air. Node 0 may send again from cycle 262,944 on.
+REST_SCENARIO = SCENARIO.replace("cycles = 20_000", "cycles = 300_000")
+REST = """\
+262644 2 heard 1 5B 37
+263044 2 heard 0 00 0
+263100 0 sent 41
+263300 2 heard 1 41 6
+300000 0 end 1 running
+300000 1 end 1 running
+300000 2 end 1 running
+"""
+
+
+class Rest(unittest.TestCase):
+    """The trace of `resume`, with its state and without."""
+
+    def links(self, trace=REST, free=262_944, sends=("send 0 261944 5B",)):
+        with scratch("net.toml", REST_SCENARIO) as scenario, scratch("net.state", state_text(3, free, sends)) as state:
+            return run_tool("links", "--state", state, scenario, stdin=trace)
+
+    def test_what_was_on_the_air(self):
+        status, out, err = self.links()
+        self.assertEqual((status, err), (0, ""))
+        # The byte that was sent before is none of those of the trace.
+        self.assertEqual(out.splitlines()[1].split(), "0 to 2 1 0 1 0 0 100.0%".split())
+        self.assertIn("each of 3 samples is what the sends give", out)
+
+    def test_other_states(self):
+        status, out, _ = self.links(sends=())
+        self.assertEqual((status, "262644 node 2 heard 1 5B 37: on the air is nothing" in out), (1, True))
+        status, out, _ = self.links(free=263_101)
+        self.assertEqual((status, "its byte before is on the air until 263101" in out), (1, True))
+
+    def test_without_its_state(self):
+        """It is no reason to accuse a run; without such a sample it is as good as a whole one."""
+        with scratch("net.toml", REST_SCENARIO) as scenario:
+            status, out, err = run_tool("links", scenario, stdin=REST)
+            self.assertEqual((status, out), (2, ""))
+            self.assertIn("in cycle 262644 a sample hears what no row sent", err)
+            self.assertIn("name the state (--state)", err)
+            status, _, _ = run_tool("links", scenario, stdin=REST.partition("\n")[2])
+            self.assertEqual(status, 0)
+            # A byte is heard for 1,000 cycles behind a latency of 100: one that is sent before the epoch not from 263,244 on.
+            late = REST.partition("\n")[2].replace("263300 2 heard 1 41 6", "263244 2 heard 1 41 3")
+            status, out, _ = run_tool("links", scenario, stdin=late)
+            self.assertEqual((status, "263244 node 2 heard 1 41 3" in out), (1, True))
+
+
+def state_text(nodes, free, sends):
+    """A state of the end of the first epoch, whose first node may send again in the cycle `free`."""
+    lines = ["avrora state 1", "cycle 262144"]
+    for node in range(nodes):
+        ports = ["0"] * 28 + [str(free if node == 0 else 0)]
+        lines += [f"core {node} {' '.join('0' * 41)}", f"timers {node} {' '.join('0' * 38)}"]
+        lines += [f"ports {node} {' '.join(ports)}", f"io {node} {'0' * 448}", f"sram {node} {'0' * 8192}"]
+    return "\n".join([*lines, *sends, "end", ""])

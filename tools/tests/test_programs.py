@@ -1,11 +1,13 @@
 """Functions and source lines of addresses, and where cycles went. relay.elf is examples/relay.c as avr-gcc 5.4
 compiles it with -Os -gdwarf-2; what is expected of it was read in its listing by avr-objdump -dl."""
 import collections
+import os
 import random
+import shutil
 import unittest
 
 from support import DATA, data, needs_module, run_tool, scratch
-from avrora_tools import programs, traces
+from avrora_tools import cli, programs
 from avrora_tools.errors import BadInput
 
 ELF = f"{DATA}/relay.elf"
@@ -74,12 +76,55 @@ class Programs(unittest.TestCase):
         class Scenario:
             images = ["a/relay.hex", "other.hex", "relay.hex"]
 
-        self.assertEqual([bool(programs.Programs([ELF], Scenario).of(node)) for node in range(3)], [True, False, True])
-        self.assertEqual([bool(programs.Programs([f"1-2={ELF}"]).of(node)) for node in range(3)], [False, True, True])
-        self.assertTrue(programs.Programs([ELF]).of(63))
+        def of(words, scenario=None):
+            return programs.Programs(words, scenario, force=True)
+
+        self.assertEqual([bool(of([ELF], Scenario).of(node)) for node in range(3)], [True, False, True])
+        self.assertEqual([bool(of([f"1-2={ELF}"]).of(node)) for node in range(3)], [False, True, True])
+        self.assertTrue(of([ELF]).of(63))
         Scenario.images = ["other.hex"]
         with self.assertRaisesRegex(BadInput, "no node has the image relay.hex"):
-            programs.Programs([ELF], Scenario)
+            of([ELF], Scenario)
+
+
+class AnotherProgram(unittest.TestCase):
+    """An ELF of another build than the image, or than the one that made the trace."""
+
+    TOOLS = (("annotate",), ("profile",), ("vcd",))
+
+    def each_says(self, status, said, scenario, trace, *words):
+        for name, *more in self.TOOLS:
+            found, _, err = run_tool(name, *more, *words, "-s", scenario, "-e", ELF, trace)
+            self.assertEqual((found, said in err), (status, True), err)
+
+    @pyelftools
+    def test_than_the_image(self):
+        # The image, with the first word that has code (a jump) changed: low byte 0C to 0D, and the sum to match.
+        image = data("relay.hex")
+        first = image.splitlines()[0]
+        other = first[:9] + f"{int(first[9:11], 16) ^ 1:02X}" + first[11:-2]
+        total = sum(bytes.fromhex(other[1:])) & 0xFF
+        with scratch("relay.hex", image.replace(first, f"{other}{-total & 0xFF:02X}")) as path:
+            folder = os.path.dirname(path)
+            shutil.copy(f"{DATA}/relay.toml", folder)
+            trace = f"{DATA}/relay.trace"
+            said = "another program than the image relay.hex of node 0: they differ from word 0000 on (--force"
+            self.each_says(2, said, f"{folder}/relay.toml", trace)
+            self.each_says(0, "", f"{folder}/relay.toml", trace, "--force")
+            os.unlink(path)
+            self.each_says(2, "cannot read", f"{folder}/relay.toml", trace)
+
+    @pyelftools
+    def test_than_that_of_the_trace(self):
+        whole = data("relay.trace")
+        row = next(line for line in whole.splitlines() if " instr " in line)
+        cycle, node, _, address, _ = row.split(" ", 4)
+        with scratch("other.trace", whole.replace(row, f"{cycle} {node} instr {address} nop")) as trace:
+            said = f"another program than that of the trace: node {node} executed `nop` at {address}, where it has `"
+            self.each_says(2, said, f"{DATA}/relay.toml", trace)
+            status, _, err = run_tool("annotate", "-e", ELF, trace)
+            self.assertEqual((status, said in err), (2, True))
+            self.each_says(0, "", f"{DATA}/relay.toml", trace, "--force")
 
 
 class Vectors(unittest.TestCase):
@@ -115,12 +160,12 @@ class Annotate(unittest.TestCase):
 
     @pyelftools
     def test_stop(self):
-        out = run_tool("annotate", "-e", f"1={ELF}", stdin="5 0 stop 006C .word 0xFFFF\n5 1 stop 006C .word 0xFFFF\n")[
+        out = run_tool("annotate", "-e", f"1={ELF}", stdin="5 0 stop 006C reserved opcode\n5 1 stop 006C reserved opcode\n")[
             1
         ]
         self.assertEqual(
             out.splitlines(),
-            ["5 0 stop 006C .word 0xFFFF", f"{'5 1 stop 006C .word 0xFFFF':<44} ; transfer+0x4 relay.c:29"],
+            ["5 0 stop 006C reserved opcode", f"{'5 1 stop 006C reserved opcode':<44} ; transfer+0x4 relay.c:29"],
         )
 
     @pyelftools
@@ -138,25 +183,25 @@ class Annotate(unittest.TestCase):
         self.assertIn("has no pyelftools. Debian: apt-get install python3-pyelftools", err)
 
 
-# A node's rows about a window of 40 cycles from 100 on. By hand: lead 100 to 110; LDI 1; SLEEP its own cycle 1, then
-# asleep 9 up to 121; the entry 8; JMP 3; the stop owns 132 to 140.
-WINDOW = """\
-90 0 sent 41
-110 0 instr 0010 ldi r16, 1
-111 0 instr 0011 sleep
-121 0 enter 001E 0012
-125 0 sent 42
-129 0 instr 001E jmp 0x0098
-132 0 stop 0098 .word 0xFFFF
-150 0 sent 43
+# A node's rows about a window of 40 cycles from 1100 on. By hand: lead 1100 to 1110; LDI 1; SLEEP its own cycle 1, then
+# asleep 9 up to 1121; the entry 8; JMP 3; the stop owns 1132 to 1140.
+ROWS = """\
+800 0 sent 41
+1110 0 instr 0010 ldi r16, 0x01
+1111 0 instr 0011 sleep
+1121 0 enter 001E 0012
+1125 0 sent 42
+1129 0 instr 001E jmp 0x0098
+1132 0 stop 0098 reserved opcode
 """
+WINDOW = f"{ROWS}2000 0 end 3 stopped\n"
 
 
 def drawn_rows(draw):
     """Rows of a node as (cycle, kind and rest), up to about cycle 100."""
     rows, cycle, stopped = [], 0, False
     while cycle < 100 and not stopped:
-        kind = draw.choice(["instr 0001 nop", "instr 0002 sleep", "enter 0024 0001", "stop 0003 x"])
+        kind = draw.choice(["instr 0001 nop", "instr 0002 sleep", "enter 0024 0001", "stop 0003 break"])
         stopped = kind[0] == "s"
         rows.append((cycle, kind))
         cycle += draw.choice([1, 2, 9, 30])
@@ -179,10 +224,15 @@ class Profile(unittest.TestCase):
         self.assertEqual((status, err), (0, ""))
         return [line.split() for line in out.splitlines()]
 
+    def refused(self, why, *words, trace):
+        status, out, err = run_tool("profile", *words, stdin=trace)
+        self.assertEqual((status, out), (2, ""))
+        self.assertIn(why, err)
+
     def test_window(self):
         # 13 busy cycles at 8, 9 asleep, one byte sent in the window at 512
         self.assertEqual(
-            self.profile("--window", "100..140"),
+            self.profile("--window", "1100..1140"),
             [
                 "node busy asleep stopped unknown charge".split(),
                 "0 13 9 8 10 625".split(),
@@ -200,41 +250,48 @@ class Profile(unittest.TestCase):
         )
 
     def test_no_window_named(self):
-        # from the first instruction row to the last: 110 to 129
+        # from the first instruction row to the last: 1110 to 1129
         self.assertEqual(self.profile()[1], "0 10 9 0 0 601".split())
 
-    # The same rows as a whole trace, and as tools/window makes them of a run of 1,000 cycles.
-    SCENARIO = 'cycles = 1_000\nwindow = [{}, {}]\nnode = [{{image = "a"}}]\n'
-    WHOLE, PART = WINDOW + "1000 0 end 3 stopped\n", WINDOW + "160 0 end 3 stopped\n"
+    def test_cut_off(self):
+        """Without its end rows a trace is none, but where it is said to be what `head` wrote: up to its end."""
+        self.refused("no end row of node 0", "--window", "1100..1140", trace=ROWS)
+        self.refused("no end row of node 0", "--window", "1100..1140", trace="".join(ROWS.splitlines(keepends=True)[:3]))
+        self.assertEqual(self.profile("--head", "1", "--window", "1100..1140", trace=ROWS)[1], "0 13 9 8 10 625".split())
+        self.refused("an end row, which", "--head", "1", trace=WINDOW)
+
+    # The same rows as a whole trace, and as the tool window makes them of a run of 2,000 cycles.
+    SCENARIO = 'cycles = 2_000\nwindow = [{}, {}]\nnode = [{{image = "a"}}]\n'
+    PART = f"{ROWS}1160 0 end 3 stopped\n"
 
     def of_scenario(self, first, end, trace):
-        with scratch("net.toml", self.SCENARIO.format(first, end)) as scenario:
+        with scratch("net.toml", self.SCENARIO.format(first, end).replace("cycles", "byte_time = 256\ncycles")) as scenario:
             return self.profile("-s", scenario, trace=trace)[1]
 
     def test_window_of_the_scenario(self):
-        self.assertEqual(self.of_scenario(100, 140, self.WHOLE), "0 13 9 8 10 625".split())
+        self.assertEqual(self.of_scenario(1100, 1140, WINDOW), "0 13 9 8 10 625".split())
 
     def test_another_window_than_the_scenario_s(self):
-        """It goes from the first instruction row to the end rows: 110 to 160, with the byte sent at 150."""
-        for first, end in ((50, 400), (0, 0), (120, 125)):
+        """It goes from the first instruction row to the end rows: 1110 to 1160."""
+        for first, end in ((1050, 1400), (0, 0), (1120, 1125)):
             with self.subTest(first):
-                self.assertEqual(self.of_scenario(first, end, self.PART), "0 13 9 28 0 1,137".split())
+                self.assertEqual(self.of_scenario(first, end, self.PART), "0 13 9 28 0 625".split())
 
     def test_no_further_than_the_trace(self):
-        self.assertEqual(self.profile("--window", "100..200", trace=self.PART)[1], "0 13 9 28 10 1,137".split())
+        self.assertEqual(self.profile("--window", "1100..1200", trace=self.PART)[1], "0 13 9 28 10 625".split())
 
     def test_no_such_node(self):
         status, _, err = run_tool("profile", "-n", "9", stdin=WINDOW)
         self.assertEqual((status, err), (2, "avrora-tools profile: the trace has no row of these nodes\n"))
 
     def test_asleep_to_the_end(self):
-        trace = "".join(WINDOW.splitlines(keepends=True)[:3])
-        self.assertEqual(self.profile("--window", "100..140", trace=trace)[1], "0 2 28 0 10 44".split())
+        trace = "".join(WINDOW.splitlines(keepends=True)[:3]) + "2000 0 end 2 asleep\n"
+        self.assertEqual(self.profile("--window", "1100..1140", trace=trace)[1], "0 2 28 0 10 44".split())
 
     def test_stopped_before(self):
+        trace = f"{ROWS}1210 1 instr 0000 nop\n2000 0 end 3 stopped\n2000 1 end 1 running\n"
         self.assertEqual(
-            self.profile("--window", "200..240", trace=WINDOW + "210 1 instr 0000 nop\n")[1:3],
-            ["0 0 0 40 0 0".split(), "1 30 0 0 10 240".split()],
+            self.profile("--window", "1200..1240", trace=trace)[1:3], ["0 0 0 40 0 0".split(), "1 30 0 0 10 240".split()]
         )
 
     def test_drawn_rows(self):
@@ -244,16 +301,17 @@ class Profile(unittest.TestCase):
             first = draw.randrange(120)
             end = first + draw.randrange(1, 60)
             trace, expected = [], []
-            for node in range(traces.MAX_NODES):
+            for node in range(cli.MAX_NODES):
                 # as a trace has them: of the window, and each stop
                 rows = [row for row in drawn_rows(draw) if first <= row[0] < end or row[1][0] == "s"]
                 counts = collections.Counter(owner_of(rows, now) for now in range(first, end))
                 kinds = [counts[kind] for kind in ("busy", "asleep", "stopped", "unknown")]
-                trace += [(cycle, node, kind) for cycle, kind in rows] + [(500, node, "end 1 running")]
+                state = "stopped" if any(kind[0] == "s" for _, kind in rows) else "running"
+                trace += [(cycle, node, kind) for cycle, kind in rows] + [(500, node, f"end 1 {state}")]
                 expected.append([str(number) for number in (node, *kinds, 8 * counts["busy"] + counts["asleep"])])
             text = "".join(f"{cycle} {node} {kind}\n" for cycle, node, kind in sorted(trace))
             said = self.profile("--window", f"{first}..{end}", trace=text)
-            self.assertEqual(said[1 : 1 + traces.MAX_NODES], expected)
+            self.assertEqual(said[1 : 1 + cli.MAX_NODES], expected)
 
     # What a monitor writes of the same window.
     MONITOR = (
@@ -262,19 +320,35 @@ class Profile(unittest.TestCase):
     )
 
     def test_monitor(self):
-        self.assertEqual(self.profile(trace=self.MONITOR), self.profile("--window", "100..140"))
-
-    def test_broken_monitor(self):
-        for line in ("0 at 0010 1\n", "0 lid 10\n", "64 lead 1\n", "0 lead 10"):
-            status, _, err = run_tool("profile", stdin=self.MONITOR + line)
-            self.assertEqual((status, err), (2, "avrora-tools profile: standard input, line 9: no line of a monitor\n"))
+        with scratch("net.toml", self.SCENARIO.format(1100, 1140)) as scenario:
+            words = ["-s", scenario]
+            self.assertEqual(self.profile(*words, trace=self.MONITOR), self.profile("--window", "1100..1140"))
+            lines = self.MONITOR.splitlines(keepends=True)
+            for count in range(1, len(lines)):  # the first lines alone
+                self.refused("no report of `avrora monitor`", *words, trace="".join(lines[:count]))
+            self.refused("cut off in its last line", *words, trace=self.MONITOR[:-1])
+            for line in ("0 at 0010 1\n", "0 lid 10\n", "64 lead 1\n", "0 lead 10\n", "2 lead 10\n", "0 charge 625\n"):
+                self.refused("standard input, line 9: no report", *words, trace=self.MONITOR + line)
+            for old, new in (
+                ("0 at 0011 1 1\n", "0 at 000F 1 1\n"),  # no rising order
+                ("0 at 0011 1 1\n", "0 at 0010 1 1\n"),
+                ("0 asleep 9\n", ""),
+                ("0 asleep 9\n", "0 asleep 09\n"),
+                ("0 vector 001E 1 8\n0 asleep 9\n", "0 asleep 9\n0 vector 001E 1 8\n"),
+                ("0 charge 625\n", "0 charge 626\n"),
+            ):
+                self.refused("no report of `avrora monitor`", *words, trace=self.MONITOR.replace(old, new))
+            self.refused("a window of 41 cycles, and the scenario's has 40", *words, trace=self.MONITOR.replace("lead 10", "lead 11"))
+            two = self.MONITOR + "".join(f"1{line[1:]}" for line in lines)
+            self.refused("2 nodes, and the scenario has 1", *words, trace=two)
+        self.refused("its scenario (-s) tells whether it is whole", trace=self.MONITOR)
 
     def test_no_instructions(self):
         """In a trace, and in what a monitor writes of a scenario without a window."""
-        for lines in ("5 0 sent 41\n", "0 lead 0\n0 asleep 0\n0 stopped 0\n0 charge 0\n"):
-            status, out, err = run_tool("profile", stdin=lines)
-            self.assertEqual((status, out), (2, ""))
-            self.assertIn("no instruction is traced: run the scenario with a window", err)
+        self.refused("no instruction is traced: run the scenario with a window", trace="5 0 sent 41\n9 0 end 1 running\n")
+        with scratch("net.toml", self.SCENARIO.format(0, 0)) as scenario:
+            monitor = "0 lead 0\n0 asleep 0\n0 stopped 0\n0 charge 0\n"
+            self.refused("no instruction is traced: run the scenario with a window", "-s", scenario, trace=monitor)
 
     @pyelftools
     def test_relay(self):
@@ -307,9 +381,10 @@ class Profile(unittest.TestCase):
         trace = (
             "1 0 instr 00F0 call 0x006A\n5 0 instr 006A out 0x0F, r24\n6 0 instr 006E ret\n10 0 instr 00F2 nop\n"
             "11 0 instr 00F0 call 0x006A\n15 0 enter 0024 006A\n23 0 instr 0024 jmp 0x006F\n26 0 instr 006F push r1\n"
-            "28 0 instr 0083 call 0x005A\n32 0 instr 005A lds r30, 0x0101\n"
+            "28 0 instr 0083 call 0x005A\n32 0 instr 005A lds r30, 0x0101\n40 0 end 10 running\n"
         )
-        lines = self.profile("-e", ELF, "--callers", trace=trace)
+        # It is not what the program executes there.
+        lines = self.profile("--force", "-e", ELF, "--callers", trace=trace)
         self.assertEqual(
             lines[lines.index(["calls"]) + 1 :],
             [["calls"]]

@@ -180,6 +180,7 @@ def test_a_step_takes_some_moves_and_tells_the_classes_that_were_not_run(races):
         ["--start", "0=270_000..270_010", "--expect", "x", "--check", "y"],
         ["--start", "0=270_000..270_010", "--check", "/nowhere.py"],
         ["--start", "0=270_000..270_010", "--drop", "("],
+        ["--start", "0=270_000..270_010", "--until", "280_000"],  # the unmoved byte comes then
         ["--start", "0=5..6", "--start", "0=5..6"],
     ],
 )

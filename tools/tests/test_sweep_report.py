@@ -1,6 +1,7 @@
 """The order of runs, the checks, and how failures are grouped; by hand."""
 import pytest
 
+from avrora_tools.errors import BadInput
 from avrora_tools.programs import Function
 from avrora_tools.sweeping.arrivals import ArrivalClass, Place, Point
 from avrora_tools.sweeping.evidence import described, neighbours
@@ -238,3 +239,9 @@ def test_a_predicate_has_the_moved_values_in_the_order_of_the_words():
     assert predicate.failure((9, 4), serial((50, 66))) is None
     assert predicate.failure((9, 5), serial()) == "too late"
     assert seen[0] == (4, (4, 9), b"AB", ["serial", "end"])
+
+
+@pytest.mark.parametrize("check", [lambda run: 1 / 0, lambda run: 5, lambda run: run.nothing])
+def test_a_predicate_that_fails_itself_is_bad_input(check):
+    with pytest.raises(BadInput, match=r"check\(\) of the predicate"):
+        PredicateCheck(b"", check, [0]).failure((1,), serial())

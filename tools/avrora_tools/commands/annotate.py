@@ -1,47 +1,61 @@
 """Writes beside the rows of a trace where their addresses lie in the source."""
 import argparse
-import functools
+import sys
 
 from avrora_tools import cli, programs, scenarios, traces
+from avrora_tools.events import Enter, Event, Instr, Stop
 
 SUMMARY = "the function and source line of each address of a trace"
 
 DESCRIPTION = """Writes a trace with the function and the source line of each address behind instruction, entry and stop
-rows, and the names of interrupts. Compile with -gdwarf-2 to have lines."""
+rows, and the names of interrupts. Compile with -gdwarf-2 to have lines. It takes any rows of a trace."""
 
 COLUMN = 44  # where the notes begin
+MOST_NOTES = 65_536  # that are kept
 
 
 class Notes:
     """What is said of a row."""
 
-    def __init__(self, all_programs):
+    def __init__(self, all_programs: programs.Programs) -> None:
         self.programs = all_programs
-        self.place = functools.lru_cache(65_536)(self.place)
+        self.known: dict[tuple[int, Event], str] = {}
 
-    def place(self, node, word):
+    def place(self, node: int, word: int) -> str:
         program = self.programs.of(node)
         return program.place(word) if program else ""
 
-    def of(self, row):
-        if row.kind in ("instr", "stop"):
-            return self.place(row.node, int(row.rest[:4], 16))
-        if row.kind == "enter":
-            back = self.place(row.node, int(row.rest[5:], 16))
-            return programs.vector_name(int(row.rest[:4], 16)) + (f", from {back}" if back else "")
+    def of(self, node: int, event: Event) -> str:
+        note = self.known.get((node, event))
+        if note is None:
+            if len(self.known) > MOST_NOTES:
+                self.known.clear()
+            note = self.known[node, event] = self.made(node, event)
+        return note
+
+    def made(self, node: int, event: Event) -> str:
+        if isinstance(event, (Instr, Stop)):
+            return self.place(node, event.address)
+        if isinstance(event, Enter):
+            back = self.place(node, event.back)
+            return programs.vector_name(event.vector) + (f", from {back}" if back else "")
         return ""
-
-
-def run(arguments):
-    scenario = scenarios.Scenario.load(arguments.scenario) if arguments.scenario else None
-    notes = Notes(programs.Programs(arguments.elf, scenario))
-    for row in traces.rows(arguments.trace, prints=True):
-        text = " ".join(map(str, row))
-        note = notes.of(row)
-        print(f"{text:<{COLUMN}} ; {note}" if note else text)
 
 
 def configure(parser: argparse.ArgumentParser) -> None:
     cli.describe(parser, DESCRIPTION, "annotate -s relay.toml -e relay.elf relay.trace")
     programs.add_programs(parser)
     cli.add_trace(parser)
+
+
+def run(arguments: argparse.Namespace) -> int:
+    scenario = scenarios.Scenario.load(arguments.scenario) if arguments.scenario else None
+    all_programs = programs.Programs(arguments.elf, scenario, arguments.force)
+    notes = Notes(all_programs)
+    write = sys.stdout.write
+    for cycle, node, event in traces.read(arguments.trace, traces.Form.ROWS, scenario=scenario, prints=True):
+        all_programs.compare(node, event)
+        text = f"{cycle} {node} {event.text}"
+        note = notes.of(node, event)
+        write(f"{text:<{COLUMN}} ; {note}\n" if note else f"{text}\n")
+    return 0

@@ -4,20 +4,22 @@ import sys
 
 from avrora_tools import cli, traces
 from avrora_tools.errors import BadInput
+from avrora_tools.events import Serial, Stop
 
 SUMMARY = "what each node wrote to USART0"
 
 DESCRIPTION = """Shows what each node writes to USART0, as a serial monitor does: a line with the cycle of its first
 byte and the node's number. A line ends with LF or CR, and where the node stops or is silent for long. Stops are shown
-too."""
+too. It takes any rows of a trace, also while they are made."""
 
 BYTES_A_LINE = 16  # with --hex
+LINE_ENDS = b"\r\n"
 
 
 class Line:
     """What a node has written since its last line ended."""
 
-    def __init__(self, cycle):
+    def __init__(self, cycle: int) -> None:
         self.first = self.last = cycle
         self.bytes = bytearray()
 
@@ -25,61 +27,45 @@ class Line:
 class Console:
     """Prints the lines of all nodes as they end."""
 
-    def __init__(self, arguments):
-        self.arguments = arguments
-        self.lines = {}
+    def __init__(self, arguments: argparse.Namespace) -> None:
+        self.idle: int = arguments.idle
+        self.hz: int | None = arguments.hz
+        self.hex: bool = arguments.hex
+        self.lines: dict[int, Line] = {}
 
-    def write(self, row):
-        byte = int(row.rest, 16)
-        for node in [node for node, line in self.lines.items() if row.cycle - line.last > self.arguments.idle]:
+    def write(self, cycle: int, node: int, byte: int) -> None:
+        for silent in [other for other, line in self.lines.items() if cycle - line.last > self.idle]:
+            self.end(silent)
+        if byte in LINE_ENDS and not self.hex:
             self.end(node)
-        if byte in b"\r\n" and not self.arguments.hex:
-            self.end(row.node)
             return
-        line = self.lines.setdefault(row.node, Line(row.cycle))
-        line.last = row.cycle
+        line = self.lines.setdefault(node, Line(cycle))
+        line.last = cycle
         line.bytes.append(byte)
-        if self.arguments.hex and len(line.bytes) == BYTES_A_LINE:
-            self.end(row.node)
+        if self.hex and len(line.bytes) == BYTES_A_LINE:
+            self.end(node)
 
-    def end(self, node):
+    def end(self, node: int) -> None:
         line = self.lines.pop(node, None)
         if line:
             self.show(line.first, node, "|", self.text(line.bytes))
 
-    def show(self, cycle, node, sign, text):
-        print(f"{cli.shown_cycle(cycle, self.arguments.hz)} {node:>2} {sign} {text}", flush=sys.stdout.isatty())
+    def end_all(self) -> None:
+        for node in list(self.lines):
+            self.end(node)
 
-    def text(self, data):
-        if self.arguments.hex:
+    def show(self, cycle: int, node: int, sign: str, text: str) -> None:
+        print(f"{cli.shown_cycle(cycle, self.hz)} {node:>2} {sign} {text}", flush=sys.stdout.isatty())
+
+    def text(self, data: bytearray) -> str:
+        if self.hex:
             return data.hex(" ").upper()
         return "".join(chr(byte) if 0x20 <= byte < 0x7F else f"\\x{byte:02X}" for byte in data)
 
 
-def run(arguments):
-    console = Console(arguments)
-    seen = False
-    for row in traces.rows(arguments.trace, prints=True):
-        if arguments.nodes is not None and row.node not in arguments.nodes:
-            continue
-        seen = True
-        if arguments.raw:
-            if row.kind == "serial":
-                sys.stdout.buffer.write(bytes([int(row.rest, 16)]))
-        elif row.kind == "serial":
-            console.write(row)
-        elif row.kind == "stop":
-            console.end(row.node)
-            console.show(row.cycle, row.node, "!", f"stop {row.rest}")
-    for node in list(console.lines):
-        console.end(node)
-    if not seen:
-        raise BadInput("the trace has no row of these nodes")
-
-
 def configure(parser: argparse.ArgumentParser) -> None:
     cli.describe(parser, DESCRIPTION, "console --hz 7372800 flood.trace")
-    parser.add_argument("-n", "--nodes", type=cli.node_set, metavar="NODES", help="these alone, such as 0,2-4")
+    cli.add_nodes(parser)
     form = parser.add_mutually_exclusive_group()
     form.add_argument("--hex", action="store_true", help="hexadecimal digits, 16 bytes a line")
     form.add_argument("--raw", action="store_true", help="the bytes alone, as they are; for one node, with -n")
@@ -88,3 +74,33 @@ def configure(parser: argparse.ArgumentParser) -> None:
     )
     cli.add_clock(parser)
     cli.add_trace(parser)
+
+
+def run(arguments: argparse.Namespace) -> int:
+    console = Console(arguments)
+    try:
+        seen = show_rows(arguments, console)
+    finally:  # also what came before a fault of the trace
+        console.end_all()
+    if not seen:
+        raise BadInput("the trace has no row of these nodes")
+    return 0
+
+
+def show_rows(arguments: argparse.Namespace, console: Console) -> bool:
+    """Shows all rows; whether one is of the nodes that are asked for."""
+    nodes: set[int] | None = arguments.nodes
+    seen = False
+    for cycle, node, event in traces.read(arguments.trace, traces.Form.ROWS, prints=True):
+        if nodes is not None and node not in nodes:
+            continue
+        seen = True
+        if isinstance(event, Serial):
+            if arguments.raw:
+                sys.stdout.buffer.write(bytes([event.byte]))
+            else:
+                console.write(cycle, node, event.byte)
+        elif isinstance(event, Stop) and not arguments.raw:
+            console.end(node)
+            console.show(cycle, node, "!", event.text)
+    return seen

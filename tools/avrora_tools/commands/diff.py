@@ -2,7 +2,7 @@
 import argparse
 from collections.abc import Iterator
 
-from avrora_tools import cli, programs, scenarios, traces
+from avrora_tools import cli, events, programs, scenarios, traces
 from avrora_tools.commands.annotate import Notes
 from avrora_tools.differences import Alignment, NodeDifference, differences
 from avrora_tools.errors import BadWords, Status
@@ -25,7 +25,7 @@ def run(arguments: argparse.Namespace) -> int:
     if arguments.first == arguments.second == "-":
         raise BadWords("only one of two traces can come from the standard input")
     scenario = scenarios.Scenario.load(arguments.scenario) if arguments.scenario else None
-    notes = Notes(programs.Programs(arguments.elf, scenario))
+    notes = Notes(programs.Programs(arguments.elf, scenario, arguments.force))
     first, second = (chosen(arguments, name) for name in (arguments.first, arguments.second))
     nodes = differences(first, second, not arguments.without_cycles)
     same = [number for number, node in nodes.items() if not node.has_parted]
@@ -57,7 +57,11 @@ def print_node(number: int, node: NodeDifference, notes: Notes) -> None:
 
 def row_text(row: Row, notes: Notes) -> str:
     text = " ".join(map(str, row))
-    note = notes.of(row)
+    event = events.event_of(f"{row.kind} {row.rest}")
+    if event is None:
+        return text
+    notes.programs.compare(row.node, event)
+    note = notes.of(row.node, event)
     return f"{text:<{COLUMN}} ; {note}" if note else text
 
 
@@ -86,15 +90,15 @@ def shift_text(least: int, most: int) -> str:
 def kinds(text: str) -> set[str]:
     """The kinds of rows that a text such as serial,sent lists, for argparse."""
     found = set(text.split(","))
-    if unknown := sorted(found - set(traces.KINDS)):
-        raise argparse.ArgumentTypeError(f"{unknown[0] or 'nothing'} is no kind of row: {', '.join(traces.KINDS)}")
+    if unknown := sorted(found - set(events.KINDS)):
+        raise argparse.ArgumentTypeError(f"{unknown[0] or 'nothing'} is no kind of row: {', '.join(events.KINDS)}")
     return found
 
 
 def configure(parser: argparse.ArgumentParser) -> None:
     cli.describe(parser, DESCRIPTION, "diff -e relay.elf before.trace after.trace")
     cli.add_nodes(parser)
-    parser.add_argument("-k", "--kinds", type=kinds, default=set(traces.KINDS), help="these kinds of rows alone, such as serial,sent")
+    parser.add_argument("-k", "--kinds", type=kinds, default=set(events.KINDS), help="these kinds of rows alone, such as serial,sent")
     parser.add_argument("--without-cycles", action="store_true", help="rows that only come in other cycles do not differ")
     programs.add_programs(parser)
     parser.add_argument("first", metavar="A", help="a trace: a file, .gz too, or - for the standard input")

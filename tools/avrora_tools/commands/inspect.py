@@ -1,10 +1,13 @@
 """Shows in words what a state says, and what differs between two."""
 import argparse
 import re
+from collections.abc import Iterator, Sequence
 
-from avrora_tools import cli, programs, scenarios, states, traces
-from avrora_tools.errors import BadInput, BadWords
+from avrora_tools import cli, scenarios, states
+from avrora_tools.errors import BadInput, BadWords, Status
 from avrora_tools.inspection import View
+from avrora_tools.programs import Program, Programs, add_programs
+from avrora_tools.states import Node, State
 
 SUMMARY = "a state in words; what differs between two"
 
@@ -16,6 +19,9 @@ With -e it also tells which functions have not returned, as far as their frames 
 lowest byte above the variables that is not 0, as all memory is 0 at reset. With -g variables have their types and values:
 -g 'queue*', or -g '*' for all; one that is static in a function is called FUNCTION.NAME."""
 
+Named = tuple[str, str]  # a name and a text
+Span = tuple[int, int]  # of data addresses: the first, and the one behind the last
+
 FLAGS = "ITHSVNZC"
 STACK_BYTES = 16
 MOST_DIFFERENCES = 64  # of the bytes of one node, unless all are asked for
@@ -26,11 +32,11 @@ RADIO = ("idle", "waits for the byte to send", "3 answers left", "2 answers left
 # ---- one state
 
 
-def plural(count, what):
+def plural(count: int, what: str) -> str:
     return f"{count:,} {what}" + "s" * (count != 1)
 
 
-def heading(node):
+def heading(node: Node) -> str:
     stop = node.stop()
     state = f"stopped: {stop}" if stop else "asleep" if node["asleep"] else "awake"
     waits = [f"{plural(node['cycles left'], 'cycle')} left of what it does"] * bool(node["cycles left"])
@@ -38,12 +44,12 @@ def heading(node):
     return ", ".join([state, plural(node["instructions"], "instruction"), *waits])
 
 
-def flags_text(sreg):
+def flags_text(sreg: int) -> str:
     """SREG as letters, capital where the flag is set."""
     return "".join(letter if sreg >> (7 - place) & 1 else letter.lower() for place, letter in enumerate(FLAGS))
 
 
-def processor(node, program):
+def processor(node: Node, program: Program | None) -> Iterator[Named]:
     place = f" {program.place(node['PC'])}" if program else ""
     sreg = f"SREG {node['SREG']:02X} {flags_text(node['SREG'])}"
     yield "processor", f"PC {node['PC']:04X}{place}, SP {node['SP']:04X}, {sreg}, RAMPZ {node['RAMPZ']}"
@@ -56,7 +62,7 @@ def processor(node, program):
         yield "stack", f"from {first:04X} on: {node.data[first : first + STACK_BYTES].hex(' ').upper()}"
 
 
-def timer(node, number):
+def timer(node: Node, number: int) -> str:
     it = node.timer(number)
     wide = number in (1, 3)
     control, digits = it["TCCRB" if wide else "TCCR"], 4 if wide else 2
@@ -74,11 +80,11 @@ def timer(node, number):
     return f"{clock}{mode}, {shown}" + "".join(f", {mark}" for mark in marks)
 
 
-def until(end, cycle):
+def until(end: int, cycle: int) -> str:
     return f"until cycle {end:,} (in {end - cycle:,})" if end >= cycle else f"until cycle {end:,}, which is over"
 
 
-def usart(node, cycle):
+def usart(node: Node, cycle: int) -> str:
     parts = [f"UCSR0B {node['UCSR0B']:02X}, UCSR0C {node['UCSR0C']:02X}, UBRR {node['UBRR0']}"]
     parts += [name for name in ("U2X", "TXC", "DOR") if node[name]]
     if node["frame"]:
@@ -91,7 +97,7 @@ def usart(node, cycle):
     return ", ".join(parts)
 
 
-def spi(node, cycle):
+def spi(node: Node, cycle: int) -> str:
     parts = [f"SPCR {node['SPCR']:02X}, SPDR {node['SPDR']:02X}"]
     parts += [name for name in ("SPI2X", "SPIF", "WCOL") if node[name]]
     parts += [f"SPSR showed {name}" for name in ("SPIF", "WCOL") if node[f"{name} seen"]]
@@ -100,7 +106,7 @@ def spi(node, cycle):
     return ", ".join(parts)
 
 
-def radio(node, cycle):
+def radio(node: Node, cycle: int) -> str:
     state = node["radio"]
     parts = [RADIO[state] if state < len(RADIO) else f"state {state}"]
     if state >= 2:
@@ -110,12 +116,12 @@ def radio(node, cycle):
     return ", ".join(parts)
 
 
-def io_text(node):
+def io_text(node: Node) -> str:
     """The I/O registers that keep a byte other than 0."""
     return ", ".join(f"{name} {node.data[at]:02X}" for at, name in states.IO_NAMES.items() if node.data[at])
 
 
-def dump(node, first, end):
+def dump(node: Node, first: int, end: int) -> Iterator[str]:
     """The data space from `first` on and below `end`, 16 bytes a line."""
     for at in range(first, end, 16):
         part = node.data[at : min(at + 16, end)]
@@ -123,7 +129,7 @@ def dump(node, first, end):
         yield f"  {at:04X}  {part.hex(' ').upper():<47}  {text}"
 
 
-def show_node(state, k, view, span, patterns):
+def show_node(state: State, k: int, view: View | None, span: Span | None, patterns: Sequence[str]) -> None:
     node = state.nodes[k]
     print(f"node {k}: {heading(node)}")
     rows = list(processor(node, view.program if view else None))
@@ -139,16 +145,19 @@ def show_node(state, k, view, span, patterns):
         print(line)
 
 
-def views_of(nodes, all_programs, patterns):
+def views_of(nodes: Sequence[int], all_programs: Programs, patterns: Sequence[str]) -> dict[int, View | None]:
     """What is read of the program of each node. Raises BadInput where variables are asked for that none has."""
-    by_program = {program: View(program) for k in nodes if (program := all_programs.of(k))}
+    of_nodes = {k: all_programs.of(k) for k in nodes}
+    by_program = {program: View(program) for program in of_nodes.values() if program}
     for pattern in patterns:
         if not any(view.has(pattern) for view in by_program.values()):
             raise BadInput(f"-g {pattern}: no program of these nodes has such a variable")
-    return {k: by_program.get(all_programs.of(k)) for k in nodes}
+    return {k: by_program[program] if program else None for k, program in of_nodes.items()}
 
 
-def show(state, nodes, all_programs, span, patterns):
+def show(
+    state: State, nodes: Sequence[int], all_programs: Programs, span: Span | None, patterns: Sequence[str]
+) -> None:
     views = views_of(nodes, all_programs, patterns)
     bytes_ = plural(len(state.sends), "byte")
     print(f"cycle {state.cycle:,}, {plural(len(state.nodes), 'node')}, {bytes_} that may still be heard")
@@ -161,7 +170,7 @@ def show(state, nodes, all_programs, span, patterns):
 # ---- two states
 
 
-def differences(a, b, program):
+def differences(a: Node, b: Node, program: Program | None) -> Iterator[tuple[str, str, str]]:
     """What differs between two nodes: a name, what the first has, what the second has."""
     for name in states.NAMES:
         if a[name] != b[name]:
@@ -170,16 +179,16 @@ def differences(a, b, program):
                 texts = [f"{text} {program.place(node[name])}" for text, node in zip(texts, (a, b))]
             if name == "SREG":
                 texts = [f"{text} {flags_text(node[name])}" for text, node in zip(texts, (a, b))]
-            yield name, *texts
+            yield name, texts[0], texts[1]
 
 
-def byte_differences(a, b):
+def byte_differences(a: Node, b: Node) -> Iterator[tuple[str, str, str]]:
     for at in range(states.IO_FIRST, states.DATA_END):
         if a.data[at] != b.data[at]:
             yield states.data_name(at), f"{a.data[at]:02X}", f"{b.data[at]:02X}"
 
 
-def compare(a, b, nodes, all_programs, most):
+def compare(a: State, b: State, nodes: Sequence[int], all_programs: Programs, most: int) -> bool:
     """Tells what differs; whether something does."""
     found = []
     if a.cycle != b.cycle:
@@ -204,7 +213,7 @@ def compare(a, b, nodes, all_programs, most):
 # ---- the command line
 
 
-def span_of(text):
+def span_of(text: str) -> Span:
     """A range of data addresses FIRST-LAST, as the first one and the one behind the last, for argparse."""
     match = re.fullmatch(r"(?:0x)?([0-9A-Fa-f]{1,4})-(?:0x)?([0-9A-Fa-f]{1,4})", text)
     first, end = (int(match[1], 16), int(match[2], 16) + 1) if match else (1, 0)
@@ -213,11 +222,11 @@ def span_of(text):
     return first, end
 
 
-def run(arguments):
-    state = states.State.load(arguments.state)
+def run(arguments: argparse.Namespace) -> int:
+    state = State.load(arguments.state)
     scenario = scenarios.Scenario.load(arguments.scenario) if arguments.scenario else None
-    all_programs = programs.Programs(arguments.elf, scenario)
-    other = states.State.load(arguments.other) if arguments.other else None
+    all_programs = Programs(arguments.elf, scenario, arguments.force)
+    other = State.load(arguments.other) if arguments.other else None
     count = max(len(state.nodes), len(other.nodes) if other else 0)
     nodes = sorted(arguments.nodes if arguments.nodes is not None else range(count))
     if nodes and nodes[-1] >= count:
@@ -226,9 +235,9 @@ def run(arguments):
         raise BadWords("-g tells variables of one state, and needs their program (-e)")
     if other:
         most = states.DATA_END if arguments.all else MOST_DIFFERENCES
-        return 1 if compare(state, other, nodes, all_programs, most) else 0
+        return Status.NOT_MET if compare(state, other, nodes, all_programs, most) else Status.GOOD
     show(state, nodes, all_programs, arguments.dump, arguments.globals)
-    return 0
+    return Status.GOOD
 
 
 def configure(parser: argparse.ArgumentParser) -> None:
@@ -241,6 +250,6 @@ def configure(parser: argparse.ArgumentParser) -> None:
         "-g", "--globals", action="append", default=[], metavar="PATTERN", help="the variables with such names, with -e"
     )
     parser.add_argument("--all", action="store_true", help="of two states all bytes that differ")
-    programs.add_programs(parser)
+    add_programs(parser)
     parser.add_argument("state", metavar="STATE")
     parser.add_argument("other", nargs="?", metavar="OTHER", help="a second state, to compare with")

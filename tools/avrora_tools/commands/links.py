@@ -1,10 +1,13 @@
 """Who heard whom: what became of each send on each link, and whether each sample is what the sends give."""
 import argparse
 import collections
+from typing import NamedTuple
 
 from avrora_tools import cli, files, maps, scenarios, traces
-from avrora_tools.errors import BadInput
-from avrora_tools.traces import CLASH, ONE_BYTE
+from avrora_tools.errors import BadInput, Status
+from avrora_tools.events import CLASH, NOTHING, ONE_BYTE, Event, Heard, Sent, Stop
+from avrora_tools.scenarios import OnAir, Scenario
+from avrora_tools.states import State
 
 SUMMARY = "who heard whom, who clashed with whom; checks each sample"
 
@@ -16,40 +19,49 @@ DESCRIPTION = """Tells what became of the bytes on each link of a scenario:
   unheard  by no sample
 and what the samples of each node heard. It checks each sample against the sends of the trace, by the rules of
 docs/AIR.md with the scenario's latencies and spans, and that each node sends a byte at a time. The trace must be
-whole, with an end row of each node of the scenario. Status 0: all samples are as they should be; 1: one is not; 2: no
-scenario, or no whole trace of it."""
+whole, with an end row of each node of the scenario; or with --state that of `avrora resume` from that state, which
+knows what was on the air. Status 0: all samples are as they should be; 1: one is not; 2: no scenario, or no whole
+trace of it."""
 
 MAX_TOLD = 10  # samples at fault that are told, of any number
 
-# A byte on the air, and on which of its links it was heard: a dictionary from the hearer to ONE_BYTE or CLASH.
-Flight = collections.namedtuple("Flight", "cycle heard")
+
+class Flight(NamedTuple):
+    """A byte on the air, and by whom it was heard: a dictionary from the hearer to ONE_BYTE or CLASH. A byte that was
+    sent before the trace begins is not `counted`."""
+
+    cycle: int
+    heard: dict[int, int]
+    counted: bool
 
 
 class Fates:
     """What became of the sends: counts for each link, and the flights that may still be heard."""
 
-    def __init__(self, scenario):
-        self.from_node = collections.defaultdict(list)
+    def __init__(self, scenario: Scenario) -> None:
+        self.from_node: dict[int, list[scenarios.Link]] = collections.defaultdict(list)
         for link in scenario.links:
             self.from_node[link.sender].append(link)
-        self.flights = collections.defaultdict(collections.deque)
-        self.counts = collections.Counter()
+        self.flights: dict[int, collections.deque[Flight]] = collections.defaultdict(collections.deque)
+        self.counts: collections.Counter[tuple[tuple[int, int], str]] = collections.Counter()
         self.life = max([scenario.latency, *(link.latency for link in scenario.links)]) + scenario.byte_time
 
-    def send(self, node, cycle):
+    def send(self, node: int, cycle: int, counted: bool = True) -> None:
         flights = self.flights[node]
         while flights and flights[0].cycle + self.life <= cycle:
             self.end(node, flights.popleft())
-        flights.append(Flight(cycle, {}))
+        flights.append(Flight(cycle, {}, counted))
 
-    def hear(self, hearer, status, on_air):
+    def hear(self, hearer: int, status: int, on_air: list[OnAir]) -> None:
         for one in on_air:
             flight = next(flight for flight in self.flights[one.sender] if flight.cycle == one.cycle)
             if flight.heard.get(hearer) != ONE_BYTE:
                 flight.heard[hearer] = status
 
-    def end(self, node, flight):
+    def end(self, node: int, flight: Flight) -> None:
         """Nobody hears this byte any more."""
+        if not flight.counted:
+            return
         for link in self.from_node[node]:
             ends = link.sender, link.hearer
             fate = (
@@ -62,7 +74,7 @@ class Fates:
             self.counts[ends, "sent"] += 1
             self.counts[ends, fate if scenarios.is_open(link, flight.cycle) else "closed"] += 1
 
-    def end_all(self):
+    def end_all(self) -> None:
         for node, flights in self.flights.items():
             while flights:
                 self.end(node, flights.popleft())
@@ -71,59 +83,70 @@ class Fates:
 class Reader:
     """Goes through the rows of a trace."""
 
-    def __init__(self, scenario, tells_clashes):
+    def __init__(self, scenario: Scenario, state: State | None, tells_clashes: bool) -> None:
         self.scenario = scenario
         self.tells_clashes = tells_clashes
         self.air = scenarios.Air(scenario)
         self.fates = Fates(scenario)
-        self.free = collections.Counter()  # the cycle from which on a node may send
-        self.samples = collections.Counter()
-        self.sends = collections.Counter()
+        self.free: collections.Counter[int] = collections.Counter()  # the cycle from which on a node may send
+        self.samples: collections.Counter[tuple[int, int]] = collections.Counter()
+        self.sends: collections.Counter[int] = collections.Counter()
         self.faults = 0
-        self.ended = set()
+        self.has_state = state is not None
+        for cycle, node, byte in state.sends if state else ():
+            self.air.send(node, cycle, byte)
+            self.fates.send(node, cycle, counted=False)
+        for node, one in enumerate(state.nodes if state else ()):
+            self.free[node] = one["radio free"]
 
-    def read(self, row):
-        if row.node >= len(self.scenario.images):
-            raise BadInput(
-                f"the trace has node {row.node}, and the scenario {len(self.scenario.images)} nodes: not its trace"
-            )
-        if row.kind == "sent":
-            self.send(row)
-        elif row.kind == "heard":
-            self.sample(row)
-        elif row.kind == "end":
-            self.ended.add(row.node)
-        elif row.kind == "stop":
-            print(f"{row.cycle} node {row.node} stopped at {row.rest}")
+    def read(self, trace: traces.Trace) -> None:
+        for cycle, node, event in trace:
+            if isinstance(event, Heard):
+                self.sample(trace, cycle, node, event)
+            elif isinstance(event, Sent):
+                self.send(cycle, node, event)
+            elif isinstance(event, Stop):
+                print(f"{cycle} node {node} stopped at {event.rest}")
+        self.fates.end_all()
 
-    def send(self, row):
-        if row.cycle < self.free[row.node]:
-            self.fault(row, f"its byte before is on the air until {self.free[row.node]}")
-        self.free[row.node] = row.cycle + self.scenario.byte_time
-        self.sends[row.node] += 1
-        self.air.send(row.node, row.cycle, int(row.rest, 16))
-        self.fates.send(row.node, row.cycle)
+    def send(self, cycle: int, node: int, event: Sent) -> None:
+        if cycle < self.free[node]:
+            self.fault(cycle, node, event, f"its byte before is on the air until {self.free[node]}")
+        self.free[node] = cycle + self.scenario.byte_time
+        self.sends[node] += 1
+        self.air.send(node, cycle, event.byte)
+        self.fates.send(node, cycle)
 
-    def sample(self, row):
-        on_air = self.air.heard(row.node, row.cycle)
-        status, byte, age = scenarios.answer(on_air, row.cycle)
-        if row.rest != f"{status} {byte:02X} {age}":
+    def sample(self, trace: traces.Trace, cycle: int, node: int, event: Heard) -> None:
+        on_air = self.air.heard(node, cycle)
+        status, byte, age = scenarios.answer(on_air, cycle)
+        self.samples[node, event.status] += 1
+        if (status, byte, age) != (event.status, event.byte, event.age):
+            self.refuse_rest(trace, cycle)
             senders = ", ".join(map(shown, on_air)) or "nothing"
-            self.fault(row, f"on the air is {senders}, so {status} {byte:02X} {age} is to be heard")
-        told = row.rest[0]
-        self.samples[row.node, told] += 1
-        if str(status) == told:
-            self.fates.hear(row.node, told, on_air)
-        if told == CLASH and self.tells_clashes:
-            print(f"{row.cycle} clash at node {row.node}: {', '.join(map(shown, on_air))}")
+            self.fault(cycle, node, event, f"on the air is {senders}, so {status} {byte:02X} {age} is to be heard")
+        if status == event.status:
+            self.fates.hear(node, status, on_air)
+        if event.status == CLASH and self.tells_clashes:
+            print(f"{cycle} clash at node {node}: {', '.join(map(shown, on_air))}")
 
-    def fault(self, row, text):
+    def refuse_rest(self, trace: traces.Trace, cycle: int) -> None:
+        """Raises BadInput where what a sample heard may have been sent before the trace begins: where it may be that of
+        `resume`, from a state that is not named, of an epoch's end before its first row."""
+        epoch = (trace.first_row or 0) // traces.EPOCH * traces.EPOCH
+        if epoch and not self.has_state and epoch > cycle - self.fates.life:
+            raise BadInput(
+                f"{trace.name}: in cycle {cycle} a sample hears what no row sent, and the first row is of cycle "
+                f"{trace.first_row}: where it is the trace of `avrora resume`, name the state (--state)"
+            )
+
+    def fault(self, cycle: int, node: int, event: Event, text: str) -> None:
         self.faults += 1
         if self.faults <= MAX_TOLD:
-            print(f"{row.cycle} node {row.node} {row.kind} {row.rest}: {text}")
+            print(f"{cycle} node {node} {event.text}: {text}")
 
 
-def shown(one):
+def shown(one: OnAir) -> str:
     """A byte on the air in words."""
     return f"{one.byte:02X} of node {one.sender} sent at {one.cycle}"
 
@@ -131,7 +154,7 @@ def shown(one):
 FATES = ("sent", "closed", "clean", "clashed", "unheard")
 
 
-def print_links(reader, losses):
+def print_links(reader: Reader, losses: bool) -> None:
     print(f"{'link':>8} " + " ".join(f"{fate:>8}" for fate in FATES) + "   clean of sent")
     counts = reader.fates.counts
     for ends in sorted((link.sender, link.hearer) for link in reader.scenario.links):
@@ -142,56 +165,29 @@ def print_links(reader, losses):
         print(f"{ends[0]:>2} to {ends[1]:>2} {numbers}   {100 * clean / sent:12.1f}%")
 
 
-def print_nodes(reader):
+def print_nodes(reader: Reader) -> None:
     print(f"\n{'node':>8} {'sent':>8} {'samples':>8} {'nothing':>8} {'a byte':>8} {'a clash':>8}")
     for node in range(len(reader.scenario.images)):
-        heard = [reader.samples[node, status] for status in (traces.NOTHING, ONE_BYTE, CLASH)]
+        heard = [reader.samples[node, status] for status in (NOTHING, ONE_BYTE, CLASH)]
         print(f"{node:>8} {reader.sends[node]:>8,} {sum(heard):>8,} " + " ".join(f"{number:>8,}" for number in heard))
 
 
-def draw_map(arguments, reader):
+def draw_map(arguments: argparse.Namespace, reader: Reader) -> None:
     """Draws the network, and tells what is odd about who hears whom."""
     counts = reader.fates.counts
-    links = {
-        (link.sender, link.hearer): maps.Quality(
-            counts[(link.sender, link.hearer), "sent"] - counts[(link.sender, link.hearer), "closed"],
-            *(counts[(link.sender, link.hearer), fate] for fate in ("clean", "clashed", "unheard")),
-        )
-        for link in reader.scenario.links
-    }
+    links: dict[maps.Ends, maps.Quality] = {}
+    for link in reader.scenario.links:
+        ends = link.sender, link.hearer
+        sent = counts[ends, "sent"] - counts[ends, "closed"]
+        links[ends] = maps.Quality(sent, *(counts[ends, fate] for fate in ("clean", "clashed", "unheard")))
     count = len(reader.scenario.images)
-    places = maps.laid_out(count, links)
     if arguments.places:
         places = maps.places_of(files.read_text(arguments.places), files.shown(arguments.places), count)
+    else:
+        places = maps.laid_out(count, links)
     files.write_whole(arguments.map, maps.drawn(places, links))
-    odd = maps.oddities(count, list(links))
-    print("\n" + "\n".join(odd) if odd else "")
-
-
-def run(arguments):
-    reader = Reader(scenarios.Scenario.load(arguments.scenario), arguments.clashes)
-    for row in traces.rows(arguments.trace, whole=True):
-        reader.read(row)
-    missing = sorted(set(range(len(reader.scenario.images))) - reader.ended)
-    if missing:
-        raise BadInput(
-            f"{files.shown(arguments.trace)}: no end row of node {missing[0]}, which the scenario has: not its trace, "
-            "or cut off"
-        )
-    reader.fates.end_all()
-    print_links(reader, arguments.losses)
-    print_nodes(reader)
-    if arguments.map:
-        draw_map(arguments, reader)
-    total = sum(reader.samples.values())
-    if reader.faults:
-        print(
-            f"\n{reader.faults:,} of {total:,} samples and {sum(reader.sends.values()):,} sends are not as they should "
-            "be"
-        )
-        return 1
-    print(f"\neach of {total:,} samples is what the sends give")
-    return 0
+    if odd := maps.oddities(count, list(links)):
+        print("\n" + "\n".join(odd))
 
 
 def configure(parser: argparse.ArgumentParser) -> None:
@@ -200,5 +196,30 @@ def configure(parser: argparse.ArgumentParser) -> None:
     parser.add_argument("--losses", action="store_true", help="links alone that lost a byte")
     parser.add_argument("--map", metavar="FILE", help="draw the network, with the quality of each link, as SVG")
     parser.add_argument("--places", metavar="FILE", help="where the map has the nodes: a TOML file of lines NODE = [x, y]")
+    parser.add_argument("--state", metavar="STATE", help="the state from which `avrora resume` wrote the trace")
     parser.add_argument("scenario", metavar="SCENARIO")
     cli.add_trace(parser)
+
+
+def run(arguments: argparse.Namespace) -> int:
+    scenario = Scenario.load(arguments.scenario)
+    state = State.load(arguments.state) if arguments.state else None
+    if state and len(state.nodes) != len(scenario.images):
+        raise BadInput(f"{arguments.state}: {len(state.nodes)} nodes, and the scenario has {len(scenario.images)}")
+    form = traces.Form.ENDED if state else traces.Form.WHOLE
+    # That a node sends too early is told here, and no reason to refuse the trace.
+    trace = traces.read(
+        arguments.trace, form, scenario=scenario, state=state, least_gap=scenarios.BYTE_TIME.start
+    )
+    reader = Reader(scenario, state, arguments.clashes)
+    reader.read(trace)
+    print_links(reader, arguments.losses)
+    print_nodes(reader)
+    if arguments.map:
+        draw_map(arguments, reader)
+    total, sends = sum(reader.samples.values()), sum(reader.sends.values())
+    if reader.faults:
+        print(f"\n{reader.faults:,} of {total:,} samples and {sends:,} sends are not as they should be")
+        return Status.NOT_MET
+    print(f"\neach of {total:,} samples is what the sends give")
+    return Status.GOOD

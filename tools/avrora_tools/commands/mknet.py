@@ -2,8 +2,7 @@
 import argparse
 import re
 
-from avrora_tools import cli, files, maps, networks, scenarios
-from avrora_tools.errors import BadInput
+from avrora_tools import cli, files, maps, networks, scenarios, traces
 from avrora_tools.terminal import warn
 
 SUMMARY = "writes the scenario of a network of some shape"
@@ -19,32 +18,30 @@ other, as those about a star's middle, clash all the same unless the stagger is 
 nodes that nothing reaches and parts that no link joins are told. The same words write the same text."""
 
 
-def two_numbers(text):
-    match = re.fullmatch(r"(\d+)(?:,|\.\.)(\d+)", text)
+def two_numbers(text: str) -> networks.Pair:
+    match = re.fullmatch(r"([0-9]{1,13})(?:,|\.\.)([0-9]{1,13})", text)
     if not match:
         raise argparse.ArgumentTypeError(f"{text} is no pair A..B")
     return int(match[1]), int(match[2])
 
 
-def link_spans(text):
+def link_spans(text: str) -> tuple[networks.Pair, list[networks.Pair]]:
     """FROM-TO=A..B,C..D: a link, and when it is open."""
-    match = re.fullmatch(r"(\d+)-(\d+)=(\d+\.\.\d+(?:,\d+\.\.\d+)*)", text)
+    match = re.fullmatch(r"([0-9]{1,13})-([0-9]{1,13})=(\d+\.\.\d+(?:,\d+\.\.\d+)*)", text)
     if not match:
         raise argparse.ArgumentTypeError(f"{text} is no FROM-TO=A..B,C..D")
     return (int(match[1]), int(match[2])), [two_numbers(span) for span in match[3].split(",")]
 
 
-def node_bytes(text):
+def node_bytes(text: str) -> tuple[int, str]:
     """NODE=HEX: bytes that arrive at a node."""
-    match = re.fullmatch(r"(\d+)=((?:[0-9A-Fa-f]{2})+)", text)
+    match = re.fullmatch(r"([0-9]{1,13})=((?:[0-9A-Fa-f]{2})+)", text)
     if not match:
         raise argparse.ArgumentTypeError(f"{text} is no NODE=HEX")
     return int(match[1]), match[2].upper()
 
 
-def run(arguments):
-    if arguments.link_latency and arguments.link_latency[0] > arguments.link_latency[1]:
-        raise BadInput("--link-latency: the lower number is the first")
+def run(arguments: argparse.Namespace) -> int:
     images = networks.counted(arguments.image)
     text = networks.scenario(
         arguments.shape,
@@ -67,7 +64,9 @@ def run(arguments):
     for odd in maps.oddities(len(images), links):
         warn(odd)
     if arguments.places:
-        files.write_whole(arguments.places, maps.places_text(maps.shape_places(arguments.shape, len(images), arguments.seed)))
+        places = maps.shape_places(arguments.shape, len(images), arguments.seed)
+        files.write_whole(arguments.places, maps.places_text(places))
+    return 0
 
 
 def configure(parser: argparse.ArgumentParser) -> None:

@@ -2,11 +2,10 @@
 import argparse
 import os
 import re
-import tomllib
 from collections.abc import Iterator
 from contextlib import contextmanager
 
-from avrora_tools import cli, expectations, files, programs, scenarios
+from avrora_tools import cases, cli, files, programs, scenarios, toml
 from avrora_tools.errors import BadInput, BadWords, Status
 from avrora_tools.states import State
 from avrora_tools.sweeping import findings as grouping
@@ -88,7 +87,7 @@ def document_of(path: str) -> dict[str, object]:
     """A scenario's document. Raises BadInput where the simulator would refuse it."""
     text = files.read_text(path)
     scenarios.Scenario.of_text(text, files.shown(path))
-    return tomllib.loads(text.removeprefix("\ufeff"))
+    return toml.loads(text)
 
 
 def moved_events(arguments: argparse.Namespace) -> tuple[list[Moved], list[int]]:
@@ -108,9 +107,11 @@ def program_of(
 ) -> tuple[programs.Program | None, Sharing | None]:
     if not arguments.elf:
         return None, None
-    program = programs.Program(arguments.elf)
     event = last.event
     node = event.node if isinstance(event, InputByte) else event.hearer
+    scenario = scenarios.Scenario.load(arguments.scenario)
+    program = programs.Programs([f"{node}={arguments.elf}"], scenario, arguments.force).of(node)
+    assert program is not None
     nodes: list[dict[str, str]] = document["node"]  # type: ignore[assignment]
     listing = simulator.call("disasm", nodes[node]["image"]).decode().splitlines()
     return program, Sharing(program, listing, objects_of(arguments.elf))
@@ -120,7 +121,7 @@ def check_of(arguments: argparse.Namespace, tails: ProcessTails, scenario: Moved
     if arguments.check:
         return PredicateCheck(tails.head, predicate_of(arguments.check), order)
     if arguments.expect:
-        return CaseCheck(tails.head, expectations.read_case(arguments.expect))
+        return CaseCheck(tails.head, cases.read_case(arguments.expect))
     nodes = nodes_of(len(scenario.document["node"]), arguments.nodes)
     good = written(reference(arguments, tails, scenario))
     try:
@@ -133,6 +134,11 @@ def check_of(arguments: argparse.Namespace, tails: ProcessTails, scenario: Moved
 def reference(arguments: argparse.Namespace, tails: ProcessTails, scenario: MovedScenario) -> tuple[bytes, ...]:
     """The rows of the run that is not moved, in pieces."""
     unmoved = scenario.unmoved() if not arguments.base else base_move(arguments.base, scenario)
+    if any(v >= scenario.until for v, m in zip(unmoved, scenario.moved) if isinstance(m.event, InputByte)):
+        raise BadInput(
+            f"the run that is not moved has its event behind cycle {scenario.until:,}, in which the runs end: --base names a "
+            "value for another run to compare with"
+        )
     comes_later = all(
         value >= scenario.begins for value, m in zip(unmoved, scenario.moved) if isinstance(m.event, InputByte)
     )
@@ -262,6 +268,7 @@ def configure(parser: argparse.ArgumentParser) -> None:
     cli.add_nodes(parser)
     parser.add_argument("--base", type=cli.natural, action="append", metavar="VALUE", help="compare with the run of this move")
     parser.add_argument("-e", "--elf", metavar="ELF", help="the program of the node whose byte moves")
+    parser.add_argument("--force", action="store_true", help="take an ELF file that is not that of the node's image")
     parser.add_argument("--out", metavar="FILE", help="write the earliest failing scenario, with a window about the arrival")
     parser.add_argument("--all", action="store_true", help="run each move, and not one of each class")
     parser.add_argument("--quick", action="store_true", help="a first look: not all classes are run")

@@ -2,10 +2,17 @@
 import argparse
 import heapq
 import itertools
+import re
 import sys
+from collections.abc import Mapping, Sequence
+from typing import Final
 
-from avrora_tools import cli, programs, scenarios, traces
+from avrora_tools import cli, programs, traces
 from avrora_tools.errors import BadInput
+from avrora_tools.events import CLASH, Enter, Event, Heard, Instr, Sent, Serial, Stop
+from avrora_tools.hearing import Hearing
+from avrora_tools.instructions import SLEEP
+from avrora_tools.scenarios import DEFAULT_TIME, Scenario
 
 SUMMARY = "waves for GTKWave"
 
@@ -18,12 +25,11 @@ DESCRIPTION = """Writes a trace as a value change dump (VCD, IEEE 1364), for GTK
               last; unknown outside of the window, where no instructions are traced
   function    with -e: the function that the instruction lies in
   stopped     1 from the node's stop on
-A time unit is a cycle, and a picosecond where --hz tells the clock."""
-
-DEFAULT_BYTE_TIME = 3_072
+A time unit is a cycle, and a picosecond where --hz tells the clock. It takes a trace with its end rows, also one of
+`avrora resume` and of the tool window, or with --head the beginning of one."""
 
 # The variables of a node: their widths in bits, or the kinds that VCD knows besides.
-VARIABLES = {
+VARIABLES: Final[Mapping[str, int | str]] = {
     "sent": 1,
     "sent_byte": 8,
     "sample": "event",
@@ -40,6 +46,7 @@ VARIABLES = {
     "vector": "string",
     "stopped": 1,
 }
+NO_NAME = re.compile("[^!-~]")  # what the name of a scope does not have
 KNOWN_FROM_THE_START = ("sent", "clash", "stopped")
 OF_THE_WINDOW = ("pc", "asleep")  # unknown again behind it
 
@@ -47,21 +54,21 @@ OF_THE_WINDOW = ("pc", "asleep")  # unknown again behind it
 class Writer:
     """Writes changes in the order of time; some are known before their time."""
 
-    def __init__(self, nodes, names, hz):
+    def __init__(self, nodes: Sequence[int], names: Mapping[int, str], hz: int | None) -> None:
         self.picoseconds = 1e12 / hz if hz else None
-        self.codes = {}
+        self.codes: dict[tuple[int, str], str] = {}
         self.now = 0
-        self.later = []
+        self.later: list[tuple[int, int, int, str, int]] = []
         self.order = itertools.count()
-        self.values = {}
+        self.values: dict[str, int | str | None] = {}
         self.head(nodes, names)
 
-    def head(self, nodes, names):
+    def head(self, nodes: Sequence[int], names: Mapping[int, str]) -> None:
         unit = "1 ps" if self.picoseconds else "1 ns"
         note = "" if self.picoseconds else "$comment one unit of time is one cycle $end\n"
         sys.stdout.write(f"{note}$timescale {unit} $end\n$scope module network $end\n")
         for node in nodes:
-            sys.stdout.write(f"$scope module node{node}{names[node]} $end\n")
+            sys.stdout.write(f"$scope module node{node}{NO_NAME.sub('_', names[node])} $end\n")
             for name, width in VARIABLES.items():
                 code = self.codes[node, name] = code_of(len(self.codes))
                 kind = f"{width} 1" if isinstance(width, str) else f"wire {width}"
@@ -75,7 +82,7 @@ class Writer:
                     self.put(node, name, 0 if name in KNOWN_FROM_THE_START else None)
         sys.stdout.write("$end\n")
 
-    def advance(self, cycle):
+    def advance(self, cycle: int) -> None:
         """Goes on to a cycle, past the changes that wait for an earlier one."""
         while self.later and self.later[0][0] <= cycle:
             due, _, node, name, value = heapq.heappop(self.later)
@@ -83,40 +90,40 @@ class Writer:
             self.put(node, name, value)
         self.time(cycle)
 
-    def time(self, cycle):
+    def time(self, cycle: int) -> None:
         if cycle != self.now:
             self.now = cycle
             sys.stdout.write(f"#{round(cycle * self.picoseconds) if self.picoseconds else cycle}\n")
 
-    def put(self, node, name, value):
+    def put(self, node: int, name: str, value: int | str | None) -> None:
         """Sets a variable now; None is an unknown value."""
         width, code = VARIABLES[name], self.codes[node, name]
         if width == "event":
             sys.stdout.write(f"1{code}\n")
-        elif self.values.get(code, self) == value:
+        elif code in self.values and self.values[code] == value:
             return
         elif width == "string":
-            sys.stdout.write(f"s{value.replace(' ', '_')} {code}\n")
+            sys.stdout.write(f"s{str(value).replace(' ', '_')} {code}\n")
         elif width == 1:
             sys.stdout.write(f"{'x' if value is None else value}{code}\n")
         else:
             sys.stdout.write(f"b{'x' if value is None else f'{value:b}'} {code}\n")
         self.values[code] = value
 
-    def wait(self, cycle, node, name, value):
+    def wait(self, cycle: int, node: int, name: str, value: int) -> None:
         """Sets a variable once the time has come."""
         heapq.heappush(self.later, (cycle, next(self.order), node, name, value))
 
-    def cancel(self, node, name):
+    def cancel(self, node: int, name: str) -> None:
         self.later = [change for change in self.later if change[2:4] != (node, name)]
         heapq.heapify(self.later)
 
-    def finish(self):
+    def finish(self) -> None:
         """Writes what still waits."""
         self.advance(max((change[0] for change in self.later), default=self.now))
 
 
-def code_of(number):
+def code_of(number: int) -> str:
     """The short name of a variable, of printable characters."""
     code = ""
     while True:
@@ -129,112 +136,126 @@ def code_of(number):
 class Dump:
     """Turns rows into changes."""
 
-    def __init__(self, writer, nodes, byte_time, window, all_programs):
-        self.writer, self.nodes, self.byte_time, self.programs = writer, nodes, byte_time, all_programs
-        self.window = window if window and window[1] > window[0] else None
-        self.naps = set()  # nodes whose sleep waits to begin
+    def __init__(
+        self,
+        writer: Writer,
+        nodes: Sequence[int],
+        byte_time: int,
+        window: tuple[int, int] | None,
+        all_programs: programs.Programs,
+    ) -> None:
+        self.writer, self.nodes, self.byte_time, self.window = writer, nodes, byte_time, window
+        self.programs = all_programs
+        self.naps: set[int] = set()  # nodes whose sleep waits to begin
 
-    def read(self, row):
-        if self.window and row.cycle >= self.window[1]:
-            self.leave_window()
-        self.writer.advance(row.cycle)
-        getattr(self, f"read_{row.kind}")(row, self.writer.put)
+    def read(self, cycle: int, node: int, event: Event) -> None:
+        if self.window and cycle >= self.window[1]:
+            self.leave_window(self.window[1])
+        self.writer.advance(cycle)
+        if isinstance(event, Instr):
+            self.read_instr(cycle, node, event)
+        elif isinstance(event, Heard):
+            self.read_heard(node, event)
+        elif isinstance(event, Enter):
+            self.wake(node)
+            self.writer.put(node, "vector", programs.vector_name(event.vector))
+        elif isinstance(event, Serial):
+            self.writer.put(node, "serial_byte", event.byte)
+            self.writer.put(node, "serial", 1)
+        elif isinstance(event, Sent):
+            self.read_sent(cycle, node, event)
+        elif isinstance(event, Stop):
+            self.writer.put(node, "instr", f"stop {event.cause}")
+            self.writer.put(node, "stopped", 1)
 
-    def leave_window(self):
+    def leave_window(self, end: int) -> None:
         """What instruction rows tell is unknown from the window's end on."""
-        self.writer.advance(self.window[1])
+        self.writer.advance(end)
         for node in self.nodes:
             self.writer.cancel(node, "asleep")
             for name in OF_THE_WINDOW:
                 self.writer.put(node, name, None)
         self.window = None
 
-    def wake(self, node):
+    def wake(self, node: int) -> None:
         if node in self.naps:
             self.writer.cancel(node, "asleep")
             self.naps.discard(node)
         self.writer.put(node, "asleep", 0)
 
-    def read_instr(self, row, put):
-        address, text = row.rest.split(" ", 1)
-        word = int(address, 16)
-        self.wake(row.node)
-        put(row.node, "pc", word)
-        put(row.node, "instr", text)
-        program = self.programs.of(row.node)
-        function = program and program.function_at(word)
+    def read_instr(self, cycle: int, node: int, event: Instr) -> None:
+        self.wake(node)
+        self.writer.put(node, "pc", event.address)
+        self.writer.put(node, "instr", event.instruction)
+        program = self.programs.of(node)
+        function = program.function_at(event.address) if program else None
         if function:
-            put(row.node, "function", function.name)
-        if text == "sleep":
-            self.writer.wait(row.cycle + 1, row.node, "asleep", 1)
-            self.naps.add(row.node)
+            self.writer.put(node, "function", function.name)
+        if event.instruction == SLEEP:
+            self.writer.wait(cycle + 1, node, "asleep", 1)
+            self.naps.add(node)
 
-    def read_enter(self, row, put):
-        self.wake(row.node)
-        put(row.node, "vector", programs.vector_name(int(row.rest[:4], 16)))
+    def read_sent(self, cycle: int, node: int, event: Sent) -> None:
+        self.writer.cancel(node, "sent")
+        self.writer.put(node, "sent_byte", event.byte)
+        self.writer.put(node, "sent", 1)
+        self.writer.wait(cycle + self.byte_time, node, "sent", 0)
 
-    def read_serial(self, row, put):
-        put(row.node, "serial_byte", int(row.rest, 16))
-        put(row.node, "serial", 1)
-
-    def read_sent(self, row, put):
-        self.writer.cancel(row.node, "sent")
-        put(row.node, "sent_byte", int(row.rest, 16))
-        put(row.node, "sent", 1)
-        self.writer.wait(row.cycle + self.byte_time, row.node, "sent", 0)
-
-    def read_heard(self, row, put):
-        status, byte, age = row.rest.split()
-        put(row.node, "heard_status", int(status))
-        put(row.node, "heard_byte", int(byte, 16))
-        put(row.node, "heard_age", int(age))
-        put(row.node, "clash", int(status == traces.CLASH))
-        put(row.node, "sample", 1)
-
-    def read_stop(self, row, put):
-        put(row.node, "instr", f"stop {row.rest[5:]}")
-        put(row.node, "stopped", 1)
-
-    def read_end(self, row, put):
-        pass
-
-
-def nodes_of(arguments, scenario):
-    """The nodes that are written: those of -n, else of the scenario, else those that a first look at the file finds."""
-    if scenario:
-        nodes = set(range(len(scenario.images)))
-    elif arguments.nodes is not None:
-        nodes = arguments.nodes
-    elif arguments.trace == "-":
-        raise BadInput("a stream tells its nodes too late: name them (-n), or the scenario (-s)")
-    else:
-        nodes = {row.node for row in traces.rows(arguments.trace)}
-    nodes = nodes if arguments.nodes is None else nodes & arguments.nodes
-    if not nodes:
-        raise BadInput("the scenario has none of these nodes")
-    return sorted(nodes)
-
-
-def run(arguments):
-    scenario = scenarios.Scenario.load(arguments.scenario) if arguments.scenario else None
-    all_programs = programs.Programs(arguments.elf, scenario)
-    nodes = nodes_of(arguments, scenario)
-    names = {node: f"_{programs.stem(scenario.images[node])}".replace(" ", "_") if scenario else "" for node in nodes}
-    byte_time = arguments.byte_time or (scenario.byte_time if scenario else DEFAULT_BYTE_TIME)
-    rows = traces.rows(arguments.trace, prints=True)
-    first = next(rows)  # what is no trace leaves no front of a dump
-    writer = Writer(nodes, names, arguments.hz)
-    dump = Dump(writer, nodes, byte_time, scenario.window if scenario else None, all_programs)
-    for row in itertools.chain([first], rows):
-        if row.node in names:
-            dump.read(row)
-    writer.finish()
+    def read_heard(self, node: int, event: Heard) -> None:
+        put = self.writer.put
+        put(node, "heard_status", event.status)
+        put(node, "heard_byte", event.byte)
+        put(node, "heard_age", event.age)
+        put(node, "clash", int(event.status == CLASH))
+        put(node, "sample", 1)
 
 
 def configure(parser: argparse.ArgumentParser) -> None:
     cli.describe(parser, DESCRIPTION, "vcd -s flood.toml flood.trace > flood.vcd")
     programs.add_programs(parser)
-    parser.add_argument("-n", "--nodes", type=cli.node_set, metavar="NODES", help="these alone, such as 0,2-4")
-    parser.add_argument("--byte-time", type=cli.positive, help="where no scenario tells it (%d)" % DEFAULT_BYTE_TIME)
+    cli.add_nodes(parser)
+    parser.add_argument("--byte-time", type=cli.positive, help="where no scenario tells it (%d)" % DEFAULT_TIME)
     cli.add_clock(parser)
+    cli.add_head(parser)
     cli.add_trace(parser)
+
+
+def run(arguments: argparse.Namespace) -> int:
+    scenario = Scenario.load(arguments.scenario) if arguments.scenario else None
+    all_programs = programs.Programs(arguments.elf, scenario, arguments.force)
+    nodes = nodes_of(arguments, scenario)
+    names = {node: f"_{programs.stem(scenario.images[node])}" if scenario else "" for node in nodes}
+    byte_time = arguments.byte_time or (scenario.byte_time if scenario else DEFAULT_TIME)
+    trace = traces.read(
+        arguments.trace, traces.form_of(arguments), scenario=scenario, epochs=arguments.head, prints=True
+    )
+    hearing = Hearing(scenario, trace.name) if scenario else None
+    rows = iter(trace)
+    first = next(rows)  # what is no trace leaves no front of a dump
+    writer = Writer(nodes, names, arguments.hz)
+    dump = Dump(writer, nodes, byte_time, scenario.window if scenario else None, all_programs)
+    for cycle, node, event in itertools.chain([first], rows):
+        all_programs.compare(node, event)
+        if hearing:
+            hearing.row(cycle, node, event)
+        if node in names:
+            dump.read(cycle, node, event)
+    writer.finish()
+    return 0
+
+
+def nodes_of(arguments: argparse.Namespace, scenario: Scenario | None) -> list[int]:
+    """The nodes that are written: those of -n, else of the scenario, else those that a first look at the file finds."""
+    wanted: set[int] | None = arguments.nodes
+    if scenario:
+        nodes = set(range(len(scenario.images)))
+    elif wanted is not None:
+        nodes = wanted
+    elif arguments.trace == "-":
+        raise BadInput("a stream tells its nodes too late: name them (-n), or the scenario (-s)")
+    else:
+        nodes = {node for _, node, _ in traces.read(arguments.trace, traces.Form.ROWS)}
+    nodes = nodes if wanted is None else nodes & wanted
+    if not nodes:
+        raise BadInput("the scenario has none of these nodes")
+    return sorted(nodes)

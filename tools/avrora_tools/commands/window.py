@@ -4,77 +4,35 @@ import os
 import subprocess
 import sys
 import tempfile
+from typing import BinaryIO, cast
 
-from avrora_tools import cli, files, scenarios, states, traces
-from avrora_tools.errors import BadInput
+from avrora_tools import cli, files, toml, traces
+from avrora_tools.errors import BadInput, CannotWork, Status
+from avrora_tools.expectations import REFUSALS
+from avrora_tools.scenarios import MAX_WINDOW, Scenario
+from avrora_tools.states import State
 
 SUMMARY = "runs a scenario again, with all instructions of a window"
 
 DESCRIPTION = f"""Runs a scenario again up to cycle END with the window [FIRST, END], of at most
-{scenarios.MAX_WINDOW:,} cycles, and writes the rows from FIRST on: the instructions of all nodes too. The scenario's
+{MAX_WINDOW:,} cycles, and writes the rows from FIRST on: the instructions of all nodes too. The scenario's
 file stays as it is. All that happens is what happens in the whole run; the last rows, of kind end, tell each node's
-state at END. From a state that `avrora save` wrote it runs only the rest. Status: that of the simulator; 2: no
-scenario, or no such window."""
+state at END. From a state that `avrora save` wrote it runs only the rest. Status: 0; 2: no scenario, or no such window,
+or the simulator refuses something; 3: the simulator fails."""
 
 
-def windowed(text, first, end):
+def windowed(text: str, first: int, end: int) -> str:
     """The scenario's text with another cycle limit and window."""
     lines = text.splitlines()
     name = ""
-    for tokens in scenarios.statements(text):
+    for tokens in toml.statements(text):
         words = [word for word, _ in tokens]
         if words[0] == "[":
             name = words[0]
-        elif not name and scenarios.bare(words[0]) in ("cycles", "window") and words[1:2] == ["="]:
+        elif not name and toml.bare(words[0]) in ("cycles", "window") and words[1:2] == ["="]:
             for number in range(tokens[0][1], tokens[-1][1] + 1):
                 lines[number - 1] = ""
     return f"cycles = {end}\nwindow = [{first}, {end}]\n" + "\n".join(lines) + "\n"
-
-
-def run(arguments):
-    first, end = arguments.first, arguments.end
-    text = files.read_text(arguments.scenario)
-    scenario = scenarios.Scenario.of_text(text, arguments.scenario)
-    if not first < end <= min(scenario.cycles, first + scenarios.MAX_WINDOW):
-        raise BadInput(
-            f"[{first}, {end}] is no window of 1 to {scenarios.MAX_WINDOW:,} cycles below the limit of "
-            f"{scenario.cycles:,}"
-        )
-    if arguments.state:
-        cycle = states.State.load(arguments.state).cycle
-        if first < cycle:
-            raise BadInput(f"{arguments.state}: it is of cycle {cycle:,}, and the window begins before that")
-    text = windowed(text.removeprefix("\ufeff"), first, end)
-    scenarios.Scenario.of_text(text, f"{arguments.scenario} with the window")
-    with tempfile.NamedTemporaryFile("w", suffix=".toml", encoding="utf-8") as file:
-        file.write(text)
-        file.flush()
-        return filtered(arguments, file.name)
-
-
-def cycle_of(line):
-    cycle = line.split(b" ", 1)[0]
-    if not cycle.isdigit():
-        raise BadInput(f"what the simulator wrote is no trace: {line[:60].decode('ascii', 'replace').strip()}")
-    return int(cycle)
-
-
-def filtered(arguments, scenario):
-    """Runs `scenario` in the folder of the one it was made from, where its images are."""
-    words = [cli.simulator(arguments.avrora), "run", *["--plain"] * arguments.plain, scenario]
-    if arguments.state:
-        words[1:] = ["resume", scenario, os.path.abspath(arguments.state)]
-    folder = os.path.dirname(os.path.abspath(arguments.scenario))
-    try:
-        process = subprocess.Popen(words, cwd=folder, stdout=subprocess.PIPE)
-    except OSError as fault:
-        raise BadInput(f"cannot run {words[0]}: {fault.strerror}") from None
-    seen = False
-    for line in process.stdout:
-        seen = seen or cycle_of(line) >= arguments.first
-        if seen:
-            sys.stdout.buffer.write(line)
-    return process.wait()
 
 
 def configure(parser: argparse.ArgumentParser) -> None:
@@ -85,3 +43,60 @@ def configure(parser: argparse.ArgumentParser) -> None:
     parser.add_argument("scenario", metavar="SCENARIO")
     parser.add_argument("first", type=cli.natural, metavar="FIRST", help="a cycle; digits may be grouped, as in 15_400")
     parser.add_argument("end", type=cli.positive, metavar="END")
+
+
+def run(arguments: argparse.Namespace) -> int:
+    first, end = arguments.first, arguments.end
+    name = files.shown(arguments.scenario)
+    text = files.read_text(arguments.scenario)
+    scenario = Scenario.of_text(text, name)
+    if not first < end <= min(scenario.cycles, first + MAX_WINDOW):
+        raise BadInput(
+            f"[{first}, {end}] is no window of 1 to {MAX_WINDOW:,} cycles below the limit of {scenario.cycles:,}"
+        )
+    if arguments.state:
+        cycle = State.load(arguments.state).cycle
+        if first < cycle:
+            raise BadInput(
+                f"{files.shown(arguments.state)}: it is of cycle {cycle:,}, and the window begins before that"
+            )
+    text = windowed(text.removeprefix(toml.BYTE_ORDER_MARK), first, end)
+    Scenario.of_text(text, f"{name} with the window")
+    with tempfile.NamedTemporaryFile("w", suffix=".toml", encoding="utf-8", newline="") as file:
+        file.write(text)
+        file.flush()
+        return filtered(arguments, file.name)
+
+
+def filtered(arguments: argparse.Namespace, scenario: str) -> int:
+    """Runs `scenario` in the folder of the one it was made from, where its images are."""
+    words = [cli.simulator(arguments.avrora), "run", *["--plain"] * arguments.plain, scenario]
+    if arguments.state:
+        words[1:] = ["resume", scenario, os.path.abspath(arguments.state)]
+    folder = os.path.dirname(os.path.abspath(arguments.scenario))
+    try:
+        process = subprocess.Popen(words, cwd=folder, stdin=subprocess.DEVNULL, stdout=subprocess.PIPE)
+    except OSError as fault:
+        raise CannotWork(f"cannot run {files.shown(words[0])}: {fault.strerror}") from None
+    try:
+        write_rows(cast(BinaryIO, process.stdout), arguments.first)
+    except BadInput as fault:
+        if not process.wait():
+            raise CannotWork(str(fault)) from None
+    except BaseException:
+        process.kill()
+        raise
+    status = process.wait()
+    if status in REFUSALS:
+        return Status.BAD_INPUT  # of which the simulator has told
+    if status:
+        raise CannotWork(f"the simulator ended with status {status}")
+    return Status.GOOD
+
+
+def write_rows(output: BinaryIO, first: int) -> None:
+    """Writes the rows of a trace from the cycle `first` on."""
+    write = sys.stdout.write
+    for cycle, node, event in traces.Trace(traces.blocks_of(output), "what the simulator wrote", traces.Form.ENDED):
+        if cycle >= first:
+            write(f"{cycle} {node} {event.text}\n")

@@ -32,7 +32,7 @@ def in_rounds(cells: Sequence[Cell], between: Mapping[int, str], per_place: int 
     places: dict[Place | None, list[Cell]] = defaultdict(list)
     for cell in cells:
         places[cell.place()].append(cell)
-    keyed = []
+    keyed: list[tuple[int, bool, int, Cell]] = []
     for place, group in places.items():
         is_urgent = place is not None and place.address in between and not place.asleep
         for round_, index in enumerate(spread(len(group))):

@@ -1,4 +1,5 @@
 """Runs the moves of a sweep. `Tails` is all that the rest of a sweep knows of it; today each run is a process of its own."""
+import json
 import os
 import subprocess
 import tempfile
@@ -10,7 +11,6 @@ from types import TracebackType
 from typing import Protocol
 
 from avrora_tools.errors import BadInput, CannotWork
-from avrora_tools.networks import quoted
 from avrora_tools.sweeping.events import EPOCH, Document, Move, MovedScenario
 
 Window = tuple[int, int]
@@ -121,4 +121,6 @@ def scenario_text(document: Document) -> str:
 
 def value_text(value: object) -> str:
     """A value of a scenario as TOML: a text, a whole number, or a list of such."""
-    return quoted(value) if isinstance(value, str) else str(value)
+    if isinstance(value, str):  # what JSON escapes TOML does too; DEL it does not
+        return json.dumps(value, ensure_ascii=False).replace("\x7f", "\\u007F")
+    return str(value)

@@ -105,7 +105,7 @@ class Sweep:
         rows = processor_rows(output, self.node, window)
         heard = [line.split(b" ", 4)[1:4] for line in output.splitlines() if b" heard 1" in line or b" heard 2" in line]
         order = [step.what for step in steps(rows, self.sharing, clocks, window[0])]
-        return hash((tuple(order), tuple(map(tuple, heard))))
+        return hash((tuple(order), tuple(tuple(part) for part in heard)))
 
     def clocks(self) -> dict[int, int]:
         """The dividers of the node's timers: those of the state, or of the end of the first epoch."""

@@ -7,7 +7,7 @@ from dataclasses import dataclass, field
 from enum import Enum
 from typing import Protocol
 
-from avrora_tools import expectations
+from avrora_tools import cases, expectations
 from avrora_tools.errors import BadInput
 from avrora_tools.sweeping.events import Move
 from avrora_tools.sweeping.rows import all_rows, writes, written
@@ -108,10 +108,10 @@ class CaseCheck:
     """A case of `expect`, over the whole trace."""
 
     head: bytes
-    case: expectations.Case
+    case: cases.Case
 
     def failure(self, move: Move, output: bytes) -> str | None:
-        outcome = expectations.check(self.case, iter((self.head + output).splitlines(True)), False, "the run")
+        outcome = expectations.check(self.case, iter([self.head + output]), False, "the run")
         return first_lines(outcome.failure) if outcome.failure else None
 
 
@@ -148,7 +148,10 @@ class PredicateCheck:
 
     def failure(self, move: Move, output: bytes) -> str | None:
         moved = tuple(move[place] for place in self.events)
-        said = self.predicate(Run(moved, list(all_rows(output)), written((self.head, output))))
+        try:
+            said = self.predicate(Run(moved, list(all_rows(output)), written((self.head, output))))
+        except Exception as fault:  # whatever the user's function does
+            raise BadInput(f"check() of the predicate: {type(fault).__name__}: {fault}") from fault
         if said is not None and not isinstance(said, str):
             raise BadInput(f"check() of the predicate returned {said!r}: it is to be None, or a text that says what is wrong")
         return said

@@ -1,0 +1,263 @@
+"""Cases of `expect`: what the statements of a case's text say (tools/README.md has the form). A statement that no trace can
+meet, or that each trace meets, is refused when it is read."""
+import argparse
+import ast
+import operator
+import os
+import re
+from collections.abc import Callable
+from typing import NamedTuple
+
+from avrora_tools import cli, files
+from avrora_tools.errors import BadInput
+from avrora_tools.events import KINDS
+from avrora_tools.patterns import NUMBER, Pattern, Span, span_of, whole
+
+COMPARISONS: dict[str, Callable[[int, int], bool]] = {
+    "==": operator.eq,
+    "!=": operator.ne,
+    "<=": operator.le,
+    ">=": operator.ge,
+    "<": operator.lt,
+    ">": operator.gt,
+}
+COMPARISON = f"(==|!=|<=|>=|<|>) ({NUMBER})"
+
+SOURCES = {"run": 1, "node": 2, "trace": 1}  # how many words follow each
+
+QUOTED = r"""("(?:\\.|[^"\\])+"|'(?:\\.|[^'\\])+')"""
+
+# What a row may begin with: a statement that begins otherwise is none.
+BEGINS_A_ROW = re.compile(r"[0-9*+{.]")
+
+
+class Expected(NamedTuple):
+    """A row that comes behind the one expected before; at most `most` others come between, any number where it is None."""
+
+    line: int
+    pattern: Pattern
+    most: int | None
+
+
+class Never(NamedTuple):
+    """A row that does not come: between two expected ones, or in a span of cycles."""
+
+    line: int
+    pattern: Pattern
+    span: Span | None
+
+
+class Count(NamedTuple):
+    """How many rows there are, in all or in a span of cycles."""
+
+    line: int
+    pattern: Pattern
+    span: Span | None
+    comparison: str
+    wanted: int
+
+
+class Text(NamedTuple):
+    """What a node writes to USART0 has these bytes in it, or what matches a regular expression."""
+
+    line: int
+    node: int
+    text: bytes
+    span: Span | None
+    expression: re.Pattern[bytes] | None = None
+
+
+class Lines(NamedTuple):
+    """How many lines a node writes to USART0: how often it writes LF."""
+
+    line: int
+    node: int
+    span: Span | None
+    comparison: str
+    wanted: int
+
+
+class Golden(NamedTuple):
+    """The rows that are looked at are those of a file."""
+
+    line: int
+    path: str
+    with_cycles: bool
+
+
+Statement = Expected | Never | Count | Text | Lines | Golden
+
+
+class Case(NamedTuple):
+    """A case: where its rows come from, which of them are looked at (None: all), and what is expected of them."""
+
+    path: str
+    folder: str
+    source: tuple[str, ...] | None
+    nodes: frozenset[int] | None
+    kinds: frozenset[str] | None
+    statements: list[Statement]
+
+
+class Only(NamedTuple):
+    """The nodes and the kinds of rows that are looked at; None for all."""
+
+    nodes: frozenset[int] | None = None
+    kinds: frozenset[str] | None = None
+
+
+def read_case(path: str) -> Case:
+    """The case in the file `path`. Raises BadInput that names the line at fault."""
+    folder = os.path.dirname(os.path.abspath(path))
+    name = files.shown(path)
+    source: tuple[str, ...] | None = None
+    only: Only | None = None
+    statements: list[Statement] = []
+    text = files.read_text(path)
+    if "\0" in text:
+        raise BadInput(f"{name}: no text")
+    for number, line in enumerate(text.splitlines(), 1):
+        line = without_comment(line).strip()
+        words = line.split()
+        try:
+            if not words:
+                continue
+            if words[0] in SOURCES:
+                source = read_source(words, source)
+            elif words[0] == "only":
+                only = read_only(words[1:], only)
+            else:
+                statements.append(read_statement(line, number, folder))
+        except (ValueError, SyntaxError, argparse.ArgumentTypeError, RecursionError, MemoryError) as fault:
+            raise BadInput(f"{name}, line {number}: {files.printable(str(fault))}") from None
+    if not statements:
+        raise BadInput(f"{name}: a case without an expectation")
+    for statement in statements:
+        refuse_unseen(name, statement, only or Only())
+    return Case(path, folder, source, (only or Only()).nodes, (only or Only()).kinds, statements)
+
+
+def refuse_unseen(name: str, statement: Statement, only: Only) -> None:
+    """Raises BadInput where a row is expected that is not looked at."""
+    if not isinstance(statement, (Expected, Never, Count)):
+        return
+    pattern = statement.pattern
+    if only.nodes is not None and (pattern.named - only.nodes or not pattern.nodes & only.nodes):
+        node = min(pattern.named - only.nodes or pattern.nodes)
+        raise BadInput(f"{name}, line {statement.line}: node {node} is none of those of `only`")
+    if only.kinds is not None and not pattern.kinds & only.kinds:
+        raise BadInput(f"{name}, line {statement.line}: rows {', '.join(sorted(pattern.kinds))} are none of those of `only`")
+
+
+def without_comment(line: str) -> str:
+    match = re.match(r"""(?:"(?:\\.|[^"\\])*"|'(?:\\.|[^'\\])*'|[^#])*""", line)
+    return match[0] if match else ""
+
+
+def read_source(words: list[str], source: tuple[str, ...] | None) -> tuple[str, ...]:
+    if source:
+        raise ValueError("a second source of the trace")
+    if len(words) - 1 != SOURCES[words[0]]:
+        raise ValueError(f"after {words[0]} stand {SOURCES[words[0]]} words")
+    return tuple(words)
+
+
+def read_only(words: list[str], before: Only | None) -> Only:
+    nodes: set[int] = set()
+    kinds: set[str] = set()
+    if before:
+        raise ValueError("a second `only`")
+    if not words:
+        raise ValueError("only what?")
+    for word in words:
+        if word[0].isdigit():
+            nodes |= cli.node_set(word)
+        elif word in KINDS:
+            kinds.add(word)
+        else:
+            raise ValueError(f"{word} is no kind of row and no list of nodes")
+    return Only(frozenset(nodes) or None, frozenset(kinds) or None)
+
+
+def read_statement(line: str, number: int, folder: str) -> Statement:
+    span: Span | None = None
+    if match := re.fullmatch(r"within\s+(\S+):\s+(.*)", line):
+        span, line = span_of(match[1]), match[2]
+    word, _, rest = line.partition(" ")
+    rest = " ".join(rest.split())
+    if word == "never":
+        return Never(number, Pattern(rest) if not span else absolute(rest), span)
+    if word == "count":
+        return read_count(rest, number, span)
+    if word == "text":
+        return read_text(line, number, span)
+    if span:
+        raise ValueError("`within A..B:` stands before never, count and text alone")
+    if word == "golden":
+        match = re.fullmatch(r"(\S+)( without cycles)?", rest)
+        if not match:
+            raise ValueError("golden is `golden FILE` or `golden FILE without cycles`")
+        return Golden(number, os.path.join(folder, match[1]), not match[2])
+    if word == "next":
+        match = re.fullmatch(f"(?:({NUMBER}): )?(.*)", rest)
+        return Expected(number, Pattern(match[2] if match else rest), whole(match[1] or "0") if match else 0)
+    if not BEGINS_A_ROW.match(word):
+        raise ValueError(f"no statement is called {word}")
+    return Expected(number, Pattern(line), None)
+
+
+def absolute(text: str) -> Pattern:
+    """A row that no expected row goes before."""
+    pattern = Pattern(text)
+    if pattern.is_relative:
+        raise ValueError("cycles are counted from the row before only in rows that are expected in order")
+    return pattern
+
+
+def comparison(sign: str, number: str) -> tuple[str, int]:
+    """A comparison of a count. Raises ValueError where it holds of no count, or of each."""
+    wanted = whole(number)
+    if (sign, wanted) in ((">=", 0), ("<", 0)):
+        raise ValueError(f"{sign} 0 holds of {'each' if sign == '>=' else 'no'} count")
+    return sign, wanted
+
+
+def read_count(rest: str, number: int, span: Span | None) -> Count:
+    match = re.fullmatch(f"{COMPARISON}: (.*)", rest)
+    if not match:
+        raise ValueError("a count is `count == N: ROW`, also with != <= >= < >")
+    return Count(number, absolute(match[3]), span, *comparison(match[1], match[2]))
+
+
+def read_text(line: str, number: int, span: Span | None) -> Text | Lines:
+    if match := re.fullmatch(rf"text\s+([0-9]+)\s+lines\s+{COMPARISON}", line):
+        return Lines(number, node_of(match[1]), span, *comparison(match[2], match[3]))
+    match = re.fullmatch(rf"text\s+([0-9]+)\s+(matches\s+)?{QUOTED}", line)
+    if not match:
+        raise ValueError(
+            'text is `text NODE "TEXT"`, with escapes as in Python, `text NODE matches "EXPRESSION"` or '
+            "`text NODE lines == N`"
+        )
+    if match[2]:
+        return Text(number, node_of(match[1]), b"", span, expression_of(match[3][1:-1]))
+    value: str = ast.literal_eval(match[3])
+    if max(value) > "\xff":
+        raise ValueError(f"{max(value)} is no byte; write its bytes as \\x and two digits")
+    return Text(number, node_of(match[1]), value.encode("latin-1"), span)
+
+
+def expression_of(text: str) -> re.Pattern[bytes]:
+    """A regular expression as Python has them; ^ and $ are the ends of lines."""
+    try:
+        found = re.compile(text.encode("latin-1"), re.MULTILINE)
+    except (re.error, UnicodeEncodeError, OverflowError) as fault:
+        raise ValueError(f"no regular expression: {fault}") from None
+    if found.search(b""):
+        raise ValueError("the expression matches nothing at all, so that each text has it")
+    return found
+
+
+def node_of(digits: str) -> int:
+    if len(digits) > 2 or whole(digits) >= cli.MAX_NODES:
+        raise ValueError(f"{digits}: nodes are 0 to {cli.MAX_NODES - 1}")
+    return whole(digits)

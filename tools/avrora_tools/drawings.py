@@ -1,0 +1,225 @@
+"""What is drawn of a trace, node by node, and how it is thinned where it is too much for a page."""
+import os
+from array import array
+from collections.abc import Iterable, Iterator
+from typing import Any, NamedTuple
+
+from avrora_tools.errors import BadInput
+from avrora_tools.events import CLASH, NOTHING, End, Enter, Event, Heard, Instr, Sent, Serial, Stop
+from avrora_tools.hearing import Hearing
+from avrora_tools.instructions import SLEEP
+from avrora_tools.scenarios import DEFAULT_TIME
+from avrora_tools.traces import Trace
+
+MAX_WAYS = 250  # lines from sends to where they were heard
+
+# What is drawn of a node, each kind with how many numbers an event of it has, of which the first is its cycle.
+FIELDS = {"sent": 2, "heard": 4, "clash": 3, "quiet": 1, "serial": 2, "asleep": 2, "enter": 2, "stop": 2}
+
+# An event that is drawn: its cycle, and what its kind has more.
+Drawn = tuple[Any, ...]
+
+
+class Numbers:
+    """Events of whole numbers alone, without an object for each."""
+
+    def __init__(self, fields: int) -> None:
+        self.fields = fields
+        self.flat = array("q")
+
+    def append(self, event: tuple[int, ...]) -> None:
+        self.flat.extend(event)
+
+    def __len__(self) -> int:
+        return len(self.flat) // self.fields
+
+    def __iter__(self) -> Iterator[tuple[int, ...]]:
+        return zip(*[iter(self.flat)] * self.fields)
+
+
+class Lane:
+    """All that is drawn of one node."""
+
+    def __init__(self) -> None:
+        self.sent = Numbers(FIELDS["sent"])  # cycle, byte
+        self.heard = Numbers(FIELDS["heard"])  # cycle, byte, age, sender or -1
+        self.clash: list[tuple[int, int, list[int]]] = []  # cycle, OR of the bytes, senders
+        self.quiet = Numbers(FIELDS["quiet"])  # cycle of a sample that heard nothing
+        self.serial = Numbers(FIELDS["serial"])  # cycle, byte
+        self.asleep = Numbers(FIELDS["asleep"])  # cycle, cycles
+        self.enter = Numbers(FIELDS["enter"])  # cycle, vector
+        self.stop: list[tuple[int, str]] = []  # cycle, address and cause
+        self.state = ""
+        self.fell_asleep: int | None = None
+
+    def events(self, kind: str) -> Iterable[Drawn]:
+        found: Iterable[Drawn] = getattr(self, kind)
+        return found
+
+    def count(self, *kinds: str) -> int:
+        return sum(len(getattr(self, kind)) for kind in kinds)
+
+
+class Way(NamedTuple):
+    """From a send to where it was heard."""
+
+    kind: str
+    sender: int
+    sent: int
+    hearer: int
+    cycle: int
+
+
+class Drawing:
+    """The rows of a trace, by node."""
+
+    def __init__(self, trace: Trace, first: int, end: int | None, nodes: set[int] | None) -> None:
+        """What the trace has of the `nodes` (None: of all) from the cycle `first` on and before `end`."""
+        self.first, self.end, self.nodes = first, end, nodes
+        self.scenario = trace.scenario
+        self.hearing = Hearing(trace.scenario, trace.name) if trace.scenario else None
+        self.lanes: dict[int, Lane] = {}
+        self.last = 0
+        self.ways: list[Way] = []
+        self.gap: int | None = None  # the least distance of two sends of one node
+        self.last_sent: dict[int, int] = {}
+        for cycle, node, event in trace:
+            self.read(cycle, node, event)
+        if trace.epochs:
+            self.last = max(self.last, trace.bound - 1)
+        self.last_cycle = self.last + 1 if end is None else end
+        if self.lanes and self.last_cycle <= first:
+            raise BadInput(f"the trace ends in cycle {self.last}, before --from {first}")
+        self.window = trace.scenario.window_of(trace.traced, trace.limit) if trace.scenario else (0, 0)
+        for lane in self.lanes.values():
+            self.finish_sleep(lane)
+        gap = min(DEFAULT_TIME, self.gap or DEFAULT_TIME)
+        self.byte_time = trace.scenario.byte_time if trace.scenario else gap
+
+    def read(self, cycle: int, node: int, event: Event) -> None:
+        on_air = self.hearing.row(cycle, node, event) if self.hearing else []
+        if isinstance(event, Sent):
+            self.note_send(cycle, node)
+        if self.nodes is not None and node not in self.nodes:
+            return
+        lane = self.lanes.setdefault(node, Lane())
+        if isinstance(event, End):
+            self.last = max(self.last, cycle - 1)
+            lane.state = event.state
+            return
+        if isinstance(event, (Instr, Enter, Stop)):
+            self.note_sleep(lane, cycle, event)
+        if cycle < self.first or self.end is not None and cycle >= self.end:
+            return
+        self.last = max(self.last, cycle)
+        if isinstance(event, Heard):
+            self.read_heard(lane, cycle, node, event, on_air)
+        elif isinstance(event, Enter):
+            lane.enter.append((cycle, event.vector))
+        elif isinstance(event, Serial):
+            lane.serial.append((cycle, event.byte))
+        elif isinstance(event, Sent):
+            lane.sent.append((cycle, event.byte))
+        elif isinstance(event, Stop):
+            lane.stop.append((cycle, event.rest))
+
+    def note_send(self, cycle: int, node: int) -> None:
+        if node in self.last_sent:
+            gap = cycle - self.last_sent[node]
+            self.gap = min(gap, self.gap or gap)
+        self.last_sent[node] = cycle
+
+    def note_sleep(self, lane: Lane, cycle: int, event: Instr | Enter | Stop) -> None:
+        """A node sleeps from behind its SLEEP to the interrupt that wakes it; none wakes it past the window."""
+        if lane.fell_asleep is not None:
+            self.add_sleep(lane, lane.fell_asleep, cycle)
+            lane.fell_asleep = None
+        if isinstance(event, Instr) and event.instruction == SLEEP:
+            lane.fell_asleep = cycle + 1
+
+    def finish_sleep(self, lane: Lane) -> None:
+        """Ends a sleep that the trace leaves open."""
+        if lane.fell_asleep is not None and self.window[1] > lane.fell_asleep:
+            self.add_sleep(lane, lane.fell_asleep, self.window[1])
+
+    def add_sleep(self, lane: Lane, first: int, end: int) -> None:
+        first, end = max(first, self.first), end if self.end is None else min(end, self.end)
+        if first < end:
+            lane.asleep.append((first, end - first))
+
+    def read_heard(self, lane: Lane, cycle: int, node: int, event: Heard, on_air: Iterable[Any]) -> None:
+        if event.status == NOTHING:
+            lane.quiet.append((cycle,))
+            return
+        senders = [one.sender for one in on_air]
+        kind = "clash" if event.status == CLASH else "heard"
+        if len(self.ways) <= MAX_WAYS:
+            self.ways += [Way(kind, one.sender, one.cycle, node, cycle) for one in on_air]
+        if event.status == CLASH:
+            lane.clash.append((cycle, event.byte, senders))
+        else:
+            lane.heard.append((cycle, event.byte, event.age, senders[0] if len(senders) == 1 else -1))
+
+    def name(self, node: int) -> str:
+        if not self.scenario:
+            return str(node)
+        return f"{node} {os.path.splitext(os.path.basename(self.scenario.images[node]))[0]}"
+
+
+def flat(events: Iterable[Drawn], kind: str) -> list[Any]:
+    """Events as one list, the cycle of each counted from the one before. Samples that heard nothing, which a program
+    makes at regular distances, are pairs of a distance and how often it comes."""
+    found: list[Any] = []
+    last = 0
+    for cycle, *rest in events:
+        if kind != "quiet":
+            found += [cycle - last, *rest]
+        elif found and found[-2] == cycle - last:
+            found[-1] += 1
+        else:
+            found += [cycle - last, 1]
+        last = cycle
+    return found
+
+
+class Thinning(NamedTuple):
+    """Which events are left out: those of the kinds that lie less than `step` cycles behind the last one that is kept."""
+
+    kinds: tuple[str, ...] = ()
+    step: int = 0
+
+    def of(self, kind: str, lane: Lane) -> Iterable[Drawn]:
+        """What is kept of the events of a kind."""
+        events = lane.events(kind)
+        return thinned(events, self.step) if kind in self.kinds else events
+
+    def __str__(self) -> str:
+        words = ", ".join(WORDS[kind] for kind in self.kinds)
+        return f"thinned to one in {self.step:,} cycles: {words}" if self.step else ""
+
+
+WORDS = {"quiet": "samples of nothing", "enter": "interrupts", "asleep": "sleep", "heard": "heard", "serial": "USART0", "sent": "sent"}
+
+# In which order kinds are thinned: clashes and stops never.
+THINNED = (("quiet",), ("quiet", "enter", "asleep"), ("quiet", "enter", "asleep", "heard", "serial", "sent"))
+
+FINEST, COARSEST = 1 << 14, 1 << 9  # in how many parts a thinning divides what is drawn
+
+
+def thinnings(drawing: Drawing) -> Iterator[Thinning]:
+    """None, and then more and more of it."""
+    yield Thinning()
+    span = drawing.last_cycle - drawing.first
+    for kinds in THINNED:
+        parts = FINEST
+        while parts >= COARSEST:
+            yield Thinning(kinds, max(1, span // parts))
+            parts //= 2
+
+
+def thinned(events: Iterable[Drawn], step: int) -> Iterator[Drawn]:
+    last = -step
+    for event in events:
+        if event[0] - last >= step:
+            last = event[0]
+            yield event
