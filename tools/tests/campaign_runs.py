@@ -83,7 +83,7 @@ def folder(campaign=CAMPAIGN, case=CASE, scenario=SCENARIO):
 
 def run_campaign(path, *words, without_dask=True, **env):
     """Runs the campaign c.toml; its status, output and errors, and the rows of the summary by name."""
-    env = {"CAMPAIGN_LOG": f"{path}/log", "AVRORA": f"{path}/avrora", **env}
+    env = {"CAMPAIGN_LOG": f"{path}/log", "AVRORA": f"{path}/avrora", "AVRORA_PROGRAM": f"{path}/avrora", **env}
     if without_dask:
         env |= hidden_dask(path)
     status, out, errors = run_tool("campaign", *words, f"{path}/c.toml", env=env)

@@ -105,7 +105,8 @@ class Kept(unittest.TestCase):
             os.rename(f"{path}/two.rows", f"{path}/one.rows")
             os.rename(f"{path}/spare", f"{path}/two.rows")
             status, _, errors, rows = run_campaign(path)
-            self.assertEqual((status, rows["net latency=30"]["outcome"]), (1, "failed"), errors)
+            # a row without its cycle is no row of a golden trace
+            self.assertEqual((status, rows["net latency=30"]["outcome"]), (3, "broken"), errors)
 
     def test_cases_that_change_places(self):
         """Each is in a role of its own, so it is run again though the files are the same."""
