@@ -364,7 +364,7 @@ class Command(unittest.TestCase):
             os.chmod(avrora, 0o755)
             with open(f"{os.path.dirname(case)}/net", "w", encoding="utf-8") as file:
                 file.write(data("relay.trace"))
-            self.assertEqual(run_tool("expect", case, env={"AVRORA": avrora})[0], 0)
+            self.assertEqual(run_tool("expect", case, env={"AVRORA": avrora, "AVRORA_PROGRAM": avrora})[0], 0)
             os.unlink(f"{os.path.dirname(case)}/net")
             status, out, _ = run_tool("expect", "--avrora", avrora, case)
         self.assertEqual(status, 2)
