@@ -30,6 +30,7 @@ MOST_BYTES = {
     "README.md": 9000,
     "docs/PROOFS.md": 17000,
     "docs/SPEED.md": 7000,
+    "docs/RELEASE.md": 5000,
     "docs/PROVING.md": 27000,
     "docs/DECISIONS.md": 22000,
     "docs/ARCHITECTURE.md": 13000,
@@ -52,7 +53,7 @@ OTHERS = {
     "TOML": "inf nan",
     "avr-libc": "wdt_enable wdt_disable",
     "Arduino": "arduino-core-avr analogRead analogWrite attachInterrupt delay digitalWrite init millis tone",
-    "Debian": "python3-pyelftools python3-junit xml python3-distributed gcc-avr avr-libc",
+    "Debian": "python3-pyelftools python3-junit xml python3-distributed gcc-avr avr-libc dpkg lintian mmdebstrap",
     "the kit": "START-HERE KIT rt rattle antt omega grind refl cc rw simp subst elim ap absurd using search std core",
 }
 
@@ -142,9 +143,10 @@ def is_path(span):
 
 def leads_to_file(span):
     """Whether a path, with or without its end and the folders above it, is one of the repository, or a file that it writes."""
-    if "/" not in span and any(span in text for text in sources()):
-        return True
     wanted = span.removeprefix("./").removeprefix("../").rstrip("/")
+    # what a script writes: its name, or a text of the script's that begins with its path
+    if any((span if "/" not in span else f'"{wanted}') in text for text in sources()):
+        return True
     for path in tracked():
         for it in (path, path.rpartition(".")[0]):
             if it == wanted or it.endswith("/" + wanted) or fnmatch.fnmatch(it, wanted) or fnmatch.fnmatch(it, "*/" + wanted):

@@ -4,8 +4,8 @@ manual pages; and of a checkout that takes its program.
 
     scripts/test_release.py
 
-With a real program, the one that AVRORA_PROGRAM names or else the one that `./avrora` built, an unpacked release also runs the
-commands of README.md and the script for pipelines. What is not installed is skipped by name. scripts/test_bare tries a release
+With a real program, the one that AVRORA_PROGRAM names or else the one that `./avrora` proved of these sources, an unpacked
+release also runs the commands of README.md and the script for pipelines. What is not installed is skipped by name. scripts/test_bare tries a release
 in a system that has nothing else.
 """
 import contextlib
@@ -21,19 +21,18 @@ import tempfile
 import unittest
 from pathlib import Path
 
-import check_docs
-import fake_kit
-from releases import debian, gates, manuals
-
 TOP = Path(__file__).resolve().parent.parent
+sys.path.insert(1, str(TOP))
+
+import check_docs  # pylint: disable=wrong-import-position
+import fake_kit  # pylint: disable=wrong-import-position
+import prove  # pylint: disable=wrong-import-position
+from releases import debian, gates, manuals  # pylint: disable=wrong-import-position
 
 # Seconds that nothing takes but what hangs.
 LONG = 600
 
-NEEDS = ("bash", "awk", "git", "dpkg-deb", "sha256sum")
-
-# A program that runs what it is given, if there is one.
-REAL = os.path.abspath(os.environ.get("AVRORA_PROGRAM") or f"{TOP}/crates/avrora_program/out/rlib/avrora_program")
+NEEDS = ("bash", "awk", "git", "dpkg-deb", "sha256sum", "tar")
 
 # What a release is made from beside its crates.
 PARTS = ("README.md", "CHANGELOG.md", "avrora", "prove.py", ".gitignore", ".ci/", "docs/", "examples/", "scripts/", "tools/")
@@ -53,6 +52,15 @@ ENVIRONMENT = {
 # The wrong edit of a crate: it and three crates are what the gate counts.
 EDIT = "file: src/lib.rt\nold: // nothing\nnew: // something\n"
 PASSED = "4 passed, 0 failed"
+
+
+@functools.lru_cache(maxsize=None)
+def real_program():
+    """A program that does what the documents say, if there is one."""
+    if lent := os.environ.get("AVRORA_PROGRAM"):
+        return os.path.abspath(lent)
+    room = f"{TOP}/crates/{prove.RELEASED}/out/rlib"
+    return f"{room}/{prove.RELEASED}" if prove.is_proved_here(room) else None
 
 
 def ran(words, place, environment=None, given=""):
@@ -137,9 +145,7 @@ class OfARepository(unittest.TestCase):
         """The top of the unpacked archive."""
         folder = self.place / name
         folder.mkdir(exist_ok=True)
-        archive = next((self.place / out).glob("*.tar.gz"))
-        with tarfile.open(archive) as it:
-            it.extractall(folder, filter="tar")
+        ran(["tar", "-xzf", next((self.place / out).glob("*.tar.gz"))], folder)
         return next(folder.glob("avrora-*"))
 
     def made(self, *words):
@@ -269,7 +275,10 @@ class Contents(OfARepository):
         names = [it.name for it in members]
         self.assertEqual(names, sorted(names))
         self.assertEqual({(it.uid, it.gid, it.uname, it.gname, it.mtime) for it in members}, {(0, 0, "root", "root", 1767323045)})
-        self.assertEqual({it.name for it in members if it.isfile() and it.mode != 0o644}, {f"avrora-0.1.0-linux-x86_64/{it}" for it in ("bin/avrora", "bin/avrora-tools", "libexec/avrora/avrora_program", "examples/arduino/build", "examples/ci/check.sh")})
+        scripts = {it for it in check_docs.tracked() if it.startswith("examples/") and os.access(TOP / it, os.X_OK)}
+        self.assertIn("examples/ci/check.sh", scripts)
+        run = {it.name.partition("/")[2] for it in members if it.isfile() and it.mode != 0o644}
+        self.assertEqual(run, {"bin/avrora", "bin/avrora-tools", "libexec/avrora/avrora_program", *scripts})
         self.assertEqual(sorted(it.name for it in self.top.iterdir()), ["CHANGELOG.md", "PROVED", "README.md", "SHA256SUMS", "avrora", "avrora-tools", "bin", "docs", "examples", "include", "libexec", "share", "tools"])
         self.assertEqual((self.top / "include/radio.h").read_bytes(), (TOP / "examples/radio.h").read_bytes())
 
@@ -364,7 +373,7 @@ class Launcher(OfARepository):
         self.assertEqual(ran([*words[:-1], self.place / "nowhere"], self.place), (0, "\n", ""))
 
     def test_the_tools(self):
-        """They find the launcher of their release; it is the program here that knows no scenario."""
+        """They find the program of their release; the one here knows no scenario."""
         status, out, err = ran([self.top / "avrora-tools", "--version"], self.place)
         if status == 3:
             self.skipTest(err.strip())
@@ -499,8 +508,8 @@ class Package(OfARepository):
         if not shutil.which("lintian"):
             self.skipTest("lintian is not installed")
         package = self.package
-        if os.access(REAL, os.X_OK):
-            status, _, err = self.repository.release("--unproved", REAL, out="real")
+        if program := real_program():
+            status, _, err = self.repository.release("--unproved", program, out="real")
             self.assertEqual(status, 0, err)
             package = next((self.place / "real").glob("*.deb"))
         status, out, err = ran(["lintian", "--allow-root", "--fail-on", "error,warning,info", "--suppress-tags", "unused-override", package], self.place)
@@ -616,10 +625,10 @@ class Running(OfARepository):
     """A release with a real program."""
 
     def setUp(self):
-        if not os.access(REAL, os.X_OK):
-            self.skipTest(f"there is no program {REAL}")
+        if not real_program():
+            self.skipTest("no program of these sources is built here, and AVRORA_PROGRAM names none")
         super().setUp()
-        self.made("--unproved", REAL)
+        self.made("--unproved", real_program())
         self.top = self.unpacked("a folder of somebody's")
 
     def test_the_commands_of_the_readme(self):

@@ -350,7 +350,12 @@ def file_name(name):
     return f"{text[:LONGEST_NAME]}-{hashlib.sha256(name.encode()).hexdigest()[:12]}"
 
 
-def digest(run, contents):
-    """What tells two runs apart: the simulator, the scenario, and the content of images, cases and golden traces."""
-    parts = [contents, run.shipped, *run.files, *(case["path"] for case in run.cases)]
+def digest(run, simulator, checker):
+    """What tells two runs apart: the simulator, what checks its trace, the scenario with the content of its images, and
+    the content of each case and golden trace in its role, in order."""
+    parts = ["simulator", simulator, "checker", checker, "scenario", run.shipped]
+    for case in run.cases:
+        parts += ["case", case["path"], case["file"]]
+        for golden in case["goldens"]:
+            parts += ["golden", golden["path"], golden["file"]]
     return hashlib.sha256("\0".join(parts).encode()).hexdigest()

@@ -103,13 +103,12 @@ class Numbers(NamedTuple):
     def test(self, word: str) -> Test | None:
         if word == ANY:
             return None
-        spans = [self.span(one) for one in members(word) or [word]]
-        for span in spans:
-            if not span.meets(self.first, self.last):
-                low, high = (f"{n:0{self.digits}X}" if self.digits else f"{n:,}" for n in (self.first, self.last))
-                raise ValueError(f"{word} is not {low} to {high}" if low != high else f"{word} is not {low}")
+        span = self.span(word)
+        if not span.meets(self.first, self.last):
+            low, high = (f"{n:0{self.digits}X}" if self.digits else f"{n:,}" for n in (self.first, self.last))
+            raise ValueError(f"{word} is not {low} to {high}" if low != high else f"{word} is not {low}")
         base = 16 if self.digits else 10
-        return lambda text: any(span.has(int(text, base)) for span in spans)
+        return lambda text: span.has(int(text, base))
 
 
 class Words(NamedTuple):
@@ -120,11 +119,9 @@ class Words(NamedTuple):
     def test(self, word: str) -> Test | None:
         if word == ANY:
             return None
-        found = members(word) or [word]
-        for one in found:
-            if not re.fullmatch(self.form, one):
-                raise ValueError(f"{one} cannot stand there")
-        return lambda text: text in found
+        if not re.fullmatch(self.form, word):
+            raise ValueError(f"{word} cannot stand there")
+        return lambda text: text == word
 
 
 Field = Numbers | Words
@@ -152,12 +149,30 @@ class Refused(ValueError):
         self.place = place
 
 
+def test_of_set(field: Field, words: list[str]) -> Test | None:
+    """The test of a part that is one of some words, of which the part can be one at least."""
+    tests: list[Test] = []
+    refusal = ValueError("a set of nothing")
+    for word in words:
+        try:
+            test = field.test(word)
+        except ValueError as fault:
+            refusal = fault
+            continue
+        if test is None:
+            return None
+        tests.append(test)
+    if not tests:
+        raise refusal
+    return lambda text: any(test(text) for test in tests)
+
+
 def tests_of(shape: list[Field], words: list[str], is_open: bool) -> list[Test | None]:
     """The tests of the words of a pattern as parts of a shape. Raises Refused where no row matches them."""
-    tests = []
+    tests: list[Test | None] = []
     for place, (field, word) in enumerate(zip(shape, words)):
         try:
-            tests.append(field.test(word))
+            tests.append(test_of_set(field, members(word) or [word]))
         except ValueError as fault:
             raise Refused(str(fault), place) from None
     if len(words) > len(shape) or len(words) < len(shape) and not is_open:
@@ -210,7 +225,13 @@ class Pattern:
         return found
 
     def read_shapes(self, word: str, rest: list[str]) -> dict[str, list[list[Test | None]]]:
-        """By kind what the parts behind it may be."""
+        """By kind what the parts behind it may be. Each word of a set must be one that some row has."""
+        for place, part in enumerate(rest):
+            for one in members(part) or []:
+                self.shapes_of(word, [*rest[:place], one, *rest[place + 1 :]])
+        return self.shapes_of(word, rest)
+
+    def shapes_of(self, word: str, rest: list[str]) -> dict[str, list[list[Test | None]]]:
         kinds = list(KINDS) if word == ANY else members(word) or [word]
         found: dict[str, list[list[Test | None]]] = {}
         refusals: list[tuple[int, str]] = []

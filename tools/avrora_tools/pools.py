@@ -11,12 +11,16 @@ import os
 import shutil
 import signal
 import tempfile
+import threading
+import time
 
 from avrora_tools import runs, terminal
-from avrora_tools.errors import BadInput
+from avrora_tools.errors import CannotWork
 
 
 LOOPBACK = "127.0.0.1"  # nobody else reaches what this machine starts for itself
+
+SECONDS_A_LOOK = 0.5  # of a process for the one that started it
 
 GONE = "the scheduler of dask is gone"
 
@@ -65,7 +69,7 @@ class DaskPool:
         try:
             self.client = distributed.Client(self.cluster or address, set_as_default=False)
         except (OSError, ValueError, TypeError) as fault:
-            raise BadInput(f"no scheduler of dask answers at {address}: {fault}") from None
+            raise CannotWork(f"no scheduler of dask answers at {address}: {fault}") from None
         plugin, self.job = runs.shipment(name, files)
         self.name = name
         self.client.register_worker_plugin(plugin, name=name)
@@ -73,14 +77,14 @@ class DaskPool:
 
     def submit(self, job):
         if self.client.status != "running":
-            raise BadInput(GONE)
+            raise CannotWork(GONE)
         return self.executor.submit(self.job, job)
 
     def room(self):
         try:
             return max(self.LEAST_ROOM, 2 * sum(self.client.nthreads().values()))
         except OSError:
-            raise BadInput(GONE) from None
+            raise CannotWork(GONE) from None
 
     def close(self):
         with contextlib.suppress(Exception):  # all that is lost is courtesy
@@ -93,6 +97,18 @@ class DaskPool:
             shutil.rmtree(self.local, ignore_errors=True)
 
 
+def end_with_parent(parent):
+    """Ends this process, and the simulator that it runs, once the process `parent` that started it is gone."""
+    os.setpgid(0, 0)
+
+    def watch():
+        while os.getppid() == parent:
+            time.sleep(SECONDS_A_LOOK)
+        os.killpg(0, signal.SIGKILL)
+
+    threading.Thread(target=watch, daemon=True).start()
+
+
 class ProcessPool:
     """Processes of this machine. Where one dies all of them are started again, and the jobs under way are broken."""
 
@@ -103,7 +119,9 @@ class ProcessPool:
         self.start()
 
     def start(self):
-        self.executor = concurrent.futures.ProcessPoolExecutor(self.processes)
+        self.executor = concurrent.futures.ProcessPoolExecutor(
+            self.processes, initializer=end_with_parent, initargs=(os.getpid(),)
+        )
 
     def submit(self, job):
         with interrupts_kept():  # a process starts with a job that finds none idle

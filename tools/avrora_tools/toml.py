@@ -222,5 +222,3 @@ def statements(text: str) -> Iterator[list[Token]]:
 def bare(key: str) -> str:
     """A key without quotes."""
     return key[1:-1] if key[:1] in ('"', "'") and key[-1:] == key[:1] else key
-
-

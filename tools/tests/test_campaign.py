@@ -191,7 +191,7 @@ class WithoutDask(Outcomes, unittest.TestCase):
         campaign = CAMPAIGN.replace("[1, 3, 4, 20, 30]", "[2]").replace("attempts = 2", "attempts = 1\ntimeout = 1")
         with folder(campaign) as path:
             status, _, errors, rows = run_campaign(path)
-            self.assertEqual(status, 1, errors)
+            self.assertEqual(status, 3, errors)
             self.assertEqual(rows["net latency=2"]["message"], "took more than 1 s")
 
     def test_traces(self):
@@ -233,7 +233,7 @@ class WithoutDask(Outcomes, unittest.TestCase):
             first.send_signal(signal.SIGINT)
             let_go(path)
             self.assertEqual(first.wait(LONG), 130)
-            self.assertEqual(status, 2)
+            self.assertEqual(status, 3)
             self.assertIn("another campaign is at work", errors)
 
     def test_list_and_one_scenario(self):

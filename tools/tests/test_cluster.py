@@ -25,7 +25,7 @@ class OnDask(Outcomes, unittest.TestCase):
             address = f"tcp://{LOOPBACK}:{free.getsockname()[1]}"
             env = {"DASK_DISTRIBUTED__COMM__TIMEOUTS__CONNECT": "1s"}
             status, _, errors, _ = run_campaign(path, "--scheduler", address, without_dask=False, **env)
-            self.assertEqual(status, 2)
+            self.assertEqual(status, 3)
             self.assertIn(f"no scheduler of dask answers at {address}", errors)
 
 

@@ -56,8 +56,9 @@ class Met(unittest.TestCase):
         self.fails("11.. 0 sent 72")
         self.fails("* 0 sent {71,73}")
         self.fails("30 1 heard 1 72 10+-1")
-        self.fails("30 1 heard 1 72")  # a row ends where the pattern ends
-        self.fails("10 0 sent 72 00")
+        self.met("* 1 stop 0102 {reserved,undefined} *", "* * {end,stop} *", "* * end * stopped")
+        self.fails("* 0 sent 73..7F")
+        self.met("{10,20} 0 *", "* 0 *", "*")
 
     def test_cycles_since_the_row_before(self):
         self.met("10 0 sent 72", "+20 1 heard *", "+0..10 1 serial 72", "+10+-0 1 sent *")
@@ -113,6 +114,27 @@ class Met(unittest.TestCase):
         self.unmet('text 1 "er"', says="line 1: node 1 did not write:\n- 'er'\nwhat it wrote ends with:\n+ 're'")
         self.met('text 0 "#"', trace="1 0 serial 23\n2 0 end 1 running\n")
 
+    def test_text_by_expression_and_lines(self):
+        self.met("text 1 matches 're?'", "text 1 matches '^re$'", "within 0..69: text 1 matches '^r$'", "text 1 lines == 0")
+        self.unmet(
+            "text 1 matches 'r[^e]'",
+            says="line 1: node 1 did not write what matches:\n- 'r[^e]'\nwhat it wrote ends with:\n+ 're'",
+        )
+        lines = "1 0 serial 41\n2 0 serial 0A\n3 0 serial 42\n4 0 serial 0A\n9 0 end 1 running\n"
+        self.met("text 0 lines == 2", "within 0..3: text 0 lines == 1", "text 0 matches '^B$'", trace=lines)
+        self.unmet("text 0 lines > 2", says="> 2 lines of node 0 wanted, 2 came", trace=lines)
+
+    def test_all_that_is_not_met_is_told(self):
+        failure = outcome(
+            "10 0 sent 71\n20 0 heard *\nnever * 1 serial *\ncount == 1: * 1 serial *\ntext 1 'x'\nnext * 1 sent *\n"
+        ).failure
+        told = [line.split(": ")[0].split(", ")[1] for line in failure.splitlines() if "case.expect" in line]
+        self.assertEqual(told, ["line 1", "line 4", "line 5"])
+        self.assertIn("so 2 more, expected behind it, were not looked for", failure)
+        failure = outcome("10 0 sent 72\nnever * 1 serial *\nnever * * heard *\nnext 50 1 sent *\n").failure
+        told = [line.split(": ")[0].split(", ")[1] for line in failure.splitlines() if "case.expect" in line]
+        self.assertEqual(told, ["line 4"])  # `next` is missed at once, so nothing stands between
+
     def test_only(self):
         self.met("only 1 heard serial", "30 1 heard *", "next 40 1 serial *", "next 60 1 heard *", "count == 0: * 1 heard 2 *")
         self.met("only 1 heard", 'text 1 "re"')  # text looks at all that a node writes
@@ -163,8 +185,37 @@ class Golden(unittest.TestCase):
             )
             said = self.check(case, TRACE.replace("70 1 serial 65\n", "")).splitlines()
             self.assertEqual(said[-2:], [" 50 1 sent 65", "-70 1 serial 65"])
-            said = self.check(case, TRACE.replace("80 1 stop 0102 reserved opcode", "80 1 serial 41")).splitlines()
+            said = self.check(case, TRACE.replace("80 1 stop 0102 reserved opcode", "80 1 serial 41").replace("7 stopped", "7 asleep")).splitlines()
             self.assertEqual(said[-2:], [" 70 1 serial 65", "+80 1 serial 41"])
+
+    def test_every_row_counts(self):
+        """Blank lines, and rows behind them, are no end of the file."""
+        good = "10 0 sent 72\n50 1 sent 65\n"
+        with scratch("a.rows") as path:
+            case = self.case(os.path.dirname(path), "only sent\ngolden a.rows\n")
+            for text, why in (
+                ("10 0 sent 72\n\n50 1 sent 65\n", "a.rows, line 2: no row: "),
+                (f"{good}\n", "a.rows, line 3: no row: "),
+                (f"{good}hello\n", "a.rows, line 3: no row: hello"),
+                (good[:-1], "a.rows, line 2: no row: 50 1 sent 65"),
+                (f"{good}60 1 sent 65 \n", "line 3: no row"),
+            ):
+                with open(path, "w", encoding="utf-8") as file:
+                    file.write(text)
+                with self.subTest(text), self.assertRaises(BadInput) as refusal:
+                    self.check(case)
+                self.assertIn(why, str(refusal.exception))
+            for text in (f"{good}9000 1 sent 65\n", "10 0 sent 72\n"):
+                with open(path, "w", encoding="utf-8") as file:
+                    file.write(text)
+                self.assertIn("differs from", self.check(case))
+
+    def test_saved_into_no_folder(self):
+        with scratch("case.expect", "golden none/a.rows\n") as case:
+            status, out, _ = run_tool("expect", "--save", "--trace", f"{DATA}/relay.trace", case)
+        self.assertEqual(status, 3)
+        self.assertRegex(out, "cannot write .*/none/a.rows: No such file or directory")
+        self.assertNotIn("relay.trace", out)
 
     def test_no_file(self):
         with scratch("x") as place:
@@ -185,7 +236,7 @@ class Refused(unittest.TestCase):
         for line, why in (
             ("10 0", "is no row"),
             ("* * talked *", "no row has the kind talked"),
-            ("1.. 0 sent x..", "x.. is no"),
+            ("1.. 0 sent x..", "x is not 2 upper-case"),
             ("count 5: * * sent *", "a count is"),
             ("text 1 two", "text is"),
             ("text 1 5", "text is"),
@@ -205,6 +256,69 @@ class Refused(unittest.TestCase):
             with self.subTest(line), scratch("case.expect", f"{line}\n* * sent *\n") as path:
                 with self.assertRaisesRegex(BadInput, f"case.expect, line [12]: .*({why})"):
                     expectations.read_case(path)
+
+    def test_what_no_trace_can_meet(self):
+        for line, why in (
+            ("never * * stop", "stop: 3 parts stand behind the kind, and not 0"),
+            ("count == 0: * * stop", "stop: 3 parts stand behind the kind"),
+            ("never * 0 sent", "sent: 1 part stands behind the kind"),
+            ("never * 0 sent aa", "sent: aa is not 2 upper-case hexadecimal digits"),
+            ("never * 0 sent 0xAA", "sent: 0xAA is not 2 upper-case hexadecimal digits"),
+            ("never * 0 sent 41 42", "sent: 1 part stands behind the kind, and not 2"),
+            ("never * 0 sent 5A..41", "5A..41 has no number in it"),
+            ("never 5..1 * sent *", "5..1 has no number in it"),
+            ("never * 5..1 sent *", "5..1 has no number in it"),
+            ("never * 64 sent *", "nodes are 0 to 63"),
+            ("never 05 * sent *", "05 has leading zeros"),
+            ("never {} * sent *", "{} is no set"),
+            ("never * * heard 0 41 *", "heard: 41 is not 00"),
+            ("never * * heard 2 41 5", "heard: 5 is not 0"),
+            ("never * * heard 1 41 256", "heard: 256 is not 0 to 255"),
+            ("never * * heard 3 *", "heard: 3 is not 0"),
+            ("never * 0 sent {41,aa}", "sent: aa is not 2 upper-case"),
+            ("never * * stop * {reserved,nothing} *", "stop: nothing cannot stand there"),
+            ("never * * enter 0046 *", "enter: 0046 is not 0002 to 0044"),
+            ("never * * instr 006E sbis 0x0b, *", "instr: 0x0b, cannot stand there"),
+            ("never * * instr 006E sbis", "instr: 4 parts stand behind the kind, and not 2"),
+            ("never * * instr 006e *", "instr: 006e is not 4 upper-case"),
+            ("never * * stop * reserved", "stop: 3 parts"),
+            ("never * * stop 0102 .word 0xFFFF", "stop: .word cannot stand there"),
+            ("never * * end * dead", "end: dead cannot stand there"),
+            ("never * * {sent,heard} 41", "heard"),
+            ("nevr * * stop *", "no statement is called nevr"),
+            ("count >= 0: * * sent *", ">= 0 holds of each count"),
+            ("count < 0: * * sent *", "< 0 holds of no count"),
+            ("text 1 lines >= 0", ">= 0 holds of each count"),
+            ("text 64 'a'", "nodes are 0 to 63"),
+            ("text 1 matches 'a*'", "matches nothing at all"),
+            ("text 1 matches '('", "no regular expression"),
+            ("within 5..1: never * * sent *", "5..1 has no number in it"),
+            ("only 0\ncount == 1: * 1 sent *", "node 1 is none of those of `only`"),
+            ("only sent\nnever * * stop *", "rows stop are none of those of `only`"),
+            ("only 0\nonly 1", "a second `only`"),
+        ):
+            with self.subTest(line), scratch("case.expect", f"{line}\n") as path:
+                with self.assertRaises(BadInput) as refusal:
+                    expectations.read_case(path)
+                self.assertIn(why, str(refusal.exception))
+
+    def test_what_this_trace_cannot_meet(self):
+        for line, why in (
+            ("never * 2 sent *", "line 1: the trace has no node 2, but nodes 0 to 1"),
+            ("never * {0,2} sent *", "the trace has no node 2"),
+            ("only 0-2\ncount == 1: * 0 sent *", "`only` names node 2, and the trace has 2 nodes"),
+            ("text 2 'a'", "the trace has no node 2"),
+            ("never 99.. * sent *", "the trace ends in cycle 99"),
+            ("never 100 * end *", "the trace ends in cycle 99"),
+            ("never 98 * end *", "the trace ends in cycle 99"),
+            ("within 99..200: never * * sent *", "the trace ends in cycle 99, before 99..200"),
+            ("within 99..: text 0 'a'", "the trace ends in cycle 99, before 99.."),
+        ):
+            with self.subTest(line), self.assertRaises(BadInput) as refusal:
+                outcome(line)
+            self.assertIn(why, str(refusal.exception))
+        for line in ("never 98 * sent *", "never * 0..9 sent 41", "within 99..: count == 2: * * end *", "99 1 end *"):
+            self.assertIsNone(outcome(line).failure)
 
     def test_nothing_expected(self):
         with scratch("case.expect", "run a.toml\n# only this\n") as path, self.assertRaisesRegex(
@@ -263,18 +377,18 @@ class Command(unittest.TestCase):
             with scratch("avrora", late) as avrora, scratch("a.expect", f"run net\n{case_text}") as case:
                 os.chmod(avrora, 0o755)
                 status, out, _ = run_tool("expect", "--save", "--avrora", avrora, case)
-                self.assertEqual(status, 1)
+                self.assertEqual(status, 3)
                 self.assertIn("avrora run net: status 6: avrora: out of memory", out)
                 self.assertEqual(os.listdir(os.path.dirname(case)), ["a.expect"])
 
     def test_a_run_that_goes_on(self):
-        """Where a row fails at once, the run is ended."""
+        """It is ended where it takes too long, which is no answer of the check."""
         endless = f"#!/bin/sh\nhead -n 100 {DATA}/relay.trace\nexec sleep 1000\n"
         with scratch("avrora", endless) as avrora, scratch("a.expect", "run net\nnever * * enter *\n") as case:
             os.chmod(avrora, 0o755)
-            status, out, _ = run_tool("expect", "--avrora", avrora, case)
-        self.assertEqual(status, 1)
-        self.assertIn("> 3136 0 enter 001E 0104", out)
+            status, out, _ = run_tool("expect", "--timeout", "1", "--avrora", avrora, case)
+        self.assertEqual(status, 3)
+        self.assertIn("avrora run net: it took more than 1 seconds", out)
 
     def test_what_is_no_trace(self):
         with scratch("a.expect", "text 4 'relay'\n") as case:
@@ -294,13 +408,21 @@ class Command(unittest.TestCase):
     def test_no_simulator(self):
         with scratch("a.expect", "run a.toml\n* * sent *\n") as case:
             status, out, _ = run_tool("expect", "--avrora", "/nowhere/avrora", case)
-        self.assertEqual(status, 2)
+        self.assertEqual(status, 3)
         self.assertIn("cannot run /nowhere/avrora: No such file or directory", out)
 
     def test_cases_of_the_examples(self):
         for name in ("relay", "flood"):
             status, out, _ = run_tool("expect", "--trace", f"{DATA}/{name}.trace", f"{TOP}/examples/{name}.expect")
             self.assertEqual((status, out.splitlines()[2][:4]), (0, "ok 1"))
+
+    def test_jobs(self):
+        """The reports come in the order of the cases."""
+        with scratch("a.expect", "text 4 'relay'\n") as good, scratch("b.expect", "text 4 'yes'\n") as bad:
+            status, out, _ = run_tool("expect", "--jobs", "4", "--trace", f"{DATA}/relay.trace", *[bad, good] * 4)
+        self.assertEqual(status, 1)
+        told = [line.split(" - ")[0] for line in out.splitlines() if "ok " in line]
+        self.assertEqual(told, [f"{'not ok' if number % 2 else 'ok'} {number}" for number in range(1, 9)])
 
     @needs_module("junit_xml", "python3-junit.xml")
     def test_junit(self):
@@ -309,9 +431,15 @@ class Command(unittest.TestCase):
         with scratch("a.expect", "text 4 'relay'\n") as good, scratch("b.expect", "text 4 '<&>'\n") as bad, scratch(
             "out.xml"
         ) as report:
-            run_tool("expect", "--trace", f"{DATA}/relay.trace", "--junit", report, good, bad)
+            odd = f"{os.path.dirname(bad)}/odd.expect"
+            with open(odd, "w", encoding="utf-8") as file:
+                file.write("text 9 'a'\n")
+            status, _, _ = run_tool("expect", "--trace", f"{DATA}/relay.trace", "--junit", report, good, bad, odd)
+            self.assertEqual(status, 2)
             suite = tree.parse(report).getroot().find("testsuite")
-            self.assertEqual((suite.get("tests"), suite.get("failures")), ("2", "1"))
+            self.assertEqual((suite.get("tests"), suite.get("failures"), suite.get("errors")), ("3", "1", "1"))
+            (error,) = suite.iter("error")
+            self.assertIn("the trace has no node 9", error.get("message"))
             (failed,) = suite.iter("failure")
             self.assertIn("did not write", failed.get("message"))
             self.assertIn("- '<&>'", failed.text)

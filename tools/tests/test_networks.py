@@ -126,9 +126,9 @@ class Texts(unittest.TestCase):
         for words, why in (
             (["cube", "a"], "cube is no shape"),
             (["line", "a", "--open", "0-1"], "no FROM-TO"),
-            (["line", "a*70"], "TooManyNodes"),
+            (["line", "a*70"], "more than 64 nodes"),
             (["line", "*3"], "*3 is no IMAGE"),
-            (["line", "a", "--link-latency", "9..3"], "the lower number"),
+            (["line", "a", "--link-latency", "9..3"], "the lower one comes first"),
         ):
             status, out, err = run_tool("mknet", *words)
             self.assertEqual((status, out), (2, ""))
@@ -147,7 +147,7 @@ sys.exit(6)
 RESUMER = f"""#!{sys.executable}
 import sys
 sys.stderr.write(sys.argv[1] + " " + sys.argv[3] + "\\n" + open(sys.argv[2]).read())
-sys.stdout.write("1048577 0 sent 41\\n")
+sys.stdout.write("1048577 0 sent 41\\n1048582 0 end 1 running\\n")
 """
 
 
@@ -156,7 +156,9 @@ class Window(unittest.TestCase):
         with scratch("avrora", SIMULATOR) as avrora:
             os.chmod(avrora, 0o755)
             status, out, err = run_tool("window", "--avrora", avrora, "--plain", f"{DATA}/relay.toml", "9_000", "9_500")
-        self.assertEqual(status, 6)
+        self.assertEqual(status, 3)
+        err, _, last = err.rstrip("\n").rpartition("\n")
+        self.assertEqual(last, "avrora-tools window: the simulator ended with status 6")
         self.assertEqual(out, data("relay.trace")[data("relay.trace").index("9367 0 heard") :])
         folder, words, text = err.split("\n", 2)
         self.assertEqual((folder, words), (DATA, "run --plain"))
@@ -186,7 +188,7 @@ class Window(unittest.TestCase):
             os.chmod(avrora, 0o755)
             words = ["window", "--avrora", avrora, "--state", saved, net]
             status, out, err = run_tool(*words, "1_048_576", "1_048_582")
-            self.assertEqual((status, out), (0, "1048577 0 sent 41\n"))
+            self.assertEqual((status, out), (0, "1048577 0 sent 41\n1048582 0 end 1 running\n"))
             said, text = err.split("\n", 1)
             self.assertEqual(said, f"resume {saved}")
             whole = tomllib.loads(scenario)
@@ -199,8 +201,8 @@ class Window(unittest.TestCase):
         with scratch("avrora", "#!/bin/sh\necho hello\n") as avrora:
             os.chmod(avrora, 0o755)
             status, out, err = run_tool("window", "--avrora", avrora, f"{DATA}/relay.toml", "5", "6")
-        self.assertEqual((status, out, err), (2, "", "avrora-tools window: what the simulator wrote is no trace: hello\n"))
+        self.assertEqual((status, out, err), (3, "", "avrora-tools window: what the simulator wrote, line 1: no row of a trace: hello\n"))
 
     def test_no_simulator(self):
         status, _, err = run_tool("window", "--avrora", "/nowhere", f"{DATA}/relay.toml", "5", "6")
-        self.assertEqual((status, err), (2, "avrora-tools window: cannot run /nowhere: No such file or directory\n"))
+        self.assertEqual((status, err), (3, "avrora-tools window: cannot run /nowhere: No such file or directory\n"))

@@ -2,12 +2,15 @@
 import contextlib
 import json
 import os
+import random
 import re
 import subprocess
 import tempfile
 import unittest
+import unittest.mock
 import xml.etree.ElementTree as tree
 
+from avrora_tools.commands import timeline
 from support import DATA, LONG, data, needs_program, run_tool, scratch
 
 BROWSER = 60  # seconds for chromium, which does not end on each machine
@@ -48,7 +51,7 @@ class Page(unittest.TestCase):
         )
         self.assertEqual(cycles(node["serial"], 2), [17224, 26440, 34120, 41800, 49480])
         self.assertEqual(
-            (len(node["quiet"]), node["clash"], node["enter"], node["state"]), (24, [], [3136, 0x1E], "asleep")
+            (sum(node["quiet"][1::2]), node["clash"], node["enter"], node["state"]), (24, [], [3136, 0x1E], "asleep")
         )
 
     def test_clashes_of_flood(self):
@@ -80,7 +83,7 @@ class Page(unittest.TestCase):
 
     def test_window_of_a_part(self):
         """A trace that ends before the scenario's limit of 90,000 has a window of its own."""
-        trace = "3140 0 instr 0010 sleep\n3150 0 end 10 asleep\n"
+        trace = "3140 0 instr 0010 sleep\n" + "".join(f"3150 {node} end 10 asleep\n" for node in range(5))
         page = run_tool("timeline", "-s", f"{DATA}/relay.toml", stdin=trace)[1]
         drawn = data_of(page)
         self.assertEqual((drawn["window"], drawn["nodes"][0]["asleep"]), ([3_140, 3_150], [3_141, 9]))
@@ -88,15 +91,15 @@ class Page(unittest.TestCase):
     def test_sleep_and_stop(self):
         trace = (
             "10 0 instr 0010 sleep\n30 0 enter 001E 0011\n38 0 instr 001E nop\n39 0 instr 001F sleep\n"
-            "60 0 sent 41\n70 1 stop 0098 .word 0xFFFF\n"
+            "60 0 sent 41\n70 1 stop 0098 reserved opcode\n90 0 end 3 asleep\n90 1 end 0 stopped\n"
         )
         status, out, _ = run_tool("timeline", stdin=trace)
         node, other = data_of(out)["nodes"]
-        self.assertEqual((status, node["asleep"], other["stop"]), (0, [11, 19], [70, "0098 .word 0xFFFF"]))
+        self.assertEqual((status, node["asleep"], other["stop"]), (0, [11, 19], [70, "0098 reserved opcode"]))
 
     def test_names_do_not_end_the_script(self):
         with scratch("net.toml", 'cycles = 9\n[[node]]\nimage = "</script>.hex"\n') as scenario:
-            page = run_tool("timeline", "-s", scenario, stdin="5 0 sent 41\n")[1]
+            page = run_tool("timeline", "-s", scenario, stdin="5 0 sent 41\n9 0 end 1 running\n")[1]
         self.assertEqual(page.count("</script>"), 1)
 
     def test_large(self):
@@ -108,9 +111,46 @@ class Page(unittest.TestCase):
                 for node in range(64)
             ]
         self.assertEqual(len(rows) // 1000, 100)
+        rows += [f"1600000 {node} end 1 running\n" for node in range(64)]
         status, out, err = run_tool("timeline", stdin="".join(rows))
         self.assertEqual((status, err), (0, ""))
         self.assertLess(len(out), 3_000_000)
+
+    def test_thinned(self):
+        """What is too much for a page is thinned, and the page says so; clashes and stops are not."""
+        draw = random.Random(1)
+        cycles_ = sorted(draw.sample(range(1_000_000), 300_000))
+        said = draw.choices(["0 00 0", "1 41 11", "2 41 0"], [45, 45, 10], k=len(cycles_))
+        rows = [f"{cycle} 0 heard {what}\n" for cycle, what in zip(cycles_, said)]
+        trace = "".join(rows) + "1000000 0 end 1 running\n"
+        with unittest.mock.patch.object(timeline, "LARGEST_PAGE", 1_500_000):
+            status, out, err = run_tool("timeline", stdin=trace)
+        self.assertEqual(status, 0)
+        self.assertLess(len(out), 1_500_000)
+        drawn = data_of(out)
+        self.assertRegex(drawn["thinned"], "^thinned to one in [0-9,]+ cycles: samples of nothing, interrupts, sleep, heard")
+        self.assertEqual(err, f"avrora-tools timeline: {drawn['thinned']}; --from, --to and --nodes draw less, and all of it\n")
+        clashes = [int(row.split()[0]) for row in rows if " heard 2 " in row]
+        self.assertEqual(cycles(drawn["nodes"][0]["clash"], 3), clashes)
+        self.assertGreater(len(drawn["nodes"][0]["heard"]), 4 * 500)  # what a pixel can show is there
+        status, out, err = run_tool("timeline", "--from", "0", "--to", "10000", stdin=trace)
+        self.assertEqual((status, err, data_of(out)["thinned"]), (0, "", ""))
+
+    def test_another_scenario(self):
+        """What was heard is not what the sends give by it."""
+        with scratch("net.toml", data("flood.toml").replace("from = 1\n", "from = 15\n", 1)) as scenario:
+            for name in ("timeline", "vcd"):
+                status, out, err = run_tool(name, "-s", scenario, f"{DATA}/flood.trace")
+                self.assertEqual((status, "not the trace of this scenario: in cycle" in err), (2, True), err)
+        for name in ("timeline", "vcd"):
+            status, _, err = run_tool(name, "-s", f"{DATA}/relay.toml", f"{DATA}/flood.trace")
+            self.assertEqual((status, "not its trace" in err), (2, True), err)
+
+    def test_a_head(self):
+        rows = "5 0 sent 41\n500 1 serial 41\n"
+        self.assertEqual(run_tool("timeline", stdin=rows)[0], 2)
+        status, out, err = run_tool("timeline", "--head", "2", stdin=rows)
+        self.assertEqual((status, err, data_of(out)["end"]), (0, "", 524_288))
 
     def test_no_rows_of_the_nodes(self):
         status, _, err = run_tool("timeline", "-n", "9", f"{DATA}/relay.trace")
@@ -190,6 +230,7 @@ class Picture(unittest.TestCase):
 
     def test_many_events(self):
         rows = "".join(f"{cycle} {cycle % 3} sent 41\n" for cycle in range(0, 3_000_000, 100))
+        rows += "".join(f"3000000 {node} end 1 running\n" for node in range(3))
         status, out, _ = run_tool("timeline", "--svg", stdin=rows)
         self.assertEqual(status, 0)
         self.assertLess(len(out), 200_000)
@@ -219,7 +260,7 @@ def changes(dump):
 class Waves(unittest.TestCase):
     TRACE = (
         "10 0 instr 0010 sleep\n30 0 enter 001E 0011\n38 0 instr 001E nop\n40 0 sent 41\n45 1 heard 2 0F 0\n"
-        "50 1 serial 61\n60 1 heard 1 41 3\n70 1 stop 0098 .word 0xFFFF\n"
+        "50 1 serial 61\n60 1 heard 1 41 3\n70 1 stop 0098 reserved opcode\n90 0 end 3 running\n90 1 end 0 stopped\n"
     )
 
     # By hand, with a byte time of 25.
@@ -247,7 +288,7 @@ class Waves(unittest.TestCase):
         (60, "node1.clash", "0"),
         (60, "node1.sample", "1"),
         (65, "node0.sent", "0"),
-        (70, "node1.instr", "stop_.word_0xFFFF"),
+        (70, "node1.instr", "stop_reserved_opcode"),
         (70, "node1.stopped", "1"),
     ]
 

@@ -303,4 +303,4 @@ class Files(unittest.TestCase):
 
     def test_rows_as_words(self):
         row = next(traces.rows(f"{DATA}/relay.trace"))
-        self.assertEqual((row.node, row.kind), (0, "instr"))
+        self.assertEqual(row, (3136, 0, "enter", "001E 0104"))

@@ -3,6 +3,7 @@ import argparse
 import collections
 import concurrent.futures
 import contextlib
+import errno
 import fcntl
 import hashlib
 import json
@@ -13,8 +14,8 @@ import sys
 import time
 import uuid
 
-from avrora_tools import campaigns, cli, files, pools, runs, scenarios, terminal, traces
-from avrora_tools.errors import BadInput
+from avrora_tools import campaigns, checkers, cli, files, pools, runs, scenarios, terminal
+from avrora_tools.errors import BadInput, CannotWork, Status, ToolError
 
 SUMMARY = "hundreds of runs, and what came of them"
 
@@ -32,7 +33,8 @@ Each result is written once it is there, so a campaign that was cut goes on wher
 run that came to no answer (its worker died, it took too long, it crashed) is run again, `attempts` times in
 all. The table goes to the standard output; summary.txt, summary.jsonl and junit.xml, and the scenarios of runs
 that are not passed, to the folder NAME.results.
-Status 0: all runs are passed; 1: one is not; 2: FILE is no campaign, or nothing runs it."""
+Status 0: all runs are passed; 1: one is failed or refused; 2: FILE is no campaign; 3: none is failed, and one came to
+no answer, or nothing runs them."""
 
 # Answers of the simulator, which is deterministic: to run again would give the same.
 FINAL = (runs.PASSED, runs.FAILED, runs.REFUSED)
@@ -51,7 +53,7 @@ def program(path):
     if not os.path.exists(f"{top}/prove.py"):
         return content_of(path)
     if subprocess.run([sys.executable, f"{top}/prove.py", "avrora_program", f"{top}/{BUILT}"], check=False).returncode:
-        raise BadInput("the simulator could not be built; see above")
+        raise CannotWork("the simulator could not be built; see above")
     return content_of(f"{top}/{BUILT}/avrora_program")
 
 
@@ -72,9 +74,12 @@ class Results:
     def locked(self):
         with open(f"{self.folder}/.lock", "w", encoding="utf-8") as lock:
             try:
-                fcntl.flock(lock, fcntl.LOCK_EX | fcntl.LOCK_NB)
-            except OSError:
-                raise BadInput(f"another campaign is at work in {self.folder}") from None
+                # A lock of this process alone: no child has it, so it ends with this process, however that ends.
+                fcntl.lockf(lock, fcntl.LOCK_EX | fcntl.LOCK_NB)
+            except OSError as fault:
+                if fault.errno not in (errno.EACCES, errno.EAGAIN):
+                    raise
+                raise CannotWork(f"another campaign is at work in {self.folder}") from None
             yield
 
     def path(self, run, ending):
@@ -226,7 +231,8 @@ def run_all(campaign, arguments):
     """Runs what has no result yet, and tells what came of all runs."""
     simulator = program(arguments.avrora)
     identity = hashlib.sha256(simulator).hexdigest()
-    digests = {run.name: campaigns.digest(run, identity) for run in campaign.runs}
+    checker = checkers.version()
+    digests = {run.name: campaigns.digest(run, identity, checker) for run in campaign.runs}
     folder = campaign.settings["results"] or f"{campaign.name}.results"
     store = Results(arguments.results or os.path.join(campaign.folder, folder))
     with store.locked():
@@ -242,7 +248,15 @@ def run_all(campaign, arguments):
         if len(results) < len(campaign.runs):
             run_wanted(campaign, arguments, {**campaign.files, runs.PROGRAM: simulator}, results, save)
         summarise(campaign, store.folder, [(run, results[run.name]) for run in campaign.runs])
-    return 0 if all(result["outcome"] == runs.PASSED for result in results.values()) else 1
+    return status_of({result["outcome"] for result in results.values()})
+
+
+def status_of(outcomes):
+    """The status of a campaign by the outcomes of its runs: a check that is not met is told before a run that came to no
+    answer, which says nothing of the firmware."""
+    if outcomes & {runs.FAILED, runs.REFUSED}:
+        return Status.NOT_MET
+    return Status.CANNOT_WORK if runs.BROKEN in outcomes else Status.GOOD
 
 
 def run_wanted(campaign, arguments, files, results, save):
@@ -264,7 +278,7 @@ def run_wanted(campaign, arguments, files, results, save):
 
     try:
         drive(pool, wanted, settings["attempts"], progress, job_of, save)
-    except (KeyboardInterrupt, BadInput):
+    except (KeyboardInterrupt, ToolError):
         progress.end()
         terminal.warn(f"cut, with {len(results)} of {len(campaign.runs)} results; the same command goes on from there")
         raise

@@ -17,7 +17,7 @@ push-requires-clause-after c =
     let x : Send = slice_index_or xs i no_send in
     let within : i < length xs = c.loop-send-test.true in
     let there : length olds + i < length (olds ++ xs) = omega (arith, length-append olds xs, within) in
-    let at : x ≡ get_or (olds ++ xs) (length olds + i) x = sym (get_or-append-add olds xs i x ∙ get_or_default xs i no_send x within) in
+    let at : x ≡ get_or (olds ++ xs) (length olds + i) x = get_or_default xs i no_send x within ∙ sym (get_or-append-add olds xs i x) in
     let front : c.loop-send.log.sends ≡ take (length olds + i) (olds ++ xs) = ap (λ (l : LogFacts). l.sends) c.loop-send.invariant ∙ sym (take-append-add olds xs i) in
     subst (λ (l : List Send). All (λ y. y.cycle < x.cycle) (sends_of x.node l)) (sym front)
     (may_push (olds ++ xs) (length olds + i) x c.requires.rises there at)

@@ -1,0 +1,144 @@
+"""campaign: ended in each way, and what keeps a result of before."""
+import os
+import signal
+import subprocess
+import sys
+import tempfile
+import unittest
+from pathlib import Path
+
+from campaign_runs import CAMPAIGN, folder, hidden_dask, let_go, run_campaign, starts
+from support import LONG, TOOL, TOOLS, wait_for
+from avrora_tools import campaigns, checkers
+from avrora_tools.commands import campaign
+from avrora_tools.errors import CannotWork
+
+HELD = CAMPAIGN.replace("[1, 3, 4, 20, 30]", "[20, 30, 40, 50]")
+
+
+# A campaign that holds its lock and has a child, whose number it writes.
+HOLDER = """import os, sys, time
+from avrora_tools.commands import campaign
+with campaign.Results(sys.argv[1]).locked():
+    child = os.fork()
+    if child:
+        os.write(1, f"{child}\\n".encode())
+    os.close(1)
+    time.sleep(3600)
+"""
+
+
+def is_there(process: int) -> bool:
+    """Whether a process is there and no zombie."""
+    try:
+        return Path(f"/proc/{process}/stat").read_text(encoding="utf-8").rpartition(")")[2].split()[0] != "Z"
+    except FileNotFoundError:
+        return False
+
+
+class Ended(unittest.TestCase):
+    """A campaign with a run of latency 40 and one of 50 under way is ended; the same command goes on at once."""
+
+    def ended_by(self, number: int) -> int:
+        with folder(HELD) as path:
+            env = {**os.environ, "CAMPAIGN_LOG": f"{path}/log", "CAMPAIGN_HELD": "40", **hidden_dask(path)}
+            words = [*TOOL, "campaign", "--processes", "2", "--avrora", f"{path}/avrora", f"{path}/c.toml"]
+            with subprocess.Popen(words, env=env, stdout=subprocess.DEVNULL, stderr=subprocess.DEVNULL) as process:
+                wait_for(lambda: len(list(Path(path).glob("held-*"))) == 2)
+                workers = [int(name.name.split("-")[1]) for name in Path(path).glob("held-*")]
+                process.send_signal(number)
+                if number != signal.SIGKILL:
+                    let_go(path)  # what is under way is ended with it
+                status = process.wait(LONG)
+            wait_for(lambda: not any(map(is_there, workers)))
+            let_go(path)
+            os.unlink(f"{path}/log")
+            again, _, errors, rows = run_campaign(path, "--processes", "2")
+            self.assertEqual(again, 1, errors)
+            self.assertEqual(
+                {row["parameters"]["latency"]: row["outcome"] for row in rows.values()},
+                {20: "failed", 30: "passed", 40: "passed", 50: "passed"},
+            )
+            self.assertLessEqual(set(starts(path)), {"20", "30", "40", "50"})
+            self.assertIn("are there already", errors)
+            self.assertNotIn("20", starts(path))
+            return status
+
+    def test_killed(self):
+        self.assertEqual(self.ended_by(signal.SIGKILL), -signal.SIGKILL)
+
+    def test_terminated(self):
+        self.assertEqual(self.ended_by(signal.SIGTERM), 130)
+
+    def test_interrupted(self):
+        self.assertEqual(self.ended_by(signal.SIGINT), 130)
+
+    def test_the_lock_is_of_the_client_alone(self):
+        """Killed while a child of it goes on: the next one is let in."""
+        with tempfile.TemporaryDirectory() as path:
+            holder = [sys.executable, "-B", "-c", HOLDER, path]
+            with subprocess.Popen(holder, stdout=subprocess.PIPE, text=True, env={"PYTHONPATH": TOOLS}) as process:
+                child = int(process.stdout.readline())
+                self.addCleanup(os.kill, child, signal.SIGKILL)
+                with self.assertRaisesRegex(CannotWork, "another campaign is at work"), campaign.Results(path).locked():
+                    pass
+                process.kill()
+            self.assertTrue(is_there(child))
+            with campaign.Results(path).locked():
+                pass
+
+
+class Kept(unittest.TestCase):
+    """A result is kept where all that decides it is the same."""
+
+    GOLDEN = CAMPAIGN.replace("[1, 3, 4, 20, 30]", "[30]")
+    CASE = "only sent\ngolden one.rows\ngolden two.rows without cycles\n"
+
+    def test_golden_traces_that_change_places(self):
+        with folder(self.GOLDEN, self.CASE) as path:
+            Path(f"{path}/one.rows").write_text("30 0 sent AA\n", encoding="utf-8")
+            Path(f"{path}/two.rows").write_text("0 sent AA\n", encoding="utf-8")
+            status, _, errors, _ = run_campaign(path)
+            self.assertEqual(status, 0, errors)
+            os.rename(f"{path}/one.rows", f"{path}/spare")
+            os.rename(f"{path}/two.rows", f"{path}/one.rows")
+            os.rename(f"{path}/spare", f"{path}/two.rows")
+            status, _, errors, rows = run_campaign(path)
+            self.assertEqual((status, rows["net latency=30"]["outcome"]), (1, "failed"), errors)
+
+    def test_cases_that_change_places(self):
+        """Each is in a role of its own, so it is run again though the files are the same."""
+        two = self.GOLDEN.replace('"net.expect"', '["net.expect", "other.expect"]')
+        with folder(two, "* 0 sent AA\n") as path:
+            Path(f"{path}/other.expect").write_text("* 1 heard *\n", encoding="utf-8")
+            run_campaign(path)
+            Path(f"{path}/c.toml").write_text(
+                two.replace('"net.expect", "other.expect"', '"other.expect", "net.expect"'), encoding="utf-8"
+            )
+            _, _, errors, _ = run_campaign(path)
+            self.assertNotIn("already", errors)
+            self.assertEqual(starts(path), ["30", "30"])
+
+    def test_another_checker(self):
+        """A package whose checker differs runs all again; one whose words differ does not."""
+        with folder(self.GOLDEN, "* 0 sent AA\n") as path:
+            run_campaign(path)
+            kept = campaigns.read(f"{path}/c.toml").runs[0]
+            self.assertNotEqual(campaigns.digest(kept, "s", "one"), campaigns.digest(kept, "s", "other"))
+        sources = checkers.sources()
+        self.assertLessEqual({"avrora_tools.runs", "avrora_tools.expectations", "avrora_tools.traces"}, set(sources))
+        self.assertNotIn("avrora_tools.commands.campaign", sources)
+        self.assertNotIn("avrora_tools.campaigns", sources)
+
+
+class Status(unittest.TestCase):
+    def status_of(self, latencies: str) -> int:
+        with folder(CAMPAIGN.replace("[1, 3, 4, 20, 30]", latencies).replace("= 2", "= 1", 1)) as path:
+            return run_campaign(path)[0]
+
+    def test_by_outcomes(self):
+        self.assertEqual(self.status_of("[30, 31]"), 0)
+        self.assertEqual(self.status_of("[20, 30]"), 1)
+        self.assertEqual(self.status_of("[1, 30]"), 1)
+        self.assertEqual(self.status_of("[4, 30]"), 3)
+        self.assertEqual(self.status_of("[4, 20, 30]"), 1)
