@@ -92,16 +92,16 @@ def picture(accounts: list[Account], seconds: float, width: int = 900) -> str:
         x = LEFT + 120 * place
         out.append(f'<rect x="{x}" y="10" width="12" height="12" fill="{colour}"/><text x="{x + 17}" y="20">{html.escape(part)}</text>')
     for k, one in enumerate(accounts):
-        x, y = float(LEFT), float(TOP + k * (BAR + GAP))
+        along, y = float(LEFT), TOP + k * (BAR + GAP)
         out.append(f'<text x="{LEFT - 8}" y="{y + BAR - 4}" text-anchor="end">node {k}</text>')
         for part, colour in PARTS.items():
             long = getattr(one, part) * scale
             title = f"node {k}, {part}: {getattr(one, part) / seconds:.4g} mA"
             out.append(
-                f'<rect x="{x:.1f}" y="{y}" width="{long:.1f}" height="{BAR}" fill="{colour}"><title>{title}</title></rect>'
+                f'<rect x="{along:.1f}" y="{y}" width="{long:.1f}" height="{BAR}" fill="{colour}"><title>{title}</title></rect>'
             )
-            x += long
-        out.append(f'<text x="{x + 6:.1f}" y="{y + BAR - 4}">{between(one.least / seconds, one.most / seconds, ".3f")} mA</text>')
+            along += long
+        out.append(f'<text x="{along + 6:.1f}" y="{y + BAR - 4}">{between(one.least / seconds, one.most / seconds, ".3f")} mA</text>')
     return "\n".join(out) + "\n</svg>\n"
 
 
