@@ -1,7 +1,8 @@
 #!/usr/bin/env python3
-"""Checks what can rot in the documents: sizes, links, names in backquotes, and command lines with what they print.
+"""Checks what can rot in the documents: sizes, links, names in backquotes, maps of the code and of the stored cases, and command
+lines with what they print.
 
-    scripts/check_docs.py                  sizes, links and names; it needs nothing but the repository
+    scripts/check_docs.py                  sizes, links, names and maps; it needs nothing but the repository
     scripts/check_docs.py --run [PROGRAM]  also runs the commands, with PROGRAM or the one that `./avrora` built
     scripts/check_docs.py --counts         first puts the counts of stored cases right
 
@@ -23,6 +24,8 @@ import sys
 import tempfile
 from pathlib import Path
 
+from doc_maps import wrong_maps
+
 TOP = Path(__file__).resolve().parent.parent
 
 # How many bytes the reader of a document has time for.
@@ -34,6 +37,7 @@ MOST_BYTES = {
     "docs/PROVING.md": 27000,
     "docs/DECISIONS.md": 22000,
     "docs/ARCHITECTURE.md": 13000,
+    "docs/CASES.md": 7000,
 }
 
 # The documents whose commands are run.
@@ -314,6 +318,7 @@ def main():
     texts = documents()
     wrong = [it for path, text in texts.items() for check in (sizes, links, names, counts) for it in check(path, text)]
     wrong += crates(texts)
+    wrong += wrong_maps(TOP, tracked())
     if program:
         shell = Here(os.path.abspath(program))
         wrong += [it for path in WITH_COMMANDS if path in texts for it in run_commands(path, texts[path], shell)]

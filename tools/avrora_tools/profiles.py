@@ -4,10 +4,11 @@ import collections
 import itertools
 import math
 import re
+from collections.abc import Iterable, Iterator
 from dataclasses import dataclass, field
 from typing import NamedTuple
 
-from avrora_tools import monitor_reports, programs
+from avrora_tools import files, programs
 from avrora_tools.errors import BadInput
 from avrora_tools.events import Enter, Event, Instr, Sent, Stop
 from avrora_tools.instructions import CALLS, SLEEP
@@ -184,27 +185,98 @@ def read_trace(
     return reader
 
 
-def read_monitor(text: str, name: str, scenario: Scenario) -> dict[int, Spent]:
-    """What each node of a scenario spent by what `avrora monitor` wrote."""
-    nodes = monitor_reports.parse(text, name)
-    first, end = scenario.window
-    if len(nodes) != len(scenario.images):
-        raise BadInput(f"{name}: {len(nodes)} nodes, and the scenario has {len(scenario.images)}: cut off, or not of it")
-    if nodes[0].cycles != end - first:
-        raise BadInput(f"{name}: a window of {nodes[0].cycles:,} cycles, and the scenario's has {end - first:,}: not of it")
-    if first == end:
-        raise BadInput(NOTHING_TRACED)
-    return {number: spent_of(node) for number, node in enumerate(nodes)}
+# The lines of a node in a monitor's output, in their order; of `at` and `vector` there are any number.
+LINES = ("lead", "at", "vector", "asleep", "stopped", "charge")
+NUMBER = "(0|[1-9][0-9]{0,12})"
+MONITOR = re.compile(
+    f"([0-9]|[1-5][0-9]|6[0-3]) (?:(lead|asleep|stopped|charge) {NUMBER}|(at|vector) ([0-9A-F]{{4}}) {NUMBER} {NUMBER})"
+)
+LONGEST_LINE = 80
 
 
-def spent_of(node: monitor_reports.NodeReport) -> Spent:
-    spent = Spent(node.lead, node.asleep, node.stopped)
-    for shares, found in ((spent.at, node.instructions), (spent.vector, node.vectors)):
-        shares.update((word, Share(share.count, share.cycles)) for word, share in found.items())
-    spent.charge = BUSY_CHARGE * spent.busy() + ASLEEP_CHARGE * spent.asleep + SEND_CHARGE * node.sent
-    return spent
+class MonitorReader:
+    """Reads what `avrora monitor` wrote: of each node of a scenario, in their order, all its lines."""
+
+    def __init__(self, name: str, scenario: Scenario) -> None:
+        self.name, self.scenario = name, scenario
+        self.spent: list[Spent] = []
+        self.line = LINES.index("charge")  # the kind of the last line
+        self.word = -1  # of the last line
+
+    def read(self, lines: Iterable[str]) -> dict[int, Spent]:
+        number = 0
+        for number, line in enumerate(lines, 1):
+            match = MONITOR.fullmatch(line)
+            if not match or not self.follows(match):
+                raise BadInput(f"{self.name}, line {number}: no line of a monitor here: {files.printable(line[:60])}")
+        self.finish(number)
+        return dict(enumerate(self.spent))
+
+    def follows(self, match: re.Match[str]) -> bool:
+        """Takes a line in; whether it may stand here."""
+        name = match[2] or match[4]
+        kind, node = LINES.index(name), int(match[1])
+        if name == "lead":
+            if self.line != LINES.index("charge") or node != len(self.spent):
+                return False
+            self.spent.append(Spent())
+        elif node != len(self.spent) - 1:
+            return False
+        word = int(match[5], 16) if match[5] else -1
+        if not self.may_come(name, kind, word):
+            return False
+        self.line, self.word = kind, word
+        spent = self.spent[-1]
+        if match[2]:
+            setattr(spent, name, int(match[3]))
+        else:
+            share = Share(int(match[6]), int(match[7]))
+            (spent.at if name == "at" else spent.vector)[word] = share
+            return 1 <= share.count <= share.cycles
+        return True
+
+    def may_come(self, name: str, kind: int, word: int) -> bool:
+        """Whether a line of the kind may follow the last one."""
+        if name == "lead":
+            return True
+        if kind == self.line:
+            return name in ("at", "vector") and word > self.word
+        if name in ("stopped", "charge"):
+            return kind == self.line + 1
+        return LINES.index("lead") <= self.line < kind
+
+    def finish(self, lines: int) -> None:
+        if lines == 0:
+            raise BadInput(f"{self.name}: nothing of a monitor")
+        count = len(self.scenario.images)
+        if self.line != LINES.index("charge") or len(self.spent) != count:
+            raise BadInput(f"{self.name}: it ends with node {len(self.spent) - 1}, and the scenario has {count} nodes")
+        first, end = self.scenario.window
+        for node, spent in enumerate(self.spent):
+            rest = spent.charge - BUSY_CHARGE * spent.busy() - ASLEEP_CHARGE * spent.asleep
+            if spent.total() != end - first or rest < 0 or rest % SEND_CHARGE:
+                raise BadInput(
+                    f"{self.name}: the lines of node {node} do not add up to the {end - first:,} cycles of the scenario's "
+                    "window and to their charge"
+                )
+        if first == end:
+            raise BadInput(NOTHING_TRACED)
+
+
+def text_lines(blocks: Iterable[bytes], name: str) -> Iterator[str]:
+    """The lines of a text. Raises BadInput where the last one has no end, or one is longer than any of a monitor."""
+    rest = b""
+    for block in blocks:
+        *lines, rest = (rest + block).split(b"\n")
+        for line in lines:
+            yield line.decode("ascii", "replace")
+        if len(rest) > LONGEST_LINE:
+            raise BadInput(f"{name}: no line of a monitor: {files.printable(rest[:60].decode('ascii', 'replace'))}")
+    if rest:
+        raise BadInput(f"{name}: cut off in its last line")
 
 
 def is_monitor(beginning: bytes) -> bool:
     """Whether a text begins as what a monitor writes."""
     return bool(re.match(rb"\d+ lead ", beginning))
+

@@ -325,22 +325,23 @@ class Profile(unittest.TestCase):
             self.assertEqual(self.profile(*words, trace=self.MONITOR), self.profile("--window", "1100..1140"))
             lines = self.MONITOR.splitlines(keepends=True)
             for count in range(1, len(lines)):  # the first lines alone
-                self.refused("no report of `avrora monitor`", *words, trace="".join(lines[:count]))
+                self.refused("it ends with node 0, and the scenario has 1 nodes", *words, trace="".join(lines[:count]))
             self.refused("cut off in its last line", *words, trace=self.MONITOR[:-1])
             for line in ("0 at 0010 1\n", "0 lid 10\n", "64 lead 1\n", "0 lead 10\n", "2 lead 10\n", "0 charge 625\n"):
-                self.refused("standard input, line 9: no report", *words, trace=self.MONITOR + line)
-            for old, new in (
-                ("0 at 0011 1 1\n", "0 at 000F 1 1\n"),  # no rising order
-                ("0 at 0011 1 1\n", "0 at 0010 1 1\n"),
-                ("0 asleep 9\n", ""),
-                ("0 asleep 9\n", "0 asleep 09\n"),
-                ("0 vector 001E 1 8\n0 asleep 9\n", "0 asleep 9\n0 vector 001E 1 8\n"),
-                ("0 charge 625\n", "0 charge 626\n"),
+                self.refused("standard input, line 9: no line of a monitor here", *words, trace=self.MONITOR + line)
+            for old, new, why in (
+                ("0 at 0011 1 1\n", "0 at 000F 1 1\n", "line 3: no line"),  # no rising order
+                ("0 at 0011 1 1\n", "0 at 0010 1 1\n", "line 3: no line"),
+                ("0 at 0011 1 1\n", "0 at 0011 2 1\n", "line 3: no line"),  # an instruction takes a cycle
+                ("0 at 0011 1 1\n", "0 at 0011 0 0\n", "line 3: no line"),
+                ("0 asleep 9\n", "", "line 6: no line"),
+                ("0 asleep 9\n", "0 asleep 09\n", "line 6: no line"),
+                ("0 vector 001E 1 8\n0 asleep 9\n", "0 asleep 9\n0 vector 001E 1 8\n", "line 6: no line"),
+                ("0 lead 10\n", "0 lead 11\n", "do not add up to the 40 cycles"),
+                ("0 charge 625\n", "0 charge 626\n", "do not add up"),
             ):
-                self.refused("no report of `avrora monitor`", *words, trace=self.MONITOR.replace(old, new))
-            self.refused("a window of 41 cycles, and the scenario's has 40", *words, trace=self.MONITOR.replace("lead 10", "lead 11"))
-            two = self.MONITOR + "".join(f"1{line[1:]}" for line in lines)
-            self.refused("2 nodes, and the scenario has 1", *words, trace=two)
+                self.refused(why, *words, trace=self.MONITOR.replace(old, new))
+            self.refused("the scenario has 1 nodes", *words, trace=self.MONITOR + self.MONITOR.replace("\n0", "\n1").replace("0 lead", "1 lead", 1))
         self.refused("its scenario (-s) tells whether it is whole", trace=self.MONITOR)
 
     def test_no_instructions(self):

@@ -153,11 +153,11 @@ def read(
     name = files.shown(arguments.trace)
     blocks = traces.file_blocks(arguments.trace)
     first = next(blocks, b"")
+    blocks = itertools.chain([first], blocks)
     if profiles.is_monitor(first):
         if scenario is None:
             raise BadWords(f"{name} is what a monitor wrote: its scenario (-s) tells whether it is whole")
-        content = b"".join([first, *blocks])
-        return profiles.read_monitor(content.decode("ascii", "replace"), name, scenario), None
-    trace = traces.Trace(itertools.chain([first], blocks), name, traces.form_of(arguments), scenario=scenario, epochs=arguments.head)
+        return profiles.MonitorReader(name, scenario).read(profiles.text_lines(blocks, name)), None
+    trace = traces.Trace(blocks, name, traces.form_of(arguments), scenario=scenario, epochs=arguments.head)
     reader = profiles.read_trace(trace, arguments.window, scenario, all_programs)
     return reader.spent, reader.calls

@@ -1,0 +1,73 @@
+#!/usr/bin/env python3
+"""Plants a fault in a copy of what scripts/doc_maps.py reads, one after another: each is to be told, and none before.
+
+    scripts/test_doc_maps.py
+
+Exit status: 0 all are told, 1 one is not.
+"""
+import sys
+
+from check_docs import TOP, tracked
+from doc_maps import ARCHITECTURE, ARGS, CASES, CHECKS, PLACES, RUNNER, Repository
+
+# What is planted: a path, what stands there once at least, what comes in its place, and a part of what is to be told.
+FAULTS = (
+    (PLACES, '"crates/trace_writer/src/line.rt" = ', '"crates/trace_writer/src/trace.rt" = ', "crates/trace_writer/src/line.rt matches, and stands under no places"),
+    (PLACES, '"crates/node_core/src/row.rt" = ', '"crates/node_core/src/gone.rt" = ', "there is no file crates/node_core/src/gone.rt"),
+    (PLACES, "`put_serial`", "`put_cereal`", "crates/node_core/src/machine.rt has no `put_cereal`"),
+    (PLACES, r"\bKind::[A-Z]|\bKind\.TheVariants", r"\bKind::[a-z]", "nothing matches"),
+    (PLACES, '"examples/*.h"', '"examples/*.hpp"', "there is no file examples/*.hpp"),
+    (PLACES, '"tools/tests/*" = ', '"tools/trials/*" = ', "is excepted, and nothing there matches"),
+    (PLACES, 'change = "a stop cause"', 'change = "the cause of a stop"', 'no row of the changes is "the cause of a stop"'),
+    (PLACES, "[clash", "[crash", "there is no list [clash]"),
+    (ARCHITECTURE, "*all row*", "all its places", 'no row of the changes is "a row of the trace"'),
+    (ARCHITECTURE, "`EPOCH` of `world_core/src/kept.rt`", "`EPOCHS` of `world_core/src/kept.rt`", "has no EPOCHS"),
+    (ARCHITECTURE, "`serial_ports/specs/Radio` |", "`serial_ports/specs/Wireless` |", "there is no serial_ports/specs/Wireless"),
+    (ARCHITECTURE, "`board_io/specs/Table`, `Registers` |", "`board_io/specs/Table`, `Register` |", "board_io defines no Register"),
+    (ARCHITECTURE, "`needed_law` says", "`needless_law` says", "no crate that it names has needless_law"),
+    (ARCHITECTURE, "`prescaler.rt`", "`line.rt`", "no crate that it names has line.rt"),
+    (ARCHITECTURE, "| To change |", "| To alter |", "it has no table of changes"),
+    (ARCHITECTURE, "` of `", "`, which is in `", "it names only"),
+    (CASES, "`timer8.txt`", "`timer9.txt`", "the stored run has no devices=timer9.txt"),
+    (CASES, "`selects.txt`, ", "", "no crate has devices=selects.txt"),
+    (CASES, "| `sniffs=`; ", "| `devices=`; ", "device_facts does not stand on air_sniffer"),
+    (CASES, "| `trace_writer` |", "| `trace_reader` |", "trace_writer has 0 rows"),
+    (CASES, "`saved=` | `state_facts`", "`saved=` | `run_facts`", "saved= is run by state_facts"),
+    (ARGS, "streams=streams.txt\n", "", "the stored run has no word streams="),
+    (ARGS, "refused\n", "refused\nrumours=heard.txt\n", "the table of words lacks rumours="),
+    (RUNNER, '"air" => air_facts::', '"air" => record_facts::', "air= is run by record_facts"),
+    ("crates.txt", "\nfleet_plain:", "\nfleet_simple:", "fleet_simple has 0 rows"),
+)
+
+
+def told(repo):
+    return (it for check in CHECKS for it in check(repo))
+
+
+def with_fault(whole, path, text):
+    """A repository that has another text of one file."""
+    repo = Repository(TOP, whole.paths)
+    repo.known = whole.known | {path: text}
+    return repo
+
+
+def main():
+    whole = Repository(TOP, tracked())
+    wrong = [f"with no fault: {it}" for it in told(whole)]
+    for path, old, new, part in FAULTS:
+        text = whole.text(path)
+        if old not in text:
+            wrong.append(f"{path} has no {old!r} to change")
+        elif not any(part in it for it in told(with_fault(whole, path, text.replace(old, new)))):
+            wrong.append(f"not told: {old!r} as {new!r} in {path}")
+    idle = Repository(TOP, [*tracked(), "crates/command_facts/data/nobody_names_it.hex"])
+    if not any("no case names it" in it for it in told(idle)):
+        wrong.append("not told: a file that no case names")
+    for it in wrong:
+        print(it)
+    print(f"test_doc_maps: {len(FAULTS) + 1} faults, {len(wrong)} wrong")
+    return 1 if wrong else 0
+
+
+if __name__ == "__main__":
+    sys.exit(main())
