@@ -7,7 +7,7 @@ from dataclasses import dataclass, fields
 from avrora_tools import toml
 from avrora_tools.cli import CLOCK, node_set
 from avrora_tools.errors import BadInput
-from avrora_tools.monitor_reports import NodeReport
+from avrora_tools.profiles import ASLEEP_CHARGE, BUSY_CHARGE, SEND_CHARGE, Spent
 
 SECONDS_AN_HOUR, HOURS_A_DAY = 3_600, 24
 
@@ -55,14 +55,19 @@ class Account:
         return self.least + self.unknown
 
 
-def account(node: NodeReport, currents: Currents, byte_time: int, hz: float) -> Account:
+def sent(node: Spent) -> int:
+    """How many bytes a node sent, by what its charge has beside its cycles."""
+    return (node.charge - BUSY_CHARGE * node.busy() - ASLEEP_CHARGE * node.asleep) // SEND_CHARGE
+
+
+def account(node: Spent, currents: Currents, byte_time: int, hz: float) -> Account:
     """The charge of a node. From its stop on a node draws nothing here."""
     seconds = 1 / hz
-    running = node.cycles - node.stopped
-    on_air = min(node.sent * byte_time, running)
+    running = node.total() - node.stopped
+    on_air = min(sent(node) * byte_time, running)
     lower, higher = sorted((currents.awake, currents.asleep))
     return Account(
-        node.awake * currents.awake * seconds,
+        node.busy() * currents.awake * seconds,
         (node.asleep * currents.asleep + node.lead * lower) * seconds,
         on_air * currents.sending * seconds,
         (running - on_air) * currents.listening * seconds,
@@ -70,10 +75,10 @@ def account(node: NodeReport, currents: Currents, byte_time: int, hz: float) -> 
     )
 
 
-def duty_cycle(node: NodeReport) -> tuple[float, float]:
+def duty_cycle(node: Spent) -> tuple[float, float]:
     """Which part of its time the node was awake: at least and at most."""
-    running = node.cycles - node.stopped
-    return (node.awake / running, (node.awake + node.lead) / running) if running else (0.0, 0.0)
+    running = node.total() - node.stopped
+    return (node.busy() / running, (node.busy() + node.lead) / running) if running else (0.0, 0.0)
 
 
 def whole(accounts: Sequence[Account]) -> Account:

@@ -4,9 +4,10 @@ from dataclasses import astuple
 
 import pytest
 
-from avrora_tools.budgets import Currents, account, duty_cycle, milliampere_hours, table_of, whole
+from avrora_tools.budgets import Currents, account, duty_cycle, milliampere_hours, sent, table_of, whole
 from avrora_tools.errors import BadInput
-from avrora_tools.monitor_reports import Share, parse
+from avrora_tools.profiles import MonitorReader
+from avrora_tools.scenarios import Scenario
 from support import run_tool
 
 # 1,000 cycles: node 0 awake for 300 of them (290 by two instructions, 10 by a vector), 200 without an owner, 2 bytes sent;
@@ -33,40 +34,20 @@ listening = 10
 hz = 1_000
 """
 
-SCENARIO = 'cycles = 1_000\nbyte_time = 256\nnode = [{ image = "a.hex" }, { image = "b.hex" }]\n'
+SCENARIO = 'cycles = 1_000\nwindow = [0, 1_000]\nbyte_time = 256\nnode = [{ image = "a.hex" }, { image = "b.hex" }]\n'
 
 
-def test_a_report_is_read():
-    zero, one = parse(REPORT, "r")
-    assert (zero.lead, zero.awake, zero.asleep, zero.stopped, zero.sent, zero.cycles) == (200, 300, 500, 0, 2, 1_000)
-    assert zero.vectors == {0x18: Share(2, 10)} and zero.instructions[0x52] == Share(100, 200)
-    assert (one.awake, one.asleep, one.stopped, one.sent, one.cycles) == (1, 399, 600, 0, 1_000)
+def nodes():
+    return MonitorReader("r", Scenario.of_text(SCENARIO, "s")).read(REPORT.splitlines()).values()
 
 
-@pytest.mark.parametrize(
-    "old, new, line",
-    [
-        ("0 lead 200", "0 lead 0200", 1),
-        ("0 lead 200", "1 lead 200", 1),
-        ("0 at 0052", "0 at 0050", 3),
-        ("0 at 0052", "0 at 52", 3),
-        ("0 asleep 500\n", "", 5),
-        ("charge 3924", "charge 3925", 7),
-        ("charge 3924", "charge 2388", 7),
-        ("1 asleep 399", "1 asleep 398", 12),
-        ("1 charge 407\n", "1 charge 407", 12),
-        ("1 charge 407\n", "", 12),
-        (REPORT, "", 1),
-    ],
-)
-def test_a_damaged_report_is_refused_at_its_line(old, new, line):
-    with pytest.raises(BadInput, match=rf"^r, line {line}: no report"):
-        parse(REPORT.replace(old, new), "r")
+def test_the_bytes_that_were_sent_are_what_the_charge_has_beside_the_cycles():
+    assert [sent(node) for node in nodes()] == [2, 0]
 
 
 def test_the_account_of_a_node():
     table = table_of(CURRENTS, "c")
-    zero, one = (account(node, table.common, 256, table.hz) for node in parse(REPORT, "r"))
+    zero, one = (account(node, table.common, 256, table.hz) for node in nodes())
     # 300 ms at 8 mA; 500 asleep and 200 unknown at 2 mA at least, at 8 at most; 512 ms sending, the other 488 listening.
     assert astuple(zero) == pytest.approx((2.4, 1.4, 10.24, 4.88, 1.2))
     assert (zero.least, zero.most) == pytest.approx((18.92, 20.12))
@@ -77,7 +58,7 @@ def test_the_account_of_a_node():
 
 
 def test_the_duty_cycle_has_the_lead_as_a_span_and_no_stop():
-    zero, one = parse(REPORT, "r")
+    zero, one = nodes()
     assert duty_cycle(zero) == (0.3, 0.5)
     assert duty_cycle(one) == (0.0025, 0.0025)
 
@@ -139,7 +120,7 @@ def test_the_table_and_the_picture(inputs, tmp_path):
 def test_the_report_of_another_scenario_is_refused(inputs, tmp_path):
     (tmp_path / "s.toml").write_text(SCENARIO.replace(', { image = "b.hex" }', ""))
     status, out, err = run_tool("energy", *inputs)
-    assert (status, out) == (2, "") and "2 nodes, and the scenario 1" in err
+    assert (status, out) == (2, "") and "the scenario has 1 nodes" in err
 
 
 def test_the_report_comes_from_the_standard_input_too(inputs):

@@ -2,10 +2,10 @@
 import argparse
 import html
 
-from avrora_tools import cli, files, scenarios
-from avrora_tools.budgets import HOURS_A_DAY, Account, Table, account, duty_cycle, milliampere_hours, table_of, whole
+from avrora_tools import cli, files, profiles, scenarios, traces
+from avrora_tools.budgets import HOURS_A_DAY, Account, Table, account, duty_cycle, milliampere_hours, sent, table_of, whole
 from avrora_tools.errors import BadInput, Status
-from avrora_tools.monitor_reports import NodeReport, parse
+from avrora_tools.profiles import Spent
 from avrora_tools.terminal import warn
 
 SUMMARY = "charge and duty cycle of each node, by a table of currents"
@@ -32,39 +32,35 @@ PARTS = {"awake": "#c0392b", "asleep": "#a9b8d0", "sending": "#3b6fb6", "listeni
 def run(arguments: argparse.Namespace) -> int:
     table = table_of(files.read_text(arguments.currents), files.shown(arguments.currents))
     scenario = scenarios.Scenario.load(arguments.scenario)
-    nodes = parse(files.read_text(arguments.report), files.shown(arguments.report))
-    if len(nodes) != len(scenario.images):
-        raise BadInput(
-            f"{files.shown(arguments.report)}: it has {len(nodes)} nodes, and the scenario {len(scenario.images)}: not its report"
-        )
+    name = files.shown(arguments.report)
+    lines = profiles.text_lines(traces.file_blocks(arguments.report), name)
+    nodes = list(profiles.MonitorReader(name, scenario).read(lines).values())
     if unknown := sorted(set(table.by_node) - set(range(len(nodes)))):
         raise BadInput(f"{files.shown(arguments.currents)}: there is no node {unknown[0]}")
-    if not nodes[0].cycles:
-        raise BadInput(f"{files.shown(arguments.report)}: the window of the report has no cycles")
     accounts = [account(node, table.of(k), scenario.byte_time, table.hz) for k, node in enumerate(nodes)]
     print_table(nodes, accounts, table)
     if stopped := [k for k, node in enumerate(nodes) if node.stopped]:
         warn(f"node {stopped[0]} stopped, and draws nothing from then on")
     if arguments.svg:
-        files.write_whole(arguments.svg, picture(accounts, nodes[0].cycles / table.hz))
+        files.write_whole(arguments.svg, picture(accounts, nodes[0].total() / table.hz))
     return Status.GOOD
 
 
-def print_table(nodes: list[NodeReport], accounts: list[Account], table: Table) -> None:
-    seconds = nodes[0].cycles / table.hz
-    print(f"{nodes[0].cycles:,} cycles, {seconds:.6g} s at {table.hz:,.0f} Hz")
+def print_table(nodes: list[Spent], accounts: list[Account], table: Table) -> None:
+    seconds = nodes[0].total() / table.hz
+    print(f"{nodes[0].total():,} cycles, {seconds:.6g} s at {table.hz:,.0f} Hz")
     print(f"{'node':>7} {'awake':>15} {'sent':>7} {'mA':>15} {'mA h':>21} {'mA h a day':>15}" + " days" * bool(table.battery))
-    rows = [(str(k), duty_cycle(node), node.sent, one) for k, (node, one) in enumerate(zip(nodes, accounts))]
+    rows = [(str(k), duty_cycle(node), sent(node), one) for k, (node, one) in enumerate(zip(nodes, accounts))]
     duties = [row[1] for row in rows]
     mean = sum(low for low, _ in duties) / len(rows), sum(high for _, high in duties) / len(rows)
-    rows.append(("network", mean, sum(node.sent for node in nodes), whole(accounts)))
-    for name, duty, sent, one in rows:
+    rows.append(("network", mean, sum(map(sent, nodes)), whole(accounts)))
+    for name, duty, count, one in rows:
         least, most = one.least / seconds, one.most / seconds
         days = ""
         if table.battery and name != "network":
             days = f" {between(table.battery / (most * HOURS_A_DAY), table.battery / (least * HOURS_A_DAY), '.0f')}" if least else " -"
         print(
-            f"{name:>7} {between(100 * duty[0], 100 * duty[1], '.2f') + '%':>15} {sent:>7,} {between(least, most, '.3f'):>15} "
+            f"{name:>7} {between(100 * duty[0], 100 * duty[1], '.2f') + '%':>15} {count:>7,} {between(least, most, '.3f'):>15} "
             f"{between(milliampere_hours(one.least), milliampere_hours(one.most), '.4g'):>21} "
             f"{between(least * HOURS_A_DAY, most * HOURS_A_DAY, '.2f'):>15}{days}"
         )
