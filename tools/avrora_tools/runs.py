@@ -14,6 +14,7 @@ trace in gzip's format or None.
 """
 import collections
 import gzip
+import importlib.resources
 import io
 import os
 import shutil
@@ -21,6 +22,7 @@ import socket
 import subprocess
 import tempfile
 import time
+import zipfile
 
 import avrora_tools
 from avrora_tools import expectations
@@ -134,31 +136,62 @@ def counted(trace):
     return dict(zip(COUNTS, (found[key] for key in (b"sent", one_byte, clash, b"serial", b"stop"))))
 
 
+def package():
+    """This package as a zip from which Python imports it."""
+    archive = io.BytesIO()
+    with zipfile.ZipFile(archive, "w") as zipped:
+        for path, content in sources(importlib.resources.files(avrora_tools), avrora_tools.__name__):
+            zipped.writestr(path, content)
+    return archive.getvalue()
+
+
+def sources(folder, path):
+    """The path and the content of each module below a folder of the package."""
+    for it in folder.iterdir():
+        if it.is_dir():
+            yield from sources(it, f"{path}/{it.name}")
+        elif it.name.endswith(".py"):
+            yield f"{path}/{it.name}", it.read_bytes()
+
+
 def shipment(name, files):
     """The shipment for workers of dask, and the function that runs a job with it there.
 
-    Each worker has it unpacked before its first job, also one that joins late or is started again. All code goes there
-    by value, so a worker needs dask and nothing of this repository.
+    Each worker has it unpacked before its first job, also one that joins late or is started again. The package goes with
+    it, so a worker needs dask and nothing of this repository; what is pickled here names no module of the package.
     """
-    import cloudpickle
     from distributed import WorkerPlugin, get_worker
 
-    cloudpickle.register_pickle_by_value(avrora_tools)
+    tools = package()
 
     class Shipment(WorkerPlugin):  # a local class, which is always pickled by value
-        """Unpacks the files where the worker has its own."""
+        """Unpacks the files where the worker has its own, and the package, in place of another version of it."""
 
         def __init__(self):
             self.name = name
 
         def setup(self, worker):
+            import importlib
+            import os
+            import sys
+            import tempfile
+
             self.folder = tempfile.mkdtemp(prefix="avrora-", dir=worker.local_directory)
-            unpack(files, self.folder)
+            archive = os.path.join(self.folder, "tools.zip")
+            with open(archive, "wb") as file:
+                file.write(tools)
+            for module in [it for it in sys.modules if it.partition(".")[0] == "avrora_tools"]:
+                del sys.modules[module]
+            sys.path.insert(0, archive)
+            self.runs = importlib.import_module("avrora_tools.runs")
+            self.runs.unpack(files, self.folder)
 
         def teardown(self, worker):
+            import shutil
+
             shutil.rmtree(self.folder, ignore_errors=True)
 
         def run(self, job):
-            return run(job, self.folder)
+            return self.runs.run(job, self.folder)
 
     return Shipment(), lambda job: get_worker().plugins[name].run(job)
