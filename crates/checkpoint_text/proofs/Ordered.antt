@@ -14,7 +14,7 @@ use Rattle.world_core.specs.Sends.{sends_of}
 use Rattle.air_base.proofs.Each.{All_each, each_same}
 use Rattle.world_core.proofs.Sends.{next}
 use Rattle.world_core.proofs.Sorted.{agrees}
-use Rattle.checkpoint_text.specs.Alone.{alone, alone_rows, alone_sends}
+use Rattle.checkpoint_text.proofs.Alone.{alone, alone_rows, alone_sends}
 
 -- a send of node k in cycle t
 pub of_one : (P : Send → Type 0) (t k : ℕ) (o : Option ℕ) → ((b : ℕ) → P (record { node = k; cycle = t; byte = b })) → All P (send_of t k o)

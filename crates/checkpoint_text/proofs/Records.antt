@@ -12,7 +12,7 @@ own_case : (x y : Send) (l : List Send) (b : Bool) → (y.node == x.node) ≡ b 
 own_case x y l true e after rest = All-cons (λ (z : Send). z.cycle < x.cycle) y l (after (eqb-true y.node x.node e)) rest
 own_case x y l false e after rest = rest
 
-own_below : (x : Send) (l : List Send) → All (IsAfter x) l → All (λ z. z.cycle < x.cycle) (sends_of x.node l)
+pub own_below : (x : Send) (l : List Send) → All (IsAfter x) l → All (λ z. z.cycle < x.cycle) (sends_of x.node l)
 own_below x [] a = All-nil (λ (z : Send). z.cycle < x.cycle)
 own_below x (y ∷ ys) a = own_case x y (sends_of x.node ys) (y.node == x.node) refl (All-head (IsAfter x) y ys a) (own_below x ys (All-tail (IsAfter x) y ys a))
 
