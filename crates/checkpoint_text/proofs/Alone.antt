@@ -1,5 +1,5 @@
--- One node that runs by itself, cycle after cycle, where what it hears in each cycle is given. 
-use Rattle.std.specs.Prelude.{◌≡◌, ◌⊎◌, ℕ, zero, suc, ◌+◌, ◌-◌, ◌≤◌, ◌<◌, Bool, true, false, List, [], ◌++◌, length, slice_index_or}
+-- One node that runs by itself, cycle after cycle, where what it hears in each cycle is given.
+use Rattle.std.specs.Prelude.{◌≡◌, ℕ, zero, suc, ◌+◌, false, List, ◌++◌}
 use Rattle.air_base.specs.declared.air.Heard.{Heard}
 use Rattle.air_base.specs.declared.air.Send.{Send}
 use Rattle.air_base.specs.Each.{each_below}

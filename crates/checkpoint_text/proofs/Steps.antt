@@ -3,7 +3,7 @@ use Rattle.std.proofs.Common.{◌≡◌, ◌≢◌, ℕ, suc, ◌+◌, ◌-◌, 
 use Rattle.std.specs.Prelude.{nat_lt, None, Some}
 use Rattle.std.specs.List.{All, AllPairs, filter, sum_by}
 use Rattle.std.proofs.lemmas.List.Elements.{All-append, All-cons, All-filter, All-head, All-nil, All-push, All-tail, All-weaker}
-use Rattle.std.proofs.lemmas.List.Kept.{AllPairs-cons, AllPairs-filter}
+use Rattle.std.proofs.lemmas.List.Kept.{AllPairs-filter}
 use Rattle.std.proofs.lemmas.List.Sums.{sum_by-set}
 use Rattle.std.proofs.lemmas.Bool.{false≢true}
 use Rattle.std.proofs.lemmas.Bool.Decides.{nat_tests}
@@ -28,19 +28,9 @@ use Rattle.checkpoint_text.specs.Turns.{Answers, Grows, IsLow, Passes, Posts, Sa
 use Rattle.checkpoint_text.proofs.Alone.{GoesAlone}
 use Rattle.checkpoint_text.proofs.EachNode.{at_other, at_own}
 use Rattle.checkpoint_text.proofs.Hearing.{audible_before, heard_in}
-use Rattle.checkpoint_text.proofs.Pauses.{AtSample, Between, Flies, InFlight, Known, Went, ear, kept_split, known_cut, known_on, live_case, other_node, over_later, own_all, settled, went}
+use Rattle.checkpoint_text.proofs.Flights.{AtSample, Between, Flies, InFlight, Known, Went, ear, kept_split, known_cut, known_on, live_case, other_node, over_later, own_all, settled, went}
+use Rattle.checkpoint_text.proofs.Records.{pairs_push}
 use Rattle.checkpoint_text.proofs.Trails.{asks_alone, comes_alone, sends_alone, stands_at}
-
--- ---- a record that takes one more
-all_pairs_from : {X : Type 0} (Q : X → X → Type 0) (x : X) (xs : List X) → AllPairs Q (x ∷ xs) → All (Q x) xs × AllPairs Q xs
-all_pairs_from Q x xs h = (λ j d lt. h 0 (suc j) d (omega arith) (omega arith), λ i j d lt le. h (suc i) (suc j) d (omega arith) (omega arith))
-
-pairs_push : {X : Type 0} (Q : X → X → Type 0) (xs : List X) (y : X) → AllPairs Q xs → All (λ x. Q x y) xs → AllPairs Q (xs ++ y ∷ [])
-pairs_push Q [] y a b = λ i j d lt le. absurd (omega arith)
-pairs_push Q (x ∷ xs) y a b =
-    let h = all_pairs_from Q x xs a in
-    AllPairs-cons Q x (xs ++ y ∷ []) (All-push (Q x) xs y h.0 (All-head (λ z. Q z y) x xs b))
-    (pairs_push Q xs y h.1 (All-tail (λ z. Q z y) x xs b))
 
 -- a node at the beginning of a cycle has come there
 comes_here : {S R : Type 0} (m : NodeKind S R) (c : ℕ) (s : S) (l : List R) → Comes m (record { cycle = c; asking = false; state = s; rows = l }) c s l
@@ -62,6 +52,14 @@ bit_most false = omega arith
 off_most : (b : Bool) → cond b 0 1 ≤ 1
 off_most true = omega arith
 off_most false = omega arith
+
+bit_none : (b : Bool) → b ≡ false → cond b 1 0 ≤ 0
+bit_none true e = absurd (false≢true (sym e))
+bit_none false e = omega arith
+
+off_none : (b : Bool) → b ≡ true → cond b 0 1 ≤ 0
+off_none true e = omega arith
+off_none false e = absurd (false≢true e)
 
 -- the number that falls with each step
 abbrev pub rank : {S R : Type 0} → NodeKind S R → ℕ → Timed S R → ℕ
@@ -396,13 +394,13 @@ module _ {S R : Type 0} (m : NodeKind S R) (end : ℕ) (v w : Timed S R) (live :
   halted calm le now stop =
       let dead : is_live m end w ≡ false = (λ i. now i || (not (stop i) && nat_lt w.cycle end)) in
       let a = off_most w.asking in
-      let b : cond (is_live m end w) 1 0 ≡ 0 = ap (λ (x : Bool). cond x 1 0) dead in
+      let b = bit_none (is_live m end w) dead in
       let e = was calm in
       (le, omega arith)
 
   sampled : v.asking ≡ false → v.cycle ≤ w.cycle → w.asking ≡ true → Moves
   sampled calm le now =
-      let a : cond w.asking 0 1 ≡ 0 = ap (λ (x : Bool). cond x 0 1) now in
+      let a = off_none w.asking now in
       let b = bit_most (is_live m end w) in
       let e = was calm in
       (le, omega arith)

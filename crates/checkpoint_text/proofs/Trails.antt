@@ -91,17 +91,6 @@ module _ {S R : Type 0} (m : NodeKind S R) (h : ℕ → Heard) where
             ∙ ap (λ (l : List Send). xs ++ l) (sym (alone_sends_add k v.cycle n j v.state));
       }
 
-  pub goes_none : (k : ℕ) (v : Timed S R) (xs : List Send) → v.asking ≡ false → GoesAlone m h k v xs v xs
-  unfolding alone
-  goes_none k v xs calm = record {
-    count = 0;
-    calm = calm;
-    cycle = omega arith;
-    state = refl;
-    rows = sym (append-nil v.rows);
-    sends = sym (append-nil xs);
-  }
-
   -- it came through quiet cycles to the beginning of cycle c
   pub comes_alone : (k c : ℕ) (v w : Timed S R) (xs : List Send) → Rests m v c w → GoesAlone m h k v xs w xs
   comes_alone k c v w xs r =

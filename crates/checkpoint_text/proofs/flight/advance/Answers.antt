@@ -34,7 +34,7 @@ post-requires-clause-behind c =
       behind = All-weaker (λ (x : Send). x.node ≡ c.args.number → x.cycle < c.args.node.now.cycle) (λ (x : Send). x.node ≡ c.args.number → x.cycle < c.in-Sent.cycle) (λ x h same. let a = h same in omega arith) xs c.requires.post.behind;
     }
 
-pub returns-in-Sent : goal.returns-in-Sent
-returns-in-Sent c =
+pub returns-in_ok-post-in-Sent : goal.returns-in_ok-post-in-Sent
+returns-in_ok-post-in-Sent c =
     let r = subst (λ (r : Reached). IsReached c.args.node.now c.args.end r c.run_until.new.self) c.in-Sent.is c.run_until.ensures in
-    inr (inr (inr (record { calm = sym c.asking.ensures ∙ c.if-asking.false; cycle = c.in-Sent.cycle; byte = c.in-Sent.byte; early = r.0; sends = r.1; grows = c.in_ok-post.ensures })))
+    inr (inr (inr (record { calm = sym c.asking.ensures ∙ c.if-asking.false; cycle = c.in-Sent.cycle; byte = c.in-Sent.byte; early = r.0; sends = r.1; grows = c.in_ok-post-in-Sent.ensures })))

@@ -1,4 +1,4 @@
-use Rattle.std.proofs.Common.{◌≡◌, ℕ, ◌+◌, ◌<◌, ◌≤◌, List, true, length, set, sym, subst, arith, rules}
+use Rattle.std.proofs.Common.{◌≡◌, ℕ, ◌+◌, ◌<◌, ◌≤◌, List, [], true, false, length, set, sym, subst, arith, rules}
 use Rattle.std.specs.List.{All, sum_by}
 use Rattle.std.specs.declared.option.Option.{Option}
 use Rattle.std.proofs.lemmas.List.Elements.{All-weaker}
@@ -13,7 +13,7 @@ use Rattle.checkpoint_text.specs.Onward.{onward}
 use Rattle.checkpoint_text.specs.Paused.{CanPost}
 use Rattle.checkpoint_text.specs.Turns.{IsLow, IsTurn, Takes, is_live}
 use Rattle.checkpoint_text.specs.declared.turns.Turn.{Turn}
-use Rattle.checkpoint_text.proofs.Pauses.{land, take_off}
+use Rattle.checkpoint_text.proofs.Flights.{land, take_off}
 use Rattle.checkpoint_text.proofs.Steps.{can_post, flight_on, here, moves, rank, rank_falls, still_low}
 use Rattle.checkpoint_text.proofs.flight.run_to.Goals as goal
 
@@ -85,3 +85,10 @@ loop-turn-preserved c =
       flight = flight_on f steady c.args.floor c.args.end vs c.loop-turn.log.sends fl t.number v t.low c.lookahead-ahead.result l c.index_mut.ensures.value live b.low c.lookahead-ahead.ensures.some each near w c.advance.new.log.sends takes;
       turn = subst (λ (us : List (Timed NodeState Row)). IsTurn node_kind c.args.end c.lookahead-ahead.result us c.next_turn-turn.result) c.deref-in-Some.ensures.value c.next_turn-turn.ensures;
     }
+
+pub returns : goal.returns
+returns c =
+    let f = onward c.args.scenario.now c.args.state.now.value in
+    let nobody : Timed NodeState Row = record { cycle = 0; asking = false; state = f.begins 0; rows = [] } in
+    let still : All (λ v. is_live node_kind c.args.end v ≡ false) c.loop-turn.nodes.items = search rules in
+    land f c.args.floor c.args.end c.loop-turn.nodes.items c.loop-turn.log.sends c.loop-turn.invariant.flight still nobody

@@ -2,7 +2,7 @@ use Rattle.std.specs.List.{sum_by}
 use Rattle.node_core.specs.Cycle.{node_kind}
 use Rattle.checkpoint_text.specs.Onward.{onward}
 use Rattle.checkpoint_text.specs.Turns.{IsTurn}
-use Rattle.checkpoint_text.proofs.Pauses.{InFlight}
+use Rattle.checkpoint_text.proofs.Flights.{InFlight}
 use Rattle.checkpoint_text.proofs.Steps.{rank}
 use Rattle.checkpoint_text.proofs.flight.run_to.Given as goal
 
