@@ -7,10 +7,10 @@ use Rattle.std.proofs.lemmas.List.Elements.{filter-append}
 use Rattle.std.proofs.lemmas.Bool.Decides.{nat_tests}
 use Rattle.air_base.specs.declared.air.Send.{Send}
 use Rattle.world_core.specs.Topology.{Topology, is_linked, is_open, is_in_time, latency_of}
-use Rattle.world_core.specs.Heard.{age_of, heard, heard_from, is_audible}
+use Rattle.world_core.specs.Heard.{age_of, heard, is_audible}
 use Rattle.world_core.specs.Kept.{is_kept}
 use Rattle.air_base.specs.Each.{each_below}
-use Rattle.world_core.specs.Order.{Fleet, hears, world_at}
+use Rattle.world_core.specs.Order.{Fleet, world_at}
 use Rattle.world_core.specs.Sends.{sends_of}
 use Rattle.air_base.proofs.Each.{filter_none}
 use Rattle.world_core.proofs.Final.{filter_swap, not_kept, through}

@@ -1,30 +1,28 @@
 -- One step of all nodes in flight: a sample is answered as the order of all nodes answers it, and a step keeps all.
-use Rattle.std.proofs.Common.{◌≡◌, ◌≢◌, ℕ, suc, ◌+◌, ◌-◌, ◌*◌, ◌<◌, ◌≤◌, ◌⊎◌, inl, inr, ⊎_elim, Bool, true, false, cond, not, ◌&&◌, ◌||◌, ◌==◌, List, [], ◌∷◌, ◌++◌, length, set, refl, sym, subst, ◌∙◌, ap, arith, append-nil, length-set}
-use Rattle.std.specs.Prelude.{nat_lt, None, Some}
-use Rattle.std.specs.List.{All, AllPairs, filter, sum_by}
-use Rattle.std.proofs.lemmas.List.Elements.{All-append, All-cons, All-filter, All-head, All-nil, All-push, All-tail, All-weaker}
+use Rattle.std.proofs.Common.{◌≡◌, ◌≢◌, ℕ, ◌+◌, ◌-◌, ◌*◌, ◌<◌, ◌≤◌, ◌⊎◌, inl, inr, ⊎_elim, Bool, true, false, cond, not, ◌&&◌, ◌||◌, ◌==◌, List, [], ◌∷◌, ◌++◌, length, set, refl, sym, subst, ◌∙◌, ap, arith, append-nil, length-set}
+use Rattle.std.specs.Prelude.{nat_lt}
+use Rattle.std.specs.List.{All, filter, sum_by}
+use Rattle.std.proofs.lemmas.List.Elements.{All-cons, All-filter, All-nil, All-push, All-weaker}
 use Rattle.std.proofs.lemmas.List.Kept.{AllPairs-filter}
 use Rattle.std.proofs.lemmas.List.Sums.{sum_by-set}
 use Rattle.std.proofs.lemmas.Bool.{false≢true}
 use Rattle.std.proofs.lemmas.Bool.Decides.{nat_tests}
 use native.Mathlib.Decide.{dec_le, ℕ_discrete}
-use Rattle.air_base.specs.declared.air.Heard.{Heard}
 use Rattle.air_base.specs.declared.air.Send.{Send}
-use Rattle.air_base.specs.Each.{each_below}
 use Rattle.air_base.specs.NodeKind.{IsSteady, NodeKind}
 use Rattle.air_base.specs.NodeRun.{Timed, Asks, Comes, Rests, Sends, Stops, answered, passed, passed_rows}
 use Rattle.air_base.proofs.Each.{filter_none, filter_whole}
 use Rattle.world_core.specs.Chain.{Rises}
-use Rattle.world_core.specs.Heard.{age_of, heard, heard_from, is_audible}
+use Rattle.world_core.specs.Heard.{age_of, heard, is_audible}
 use Rattle.world_core.specs.Kept.{is_kept}
 use Rattle.world_core.specs.Order.{Fleet, hears, node_at, rows_between, world_at}
 use Rattle.world_core.specs.Sends.{sends_of}
 use Rattle.world_core.specs.Topology.{Topology, latency_of}
-use Rattle.world_core.proofs.Final.{filter_swap, through}
+use Rattle.world_core.proofs.Final.{through}
 use Rattle.world_core.proofs.Order.{heard_same}
 use Rattle.node_runner.proofs.Places.{bool_cases}
 use Rattle.checkpoint_text.specs.Paused.{AtRest, CanPost, node_in}
-use Rattle.checkpoint_text.specs.Turns.{Answers, Grows, IsLow, Passes, Posts, Samples, Takes, is_live}
+use Rattle.checkpoint_text.specs.Turns.{Grows, IsLow, Takes, is_live}
 use Rattle.checkpoint_text.proofs.Alone.{GoesAlone}
 use Rattle.checkpoint_text.proofs.EachNode.{at_other, at_own}
 use Rattle.checkpoint_text.proofs.Hearing.{audible_before, heard_in}

@@ -1,11 +1,10 @@
 -- A node that runs by itself: stretches of cycles joined, quiet ones passed in one leap, and one that stopped.
-use Rattle.std.proofs.Common.{◌≡◌, ℕ, zero, suc, ◌+◌, ◌-◌, ◌<◌, ◌≤◌, ◌⊎◌, inl, inr, Bool, true, false, Option, None, List, [], ◌∷◌, ◌++◌, refl, sym, ◌∙◌, ap, arith, append-nil, append_assoc, add-zero}
+use Rattle.std.proofs.Common.{◌≡◌, ℕ, zero, suc, ◌+◌, ◌-◌, true, false, Option, None, List, [], ◌∷◌, ◌++◌, refl, sym, ◌∙◌, ap, arith, append-nil, append_assoc, add-zero}
 use Rattle.air_base.specs.declared.air.Heard.{Heard}
 use Rattle.air_base.specs.declared.air.Send.{Send}
 use Rattle.air_base.specs.Each.{each_below}
 use Rattle.air_base.specs.NodeKind.{NodeKind, IsSteady, ticked, ticked_rows}
-use Rattle.air_base.specs.NodeRun.{Timed, AllQuiet, Asks, Comes, Rests, Sends, Stops, answered, passed, passed_rows}
-use Rattle.std.proofs.lemmas.Bool.{false≢true}
+use Rattle.air_base.specs.NodeRun.{Timed, AllQuiet, Asks, Comes, Rests, Sends, answered, passed, passed_rows}
 use Rattle.world_core.specs.Order.{send_of}
 use Rattle.world_core.proofs.Alone.{cond_true, cond_false}
 use Rattle.air_base.proofs.Each.{each_none, each_same}

@@ -1,5 +1,5 @@
-use Rattle.std.proofs.Common.{◌≡◌, ℕ, ◌+◌, ◌<◌, ◌≤◌, List, [], true, false, length, set, sym, subst, arith, rules}
-use Rattle.std.specs.List.{All, sum_by}
+use Rattle.std.proofs.Common.{◌≡◌, ◌+◌, ◌<◌, ◌≤◌, List, [], true, false, sym, subst, arith, rules}
+use Rattle.std.specs.List.{All}
 use Rattle.std.specs.declared.option.Option.{Option}
 use Rattle.std.proofs.lemmas.List.Elements.{All-weaker}
 use Rattle.air_base.specs.declared.air.Send.{Send}
@@ -10,11 +10,10 @@ use Rattle.node_core.specs.State.{NodeState}
 use Rattle.node_core.specs.declared.row.Row.{Row}
 use Rattle.node_core.proofs.Steady.{steady}
 use Rattle.checkpoint_text.specs.Onward.{onward}
-use Rattle.checkpoint_text.specs.Paused.{CanPost}
 use Rattle.checkpoint_text.specs.Turns.{IsLow, IsTurn, Takes, is_live}
 use Rattle.checkpoint_text.specs.declared.turns.Turn.{Turn}
 use Rattle.checkpoint_text.proofs.Flights.{land, take_off}
-use Rattle.checkpoint_text.proofs.Steps.{can_post, flight_on, here, moves, rank, rank_falls, still_low}
+use Rattle.checkpoint_text.proofs.Steps.{can_post, flight_on, here, moves, still_low}
 use Rattle.checkpoint_text.proofs.flight.run_to.Goals as goal
 
 pub loop-turn-init : goal.loop-turn-init
