@@ -127,25 +127,38 @@ class Driver:
 
     def has_all(self) -> bool:
         """Whether no worker has room for another batch."""
-        return all(len(worker.tickets) >= BATCHES_A_WORKER for worker in self.workers)
+        depth = self.depth()
+        return all(len(worker.tickets) >= depth for worker in self.workers)
 
     def share_out(self, wanted: Iterator[Attempt | None]) -> None:
         """Gives each worker what it has room for; those with least go first."""
         for _ in range(BATCHES_A_WORKER):
             for worker in sorted(self.workers, key=lambda worker: len(worker.tickets)):
-                if len(worker.tickets) < BATCHES_A_WORKER:
+                if len(worker.tickets) < self.depth():
                     batch = self.batch(worker, wanted)
                     if not batch:
                         return
                     self.send(worker, batch)
 
+    def by_time(self) -> int:
+        """How many runs take a batch's time."""
+        return max(1, min(MOST_IN_BATCH, int(BATCH_SECONDS / self.seconds_a_run))) if self.seconds_a_run else 1
+
+    def left(self) -> int:
+        """How many runs are still to be given to workers."""
+        taken = sum(map(len, self.under_way.values()))
+        return self.progress.total - self.progress.kept - self.progress.outcomes.total() - taken
+
+    def depth(self) -> int:
+        """How many batches a worker has at once. A second one waits for the first, so that a worker of many short runs has
+        no pause; where runs are long or few are left none waits behind another while a worker has nothing to do."""
+        enough = BATCHES_A_WORKER * len(self.workers) * self.by_time()
+        return BATCHES_A_WORKER if self.by_time() > 1 and self.left() >= enough else 1
+
     def size(self) -> int:
         """How many runs a batch has: as many as take its time, and near the end no more than are left for each."""
-        by_time = int(BATCH_SECONDS / self.seconds_a_run) if self.seconds_a_run else 1
-        taken = sum(map(len, self.under_way.values()))
-        left = self.progress.total - self.progress.kept - self.progress.outcomes.total() - taken
-        share = math.ceil(left / max(1, BATCHES_A_WORKER * len(self.workers)))
-        return max(1, min(by_time, MOST_IN_BATCH, share))
+        share = math.ceil(self.left() / max(1, BATCHES_A_WORKER * len(self.workers)))
+        return max(1, min(self.by_time(), share))
 
     def batch(self, worker: Worker, wanted: Iterator[Attempt | None]) -> list[Attempt]:
         found: list[Attempt] = []

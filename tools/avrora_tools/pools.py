@@ -29,8 +29,8 @@ GONE = "the scheduler of dask is gone"
 
 CONNECT_SECONDS = 10  # to a scheduler
 LOOK_SECONDS = 1.0  # between two looks at which workers the scheduler has
-PROOF_SECONDS = 300  # that a worker of dask may take to prove itself, the way there too
-FETCH_SECONDS = 5  # that the answers of a batch may take from a worker
+PROOF_SECONDS = 600  # that a worker of dask may take to prove itself, the way there too
+FETCH_SECONDS = 30  # that the answers of a batch may take from a worker
 
 
 @dataclasses.dataclass(eq=False)
@@ -202,8 +202,7 @@ class DaskPool:
     def __init__(self, address: str, shipment: runs.Shipment, name: str) -> None:
         import distributed
 
-        for logger in ("distributed", "tornado", "asyncio"):  # what they say this says in a line
-            logging.getLogger(logger).setLevel(logging.CRITICAL + 1)
+        logging.disable(logging.CRITICAL)  # what dask says in sixty lines this says in one
         self.name = name
         self.workers: dict[str, DaskWorker] = {}
         self.done: queue.SimpleQueue[tuple[DaskWorker, int | None, Any]] = queue.SimpleQueue()

@@ -64,7 +64,7 @@ PROOF_TRACE = (
     + "".join(f"{cycle} 0 instr 0001 rjmp .-2\n" for cycle in range(1, 12, 2))
     + "40 0 end 21 running\n"
 )
-PROOF_SECONDS = 60
+PROOF_SECONDS = 300  # a busy machine is no sick one
 
 
 @dataclasses.dataclass(frozen=True)

@@ -4,6 +4,7 @@ import contextlib
 import glob
 import json
 import os
+import signal
 import sqlite3
 import sys
 import tempfile
@@ -111,6 +112,11 @@ def hidden_dask(path):
     with open(f"{path}/hidden/distributed.py", "w", encoding="utf-8") as file:
         file.write("raise ImportError\n")
     return {"PYTHONPATH": f"{path}/hidden"}
+
+
+def hear_interrupts():
+    """In a process that is about to start: ^C ends it, also where that is ignored here, as behind a shell's `&`."""
+    signal.signal(signal.SIGINT, signal.SIG_DFL)
 
 
 def let_go(path):

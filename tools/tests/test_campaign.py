@@ -10,7 +10,7 @@ import tomllib
 import unittest
 import xml.etree.ElementTree
 
-from campaign_runs import CAMPAIGN, CASE, SCENARIO, Outcomes, folder, hidden_dask, let_go, run_campaign, starts
+from campaign_runs import CAMPAIGN, CASE, SCENARIO, Outcomes, folder, hear_interrupts, hidden_dask, let_go, run_campaign, starts
 from support import LONG, TOOL, run_tool, wait_for
 from avrora_tools import campaigns, variants
 from avrora_tools.errors import BadInput
@@ -231,7 +231,8 @@ class WithoutDask(Outcomes, unittest.TestCase):
         with folder() as path:
             env = {**os.environ, "CAMPAIGN_LOG": f"{path}/log", "CAMPAIGN_HELD": "0", **hidden_dask(path)}
             words = [*TOOL, "campaign", "--avrora", f"{path}/avrora", f"{path}/c.toml"]
-            first = subprocess.Popen(words, env=env, stdout=subprocess.DEVNULL, stderr=subprocess.DEVNULL)
+            streams = {"stdout": subprocess.DEVNULL, "stderr": subprocess.DEVNULL}
+            first = subprocess.Popen(words, env=env, preexec_fn=hear_interrupts, **streams)
             wait_for(lambda: os.path.exists(f"{path}/log"))
             status, _, errors, _ = run_campaign(path)
             first.send_signal(signal.SIGINT)

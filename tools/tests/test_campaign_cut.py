@@ -7,7 +7,7 @@ import tempfile
 import unittest
 from pathlib import Path
 
-from campaign_runs import CAMPAIGN, folder, hidden_dask, let_go, run_campaign, starts
+from campaign_runs import CAMPAIGN, folder, hear_interrupts, hidden_dask, let_go, run_campaign, starts, stored
 from support import LONG, TOOL, TOOLS, wait_for
 from avrora_tools import campaigns, checkers, results
 from avrora_tools.errors import CannotWork
@@ -42,9 +42,12 @@ class Ended(unittest.TestCase):
         with folder(HELD) as path:
             env = {**os.environ, "CAMPAIGN_LOG": f"{path}/log", "CAMPAIGN_HELD": "40", **hidden_dask(path)}
             words = [*TOOL, "campaign", "--processes", "2", "--avrora", f"{path}/avrora", f"{path}/c.toml"]
-            with subprocess.Popen(words, env=env, stdout=subprocess.DEVNULL, stderr=subprocess.DEVNULL) as process:
+            streams = {"stdout": subprocess.DEVNULL, "stderr": subprocess.DEVNULL}
+            with subprocess.Popen(words, env=env, preexec_fn=hear_interrupts, **streams) as process:
                 wait_for(lambda: len(list(Path(path).glob("held-*"))) == 2)
                 workers = [int(name.name.split("-")[1]) for name in Path(path).glob("held-*")]
+                # The answers of a batch come together, so 30 may be with a run that waits.
+                wait_for(lambda: stored(path) >= 1)
                 process.send_signal(number)
                 if number != signal.SIGKILL:
                     let_go(path)  # what is under way is ended with it
