@@ -99,10 +99,8 @@ class Sick(Cluster):
     def test_one_of_two(self):
         """Its disk takes no file of more than 512 bytes."""
         self.start_worker("full", before="ulimit -f 1;")
-        campaign, said = self.start_campaign()
-        wait_for(lambda: "full is set aside: " in open(said.name, encoding="utf-8").read() or campaign.poll() is not None)
-        self.assertEqual(campaign.poll(), 3)  # while it is the only one
-
+        status, text = self.ended(*self.start_campaign())
+        self.assertEqual(status, 3, text)  # while it is the only one
         self.start_worker("well")
         campaign, said = self.start_campaign()
         status, text = self.ended(campaign, said)
