@@ -1,6 +1,9 @@
 """campaign: the file, runs by processes of this machine, campaigns that are cut."""
+import contextlib
+import gzip
 import os
 import signal
+import sqlite3
 import subprocess
 import sys
 import tomllib
@@ -8,8 +11,8 @@ import unittest
 import xml.etree.ElementTree
 
 from campaign_runs import CAMPAIGN, CASE, SCENARIO, Outcomes, folder, hear_interrupts, hidden_dask, let_go, run_campaign, starts
-from support import LONG, TOOL, needs_module, run_tool, wait_for
-from avrora_tools import campaigns
+from support import LONG, TOOL, run_tool, wait_for
+from avrora_tools import campaigns, variants
 from avrora_tools.errors import BadInput
 
 
@@ -27,19 +30,19 @@ class TheFile(unittest.TestCase):
     def test_a_grid_has_each_combination_once(self):
         vary = 'latency = [7, 8]\nwindow = [[0, 9]]\n"input.1.at" = { from = 10, to = 20, step = 5 }\n'
         campaign = self.read('[[run]]\nscenario = "net.toml"\n[run.vary]\n' + vary)
-        names = [run.name for run in campaign.runs]
+        names = [run.name for run in campaign.runs()]
         self.assertEqual(
             names[:2], ["net latency=7 window=[0,9] input.1.at=10", "net latency=7 window=[0,9] input.1.at=15"]
         )
         self.assertEqual(len(set(names)), 6)
-        last = tomllib.loads(campaign.runs[-1].scenario)
+        last = tomllib.loads(campaign.run(campaign.count - 1).scenario())
         self.assertEqual((last["latency"], last["window"], last["input"][0]["at"]), (8, [0, 9], 20))
         self.assertEqual([node["image"] for node in last["node"]], ["a.hex", "a.hex"])
 
     def test_keys_of_links_and_of_all_nodes(self):
         vary = 'vary = { "link.0-1.open" = [[[0, 5], [6, 9]]], node."*".image = ["net.expect"] }\n'
-        (run,) = self.read(f'[[run]]\nscenario = "net.toml"\n{vary}').runs
-        scenario = tomllib.loads(run.scenario)
+        (run,) = self.read(f'[[run]]\nscenario = "net.toml"\n{vary}').runs()
+        scenario = tomllib.loads(run.scenario())
         self.assertEqual(scenario["link"], [{"from": 0, "to": 1, "open": [[0, 5], [6, 9]]}])
         self.assertEqual([node["image"] for node in scenario["node"]], ["net.expect"] * 2)
 
@@ -57,7 +60,7 @@ spans = { "0-1" = [[5, 9]] }
 seed = { from = 1, to = 2 }
 stagger = [0, 30]
 """
-        runs = self.read(text).runs
+        runs = list(self.read(text).runs())
         self.assertEqual(
             [run.name for run in runs],
             [
@@ -67,7 +70,7 @@ stagger = [0, 30]
                 "ring seed=2 stagger=30",
             ],
         )
-        first, second, third, _ = [tomllib.loads(run.scenario) for run in runs]
+        first, second, third, _ = [tomllib.loads(run.scenario()) for run in runs]
         self.assertEqual([node["image"] for node in first["node"]], ["a.hex", "a.hex", "net.expect"])
         self.assertEqual(
             [(link["from"], link["to"]) for link in first["link"]], [(0, 1), (1, 0), (0, 2), (2, 0), (1, 2), (2, 1)]
@@ -85,13 +88,13 @@ stagger = [0, 30]
             with open(f"{path}/sub/b.hex", "wb") as file:
                 file.write(b"b")
             campaign = campaigns.read(f"{path}/c.toml")
-            net, one = campaign.runs
+            net, one = campaign.runs()
             self.assertEqual((net.name, one.name), ("net", "one"))
-            self.assertEqual([case["path"] for case in one.cases], ["sub/one.expect"])
-            self.assertEqual(tomllib.loads(net.scenario), tomllib.loads(SCENARIO))
+            self.assertEqual([case.path for case in campaign.checks[one.group.check]], ["sub/one.expect"])
+            self.assertEqual(tomllib.loads(net.scenario()), tomllib.loads(SCENARIO))
             node = {"cycles": 30_000, "window": [0, 20_000], "node": [{"image": "b.hex"}]}
-            self.assertEqual(tomllib.loads(one.scenario), node)
-            self.assertEqual(campaign.files[tomllib.loads(one.shipped)["node"][0]["image"]], b"b")
+            self.assertEqual(tomllib.loads(one.scenario()), node)
+            self.assertEqual(campaign.files[tomllib.loads(one.shipped())["node"][0]["image"]], b"b")
 
     def test_images_are_sought_beside_the_scenario(self):
         with folder('[[run]]\nscenario = "sub/net.toml"\n') as path:
@@ -104,16 +107,15 @@ stagger = [0, 30]
 
     def test_what_is_shipped_has_each_content_once(self):
         campaign = self.read('[[run]]\nscenario = "net.toml"\nexpect = ["net.expect", "net.expect"]\n')
-        (run,) = campaign.runs
+        (run,) = campaign.runs()
         self.assertEqual(len(campaign.files), 2)
-        self.assertEqual(set(run.files), set(campaign.files))
-        for node in tomllib.loads(run.shipped)["node"]:
+        for node in tomllib.loads(run.shipped())["node"]:
             self.assertEqual(campaign.files[node["image"]], b":00000001FF\n")
 
     def test_a_scenario_is_written_as_it_was_read(self):
         odd = '"odd key" = [1.5, true, "q\\"\\\\\\n\\u00e9\\u007f", {a = 1}]\nday = 1979-05-27\n'
         text = f'cycles = 5\n{odd}[[node]]\nimage = "a.hex"\n'
-        self.assertEqual(tomllib.loads(campaigns.scenario_text(tomllib.loads(text))), tomllib.loads(text))
+        self.assertEqual(tomllib.loads(variants.scenario_text(tomllib.loads(text))), tomllib.loads(text))
 
     def test_names_of_files(self):
         self.assertEqual(campaigns.file_name("net latency=7"), "net,latency=7")
@@ -138,7 +140,7 @@ stagger = [0, 30]
         self.assert_refused(f"{run}vary = {{ latency = 3 }}\n", "latency has no list of values")
         self.assert_refused(f"{run}vary = {{ latency = {{ from = 3, to = 2 }} }}\n", "latency has no list of values")
         self.assert_refused(
-            f"{run}vary = {{ latency = {{ from = 0, to = 9_000_000 }} }}\n", "more than 1,000,000 values"
+            f"{run}vary = {{ latency = {{ from = 0, to = 90_000_000 }} }}\n", "more than 10,000,000 values"
         )
         self.assert_refused(f'{run}vary = {{ "link.1-0.latency" = [3] }}\n', "the scenario has no link 1-0")
         self.assert_refused(f'{run}vary = {{ "nodes.1.image" = [3] }}\n', "is no KEY, node.K.KEY")
@@ -161,9 +163,9 @@ class WithoutDask(Outcomes, unittest.TestCase):
     def test_it_goes_on_where_it_was(self):
         with folder() as path:
             run_campaign(path)
-            os.unlink(f"{path}/c.results/runs/net,latency=20.json")
-            with open(f"{path}/c.results/runs/net,latency=30.json", "r+", encoding="utf-8") as file:
-                file.truncate(30)  # as a result that was cut would be
+            with contextlib.closing(sqlite3.connect(f"{path}/c.results/results.sqlite")) as database, database:
+                database.execute("DELETE FROM run WHERE name = 'net latency=20'")
+                database.execute("UPDATE run SET digest = 'other', sitting = 0 WHERE name = 'net latency=30'")
             os.unlink(f"{path}/log")
             status, _, errors, rows = run_campaign(path)
             self.assertEqual((status, len(rows)), (1, 5), errors)
@@ -172,9 +174,7 @@ class WithoutDask(Outcomes, unittest.TestCase):
 
     def test_it_says_what_is_missing(self):
         with folder() as path:
-            _, _, errors, _ = run_campaign(path, "--processes", "2")
-            self.assertIn("python3-distributed", errors)
-            status, _, errors, _ = run_campaign(path, "--anew", "--scheduler", "tcp://127.0.0.1:9")
+            status, _, errors, _ = run_campaign(path, "--scheduler", "tcp://127.0.0.1:9")
             self.assertEqual(status, 3)
             self.assertIn("python3-distributed", errors)
 
@@ -188,11 +188,15 @@ class WithoutDask(Outcomes, unittest.TestCase):
             self.assertNotIn("already", errors)
 
     def test_time(self):
-        campaign = CAMPAIGN.replace("[1, 3, 4, 20, 30]", "[2]").replace("attempts = 2", "attempts = 1\ntimeout = 1")
+        """What the trace had come to is kept."""
+        settings = 'attempts = 1\ntimeout = 1\ntraces = "failed"'
+        campaign = CAMPAIGN.replace("[1, 3, 4, 20, 30]", "[2]").replace("attempts = 2", settings)
         with folder(campaign) as path:
             status, _, errors, rows = run_campaign(path)
             self.assertEqual(status, 3, errors)
             self.assertEqual(rows["net latency=2"]["message"], "took more than 1 s")
+            with gzip.open(f"{path}/c.results/{rows['net latency=2']['trace']}", "rt", encoding="utf-8") as file:
+                self.assertEqual(file.read(), "7 0 sent AA\n")
 
     def test_traces(self):
         campaign = CAMPAIGN.replace("[1, 3, 4, 20, 30]", "[20, 30]").replace("attempts = 2", 'traces = "failed"')
@@ -246,7 +250,6 @@ class WithoutDask(Outcomes, unittest.TestCase):
             status, _, errors, _ = run_campaign(path, "--scenario", "net")
             self.assertEqual((status, "no run is called net" in errors), (2, True))
 
-    @needs_module("junit_xml", "python3-junit.xml")
     def test_junit(self):
         with folder() as path:
             run_campaign(path)

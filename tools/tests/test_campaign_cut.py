@@ -7,10 +7,9 @@ import tempfile
 import unittest
 from pathlib import Path
 
-from campaign_runs import CAMPAIGN, folder, hear_interrupts, hidden_dask, let_go, run_campaign, starts
+from campaign_runs import CAMPAIGN, folder, hear_interrupts, hidden_dask, let_go, run_campaign, starts, stored
 from support import LONG, TOOL, TOOLS, wait_for
-from avrora_tools import campaigns, checkers
-from avrora_tools.commands import campaign
+from avrora_tools import campaigns, checkers, results
 from avrora_tools.errors import CannotWork
 
 HELD = CAMPAIGN.replace("[1, 3, 4, 20, 30]", "[20, 30, 40, 50]")
@@ -18,8 +17,8 @@ HELD = CAMPAIGN.replace("[1, 3, 4, 20, 30]", "[20, 30, 40, 50]")
 
 # A campaign that holds its lock and has a child, whose number it writes.
 HOLDER = """import os, sys, time
-from avrora_tools.commands import campaign
-with campaign.Results(sys.argv[1]).locked():
+from avrora_tools import results
+with results.locked(sys.argv[1]):
     child = os.fork()
     if child:
         os.write(1, f"{child}\\n".encode())
@@ -47,6 +46,8 @@ class Ended(unittest.TestCase):
             with subprocess.Popen(words, env=env, preexec_fn=hear_interrupts, **streams) as process:
                 wait_for(lambda: len(list(Path(path).glob("held-*"))) == 2)
                 workers = [int(name.name.split("-")[1]) for name in Path(path).glob("held-*")]
+                # The answers of a batch come together, so 30 may be with a run that waits.
+                wait_for(lambda: stored(path) >= 1)
                 process.send_signal(number)
                 if number != signal.SIGKILL:
                     let_go(path)  # what is under way is ended with it
@@ -81,11 +82,11 @@ class Ended(unittest.TestCase):
             with subprocess.Popen(holder, stdout=subprocess.PIPE, text=True, env={"PYTHONPATH": TOOLS}) as process:
                 child = int(process.stdout.readline())
                 self.addCleanup(os.kill, child, signal.SIGKILL)
-                with self.assertRaisesRegex(CannotWork, "another campaign is at work"), campaign.Results(path).locked():
+                with self.assertRaisesRegex(CannotWork, "another campaign is at work"), results.locked(path):
                     pass
                 process.kill()
             self.assertTrue(is_there(child))
-            with campaign.Results(path).locked():
+            with results.locked(path):
                 pass
 
 
@@ -124,9 +125,9 @@ class Kept(unittest.TestCase):
     def test_another_checker(self):
         """A package whose checker differs runs all again; one whose words differ does not."""
         with folder(self.GOLDEN, "* 0 sent AA\n") as path:
-            run_campaign(path)
-            kept = campaigns.read(f"{path}/c.toml").runs[0]
-            self.assertNotEqual(campaigns.digest(kept, "s", "one"), campaigns.digest(kept, "s", "other"))
+            campaign = campaigns.read(f"{path}/c.toml")
+            one, other = (campaigns.Digests(campaign, "simulator", checker) for checker in ("one", "other"))
+            self.assertNotEqual(one.of(campaign.run(0)), other.of(campaign.run(0)))
         sources = checkers.sources()
         self.assertLessEqual({"avrora_tools.runs", "avrora_tools.expectations", "avrora_tools.traces"}, set(sources))
         self.assertNotIn("avrora_tools.commands.campaign", sources)
