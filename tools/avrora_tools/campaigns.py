@@ -8,47 +8,19 @@ import hashlib
 import itertools
 import os
 import re
-from collections.abc import Callable, Iterator, Sequence
+from collections.abc import Iterator, Sequence
 from typing import Any
 
-from avrora_tools import expectations, runs
+from avrora_tools import campaign_keys, cases, runs
+from avrora_tools.campaign_keys import Table
+from avrora_tools.cases import Case
 from avrora_tools.errors import BadInput
 from avrora_tools.files import printable, read_text
-from avrora_tools.variants import (
-    Axis,
-    Group,
-    NetworkGroup,
-    Run,
-    ScenarioGroup,
-    Table,
-    content_name,
-    parsed,
-    unknown,
-)
+from avrora_tools.variants import Axis, DrawnGroup, Group, NetworkGroup, Run, ScenarioGroup, content_name, parsed
 
 MAX_RUNS = 10_000_000
 NODE_WINDOW = 20_000  # cycles, of `avrora node`
 LONGEST_NAME = 120  # bytes of the name of a run in the names of files
-
-
-@dataclasses.dataclass(frozen=True)
-class Setting:
-    """What may stand at the top: its value where it is absent, its kind, and its range in words."""
-
-    default: Any
-    kind: type
-    accepts: Callable[[Any], object]
-    range: str
-
-
-SETTINGS = {
-    "name": Setting(None, str, lambda value: re.fullmatch(r"[\w.+-]+", value), "letters, digits and _ . + -"),
-    "results": Setting(None, str, bool, "a folder"),
-    "attempts": Setting(3, int, lambda value: 1 <= value <= 100, "1 to 100"),
-    "timeout": Setting(600, int, lambda value: 1 <= value <= 1_000_000, "1 to 1,000,000 seconds"),
-    "traces": Setting("none", str, lambda value: value in ("none", "failed", "all"), "none, failed or all"),
-}
-RUN_KEYS = {"name", "scenario", "network", "expect", "vary"}
 
 
 @dataclasses.dataclass(frozen=True)
@@ -67,15 +39,14 @@ class Shard:
 
 @dataclasses.dataclass(frozen=True)
 class Campaign:
-    """The whole file. `checks` are the lists of cases by which runs are checked, `files` the content of each file of
-    the shipment."""
+    """The whole file. `checks` are those by which runs are checked, `files` the content of each file of the shipment."""
 
     path: str
     name: str
     folder: str
     settings: Table
     groups: Sequence[Group]
-    checks: Sequence[Sequence[runs.ShippedCase]]
+    checks: Sequence[runs.Check]
     files: dict[str, bytes]
     ends: Sequence[int]  # the number behind the last run of each group
     shipped_from: dict[str, str]  # of each file of the shipment the name that the user gave it
@@ -106,9 +77,9 @@ class Digests:
 
     def __init__(self, campaign: Campaign, simulator: str, checker: str) -> None:
         self.begun = []
-        for cases in campaign.checks:
-            parts = ["simulator", simulator, "checker", checker]
-            for case in cases:
+        for check in campaign.checks:
+            parts = ["simulator", simulator, "checker", checker, "compare", *check.ways]
+            for case in check.cases:
                 parts += ["case", case.path, case.file]
                 parts += itertools.chain(*(("golden", golden.path, golden.file) for golden in case.goldens))
             text = "\0".join([*parts, "scenario", ""])
@@ -124,12 +95,12 @@ def read(path: str) -> Campaign:
     """The campaign in the file `path`. Raises BadInput with what is wrong, and where."""
     table = parsed(read_text(path), path)
     folder = os.path.dirname(os.path.abspath(path))
-    unknown(path, table, SETTINGS.keys() | {"run"})
-    settings = {key: setting_of(path, table, key) for key in SETTINGS}
-    if not isinstance(table.get("run"), list) or not all(isinstance(run, dict) for run in table["run"]):
+    campaign_keys.check(path, table, campaign_keys.TOP)
+    settings = {key: table.get(key, campaign_keys.TOP[key].default) for key in campaign_keys.TOP}
+    if "run" not in table:
         raise BadInput(f"{path}: no [[run]]")
     files = Files()
-    checks: list[Sequence[runs.ShippedCase]] = []
+    checks: list[runs.Check] = []
     groups: list[Group] = []
     for number, run in enumerate(table["run"], 1):
         groups += groups_of(f"{path}, run {number}", run, folder, files, checks)
@@ -163,14 +134,6 @@ def no_name_twice(path: str, groups: Sequence[Group]) -> None:
             found.add(name)
 
 
-def setting_of(path: str, table: Table, key: str) -> Any:
-    setting = SETTINGS[key]
-    value = table.get(key, setting.default)
-    if key in table and (type(value) is not setting.kind or not setting.accepts(value)):
-        raise BadInput(f"{path}: {key} is not {setting.range}")
-    return value
-
-
 class Files:
     """The shipment: the content of each file once, under a name that its content tells."""
 
@@ -193,52 +156,57 @@ class Files:
         return self.names[path]
 
 
-def groups_of(
-    place: str, table: Table, folder: str, files: Files, checks: list[Sequence[runs.ShippedCase]]
-) -> Iterator[Group]:
-    """What a [[run]] says is to be run: a scenario, a network, or what each of its cases has as its source."""
-    unknown(place, table, RUN_KEYS)
+# What a [[run]] has its scenarios from, one of them; without one its cases have their own.
+SOURCES = ("scenario", "network", "draw")
+
+
+def groups_of(place: str, table: Table, folder: str, files: Files, checks: list[runs.Check]) -> Iterator[Group]:
+    """What a [[run]] says is to be run: a scenario, a network, what is drawn, or what each of its cases has as its
+    source."""
+    campaign_keys.check(place, table, campaign_keys.RUN)
+    found = [source for source in SOURCES if source in table]
+    if len(found) > 1:
+        raise BadInput(f"{place}: a run has a {found[0]} or a {found[1]}, and not both")
     name = table.get("name", "")
-    if not isinstance(name, str) or "\n" in name:
-        raise BadInput(f"{place}: name is a text of one line")
-    if "scenario" in table and "network" in table:
-        raise BadInput(f"{place}: a run has a scenario or a network, and not both")
-    cases = [case_of(place, path, folder, files) for path in words(place, table, "expect")]
-    axes = [Axis(key, values_of(place, key, values)) for key, values in vary_of(place, table).items()]
-    shipped = [case.shipped for case in cases]
+    read = [case_of(place, path, folder, files) for path in texts(table.get("expect", ()))]
+    axes = [Axis(key, values_of(place, key, values)) for key, values in flat(table.get("vary", {})).items()]
+    ways = tuple(table.get("compare", ()))
 
     def ship(path: str) -> str:
         return files.add(place, path)
 
+    def check(shipped: Sequence[runs.ShippedCase]) -> int:
+        checks.append(runs.Check(tuple(shipped), ways))
+        return len(checks) - 1
+
+    shipped = [case.shipped for case in read]
     if "network" in table:
-        if not isinstance(table["network"], dict):
-            raise BadInput(f"{place}: network is a table: shape, images, and the options of mknet")
-        checks.append(shipped)
-        yield NetworkGroup(place, name or "network", axes, len(checks) - 1, table["network"], folder, ship)
+        yield NetworkGroup(place, name or "network", axes, check(shipped), table["network"], folder, ship)
+    elif "draw" in table:
+        path = os.path.join(folder, table["draw"])
+        yield DrawnGroup(place, name or stem(path), axes, check(shipped), path)
     elif "scenario" in table:
-        if not isinstance(table["scenario"], str) or not table["scenario"]:
-            raise BadInput(f"{place}: scenario is a name")
         path = os.path.join(folder, table["scenario"])
-        checks.append(shipped)
         scenario = parsed(read_text(path), path)
-        yield ScenarioGroup(
-            place, name or stem(path), axes, len(checks) - 1, scenario, os.path.dirname(path), ship
-        )
-    elif not cases:
-        raise BadInput(f"{place}: a run has a scenario, a network, or cases whose sources are run")
+        yield ScenarioGroup(place, name or stem(path), axes, check(shipped), scenario, os.path.dirname(path), ship)
+    elif not read:
+        raise BadInput(f"{place}: a run has a scenario, a network, draw, or cases whose sources are run")
     else:
-        for case in cases:
-            checks.append([case.shipped])
+        for case in read:
             case_name = f"{name} {stem(case.read.path)}".strip()
             scenario = source_of(place, case.read)
-            yield ScenarioGroup(place, case_name, axes, len(checks) - 1, scenario, case.read.folder, ship)
+            yield ScenarioGroup(place, case_name, axes, check([case.shipped]), scenario, case.read.folder, ship)
+
+
+def texts(value: str | Sequence[str]) -> Sequence[str]:
+    return [value] if isinstance(value, str) else value
 
 
 def stem(path: str) -> str:
     return os.path.splitext(os.path.basename(path))[0]
 
 
-def source_of(place: str, case: Any) -> Table:
+def source_of(place: str, case: Case) -> Table:
     """The scenario that a case has as its source; `node IMAGE CYCLES` is a network of one node."""
     if case.source and case.source[0] == "run":
         path = os.path.join(case.folder, case.source[1])
@@ -248,21 +216,6 @@ def source_of(place: str, case: Any) -> Table:
         window = [0, min(cycles, NODE_WINDOW)]
         return {"cycles": cycles, "window": window, "node": [{"image": case.source[1]}]}
     raise BadInput(f"{place}: {case.path} has no `run FILE` and no `node FILE CYCLES`")
-
-
-def words(place: str, table: Table, key: str) -> list[str]:
-    value = table.get(key, [])
-    value = [value] if isinstance(value, str) else value
-    if not isinstance(value, list) or not all(isinstance(word, str) and word for word in value):
-        raise BadInput(f"{place}: {key} is a name or a list of names")
-    return value
-
-
-def vary_of(place: str, table: Table) -> Table:
-    vary = table.get("vary", {})
-    if not isinstance(vary, dict):
-        raise BadInput(f"{place}: vary is a table: a key of the scenario and its values")
-    return flat(vary)
 
 
 def flat(table: Table, prefix: str = "") -> Table:
@@ -297,18 +250,18 @@ def values_of(place: str, key: str, values: Any) -> Sequence[Any]:
 class CampaignCase:
     """A case as its reader has it, and as the shipment has it."""
 
-    read: Any
+    read: Case
     shipped: runs.ShippedCase
 
 
 def case_of(place: str, path: str, folder: str, files: Files) -> CampaignCase:
     """A case of `expect` for the shipment; its golden traces go with it."""
     full = os.path.join(folder, path)
-    case = expectations.read_case(full)
+    case = cases.read_case(full)
     goldens = [
         runs.ShippedFile(files.add(place, statement.path), os.path.relpath(statement.path, folder))
         for statement in case.statements
-        if isinstance(statement, expectations.Golden)
+        if isinstance(statement, cases.Golden)
     ]
     return CampaignCase(case, runs.ShippedCase(files.add(place, full), path, tuple(goldens)))
 

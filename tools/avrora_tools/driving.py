@@ -187,7 +187,7 @@ class Driver:
         jobs, good = [], []
         for attempt in batch:
             try:
-                jobs.append((attempt.run.shipped(), attempt.run.group.check))
+                jobs.append((attempt.run.shipped(), attempt.run.group.check, attempt.run.images()))
                 good.append(attempt)
             except BadInput as fault:  # values that make no network
                 self.finish(attempt, runs.answer(runs.REFUSED, str(fault)), "")

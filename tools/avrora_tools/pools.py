@@ -19,8 +19,9 @@ import subprocess
 import tempfile
 import time
 from collections.abc import Sequence
+from multiprocessing.connection import Connection
 from pathlib import Path
-from typing import Any, Protocol
+from typing import Any, Protocol, cast
 
 from avrora_tools import local_worker, runs, terminal
 from avrora_tools.errors import CannotWork
@@ -142,7 +143,7 @@ class LocalPool:
         for connection in multiprocessing.connection.wait(list(self.workers), 0 if events else seconds):
             worker = self.workers[connection]
             try:
-                events.append(self.received(worker, connection.recv()))  # type: ignore[union-attr]
+                events.append(self.received(worker, cast(Connection, connection).recv()))
             except (EOFError, OSError):
                 events.append(self.died(connection, worker))
         return events

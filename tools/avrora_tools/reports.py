@@ -6,10 +6,10 @@ import json
 import re
 import sqlite3
 import xml.sax.saxutils
-from collections.abc import Iterable, Iterator, Sequence
+from collections.abc import Callable, Iterable, Iterator, Sequence
 from typing import IO, Any
 
-from avrora_tools import files, results, runs, terminal
+from avrora_tools import comparisons, files, results, runs, terminal
 from avrora_tools.errors import BadWords
 
 HEAD = ("name", "outcome", *runs.COUNTS, "seconds", "attempts", "host")
@@ -63,28 +63,27 @@ class Report:
 
     def rows(self, where: Sequence[str] = runs.OUTCOMES) -> Iterator[dict[str, Any]]:
         """The results of these outcomes: as they stand in the campaign, or the highest first by a column."""
-        if self.by is None:
-            found = itertools.chain(*map(results.rows, self.databases))
-        else:
-            found = self.ranked()
+        found = self.ranked() if self.by is not None else itertools.chain(*map(results.rows, self.databases))
         return itertools.islice((row for row in found if row["outcome"] in where), self.top)
 
     def ranked(self) -> Iterator[dict[str, Any]]:
         direction = "ASC" if self.reverse else "DESC"
-        if self.by in results.COLUMNS:
-            order, words = f'"{self.by}" {direction} NULLS LAST, number', ()
-        else:
-            order, words = f"json_extract(parameters, ?) {direction} NULLS LAST, number", (self.path(),)
+        is_column = self.by in results.COLUMNS
+        order = f'"{self.by}"' if is_column else "json_extract(parameters, ?)"
+        order += f" {direction} NULLS LAST, number"
+        words = () if is_column else (self.path(),)
         parts = [results.rows(database, order, words) for database in self.databases]
         if len(parts) == 1:
             return parts[0]
         # Of several files each is in order; what has no value comes last in each of them.
         everything = sorted(itertools.chain(*parts), key=lambda row: row["number"])
         valued = [row for row in everything if self.value(row) is not None]
-        with_type = sorted(valued, key=lambda row: (isinstance(self.value(row), str), self.value(row)))
-        if not self.reverse:
-            with_type.reverse()
-        return itertools.chain(with_type, (row for row in everything if self.value(row) is None))
+
+        def rank(row: dict[str, Any]) -> tuple[bool, Any]:
+            return isinstance(self.value(row), str), self.value(row)
+
+        valued.sort(key=rank, reverse=not self.reverse)
+        return itertools.chain(valued, (row for row in everything if self.value(row) is None))
 
     def value(self, row: dict[str, Any]) -> Any:
         value = row[self.by] if self.by in results.COLUMNS else row["parameters"].get(self.by)
@@ -96,6 +95,21 @@ class Report:
         missing = self.total() - found.total()
         parts = [f"{self.name}: {self.total()} runs", *([counts] if counts else [])]
         return ", ".join([*parts, *([f"{missing} without a result yet"] if missing > 0 else [])])
+
+    def compared(self) -> list[str]:
+        """A line for each way in which runs were compared: how many, and how much of them."""
+        runs_of: collections.Counter[str] = collections.Counter()
+        amounts: collections.Counter[str] = collections.Counter()
+        query = "SELECT key, count(*), sum(value) FROM run, json_each(run.compared) WHERE value > 0 GROUP BY key"
+        for database in self.databases:
+            for way, count, amount in database.execute(query):
+                runs_of[way] += count
+                amounts[way] += amount
+        return [
+            f"compared {comparisons.TITLES[way]}: {amounts[way]:,} of {runs_of[way]:,} runs"
+            for way in comparisons.TITLES
+            if runs_of[way]
+        ]
 
     def widths(self) -> dict[str, int]:
         """The widths of the table's columns."""
@@ -115,7 +129,7 @@ class Report:
             out.write(line_of(row, widths))
             for part in row["message"].splitlines()[:MESSAGE_LINES]:
                 out.write(f"    {part}\n")
-        out.write(f"\n{self.closing_line()}\n")
+        out.write("\n" + "".join(f"{line}\n" for line in (self.closing_line(), *self.compared())))
 
     def print_table(self, out: IO[str], where_all_is: str | None) -> None:
         """The table where it is short, or was asked for in an order; else what is not passed, as much as is short."""
@@ -138,7 +152,7 @@ class Report:
         """A report for a server of builds."""
         found = self.outcomes()
         failures = found[runs.FAILED] + found[runs.REFUSED]
-        writer = xml.sax.saxutils.XMLGenerator(out, "utf-8", short_empty_elements=True)
+        writer: Any = xml.sax.saxutils.XMLGenerator(out, "utf-8", short_empty_elements=True)  # it has no types
         writer.startDocument()
         suite = {"name": self.name, "tests": str(found.total()), "failures": str(failures)}
         suite["errors"] = str(found[runs.BROKEN])
@@ -155,7 +169,7 @@ class Report:
         writer.endDocument()
 
     def write_parquet(self, path: str) -> None:
-        """A table for pyarrow and what reads its files: the parameters are columns of text in JSON."""
+        """A table for pyarrow and what reads its files: the parameters and what was compared are columns of text in JSON."""
         try:
             import pyarrow
             import pyarrow.parquet
@@ -167,7 +181,8 @@ class Report:
         with files.whole_file(path, binary=True) as file, pyarrow.parquet.ParquetWriter(file, schema) as writer:
             for group in grouped(self.rows(), ROWS_A_GROUP):
                 for row in group:
-                    row["parameters"] = json.dumps(row["parameters"])
+                    for column in ("parameters", "compared"):
+                        row[column] = json.dumps(row[column])
                 writer.write_table(pyarrow.Table.from_pylist(group, schema=schema))
 
 
@@ -187,8 +202,8 @@ def line_of(row: dict[str, Any], widths: dict[str, int]) -> str:
 
 
 @contextlib.contextmanager
-def element(writer: xml.sax.saxutils.XMLGenerator, name: str, attributes: dict[str, str]) -> Iterator[None]:
-    writer.startElement(name, attributes)  # type: ignore[arg-type]
+def element(writer: Any, name: str, attributes: dict[str, str]) -> Iterator[None]:
+    writer.startElement(name, attributes)
     yield
     writer.endElement(name)
 
@@ -200,10 +215,11 @@ def xml_text(text: str) -> str:
 
 def write_summaries(report: Report, folder: str) -> None:
     """The table, the lines of JSON and the JUnit report in the folder of results."""
-    for name, write in (
-        ("summary.txt", report.write_table),
-        ("summary.jsonl", report.write_lines),
-        ("junit.xml", report.write_junit),
-    ):
+    written: dict[str, Callable[[IO[str]], None]] = {
+        "summary.txt": report.write_table,
+        "summary.jsonl": report.write_lines,
+        "junit.xml": report.write_junit,
+    }
+    for name, write in written.items():
         with files.whole_file(f"{folder}/{name}", lasting=False) as file:
             write(file)

@@ -5,10 +5,11 @@ import errno
 import fcntl
 import json
 import os
+import shutil
 import socket
 import sqlite3
 import time
-from collections.abc import Iterable, Iterator
+from collections.abc import Iterable, Iterator, Mapping
 from typing import Any
 
 from avrora_tools import files, runs
@@ -34,19 +35,19 @@ CREATE TABLE run (
     id INTEGER PRIMARY KEY, number INTEGER NOT NULL, name TEXT NOT NULL UNIQUE, parameters TEXT NOT NULL,
     digest TEXT NOT NULL, outcome TEXT NOT NULL, message TEXT NOT NULL,
     {' '.join(f'{name} INTEGER,' for name in runs.COUNTS)}
-    hash TEXT, trace TEXT, seconds REAL NOT NULL, host TEXT NOT NULL, attempts INTEGER NOT NULL,
+    hash TEXT, compared TEXT, trace TEXT, seconds REAL NOT NULL, host TEXT NOT NULL, attempts INTEGER NOT NULL,
     sitting INTEGER NOT NULL REFERENCES sitting
 );
 CREATE VIEW result AS
-    SELECT run.number, run.name, parameters, outcome, message, {', '.join(runs.COUNTS)}, hash, trace, seconds, run.host,
+    SELECT run.number, run.name, parameters, outcome, message, {', '.join(runs.COUNTS)}, hash, compared, trace, seconds, run.host,
         attempts, digest, program, checker
     FROM run JOIN sitting ON sitting.id = run.sitting;
 PRAGMA application_id = {APPLICATION};
 PRAGMA user_version = {FORM};
 """
 
-INSERT = f"""INSERT INTO run (number, name, parameters, digest, outcome, message, {', '.join(runs.COUNTS)}, hash, trace,
-    seconds, host, attempts, sitting) VALUES ({', '.join('?' * (12 + len(runs.COUNTS)))})"""
+INSERT = f"""INSERT INTO run (number, name, parameters, digest, outcome, message, {', '.join(runs.COUNTS)}, hash,
+    compared, trace, seconds, host, attempts, sitting) VALUES ({', '.join('?' * (13 + len(runs.COUNTS)))})"""
 
 # How long a reader may have the file for itself, in seconds.
 PATIENCE = 600.0
@@ -180,6 +181,8 @@ class Store:
         if answer["outcome"] != runs.PASSED:
             with contextlib.suppress(BadInput):  # what is no scenario
                 files.write_whole(self.scenario_path(run), run.scenario(), lasting=False)
+                if images := run.images():
+                    write_images(self.images_path(run.name), images)
         counts = answer["counts"] or [None] * len(runs.COUNTS)
         self.database.execute("DELETE FROM run WHERE name = ?", (run.name,))
         self.database.execute(
@@ -193,6 +196,7 @@ class Store:
                 answer["message"],
                 *counts,
                 answer["hash"],
+                json.dumps(answer["compared"]) if answer["compared"] else None,
                 trace,
                 answer["seconds"],
                 host,
@@ -204,7 +208,12 @@ class Store:
     def scenario_path(self, run: Run) -> str:
         return f"{self.runs}/{file_name(run.name)}.toml"
 
+    def images_path(self, name: str) -> str:
+        """The folder of the images that a run alone has."""
+        return f"{self.runs}/{file_name(name)}.images"
+
     def remove_files(self, name: str) -> None:
+        shutil.rmtree(self.images_path(name), ignore_errors=True)
         for ending in ("toml", "trace.gz"):
             with contextlib.suppress(FileNotFoundError):
                 os.unlink(f"{self.runs}/{file_name(name)}.{ending}")
@@ -224,6 +233,12 @@ class Store:
             self.database.close()
 
 
+def write_images(folder: str, images: Mapping[str, bytes]) -> None:
+    os.makedirs(folder, exist_ok=True)
+    for name, content in images.items():
+        files.write_whole(f"{folder}/{name}", content, lasting=False)
+
+
 @contextlib.contextmanager
 def reading(path: str) -> Iterator[sqlite3.Connection]:
     """A file of results as it is now, for reports that may take long: a copy of it, so that a campaign that is at work
@@ -240,8 +255,8 @@ def reading(path: str) -> Iterator[sqlite3.Connection]:
 
 
 COLUMNS = (
-    "name", "outcome", *runs.COUNTS, "seconds", "attempts", "host", "parameters", "message", "hash", "trace", "digest",
-    "program", "checker", "number",
+    "name", "outcome", *runs.COUNTS, "seconds", "attempts", "host", "parameters", "message", "hash", "compared", "trace",
+    "digest",    "program", "checker", "number",
 )  # fmt: skip
 
 
@@ -250,4 +265,5 @@ def rows(database: sqlite3.Connection, order: str = "number", words: tuple[Any, 
     for row in database.execute(f"SELECT {', '.join(COLUMNS)} FROM result ORDER BY {order}", words):
         found = dict(zip(COLUMNS, row))
         found["parameters"] = json.loads(found["parameters"])
+        found["compared"] = json.loads(found["compared"]) if found["compared"] else {}
         yield found

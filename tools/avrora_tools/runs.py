@@ -1,15 +1,17 @@
 """Where a run of a campaign takes place: on a worker of dask, or in a process of this machine.
 
 A worker gets the simulator, the images and the cases once, as a shipment, and then batches of jobs. A job is the text of
-a scenario, whose images are names of files of the shipment, and the index of the cases by which its trace is checked.
+a scenario, whose images are names of files of the shipment, the index of the check by which it is judged, and images of its
+own by their names, which are all that it has where there are any.
 
 An answer is a dictionary: `outcome` is one of the words below, `message` says why, `counts` has how many rows of each
-kind the trace has, `hash` is that of the trace, both None where there is no whole trace; `seconds` is the time of the run
-and its checks, `trace` the trace in gzip's format or None, `again` whether another attempt can come to something else, and
-`trouble` whether it was the worker that failed. All of it is of Python's own kinds, so a client reads it whatever the
-worker has.
+kind the trace has, `hash` is that of the trace, both None where there is no whole trace; `compared` has how much of it was
+compared in each way; `seconds` is the time of the run and its checks, `trace` the trace in gzip's format or None, `again`
+whether another attempt can come to something else, and `trouble` whether it was the worker that failed. All of it is of
+Python's own kinds, so a client reads it whatever the worker has.
 """
 import collections
+import contextlib
 import dataclasses
 import gzip
 import hashlib
@@ -21,19 +23,21 @@ import shutil
 import socket
 import subprocess
 import tempfile
-import threading
 import time
 import zipfile
 from collections.abc import Iterator, Sequence
 from importlib.abc import Traversable
-from typing import IO, Any
+from typing import IO, Any, BinaryIO, cast
 
 import avrora_tools
-from avrora_tools import expectations
+from avrora_tools import cases, comparisons, expectations
 from avrora_tools.errors import ToolError
 from avrora_tools.events import CLASH, ONE_BYTE
 
 PROGRAM = "avrora"  # the simulator's name in a shipment
+
+# The files of a run, and the folder of one with images of its own.
+SCENARIO, TRACE, OWN = "scenario.toml", "trace", "own"
 
 # All expectations are met; one is not; the scenario or an image is refused; the run came to no answer.
 PASSED, FAILED, REFUSED, BROKEN = "passed", "failed", "refused", "broken"
@@ -50,7 +54,7 @@ MEMORY_FAULTS = (6, 9)
 
 COUNTS = ("sent", "heard", "clashes", "serial", "stops")
 
-Job = tuple[str, int]
+Job = tuple[str, int, dict[str, bytes]]
 Answer = dict[str, Any]
 
 # What a worker runs before it gets a job. By the manual LDI takes one cycle and RJMP, here to itself, two: LDI in cycle 0,
@@ -90,11 +94,19 @@ class ShippedCase:
 
 
 @dataclasses.dataclass(frozen=True)
+class Check:
+    """What a run is judged by: cases for its trace, and ways in which it is compared (`comparisons.WAYS`)."""
+
+    cases: tuple[ShippedCase, ...]
+    ways: tuple[str, ...] = ()
+
+
+@dataclasses.dataclass(frozen=True)
 class Shipment:
     """All that a worker needs for a campaign: `traces` says of which runs the trace is handed back."""
 
     files: dict[str, bytes]
-    checks: Sequence[Sequence[ShippedCase]]
+    checks: Sequence[Check]
     timeout: int
     traces: str
 
@@ -103,21 +115,29 @@ class Sick(Exception):
     """A worker that cannot work; the text says why."""
 
 
+class NoAnswer(Exception):
+    """Ends a run that came to no trace; the answer says how."""
+
+    def __init__(self, found: Answer) -> None:
+        super().__init__(found["message"])
+        self.answer = found
+
+
 class Bench:
     """A folder with a shipment, where runs take place."""
 
     def __init__(self, shipment: Shipment, place: str) -> None:
         self.shipment, self.place = shipment, place
         self.folder = ""
-        self.cases: dict[int, list[Any]] = {}
-        self.lock = threading.Lock()  # for a worker of several threads: the folder is for one run at a time
+        self.cases: dict[int, list[cases.Case]] = {}
 
     def prove(self) -> str | None:
         """Unpacks what is not there, and runs a known scenario. None where it came out as it should, else why not."""
         try:
             self.unpack()
-            with open(f"{self.folder}/trace", "w+b") as trace:
-                done = self.simulate(PROOF_SCENARIO, trace, PROOF_SECONDS)
+            with open(f"{self.folder}/{TRACE}", "w+b") as trace:
+                self.write_scenario(self.folder, PROOF_SCENARIO)
+                done = self.call(self.folder, ["run", SCENARIO], trace, PROOF_SECONDS)
                 trace.seek(0)
                 found = hashlib.sha256(trace.read()).digest()
         except OSError as fault:
@@ -125,7 +145,7 @@ class Bench:
         except subprocess.TimeoutExpired:
             return f"the known scenario took more than {PROOF_SECONDS} s"
         if done.returncode:
-            return f"the known scenario ended with status {done.returncode}: {said_by(done, self.folder)}".rstrip(": ")
+            return f"the known scenario ended with status {done.returncode}: {said_by(done)}".rstrip(": ")
         if found != hashlib.sha256(PROOF_TRACE.encode()).digest():
             return "the known scenario came out otherwise than it should"
         return None
@@ -134,10 +154,11 @@ class Bench:
         """Writes the files of the shipment that are not there."""
         if not os.path.isdir(self.folder):
             self.folder = tempfile.mkdtemp(prefix="avrora-", dir=self.place)
+        os.makedirs(f"{self.folder}/{OWN}", exist_ok=True)
         for name, content in [*self.shipment.files.items(), (PROOF_NAME, PROOF_IMAGE.encode())]:
             path = f"{self.folder}/{name}"
             if not os.path.exists(path) or os.path.getsize(path) != len(content):
-                with open(path, "wb") as file:
+                with named(path), open(path, "wb") as file:
                     file.write(content)
                 os.chmod(path, 0o755 if name == PROGRAM else 0o644)
 
@@ -155,8 +176,9 @@ class Bench:
         """Runs a job. Raises Sick where it is the worker that cannot."""
         start = time.monotonic()
         try:
-            with open(f"{self.folder}/trace", "w+b") as trace:
-                found = self.judged(job, trace)
+            place = self.folder_for(job)
+            with open(f"{place}/{TRACE}", "w+b") as trace:
+                found = self.judged(job, place, trace)
                 keeps = self.shipment.traces
                 if keeps == "all" or keeps == "failed" and found["outcome"] in (FAILED, BROKEN):
                     found["trace"] = packed(trace)
@@ -171,63 +193,106 @@ class Bench:
         found["seconds"] = round(time.monotonic() - start, 4)
         return found
 
-    def simulate(self, scenario: str, trace: IO[bytes], seconds: float) -> "subprocess.CompletedProcess[bytes]":
-        with open(f"{self.folder}/scenario.toml", "w", encoding="utf-8", errors="surrogateescape") as file:
-            file.write(scenario)
+    def folder_for(self, job: Job) -> str:
+        """Where the simulator finds the images of a job, which it seeks from the folder that it works in."""
+        _, _, images = job
+        if not images:
+            return self.folder
+        place = f"{self.folder}/{OWN}"
+        for name, content in images.items():
+            with open(f"{place}/{name}", "wb") as file:
+                file.write(content)
+        return place
+
+    def write_scenario(self, place: str, text: str) -> None:
+        with open(f"{place}/{SCENARIO}", "w", encoding="utf-8", errors="surrogateescape") as file:
+            file.write(text)
+
+    def call(
+        self, place: str, words: Sequence[str], output: IO[bytes], seconds: float
+    ) -> "subprocess.CompletedProcess[bytes]":
+        """Runs the simulator in a folder."""
         return subprocess.run(
-            [f"{self.folder}/{PROGRAM}", "run", f"{self.folder}/scenario.toml"],
-            cwd=self.folder,
+            [f"{self.folder}/{PROGRAM}", *words],
+            cwd=place,
             stdin=subprocess.DEVNULL,
-            stdout=trace,
+            stdout=output,
             stderr=subprocess.PIPE,
             timeout=seconds,
             check=False,
         )
 
-    def judged(self, job: Job, trace: IO[bytes]) -> Answer:
-        """What came of the simulator and of the cases."""
-        scenario, check = job
+    def said_at_end(self, place: str, words: Sequence[str], output: IO[bytes]) -> tuple[int, str]:
+        """The status of a call of the simulator, and what it said. Raises NoAnswer where that is nothing of the scenario's:
+        where another call may come to something else."""
         try:
-            done = self.simulate(scenario, trace, self.shipment.timeout)
+            done = self.call(place, words, output, self.shipment.timeout)
         except subprocess.TimeoutExpired:
-            return answer(BROKEN, f"took more than {self.shipment.timeout} s", again=True)
-        said = said_by(done, self.folder)
-        if done.returncode in REFUSALS:
-            return answer(REFUSED, said)
-        if done.returncode:
-            trouble = done.returncode in WORKER_FAULTS
-            again = trouble or done.returncode < 0 or done.returncode in MEMORY_FAULTS
-            return answer(BROKEN, f"status {done.returncode}: {said}", again=again, trouble=trouble)
-        return self.checked(check, trace)
+            raise NoAnswer(answer(BROKEN, f"took more than {self.shipment.timeout} s", again=True)) from None
+        status, said = done.returncode, said_by(done)
+        trouble = status in WORKER_FAULTS
+        if trouble or status < 0 or status in MEMORY_FAULTS:
+            raise NoAnswer(answer(BROKEN, f"status {status}: {said}", again=True, trouble=trouble))
+        return status, said
 
-    def checked(self, check: int, trace: IO[bytes]) -> Answer:
-        """Shows all cases the trace; the first failure of each is told."""
-        if check not in self.cases:
-            self.cases[check] = [self.case(shipped) for shipped in self.shipment.checks[check]]
+    def judged(self, job: Job, place: str, trace: IO[bytes]) -> Answer:
+        """What came of the simulator and of the checks."""
+        scenario, check, _ = job
+        self.write_scenario(place, scenario)
+        try:
+            status, said = self.said_at_end(place, ["run", SCENARIO], trace)
+            if status in REFUSALS:
+                return answer(REFUSED, said)
+            if status:
+                return answer(BROKEN, f"status {status}: {said}")
+            return self.checked(check, place, trace)
+        except NoAnswer as end:
+            return end.answer
+
+    def checked(self, index: int, place: str, trace: IO[bytes]) -> Answer:
+        """Shows all cases the trace, and compares it in all ways; the first failure of each is told."""
+        check = self.shipment.checks[index]
+        if index not in self.cases:
+            self.cases[index] = [self.case(shipped) for shipped in check.cases]
         failures = []
-        for shipped, case in zip(self.shipment.checks[check], self.cases[check]):
+        for shipped, case in zip(check.cases, self.cases[index]):
             trace.seek(0)
             try:
-                failure = expectations.check(case, trace).failure
+                failure = expectations.check(case, cast(BinaryIO, trace)).failure
             except ToolError as fault:
                 return answer(BROKEN, f"{shipped.path}: {fault}")
             if failure:
                 for golden in shipped.goldens:
                     failure = failure.replace(f"{self.folder}/{golden.file}", golden.path)
                 failures.append(failure)
-        found = answer(FAILED if failures else PASSED, "\n".join(failures))
-        trace.seek(0)
-        found["hash"] = hashlib.file_digest(trace, "sha256").hexdigest()  # type: ignore[arg-type]
-        found["counts"] = counted(trace)
-        return found
 
-    def case(self, shipped: ShippedCase) -> Any:
+        def call(words: Sequence[str], output: BinaryIO) -> str | None:
+            status, said = self.said_at_end(place, words, output)
+            return f"status {status}: {said}" if status else None
+
+        compared = {}
+        for way in check.ways:
+            try:
+                found = comparisons.WAYS[way](comparisons.Place(place, SCENARIO, TRACE, call))
+            except ToolError as fault:
+                found = comparisons.Found(f"{way}: {fault}", 0)
+            compared[way] = found.compared
+            if found.difference:
+                failures.append(found.difference)
+        judged = answer(FAILED if failures else PASSED, "\n".join(failures))
+        trace.seek(0)
+        judged["hash"] = hashlib.file_digest(cast(io.BufferedRandom, trace), "sha256").hexdigest()
+        judged["counts"] = counted(trace)
+        judged["compared"] = compared
+        return judged
+
+    def case(self, shipped: ShippedCase) -> cases.Case:
         """A case of the shipment, by the names that its reader knows."""
-        case = expectations.read_case(f"{self.folder}/{shipped.file}")
+        case = cases.read_case(f"{self.folder}/{shipped.file}")
         goldens = iter(shipped.goldens)
         statements = [
             statement._replace(path=f"{self.folder}/{next(goldens).file}")
-            if isinstance(statement, expectations.Golden)
+            if isinstance(statement, cases.Golden)
             else statement
             for statement in case.statements
         ]
@@ -243,6 +308,7 @@ def answer(outcome: str, message: str = "", again: bool = False, trouble: bool =
         "message": message,
         "counts": None,
         "hash": None,
+        "compared": None,
         "seconds": 0.0,
         "trace": None,
         "again": again,
@@ -250,12 +316,21 @@ def answer(outcome: str, message: str = "", again: bool = False, trouble: bool =
     }
 
 
+@contextlib.contextmanager
+def named(path: str) -> Iterator[None]:
+    """An OSError in the block that names no file names this one: writing to it failed."""
+    try:
+        yield
+    except OSError as fault:
+        raise OSError(fault.errno, fault.strerror, fault.filename or path) from None
+
+
 def described(fault: OSError) -> str:
     return f"{fault.filename}: {fault.strerror}" if fault.filename else str(fault.strerror or fault)
 
 
-def said_by(done: "subprocess.CompletedProcess[bytes]", folder: str) -> str:
-    return done.stderr.decode(errors="replace").strip().replace(f"{folder}/", "")
+def said_by(done: "subprocess.CompletedProcess[bytes]") -> str:
+    return done.stderr.decode(errors="replace").strip()
 
 
 def packed(trace: IO[bytes]) -> bytes:

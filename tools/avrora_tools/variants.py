@@ -1,32 +1,37 @@
-"""The scenarios of a campaign: one with other values at some keys, or networks of a shape; made one by one, as they are
-needed.
+"""The scenarios of a campaign: one with other values at some keys, networks of a shape, or what a function draws; made one by
+one, as they are needed.
 
 All runs that differ in the values of the same keys are a group. A group knows how many they are, and makes each from its
 index, so that a campaign of a million runs costs no more to begin than one of ten.
 """
 import copy
 import dataclasses
+import functools
 import hashlib
+import importlib.util
 import json
 import math
 import os
 import re
+import sys
 import tomllib
-from collections.abc import Callable, Iterable, Sequence
+from collections.abc import Callable, Sequence
+from pathlib import Path
 from typing import Any
 
-from avrora_tools import checkers, networks, scenarios
+from avrora_tools import campaign_keys, checkers, networks, scenarios
+from avrora_tools.campaign_keys import Table, unknown
 from avrora_tools.errors import BadInput
 from avrora_tools.files import printable
-
-# A table of TOML.
-Table = dict[str, Any]
 
 # The name in the shipment of a file, which is then in it. Raises BadInput where the file cannot be read.
 Ship = Callable[[str], str]
 
 # Of an axis with few values each is tried before the first run, so that a bad one is told at once.
 FEW_VALUES = 64
+
+# Networks that a function drew last, at least as many as are under way from their digest to a worker.
+DRAWN_KEPT = 512
 
 
 @dataclasses.dataclass(frozen=True, slots=True)
@@ -66,6 +71,10 @@ class Run:
         """The scenario for a worker, whose images have their names in the shipment."""
         return self.group.shipped(self.values)
 
+    def images(self) -> dict[str, bytes]:
+        """The images of this run alone, by the names that its scenario has for them; others are in the shipment."""
+        return self.group.own_images(self.values)
+
     def recipe(self) -> str:
         """All that the scenario is made of, the content of its images too, as a text."""
         return self.group.recipe(self.values)
@@ -97,6 +106,9 @@ class Group:
 
     def shipped(self, values: Sequence[Any]) -> str:
         raise NotImplementedError
+
+    def own_images(self, values: Sequence[Any]) -> dict[str, bytes]:
+        return {}
 
     def recipe(self, values: Sequence[Any]) -> str:
         raise NotImplementedError
@@ -154,10 +166,17 @@ class NetworkGroup(Group):
     ) -> None:
         super().__init__(place, name, axes, check)
         self.table = table
-        unknown(place, {*table, *(axis.key for axis in axes)}, NETWORK_KEYS)
+        campaign_keys.check(place, table, campaign_keys.NETWORK)
+        unknown(place, [axis.key for axis in axes], campaign_keys.NETWORK)
+        for axis in axes:
+            for value in (axis.values[0], axis.values[-1]) if isinstance(axis.values, range) else axis.values:
+                campaign_keys.check_value(place, axis.key, value, campaign_keys.NETWORK)
+        for key in campaign_keys.NEEDED_OF_NETWORK:
+            if key not in table and all(axis.key != key for axis in axes):
+                raise BadInput(f"{place}: a network has {' and '.join(campaign_keys.NEEDED_OF_NETWORK)}")
         varied_images = [axis.values for axis in axes if axis.key == "images"]
         self.images: dict[str, str] = {}
-        for value in varied_images[0] if varied_images else [table.get("images")]:
+        for value in varied_images[0] if varied_images else [table["images"]]:
             for image in images_of(place, value):
                 self.images[image] = shipped_image(image, folder, ship)
         first = [axis.values[0] for axis in axes]
@@ -178,7 +197,7 @@ class NetworkGroup(Group):
     def recipe(self, values: Sequence[Any]) -> str:
         """Without making the network: that takes as long as many a run."""
         options = self.options(values)
-        names = [self.images[image] for image in images_of(self.place, options.pop("images", None))]
+        names = [self.images[image] for image in images_of(self.place, options.pop("images"))]
         version = checkers.version(checkers.NETWORKS)
         return json.dumps([version, names, sorted(options.items())], default=str)
 
@@ -186,15 +205,70 @@ class NetworkGroup(Group):
         return [checkers.version(checkers.NETWORKS), sorted(self.images.items()), sorted(self.table.items())]
 
 
-NETWORK_KEYS = frozenset(networks.scenario.__code__.co_varnames[: networks.scenario.__code__.co_argcount]) | frozenset(
-    networks.scenario.__kwdefaults__
-)
+class DrawnGroup(Group):
+    """Networks with images of their own, which a function of the user draws, each by its number."""
+
+    def __init__(self, place: str, name: str, axes: Sequence[Axis], check: int, path: str) -> None:
+        super().__init__(place, name, axes, check)
+        if [axis.key for axis in axes] != [NUMBER]:
+            raise BadInput(f"{place}: of what is drawn vary has {NUMBER}, and nothing else")
+        self.path = path
+        self.draw = drawing_function(place, path)
+        self.made = functools.lru_cache(DRAWN_KEPT)(self.make)
+        self.made(axes[0].values[0])
+
+    def make(self, number: Any) -> tuple[str, dict[str, bytes]]:
+        try:
+            text, images = self.draw(number)
+            found = str(text), {str(name): bytes(content) for name, content in images.items()}
+        except Exception as fault:  # of a function of the user
+            raise BadInput(f"{self.place}: draw({number}) ended with {type(fault).__name__}: {fault}") from None
+        for name in found[1]:
+            if not re.fullmatch(r"[A-Za-z0-9_-][A-Za-z0-9_.-]{0,99}", name):
+                raise BadInput(f"{self.place}: draw({number}) has an image {printable(name)}, which is no plain name")
+        return found
+
+    def scenario(self, values: Sequence[Any]) -> str:
+        return self.made(values[0])[0]
+
+    shipped = scenario
+
+    def own_images(self, values: Sequence[Any]) -> dict[str, bytes]:
+        return self.made(values[0])[1]
+
+    def recipe(self, values: Sequence[Any]) -> str:
+        text, images = self.made(values[0])
+        contents = [[name, hashlib.sha256(content).hexdigest()] for name, content in sorted(images.items())]
+        return json.dumps([text, contents])
+
+    def base(self) -> Any:
+        """What the function may read, so far as it is known: the files of its folder, and Python."""
+        folder = Path(self.path).resolve().parent
+        found = [(it.name, it.read_bytes()) for it in sorted(folder.iterdir()) if it.is_file()]
+        return [sys.version, [[name, hashlib.sha256(content).hexdigest()] for name, content in found]]
 
 
-def unknown(place: str, found: Iterable[str], keys: Iterable[str]) -> None:
-    """Raises BadInput where one that is found is none of the keys."""
-    for key in sorted(set(found) - set(keys)):
-        raise BadInput(f"{place}: the key {printable(key)} is unknown; there are {', '.join(sorted(keys))}")
+NUMBER = "number"
+
+
+def drawing_function(place: str, path: str) -> Callable[[Any], Any]:
+    """The function `draw` of a Python file, which finds the modules of its folder."""
+    spec = importlib.util.spec_from_file_location("campaign_draw", path)
+    try:
+        if not spec or not spec.loader:
+            raise ImportError("no name of a Python file")
+        module = importlib.util.module_from_spec(spec)
+        sys.path.insert(0, os.path.dirname(os.path.abspath(path)))
+        try:
+            spec.loader.exec_module(module)
+        finally:
+            del sys.path[0]
+    except (Exception, SystemExit) as fault:  # of a file of the user
+        raise BadInput(f"{place}: {printable(path)} cannot be loaded: {type(fault).__name__}: {fault}") from None
+    draw = getattr(module, "draw", None)
+    if not callable(draw):
+        raise BadInput(f"{place}: {printable(path)} has no function draw")
+    return draw  # type: ignore[no-any-return]
 
 
 def shown(value: Any) -> str:
@@ -242,76 +316,33 @@ def tables_of(place: str, network: Table, key: str, parts: Sequence[str]) -> lis
     return found
 
 
-def images_of(place: str, images: Any) -> list[str]:
+def images_of(place: str, images: str | list[str]) -> list[str]:
     """The names of a network's images, in the order of its nodes."""
-    images = [images] if isinstance(images, str) else images
-    if not isinstance(images, list) or not images or not all(isinstance(image, str) for image in images):
-        raise BadInput(f"{place}: a network has a shape, and images: a list of IMAGE or IMAGE*COUNT")
     try:
-        return list(networks.counted(images))
+        return list(networks.counted([images] if isinstance(images, str) else images))
     except BadInput as fault:
         raise BadInput(f"{place}: {fault}") from None
 
 
 def network_text(place: str, options: Table, names: dict[str, str]) -> str:
-    """The scenario that mknet makes of the options, with the images called by `names`. Raises BadInput where they are
-    none of it."""
+    """The scenario that mknet makes of the options, with the images called by `names`. Raises BadInput where they make
+    none."""
     options = dict(options)
-    shape, images = options.pop("shape", None), images_of(place, options.pop("images", None))
-    if not isinstance(shape, str):
-        raise BadInput(f"{place}: a network has a shape, and images: a list of IMAGE or IMAGE*COUNT")
-    for key, value in options.items():
-        form, accepts = NETWORK_FORMS[key]
-        if not accepts(value):
-            raise BadInput(f"{place}: {key} is {form}")
+    shape, images = options.pop("shape"), images_of(place, options.pop("images"))
     for key in ("window", "link_latency"):
         if key in options:
             options[key] = tuple(options[key])
     if "spans" in options:
         options["spans"] = {
-            tuple(map(int, ends.split("-"))): [tuple(span) for span in spans]
-            for ends, spans in options["spans"].items()
+            (int(first), int(second)): [tuple(span) for span in spans]
+            for (first, second), spans in ((ends.split("-"), spans) for ends, spans in options["spans"].items())
         }
     if "inputs" in options:
         options["inputs"] = {int(node): digits for node, digits in options["inputs"].items()}
     try:
-        return str(networks.scenario(shape, [names.get(image, image) for image in images], **options))
-    except (TypeError, ValueError, BadInput) as fault:
+        return networks.scenario(shape, [names.get(image, image) for image in images], **options)
+    except BadInput as fault:
         raise BadInput(f"{place}: {fault}") from None
-
-
-def is_number(value: Any) -> bool:
-    return type(value) is int and value >= 0
-
-
-def is_pair(value: Any) -> bool:
-    return isinstance(value, list) and len(value) == 2 and all(map(is_number, value)) and value[0] <= value[1]
-
-
-def is_spans(value: Any) -> bool:
-    return isinstance(value, dict) and all(
-        re.fullmatch("[0-9]{1,2}-[0-9]{1,2}", ends) and isinstance(spans, list) and all(map(is_pair, spans))
-        for ends, spans in value.items()
-    )
-
-
-def is_inputs(value: Any) -> bool:
-    return isinstance(value, dict) and all(
-        re.fullmatch("[0-9]{1,2}", node) and isinstance(digits, str) for node, digits in value.items()
-    )
-
-
-# The forms of a network's options: what each is in words, and whether a value is one.
-NUMBER_FORM = ("a whole number", is_number)
-NETWORK_FORMS: dict[str, tuple[str, Callable[[Any], bool]]] = {
-    **dict.fromkeys(("cycles", "latency", "byte_time", "at", "stagger", "every"), NUMBER_FORM),
-    "seed": ("a whole number", lambda value: type(value) is int),
-    "window": ("a pair such as [0, 20_000]", is_pair),
-    "link_latency": ("a pair such as [100, 900], the lower one first", is_pair),
-    "numbers": ("true or false", lambda value: isinstance(value, bool)),
-    "inputs": ('a table such as { 2 = "0AFF" }: nodes, and hexadecimal digits', is_inputs),
-    "spans": ('a table such as { "0-1" = [[0, 1000]] }: links, and when each is open', is_spans),
-}
 
 
 class Template:

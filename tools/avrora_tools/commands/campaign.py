@@ -140,10 +140,11 @@ def run_all(campaign: Campaign, arguments: argparse.Namespace) -> int:
         report = reports.Report([store.database])
         reports.write_summaries(report, folder)
         report.print_table(sys.stdout, f"{folder}/summary.txt")
-        return status_of(report)
+        status = status_of(report)
+    return status
 
 
-def status_of(report: reports.Report) -> int:
+def status_of(report: reports.Report) -> Status:
     """The status by what came of the runs: a check that is not met is told before a run that came to no answer, or has
     none yet, which says nothing of the firmware."""
     outcomes = report.outcomes()
@@ -210,7 +211,8 @@ def report_on(arguments: argparse.Namespace) -> int:
             report.write_parquet(arguments.parquet)
         if not (arguments.json or arguments.junit or arguments.parquet):
             report.print_table(sys.stdout, None)
-        return status_of(report)
+        status = status_of(report)
+    return status
 
 
 def path_of_results(path: str, arguments: argparse.Namespace) -> str:
@@ -221,14 +223,16 @@ def path_of_results(path: str, arguments: argparse.Namespace) -> str:
     return f"{folder_of(campaigns.read(path), arguments.shard, arguments.results)}/{results.FILE}"
 
 
-def scenario_of(campaign: Campaign, name: str) -> str:
+def run_of(campaign: Campaign, name: str) -> Run:
     for run in campaign.runs():
         if run.name == name:
-            return run.scenario()
+            return run
     raise BadInput(f"{campaign.path}: no run is called {files.printable(name)}; --list tells all names")
 
 
 def run(arguments: argparse.Namespace) -> int:
+    if arguments.images and not arguments.scenario:
+        raise BadWords("--images goes with --scenario")
     if arguments.report:
         return report_on(arguments)
     for word in ("by", "top", "reverse", "json", "junit", "parquet"):
@@ -242,7 +246,12 @@ def run(arguments: argparse.Namespace) -> int:
             print(one.name)
         return Status.GOOD
     if arguments.scenario:
-        print(scenario_of(campaign, arguments.scenario), end="")
+        one = run_of(campaign, arguments.scenario)
+        print(one.scenario(), end="")
+        if arguments.images:
+            results.write_images(arguments.images, one.images())
+        elif one.images():
+            terminal.warn("its images were drawn for it; --images FOLDER writes them")
         return Status.GOOD
     end_as_by_interrupt()
     return run_all(campaign, arguments)
@@ -270,6 +279,7 @@ def configure(parser: argparse.ArgumentParser) -> None:
     )
     parser.add_argument("--list", action="store_true", help="write the names of all runs, and run none")
     parser.add_argument("--scenario", metavar="NAME", help="write the scenario of one run, and run none")
+    parser.add_argument("--images", metavar="FOLDER", help="with --scenario: write the images that this run alone has")
     parser.add_argument(
         "--report", action="store_true", help="tell what is there, also of a campaign at work, and run none"
     )
