@@ -86,11 +86,11 @@ def by_links(place: Place) -> Found:
 # By the words of a campaign's file, in the order in which they are compared.
 WAYS: Mapping[str, Callable[[Place], Found]] = {"plain": plain, "resumed": resumed, "links": by_links}
 
-# What reports call them.
+# What reports call what was compared.
 TITLES = {
-    "plain": "with run --plain, rows",
-    "resumed": "with head joined to resume, rows",
-    "links": "by links, samples",
+    "plain": "rows equal to those of run --plain",
+    "resumed": "rows equal to those of head joined to resume",
+    "links": "samples checked by links",
 }
 
 
@@ -107,7 +107,7 @@ def with_calls(place: Place, name: str, calls: Sequence[Sequence[str]]) -> Found
 
 
 def compared(name: str, trace: BinaryIO, other: BinaryIO) -> Found:
-    """The first row in which two traces differ, or how many rows both have."""
+    """The first row in which two traces differ, and how many rows are equal before it, or in all."""
     rows = 0
     for ours, theirs in zip(blocks(trace), blocks(other)):
         if ours != theirs:
@@ -120,7 +120,7 @@ def compared(name: str, trace: BinaryIO, other: BinaryIO) -> Found:
     pairs = itertools.zip_longest(trace, other, fillvalue=b"no row\n")
     row, (ours, theirs) = next((row, pair) for row, pair in enumerate(pairs, 1) if pair[0] != pair[1])
     texts = (line.decode(errors="backslashreplace").rstrip("\n") for line in (ours, theirs))
-    return Found(f"{name} differs in row {row:,}:\n- {next(texts)}\n+ {next(texts)}", rows)
+    return Found(f"{name} differs in row {row:,}:\n- {next(texts)}\n+ {next(texts)}", row - 1)
 
 
 def blocks(file: BinaryIO) -> Iterator[bytes]:

@@ -18,6 +18,7 @@ import socket
 import subprocess
 import tempfile
 import time
+import uuid
 from collections.abc import Sequence
 from multiprocessing.connection import Connection
 from pathlib import Path
@@ -95,6 +96,11 @@ class Pool(Protocol):
         """Ends all that the pool started."""
 
 
+def prefix_of(place: str) -> str:
+    """How the names begin of what the campaign of some results leaves elsewhere."""
+    return f"campaign-{hashlib.sha256(os.fsencode(place)).hexdigest()[:16]}-"
+
+
 @dataclasses.dataclass(eq=False)
 class LocalWorker(Worker):
     process: "subprocess.Popen[bytes] | None" = None
@@ -107,7 +113,7 @@ class LocalPool:
         """`results` is the folder that the campaign alone works in."""
         self.shipment = shipment
         # What a campaign of these results left that was killed goes.
-        prefix = f"campaign-{hashlib.sha256(os.path.realpath(results).encode()).hexdigest()[:16]}-"
+        prefix = prefix_of(os.path.realpath(results))
         for left in Path(tempfile.gettempdir()).glob(f"{prefix}*"):
             shutil.rmtree(left, ignore_errors=True)
         self.folder = tempfile.mkdtemp(prefix=prefix)
@@ -200,11 +206,13 @@ class DaskPool:
     """The workers of a scheduler of dask.distributed. Each batch goes to a worker that the campaign chose, so it is known
     who has what, and who is not to have anything."""
 
-    def __init__(self, address: str, shipment: runs.Shipment, name: str) -> None:
+    def __init__(self, address: str, shipment: runs.Shipment, results: str) -> None:
+        """`results` is the folder that the campaign alone works in."""
         import distributed
 
         logging.disable(logging.CRITICAL)  # what dask says in sixty lines this says in one
-        self.name = name
+        prefix = prefix_of(f"{socket.gethostname()}:{os.path.realpath(results)}")
+        self.name = f"{prefix}{uuid.uuid4()}"
         self.workers: dict[str, DaskWorker] = {}
         self.done: queue.SimpleQueue[tuple[DaskWorker, int | None, Any]] = queue.SimpleQueue()
         self.next_look = 0.0
@@ -213,8 +221,12 @@ class DaskPool:
         except (OSError, ValueError, TypeError) as fault:
             raise CannotWork(f"no scheduler of dask answers at {address}: {fault}") from None
         try:
-            carrier, self.prove, self.run_batch = runs.for_dask(name, shipment)
-            self.client.register_worker_plugin(carrier, name=name)
+            # What a campaign of these results left that was killed goes.
+            for left in self.client.run_on_scheduler(lambda dask_scheduler: list(dask_scheduler.worker_plugins)):
+                if left.startswith(prefix):
+                    self.client.unregister_worker_plugin(left)
+            carrier, self.prove, self.run_batch = runs.for_dask(self.name, shipment)
+            self.client.register_worker_plugin(carrier, name=self.name)
         except BaseException:
             self.close()
             raise
@@ -326,9 +338,7 @@ class DaskPool:
             self.client.close(timeout=2)
 
 
-def pool(
-    address: str | None, processes: int | None, shipment: runs.Shipment, name: str, count: int, results: str
-) -> Pool:
+def pool(address: str | None, processes: int | None, shipment: runs.Shipment, count: int, results: str) -> Pool:
     """The pool for a campaign of `count` runs; `address` is that of a scheduler, or None for this machine."""
     if not address:
         return LocalPool(min(processes or len(os.sched_getaffinity(0)), count), shipment, results)
@@ -336,4 +346,4 @@ def pool(
         import distributed  # noqa: F401
     except ImportError:
         raise terminal.missing("dask.distributed", "python3-distributed") from None
-    return DaskPool(address, shipment, name)
+    return DaskPool(address, shipment, results)

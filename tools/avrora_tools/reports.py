@@ -3,6 +3,7 @@ import collections
 import contextlib
 import itertools
 import json
+import operator
 import re
 import sqlite3
 import xml.sax.saxutils
@@ -76,7 +77,7 @@ class Report:
         if len(parts) == 1:
             return parts[0]
         # Of several files each is in order; what has no value comes last in each of them.
-        everything = sorted(itertools.chain(*parts), key=lambda row: row["number"])
+        everything = sorted(itertools.chain(*parts), key=operator.itemgetter("number"))
         valued = [row for row in everything if self.value(row) is not None]
 
         def rank(row: dict[str, Any]) -> tuple[bool, Any]:
@@ -97,7 +98,7 @@ class Report:
         return ", ".join([*parts, *([f"{missing} without a result yet"] if missing > 0 else [])])
 
     def compared(self) -> list[str]:
-        """A line for each way in which runs were compared: how many, and how much of them."""
+        """A line for each way in which runs were compared: how much of how many."""
         runs_of: collections.Counter[str] = collections.Counter()
         amounts: collections.Counter[str] = collections.Counter()
         query = "SELECT key, count(*), sum(value) FROM run, json_each(run.compared) WHERE value > 0 GROUP BY key"
@@ -106,7 +107,7 @@ class Report:
                 runs_of[way] += count
                 amounts[way] += amount
         return [
-            f"compared {comparisons.TITLES[way]}: {amounts[way]:,} of {runs_of[way]:,} runs"
+            f"{amounts[way]:,} {comparisons.TITLES[way]}, in {runs_of[way]:,} runs"
             for way in comparisons.TITLES
             if runs_of[way]
         ]

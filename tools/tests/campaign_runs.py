@@ -16,7 +16,8 @@ from avrora_tools import results, runs
 # scenario is refused, 2 it hangs, 3 it fails the first time, 4 it always fails, 5 with a status that another attempt does
 # not change, 6 with that of a full disk, else node 0 sends a byte. It notes each start. The scenario by which a worker
 # proves itself comes out as it should, unless CAMPAIGN_SICK is set. From the latency CAMPAIGN_HELD on it says in a file
-# that the process which started it has a run under way, and waits for the file `go` beside the log.
+# that the process which started it has a run under way, and waits for the file `go` beside the log. From the latency
+# CAMPAIGN_FULL on it fills the disk that it works on, and ends as one that cannot write.
 SIMULATOR = f"""#!{sys.executable} -IS
 import os, sys, time
 text = open(sys.argv[2]).read()
@@ -32,6 +33,14 @@ if latency >= int(os.environ.get("CAMPAIGN_HELD", 1_000_000)):
     open(f"{{place}}/held-{{os.getppid()}}", "w").close()
     while os.path.exists(log) and not os.path.exists(f"{{place}}/go"):
         time.sleep(0.02)
+if latency >= int(os.environ.get("CAMPAIGN_FULL", 1_000_000)):
+    try:
+        with open("filler", "wb") as file:
+            while True:
+                file.write(bytes(1000))
+                file.flush()
+    except OSError:
+        sys.exit(1)
 if latency == 1:
     sys.exit(sys.stderr.write(f"avrora: {{sys.argv[2]}}: scenario refused: OutOfRange\\n") and 4)
 if latency == 2:

@@ -8,7 +8,7 @@ import unittest
 from pathlib import Path
 
 from campaign_runs import CAMPAIGN, folder, hear_interrupts, hidden_dask, let_go, run_campaign, starts, stored
-from support import LONG, TOOL, TOOLS, wait_for
+from support import LONG, TOOL, TOOLS, needs_mounts, wait_for, with_disk
 from avrora_tools import campaigns, checkers, results
 from avrora_tools.errors import CannotWork
 
@@ -88,6 +88,42 @@ class Ended(unittest.TestCase):
             self.assertTrue(is_there(child))
             with results.locked(path):
                 pass
+
+
+@needs_mounts
+class Disks(unittest.TestCase):
+    """A campaign of this machine on a disk of its own that cannot be used; elsewhere the same command goes on."""
+
+    def status_and_errors(self, path, disk, options, **env):
+        os.makedirs(disk, exist_ok=True)
+        words = with_disk(disk, options, [*TOOL, "campaign", "--avrora", f"{path}/avrora", f"{path}/c.toml"])
+        env = {**os.environ, "CAMPAIGN_LOG": f"{path}/log", **env}
+        done = subprocess.run(words, env=env, capture_output=True, text=True, timeout=LONG, check=False)
+        return done.returncode, done.stderr
+
+    def test_without_exec(self):
+        """All workers are sick, which is no answer to any run."""
+        with folder(HELD) as path:
+            status, errors = self.status_and_errors(path, f"{path}/disk", "noexec", TMPDIR=f"{path}/disk")
+            self.assertEqual(status, 3, errors)
+            self.assertIn("all workers are set aside: ", errors)
+            self.assertIn("/avrora: Permission denied", errors)
+            self.assertEqual(stored(path), 0)
+            self.assertEqual(run_campaign(path)[0], 1)
+
+    def test_full_for_workers(self):
+        with folder(HELD) as path:
+            status, errors = self.status_and_errors(path, f"{path}/disk", "size=8k", TMPDIR=f"{path}/disk")
+            self.assertEqual(status, 3, errors)
+            self.assertIn("No space left on device", errors)
+            self.assertEqual(stored(path), 0)
+
+    def test_full_for_results(self):
+        with folder(HELD) as path:
+            status, errors = self.status_and_errors(path, f"{path}/c.results", "size=16k")
+            self.assertEqual(status, 3, errors)
+            self.assertIn("results.sqlite: ", errors)
+            self.assertIn("full", errors)
 
 
 class Kept(unittest.TestCase):

@@ -73,7 +73,7 @@ class FakePool:
         for worker in [worker for worker in self.workers if worker.tickets and not events]:
             ticket, jobs = worker.tickets.popitem(last=False)
             self.batches[worker.name] += 1
-            numbers = [int(text) for text, _ in jobs]
+            numbers = [int(text) for text, _, _ in jobs]
             if worker.name in self.sick and self.batches[worker.name] > 1:
                 events.append(pools.Done(worker, ticket, [], "the disk is full"))
             elif set(numbers) & set(self.killers):
@@ -109,6 +109,9 @@ class Run:
 
     def shipped(self):
         return str(self.number)
+
+    def images(self):
+        return {}
 
 
 class Sharing(unittest.TestCase):

@@ -8,7 +8,7 @@ import sys
 import unittest
 
 from campaign_runs import CAMPAIGN, Outcomes, folder, let_go, run_campaign, starts, stored
-from support import LOOPBACK, TOOL, needs_loopback, needs_module, wait_for
+from support import LONG, LOOPBACK, TOOL, needs_loopback, needs_module, needs_mounts, wait_for, with_disk
 
 
 @needs_module("distributed", "python3-distributed")
@@ -37,16 +37,26 @@ class Cluster(unittest.TestCase):
         self.stack.callback(process.kill)
         return process
 
-    def start_dask(self, what, *words, before="", env=None):
-        """Starts a scheduler or a worker; a shell does the words `before` first."""
+    def start_dask(self, what, *words, disk=None, env=None):
+        """Starts a scheduler or a worker; `disk` is a folder that is a disk of its own, and its options."""
         words = [sys.executable, "-m", f"distributed.cli.dask_{what}", "--host", LOOPBACK, "--no-dashboard", *words]
-        words = ["/bin/sh", "-c", f'{before} exec "$@"', "sh", *words]
+        if disk:
+            words = with_disk(*disk, words)
         env = {**self.env, **(env or {})}
         return self.start(words, cwd=self.path, env=env, stdout=subprocess.DEVNULL, stderr=subprocess.DEVNULL)
 
-    def start_worker(self, name, **more):
-        words = ["--nthreads", "1", "--no-nanny", "--name", name, "--local-directory", f"{self.path}/{name}"]
-        return self.start_dask("worker", *words, self.address, **more)
+    def start_worker(self, name, disk=None, **more):
+        """Starts a worker; its folder is a disk with these options of mount."""
+        folder = f"{self.path}/{name}"
+        os.mkdir(folder)
+        words = ["--nthreads", "1", "--no-nanny", "--name", name, "--local-directory", folder]
+        return self.start_dask("worker", *words, self.address, disk=disk and (folder, disk), **more)
+
+    def wait_for_workers(self, count):
+        """Waits until the scheduler knows so many workers."""
+        code = "import distributed, sys; distributed.Client(sys.argv[1]).wait_for_workers(int(sys.argv[2]))"
+        words = [sys.executable, "-c", code, self.address, str(count)]
+        subprocess.run(words, check=True, capture_output=True, timeout=LONG, env=self.env)
 
     def address_of_scheduler(self):
         """What the scheduler wrote into its file; None while that is not there, or a part of it is not: the file has
@@ -96,20 +106,40 @@ class Sick(Cluster):
     CAMPAIGN = CAMPAIGN.replace("[1, 3, 4, 20, 30]", "{ from = 100, to = 119 }")
     WORKERS = 0
 
-    def test_one_of_two(self):
-        """Its disk takes no file of more than 512 bytes."""
-        self.start_worker("full", before="ulimit -f 1;")
-        status, text = self.ended(*self.start_campaign())
-        self.assertEqual(status, 3, text)  # while it is the only one
+    def assert_set_aside(self, reason, at_once=True):
+        """Beside a worker that is well one named `sick` is set aside for a reason; all runs are passed, each by one attempt
+        that counts. Where that is `at_once`, none on the sick one."""
         self.start_worker("well")
-        campaign, said = self.start_campaign()
-        status, text = self.ended(campaign, said)
+        self.wait_for_workers(2)
+        status, text = self.ended(*self.start_campaign())
         self.assertEqual(status, 0, text)
-        self.assertRegex(text, "the worker .* full is set aside: .*: File too large")
+        self.assertRegex(text, f"the worker {socket.gethostname()} sick is set aside: .*{reason}")
         rows = self.rows()
         self.assertEqual([row["outcome"] for row in rows], ["passed"] * 20)
         self.assertEqual([row["attempts"] for row in rows], [1] * 20)
-        self.assertEqual({row["host"] for row in rows}, {f"{socket.gethostname()} well"})
+        hosts = {f"{socket.gethostname()} {name}" for name in (["well"] if at_once else ["well", "sick"])}
+        self.assertLessEqual({row["host"] for row in rows}, hosts)
+
+    @needs_mounts
+    def test_a_full_disk(self):
+        self.start_worker("sick", disk="size=16k")
+        self.wait_for_workers(1)
+        status, text = self.ended(*self.start_campaign())
+        self.assertEqual(status, 3, text)  # while it is the only one
+        self.assertIn("all workers are set aside: ", text)
+        self.assertIn("No space left on device", text)
+        self.assert_set_aside("No space left on device")
+
+    @needs_mounts
+    def test_a_disk_that_becomes_full(self):
+        """By what a run writes: that run and the others of its batch go elsewhere."""
+        self.start_worker("sick", disk="size=4m", env={"CAMPAIGN_FULL": "101"})
+        self.assert_set_aside("No space left on device", at_once=False)
+
+    @needs_mounts
+    def test_a_folder_without_exec(self):
+        self.start_worker("sick", disk="noexec")
+        self.assert_set_aside("/avrora: Permission denied")
 
     def test_all(self):
         """A simulator that does otherwise than it should on each of them, and one that cannot be executed."""
@@ -124,6 +154,27 @@ class Sick(Cluster):
         status, text = self.ended(*self.start_campaign())
         self.assertEqual(status, 3, text)
         self.assertIn("Exec format error", text)
+
+
+class ClientKilled(Cluster):
+    CAMPAIGN = CAMPAIGN.replace("[1, 3, 4, 20, 30]", "{ from = 100, to = 119 }")
+    HELD = 110
+    WORKERS = 2
+
+    def test_the_same_command_goes_on(self):
+        """At once, though the workers still have the runs of the client that was killed."""
+        campaign, _ = self.start_campaign()
+        wait_for(lambda: any(name.startswith("held-") for name in os.listdir(self.path)) and stored(self.path) >= 3)
+        campaign.kill()
+        campaign.wait(LONG)
+        at_kill = stored(self.path)
+        os.unlink(f"{self.path}/log")  # which lets the runs go on that are held
+        let_go(self.path)
+        status, text = self.ended(*self.start_campaign())
+        self.assertEqual(status, 0, text)
+        self.assertIn(f"{at_kill} of 20 results are there already, and are kept", text)
+        self.assertEqual([row["outcome"] for row in self.rows()], ["passed"] * 20)
+        self.assertLessEqual(len(set(starts(self.path))), 20 - at_kill)
 
 
 class Gone(Cluster):

@@ -7,7 +7,6 @@ import re
 import signal
 import subprocess
 import sys
-import uuid
 from collections.abc import Callable, Iterator
 from types import FrameType
 
@@ -162,11 +161,10 @@ def run_wanted(sitting: Sitting, simulator: bytes, arguments: argparse.Namespace
     shipment = runs.Shipment(
         {**campaign.files, runs.PROGRAM: simulator}, campaign.checks, settings["timeout"], settings["traces"]
     )
-    name = f"{campaign.name}-{uuid.uuid4()}"
     pool = None
     try:
         count = progress.total - progress.kept
-        pool = pools.pool(arguments.scheduler, arguments.processes, shipment, name, count, sitting.store.folder)
+        pool = pools.pool(arguments.scheduler, arguments.processes, shipment, count, sitting.store.folder)
         driving.Driver(pool, settings["attempts"], progress, sitting.save).drive(sitting.wanted(), sitting.rest)
     except (KeyboardInterrupt, ToolError):
         there = progress.kept + progress.outcomes.total()
