@@ -237,14 +237,17 @@ class DrawnGroup(Group):
         return self.made(values[0])[1]
 
     def recipe(self, values: Sequence[Any]) -> str:
-        text, images = self.made(values[0])
+        try:
+            text, images = self.made(values[0])
+        except BadInput as fault:
+            return json.dumps(str(fault))
         contents = [[name, hashlib.sha256(content).hexdigest()] for name, content in sorted(images.items())]
         return json.dumps([text, contents])
 
     def base(self) -> Any:
-        """What the function may read, so far as it is known: the files of its folder, and Python."""
+        """What decides what the function draws: Python, and the modules and images of its folder."""
         folder = Path(self.path).resolve().parent
-        found = [(it.name, it.read_bytes()) for it in sorted(folder.iterdir()) if it.is_file()]
+        found = [(it.name, it.read_bytes()) for it in sorted(folder.iterdir()) if it.suffix in (".py", ".hex")]
         return [sys.version, [[name, hashlib.sha256(content).hexdigest()] for name, content in found]]
 
 

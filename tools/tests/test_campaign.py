@@ -91,7 +91,7 @@ stagger = [0, 30]
             campaign = campaigns.read(f"{path}/c.toml")
             net, one = campaign.runs()
             self.assertEqual((net.name, one.name), ("net", "one"))
-            self.assertEqual([case.path for case in campaign.checks[one.group.check]], ["sub/one.expect"])
+            self.assertEqual([case.path for case in campaign.checks[one.group.check].cases], ["sub/one.expect"])
             self.assertEqual(tomllib.loads(net.scenario()), tomllib.loads(SCENARIO))
             node = {"cycles": 30_000, "window": [0, 20_000], "node": [{"image": "b.hex"}]}
             self.assertEqual(tomllib.loads(one.scenario()), node)
@@ -245,7 +245,7 @@ def draw(number):
 
     @contextlib.contextmanager
     def place(self):
-        with folder(self.CAMPAIGN, case="* 0 sent AA\nnever 30 0 sent *\n") as path:
+        with folder(self.CAMPAIGN, case="* 0 sent AA\nwithin 30..30: never * 0 sent *\n") as path:
             for name, text in ("drawing.py", self.DRAWING), ("beside.py", 'LETTER = "q"\n'):
                 with open(f"{path}/{name}", "w", encoding="utf-8") as file:
                     file.write(text)
@@ -262,7 +262,7 @@ def draw(number):
                 self.assertEqual(file.read(), b":00000001FF\n\x14")
             self.assertEqual(sorted(starts(path)), ["30", "31", "33"])
             _, _, errors, _ = run_campaign(path, "--processes", "1")
-            self.assertIn("3 of 4 results are there already", errors)
+            self.assertIn("4 of 4 results are there already", errors)
             # What it reads from beside it changed, so each is drawn again; the one image has another name.
             with open(f"{path}/beside.py", "w", encoding="utf-8") as file:
                 file.write('LETTER = "r"\n')

@@ -92,20 +92,21 @@ class TheReport(unittest.TestCase):
         return run_tool("campaign", "--report", *words, f"{path}/c.toml")
 
     def test_while_it_runs(self):
-        """The two runs that are held have no result yet; what there is stands in the report."""
-        campaign = CAMPAIGN.replace("[1, 3, 4, 20, 30]", "[20, 30, 40, 50]")
+        """The two runs that are held have no result yet; that of the first, which is a batch by itself, stands in the
+        report."""
+        campaign = CAMPAIGN.replace("[1, 3, 4, 20, 30]", "[20, 40, 50]")
         with folder(campaign) as path:
             env = {**os.environ, "CAMPAIGN_LOG": f"{path}/log", "CAMPAIGN_HELD": "40"}
             words = [*TOOL, "campaign", "--processes", "2", "--avrora", f"{path}/avrora", f"{path}/c.toml"]
             with subprocess.Popen(words, env=env, stdout=subprocess.DEVNULL, stderr=subprocess.DEVNULL) as process:
-                wait_for(lambda: stored(path) == 2)
+                wait_for(lambda: stored(path) == 1)
                 status, out, errors = self.report(path)
                 self.assertEqual(status, 1, errors)
-                self.assertIn("\nc: 4 runs, 1 passed, 1 failed, 2 without a result yet\n", out)
+                self.assertIn("\nc: 3 runs, 1 failed, 2 without a result yet\n", out)
                 self.assertIsNone(process.poll())
                 let_go(path)
                 self.assertEqual(process.wait(LONG), 1)
-            self.assertIn("\nc: 4 runs, 3 passed, 1 failed\n", self.report(path)[1])
+            self.assertIn("\nc: 3 runs, 2 passed, 1 failed\n", self.report(path)[1])
 
     def test_order(self):
         campaign = TWO.replace("[20, 30]", "[20, 30, 100]")

@@ -158,7 +158,7 @@ class Sick(Cluster):
 
 class ClientKilled(Cluster):
     CAMPAIGN = CAMPAIGN.replace("[1, 3, 4, 20, 30]", "{ from = 100, to = 119 }")
-    HELD = 110
+    HELD = 115  # behind the second batch, whoever comes first
     WORKERS = 2
 
     def test_the_same_command_goes_on(self):
@@ -198,7 +198,7 @@ class Gone(Cluster):
 class Killed(Cluster):
     RUNS = 60
     CAMPAIGN = CAMPAIGN.replace("[1, 3, 4, 20, 30]", f"{{ from = 100, to = {99 + RUNS} }}")
-    HELD = 120
+    HELD = 140  # behind the second batch, whoever comes first
     WORKERS = 3
 
     def worker_that_is_held(self):
