@@ -136,9 +136,8 @@ class Driver:
             for worker in sorted(self.workers, key=lambda worker: len(worker.tickets)):
                 if len(worker.tickets) < self.depth():
                     batch = self.batch(worker, wanted)
-                    if not batch:
-                        return
-                    self.send(worker, batch)
+                    if batch:  # else there may be one for another worker, which this one is to avoid
+                        self.send(worker, batch)
 
     def by_time(self) -> int:
         """How many runs take a batch's time."""

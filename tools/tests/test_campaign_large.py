@@ -59,7 +59,7 @@ class FakePool:
         self.workers = [pools.Worker(name) for name in seconds]
         self.events = [pools.Proved(worker) for worker in self.workers]
         self.sizes = []
-        self.most_held = 0
+        self.most_held = self.waits = 0
         self.ran = []
         self.batches = {name: 0 for name in seconds}
 
@@ -70,6 +70,8 @@ class FakePool:
 
     def wait(self, seconds):
         events, self.events = self.events, []
+        self.waits += 1
+        assert self.waits < 10_000, "nobody gets what is left"
         for worker in [worker for worker in self.workers if worker.tickets and not events]:
             ticket, jobs = worker.tickets.popitem(last=False)
             self.batches[worker.name] += 1
@@ -168,6 +170,14 @@ class Sharing(unittest.TestCase):
         saved = self.drive(pool, 200)
         self.assertEqual({(outcome, host) for outcome, _, host in saved.values()}, {("passed", "a")})
         self.assertEqual([worker.name for worker in pool.workers], ["a"])
+
+    def test_the_last_run_goes_to_another_worker(self):
+        """Also where the worker that it is to avoid is the first to be asked."""
+        for troubled in ("a", "b"):
+            pool = FakePool({"a": 0.1, "b": 0.1}, troubled=[troubled])
+            saved = self.drive(pool, 2)
+            self.assertEqual({outcome for outcome, _, _ in saved.values()}, {"passed"})
+            self.assertEqual({host for _, _, host in saved.values()}, {"a", "b"} - {troubled})
 
     def test_a_run_that_kills_its_worker(self):
         """It is found among those that were sent with it: they are passed, by one attempt each."""
