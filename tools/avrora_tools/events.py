@@ -143,6 +143,9 @@ class End(Event):
 EVENTS: tuple[type[Event], ...] = (Instr, Enter, Serial, Sent, Heard, Stop, End)
 KINDS = {event.kind: event for event in EVENTS}
 
+# The kinds of rows that a trace has in its window alone.
+TRACED = frozenset(kind for kind, event in KINDS.items() if event.care is Care.TRACED)
+
 # The vectors of the interrupts, two words each behind that of the reset.
 FIRST_VECTOR, LAST_VECTOR = 0x02, 0x44
 
