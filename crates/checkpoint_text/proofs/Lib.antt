@@ -1,7 +1,9 @@
+pub mod Alone
 pub mod Trails
 pub mod Ordered
 pub mod Hearing
-pub mod Pauses
+pub mod Flights
+pub mod Steps
 pub mod NodeIs
 pub mod EachNode
 pub mod OnwardRows
