@@ -244,9 +244,20 @@ def look_alike(it):
             (0, [ldi(16, 200), word("subi", d=0, K=1), word("sbci", d=0, K=0)] + where(Z, False, 2)))
 
 
+def windows(it):
+    # INC begins in each cycle from 0 on, 30 times; RJMP in 30 + 2 j, five times below 40
+    inc = word("inc", d=16)
+    it.case("straight", "A window that begins and ends within straight code; one whose first cycle is the second of an instruction.",
+            ["20 0 instr 0014 inc r16", "21 0 instr 0015 inc r16", "22 0 instr 0016 inc r16", "23 0 instr 0017 inc r16", "40 0 end 35 running"], 40,
+            (0, [inc] * 30 + back(0)), window=(20, 24))
+    # ADIW begins in 19, so INC behind it in 21; 19 + 1 + 10 instructions, and RJMP in 31 + 2 j, five times below 40
+    it.case("straddled", "", ["21 0 instr 0014 inc r16", "22 0 instr 0015 inc r16", "23 0 instr 0016 inc r16", "40 0 end 35 running"], 40,
+            (0, [inc] * 19 + [word("adiw", d=0, K=1)] + [inc] * 10 + back(0)), window=(20, 24))
+
+
 def main():
     it = Leaps(folder_of_words(__doc__), ["worked out by hand, as bench/network/leaps.py has it at each; the traces are also those of bench/network/network.py."])
-    for part in (polls, flags, delays, other_flags, seen, seen_pairs, stores, look_alike):
+    for part in (polls, flags, delays, other_flags, seen, seen_pairs, stores, look_alike, windows):
         part(it)
     it.write("networks", "leaps.txt")
 

@@ -1,5 +1,5 @@
 -- ADIW and SBIW: the word that they leave in a pair, and its flags.
-use Rattle.std.proofs.Common.{◌≡◌, ◌≢◌, ℕ, ◌+◌, ◌*◌, ◌-◌, ◌/◌, ◌%◌, ◌<◌, ◌==◌, nat_le, nat_lt, int_lt, pos, ◌-ℤ◌, length, slice_set, length-set, refl, sym, ap, ◌∙◌, arith}
+use Rattle.std.proofs.Common.{◌≡◌, ℕ, ◌+◌, ◌*◌, ◌-◌, ◌/◌, ◌%◌, ◌<◌, ◌==◌, nat_le, nat_lt, int_lt, pos, ◌-ℤ◌, slice_set, length-set, refl, sym, ap, ◌∙◌, arith}
 use Rattle.std.proofs.lemmas.Bool.Decides.{nat_tests}
 use Rattle.std.proofs.lemmas.Int.{ints}
 use Rattle.std.proofs.lemmas.List.{get_or-set_same, get_or-set_other}
@@ -90,7 +90,6 @@ module _ (d : ℕ) (cpu : Cpu) (core : IsCore cpu) (below : d < 31) where
       pair_put (subtracted_word (pair_at d cpu) k cpu.sreg) ∙ difference_of (pair_at d cpu) k cpu.sreg
       ∙ ap (λ w. (w + 65536 - k) % 65536) (pair_is d cpu below)
 
-
   pair_fits : pair_at d cpu < 65536
   pair_fits = omega (arith, core.bytes d, core.bytes ((d + 1) % 32))
 
@@ -98,7 +97,7 @@ module _ (d : ℕ) (cpu : Cpu) (core : IsCore cpu) (below : d < 31) where
   compared k f =
       let pair = pair_is d cpu below in
       record {
-    lower = lower (pair_at d cpu) k cpu.sreg ∙ ap (λ w. nat_lt w k) pair;
-    equal = equal (pair_at d cpu) k cpu.sreg pair_fits (omega (arith, f)) ∙ ap (λ w. w == k) pair;
-    less = less (pair_at d cpu) k cpu.sreg pair_fits (omega (arith, f)) ∙ ap (λ w. int_lt (signed 32768 w) (signed 32768 k)) pair;
-  }
+        lower = lower (pair_at d cpu) k cpu.sreg ∙ ap (λ w. nat_lt w k) pair;
+        equal = equal (pair_at d cpu) k cpu.sreg pair_fits (omega (arith, f)) ∙ ap (λ w. w == k) pair;
+        less = less (pair_at d cpu) k cpu.sreg pair_fits (omega (arith, f)) ∙ ap (λ w. int_lt (signed 32768 w) (signed 32768 k)) pair;
+      }

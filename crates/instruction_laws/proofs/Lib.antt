@@ -6,6 +6,7 @@ pub mod Sums
 pub mod Pairs
 pub mod Carried
 pub mod Constants
+pub mod Longer
 pub mod Stack
 pub mod Returns
 pub mod Sram

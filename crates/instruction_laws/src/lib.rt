@@ -3,7 +3,7 @@
 //! function that does nothing; it is about the definitions that the steps are proved to compute.
 #![tactic(auto)]
 
-ghost use Rattle.std.specs.Prelude.{◌≡◌, ◌≢◌, ℕ, ◌+◌, ◌-◌, ◌%◌, ◌≤◌, ◌<◌, nat_le, nat_lt, int_lt, not, ◌==◌, ℤ, Bool, true, List, Ok, if◌then◌else◌};
+ghost use Rattle.std.specs.Prelude.{◌≡◌, ◌≢◌, ℕ, ◌+◌, ◌-◌, ◌*◌, ◌%◌, ◌≤◌, ◌<◌, nat_le, nat_lt, int_lt, not, ◌==◌, ℤ, Bool, true, List, Ok, if◌then◌else◌};
 ghost use Rattle.avr_decoder.specs.Opcodes.{op_at};
 ghost use Rattle.avr_decoder.specs.Words.{is_two_words, words_of};
 ghost use Rattle.avr_decoder.specs.declared.op.Op.TheVariants as op;
@@ -15,7 +15,7 @@ ghost use Rattle.data_space.specs.Core.{advanced, with_reg};
 ghost use Rattle.arith_step.specs.Whole.{signed};
 ghost use Rattle.avr_core.specs.FlowTable.{flow_effect};
 ghost use Rattle.avr_core.specs.MemoryTable.{memory_effect};
-ghost use Rattle.instruction_laws.specs.Carries.{IsAdded, IsTaken, carried};
+ghost use Rattle.instruction_laws.specs.Carries.{IsAdded, IsOrdered, IsTaken, carried};
 ghost use Rattle.instruction_laws.specs.Stack.{Accesses, ComesBack, IsMemory, IsStack, TakesReturn, ended, then_memory};
 ghost use Rattle.instruction_laws.specs.Sram.{HasStack, NodeComesBack, has_sram, node_accesses, sram_first, sram_last, then_executed, with_byte};
 ghost use Rattle.board_io.specs.declared.board.Board.{Board};
@@ -112,6 +112,20 @@ pub fn pair_law()
         → IsCompared 32768 (word_in d (d + 1) cpu) k (arith_cpu (op.Sbiw d k) cpu) }
     ensures half_after_sum { (d k : ℕ) (cpu : Cpu) → has_flag (arith_cpu (op.Adiw d k) cpu).sreg.bits H ≡ has_flag cpu.sreg.bits H }
     ensures half_after_difference { (d k : ℕ) (cpu : Cpu) → has_flag (arith_cpu (op.Sbiw d k) cpu).sreg.bits H ≡ has_flag cpu.sreg.bits H }
+{}
+
+/// Numbers of any length, byte by byte. Where C says that the sum of what lies below does not fit there, it says after
+/// ADC of the bytes above that the longer sum does not fit. Where C and Z compare what lies below, they compare the
+/// longer numbers after SBC, SBCI and CPC of the bytes above.
+pub fn longer_law()
+    ensures sum { (m a b d r : ℕ) (cpu : Cpu) → a < m → b < m → has_flag cpu.sreg.bits C ≡ nat_le m (a + b)
+        → has_flag (arith_cpu (op.Adc d r) cpu).sreg.bits C ≡ nat_le (m * 256) (a + m * reg d cpu + (b + m * reg r cpu)) }
+    ensures difference { (m a b d r : ℕ) (cpu : Cpu) → a < m → b < m → AreBytes (reg d cpu) (reg r cpu) → IsOrdered a b cpu
+        → IsOrdered (a + m * reg d cpu) (b + m * reg r cpu) (arith_cpu (op.Sbc d r) cpu) }
+    ensures constant { (m a b d k : ℕ) (cpu : Cpu) → a < m → b < m → AreBytes (reg d cpu) k → IsOrdered a b cpu
+        → IsOrdered (a + m * reg d cpu) (b + m * k) (arith_cpu (op.Sbci d k) cpu) }
+    ensures compare { (m a b d r : ℕ) (cpu : Cpu) → a < m → b < m → AreBytes (reg d cpu) (reg r cpu) → IsOrdered a b cpu
+        → IsOrdered (a + m * reg d cpu) (b + m * reg r cpu) (arith_cpu (op.Cpc d r) cpu) }
 {}
 
 /// PUSH and then POP: the register has the byte that was pushed, and all else of the core is as before.
