@@ -1,5 +1,6 @@
 """Files: how messages call them, reading them, and writing them whole or not at all."""
 import contextlib
+import errno
 import gzip
 import os
 import re
@@ -9,7 +10,7 @@ import zlib
 from collections.abc import Iterator
 from typing import IO, Any, BinaryIO, cast
 
-from avrora_tools.errors import BadInput
+from avrora_tools.errors import BadInput, CannotWork
 
 # More bytes than a small file has: a scenario, a case, a campaign.
 LARGEST_TEXT = 16 * 1024 * 1024
@@ -29,13 +30,19 @@ def printable(text: str) -> str:
     return re.sub(r"[\x00-\x1f\x7f-\x9f\u2028\u2029]", lambda match: f"\\x{ord(match[0]):02X}", text)
 
 
+# What keeps a tool from a file that may be as good as any.
+NOT_OF_THE_FILE = (errno.EACCES, errno.EPERM, errno.EIO, errno.ENOMEM, errno.EMFILE, errno.ENFILE, errno.ESTALE)
+
+
 @contextlib.contextmanager
 def readable(name: str) -> Iterator[None]:
-    """What opening or reading the file `name` raises in the block becomes BadInput."""
+    """What opening or reading the file `name` raises in the block becomes BadInput, or CannotWork where it does not tell
+    of the file."""
     try:
         yield
     except (OSError, EOFError, zlib.error, ValueError) as fault:  # ValueError: a name with NUL, or one that is no text
-        raise BadInput(f"cannot read {shown(name)}: {getattr(fault, 'strerror', None) or fault}") from None
+        raised = CannotWork if getattr(fault, "errno", None) in NOT_OF_THE_FILE else BadInput
+        raise raised(f"cannot read {shown(name)}: {getattr(fault, 'strerror', None) or fault}") from None
 
 
 @contextlib.contextmanager
