@@ -288,6 +288,13 @@ class Contents(OfARepository):
         there = {str(it.relative_to(self.top)) for it in self.top.rglob("*") if it.is_file() and not it.is_symlink()}
         self.assertEqual(told, there - {"SHA256SUMS"})
 
+    def test_the_tools_find_their_own_sources(self):
+        """Results of a campaign are of a version of the checks: the same from the zip as from a checkout."""
+        ask = ["import sys; sys.path.insert(0, sys.argv[1]); from avrora_tools import checkers; print(checkers.version())"]
+        from_zip, from_checkout = (ran([sys.executable, "-B", "-c", *ask, it], self.place) for it in (self.top / "libexec/avrora/avrora-tools.pyz", TOP / "tools"))
+        self.assertEqual(from_zip, from_checkout)
+        self.assertRegex(from_zip[1], "^[0-9a-f]{64}\n$", from_zip[2])
+
     def test_links_of_the_documents(self):
         for path in [self.top / "README.md", *self.top.glob("docs/*.md"), *self.top.glob("tools/*.md")]:
             for target in check_docs.LINK.findall(check_docs.prose(path.read_text(encoding="utf-8"))):
@@ -634,6 +641,14 @@ class Running(OfARepository):
     def test_the_commands_of_the_readme(self):
         text = (self.top / "README.md").read_text(encoding="utf-8")
         self.assertEqual(list(check_docs.run_commands("README.md", text, Unpacked(self.top))), [])
+
+    def test_a_campaign(self):
+        """Its runs go to other processes, with the tools from the release's zip."""
+        with Unpacked(self.top).place() as folder:
+            status, out, err = ran([f"{folder}/avrora-tools", "campaign", "examples/packet.campaign"], folder)
+        if status == 3 and "python3-" in err:
+            self.skipTest(err.strip())
+        self.assertEqual((status, out.splitlines()[-1]), (1, "packet: 100 runs, 96 passed, 4 failed"), err)
 
     def test_the_script_for_pipelines(self):
         lacks = [it for it in ("avr-gcc", "avr-objcopy") if not shutil.which(it)]
