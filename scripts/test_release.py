@@ -241,6 +241,25 @@ class Making(OfARepository):
         status, _, err = self.repository.release(FAKE_FAULT="middle")
         self.assertEqual((status, err.splitlines()[-1]), (1, "release: the program is not proved"))
 
+    def test_what_the_gate_proved_is_not_proved_again(self):
+        """Where the kit's gate kept the libraries of these sources they are taken; a kit that has another module has none to give."""
+        shutil.rmtree(self.repository.top / "crates/avrora_program/out")
+        status, _, err = self.repository.release(out="first")
+        self.assertEqual(status, 0)
+        self.assertIn("avrora: no library of the gate is taken: SyntaxError: ", err)
+        self.assertIn("avrora: 3 of 3 crates are proved", err)
+        fake_kit.write_gate(self.repository.kit, "low")
+        shutil.rmtree(self.repository.top / "crates/avrora_program/out")
+        # a check of `low` would fail
+        status, _, err = self.repository.release(out="second", FAKE_FAULT="low")
+        self.assertEqual(status, 0, err)
+        self.assertIn("avrora: libraries that the gate proved, and that lie ready: 1\n", err)
+        self.assertEqual(self.repository.made("second"), self.repository.made("first"))
+        # nor is one taken over another that was not: `middle` is kept, and `low` is not
+        fake_kit.write_gate(self.repository.kit, "middle")
+        shutil.rmtree(self.repository.top / "crates/avrora_program/out")
+        self.assertIn("avrora: libraries that the gate proved, and that lie ready: 0\n", self.repository.release(out="third")[2])
+
     def test_a_program_that_is_built_otherwise_each_time(self):
         link = self.repository.kit / "bin/rattle-link"
         fake_kit.write(link, link.read_text(encoding="utf-8") + 'echo "# $out" >>"$out"\n')
