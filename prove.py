@@ -183,9 +183,13 @@ class Room:
     def keep(self, crate, seconds):
         with open(f"{self.folder}/{crate.name}.seconds", "w", encoding="utf-8") as it:
             it.write(f"{seconds:.0f}")
+        self.mark(crate)
+        os.remove(self.log(crate))
+
+    def mark(self, crate):
+        """Notes that its library or program is made from what stands here."""
         with open(f"{self.folder}/{crate.name}.sum", "w", encoding="utf-8") as it:
             it.write(self.sums[crate.name])
-        os.remove(self.log(crate))
 
     def given(self, crate, copies):
         """What rattle is given to check a crate, by so many copies of itself."""

@@ -8,7 +8,8 @@ lines with what they print.
 
 A command is a line `$ COMMAND` of a block that begins with ```console. It runs in a copy of the repository, in its top folder or
 where the last `$ cd DIR` of the document led, and prints first the lines that stand below it; a line `...` stands for any lines,
-at the end for the rest. A command whose program or package is not installed is skipped by name. A count of cases is written
+at the end for the rest. With no line below it ends with status 0. A command whose program or package is not installed is skipped
+by name. A count of cases is written
 `N cases [WORD]`, where WORD is that of the stored run.
 Exit status: 0 all is right, 1 something is wrong, 2 bad words.
 """
@@ -68,6 +69,9 @@ NAME = re.compile(r"[A-Za-z_][A-Za-z0-9_]*(?:(?:::|\.|-)[A-Za-z_][A-Za-z0-9_]*)*
 WORD = re.compile(r"[A-Za-z_][A-Za-z0-9_]*(?:-[A-Za-z0-9_]+)*")
 CONSOLE = re.compile(r"^```console\n(.*?)^```", re.M | re.S)
 COUNT = re.compile(r"([\d,]+) cases \[`(\w+=?)`\]")
+# How a tool says that a package is not installed, and the status of its own that it ends with then.
+LACKING = re.compile(r"Debian: apt-get install (python3-[a-z0-9.-]+)")
+CANNOT_WORK = 3
 PATH_END = re.compile(r"\.(py|sh|rt|antt|md|toml|hex|c|h|s|S|txt|edit|cases|svg|html)$")
 
 
@@ -286,10 +290,11 @@ def run_commands(path, text, shell):
                 continue
             ran = shell.run(command, place)
             lines = ran.stdout.decode(errors="replace").splitlines()
-            if ran.returncode == 2 and (lacks := re.search(r"\bpython3-[a-z0-9.]+\b", "\n".join(lines))):
-                print(f"{where}: skipped, {lacks[0]} is not installed: {command}")
-            elif not agrees(lines, wanted):
-                yield "\n".join([f"{where}: {command}", "  is to print first", *(f"    {it}" for it in wanted), "  and printed", *(f"    {it}" for it in lines[: len(wanted) + 2])])
+            lacks = LACKING.search("\n".join(lines))
+            if lacks and ran.returncode == CANNOT_WORK:
+                print(f"{where}: skipped, {lacks[1]} is not installed: {command}")
+            elif not agrees(lines, wanted) or (not wanted and ran.returncode):
+                yield "\n".join([f"{where}: {command}", "  is to print first", *(f"    {it}" for it in wanted), f"  and printed, with status {ran.returncode}", *(f"    {it}" for it in lines[: len(wanted) + 2])])
 
 
 def why_no_files():

@@ -30,6 +30,37 @@ END
 chmod +x "$out"
 """
 
+# Its `rt` with the part of the gate that from_gate.py asks, which kept the library of one crate.
+GATE = """#!/usr/bin/env python3
+import os, shutil
+if __name__ == "__main__":
+    print("{identity}")
+class Crate:
+    def __init__(self, top, name, below):
+        self.name, self.folder, self.uses = name, top + "/crates/" + name, below
+    def below(self):
+        return self.uses
+def handles_of(top):
+    return ()
+def copy_crates(top, to):
+    shutil.copytree(top + "/crates", to + "/crates")
+def crates_of(top):
+    low = Crate(top, "low", [])
+    middle = Crate(top, "middle", [low])
+    return [low, middle, Crate(top, "avrora_program", [low, middle])]
+class Kept:
+    def __init__(self, crates):
+        self.rlibs = dict()
+    def key(self, crate):
+        return crate.name
+    def give(self, crate, tests, key):
+        if key == "{kept}":
+            os.makedirs(crate.folder + "/out/rlib/" + key + ".rlib")
+        return key == "{kept}"
+    def is_built(self, crate):
+        self.rlibs[crate.name] = ""
+"""
+
 # What the kit says that it is, and the crates, each with those that it uses.
 IDENTITY = "fake-kit logic 0123456789abcdef"
 CRATES = "low:\nmiddle: low\navrora_program: middle\n"
@@ -46,6 +77,11 @@ def write_kit(folder):
     """Writes the kit into a folder, a Path."""
     for path, text in {"bin/rt": f"#!/bin/sh\necho {IDENTITY}\n", "bin/rattle": RATTLE, "bin/rattle-link": LINK, "KIT-ID": f"{IDENTITY}\n"}.items():
         write(folder / path, text)
+
+
+def write_gate(folder, kept):
+    """Has the kit in a folder be one whose gate kept the library of the crate `kept`."""
+    write(folder / "bin/rt", GATE.format(identity=IDENTITY, kept=kept))
 
 
 def write_crates(top):

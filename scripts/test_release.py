@@ -241,6 +241,25 @@ class Making(OfARepository):
         status, _, err = self.repository.release(FAKE_FAULT="middle")
         self.assertEqual((status, err.splitlines()[-1]), (1, "release: the program is not proved"))
 
+    def test_what_the_gate_proved_is_not_proved_again(self):
+        """Where the kit's gate kept the libraries of these sources they are taken; a kit that has another module has none to give."""
+        shutil.rmtree(self.repository.top / "crates/avrora_program/out")
+        status, _, err = self.repository.release(out="first")
+        self.assertEqual(status, 0)
+        self.assertIn("avrora: no library of the gate is taken: SyntaxError: ", err)
+        self.assertIn("avrora: 3 of 3 crates are proved", err)
+        fake_kit.write_gate(self.repository.kit, "low")
+        shutil.rmtree(self.repository.top / "crates/avrora_program/out")
+        # a check of `low` would fail
+        status, _, err = self.repository.release(out="second", FAKE_FAULT="low")
+        self.assertEqual(status, 0, err)
+        self.assertIn("avrora: libraries that the gate proved, and that lie ready: 1\n", err)
+        self.assertEqual(self.repository.made("second"), self.repository.made("first"))
+        # nor is one taken over another that was not: `middle` is kept, and `low` is not
+        fake_kit.write_gate(self.repository.kit, "middle")
+        shutil.rmtree(self.repository.top / "crates/avrora_program/out")
+        self.assertIn("avrora: libraries that the gate proved, and that lie ready: 0\n", self.repository.release(out="third")[2])
+
     def test_a_program_that_is_built_otherwise_each_time(self):
         link = self.repository.kit / "bin/rattle-link"
         fake_kit.write(link, link.read_text(encoding="utf-8") + 'echo "# $out" >>"$out"\n')
@@ -287,6 +306,13 @@ class Contents(OfARepository):
         told = {line.split("  ", 1)[1] for line in (self.top / "SHA256SUMS").read_text(encoding="utf-8").splitlines()}
         there = {str(it.relative_to(self.top)) for it in self.top.rglob("*") if it.is_file() and not it.is_symlink()}
         self.assertEqual(told, there - {"SHA256SUMS"})
+
+    def test_the_tools_find_their_own_sources(self):
+        """Results of a campaign are of a version of the checks: the same from the zip as from a checkout."""
+        ask = ["import sys; sys.path.insert(0, sys.argv[1]); from avrora_tools import checkers; print(checkers.version())"]
+        from_zip, from_checkout = (ran([sys.executable, "-B", "-c", *ask, it], self.place) for it in (self.top / "libexec/avrora/avrora-tools.pyz", TOP / "tools"))
+        self.assertEqual(from_zip, from_checkout)
+        self.assertRegex(from_zip[1], "^[0-9a-f]{64}\n$", from_zip[2])
 
     def test_links_of_the_documents(self):
         for path in [self.top / "README.md", *self.top.glob("docs/*.md"), *self.top.glob("tools/*.md")]:
@@ -634,6 +660,14 @@ class Running(OfARepository):
     def test_the_commands_of_the_readme(self):
         text = (self.top / "README.md").read_text(encoding="utf-8")
         self.assertEqual(list(check_docs.run_commands("README.md", text, Unpacked(self.top))), [])
+
+    def test_a_campaign(self):
+        """Its runs go to other processes, with the tools from the release's zip."""
+        with Unpacked(self.top).place() as folder:
+            status, out, err = ran([f"{folder}/avrora-tools", "campaign", "examples/packet.campaign"], folder)
+        if status == 3 and "python3-" in err:
+            self.skipTest(err.strip())
+        self.assertEqual((status, out.splitlines()[-1]), (1, "packet: 100 runs, 96 passed, 4 failed"), err)
 
     def test_the_script_for_pipelines(self):
         lacks = [it for it in ("avr-gcc", "avr-objcopy") if not shutil.which(it)]

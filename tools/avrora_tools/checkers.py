@@ -3,9 +3,12 @@ import ast
 import functools
 import hashlib
 import importlib.util
+import pkgutil
 from pathlib import Path
 
-PACKAGE = "avrora_tools"
+import avrora_tools
+
+PACKAGE = avrora_tools.__name__
 
 # Where a run and its checks begin, and where drawn networks come from.
 RUNS, NETWORKS = f"{PACKAGE}.runs", f"{PACKAGE}.networks"
@@ -39,7 +42,10 @@ def source_of(name: str) -> bytes | None:
         spec = importlib.util.find_spec(name)
     except ModuleNotFoundError:  # a name of a module's name
         return None
-    return Path(spec.origin).read_bytes() if spec and spec.origin else None
+    if not spec or not spec.origin:
+        return None
+    # by the loader of the package: a release has it in a zip
+    return pkgutil.get_data(PACKAGE, str(Path(spec.origin).relative_to(Path(avrora_tools.__file__).parent)))
 
 
 def imported(source: bytes) -> list[str]:
