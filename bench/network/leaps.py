@@ -269,10 +269,12 @@ def no_leaps(it):
     # RET finds the high byte at 10FF, and no low one
     it.case("ret_at_the_end", "RET with one byte of the stack left.", ["4 0 stop 0004 address past 0x10FF", "20 0 end 4 stopped"], 20,
             (0, put(SPH, 0x10) + put(SPH - 1, 0xFE) + [word("ret")]))
-    # a round has 11 cycles: IN begins in 11 j, ten times below 100, a NOP 72 times, RJMP nine times; DEC in 1 + 11 j, of 20 rounds the last in 210
-    it.case("ten", "Rounds of ten instructions: of a poll, of a delay.", ["100 0 end 91 running"], 100, (0, load(PINB, 16) + 8 * [NOP] + back(9)))
-    it.case("ten_down", "", ["220 0 stop 000B reserved opcode", "300 0 end 201 stopped"], 300,
-            (0, [ldi(16, 20), word("dec", d=16), *(8 * [NOP]), *where(Z, False, 9)]))
+    # The round begins with nine NOPs and two jumps, and comes back to its head, word 0A, by a short jump: 13 instructions in 16 cycles, ten
+    # times below 160.
+    long_way = 9 * [NOP] + [word("rjmp", k=2)]
+    it.case("long_poll", "Rounds that are too long: of a poll, of a delay.", ["160 0 end 130 running"], 160,
+            (0, long_way + load(PINB, 16) + [word("rjmp", k=-12)] + back(2)))
+    it.case("long_delay", "", ["160 0 end 130 running"], 160, (0, long_way + [word("dec", d=16), word("brbc", s=Z, k=-12)] + back(2)))
     # INC makes each round another; SEI behind CLI lets one instruction more go before an interrupt. IN begins in 4 j and in 5 j.
     it.case("with_inc", "A poll that counts; one that turns interrupts off and on.", ["100 0 end 75 running"], 100,
             (0, load(PINB, 16) + [word("inc", d=17)] + back(2)))
