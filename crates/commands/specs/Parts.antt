@@ -16,9 +16,9 @@ use Rattle.commands.specs.TopClause.{TopClause}
 use Rattle.commands.specs.declared.job.Job.{Job as JobValue}
 use Rattle.commands.specs.declared.job.Job.TheVariants as job
 
--- the window of a scenario's network has at most 20,000 cycles
-abbrev pub IsNarrow : ScenarioOf → Type 0
-IsNarrow network = network.to - network.from ≤ 20000
+-- the window of a network ends within its run
+abbrev pub EndsWithin : ScenarioOf → Type 0
+EndsWithin network = network.to ≤ network.topo.limit
 
 -- an epoch of the network ends at this cycle
 pub record EndsEpoch (network : ScenarioOf) (cycle : ℕ) : Type 0 where
@@ -30,7 +30,7 @@ pub record HasRead (files : Files) (plan : Plan ScenarioOf) (store store' : Read
   pub reached : Reached files plan (Give network)
   pub same : store' ≡ store
   pub silent : err' ≡ err
-  pub narrow : IsNarrow network
+  pub within : EndsWithin network
 
 -- the job that a value of the code stands for
 abbrev pub job_at : JobValue → Job
@@ -51,11 +51,11 @@ pub record IsFresh (network : ScenarioOf) (saved : SavedAt) : Type 0 where
   pub is : saved ≡ record { scenario = network; state = saved.state; floor = saved.state.cycle; failed = false }
   pub early : saved.state.cycle < network.topo.limit
 
--- a program is no longer than the flash, a window that is watched is narrow, and a run is cut below its limit
+-- a program is no longer than the flash, a window that is watched ends within the run, and a run is cut below its limit
 abbrev pub IsShort : JobValue → Type 0
 IsShort (job.Trace network) = Unit {0}
 IsShort (job.PlainTrace network) = Unit {0}
-IsShort (job.Profiles network) = IsNarrow network
+IsShort (job.Profiles network) = EndsWithin network
 IsShort (job.Frames network) = Unit {0}
 IsShort (job.Size network) = Unit {0}
 IsShort (job.Listing flash) = Unit {0}

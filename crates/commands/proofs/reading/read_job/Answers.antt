@@ -29,7 +29,7 @@ returns-in-Err-read_network-clause-read g c = rw c.in-RunPlain.is (stopped_behin
 
 pub returns-in-Ok-read_network-2-clause-read : goal.returns-in-Ok-read_network-2-clause-read
 unfolding plan_of
-returns-in-Ok-read_network-2-clause-read g c = rw c.in-Monitor.is (network_ready _ (network_plan c.in-Monitor.file.now) MonitorJob _ _ _ _ _ _ c.in-Ok-read_network-2.ensures.ok refl c.in-Ok-read_network-2.ensures.ok.narrow)
+returns-in-Ok-read_network-2-clause-read g c = rw c.in-Monitor.is (network_ready _ (network_plan c.in-Monitor.file.now) MonitorJob _ _ _ _ _ _ c.in-Ok-read_network-2.ensures.ok refl c.in-Ok-read_network-2.ensures.ok.within)
 
 pub returns-in-Err-read_network-2-clause-read : goal.returns-in-Err-read_network-2-clause-read
 unfolding plan_of
