@@ -7,3 +7,4 @@ pub mod Places
 pub mod Gathered
 pub mod Epoch
 pub mod Near
+pub mod KeptSends

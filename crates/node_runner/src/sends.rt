@@ -2,7 +2,7 @@
 ghost use Rattle.std.specs.Prelude.{IfOk, OnOk};
 ghost use Rattle.std.specs.List.Sorted.{IsNonDecreasingBy, IsStableByKey};
 ghost use Rattle.std.specs.Ordering.{nat_cmp};
-ghost use Rattle.fleet_plain.specs.Kept.{AreOrdered};
+ghost use Rattle.node_runner.specs.Run.{AreOrdered};
 
 use air_base::Send;
 use std::alloc::{AllocError, Global};
