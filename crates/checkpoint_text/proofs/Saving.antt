@@ -15,15 +15,15 @@ use Rattle.world_core.specs.Topology.{Topology}
 use Rattle.world_core.proofs.Sorted.{Sorted}
 use Rattle.node_core.specs.declared.row.Row.{Row}
 use Rattle.node_core.specs.State.{NodeState}
-use Rattle.node_runner.specs.Run.{AreOrdered, kept_of}
 use Rattle.node_runner.specs.Scenario.{ScenarioOf}
-use Rattle.node_runner.proofs.KeptSends.{AreInOrder, cycle_of, node_of, ordered_sends}
+use Rattle.send_order.specs.Order.{AreOrdered}
+use Rattle.send_order.proofs.KeptSends.{AreInOrder, cycle_of, node_of, ordered_sends}
 use Rattle.state_text.specs.Bounds.{are_sends}
 use Rattle.state_text.specs.Text.{NodeOf, StateOf}
 use Rattle.state_text.specs.Writing.{IsSized, node_of as saved_node_of}
 use Rattle.checkpoint_text.specs.Onward.{onward}
 use Rattle.checkpoint_text.specs.Paused.{IsPaused}
-use Rattle.checkpoint_text.specs.State.{parts_of, stood}
+use Rattle.checkpoint_text.specs.State.{kept_of, parts_of, stood}
 use Rattle.checkpoint_text.proofs.Bounded.{IsBehind, IsInside, are_behind, are_inside}
 
 -- ---- the sends

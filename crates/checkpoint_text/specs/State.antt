@@ -1,7 +1,8 @@
 -- The state of a scenario that a text says, and the one that is written of a run at a cycle. Own to this simulator.
 use Rattle.std.specs.Prelude.{◌≡◌, ℕ, ◌^◌, ◌<◌, ◌==◌, ◌&&◌, nat_le, Bool, true, false, List, length, map, slice_index, is_none, Option, Some, None, Result}
-use Rattle.std.specs.List.{AllByRecursion, range_with_len}
-use Rattle.world_core.specs.Order.{Fleet, node_at}
+use Rattle.std.specs.List.{AllByRecursion, filter, range_with_len}
+use Rattle.world_core.specs.Kept.{is_kept}
+use Rattle.world_core.specs.Order.{Fleet, node_at, world_at}
 use Rattle.air_base.specs.declared.air.Send.{Send}
 use Rattle.air_base.specs.NodeRun.{Timed}
 use Rattle.board_io.specs.Kept.{first_refused, io_of}
@@ -9,7 +10,6 @@ use Rattle.node_core.specs.Numbers.{first_outside, numbers_of}
 use Rattle.node_core.specs.declared.row.Row.{Row}
 use Rattle.node_core.specs.State.{NodeState}
 use Rattle.node_runner.specs.Place.{Place, state_at}
-use Rattle.node_runner.specs.Run.{kept_of}
 use Rattle.node_runner.specs.Scenario.{ScenarioOf, fleet_of}
 use Rattle.state_text.specs.Bounds.{Rules, rules}
 use Rattle.state_text.specs.Reading.{state_of}
@@ -56,6 +56,10 @@ parts_of s = record {
   io = io_of s.bus.board;
   sram = map (λ k. slice_index s.bus.sram k) (range_with_len 0 4096);
 }
+
+-- the sends of a run that may still be heard at cycle c, in order of cycle, then node
+abbrev pub kept_of : Fleet NodeState Row → ℕ → List Send
+kept_of f c = filter (is_kept f.topo c) (world_at f c).sends
 
 -- all nodes of a run as they are at cycle c, beside these sends
 abbrev pub state_with : Fleet NodeState Row → ℕ → List Send → StateOf

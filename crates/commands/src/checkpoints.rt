@@ -100,6 +100,25 @@ fn go_on(network: &Scenario, saved: &mut Saved, end: u64) -> Result<(), NoMemory
     Ok(())
 }
 
+// Writes the state in which a run onward is.
+fn write_reached<'n, O: Sink>(
+    network: &Scenario,
+    saved: &Saved,
+    out: &mut O,
+) -> Result<(), Trouble<'n>>
+    requires same { network.now ≡ saved.now.scenario }
+    requires sound { saved.now.failed ≡ false }
+    ensures { Written (state_text (saved_from network.now saved.now.state saved.now.floor)) (stream (O.taken out.old) (O.faults out.old)) (stream (O.taken out.new) (O.faults out.new)) result }
+{
+    let Ok(sends) = saved.sends(network) else {
+        return Err(Trouble::NoMemory);
+    };
+    match write_onward_state(saved, sends.as_slice(), out) {
+        Ok(()) => Ok(()),
+        Err(_) => Err(Trouble::OutFailed),
+    }
+}
+
 /// Goes on with a network from a saved state, with which nothing was done yet, over so many epochs, which end below its
 /// limit, and writes the state in which it is then.
 pub fn write_saved_on<'n, O: Sink>(
@@ -112,15 +131,9 @@ pub fn write_saved_on<'n, O: Sink>(
     ensures { Written (state_text (saved_from network.now saved.state (saved.state.cycle + epochs * epoch))) (stream (O.taken out.old) (O.faults out.old)) (stream (O.taken out.new) (O.faults out.new)) result }
 {
     let end = saved.cycle() + epochs * EPOCH;
-    let Ok(()) = go_on(network, &mut saved, end) else {
-        return Err(Trouble::NoMemory);
-    };
-    let Ok(sends) = saved.sends(network) else {
-        return Err(Trouble::NoMemory);
-    };
-    match write_onward_state(&saved, &sends, out) {
-        Ok(()) => Ok(()),
-        Err(_) => Err(Trouble::OutFailed),
+    match go_on(network, &mut saved, end) {
+        Ok(()) => write_reached(network, &saved, out),
+        Err(_) => Err(Trouble::NoMemory),
     }
 }
 

@@ -21,11 +21,12 @@ use Rattle.node_runner.specs.Scenario.{ScenarioOf, IsScenario, fleet_of}
 use Rattle.node_runner.specs.Place.{Place, state_at}
 use Rattle.node_runner.specs.Flight.{place_at}
 use Rattle.node_runner.specs.Gather.{start_of}
-use Rattle.node_runner.specs.Run.{AreOrdered, kept_at}
+use Rattle.node_runner.specs.Run.{kept_at}
 use Rattle.node_runner.proofs.Gathered.{over_at}
-use Rattle.node_runner.proofs.KeptSends.{no_cycle, none_in_order, ordered_sends}
 use Rattle.node_runner.proofs.Places.{still_calm}
 use Rattle.node_runner.proofs.Sound.{sound, scenario_lawful}
+use Rattle.send_order.specs.Order.{AreOrdered}
+use Rattle.send_order.proofs.KeptSends.{no_cycle, none_in_order, ordered_sends}
 use Rattle.fleet_plain.specs.Kept.{HasCome}
 use Rattle.fleet_plain.specs.Run.{IsResting}
 

@@ -7,4 +7,3 @@ pub mod Places
 pub mod Gathered
 pub mod Epoch
 pub mod Near
-pub mod KeptSends

@@ -13,11 +13,9 @@ mod order;
 mod restore;
 mod runner;
 mod scenario;
-mod sends;
 
 pub use latency::lookahead;
 pub use law::order_law;
 pub use order::{put_behind, sort};
 pub use runner::{Event, Runner};
 pub use scenario::Scenario;
-pub use sends::ordered;

@@ -2,7 +2,8 @@ use Rattle.std.proofs.Common.{◌≡◌, ℕ, ◌+◌, ◌++◌, ◌≤◌, List
 use Rattle.air_base.specs.declared.air.Send.{Send}
 use Rattle.world_core.specs.Kept.{epoch}
 use Rattle.node_runner.specs.Scenario.{ScenarioOf, IsScenario, fleet_of}
-use Rattle.node_runner.specs.Run.{AreOrdered, RunAt, kept_at, rows_upto}
+use Rattle.node_runner.specs.Run.{RunAt, kept_at, rows_upto}
+use Rattle.send_order.specs.Order.{AreOrdered}
 use Rattle.fleet_plain.specs.Run.{IsResting}
 use Rattle.fleet_plain.proofs.KeptSends.{kept_sends}
 use Rattle.fleet_plain.proofs.plain.PlainRun.epoch.Goals as goal

@@ -1,9 +1,10 @@
 -- The sends of a run are made in order of cycle, then node; so are those of them that pass a test, which a record has of
 -- each node, once they are sorted by node and then by cycle.
-use Rattle.std.proofs.Common.{◌≡◌, ℕ, zero, suc, ◌+◌, ◌-◌, ◌<◌, ◌≤◌, ◌≢◌, Bool, true, false, cond, ◌==◌, Option, Some, None, List, [], ◌∷◌, ◌++◌, sym, subst, ◌∙◌, ap, arith, append-nil, refl}
+use Rattle.std.proofs.Common.{◌≡◌, ℕ, zero, suc, ◌+◌, ◌-◌, ◌<◌, ◌≤◌, ◌≢◌, Bool, true, false, cond, not, ◌&&◌, ◌==◌, Option, Some, None, List, [], ◌∷◌, ◌++◌, sym, subst, ◌∙◌, ap, arith, append-nil, refl}
 use Rattle.std.specs.List.{filter, All}
-use Rattle.std.specs.List.Sorted.{IsNonDecreasingBy}
-use Rattle.std.proofs.lemmas.List.Elements.{filter-append, All-append, All-nil, All-cons, All-weaker, All-filter}
+use Rattle.std.specs.List.Sorted.{IsNonDecreasingBy, IsStableByKey, ties}
+use Rattle.std.specs.Ordering.{nat_cmp, is_lt}
+use Rattle.std.proofs.lemmas.List.Elements.{filter_agree, filter-append, All-append, All-nil, All-cons, All-weaker, All-filter}
 use Rattle.std.proofs.lemmas.Bool.Decides.{nat_tests}
 use native.Mathlib.Decide.{ℕ_discrete}
 use Rattle.air_base.specs.declared.air.Send.{Send}
@@ -14,8 +15,16 @@ use Rattle.air_base.proofs.Each.{All_each, filter_none, filter_whole}
 use Rattle.world_core.proofs.Final.{filter_swap}
 use Rattle.world_core.proofs.Sends.{first, next}
 use Rattle.world_core.proofs.Sorted.{Agree, Sorted, sorted_append, sorted_from, sorted_level, sorted_same}
-use Rattle.node_runner.specs.Run.{AreOrdered}
-use Rattle.node_runner.proofs.Gathered.{agree_by}
+use Rattle.send_order.specs.Order.{AreOrdered}
+
+-- what a stable sort keeps
+tie_is : (a b : ℕ) → (not (is_lt (nat_cmp a b)) && not (is_lt (nat_cmp b a))) ≡ (b == a)
+tie_is a b = grind (arith, nat_tests)
+
+agree_by : {X : Type 0} (key : X → ℕ) (xs ys : List X) → IsStableByKey key nat_cmp xs ys → Agree key ys xs
+agree_by {X} key xs ys s z =
+    sym (filter_agree (ties (λ (x y : X). is_lt (nat_cmp (key x) (key y))) z) (λ (r : X). key r == key z) (λ r. tie_is (key z) (key r)) ys)
+    ∙ s z ∙ filter_agree (ties (λ (x y : X). is_lt (nat_cmp (key x) (key y))) z) (λ (r : X). key r == key z) (λ r. tie_is (key z) (key r)) xs
 
 abbrev pub cycle_of : Send → ℕ
 cycle_of x = x.cycle
