@@ -27,6 +27,7 @@ Usage: $called [-C DIR] COMMAND
   head FILE N         run it for N epochs of 262144 cycles, and write their part of the trace
   save FILE N         run it for N epochs, and write the state of the network
   resume FILE STATE   run it from a state on, and write the rest of the trace
+  head, save FILE N STATE   the same for N epochs from a state on
   node FILE CYCLES    run the image FILE (Intel HEX) on one node for CYCLES cycles (1 to 10000000, no _), and write its trace
   disasm FILE         list the instructions of the image FILE
   asm FILE            write the program of FILE, a source in assembly, as an image

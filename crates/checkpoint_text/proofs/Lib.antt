@@ -12,3 +12,4 @@ pub mod Continues
 pub mod Bounded
 pub mod Prefix
 pub mod Shown
+pub mod Saving

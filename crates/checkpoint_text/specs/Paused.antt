@@ -1,5 +1,5 @@
 -- All nodes of a run at one cycle, and the record of the sends that may still be heard. These are words of contracts.
-use Rattle.std.specs.Prelude.{◌≡◌, ◌⊎◌, ℕ, ◌<◌, ◌≤◌, true, false, List, [], ◌∷◌, length, slice_index_or}
+use Rattle.std.specs.Prelude.{◌≡◌, ◌⊎◌, ℕ, ◌<◌, ◌≤◌, true, false, List, [], ◌∷◌, length, slice_index_or, None}
 use Rattle.std.specs.List.{All, filter}
 use Rattle.air_base.specs.declared.air.Send.{Send}
 use Rattle.world_core.specs.Chain.{Rises}
@@ -13,6 +13,7 @@ use Rattle.node_core.specs.State.{NodeState}
 use Rattle.node_core.specs.Cycle.{end_row}
 use Rattle.air_base.specs.Each.{each_below}
 use Rattle.node_runner.specs.Scenario.{IsScenario, ScenarioOf}
+use Rattle.state_text.specs.Bounds.{are_sends}
 use Rattle.state_text.specs.Text.{StateOf}
 use Rattle.checkpoint_text.specs.NodeOf.{node_of}
 use Rattle.checkpoint_text.specs.Onward.{SavedAt, onward, saved_node}
@@ -48,6 +49,7 @@ pub record IsSaved (a : SavedAt) (last : ℕ) (vs : List (Timed NodeState Row)) 
   pub scenario : IsScenario a.scenario
   pub limit : last ≡ a.scenario.topo.limit
   pub within : a.floor ≤ last
+  pub order : are_sends a.scenario.topo a.state.cycle None a.state.sends ≡ true
   pub paused : a.failed ≡ false → IsPaused (onward a.scenario a.state) a.floor a.floor vs xs
 
 -- the rows of all nodes, one node's after another's, which were taken from them

@@ -13,4 +13,4 @@ mod writing;
 pub use law::fit_law;
 pub use reading::{read_parts, read_state};
 pub use saved::Saved;
-pub use writing::write_state;
+pub use writing::{write_onward_state, write_state};

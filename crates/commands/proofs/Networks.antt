@@ -67,10 +67,10 @@ module _ (files : Files) (name : List ℕ) (from to : ℕ) (parts : ScenarioPart
 
 -- ---- a network whose run is cut
 
-below : (a b : ℕ) → a < b → nat_lt a b ≡ true
+pub below : (a b : ℕ) → a < b → nat_lt a b ≡ true
 below a b h = grind (arith, nat_tests)
 
-not_below : (a b : ℕ) → b ≤ a → nat_lt a b ≡ false
+pub not_below : (a b : ℕ) → b ≤ a → nat_lt a b ≡ false
 not_below a b h = grind (arith, nat_tests)
 
 module _ (files : Files) (name : List ℕ) (epochs : ℕ) (network : ScenarioOf) (reached : Reached files (network_plan name) (Give network)) where

@@ -1,6 +1,6 @@
 -- What each command reads, in order, and what it is to write then.
-use Rattle.std.specs.Prelude.{ℕ, ◌*◌, nat_le, nat_lt, if◌then◌else◌, List, Option, Some, None, Result, Ok, Err}
-use Rattle.command_words.specs.Words.{Asked, Node, Run, RunPlain, Monitor, Sniff, Check, Disasm, Asm, Make, Head, Save, Resume, asked_by}
+use Rattle.std.specs.Prelude.{ℕ, ◌+◌, ◌*◌, nat_le, nat_lt, if◌then◌else◌, List, Option, Some, None, Result, Ok, Err}
+use Rattle.command_words.specs.Words.{Asked, Node, Run, RunPlain, Monitor, Sniff, Check, Disasm, Asm, Make, Head, Save, Resume, HeadOn, SaveOn, MonitorSpan, asked_by}
 use Rattle.world_core.specs.Kept.{epoch}
 use Rattle.scenario_file.specs.Scenario.{ScenarioParts}
 use Rattle.scenario_file.specs.declared.fault.ScenarioFault.TheVariants.{OutOfRange}
@@ -12,7 +12,7 @@ use Rattle.state_text.specs.declared.fault.StateFault.TheVariants.{PastEnd}
 use Rattle.command_plans.specs.declared.trouble.ScenarioCause.TheVariants as scenario_cause
 use Rattle.command_plans.specs.declared.trouble.StateCause.TheVariants as cause
 use Rattle.command_plans.specs.Plan.{Plan, Give, Refuse, Read, BadWords, BadScenario, BadState, and_then, image_plan, images_plan, scenario_plan, source_plan}
-use Rattle.commands.specs.Job.{Job, TraceJob, MonitorJob, SniffJob, SizeJob, DisasmJob, AsmJob, SampleJob, HeadJob, SaveJob, ResumeJob}
+use Rattle.commands.specs.Job.{Job, TraceJob, MonitorJob, SniffJob, SizeJob, DisasmJob, AsmJob, SampleJob, HeadJob, SaveJob, ResumeJob, HeadOnJob, SaveOnJob}
 use Rattle.commands.specs.Network.{lone_node, network_of}
 
 -- read the image of each node of a scenario, for the network
@@ -49,6 +49,16 @@ state_or name (Err fault) = Refuse (BadState name (cause.Faulty fault))
 abbrev pub state_plan : ScenarioOf → List ℕ → Plan StateOf
 state_plan network name = Read name 4194304 (BadState name cause.TooLong) (λ bytes. state_or name (state_in network bytes))
 
+-- a run from a state on can be cut where an epoch ends below the limit, too
+abbrev pub cut_on_or : List ℕ → ℕ → ScenarioOf → StateOf → Plan (ScenarioOf × StateOf)
+cut_on_or name epochs network state =
+    if nat_lt (state.cycle + epochs * epoch) network.topo.limit then Give (network, state)
+    else Refuse (BadState name (cause.Faulty PastEnd))
+
+-- read a network, and then a state of it, from which its run is to be cut after so many epochs
+abbrev pub cut_on_plan : List ℕ → ℕ → List ℕ → Plan (ScenarioOf × StateOf)
+cut_on_plan file epochs name = and_then (network_plan file) (λ network. and_then (state_plan network name) (cut_on_or name epochs network))
+
 -- what each command reads
 unfoldable pub plan_of : Asked → Plan Job
 plan_of (Node file cycles) = and_then (image_plan file) (λ flash. Give (TraceJob (lone_node flash cycles)))
@@ -63,6 +73,9 @@ plan_of (Make number) = Give (SampleJob number)
 plan_of (Head file epochs) = and_then (cut_plan file epochs) (λ network. Give (HeadJob network epochs))
 plan_of (Save file epochs) = and_then (cut_plan file epochs) (λ network. Give (SaveJob network epochs))
 plan_of (Resume file state) = and_then (network_plan file) (λ network. and_then (state_plan network state) (λ saved. Give (ResumeJob network saved)))
+plan_of (HeadOn file epochs state) = and_then (cut_on_plan file epochs state) (λ at. Give (HeadOnJob at.0 at.1 epochs))
+plan_of (SaveOn file epochs state) = and_then (cut_on_plan file epochs state) (λ at. Give (SaveOnJob at.0 at.1 epochs))
+plan_of (MonitorSpan file from to) = and_then (span_plan file from to) (λ network. Give (MonitorJob network))
 
 -- the plan of what the words ask for
 abbrev pub plan_for : Option Asked → Plan Job

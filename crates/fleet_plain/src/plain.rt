@@ -11,11 +11,11 @@ ghost use Rattle.node_runner.specs.Place.{Place};
 
 use crate::fleet::run_to;
 use crate::gather::{ends_at, gather, start};
-use crate::sends::ordered;
 use air_base::Send;
 use avr_base::NoMemory;
 use node_core::Row;
 use node_runner::{Runner, Scenario, sort};
+use send_order::ordered;
 use std::alloc::Global;
 use std::marker::Model;
 use std::snapshot::Snapshot;

@@ -3,7 +3,7 @@ use Rattle.air_base.specs.declared.air.Send.{Send}
 use Rattle.world_core.specs.Kept.{epoch}
 use Rattle.node_runner.specs.Scenario.{ScenarioOf, IsScenario, fleet_of}
 use Rattle.node_runner.specs.Run.{RunAt, kept_at, rows_upto}
-use Rattle.fleet_plain.specs.Kept.{AreOrdered}
+use Rattle.send_order.specs.Order.{AreOrdered}
 use Rattle.fleet_plain.specs.Run.{IsResting}
 use Rattle.fleet_plain.proofs.KeptSends.{kept_sends}
 use Rattle.fleet_plain.proofs.plain.PlainRun.up_to.Goals as goal

@@ -1,8 +1,10 @@
-// The sends of all nodes in order.
+//! The sends of a run in order of cycle, then node, as a run makes them and a state has them.
+#![tactic(auto)]
+
 ghost use Rattle.std.specs.Prelude.{IfOk, OnOk};
 ghost use Rattle.std.specs.List.Sorted.{IsNonDecreasingBy, IsStableByKey};
 ghost use Rattle.std.specs.Ordering.{nat_cmp};
-ghost use Rattle.fleet_plain.specs.Kept.{AreOrdered};
+ghost use Rattle.send_order.specs.Order.{AreOrdered};
 
 use air_base::Send;
 use std::alloc::{AllocError, Global};

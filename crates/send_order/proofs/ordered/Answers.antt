@@ -2,7 +2,7 @@ use Rattle.std.proofs.Common.{◌≡◌, List, subst, sym}
 use Rattle.std.specs.List.Sorted.{IsStableByKey}
 use Rattle.std.specs.Ordering.{nat_cmp}
 use Rattle.air_base.specs.declared.air.Send.{Send}
-use Rattle.fleet_plain.proofs.sends.ordered.Goals as goal
+use Rattle.send_order.proofs.ordered.Goals as goal
 
 pub returns : goal.returns
 returns c = record {
