@@ -1,5 +1,5 @@
 -- All nodes of a run at one cycle, and the record of the sends that may still be heard. These are words of contracts.
-use Rattle.std.specs.Prelude.{◌≡◌, ◌⊎◌, ℕ, ◌<◌, ◌≤◌, true, false, List, [], ◌∷◌, length, slice_index_or, None}
+use Rattle.std.specs.Prelude.{◌≡◌, ◌⊎◌, ℕ, ◌<◌, ◌≤◌, true, false, None, List, [], ◌∷◌, length, slice_index_or}
 use Rattle.std.specs.List.{All, filter}
 use Rattle.air_base.specs.declared.air.Send.{Send}
 use Rattle.world_core.specs.Chain.{Rises}
