@@ -174,7 +174,7 @@ def tell_beginning(folder):
             said = True
             print(f"{MILLION:,} variants: the first result is there after {time.monotonic() - start:.1f} s", end="")
             print(f", {used_until_now(client.pid):.1f} s of the client's processor time; {memory(client.pid)} MB at most", end="")
-        if found >= 2_000 or time.monotonic() - start > 120:
+        if found >= 1_000 or time.monotonic() - start > 120:
             print(f", {memory(client.pid)} MB after {found:,} results")
             break
     client.send_signal(signal.SIGTERM)
