@@ -177,7 +177,10 @@ const frame = sky.getBoundingClientRect(), at = { clientX: frame.left + x(15506)
 sky.dispatchEvent(new MouseEvent("mousemove", { ...at, bubbles: true }));
 const { data: points } = pen.getImageData(0, 0, sky.width, sky.height);
 const ink = points.filter((value, i) => i % 4 === 0 && value < 128).length;
-document.body.innerHTML = `<pre>${tip.textContent}|${shown.length}|${Math.round(from)}|${ink > 1000}|</pre>`;
+const said = tip.textContent, ways = shown.length;
+byNumber.get(2).node.sent = [[10, 1]];  // as where the send that clashed is thinned
+sky.dispatchEvent(new MouseEvent("mousemove", { ...at, bubbles: true }));
+document.body.innerHTML = `<pre>${said}|${ways}|${Math.round(from)}|${ink > 1000}|${tip.textContent}|</pre>`;
 </script>"""
 
     @needs_program("chromium", "chromium")
@@ -199,6 +202,7 @@ document.body.innerHTML = `<pre>${tip.textContent}|${shown.length}|${Math.round(
             said = f"ended with status {status}" if status > 0 else f"did not end in {BROWSER} s"
             self.skipTest(f"chromium {said}")
         self.assertIn("15,506  CLASH of node 2's 01 of 15,051, node 5's 01 of 15,046|2|5266|true|", dump)
+        self.assertIn("15,506  CLASH of node 2, node 5's 01 of 15,046|</pre>", dump)
 
     def ended(self, words, env):
         """The status and the output of a command; below 0 where it did not end in time."""
