@@ -178,7 +178,8 @@ AT_LEAST_ONE = ((">=", 1), (">", 0), ("!=", 0))
 
 def refuse_any_row(name: str, statements: list[Statement]) -> None:
     """Raises BadInput where the first row that is expected, or that is counted at all, may be any: each trace has one."""
-    found: list[Expected | Count] = [statement for statement in statements if isinstance(statement, Expected)][:1]
+    found: list[Expected | Count] = []
+    found += [statement for statement in statements if isinstance(statement, Expected)][:1]
     found += [
         statement
         for statement in statements
