@@ -2,163 +2,215 @@
 
 The format stands in CAMPAIGNS.md.
 """
-import collections
-import copy
-import functools
+import bisect
+import dataclasses
 import hashlib
-import inspect
 import itertools
-import json
 import os
 import re
-import tomllib
+from collections.abc import Iterator, Sequence
+from typing import Any
 
-from avrora_tools import expectations, files, networks, scenarios, traces
+from avrora_tools import campaign_keys, cases, runs
+from avrora_tools.campaign_keys import Table
+from avrora_tools.cases import Case
 from avrora_tools.errors import BadInput
+from avrora_tools.files import printable, read_text
+from avrora_tools.variants import Axis, DrawnGroup, Group, NetworkGroup, Run, ScenarioGroup, content_name, parsed
 
-
-# One run: its name, the values that were varied, the scenario as it is written for the user and as it is shipped, and
-# the cases. `files` are the names in the shipment of all that it needs.
-Run = collections.namedtuple("Run", "name parameters scenario shipped cases files")
-
-# The whole file: the folder that names are sought from, settings, runs, and the content of each file of the shipment.
-Campaign = collections.namedtuple("Campaign", "path name folder settings runs files")
-
-# What may stand at the top, each with its value where it is absent, its kind, and its range.
-Setting = collections.namedtuple("Setting", "default kind accepts range")
-SETTINGS = {
-    "name": Setting(None, str, lambda value: re.fullmatch(r"[\w.+-]+", value), "letters, digits and _ . + -"),
-    "results": Setting(None, str, bool, "a folder"),
-    "attempts": Setting(3, int, lambda value: 1 <= value <= 100, "1 to 100"),
-    "timeout": Setting(600, int, lambda value: 1 <= value <= 1_000_000, "1 to 1,000,000 seconds"),
-    "traces": Setting("none", str, lambda value: value in ("none", "failed", "all"), "none, failed or all"),
-}
-RUN_KEYS = {"name", "scenario", "network", "expect", "vary"}
-NETWORK_KEYS = set(inspect.signature(networks.scenario).parameters)
-
-MAX_RUNS = 1_000_000
+MAX_RUNS = 10_000_000
 NODE_WINDOW = 20_000  # cycles, of `avrora node`
 LONGEST_NAME = 120  # bytes of the name of a run in the names of files
 
 
-def read(path):
+@dataclasses.dataclass(frozen=True)
+class Shard:
+    """The part of a campaign that is run: each run whose number leaves this rest by the count."""
+
+    number: int = 1
+    count: int = 1
+
+    def __str__(self) -> str:
+        return f"{self.number}/{self.count}"
+
+    def numbers(self, total: int) -> range:
+        return range(self.number - 1, total, self.count)
+
+
+@dataclasses.dataclass(frozen=True)
+class Campaign:
+    """The whole file. `checks` are those by which runs are checked, `files` the content of each file of the shipment."""
+
+    path: str
+    name: str
+    folder: str
+    settings: Table
+    groups: Sequence[Group]
+    checks: Sequence[runs.Check]
+    files: dict[str, bytes]
+    ends: Sequence[int]  # the number behind the last run of each group
+    shipped_from: dict[str, str]  # of each file of the shipment the name that the user gave it
+
+    @property
+    def count(self) -> int:
+        return self.ends[-1] if self.ends else 0
+
+    def run(self, number: int) -> Run:
+        """The run of this number, from 0."""
+        place = bisect.bisect_right(self.ends, number)
+        group = self.groups[place]
+        return group.run(number - (self.ends[place] - group.count), number)
+
+    def runs(self, shard: Shard = Shard()) -> Iterator[Run]:
+        """All runs of a part of the campaign, each made as it comes."""
+        return map(self.run, shard.numbers(self.count))
+
+    def signature(self, shard: Shard) -> str:
+        """What tells the runs of this campaign, and what they are checked by, from others."""
+        parts = [str(shard), *(f"{group.signature()}\n{self.checks[group.check]}" for group in self.groups)]
+        return hashlib.sha256("\0".join(parts).encode("utf-8", "surrogateescape")).hexdigest()
+
+
+class Digests:
+    """What tells two runs apart: the simulator, what checks the trace, the scenario with the content of its images, and
+    the content of each case and golden trace in its role, in order."""
+
+    def __init__(self, campaign: Campaign, simulator: str, checker: str) -> None:
+        self.begun = []
+        for check in campaign.checks:
+            parts = ["simulator", simulator, "checker", checker, "compare", *check.ways]
+            for case in check.cases:
+                parts += ["case", case.path, case.file]
+                parts += itertools.chain(*(("golden", golden.path, golden.file) for golden in case.goldens))
+            text = "\0".join([*parts, "scenario", ""])
+            self.begun.append(hashlib.sha256(text.encode("utf-8", "surrogateescape")))
+
+    def of(self, run: Run) -> str:
+        found = self.begun[run.group.check].copy()
+        found.update(run.recipe().encode("utf-8", "surrogateescape"))
+        return found.hexdigest()
+
+
+def read(path: str) -> Campaign:
     """The campaign in the file `path`. Raises BadInput with what is wrong, and where."""
-    table = toml(path)
+    table = parsed(read_text(path), path)
     folder = os.path.dirname(os.path.abspath(path))
-    unknown(path, table.keys(), SETTINGS.keys() | {"run"})
-    settings = {key: setting_of(path, table, key) for key in SETTINGS}
-    name = settings["name"] or stem(path)
-    if not isinstance(table.get("run"), list) or not all(isinstance(run, dict) for run in table["run"]):
+    campaign_keys.check(path, table, campaign_keys.TOP)
+    settings = {key: table.get(key, campaign_keys.TOP[key].default) for key in campaign_keys.TOP}
+    if "run" not in table:
         raise BadInput(f"{path}: no [[run]]")
     files = Files()
-    runs = []
+    checks: list[runs.Check] = []
+    groups: list[Group] = []
     for number, run in enumerate(table["run"], 1):
-        for one in runs_of(f"{path}, run {number}", run, folder, files):
-            runs.append(one)
-            if len(runs) > MAX_RUNS:
-                raise BadInput(f"{path}: more than {MAX_RUNS:,} runs")
-    twice = [
-        run_name for run_name, count in collections.Counter(file_name(run.name) for run in runs).items() if count > 1
+        groups += groups_of(f"{path}, run {number}", run, folder, files, checks)
+    ends = list(itertools.accumulate(group.count for group in groups))
+    if ends and ends[-1] > MAX_RUNS:
+        raise BadInput(f"{path}: more than {MAX_RUNS:,} runs")
+    no_name_twice(path, groups)
+    name = settings["name"] or stem(path)
+    shipped_from = {name: os.path.relpath(path, folder) for path, name in files.names.items()}
+    return Campaign(path, name, folder, settings, groups, checks, files.contents, ends, shipped_from)
+
+
+def no_name_twice(path: str, groups: Sequence[Group]) -> None:
+    """Raises BadInput where two runs have the same name. Those of groups whose names differ differ anyhow, unless one
+    name goes on where the other one ends."""
+    alike = [
+        group
+        for group in groups
+        if any(
+            f"{group.name} ".startswith(f"{other.name} ") or f"{other.name} ".startswith(f"{group.name} ")
+            for other in groups
+            if other is not group
+        )
     ]
-    if twice:
-        raise BadInput(f"{path}: two runs have the name {twice[0]}")
-    return Campaign(path, name, folder, settings, runs, files.contents)
-
-
-def toml(path):
-    try:
-        return tomllib.loads(files.read_text(path))
-    except tomllib.TOMLDecodeError as fault:
-        raise BadInput(f"{path}: no TOML: {fault}") from None
-
-
-def unknown(place, found, keys):
-    for key in sorted(found - keys):
-        raise BadInput(f"{place}: the key {key} is unknown; there are {', '.join(sorted(keys))}")
-
-
-def setting_of(path, table, key):
-    setting = SETTINGS[key]
-    value = table.get(key, setting.default)
-    if key in table and (type(value) is not setting.kind or not setting.accepts(value)):
-        raise BadInput(f"{path}: {key} is not {setting.range}")
-    return value
+    found: set[str] = set()
+    for group in alike:
+        for index in range(group.count):
+            name = group.run(index, index).name
+            if name in found:
+                raise BadInput(f"{path}: two runs have the name {printable(name)}")
+            found.add(name)
 
 
 class Files:
     """The shipment: the content of each file once, under a name that its content tells."""
 
-    def __init__(self):
-        self.contents = {}
-        self.names = {}
+    def __init__(self) -> None:
+        self.contents: dict[str, bytes] = {}
+        self.names: dict[str, str] = {}
 
-    def add(self, place, path):
+    def add(self, place: str, path: str) -> str:
         """The name in the shipment of the file `path`."""
         if path not in self.names:
             try:
                 with open(path, "rb") as file:
                     content = file.read()
-            except OSError as fault:
-                raise BadInput(f"{place}: cannot read {path}: {fault.strerror}") from None
-            name = f"{hashlib.sha256(content).hexdigest()[:24]}{os.path.splitext(path)[1]}"
+            except (OSError, ValueError) as fault:
+                why = getattr(fault, "strerror", None) or fault
+                raise BadInput(f"{place}: cannot read {printable(path)}: {why}") from None
+            name = content_name(content, path)
             self.contents[name] = content
             self.names[path] = name
         return self.names[path]
 
 
-def runs_of(place, table, folder, files):
-    """The runs of one [[run]]: of each scenario one, or one for each combination of varied values."""
-    unknown(place, table.keys(), RUN_KEYS)
-    cases = [case_of(place, path, folder, files) for path in words(place, table, "expect")]
-    axes = [[(key, value) for value in values_of(place, key, values)] for key, values in vary_of(place, table).items()]
-    for origin in origins_of(place, table, folder, cases):
-        for choice in itertools.product(*axes):
-            name = " ".join([origin.name] + [f"{key}={shown(value)}" for key, value in choice])
-            where = f"{place} ({name})"
-            network = origin.vary(where, dict(choice))
-            yield run_of(where, name, dict(choice), network, origin, files)
+# What a [[run]] has its scenarios from, one of them; without one its cases have their own.
+SOURCES = ("scenario", "network", "draw")
 
 
-# Where runs come from: their name, the folder of their images, `vary(place, parameters)`, which is the scenario with
-# these values, and their cases.
-Origin = collections.namedtuple("Origin", "name folder vary cases")
-
-
-def origins_of(place, table, folder, cases):
-    """What a [[run]] says is to be run: a scenario, a network, or what each of its cases has as its source."""
+def groups_of(place: str, table: Table, folder: str, files: Files, checks: list[runs.Check]) -> Iterator[Group]:
+    """What a [[run]] says is to be run: a scenario, a network, what is drawn, or what each of its cases has as its
+    source."""
+    campaign_keys.check(place, table, campaign_keys.RUN)
+    found = [source for source in SOURCES if source in table]
+    if len(found) > 1:
+        raise BadInput(f"{place}: a run has a {found[0]} or a {found[1]}, and not both")
     name = table.get("name", "")
-    if not isinstance(name, str):
-        raise BadInput(f"{place}: name is a text")
-    shipped = [case.shipped for case in cases]
-    if "scenario" in table and "network" in table:
-        raise BadInput(f"{place}: a run has a scenario or a network, and not both")
+    read = [case_of(place, path, folder, files) for path in texts(table.get("expect", ()))]
+    axes = [Axis(key, values_of(place, key, values)) for key, values in flat(table.get("vary", {})).items()]
+    ways = tuple(table.get("compare", ()))
+
+    def ship(path: str) -> str:
+        return files.add(place, path)
+
+    def check(shipped: Sequence[runs.ShippedCase]) -> int:
+        checks.append(runs.Check(tuple(shipped), ways))
+        return len(checks) - 1
+
+    shipped = [case.shipped for case in read]
     if "network" in table:
-        return [Origin(name or "network", folder, functools.partial(made, table["network"]), shipped)]
-    if "scenario" in table:
-        path = os.path.join(folder, *words(place, table, "scenario"))
-        vary = functools.partial(varied, toml(path))
-        return [Origin(name or stem(path), os.path.dirname(path), vary, shipped)]
-    if not cases:
-        raise BadInput(f"{place}: a run has a scenario, a network, or cases whose sources are run")
-    return [
-        Origin(
-            f"{name} {stem(case.read.path)}".strip(),
-            case.read.folder,
-            functools.partial(varied, source_of(place, case.read)),
-            [case.shipped],
-        )
-        for case in cases
-    ]
+        yield NetworkGroup(place, name or "network", axes, check(shipped), table["network"], folder, ship)
+    elif "draw" in table:
+        path = os.path.join(folder, table["draw"])
+        yield DrawnGroup(place, name or stem(path), axes, check(shipped), path)
+    elif "scenario" in table:
+        path = os.path.join(folder, table["scenario"])
+        scenario = parsed(read_text(path), path)
+        yield ScenarioGroup(place, name or stem(path), axes, check(shipped), scenario, os.path.dirname(path), ship)
+    elif not read:
+        raise BadInput(f"{place}: a run has a scenario, a network, draw, or cases whose sources are run")
+    else:
+        for case in read:
+            case_name = f"{name} {stem(case.read.path)}".strip()
+            scenario = source_of(place, case.read)
+            yield ScenarioGroup(place, case_name, axes, check([case.shipped]), scenario, case.read.folder, ship)
 
 
-def stem(path):
+def texts(value: str | Sequence[str]) -> Sequence[str]:
+    return [value] if isinstance(value, str) else value
+
+
+def stem(path: str) -> str:
     return os.path.splitext(os.path.basename(path))[0]
 
 
-def source_of(place, case):
+def source_of(place: str, case: Case) -> Table:
     """The scenario that a case has as its source; `node IMAGE CYCLES` is a network of one node."""
     if case.source and case.source[0] == "run":
-        return toml(os.path.join(case.folder, case.source[1]))
+        path = os.path.join(case.folder, case.source[1])
+        return parsed(read_text(path), path)
     if case.source and case.source[0] == "node" and case.source[2].isdigit():
         cycles = int(case.source[2])
         window = [0, min(cycles, NODE_WINDOW)]
@@ -166,24 +218,9 @@ def source_of(place, case):
     raise BadInput(f"{place}: {case.path} has no `run FILE` and no `node FILE CYCLES`")
 
 
-def words(place, table, key):
-    value = table.get(key, [])
-    value = [value] if isinstance(value, str) else value
-    if not isinstance(value, list) or not all(isinstance(word, str) and word for word in value):
-        raise BadInput(f"{place}: {key} is a name or a list of names")
-    return value
-
-
-def vary_of(place, table):
-    vary = table.get("vary", {})
-    if not isinstance(vary, dict):
-        raise BadInput(f"{place}: vary is a table: a key of the scenario and its values")
-    return flat(vary)
-
-
-def flat(table, prefix=""):
+def flat(table: Table, prefix: str = "") -> Table:
     """A table whose keys have dots: `input.2.at = ..` in TOML is a table in a table."""
-    found = {}
+    found: Table = {}
     for key, value in table.items():
         if isinstance(value, dict) and not value.keys() & {"from", "to"}:
             found.update(flat(value, f"{prefix}{key}."))
@@ -192,7 +229,7 @@ def flat(table, prefix=""):
     return found
 
 
-def values_of(place, key, values):
+def values_of(place: str, key: str, values: Any) -> Sequence[Any]:
     """The values of a varied key: a list, or all numbers from one to another."""
     if isinstance(values, list) and values:
         return values
@@ -209,153 +246,31 @@ def values_of(place, key, values):
     raise BadInput(f"{place}: {key} has no list of values and no {{ from = A, to = B, step = C }}")
 
 
-def shown(value):
-    return value if isinstance(value, str) else json.dumps(value, separators=(",", ":"), default=str)
+@dataclasses.dataclass(frozen=True)
+class CampaignCase:
+    """A case as its reader has it, and as the shipment has it."""
+
+    read: Case
+    shipped: runs.ShippedCase
 
 
-def varied(scenario, place, parameters):
-    """A scenario with other values at the keys that the parameters name."""
-    network = copy.deepcopy(scenario)
-    for key, value in parameters.items():
-        parts = key.split(".")
-        targets = [network] if len(parts) == 1 else tables_of(place, network, key, parts)
-        unknown(place, {parts[-1]}, known_keys(parts))
-        for target in targets:
-            target[parts[-1]] = value
-    return network
-
-
-def known_keys(parts):
-    """The keys that a scenario may have where a key to vary stands."""
-    return set(scenarios.TOP_KEYS if len(parts) == 1 else scenarios.TABLE_KEYS[parts[0]])
-
-
-def tables_of(place, network, key, parts):
-    """The tables that a key such as input.2.at, node.*.image or link.0-1.latency means."""
-    if len(parts) != 3 or parts[0] not in ("node", "input", "link"):
-        raise BadInput(f"{place}: {key} is no KEY, node.K.KEY, input.K.KEY or link.A-B.KEY; * stands for all of them")
-    tables = network.get(parts[0], [])
-    names = {
-        "node": lambda index, table: f"{index}",
-        "input": lambda index, table: f"{table.get('node')}",
-        "link": lambda index, table: f"{table.get('from')}-{table.get('to')}",
-    }
-    found = [table for index, table in enumerate(tables) if parts[1] in ("*", names[parts[0]](index, table))]
-    if not found:
-        raise BadInput(f"{place}: the scenario has no {parts[0]} {parts[1]}")
-    return found
-
-
-def made(network, place, parameters):
-    """The scenario that mknet makes of a network's table and the parameters."""
-    if not isinstance(network, dict):
-        raise BadInput(f"{place}: network is a table: shape, images, and the options of mknet")
-    options = {**network, **parameters}
-    unknown(place, options.keys(), NETWORK_KEYS)
-    shape, images = options.pop("shape", None), options.pop("images", None)
-    images = [images] if isinstance(images, str) else images
-    if (
-        not isinstance(shape, str)
-        or not isinstance(images, list)
-        or not all(isinstance(image, str) for image in images)
-    ):
-        raise BadInput(f"{place}: a network has a shape, and images: a list of IMAGE or IMAGE*COUNT")
-    for key in ("window", "link_latency"):
-        if isinstance(options.get(key), list):
-            options[key] = tuple(options[key])
-    if "spans" in options:
-        options["spans"] = spans_of(place, options["spans"])
-    if isinstance(options.get("inputs"), dict):
-        options["inputs"] = {
-            int(node) if node.isdigit() else node: digits for node, digits in options["inputs"].items()
-        }
-    try:
-        return tomllib.loads(networks.scenario(shape, networks.counted(images), **options))
-    except (TypeError, ValueError, BadInput) as fault:
-        raise BadInput(f"{place}: {fault}") from None
-
-
-def spans_of(place, spans):
-    try:
-        return {
-            tuple(int(node) for node in link.split("-")): [tuple(pair) for pair in pairs]
-            for link, pairs in spans.items()
-        }
-    except (AttributeError, TypeError, ValueError):
-        raise BadInput(f'{place}: spans is a table such as {{ "0-1" = [[0, 1000]] }}') from None
-
-
-# A case as its reader has it, and as jobs have it (runs.py).
-CampaignCase = collections.namedtuple("CampaignCase", "read shipped")
-
-
-def case_of(place, path, folder, files):
+def case_of(place: str, path: str, folder: str, files: Files) -> CampaignCase:
     """A case of `expect` for the shipment; its golden traces go with it."""
     full = os.path.join(folder, path)
-    case = expectations.read_case(full)
-    goldens = [statement.path for statement in case.statements if isinstance(statement, expectations.Golden)]
-    goldens = [{"file": files.add(place, it), "path": os.path.relpath(it, folder)} for it in goldens]
-    shipped = {"file": files.add(place, full), "path": path, "goldens": goldens}
-    return CampaignCase(case, shipped)
+    case = cases.read_case(full)
+    goldens = [
+        runs.ShippedFile(files.add(place, statement.path), os.path.relpath(statement.path, folder))
+        for statement in case.statements
+        if isinstance(statement, cases.Golden)
+    ]
+    return CampaignCase(case, runs.ShippedCase(files.add(place, full), path, tuple(goldens)))
 
 
-def run_of(place, name, parameters, network, origin, files):
-    """A run, whose images go into the shipment."""
-    shipped = copy.deepcopy(network)
-    cases = origin.cases
-    names = [case["file"] for case in cases] + [golden["file"] for case in cases for golden in case["goldens"]]
-    for node in shipped.get("node", []) if isinstance(shipped.get("node"), list) else []:
-        if isinstance(node, dict) and isinstance(node.get("image"), str) and node["image"]:
-            node["image"] = files.add(place, os.path.join(origin.folder, node["image"]))
-            names.append(node["image"])
-    return Run(name, parameters, scenario_text(network), scenario_text(shipped), cases, sorted(set(names)))
-
-
-def scenario_text(network):
-    """A scenario as TOML: the keys of the top, then its tables."""
-    top = {key: value for key, value in network.items() if not is_tables(value)}
-    lines = [f"{key_text(key)} = {value_text(value)}" for key, value in top.items()]
-    for key, value in network.items():
-        for table in value if is_tables(value) else []:
-            lines += ["", f"[[{key_text(key)}]]"] + [
-                f"{key_text(name)} = {value_text(it)}" for name, it in table.items()
-            ]
-    return "\n".join(lines) + "\n"
-
-
-def is_tables(value):
-    return isinstance(value, list) and value and all(isinstance(table, dict) for table in value)
-
-
-def key_text(key):
-    return key if re.fullmatch(r"[A-Za-z0-9_-]+", key) else json.dumps(key)
-
-
-def value_text(value):
-    """A value as TOML, as it was read from TOML."""
-    if isinstance(value, dict):
-        return "{" + ", ".join(f"{key_text(key)} = {value_text(it)}" for key, it in value.items()) + "}"
-    if isinstance(value, list):
-        return "[" + ", ".join(map(value_text, value)) + "]"
-    if isinstance(value, (bool, str)):
-        return json.dumps(value, ensure_ascii=False).replace("\x7f", "\\u007f")
-    return value.isoformat() if hasattr(value, "isoformat") else repr(value)
-
-
-def file_name(name):
-    """The name of a run in the names of files."""
-    text = re.sub(r"[^A-Za-z0-9_.=,+-]", "_", name.replace(" ", ","))
-    if text == name.replace(" ", ",") and len(text) <= LONGEST_NAME:
-        return text
-    return f"{text[:LONGEST_NAME]}-{hashlib.sha256(name.encode()).hexdigest()[:12]}"
-
-
-def digest(run, simulator, checker):
-    """What tells two runs apart: the simulator, what checks its trace, the scenario with the content of its images, and
-    the content of each case and golden trace in its role, in order."""
-    parts = ["simulator", simulator, "checker", checker, "scenario", run.shipped]
-    for case in run.cases:
-        parts += ["case", case["path"], case["file"]]
-        for golden in case["goldens"]:
-            parts += ["golden", golden["path"], golden["file"]]
-    return hashlib.sha256("\0".join(parts).encode()).hexdigest()
+def file_name(name: str) -> str:
+    """The name of a run in the names of files: another one for each run."""
+    text = re.sub(r"[^A-Za-z0-9_.=+-]", "_", name.replace(" ", ","))
+    plain = name.replace(" ", ",")
+    if "," not in name and len(plain) <= LONGEST_NAME and re.fullmatch(r"[A-Za-z0-9_.=,+-]+", plain) and name[0] != ".":
+        return plain
+    digest = hashlib.sha256(name.encode("utf-8", "surrogateescape")).hexdigest()[:16]
+    return f"{text[:LONGEST_NAME]}-{digest}"

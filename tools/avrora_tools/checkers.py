@@ -1,4 +1,4 @@
-"""The version of what checks the trace of a run: a hash of all code of this package that a run goes through."""
+"""The version of the code that decides what comes of a run: a hash of all modules of this package that it goes through."""
 import ast
 import functools
 import hashlib
@@ -10,23 +10,23 @@ import avrora_tools
 
 PACKAGE = avrora_tools.__name__
 
-# Where a run and its checks begin.
-ROOTS = (f"{PACKAGE}.runs",)
+# Where a run and its checks begin, and where drawn networks come from.
+RUNS, NETWORKS = f"{PACKAGE}.runs", f"{PACKAGE}.networks"
 
 
 @functools.cache
-def version() -> str:
-    """A hash of the sources of all modules that a run goes through, each with its name."""
+def version(root: str = RUNS) -> str:
+    """A hash of the sources of all modules that `root` needs, each with its name."""
     found = hashlib.sha256()
-    for name, source in sorted(sources().items()):
+    for name, source in sorted(sources(root).items()):
         found.update(f"{name} {len(source)}\n".encode() + source)
     return found.hexdigest()
 
 
-def sources() -> dict[str, bytes]:
-    """The modules of this package that a run goes through, directly or by others, each with its source."""
+def sources(root: str = RUNS) -> dict[str, bytes]:
+    """The modules of this package that `root` needs, directly or by others, and itself, each with its source."""
     found: dict[str, bytes] = {}
-    waiting = list(ROOTS)
+    waiting = [root]
     while waiting:
         name = waiting.pop()
         source = None if name in found else source_of(name)

@@ -1,65 +1,339 @@
 """Where a run of a campaign takes place: on a worker of dask, or in a process of this machine.
 
-A worker gets the simulator, the images and the cases once, as a shipment, and then jobs. A job is a dictionary:
+A worker gets the simulator, the images and the cases once, as a shipment, and then batches of jobs. A job is the text of
+a scenario, whose images are names of files of the shipment, the index of the check by which it is judged, and images of its
+own by their names, which are all that it has where there are any.
 
-  scenario   the text of the scenario; its images are names of files of the shipment
-  cases      of each case its `file` in the shipment and the `path` that messages name; `goldens` has the same of its
-             golden traces, in their order
-  timeout    seconds that the simulator may take
-  trace      when the trace is handed back: "none", "failed" or "all"
-
-What comes of it is a dictionary too: `outcome` is one of the words below, `message` says why, `counts` has how many
-rows of each kind the trace has, `seconds` is the time of the run and its checks, `host` where it ran, and `trace` the
-trace in gzip's format or None.
+An answer is a dictionary: `outcome` is one of the words below, `message` says why, `counts` has how many rows of each
+kind the trace has, `hash` is that of the trace, both None where there is no whole trace; `compared` has how much of it was
+compared in each way; `seconds` is the time of the run and its checks, `trace` the trace in gzip's format or None, `again`
+whether another attempt can come to something else, and `trouble` whether it was the worker that failed. All of it is of
+Python's own kinds, so a client reads it whatever the worker has.
 """
 import collections
+import contextlib
+import dataclasses
 import gzip
+import hashlib
 import importlib.resources
 import io
 import os
+import pickle
 import shutil
 import socket
 import subprocess
 import tempfile
 import time
 import zipfile
+from collections.abc import Iterator, Sequence
+from importlib.abc import Traversable
+from typing import IO, Any, BinaryIO, cast
 
 import avrora_tools
-from avrora_tools import expectations
+from avrora_tools import cases, comparisons, expectations
+from avrora_tools.errors import ToolError
 from avrora_tools.events import CLASH, ONE_BYTE
-
 
 PROGRAM = "avrora"  # the simulator's name in a shipment
 
+# The files of a run, and the folder of one with images of its own.
+SCENARIO, TRACE, OWN = "scenario.toml", "trace", "own"
+
 # All expectations are met; one is not; the scenario or an image is refused; the run came to no answer.
 PASSED, FAILED, REFUSED, BROKEN = "passed", "failed", "refused", "broken"
+OUTCOMES = (PASSED, FAILED, REFUSED, BROKEN)
 
-# Statuses of the simulator: a file cannot be read, the scenario is refused, an image is.
-REFUSALS = (3, 4, 5)
+# Answers of the simulator, which is deterministic: to run again would give the same.
+FINAL = (PASSED, FAILED, REFUSED)
+
+# Statuses of the simulator: the scenario is refused, an image is; writing or reading failed, which is the worker's fault,
+# as all that is read came in the shipment; the memory was not enough.
+REFUSALS = (4, 5)
+WORKER_FAULTS = (1, 3)
+MEMORY_FAULTS = (6, 9)
 
 COUNTS = ("sent", "heard", "clashes", "serial", "stops")
 
+Job = tuple[str, int, dict[str, bytes]]
+Answer = dict[str, Any]
 
-def unpack(files, folder):
-    """Writes the files of a shipment, a name and bytes each."""
-    for name, content in files.items():
-        path = os.path.join(folder, name)
-        with open(path, "wb") as file:
-            file.write(content)
-        os.chmod(path, 0o755 if name == PROGRAM else 0o644)
+# What a worker runs before it gets a job. By the manual LDI takes one cycle and RJMP, here to itself, two: LDI in cycle 0,
+# RJMP in each odd one, 20 of them before cycle 40, and the window shows those before cycle 12.
+PROOF_IMAGE = ":0400000001E0FFCF4D\n:00000001FF\n"
+PROOF_NAME = "proof.hex"
+PROOF_SCENARIO = f"""version = 3
+cycles = 40
+latency = 100
+window = [0, 12]
+[[node]]
+image = "{PROOF_NAME}"
+"""
+PROOF_TRACE = (
+    "0 0 instr 0000 ldi r16, 0x01\n"
+    + "".join(f"{cycle} 0 instr 0001 rjmp .-2\n" for cycle in range(1, 12, 2))
+    + "40 0 end 21 running\n"
+)
+PROOF_SECONDS = 300  # a busy machine is no sick one
 
 
-def run(job, folder):
-    """Runs a job with the shipment in `folder`."""
-    start = time.monotonic()
-    with tempfile.TemporaryDirectory(dir=folder) as work, open(f"{work}/trace", "w+b") as trace:
-        result = judged(job, folder, work, trace)
-        keeps = job["trace"] == "all" or job["trace"] == "failed" and result["outcome"] == FAILED
-        result["trace"] = packed(trace) if keeps else None
-    return {**result, "seconds": round(time.monotonic() - start, 3), "host": f"{socket.gethostname()} {os.getpid()}"}
+@dataclasses.dataclass(frozen=True)
+class ShippedFile:
+    """A file by its name in the shipment, and by the one that messages tell."""
+
+    file: str
+    path: str
 
 
-def packed(trace):
+@dataclasses.dataclass(frozen=True)
+class ShippedCase:
+    """A case of `expect`, and its golden traces in their order."""
+
+    file: str
+    path: str
+    goldens: tuple[ShippedFile, ...]
+
+
+@dataclasses.dataclass(frozen=True)
+class Check:
+    """What a run is judged by: cases for its trace, and ways in which it is compared (`comparisons.WAYS`)."""
+
+    cases: tuple[ShippedCase, ...]
+    ways: tuple[str, ...] = ()
+
+
+@dataclasses.dataclass(frozen=True)
+class Shipment:
+    """All that a worker needs for a campaign: `traces` says of which runs the trace is handed back."""
+
+    files: dict[str, bytes]
+    checks: Sequence[Check]
+    timeout: int
+    traces: str
+
+
+class Sick(Exception):
+    """A worker that cannot work; the text says why."""
+
+
+class NoAnswer(Exception):
+    """Ends a run that came to no trace; the answer says how."""
+
+    def __init__(self, found: Answer) -> None:
+        super().__init__(found["message"])
+        self.answer = found
+
+
+class Bench:
+    """A folder with a shipment, where runs take place."""
+
+    def __init__(self, shipment: Shipment, place: str) -> None:
+        self.shipment, self.place = shipment, place
+        self.folder = ""
+        self.cases: dict[int, list[cases.Case]] = {}
+
+    def prove(self) -> str | None:
+        """Unpacks what is not there, and runs a known scenario. None where it came out as it should, else why not."""
+        try:
+            self.unpack()
+            with open(f"{self.folder}/{TRACE}", "w+b") as trace:
+                self.write_scenario(self.folder, PROOF_SCENARIO)
+                done = self.call(self.folder, ["run", SCENARIO], trace, PROOF_SECONDS)
+                trace.seek(0)
+                found = hashlib.sha256(trace.read()).digest()
+        except OSError as fault:
+            return described(fault)
+        except subprocess.TimeoutExpired:
+            return f"the known scenario took more than {PROOF_SECONDS} s"
+        if done.returncode:
+            return f"the known scenario ended with status {done.returncode}: {said_by(done)}".rstrip(": ")
+        if found != hashlib.sha256(PROOF_TRACE.encode()).digest():
+            return "the known scenario came out otherwise than it should"
+        return None
+
+    def unpack(self) -> None:
+        """Writes the files of the shipment that are not there."""
+        if not os.path.isdir(self.folder):
+            self.folder = tempfile.mkdtemp(prefix="avrora-", dir=self.place)
+        os.makedirs(f"{self.folder}/{OWN}", exist_ok=True)
+        for name, content in [*self.shipment.files.items(), (PROOF_NAME, PROOF_IMAGE.encode())]:
+            path = f"{self.folder}/{name}"
+            if not os.path.exists(path) or os.path.getsize(path) != len(content):
+                with named(path), open(path, "wb") as file:
+                    file.write(content)
+                os.chmod(path, 0o755 if name == PROGRAM else 0o644)
+
+    def run_batch(self, jobs: Sequence[Job]) -> dict[str, Any]:
+        """The answers to jobs, in order; to the first of them alone where the worker became sick, and then why."""
+        answers: list[Answer] = []
+        for job in jobs:
+            try:
+                answers.append(self.run(job))
+            except Sick as sick:
+                return {"answers": answers, "sick": str(sick)}
+        return {"answers": answers, "sick": None}
+
+    def run(self, job: Job) -> Answer:
+        """Runs a job. Raises Sick where it is the worker that cannot."""
+        start = time.monotonic()
+        try:
+            place = self.folder_for(job)
+            with open(f"{place}/{TRACE}", "w+b") as trace:
+                found = self.judged(job, place, trace)
+                keeps = self.shipment.traces
+                if keeps == "all" or keeps == "failed" and found["outcome"] in (FAILED, BROKEN):
+                    found["trace"] = packed(trace)
+        except OSError as fault:
+            found = answer(BROKEN, described(fault), again=True, trouble=True)
+        except MemoryError:
+            found = answer(BROKEN, "the worker is out of memory", again=True, trouble=True)
+        if found["trouble"]:
+            reason = self.prove()
+            if reason:
+                raise Sick(reason)
+        found["seconds"] = round(time.monotonic() - start, 4)
+        return found
+
+    def folder_for(self, job: Job) -> str:
+        """Where the simulator finds the images of a job, which it seeks from the folder that it works in."""
+        _, _, images = job
+        if not images:
+            return self.folder
+        place = f"{self.folder}/{OWN}"
+        for name, content in images.items():
+            with open(f"{place}/{name}", "wb") as file:
+                file.write(content)
+        return place
+
+    def write_scenario(self, place: str, text: str) -> None:
+        with open(f"{place}/{SCENARIO}", "w", encoding="utf-8", errors="surrogateescape") as file:
+            file.write(text)
+
+    def call(
+        self, place: str, words: Sequence[str], output: IO[bytes], seconds: float
+    ) -> "subprocess.CompletedProcess[bytes]":
+        """Runs the simulator in a folder."""
+        return subprocess.run(
+            [f"{self.folder}/{PROGRAM}", *words],
+            cwd=place,
+            stdin=subprocess.DEVNULL,
+            stdout=output,
+            stderr=subprocess.PIPE,
+            timeout=seconds,
+            check=False,
+        )
+
+    def said_at_end(self, place: str, words: Sequence[str], output: IO[bytes]) -> tuple[int, str]:
+        """The status of a call of the simulator, and what it said. Raises NoAnswer where that is nothing of the scenario's:
+        where another call may come to something else."""
+        try:
+            done = self.call(place, words, output, self.shipment.timeout)
+        except subprocess.TimeoutExpired:
+            raise NoAnswer(answer(BROKEN, f"took more than {self.shipment.timeout} s", again=True)) from None
+        status, said = done.returncode, said_by(done)
+        trouble = status in WORKER_FAULTS
+        if trouble or status < 0 or status in MEMORY_FAULTS:
+            raise NoAnswer(answer(BROKEN, f"status {status}: {said}", again=True, trouble=trouble))
+        return status, said
+
+    def judged(self, job: Job, place: str, trace: IO[bytes]) -> Answer:
+        """What came of the simulator and of the checks."""
+        scenario, check, _ = job
+        self.write_scenario(place, scenario)
+        try:
+            status, said = self.said_at_end(place, ["run", SCENARIO], trace)
+            if status in REFUSALS:
+                return answer(REFUSED, said)
+            if status:
+                return answer(BROKEN, f"status {status}: {said}")
+            return self.checked(check, place, trace)
+        except NoAnswer as end:
+            return end.answer
+
+    def checked(self, index: int, place: str, trace: IO[bytes]) -> Answer:
+        """Shows all cases the trace, and compares it in all ways; the first failure of each is told."""
+        check = self.shipment.checks[index]
+        if index not in self.cases:
+            self.cases[index] = [self.case(shipped) for shipped in check.cases]
+        failures = []
+        for shipped, case in zip(check.cases, self.cases[index]):
+            trace.seek(0)
+            try:
+                failure = expectations.check(case, cast(BinaryIO, trace)).failure
+            except ToolError as fault:
+                return answer(BROKEN, f"{shipped.path}: {fault}")
+            if failure:
+                for golden in shipped.goldens:
+                    failure = failure.replace(f"{self.folder}/{golden.file}", golden.path)
+                failures.append(failure)
+
+        def call(words: Sequence[str], output: BinaryIO) -> str | None:
+            status, said = self.said_at_end(place, words, output)
+            return f"status {status}: {said}" if status else None
+
+        compared = {}
+        for way in check.ways:
+            try:
+                found = comparisons.WAYS[way](comparisons.Place(place, SCENARIO, TRACE, call))
+            except ToolError as fault:
+                found = comparisons.Found(f"{way}: {fault}", 0)
+            compared[way] = found.compared
+            if found.difference:
+                failures.append(found.difference)
+        judged = answer(FAILED if failures else PASSED, "\n".join(failures))
+        trace.seek(0)
+        judged["hash"] = hashlib.file_digest(cast(io.BufferedRandom, trace), "sha256").hexdigest()
+        judged["counts"] = counted(trace)
+        judged["compared"] = compared
+        return judged
+
+    def case(self, shipped: ShippedCase) -> cases.Case:
+        """A case of the shipment, by the names that its reader knows."""
+        case = cases.read_case(f"{self.folder}/{shipped.file}")
+        goldens = iter(shipped.goldens)
+        statements = [
+            statement._replace(path=f"{self.folder}/{next(goldens).file}")
+            if isinstance(statement, cases.Golden)
+            else statement
+            for statement in case.statements
+        ]
+        return case._replace(path=shipped.path, statements=statements)
+
+    def close(self) -> None:
+        shutil.rmtree(self.folder, ignore_errors=True)
+
+
+def answer(outcome: str, message: str = "", again: bool = False, trouble: bool = False) -> Answer:
+    return {
+        "outcome": outcome,
+        "message": message,
+        "counts": None,
+        "hash": None,
+        "compared": None,
+        "seconds": 0.0,
+        "trace": None,
+        "again": again,
+        "trouble": trouble,
+    }
+
+
+@contextlib.contextmanager
+def named(path: str) -> Iterator[None]:
+    """An OSError in the block that names no file names this one: writing to it failed."""
+    try:
+        yield
+    except OSError as fault:
+        raise OSError(fault.errno, fault.strerror, fault.filename or path) from None
+
+
+def described(fault: OSError) -> str:
+    return f"{fault.filename}: {fault.strerror}" if fault.filename else str(fault.strerror or fault)
+
+
+def said_by(done: "subprocess.CompletedProcess[bytes]") -> str:
+    return done.stderr.decode(errors="replace").strip()
+
+
+def packed(trace: IO[bytes]) -> bytes:
     """A file in gzip's format, without a time in it."""
     trace.seek(0)
     out = io.BytesIO()
@@ -68,130 +342,97 @@ def packed(trace):
     return out.getvalue()
 
 
-def judged(job, folder, work, trace):
-    """What came of the simulator and of the cases."""
-    with open(f"{work}/scenario.toml", "w", encoding="utf-8") as file:
-        file.write(job["scenario"])
-    words = [os.path.join(folder, PROGRAM), "run", f"{work}/scenario.toml"]
-    try:
-        done = subprocess.run(
-            words,
-            cwd=folder,
-            stdin=subprocess.DEVNULL,
-            stdout=trace,
-            stderr=subprocess.PIPE,
-            timeout=job["timeout"],
-            check=False,
-        )
-    except subprocess.TimeoutExpired:
-        return answer(BROKEN, f"took more than {job['timeout']} s")
-    said = done.stderr.decode(errors="replace").strip().replace(f"{work}/", "")
-    if done.returncode in REFUSALS:
-        return answer(REFUSED, said)
-    if done.returncode:
-        return answer(BROKEN, f"status {done.returncode}: {said}")
-    return checked(job, folder, trace)
-
-
-def answer(outcome, message="", counts=None):
-    return {"outcome": outcome, "message": message, "counts": counts or {}}
-
-
-def checked(job, folder, trace):
-    """Shows all cases the trace; the first failure of each is told."""
-    failures = []
-    for case in job["cases"]:
-        trace.seek(0)
-        failure = expectations.check(shipped_case(case, folder), trace).failure
-        if failure:
-            for golden in case["goldens"]:
-                failure = failure.replace(os.path.join(folder, golden["file"]), golden["path"])
-            failures.append(failure)
-    return answer(FAILED if failures else PASSED, "\n".join(failures), counted(trace))
-
-
-def shipped_case(shipped, folder):
-    """A case of the shipment, by the names that its reader knows."""
-    case = expectations.read_case(os.path.join(folder, shipped["file"]))
-    goldens = iter(shipped["goldens"])
-    statements = [
-        statement._replace(path=os.path.join(folder, next(goldens)["file"]))
-        if isinstance(statement, expectations.Golden)
-        else statement
-        for statement in case.statements
-    ]
-    return case._replace(path=shipped["path"], statements=statements)
-
-
-def counted(trace):
-    """How many rows of each kind the trace has; of those that heard, how many heard one byte, and how many a clash."""
+def counted(trace: IO[bytes]) -> list[int]:
+    """How many rows of each kind the trace has, in the order of COUNTS; of those that heard, how many heard one byte, and
+    how many a clash."""
     trace.seek(0)
-    found = collections.Counter()
+    found: collections.Counter[bytes] = collections.Counter()
     for row in trace:
         parts = row.split(b" ", 4)
         found[parts[2]] += 1
         if parts[2] == b"heard":
             found[b"heard " + parts[3]] += 1
     one_byte, clash = (b"heard %d" % status for status in (ONE_BYTE, CLASH))
-    return dict(zip(COUNTS, (found[key] for key in (b"sent", one_byte, clash, b"serial", b"stop"))))
+    return [found[key] for key in (b"sent", one_byte, clash, b"serial", b"stop")]
 
 
-def package():
+def package() -> bytes:
     """This package as a zip from which Python imports it."""
     archive = io.BytesIO()
     with zipfile.ZipFile(archive, "w") as zipped:
-        for path, content in sources(importlib.resources.files(avrora_tools), avrora_tools.__name__):
+        for path, content in modules(importlib.resources.files(avrora_tools), avrora_tools.__name__):
             zipped.writestr(path, content)
     return archive.getvalue()
 
 
-def sources(folder, path):
+def modules(folder: Traversable, path: str) -> Iterator[tuple[str, bytes]]:
     """The path and the content of each module below a folder of the package."""
     for it in folder.iterdir():
         if it.is_dir():
-            yield from sources(it, f"{path}/{it.name}")
+            yield from modules(it, f"{path}/{it.name}")
         elif it.name.endswith(".py"):
             yield f"{path}/{it.name}", it.read_bytes()
 
 
-def shipment(name, files):
-    """The shipment for workers of dask, and the function that runs a job with it there.
+def for_dask(name: str, shipment: Shipment) -> tuple[Any, Any, Any]:
+    """The plugin of dask that takes the shipment to each worker, and two functions to call there: one that proves the
+    worker, one that runs a batch.
 
-    Each worker has it unpacked before its first job, also one that joins late or is started again. The package goes with
-    it, so a worker needs dask and nothing of this repository; what is pickled here names no module of the package.
+    The package goes with it, so a worker needs dask and nothing of this repository; what is pickled here for dask names no
+    module of the package.
     """
     from distributed import WorkerPlugin, get_worker
 
-    tools = package()
+    tools, packed_shipment = package(), pickle.dumps(shipment)
 
-    class Shipment(WorkerPlugin):  # a local class, which is always pickled by value
-        """Unpacks the files where the worker has its own, and the package, in place of another version of it."""
+    class Carrier(WorkerPlugin):  # type: ignore[misc]  # a local class, which is always pickled by value
+        """Makes a bench where the worker has its files, with this package in place of another version of it. Nothing is
+        written before the worker proves itself, so that what fails is told as its reason."""
 
-        def __init__(self):
+        def __init__(self) -> None:
             self.name = name
 
-        def setup(self, worker):
+        def setup(self, worker: Any) -> None:
+            import threading
+
+            self.place = worker.local_directory
+            self.bench: Any = None
+            self.lock = threading.Lock()  # for a worker of several threads: its folder is for one run at a time
+
+        def teardown(self, worker: Any) -> None:
+            if self.bench:
+                self.bench.close()
+
+        def made(self) -> Any:
             import importlib
             import os
+            import pickle
             import sys
             import tempfile
 
-            self.folder = tempfile.mkdtemp(prefix="avrora-", dir=worker.local_directory)
-            archive = os.path.join(self.folder, "tools.zip")
+            folder = tempfile.mkdtemp(prefix="avrora-", dir=self.place)
+            archive = os.path.join(folder, "tools.zip")
             with open(archive, "wb") as file:
                 file.write(tools)
             for module in [it for it in sys.modules if it.partition(".")[0] == "avrora_tools"]:
                 del sys.modules[module]
             sys.path.insert(0, archive)
-            self.runs = importlib.import_module("avrora_tools.runs")
-            self.runs.unpack(files, self.folder)
+            runs = importlib.import_module("avrora_tools.runs")
+            sys.path.remove(archive)
+            return runs.Bench(pickle.loads(packed_shipment), folder)
 
-        def teardown(self, worker):
-            import shutil
+        def prove(self) -> list[Any]:
+            import socket
 
-            shutil.rmtree(self.folder, ignore_errors=True)
+            with self.lock:
+                try:
+                    self.bench = self.bench or self.made()
+                    return [socket.gethostname(), self.bench.prove()]
+                except OSError as fault:
+                    return [socket.gethostname(), f"{fault.filename}: {fault.strerror}" if fault.filename else str(fault)]
 
-        def run(self, job):
-            return self.runs.run(job, self.folder)
+        def run_batch(self, jobs: Any) -> Any:
+            with self.lock:
+                return self.bench.run_batch(jobs)
 
-    return Shipment(), lambda job: get_worker().plugins[name].run(job)
+    return Carrier(), lambda: get_worker().plugins[name].prove(), lambda jobs: get_worker().plugins[name].run_batch(jobs)

@@ -5,18 +5,24 @@ import glob
 import json
 import os
 import signal
+import sqlite3
 import sys
 import tempfile
 
 from support import run_tool
+from avrora_tools import results, runs
 
 # Stands for the simulator. What it does is told by the latency of the scenario, so that a campaign can vary it: 1 the
-# scenario is refused, 2 it hangs, 3 it fails the first time, 4 it always fails, else node 0 sends a byte. It notes
-# each start. From the latency CAMPAIGN_HELD on it says in a file that the process which started it has a run under
-# way, and waits for the file `go` beside the log.
+# scenario is refused, 2 it hangs, 3 it fails the first time, 4 it always fails, 5 with a status that another attempt does
+# not change, 6 with that of a full disk, else node 0 sends a byte. It notes each start. The scenario by which a worker
+# proves itself comes out as it should, unless CAMPAIGN_SICK is set. From the latency CAMPAIGN_HELD on it says in a file
+# that the process which started it has a run under way, and waits for the file `go` beside the log. From the latency
+# CAMPAIGN_FULL on it fills the disk that it works on, and ends as one that cannot write.
 SIMULATOR = f"""#!{sys.executable} -IS
 import os, sys, time
 text = open(sys.argv[2]).read()
+if "{runs.PROOF_NAME}" in text:
+    sys.exit(print({runs.PROOF_TRACE!r}, end="") if "CAMPAIGN_SICK" not in os.environ else 7)
 latency = int(text.split("latency = ")[1].split()[0])
 log = os.environ["CAMPAIGN_LOG"]
 before = open(log).read().split() if os.path.exists(log) else []
@@ -27,10 +33,23 @@ if latency >= int(os.environ.get("CAMPAIGN_HELD", 1_000_000)):
     open(f"{{place}}/held-{{os.getppid()}}", "w").close()
     while os.path.exists(log) and not os.path.exists(f"{{place}}/go"):
         time.sleep(0.02)
+if latency >= int(os.environ.get("CAMPAIGN_FULL", 1_000_000)):
+    try:
+        with open("filler", "wb") as file:
+            while True:
+                file.write(bytes(1000))
+                file.flush()
+    except OSError:
+        sys.exit(1)
 if latency == 1:
     sys.exit(sys.stderr.write(f"avrora: {{sys.argv[2]}}: scenario refused: OutOfRange\\n") and 4)
 if latency == 2:
+    print("7 0 sent AA", flush=True)
     time.sleep(3600)
+if latency == 5:
+    sys.exit(7)
+if latency == 6:
+    sys.exit(1)
 if latency == 4 or latency == 3 and "3" not in before:
     sys.exit(6)
 print(f"{{latency}} 0 sent AA\\n{{latency + 9}} 1 heard 1 AA 0\\n5000 0 end 10 running\\n5000 1 end 10 running")
@@ -115,6 +134,15 @@ def let_go(path):
         pass
 
 
+def stored(path):
+    """How many results the file of results has."""
+    try:
+        with contextlib.closing(sqlite3.connect(f"{path}/c.results/{results.FILE}", timeout=60)) as database:
+            return database.execute("SELECT count(*) FROM run").fetchone()[0]
+    except sqlite3.OperationalError:  # it is not there yet, or has no tables
+        return 0
+
+
 def starts(path):
     with open(f"{path}/log", encoding="utf-8") as file:
         return file.read().split()
@@ -123,11 +151,15 @@ def starts(path):
 class Outcomes:
     """What comes of five runs, whoever runs them."""
 
-    without_dask = True
+    @contextlib.contextmanager
+    def place(self):
+        """The folder of the campaign, and the words that say who runs it."""
+        with folder() as path:
+            yield path, ["--processes", "2"]
 
     def test_outcomes_and_attempts(self):
-        with folder() as path:
-            status, out, errors, rows = run_campaign(path, "--processes", "2", without_dask=self.without_dask)
+        with self.place() as (path, words):
+            status, out, errors, rows = run_campaign(path, *words, without_dask=words[0] == "--processes")
             self.assertEqual(status, 1, errors)
             found = {name: (row["outcome"], row["attempts"]) for name, row in rows.items()}
             self.assertEqual(

@@ -98,6 +98,26 @@ def needs_module(module, package):
     return lambda test: test
 
 
+# Before a command: it has mounts of its own, which end with it.
+OWN_MOUNTS = ["unshare", "--mount"] if os.geteuid() == 0 else ["unshare", "--map-root-user", "--mount"]
+
+
+def with_disk(path, options, words):
+    """The command `words` with a disk of its own at the folder `path`, in memory and with mount's options."""
+    return [*OWN_MOUNTS, "/bin/sh", "-c", f'mount -t tmpfs -o {options} tmpfs "$0" && exec "$@"', path, *words]
+
+
+def may_mount():
+    with tempfile.TemporaryDirectory() as path:
+        try:
+            return subprocess.run(with_disk(path, "size=16k", ["true"]), capture_output=True, check=False).returncode == 0
+        except OSError:
+            return False
+
+
+needs_mounts = unittest.skipUnless(may_mount(), "needs the privilege to mount")
+
+
 def needs_program(program, package):
     return unittest.skipUnless(shutil.which(program), f"needs {program} (Debian's {package})")
 

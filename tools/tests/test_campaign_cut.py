@@ -7,10 +7,9 @@ import tempfile
 import unittest
 from pathlib import Path
 
-from campaign_runs import CAMPAIGN, folder, hear_interrupts, hidden_dask, let_go, run_campaign, starts
-from support import LONG, TOOL, TOOLS, wait_for
-from avrora_tools import campaigns, checkers
-from avrora_tools.commands import campaign
+from campaign_runs import CAMPAIGN, folder, hear_interrupts, hidden_dask, let_go, run_campaign, starts, stored
+from support import LONG, TOOL, TOOLS, needs_mounts, wait_for, with_disk
+from avrora_tools import campaigns, checkers, results
 from avrora_tools.errors import CannotWork
 
 HELD = CAMPAIGN.replace("[1, 3, 4, 20, 30]", "[20, 30, 40, 50]")
@@ -18,8 +17,8 @@ HELD = CAMPAIGN.replace("[1, 3, 4, 20, 30]", "[20, 30, 40, 50]")
 
 # A campaign that holds its lock and has a child, whose number it writes.
 HOLDER = """import os, sys, time
-from avrora_tools.commands import campaign
-with campaign.Results(sys.argv[1]).locked():
+from avrora_tools import results
+with results.locked(sys.argv[1]):
     child = os.fork()
     if child:
         os.write(1, f"{child}\\n".encode())
@@ -47,6 +46,8 @@ class Ended(unittest.TestCase):
             with subprocess.Popen(words, env=env, preexec_fn=hear_interrupts, **streams) as process:
                 wait_for(lambda: len(list(Path(path).glob("held-*"))) == 2)
                 workers = [int(name.name.split("-")[1]) for name in Path(path).glob("held-*")]
+                # The answers of a batch come together, so 30 may be with a run that waits.
+                wait_for(lambda: stored(path) >= 1)
                 process.send_signal(number)
                 if number != signal.SIGKILL:
                     let_go(path)  # what is under way is ended with it
@@ -81,12 +82,48 @@ class Ended(unittest.TestCase):
             with subprocess.Popen(holder, stdout=subprocess.PIPE, text=True, env={"PYTHONPATH": TOOLS}) as process:
                 child = int(process.stdout.readline())
                 self.addCleanup(os.kill, child, signal.SIGKILL)
-                with self.assertRaisesRegex(CannotWork, "another campaign is at work"), campaign.Results(path).locked():
+                with self.assertRaisesRegex(CannotWork, "another campaign is at work"), results.locked(path):
                     pass
                 process.kill()
             self.assertTrue(is_there(child))
-            with campaign.Results(path).locked():
+            with results.locked(path):
                 pass
+
+
+@needs_mounts
+class Disks(unittest.TestCase):
+    """A campaign of this machine on a disk of its own that cannot be used; elsewhere the same command goes on."""
+
+    def status_and_errors(self, path, disk, options, **env):
+        os.makedirs(disk, exist_ok=True)
+        words = with_disk(disk, options, [*TOOL, "campaign", "--avrora", f"{path}/avrora", f"{path}/c.toml"])
+        env = {**os.environ, "CAMPAIGN_LOG": f"{path}/log", **env}
+        done = subprocess.run(words, env=env, capture_output=True, text=True, timeout=LONG, check=False)
+        return done.returncode, done.stderr
+
+    def test_without_exec(self):
+        """All workers are sick, which is no answer to any run."""
+        with folder(HELD) as path:
+            status, errors = self.status_and_errors(path, f"{path}/disk", "noexec", TMPDIR=f"{path}/disk")
+            self.assertEqual(status, 3, errors)
+            self.assertIn("all workers are set aside: ", errors)
+            self.assertIn("/avrora: Permission denied", errors)
+            self.assertEqual(stored(path), 0)
+            self.assertEqual(run_campaign(path)[0], 1)
+
+    def test_full_for_workers(self):
+        with folder(HELD) as path:
+            status, errors = self.status_and_errors(path, f"{path}/disk", "size=8k", TMPDIR=f"{path}/disk")
+            self.assertEqual(status, 3, errors)
+            self.assertIn("No space left on device", errors)
+            self.assertEqual(stored(path), 0)
+
+    def test_full_for_results(self):
+        with folder(HELD) as path:
+            status, errors = self.status_and_errors(path, f"{path}/c.results", "size=16k")
+            self.assertEqual(status, 3, errors)
+            self.assertIn("results.sqlite: ", errors)
+            self.assertIn("full", errors)
 
 
 class Kept(unittest.TestCase):
@@ -124,9 +161,9 @@ class Kept(unittest.TestCase):
     def test_another_checker(self):
         """A package whose checker differs runs all again; one whose words differ does not."""
         with folder(self.GOLDEN, "* 0 sent AA\n") as path:
-            run_campaign(path)
-            kept = campaigns.read(f"{path}/c.toml").runs[0]
-            self.assertNotEqual(campaigns.digest(kept, "s", "one"), campaigns.digest(kept, "s", "other"))
+            campaign = campaigns.read(f"{path}/c.toml")
+            one, other = (campaigns.Digests(campaign, "simulator", checker) for checker in ("one", "other"))
+            self.assertNotEqual(one.of(campaign.run(0)), other.of(campaign.run(0)))
         sources = checkers.sources()
         self.assertLessEqual({"avrora_tools.runs", "avrora_tools.expectations", "avrora_tools.traces"}, set(sources))
         self.assertNotIn("avrora_tools.commands.campaign", sources)

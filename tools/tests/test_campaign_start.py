@@ -1,4 +1,5 @@
 """campaign: what it starts, how it is ended, and what it says of a scenario that is refused."""
+import contextlib
 import os
 import signal
 import subprocess
@@ -6,17 +7,11 @@ import unittest
 
 from campaign_runs import folder, hidden_dask, let_go
 from support import LONG, TOOL, TOP, wait_for
-from avrora_tools import campaigns, pools, runs
+from avrora_tools import campaigns, results, runs
 from avrora_tools.commands import campaign as campaign_command
 
 
 class Start(unittest.TestCase):
-    def test_few_runs_go_without_dask(self):
-        """As many as there are processes: each has one at once, whether dask is there or not."""
-        pool = pools.pool(None, 4, {runs.PROGRAM: b""}, "name", 4)
-        self.addCleanup(pool.close)
-        self.assertIsInstance(pool, pools.ProcessPool)
-
     def test_it_is_built_where_avrora_is(self):
         """What ./avrora has proved and built is taken, and not built anew."""
         room = campaign_command.BUILT
@@ -48,15 +43,27 @@ class Refused(unittest.TestCase):
         """In the file that is kept of the run."""
         text = '[[run]]\nscenario = "net.toml"\n[run.vary]\nbyte_time = [100]\n'
         with folder(text) as path:
-            (run,) = campaigns.read(f"{path}/c.toml").runs
-        line = run.scenario.splitlines().index("byte_time = 100") + 1
-        result = campaign_command.explained(run, runs.answer(runs.REFUSED, "avrora: scenario refused: OutOfRange"))
-        self.assertEqual(
-            result["message"].splitlines(),
-            [
-                "avrora: scenario refused: OutOfRange",
-                f"runs/net,byte_time=100.toml: OutOfRange, line {line}, byte_time: 100 is not 256 to 4,096",
-            ],
-        )
-        good = runs.answer(runs.PASSED)
-        self.assertEqual(campaign_command.explained(run, good), good)
+            campaign = campaigns.read(f"{path}/c.toml")
+            with contextlib.closing(results.Store(f"{path}/results", False)) as store:
+                sitting = campaign_command.Sitting(campaign, campaigns.Shard(), b"simulator", store)
+                run = campaign.run(0)
+                line = run.scenario().splitlines().index("byte_time = 100") + 1
+                refusal = runs.answer(runs.REFUSED, "avrora: scenario refused: OutOfRange")
+                self.assertEqual(
+                    sitting.explained(run, refusal).splitlines(),
+                    [
+                        "avrora: scenario refused: OutOfRange",
+                        f"runs/net,byte_time=100.toml: OutOfRange, line {line}, byte_time: 100 is not 256 to 4,096",
+                    ],
+                )
+                self.assertEqual(sitting.explained(run, runs.answer(runs.PASSED)), "")
+
+    def test_an_image_by_its_name(self):
+        """And not by that of its content."""
+        with folder('[[run]]\nscenario = "net.toml"\n') as path:
+            campaign = campaigns.read(f"{path}/c.toml")
+            with contextlib.closing(results.Store(f"{path}/results", False)) as store:
+                sitting = campaign_command.Sitting(campaign, campaigns.Shard(), b"simulator", store)
+                (shipped,) = campaign.files
+                refusal = runs.answer(runs.REFUSED, f"avrora: {shipped}: image refused: NoEnd")
+                self.assertEqual(sitting.explained(campaign.run(0), refusal), "avrora: a.hex: image refused: NoEnd")

@@ -1,6 +1,5 @@
-"""campaign on dask: a cluster of its own, a cluster that is there, workers that die."""
+"""campaign on dask: a cluster that is there, workers that are sick or die, a scheduler that goes."""
 import contextlib
-import glob
 import json
 import os
 import socket
@@ -8,61 +7,56 @@ import subprocess
 import sys
 import unittest
 
-from campaign_runs import CAMPAIGN, Outcomes, folder, let_go, run_campaign, starts
-from support import LOOPBACK, TOOL, needs_loopback, needs_module, wait_for
+from campaign_runs import CAMPAIGN, Outcomes, folder, let_go, run_campaign, starts, stored
+from support import LONG, LOOPBACK, TOOL, needs_loopback, needs_module, needs_mounts, wait_for, with_disk
 
 
 @needs_module("distributed", "python3-distributed")
 @needs_loopback
-class OnDask(Outcomes, unittest.TestCase):
-    """By the workers of a scheduler that campaign starts for itself."""
+class Cluster(unittest.TestCase):
+    """A scheduler and workers, each a process of its own that knows nothing of this repository."""
 
-    without_dask = False
-
-    def test_no_scheduler(self):
-        with folder() as path, socket.socket() as free:
-            free.bind((LOOPBACK, 0))  # and nobody listens
-            address = f"tcp://{LOOPBACK}:{free.getsockname()[1]}"
-            env = {"DASK_DISTRIBUTED__COMM__TIMEOUTS__CONNECT": "1s"}
-            status, _, errors, _ = run_campaign(path, "--scheduler", address, without_dask=False, **env)
-            self.assertEqual(status, 3)
-            self.assertIn(f"no scheduler of dask answers at {address}", errors)
-
-
-@needs_module("distributed", "python3-distributed")
-@needs_loopback
-class OnACluster(unittest.TestCase):
-    """A scheduler and three workers, each a process of its own that knows nothing of this repository."""
-
-    RUNS = 60
-    HELD = 120  # the latency from which on runs wait until a worker is killed
+    CAMPAIGN = CAMPAIGN
+    HELD = 1_000_000  # the latency from which on runs wait
+    WORKERS = 1
 
     def setUp(self):
-        campaign = CAMPAIGN.replace("[1, 3, 4, 20, 30]", f"{{ from = 100, to = {99 + self.RUNS} }}")
         self.stack = contextlib.ExitStack()
         self.addCleanup(self.stack.close)
-        self.path = self.stack.enter_context(folder(campaign))
+        self.path = self.stack.enter_context(folder(self.CAMPAIGN))
         self.env = {name: value for name, value in os.environ.items() if name != "PYTHONPATH"}
         self.env |= {"CAMPAIGN_LOG": f"{self.path}/log", "CAMPAIGN_HELD": str(self.HELD)}
-        self.start_dask("scheduler", "--port", "0", "--scheduler-file", f"{self.path}/scheduler.json")
+        self.scheduler = self.start_dask("scheduler", "--port", "0", "--scheduler-file", f"{self.path}/scheduler.json")
         self.address = wait_for(self.address_of_scheduler)
-        self.workers = [self.start_worker(f"{self.path}/worker{number}") for number in range(3)]
+        self.workers = [self.start_worker(f"worker{number}") for number in range(self.WORKERS)]
 
     def start(self, words, **more):
         """Starts a process, which is ended with the test. The runs that wait end with the folder."""
-        process = subprocess.Popen(words, env=self.env, **more)
+        process = subprocess.Popen(words, **{"env": self.env, **more})
         self.stack.callback(process.wait)
         self.stack.callback(process.kill)
         return process
 
-    def start_dask(self, what, *words):
+    def start_dask(self, what, *words, disk=None, env=None):
+        """Starts a scheduler or a worker; `disk` is a folder that is a disk of its own, and its options."""
         words = [sys.executable, "-m", f"distributed.cli.dask_{what}", "--host", LOOPBACK, "--no-dashboard", *words]
-        return self.start(words, cwd=self.path, stdout=subprocess.DEVNULL, stderr=subprocess.DEVNULL)
+        if disk:
+            words = with_disk(*disk, words)
+        env = {**self.env, **(env or {})}
+        return self.start(words, cwd=self.path, env=env, stdout=subprocess.DEVNULL, stderr=subprocess.DEVNULL)
 
-    def start_worker(self, folder_of_worker):
-        return self.start_dask(
-            "worker", "--nthreads", "1", "--no-nanny", "--local-directory", folder_of_worker, self.address
-        )
+    def start_worker(self, name, disk=None, **more):
+        """Starts a worker; its folder is a disk with these options of mount."""
+        folder = f"{self.path}/{name}"
+        os.mkdir(folder)
+        words = ["--nthreads", "1", "--no-nanny", "--name", name, "--local-directory", folder]
+        return self.start_dask("worker", *words, self.address, disk=disk and (folder, disk), **more)
+
+    def wait_for_workers(self, count):
+        """Waits until the scheduler knows so many workers."""
+        code = "import distributed, sys; distributed.Client(sys.argv[1]).wait_for_workers(int(sys.argv[2]))"
+        words = [sys.executable, "-c", code, self.address, str(count)]
+        subprocess.run(words, check=True, capture_output=True, timeout=LONG, env=self.env)
 
     def address_of_scheduler(self):
         """What the scheduler wrote into its file; None while that is not there, or a part of it is not: the file has
@@ -72,36 +66,164 @@ class OnACluster(unittest.TestCase):
                 return json.load(file)["address"]
         return None
 
-    def results(self):
-        return len(glob.glob(f"{self.path}/c.results/runs/*.json"))
+    def start_campaign(self):
+        """The campaign on the cluster; its process, and the file of what it says."""
+        said = self.stack.enter_context(open(f"{self.path}/said", "w+", encoding="utf-8"))
+        words = [*TOOL, "campaign", "--avrora", f"{self.path}/avrora", "--scheduler", self.address]
+        return self.start([*words, f"{self.path}/c.toml"], stdout=said, stderr=subprocess.STDOUT), said
+
+    def ended(self, campaign, said):
+        """Waits for the end of a campaign; its status and what it said."""
+        wait_for(lambda: campaign.poll() is not None)
+        said.seek(0)
+        return campaign.returncode, said.read()
+
+    def rows(self):
+        with open(f"{self.path}/c.results/summary.jsonl", encoding="utf-8") as file:
+            return [json.loads(line) for line in file]
+
+
+class OnDask(Outcomes, Cluster):
+    """What comes of five runs."""
+
+    @contextlib.contextmanager
+    def place(self):
+        yield self.path, ["--scheduler", self.address]
+
+    def test_no_scheduler(self):
+        with socket.socket() as free:
+            free.bind((LOOPBACK, 0))  # and nobody listens
+            address = f"tcp://{LOOPBACK}:{free.getsockname()[1]}"
+            env = {"DASK_DISTRIBUTED__COMM__TIMEOUTS__CONNECT": "1s"}
+            status, _, errors, _ = run_campaign(self.path, "--scheduler", address, without_dask=False, **env)
+            self.assertEqual(status, 3)
+            self.assertIn(f"no scheduler of dask answers at {address}", errors)
+
+
+class Sick(Cluster):
+    """A worker that cannot work gets nothing to do, and is named."""
+
+    CAMPAIGN = CAMPAIGN.replace("[1, 3, 4, 20, 30]", "{ from = 100, to = 119 }")
+    WORKERS = 0
+
+    def assert_set_aside(self, reason, at_once=True):
+        """Beside a worker that is well one named `sick` is set aside for a reason; all runs are passed, each by one attempt
+        that counts. Where that is `at_once`, none on the sick one."""
+        self.start_worker("well")
+        self.wait_for_workers(2)
+        status, text = self.ended(*self.start_campaign())
+        self.assertEqual(status, 0, text)
+        self.assertRegex(text, f"the worker {socket.gethostname()} sick is set aside: .*{reason}")
+        rows = self.rows()
+        self.assertEqual([row["outcome"] for row in rows], ["passed"] * 20)
+        self.assertEqual([row["attempts"] for row in rows], [1] * 20)
+        hosts = {f"{socket.gethostname()} {name}" for name in (["well"] if at_once else ["well", "sick"])}
+        self.assertLessEqual({row["host"] for row in rows}, hosts)
+
+    @needs_mounts
+    def test_a_full_disk(self):
+        self.start_worker("sick", disk="size=16k")
+        self.wait_for_workers(1)
+        status, text = self.ended(*self.start_campaign())
+        self.assertEqual(status, 3, text)  # while it is the only one
+        self.assertIn("all workers are set aside: ", text)
+        self.assertIn("No space left on device", text)
+        self.assert_set_aside("No space left on device")
+
+    @needs_mounts
+    def test_a_disk_that_becomes_full(self):
+        """By what a run writes: that run and the others of its batch go elsewhere."""
+        self.start_worker("sick", disk="size=4m", env={"CAMPAIGN_FULL": "101"})
+        self.assert_set_aside("No space left on device", at_once=False)
+
+    @needs_mounts
+    def test_a_folder_without_exec(self):
+        self.start_worker("sick", disk="noexec")
+        self.assert_set_aside("/avrora: Permission denied")
+
+    def test_all(self):
+        """A simulator that does otherwise than it should on each of them, and one that cannot be executed."""
+        self.start_worker("wrong", env={"CAMPAIGN_SICK": "1"})
+        status, text = self.ended(*self.start_campaign())
+        self.assertEqual(status, 3, text)
+        self.assertIn("all workers are set aside: ", text)
+        self.assertIn("wrong: the known scenario ended with status 7", text)
+        self.assertEqual(stored(self.path), 0)
+        with open(f"{self.path}/avrora", "w", encoding="utf-8") as file:
+            file.write("no program")
+        status, text = self.ended(*self.start_campaign())
+        self.assertEqual(status, 3, text)
+        self.assertIn("Exec format error", text)
+
+
+class ClientKilled(Cluster):
+    CAMPAIGN = CAMPAIGN.replace("[1, 3, 4, 20, 30]", "{ from = 100, to = 119 }")
+    HELD = 115  # behind the second batch, whoever comes first
+    WORKERS = 2
+
+    def test_the_same_command_goes_on(self):
+        """At once, though the workers still have the runs of the client that was killed."""
+        campaign, _ = self.start_campaign()
+        wait_for(lambda: any(name.startswith("held-") for name in os.listdir(self.path)) and stored(self.path) >= 3)
+        campaign.kill()
+        campaign.wait(LONG)
+        at_kill = stored(self.path)
+        os.unlink(f"{self.path}/log")  # which lets the runs go on that are held
+        let_go(self.path)
+        status, text = self.ended(*self.start_campaign())
+        self.assertEqual(status, 0, text)
+        self.assertIn(f"{at_kill} of 20 results are there already, and are kept", text)
+        self.assertEqual([row["outcome"] for row in self.rows()], ["passed"] * 20)
+        self.assertLessEqual(len(set(starts(self.path))), 20 - at_kill)
+
+
+class Gone(Cluster):
+    CAMPAIGN = CAMPAIGN.replace("[1, 3, 4, 20, 30]", "{ from = 100, to = 105 }")
+    HELD = 103
+
+    def test_the_scheduler(self):
+        """It is said in a line; the same command goes on, on another one."""
+        campaign, said = self.start_campaign()
+        wait_for(lambda: any(name.startswith("held-") for name in os.listdir(self.path)))
+        self.scheduler.kill()
+        status, text = self.ended(campaign, said)
+        let_go(self.path)
+        self.assertEqual(status, 3, text)
+        self.assertLessEqual(len(text.splitlines()), 3, text)
+        self.assertIn("the scheduler of dask is gone", text)
+        status, _, errors, rows = run_campaign(self.path)
+        self.assertEqual((status, len(rows)), (0, 6), errors)
+
+
+class Killed(Cluster):
+    RUNS = 60
+    CAMPAIGN = CAMPAIGN.replace("[1, 3, 4, 20, 30]", f"{{ from = 100, to = {99 + RUNS} }}")
+    HELD = 140  # behind the second batch, whoever comes first
+    WORKERS = 3
 
     def worker_that_is_held(self):
         """A worker that has a run under way which waits."""
         return next((worker for worker in self.workers if os.path.exists(f"{self.path}/held-{worker.pid}")), None)
 
-    def test_a_worker_is_killed(self):
-        words = [*TOOL, "campaign", "--avrora", f"{self.path}/avrora", "--scheduler", self.address]
-        with open(f"{self.path}/said", "w+", encoding="utf-8") as said:
-            words = [*words, f"{self.path}/c.toml"]
-            campaign = self.start(words, stdout=said, stderr=subprocess.STDOUT)
-            worker = wait_for(self.worker_that_is_held)
-            wait_for(lambda: self.results() >= 10)
-            worker.kill()
-            at_kill = self.results()
-            let_go(self.path)
-            wait_for(lambda: campaign.poll() is not None)
-            said.seek(0)
-            self.assertEqual(campaign.returncode, 0, said.read())
+    def test_a_worker(self):
+        campaign, said = self.start_campaign()
+        worker = wait_for(self.worker_that_is_held)
+        wait_for(lambda: stored(self.path) >= 5)
+        worker.kill()
+        at_kill = stored(self.path)
+        let_go(self.path)
+        status, text = self.ended(campaign, said)
+        self.assertEqual(status, 0, text)
+        self.assertIn("the worker is gone", text)
         self.assertLessEqual(at_kill, self.HELD - 100)
-        with open(f"{self.path}/c.results/summary.jsonl", encoding="utf-8") as file:
-            rows = [json.loads(line) for line in file]
+        rows = self.rows()
         self.assertEqual(
             [row["name"] for row in rows], [f"net latency={latency}" for latency in range(100, 100 + self.RUNS)]
         )
         self.assertEqual({row["outcome"] for row in rows}, {"passed"})
-        self.assertEqual(self.results(), self.RUNS)
-        # What the killed worker had under way was run again, and nothing else.
-        self.assertIn(len(starts(self.path)), range(self.RUNS + 1, self.RUNS + 4))
+        self.assertEqual(stored(self.path), self.RUNS)
+        # What the killed worker had begun was run again, at least the one that waited, and nothing else.
+        self.assertIn(len(starts(self.path)), range(self.RUNS + 1, self.RUNS + 21))
         self.assertEqual(
             {row["parameters"]["latency"] for row in rows}, {int(latency) for latency in starts(self.path)}
         )

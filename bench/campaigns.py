@@ -1,0 +1,210 @@
+#!/usr/bin/env python3
+"""What a run of a campaign costs: processor milliseconds of client, scheduler, workers and program.
+
+    bench/campaigns.py PROGRAM [RUNS]
+
+Three nodes of examples/packet.hex, 1,666,667 cycles each (5,000,000 cycles of nodes), whose traces are checked by a case. Of each part
+the processor time of a campaign of RUNS runs (400) less that of one of a quarter of them, by the runs that it has more: so
+what it takes to start is not in it. Of the program alone: the mean of RUNS / 4 runs in turn. Workers are four processes of this machine;
+then, where dask.distributed is installed, four of dask beside a scheduler. Then one worker beside four, by the clock, and what
+the processor times bound; and how a campaign of a million variants begins. Other work on the machine adds to the clock, and some
+percent to processor times.
+"""
+import contextlib
+import importlib.util
+import itertools
+import json
+import os
+import re
+import resource
+import signal
+import sqlite3
+import subprocess
+import sys
+import tempfile
+import time
+from pathlib import Path
+
+TOP = Path(__file__).resolve().parent.parent
+TOOLS = TOP / "tools"
+LOOPBACK = "127.0.0.1"
+
+# The client, which writes its processor time and that of its children, in seconds, to the file named first.
+CLIENT = """import json, resource, sys
+sys.path.insert(0, sys.argv[1])
+from avrora_tools import main
+status = main.run(["campaign", *sys.argv[3:]])
+used = [resource.getrusage(who) for who in (resource.RUSAGE_SELF, resource.RUSAGE_CHILDREN)]
+with open(sys.argv[2], "w") as file:
+    json.dump([it.ru_utime + it.ru_stime for it in used], file)
+sys.exit(status)
+"""
+
+WORKERS = 4
+MILLION = 1_000_000
+
+
+class Folder:
+    """A folder with the scenario and campaigns of it."""
+
+    def __init__(self, path, program):
+        self.path, self.program = Path(path), program
+        text = (TOP / "examples" / "packet.toml").read_text().replace("737_280", "1_666_667")
+        (self.path / "packet.toml").write_text(text.replace('"packet.hex"', f'"{TOP}/examples/packet.hex"'))
+
+    def campaign(self, runs):
+        """The file of a campaign of so many variants."""
+        path = self.path / f"{runs}.toml"
+        second = max(1, runs // 1_000)
+        path.write_text(
+            f'[[run]]\nscenario = "packet.toml"\nexpect = "{TOP}/examples/arrives.expect"\n'
+            f"[run.vary]\nlatency = {{ from = 100, to = {99 + runs // second} }}\n"
+            f'"input.2.at" = {{ from = 30_000, to = {29_999 + second} }}\n'
+        )
+        return path
+
+    def run(self, runs, *words):
+        """Runs a campaign anew; the seconds by the clock, and the processor times of the client and of its children."""
+        used = self.path / "used"
+        words = [sys.executable, "-B", "-c", CLIENT, TOOLS, used, "--anew", "--avrora", self.program, *words, self.campaign(runs)]
+        start = time.monotonic()
+        done = subprocess.run(words, stdout=subprocess.PIPE, stderr=subprocess.STDOUT, text=True, check=False)
+        if done.returncode:
+            sys.exit(f"a campaign ended with status {done.returncode}:\n{done.stdout[-2_000:]}")
+        return time.monotonic() - start, *json.loads(used.read_text())
+
+
+def used_by(process):
+    """Ends a process; its processor time and that of its children, in seconds."""
+    process.terminate()
+    _, _, used = os.wait4(process.pid, 0)
+    process.returncode = 0
+    return used.ru_utime + used.ru_stime
+
+
+def program_seconds(folder, runs):
+    """The processor time of the program by itself, the mean of some runs."""
+    words = [folder.program, "run", folder.path / "packet.toml"]
+    before = resource.getrusage(resource.RUSAGE_CHILDREN)
+    for _ in range(runs):
+        subprocess.run(words, stdout=subprocess.DEVNULL, check=True)
+    after = resource.getrusage(resource.RUSAGE_CHILDREN)
+    return (after.ru_utime - before.ru_utime + after.ru_stime - before.ru_stime) / runs
+
+
+def local_costs(folder, runs):
+    """Seconds of client and of workers with their programs, for so many runs on processes of this machine."""
+    _, client, workers = folder.run(runs, "--processes", str(WORKERS))
+    return {"client": client, "workers": workers}
+
+
+def dask_costs(folder, runs):
+    """The same on dask, and of its scheduler."""
+    module = [sys.executable, "-m"]
+    file = folder.path / "scheduler.json"
+    file.unlink(missing_ok=True)
+    quiet = {"stdout": subprocess.DEVNULL, "stderr": subprocess.DEVNULL, "cwd": folder.path}
+    place = ["--host", LOOPBACK, "--no-dashboard"]
+    scheduler = subprocess.Popen(
+        [*module, "distributed.cli.dask_scheduler", *place, "--port", "0", "--scheduler-file", file], **quiet
+    )
+    address = None
+    while address is None:
+        time.sleep(0.1)
+        with contextlib.suppress(FileNotFoundError, json.JSONDecodeError):
+            address = json.loads(file.read_text())["address"]
+    workers = [
+        subprocess.Popen([*module, "distributed.cli.dask_worker", *place, "--nthreads", "1", "--no-nanny", address], **quiet)
+        for _ in range(WORKERS)
+    ]
+    try:
+        _, client, _ = folder.run(runs, "--scheduler", address)
+    finally:
+        used = [used_by(worker) for worker in workers]
+        of_scheduler = used_by(scheduler)
+    return {"client": client, "scheduler": of_scheduler, "workers": sum(used)}
+
+
+def tell_costs(name, costs, folder, runs, program):
+    """Prints the milliseconds a run of each part, and gives them."""
+    few, many = costs(folder, runs // 4), costs(folder, runs)
+    each = {part: 1_000 * (many[part] - few[part]) / (runs - runs // 4) for part in many}
+    each["workers"] -= program
+    overhead = sum(each.values())
+    parts = ", ".join(f"{part} {value:.2f}" for part, value in each.items())
+    print(f"{name}: {parts}, program {program:.2f} ms a run; all but the program {overhead:.2f}, {overhead / program:.2f} of it", flush=True)
+    return each
+
+
+def tell_speeds(folder, runs, each, program):
+    """Four workers beside one."""
+    seconds = {count: folder.run(runs, "--processes", str(count))[0] - folder.run(runs // 4, "--processes", str(count))[0] for count in (1, WORKERS)}
+    worker = each["workers"] + program
+    bound = min(WORKERS, WORKERS * worker / (each["client"] + worker)) if os.cpu_count() <= WORKERS else min(WORKERS, worker / each["client"])
+    print(
+        f"{WORKERS} workers are {seconds[1] / seconds[WORKERS]:.2f} times as fast as one by the clock; by processor time, with the "
+        f"client on one of {os.cpu_count()} processors, {bound:.2f} times",
+        flush=True,
+    )
+
+
+def tell_beginning(folder):
+    """How long a million take to begin, and the client's memory then and some results later."""
+    path = folder.campaign(MILLION)
+    words = [sys.executable, "-B", TOOLS, "campaign", "--avrora", folder.program, "--processes", str(WORKERS), path]
+    start = time.monotonic()
+    client = subprocess.Popen(words, stdout=subprocess.DEVNULL, stderr=subprocess.DEVNULL)
+    said = False
+    for _ in itertools.count():
+        time.sleep(0.05)
+        found = results(folder.path / f"{MILLION}.results" / "results.sqlite")
+        if found and not said:
+            said = True
+            print(f"{MILLION:,} variants: the first result is there after {time.monotonic() - start:.1f} s", end="")
+            print(f", {used_until_now(client.pid):.1f} s of the client's processor time; {memory(client.pid)} MB at most", end="")
+        if found >= 2_000 or time.monotonic() - start > 120:
+            print(f", {memory(client.pid)} MB after {found:,} results")
+            break
+    client.send_signal(signal.SIGTERM)
+    client.wait()
+
+
+def results(path):
+    if not path.exists():
+        return 0
+    with contextlib.closing(sqlite3.connect(path, timeout=60)) as database, contextlib.suppress(sqlite3.OperationalError):
+        return database.execute("SELECT count(*) FROM run").fetchone()[0]
+    return 0
+
+
+def used_until_now(pid):
+    fields = Path(f"/proc/{pid}/stat").read_text().rpartition(")")[2].split()
+    return (int(fields[11]) + int(fields[12])) / os.sysconf("SC_CLK_TCK")
+
+
+def memory(pid):
+    """The most memory that a process has had, in MB."""
+    status = Path(f"/proc/{pid}/status").read_text()
+    return int(re.search(r"VmHWM:\s+(\d+) kB", status)[1]) * 1_024 // 1_000_000
+
+
+def main():
+    if len(sys.argv) not in (2, 3):
+        sys.exit(__doc__)
+    runs = int(sys.argv[2]) if len(sys.argv) == 3 else 400
+    load = os.getloadavg()[0]
+    print(f"{os.cpu_count()} processors; {load:.1f} others want to run on them", flush=True)
+    with tempfile.TemporaryDirectory() as path:
+        folder = Folder(path, os.path.abspath(sys.argv[1]))
+        tell_beginning(folder)
+        program = 1_000 * program_seconds(folder, runs // 4)
+        each = tell_costs("processes of this machine", local_costs, folder, runs, program)
+        if importlib.util.find_spec("distributed"):
+            tell_costs("dask", dask_costs, folder, runs, program)
+        else:
+            print("dask: skipped, distributed is not installed")
+        tell_speeds(folder, runs, each, program)
+
+
+if __name__ == "__main__":
+    main()

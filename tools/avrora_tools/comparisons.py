@@ -1,0 +1,129 @@
+"""What a campaign compares a run with beside its cases: what the same scenario comes to in another way.
+
+Each way says what differs, or None, and how much it compared: rows of the trace, or samples. It raises ToolError where the
+tools refuse what the simulator took, or wrote.
+"""
+import contextlib
+import hashlib
+import io
+import itertools
+from collections.abc import Callable, Iterator, Mapping, Sequence
+from typing import BinaryIO, NamedTuple
+
+from avrora_tools import scenarios, traces
+from avrora_tools.commands import links
+
+BLOCK = 1 << 16  # bytes
+
+# The state between the two halves of a run, and what a call wrote.
+STATE, OUTPUT = "compared.state", "compared.trace"
+
+MOST_SAID = 4_000  # characters of what `links` finds
+
+
+class Place(NamedTuple):
+    """A folder with a scenario, and the trace of its run. `call` runs the simulator there with these words, its output goes
+    to a file; None where it ended with status 0, else what to tell of its end."""
+
+    folder: str
+    scenario: str
+    trace: str
+    call: Callable[[Sequence[str], BinaryIO], str | None]
+
+    def path(self, name: str) -> str:
+        return f"{self.folder}/{name}"
+
+    def text(self) -> str:
+        with open(self.path(self.scenario), encoding="utf-8") as file:
+            return file.read()
+
+
+class Found(NamedTuple):
+    """What differs, as a text, or None; and how much was compared."""
+
+    difference: str | None
+    compared: int
+
+
+def plain(place: Place) -> Found:
+    """One thread with no epochs looked ahead: `run --plain`."""
+    return with_calls(place, "run --plain", [["run", "--plain", place.scenario]])
+
+
+def resumed(place: Place) -> Found:
+    """Cut at the end of an epoch that the scenario's text decides: `head`, and then `resume` from what `save` wrote. A run
+    that ends within its first epoch has nothing to compare."""
+    text = place.text()
+    ends = (scenarios.Scenario.of_text(text, "the scenario").cycles - 1) // traces.EPOCH
+    if ends < 1:
+        return Found(None, 0)
+    epoch = str(1 + int.from_bytes(hashlib.sha256(text.encode()).digest()[:8], "big") % ends)
+    with open(place.path(STATE), "wb") as state:
+        said = place.call(["save", place.scenario, epoch], state)
+    if said:
+        return Found(f"save {epoch}: {said}", 0)
+    return with_calls(
+        place,
+        f"head {epoch} and then resume",
+        [["head", place.scenario, epoch], ["resume", place.scenario, STATE]],
+    )
+
+
+def by_links(place: Place) -> Found:
+    """Each sample is what the sends of the trace give, by the rules of docs/AIR.md: what `links` checks."""
+    scenario = scenarios.Scenario.of_text(place.text(), "the scenario")
+    said = io.StringIO()
+    with contextlib.redirect_stdout(said):
+        trace = traces.read(
+            place.path(place.trace), traces.Form.WHOLE, scenario=scenario, least_gap=scenarios.BYTE_TIME.start
+        )
+        reader = links.Reader(scenario, None, tells_clashes=False)
+        reader.read(trace)
+    samples = sum(reader.samples.values())
+    return Found(f"links: {said.getvalue()[:MOST_SAID]}" if reader.faults else None, samples)
+
+
+# By the words of a campaign's file, in the order in which they are compared.
+WAYS: Mapping[str, Callable[[Place], Found]] = {"plain": plain, "resumed": resumed, "links": by_links}
+
+# What reports call what was compared.
+TITLES = {
+    "plain": "rows equal to those of run --plain",
+    "resumed": "rows equal to those of head joined to resume",
+    "links": "samples checked by links",
+}
+
+
+def with_calls(place: Place, name: str, calls: Sequence[Sequence[str]]) -> Found:
+    """Compares the trace with what calls write one behind the other."""
+    with open(place.path(OUTPUT), "w+b") as output:
+        for words in calls:
+            said = place.call(words, output)
+            if said:
+                return Found(f"{name}: {said}", 0)
+        output.seek(0)
+        with open(place.path(place.trace), "rb") as trace:
+            return compared(name, trace, output)
+
+
+def compared(name: str, trace: BinaryIO, other: BinaryIO) -> Found:
+    """The first row in which two traces differ, and how many rows are equal before it, or in all."""
+    rows = 0
+    for ours, theirs in zip(blocks(trace), blocks(other)):
+        if ours != theirs:
+            break
+        if not ours:
+            return Found(None, rows)
+        rows += ours.count(b"\n")
+    for file in (trace, other):
+        file.seek(0)
+    pairs = itertools.zip_longest(trace, other, fillvalue=b"no row\n")
+    row, (ours, theirs) = next((row, pair) for row, pair in enumerate(pairs, 1) if pair[0] != pair[1])
+    texts = (line.decode(errors="backslashreplace").rstrip("\n") for line in (ours, theirs))
+    return Found(f"{name} differs in row {row:,}:\n- {next(texts)}\n+ {next(texts)}", row - 1)
+
+
+def blocks(file: BinaryIO) -> Iterator[bytes]:
+    """A file in blocks; at its end empty ones."""
+    while True:
+        yield file.read(BLOCK)

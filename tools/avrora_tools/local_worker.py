@@ -1,0 +1,41 @@
+"""A worker of a campaign as a process of this machine: it takes batches from the process that started it, and ends with
+it, however that ends."""
+import os
+import queue
+import signal
+import sys
+import threading
+from multiprocessing.connection import Connection
+from typing import Any
+
+from avrora_tools import runs
+
+# What starts a worker: it finds this package where the process that starts it does.
+START = "import sys; sys.path[:] = {path!r}; from avrora_tools.local_worker import main; main()"
+
+
+def words(connection: int) -> list[str]:
+    """The command of a worker that has its batches from this file descriptor."""
+    return [sys.executable, "-B", "-c", START.format(path=sys.path), str(connection)]
+
+
+def main() -> None:
+    signal.signal(signal.SIGINT, signal.SIG_IGN)
+    connection: Connection = Connection(int(sys.argv[1]))
+    inbox: queue.SimpleQueue[Any] = queue.SimpleQueue()
+
+    def listen() -> None:
+        """Takes what comes at once, so that nobody waits for this worker; and ends it, and the simulator that it runs,
+        once nobody is there who sends."""
+        try:
+            while True:
+                inbox.put(connection.recv())
+        except (EOFError, OSError):
+            os.killpg(0, signal.SIGKILL)
+
+    threading.Thread(target=listen, daemon=True).start()
+    shipment, folder = inbox.get()
+    bench = runs.Bench(shipment, folder)
+    connection.send(bench.prove())
+    while True:
+        connection.send(bench.run_batch(inbox.get()))
