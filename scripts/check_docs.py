@@ -69,9 +69,11 @@ NAME = re.compile(r"[A-Za-z_][A-Za-z0-9_]*(?:(?:::|\.|-)[A-Za-z_][A-Za-z0-9_]*)*
 WORD = re.compile(r"[A-Za-z_][A-Za-z0-9_]*(?:-[A-Za-z0-9_]+)*")
 CONSOLE = re.compile(r"^```console\n(.*?)^```", re.M | re.S)
 COUNT = re.compile(r"([\d,]+) cases \[`(\w+=?)`\]")
-# How a tool says that a package is not installed, and the status of its own that it ends with then.
-LACKING = re.compile(r"Debian: apt-get install (python3-[a-z0-9.-]+)")
-CANNOT_WORK = 3
+
+# How tools and scripts say that a package is not installed, and the statuses by which they end then.
+LACKING = re.compile(r"Debian: (?:apt-get install )?([a-z0-9][a-z0-9.+-]*)")
+LACKS = (2, 3)
+
 PATH_END = re.compile(r"\.(py|sh|rt|antt|md|toml|hex|c|h|s|S|txt|edit|cases|svg|html)$")
 
 
@@ -276,8 +278,8 @@ def copy_for(program, folder):
     (room / "avrora_program").symlink_to(program)
 
 
-def run_commands(path, text, shell):
-    """What a document's commands print that does not stand there, and which are skipped."""
+def run_commands(path, text, shell, skip=print):
+    """What a document's commands print that does not stand there; `skip` is told which are skipped."""
     with shell.place() as top:
         place = top
         for command, wanted, number in commands(text):
@@ -286,13 +288,13 @@ def run_commands(path, text, shell):
                 place = os.path.join(place, it[1])
                 continue
             if lacks := missing(command, shell):
-                print(f"{where}: skipped, {lacks} is not installed: {command}")
+                skip(f"{where}: skipped, {lacks} is not installed: {command}")
                 continue
             ran = shell.run(command, place)
             lines = ran.stdout.decode(errors="replace").splitlines()
             lacks = LACKING.search("\n".join(lines))
-            if lacks and ran.returncode == CANNOT_WORK:
-                print(f"{where}: skipped, {lacks[1]} is not installed: {command}")
+            if lacks and ran.returncode in LACKS:
+                skip(f"{where}: skipped, {lacks[1]} is not installed: {command}")
             elif not agrees(lines, wanted) or (not wanted and ran.returncode):
                 yield "\n".join([f"{where}: {command}", "  is to print first", *(f"    {it}" for it in wanted), f"  and printed, with status {ran.returncode}", *(f"    {it}" for it in lines[: len(wanted) + 2])])
 
