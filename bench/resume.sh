@@ -2,8 +2,9 @@
 # Speed and memory of `save` and `resume`: bench/resume.sh [PROGRAM] (the program that ./avrora builds where absent). Each network
 # is cut behind its first epoch of 262,144 cycles. Of the fastest of five runs it prints the processor time in user mode that the
 # cycles behind the cut take with `resume`, and with `run --plain` (the whole run less `head`), and how many times as long that
-# is; where valgrind is installed, the same by host instructions. Then what a state of 64 nodes takes to write and to read, what
-# large and hostile texts take, and the memory of long runs.
+# is; where valgrind is installed, the same by host instructions, where `resume` is taken less what it takes to read the state
+# and to run one cycle on. Then what a state of 64 nodes takes to write and to read, what large and hostile texts take, and the
+# memory of long runs.
 set -eu
 epoch=262144
 . "$(dirname "$0")/program.sh"
@@ -40,8 +41,10 @@ report() {
 # host NAME FILE: the same, by host instructions.
 host() {
     "$program" save "$2" 1 >state
-    awk -v n="$1" -v w="$(counted run --plain "$2")" -v h="$(counted head "$2" 1)" -v r="$(counted resume "$2" state)" 'BEGIN {
-        printf "%s: %.2f times as many host instructions\n", n, r / (w - h) }'
+    sed "s/^cycles.*/cycles = $((epoch + 1))/" "$2" >one.toml
+    awk -v n="$1" -v w="$(counted run --plain "$2")" -v h="$(counted head "$2" 1)" -v r="$(counted resume "$2" state)" \
+        -v s="$(counted resume one.toml state)" 'BEGIN {
+        printf "%s: %.2f times as many host instructions, and %d to begin\n", n, (r - s) / (w - h), s }'
 }
 
 # networks MOST: their files, of so many cycles of nodes.
@@ -52,6 +55,9 @@ networks() {
     network 8 ring $(($1 / 8 + epoch)) "latency = 1" "byte_time = 256" >ring8_1.toml
     sed "s/^cycles.*/cycles = $(($1 / 8 + epoch))/" make0.toml >made.toml
     network 64 sleep $(($1 / 8 + epoch)) >sleep64.toml
+    # A byte is heard on one link at once, and kept for long for the sake of another.
+    network 64 ring $(($1 / 64 + epoch)) "version = 2" "latency = 1" "byte_time = 256" >far64.toml
+    printf 'latency = 65535\n' >>far64.toml
 }
 
 all() {
@@ -61,6 +67,7 @@ all() {
     "$1" "ring of 8, latency 1, byte time 256" ring8_1.toml
     "$1" "the network of make 0" made.toml
     "$1" "64 nodes asleep but for a timer" sleep64.toml
+    "$1" "ring of 64, latency 1, and of one link 65,535" far64.toml
 }
 
 networks 40000000

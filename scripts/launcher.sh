@@ -21,11 +21,13 @@ Usage: $called [-C DIR] COMMAND
   run FILE            run the network of the scenario FILE, and write its trace
   run --plain FILE    the same, on one thread
   monitor FILE        run it up to the end of its window, and write where each node's cycles of the window went
+  monitor FILE FROM TO  the same of the cycles from FROM on, below TO: as many as its run has
   sniff FILE          run it, and write the frames that its nodes send by radio
   check FILE          read the scenario FILE and its images, and write how large the network is
   head FILE N         run it for N epochs of 262144 cycles, and write their part of the trace
   save FILE N         run it for N epochs, and write the state of the network
   resume FILE STATE   run it from a state on, and write the rest of the trace
+  head, save FILE N STATE   the same for N epochs from a state on
   node FILE CYCLES    run the image FILE (Intel HEX) on one node for CYCLES cycles (1 to 10000000, no _), and write its trace
   disasm FILE         list the instructions of the image FILE
   asm FILE            write the program of FILE, a source in assembly, as an image

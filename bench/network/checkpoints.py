@@ -43,6 +43,8 @@ def state_by_hand():
 def are_words(words):
     """Whether the program takes these words."""
     is_file = [word != "" and word[0] != "-" for word in words[1:]]
+    if words[0] in ("head", "save") and len(words) == 4 and is_file[2]:
+        words = words[:3]
     if words[:2] == ["run", "--plain"]:
         return len(words) == 3 and is_file[1]
     if len(words) != 3 or words[0] not in ("head", "save", "resume") or not is_file[0]:
@@ -107,6 +109,12 @@ def refusals(it):
     ):
         it.call(words)
     it.call("head stopped.toml 0000001")
+    for words in (
+        "head stopped.toml stopped_1.state 1", "head stopped.toml 0 stopped_1.state", "save stopped.toml x stopped_1.state", "save stopped.toml 1 -x",
+        'head stopped.toml 1 ""', "head -x 1 stopped_1.state", "save stopped.toml 1 stopped_1.state 1", "resume stopped.toml 1 stopped_1.state",
+        "run stopped.toml 1 stopped_1.state", "save stopped.toml 00000001 stopped_1.state",
+    ):
+        it.call(words)
     it.about("An epoch past the run's end, which is told of the scenario; it is asked behind the images.")
     it.file("two_500.toml", two(images=("ring_a.hex", "ring_b.hex")))
     for words in ("save two_500.toml 1", "head two_500.toml 1", "head stopped.toml 2", "save stopped.toml 9999999", "head ends.toml 1", "save over.toml 1"):
@@ -164,6 +172,51 @@ def broken(it, state):
     it.call("resume stopped.toml on_the_air.state")
 
 
+def chain(it):
+    it.about("States saved one behind another, with bytes on the air at each cut: they and the rows between them are those of the run.")
+    it.file("chain.toml", two(images=("ring_a.hex", "ring_b.hex"), cycles=3 * EPOCH + 1000))
+    rows, states = it.call("head chain.toml 1"), [it.call("save chain.toml 1")]
+    it.file("chain_1.state", states[0])
+    for k in (1, 2):
+        rows += it.call(f"head chain.toml 1 chain_{k}.state")
+        states.append(it.call(f"save chain.toml 1 chain_{k}.state"))
+        it.file(f"chain_{k + 1}.state", states[-1])
+    assert all(b"\nsend " in state for state in states)
+    assert states[-1] == it.call("save chain.toml 3") == it.call("save chain.toml 0000002 chain_1.state")
+    assert rows == it.call("head chain.toml 3")
+    assert rows.endswith(it.call("head chain.toml 2 chain_1.state"))
+    assert rows + it.call("resume chain.toml chain_3.state") == it.call("run --plain chain.toml")
+    it.call("save chain.toml 1 chain_1.state", out=70)
+    it.call("head chain.toml 1 chain_1.state", out=70)
+    it.about("A state of that network that no run comes to: other bytes on the air, and one more.")
+    lines = states[0].split(b"\n")
+    first = next(place for place, line in enumerate(lines) if line.startswith(b"send "))
+    sends = [line for line in lines if line.startswith(b"send ")]
+    others = sorted((int(cycle), int(node), b"5A") for _, node, cycle, _ in (line.split(b" ") for line in sends))
+    others.append((EPOCH - 1, 1 if others[-1] < (EPOCH - 1, 1) else 0, b"A5"))
+    assert others == sorted(others)
+    odd = lines[:first] + [b"send %d %d %s" % (node, cycle, byte) for cycle, node, byte in others] + [b"end", b""]
+    it.file("odd_chain.state", b"\n".join(odd))
+    rows = it.call("head chain.toml 1 odd_chain.state")
+    it.file("odd_chain_2.state", it.call("save chain.toml 1 odd_chain.state"))
+    assert it.held["odd_chain_2.state"] != states[1]
+    assert rows + it.call("resume chain.toml odd_chain_2.state") == it.call("resume chain.toml odd_chain.state")
+    it.about("An epoch past the run's end, which is told of the state: at the limit exactly, and a cycle below it.")
+    it.call("head chain.toml 1 chain_3.state")
+    it.call("save chain.toml 9999999 chain_1.state")
+    for name, cycles in (("edge.toml", 2 * EPOCH), ("past_edge.toml", 2 * EPOCH + 1)):
+        it.file(name, f'cycles = {cycles}\nnode = [{{image = "pwm.hex"}}]\n')
+        it.call(f"head {name} 1 stopped_1.state")
+        it.call(f"save {name} 1 stopped_1.state")
+    it.call("save past_edge.toml 1 on_the_air.state")
+    it.call("save past_edge.toml 1 longer.state")
+    it.call("save past_edge.toml 1 missing.state")
+    it.call("save missing.toml 1 missing.state")
+    it.call("head refused.toml 1 missing.state")
+    for read in range(4):
+        it.call("save past_edge.toml 1 stopped_1.state", reads=read)
+
+
 def cases(folder):
     it = Cases(folder)
     it.about("A node that stopped with a frame under way, whose end is behind the state's cycle.")
@@ -181,6 +234,7 @@ def cases(folder):
     it.file("ring_b.hex", hex_text(ring(0x22, 8)))
     refusals(it)
     broken(it, state)
+    chain(it)
     it.about("Nodes that send and sample on both sides of the cut, and where their first epoch ends.")
     it.file("late_net.hex", (Path(__file__).resolve().parent / "net.hex").read_text())
     for number in (0, 1, 2, 3):

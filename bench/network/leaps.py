@@ -11,6 +11,7 @@ from draw import OCR0, SPH, TCCR0, TIMSK, UCSRA, UCSRB, UDR, hex_text, ldi, out,
 from facts import Networks
 
 TCNT0, SREG, FLAG = 0x32, 0x3F, 0x100
+SPCR, SPDR, PINB, PORTB = 0x0D, 0x0F, 0x16, 0x18
 C, Z, N, V, S, H = range(6)
 NOP, RETI, SEI = word("nop"), word("reti"), word("bset", s=7)
 JMP_50 = [word("jmp", k=0), 0x50]
@@ -244,9 +245,69 @@ def look_alike(it):
             (0, [ldi(16, 200), word("subi", d=0, K=1), word("sbci", d=0, K=0)] + where(Z, False, 2)))
 
 
+def windows(it):
+    # INC begins in each cycle from 0 on, 30 times; RJMP in 30 + 2 j, five times below 40
+    inc = word("inc", d=16)
+    it.case("straight", "A window that begins and ends within straight code; one whose first cycle is the second of an instruction.",
+            ["20 0 instr 0014 inc r16", "21 0 instr 0015 inc r16", "22 0 instr 0016 inc r16", "23 0 instr 0017 inc r16", "40 0 end 35 running"], 40,
+            (0, [inc] * 30 + back(0)), window=(20, 24))
+    # ADIW begins in 19, so INC behind it in 21; 19 + 1 + 10 instructions, and RJMP in 31 + 2 j, five times below 40
+    it.case("straddled", "", ["21 0 instr 0014 inc r16", "22 0 instr 0015 inc r16", "23 0 instr 0016 inc r16", "40 0 end 35 running"], 40,
+            (0, [inc] * 19 + [word("adiw", d=0, K=1)] + [inc] * 10 + back(0)), window=(20, 24))
+
+
+def no_leaps(it):
+    """Loops of whose rounds none is passed at once: what is in them does more than wait, stops, or is due."""
+    brne = where(Z, False, 1)
+    # IN begins in 3 j, 34 times below 100, RJMP 33 times
+    for name, at in (("spcr", SPCR), ("spdr", SPDR)):
+        it.case(name, "A register of the SPI, and its data." if name == "spcr" else "", ["100 0 end 67 running"], 100, (0, load(at, 16) + back(1)))
+    # RJMP, RJMP, and LDS in 4
+    for name, at, cause in (("past", 0x1100, "address past 0x10FF"), ("not_there", 0xF0, "reserved address")):
+        it.case(name, "Behind a jump back a load stops." if name == "past" else "", [f"4 0 stop 0001 {cause}", "50 0 end 2 stopped"], 50,
+                (0, [word("rjmp", k=2)] + lds(at, 24) + back(2)))
+    # RET finds the high byte at 10FF, and no low one
+    it.case("ret_at_the_end", "RET with one byte of the stack left.", ["4 0 stop 0004 address past 0x10FF", "20 0 end 4 stopped"], 20,
+            (0, put(SPH, 0x10) + put(SPH - 1, 0xFE) + [word("ret")]))
+    # The round begins with nine NOPs and two jumps, and comes back to its head, word 0A, by a short jump: 13 instructions in 16 cycles, ten
+    # times below 160.
+    long_way = 9 * [NOP] + [word("rjmp", k=2)]
+    it.case("long_poll", "Rounds that are too long: of a poll, of a delay.", ["160 0 end 130 running"], 160,
+            (0, long_way + load(PINB, 16) + [word("rjmp", k=-12)] + back(2)))
+    it.case("long_delay", "", ["160 0 end 130 running"], 160, (0, long_way + [word("dec", d=16), word("brbc", s=Z, k=-12)] + back(2)))
+    # INC makes each round another; SEI behind CLI lets one instruction more go before an interrupt. IN begins in 4 j and in 5 j.
+    it.case("with_inc", "A poll that counts; one that turns interrupts off and on.", ["100 0 end 75 running"], 100,
+            (0, load(PINB, 16) + [word("inc", d=17)] + back(2)))
+    it.case("with_sei", "", ["100 0 end 80 running"], 100, (0, load(PINB, 16) + [word("bclr", s=7), SEI] + back(3)))
+    # IN begins in 1 + 4 j, 25 times below 101
+    for name, skip in (("with_cpse", word("cpse", d=16, r=17)), ("with_sbrc", word("sbrc", r=17, b=0))):
+        it.case(name, "Polls that skip by CPSE and SBRC." if name == "with_cpse" else "", ["101 0 end 76 running"], 101,
+                (0, [ldi(17, 1)] + load(PINB, 16) + [skip] + back(2)))
+    # DEC begins in 1 + 4 j, of 200 rounds the last in 797. With NOP, BRNE ends the loop in 799; with BREQ, that goes on in 798 and 799.
+    it.case("dec_nop", "Delays with NOP, and with RJMP.", ["800 0 stop 0004 reserved opcode", "900 0 end 601 stopped"], 900,
+            (0, [ldi(16, 200), word("dec", d=16), NOP] + where(Z, False, 2)))
+    it.case("dec_rjmp", "", ["800 0 stop 0004 reserved opcode", "900 0 end 600 stopped"], 900,
+            (0, [ldi(16, 200), word("dec", d=16), word("brbs", s=Z, k=1)] + back(2)))
+    # SUBI begins in 4 j; in 2 + 4 j, where both bytes are lowered: of 20 rounds the last in 78
+    it.case("subi_out", "SUBI, and not SBCI of 0 behind it.", ["100 0 end 75 running"], 100, (0, [word("subi", d=0, K=1), out(PORTB, 16)] + back(2)))
+    it.case("both_down", "", ["81 0 stop 0005 reserved opcode", "100 0 end 62 stopped"], 100,
+            (0, [ldi(20, 20), ldi(22, 20), word("subi", d=4, K=1), word("sbci", d=6, K=1)] + where(Z, False, 2)))
+
+
+def two_due(it):
+    # TCCR0 is written in 7, so OCF0 and TOV0 are set in 7 + 255. Entry and RETI take four cycles each, and one instruction goes between RETI
+    # and the second entry. RJMP begins in 9 + 2 j, so 127 times, once between the two, and from 281 on ten times: 9 + 127 + 3 + 10.
+    # DEC begins in 9 + 3 j, and the first entry, in 264, comes before it: 9 + 85 * 2 + 4 + 12. One NOP later it comes before RJMP: 10 + 169 + 3 + 13.
+    start = put(SPH, 0x10) + put(TIMSK, 0x03) + put(OCR0, 255) + [ldi(16, 1), out(TCCR0, 16)]
+    for name, words, count in (("two_rjmp", [SEI, *back(0)], 149), ("two_dec", [SEI, word("dec", d=20), *back(1)], 195),
+                               ("two_dec_later", [NOP, SEI, word("dec", d=20), *back(1)], 195), ("two_subi_later", [NOP, SEI, word("subi", d=4, K=1), *back(1)], 195)):
+        it.case(name, "Two interrupts due at once, in the middle of a loop: to the second one's entry it goes on by one instruction." if name == "two_rjmp" else "",
+                [f"300 0 end {count} running"], 300, (0, start + words), (0x1E, [RETI]), (0x20, [RETI]))
+
+
 def main():
     it = Leaps(folder_of_words(__doc__), ["worked out by hand, as bench/network/leaps.py has it at each; the traces are also those of bench/network/network.py."])
-    for part in (polls, flags, delays, other_flags, seen, seen_pairs, stores, look_alike):
+    for part in (polls, flags, delays, other_flags, seen, seen_pairs, stores, look_alike, windows, no_leaps, two_due):
         part(it)
     it.write("networks", "leaps.txt")
 

@@ -6,6 +6,8 @@ cycle after the other in order of their numbers, and a sample hears what the lis
     bench/network/network.py head FILE N          the rows of the first N epochs
     bench/network/network.py save FILE N          the state behind them
     bench/network/network.py resume FILE STATE    the rows from a state on
+    bench/network/network.py head FILE N STATE    the rows of N epochs from a state on
+    bench/network/network.py save FILE N STATE    the state behind them
 
 It shares nothing with the crates: it is written from docs/ and the AVR Instruction Set Manual, and reads TOML by Python's
 tomllib. It takes some microseconds for each cycle of a node, so it is for short runs. Exit status and error stream are
@@ -231,26 +233,28 @@ def outcome(files, words):
         network = open_network(files, words[0])
         network.run()
         return network.trace()
-    kind, name, last = words
+    kind, name, *rest = words
+    state = rest[-1] if kind == "resume" or len(rest) == 2 else None
     network = open_network(files, name)
     try:
+        if state is not None:
+            network.restore(read_state(network.rules, files.read(state)))
         if kind == "resume":
-            network.restore(read_state(network.rules, files.read(last)))
             network.run()
             return network.trace()
-        cycle = EPOCH * int(last)
+        cycle = network.first + EPOCH * int(rest[0])
         if cycle >= network.limit:
             raise Fault("PastEnd")
     except Fault as fault:
-        of = last if kind == "resume" else name
-        raise Refused(8, f"avrora: {of}: state refused: {fault}") from None
+        raise Refused(8, f"avrora: {name if state is None else state}: state refused: {fault}") from None
     network.run_to(cycle)
     return network.trace() if kind == "head" else state_text(network.saved())
 
 
 def main():
     words = sys.argv[1:]
-    if len(words) != 1 and (len(words) != 3 or words[0] not in ("head", "save", "resume")):
+    counts = {"head": (3, 4), "save": (3, 4), "resume": (3,)}
+    if len(words) != 1 and (not words or len(words) not in counts.get(words[0], ())):
         sys.exit(__doc__)
     try:
         sys.stdout.buffer.write(outcome(Folder("."), words))

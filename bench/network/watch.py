@@ -9,10 +9,14 @@
     bench/network/watch.py image               writes an image that sends frames of four bytes without end
     bench/network/watch.py examples PROGRAM    compares `PROGRAM monitor FILE` of every example with what the rows of
                                                `PROGRAM run --plain FILE` come to
+    bench/network/watch.py pieces PROGRAM FILE FROM TO
+                                               compares `PROGRAM monitor FILE FROM TO` with what the rows of whole traces come to,
+                                               one for each 20,000 cycles of the span
 
 Where something differs it tells what, and its exit status is 1.
 """
 import random
+import re
 import subprocess
 import sys
 import tempfile
@@ -134,8 +138,8 @@ def sending(number):
 # ---- comparisons
 
 
-def differs(folder, program, command, expected):
-    done = subprocess.run([program, command, "net.toml"], cwd=folder, capture_output=True, check=False)
+def differs(folder, program, command, expected, *more):
+    done = subprocess.run([program, command, "net.toml", *map(str, more)], cwd=folder, capture_output=True, check=False)
     want = "".join(line + "\n" for line in expected).encode()
     if (done.returncode, done.stdout, done.stderr) == (0, want, b""):
         return False
@@ -146,6 +150,23 @@ def differs(folder, program, command, expected):
 def read_window(text):
     """The window of a scenario's text."""
     return tuple(tomllib.loads(text).get("window", (0, 0)))
+
+
+def run_over(folder, name, span):
+    """The slow simulator over a scenario, traced in these cycles in place of its window, however many they are."""
+    network = open_network(folder, name)
+    for node in network.nodes:
+        node.window = span
+    network.run()
+    return network
+
+
+def drawn_span(text):
+    """Two cycles of a scenario's run, in order, as often as not the whole of it."""
+    rng = random.Random(f"span {text}")
+    limit = tomllib.loads(text)["cycles"]
+    first = rng.randrange(limit + 1)
+    return rng.choice(((0, limit), (first, rng.randrange(first, limit + 1))))
 
 
 def compare_one(folder, program, text, images, counts):
@@ -162,7 +183,10 @@ def compare_one(folder, program, text, images, counts):
     counts["lines of profiles"] += len(profiles)
     counts["frames"] += len(frames)
     counts["sends"] += len(network.sends)
-    return differs(folder, program, "monitor", profiles) or differs(folder, program, "sniff", frames)
+    span = drawn_span(text)
+    spent = profile_lines(run_over(Folder(folder), "net.toml", span).rows, len(network.nodes), span)
+    counts["lines of profiles over spans"] += len(spent)
+    return differs(folder, program, "monitor", profiles) or differs(folder, program, "sniff", frames) or differs(folder, program, "monitor", spent, *span)
 
 
 def compare(program, count, first):
@@ -206,6 +230,29 @@ def examples(program):
     return failed
 
 
+WINDOW = 20_000  # the most cycles that one trace has
+
+
+def pieces(program, path, span):
+    """Compares a profile over a span with the rows of traces whose windows are the span."""
+    text = re.sub(r"(?m)^window\s*=.*$", "", path.read_text())
+    nodes = len(tomllib.loads(text)["node"])
+    traced, others = [], []
+    with tempfile.TemporaryDirectory() as work:
+        for image in path.parent.glob("*.hex"):
+            (Path(work) / image.name).write_bytes(image.read_bytes())
+        (Path(work) / "net.toml").write_text(text)
+        for first in range(span[0], span[1], WINDOW):
+            (Path(work) / "piece.toml").write_text(f"window = [{first}, {min(first + WINDOW, span[1])}]\n{text}")
+            run = subprocess.run([program, "run", "--plain", "piece.toml"], cwd=work, capture_output=True, check=True)
+            rows = rows_of(run.stdout)
+            traced += [row for row in rows if row[2].split(" ")[0] in ("instr", "enter")]
+            others = [row for row in rows if row[2].split(" ")[0] in ("stop", "sent")]
+        want = profile_lines(sorted(traced + others, key=lambda row: row[0]), nodes, span)
+        print(f"{path.name}: {len(traced)} rows of instructions and entries, {len(others)} others, {len(want)} lines")
+        return differs(work, program, "monitor", want, *span)
+
+
 # ---- stored cases
 
 HEAD = """\
@@ -235,6 +282,11 @@ class Cases(CaseFile):
         nodes = len(network.nodes)
         self.call(f"{command} {name}", 0, profile_lines(network.rows, nodes, window) if command == "monitor" else frame_lines(network.sends, nodes))
 
+    def ran_over(self, name, first, end):
+        span = (int(first), int(end))
+        network = run_over(Folder(self.data_folder), name, span)
+        self.call(f"monitor {name} {first} {end}", 0, profile_lines(network.rows, len(network.nodes), span))
+
 
 def lone(image, cycles, window):
     return f'cycles = {cycles}\nbyte_time = 512\nwindow = [{window[0]}, {window[1]}]\nnode = [{{image = "{image}"}}]\n'
@@ -262,6 +314,18 @@ def cases(folder):
     for name, window in (("watch_first.toml", (100, 120)), ("watch_second.toml", (EPOCH - 4, EPOCH + 6))):
         it.file(name, lone("a.hex", EPOCH + 16, window))
         it.ran("monitor", name)
+    it.about("Cycles in place of the window: the whole run, so that nothing is lead; from within a sleep; none, at the end too; and zeros before.")
+    for first, end in (("0", "130"), ("105", "125"), ("50", "50"), ("130", "130"), ("0007", "0000000000090")):
+        it.ran_over("watch_sleeper.toml", first, end)
+    it.about("A node that stops before the cycles, in them, and after them.")
+    for first, end in (("30", "60"), ("10", "30"), ("0", "12")):
+        it.ran_over("watch_inside.toml", first, end)
+    it.about("Some 60,000 cycles, in which bytes are sent; and two epochs.")
+    it.file("watch_span.hex", hex_text(sender([0xAA, 0xAA, 0x7E, 2, 5, 6])))
+    it.file("watch_span.toml", lone("watch_span.hex", 60_000, (100, 200)))
+    it.ran_over("watch_span.toml", "0", "60000")
+    it.ran_over("watch_span.toml", "16383", "32769")
+    it.ran_over("watch_second.toml", "0", str(EPOCH + 16))
     it.about("Frames: one behind a byte of preamble too many, one of no bytes, one in another that breaks off, and one that breaks off at the end.")
     for name, listed in (
         ("watch_frame", "AA AA AA 7E 02 11 22"),
@@ -283,6 +347,15 @@ def cases(folder):
     it.file("watch_badnode.toml", 'cycles = 500\nnode = [{image = "sum.hex"}]\n')
     it.file("watch_selflink.toml", 'cycles = 500\nnode = [{image = "a.hex"}]\nlink = [{from = 0, to = 0}]\n')
     it.file("watch_noimage.toml", 'cycles = 500\nnode = [{image = "missing.hex"}]\n')
+    it.about("The words of two cycles; and an end behind the run, which is refused before an image is read.")
+    for words in ("10", "130 129", "-1 5", "0 5 6", "0x1 5", "0 1099511627777", "0 00000000000005"):
+        it.call(f"monitor watch_sleeper.toml {words}", 2, [], "avrora: bad command line")
+    it.call("monitor watch_sleeper.toml 0 131", 4, [], "avrora: watch_sleeper.toml: scenario refused: OutOfRange")
+    it.call("monitor watch_sleeper.toml 131 131", 4, [], "avrora: watch_sleeper.toml: scenario refused: OutOfRange")
+    it.call("monitor watch_noimage.toml 0 501", 4, [], "avrora: watch_noimage.toml: scenario refused: OutOfRange")
+    it.call("monitor watch_noimage.toml 0 500", 3, [], "avrora: cannot read missing.hex")
+    it.call("monitor watch_selflink.toml 0 501", 4, [], "avrora: watch_selflink.toml: scenario refused: SelfLink")
+    it.about("Both commands.")
     for command in ("monitor", "sniff"):
         it.call(command, 2, [], "avrora: bad command line")
         it.call(f"{command} -x", 2, [], "avrora: bad command line")
@@ -306,6 +379,8 @@ def main():
         sys.exit(0)
     if len(words) == 2 and words[0] == "examples":
         sys.exit(examples(str(Path(words[1]).resolve())))
+    if len(words) == 5 and words[0] == "pieces":
+        sys.exit(pieces(str(Path(words[1]).resolve()), Path(words[2]), (int(words[3]), int(words[4]))))
     sys.exit(__doc__)
 
 

@@ -134,6 +134,7 @@ def read_case(path: str) -> Case:
         raise BadInput(f"{name}: a case without an expectation")
     for statement in statements:
         refuse_unseen(name, statement, only or Only())
+    refuse_between(name, statements)
     return Case(path, folder, source, (only or Only()).nodes, (only or Only()).kinds, statements)
 
 
@@ -145,8 +146,28 @@ def refuse_unseen(name: str, statement: Statement, only: Only) -> None:
     if only.nodes is not None and (pattern.named - only.nodes or not pattern.nodes & only.nodes):
         node = min(pattern.named - only.nodes or pattern.nodes)
         raise BadInput(f"{name}, line {statement.line}: node {node} is none of those of `only`")
-    if only.kinds is not None and not pattern.kinds & only.kinds:
-        raise BadInput(f"{name}, line {statement.line}: rows {', '.join(sorted(pattern.kinds))} are none of those of `only`")
+    if only.kinds is not None and (pattern.named_kinds - only.kinds or not pattern.kinds & only.kinds):
+        kinds = sorted(pattern.named_kinds - only.kinds or pattern.kinds)
+        raise BadInput(f"{name}, line {statement.line}: rows {', '.join(kinds)} are none of those of `only`")
+
+
+def refuse_between(name: str, statements: list[Statement]) -> None:
+    """Raises BadInput where a row is never to come between two expected ones, and none can come there without another
+    expectation being at fault."""
+    nevers: list[Never] = []
+    for statement in statements:
+        if isinstance(statement, Never) and statement.span is None:
+            nevers.append(statement)
+        if isinstance(statement, Expected):
+            for never in nevers:
+                if statement.most == 0:
+                    why = f"line {statement.line} expects the next row, so that none can come between"
+                elif statement.pattern.covers(never.pattern):
+                    why = f"such a row is the one that line {statement.line} expects"
+                else:
+                    continue
+                raise BadInput(f"{name}, line {never.line}: {why}")
+            nevers = []
 
 
 def without_comment(line: str) -> str:
@@ -186,7 +207,7 @@ def read_statement(line: str, number: int, folder: str) -> Statement:
     word, _, rest = line.partition(" ")
     rest = " ".join(rest.split())
     if word == "never":
-        return Never(number, Pattern(rest) if not span else absolute(rest), span)
+        return Never(number, Pattern(rest) if not span else absolute(rest, span), span)
     if word == "count":
         return read_count(rest, number, span)
     if word == "text":
@@ -206,11 +227,14 @@ def read_statement(line: str, number: int, folder: str) -> Statement:
     return Expected(number, Pattern(line), None)
 
 
-def absolute(text: str) -> Pattern:
-    """A row that no expected row goes before."""
+def absolute(text: str, span: Span | None = None) -> Pattern:
+    """A row that no expected row goes before, in a span of cycles."""
     pattern = Pattern(text)
     if pattern.is_relative:
         raise ValueError("cycles are counted from the row before only in rows that are expected in order")
+    for cycles in pattern.cycles:
+        if span and not cycles.both(span):
+            raise ValueError(f"cycles {cycles} are not within {span}")
     return pattern
 
 
@@ -226,7 +250,7 @@ def read_count(rest: str, number: int, span: Span | None) -> Count:
     match = re.fullmatch(f"{COMPARISON}: (.*)", rest)
     if not match:
         raise ValueError("a count is `count == N: ROW`, also with != <= >= < >")
-    return Count(number, absolute(match[3]), span, *comparison(match[1], match[2]))
+    return Count(number, absolute(match[3], span), span, *comparison(match[1], match[2]))
 
 
 def read_text(line: str, number: int, span: Span | None) -> Text | Lines:

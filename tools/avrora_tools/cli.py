@@ -110,6 +110,13 @@ def node_set(text: str) -> set[int]:
     return nodes
 
 
+def window(text: str) -> tuple[int, int]:
+    match = re.fullmatch(r"([0-9][0-9_]*)\.\.([0-9][0-9_]*)", text)
+    if not match or not match[1].rstrip("_") or int(match[1].replace("_", "")) >= int(match[2].replace("_", "")):
+        raise argparse.ArgumentTypeError(f"{text} is no window A..B")
+    return int(match[1].replace("_", "")), int(match[2].replace("_", ""))
+
+
 def shown_cycle(cycle: int, hz: int | None = None) -> str:
     """A cycle as a column of output: the number, or seconds where the clock is given."""
     return f"{cycle / hz:12.6f}s" if hz else f"{cycle:>12}"

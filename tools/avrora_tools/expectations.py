@@ -27,9 +27,9 @@ from avrora_tools.cases import (
     read_case,
 )
 from avrora_tools.errors import BadInput, CannotWork, Status, ToolError
-from avrora_tools.events import End, Serial, event_of
-from avrora_tools.patterns import Span
-from avrora_tools.scenarios import BYTE_TIME
+from avrora_tools.events import TRACED, Serial, event_of
+from avrora_tools.patterns import EVERY, Extent, Span
+from avrora_tools.scenarios import BYTE_TIME, MAX_WINDOW, Scenario
 
 __all__ = ["Case", "Golden", "Outcome", "check", "read_case", "run_case"]
 
@@ -90,6 +90,15 @@ class Near(NamedTuple):
     told: list[Report]
 
 
+class Gap(NamedTuple):
+    """Where a row was looked for that is never to come: from the cycle of the row found above it to that of the one found
+    below it, None where it is the trace's end."""
+
+    never: Never
+    first: int
+    last: int | None
+
+
 class Watcher(Protocol):
     """Looks at each row, and tells at the end what is not met."""
 
@@ -101,8 +110,9 @@ class Watcher(Protocol):
 class Sequence:
     """The rows that are expected in order, and those that must not come between."""
 
-    def __init__(self, case: Case, near: Near) -> None:
-        self.near = near
+    def __init__(self, case: Case, near: Near, gaps: list[Gap]) -> None:
+        """All gaps of rows that were found are noted in `gaps`."""
+        self.near, self.gaps = near, gaps
         self.steps = [s for s in case.statements if isinstance(s, Expected) or isinstance(s, Never) and not s.span]
         self.base = 0  # the cycle of the row found last
         self.found: traces.TraceRow | None = None
@@ -127,6 +137,7 @@ class Sequence:
         expected = self.expected
         if expected:
             if expected.pattern.matches(cycle, node, event, self.base):
+                self.gaps += [Gap(never, self.base, cycle) for never in self.nevers]
                 self.base, self.found = cycle, row
                 self.begin(self.step + 1)
                 return
@@ -147,6 +158,8 @@ class Sequence:
             if behind:
                 report.details.append(f"so {behind} more, expected behind it, {'was' if behind == 1 else 'were'} not looked for")
             self.reports.append(report)
+        else:
+            self.gaps += [Gap(never, self.base, None) for never in self.nevers]
         return self.reports + list(self.unwanted.values())
 
     def missing(self, expected: Expected, what: str) -> Report:
@@ -367,18 +380,21 @@ def check(
     save: bool = False,
     name: str = "the trace",
     ended: Ended | None = None,
+    window: range | None = None,
 ) -> Outcome:
     """Whether a trace, a file or an iterable of bytes, meets the case: all that is not met, or none. With `save` golden
     traces are written anew, whatever they were, unless another expectation is not met. `ended` is called behind the
-    last row. Raises BadInput where the trace is not whole, or can never meet what is expected."""
+    last row; `window` has the cycles in which the run traced instructions, where they are known otherwise than by its
+    rows. Raises BadInput where the trace is not whole, or can never meet what is expected."""
     blocks = traces.blocks_of(cast(BinaryIO, source)) if hasattr(source, "read") else iter(source)
     # A case may expect what a scenario's byte time allows and another's does not.
     trace = traces.Trace(blocks, name, traces.Form.WHOLE, least_gap=BYTE_TIME.start)
     looked = itertools.count()
+    gaps: list[Gap] = []
     failures: list[str] = []
     with contextlib.suppress(Unmet), contextlib.ExitStack() as stack:
-        reports = watch(case, whole_trace(trace, blocks, ended), save, stack, looked)
-        refuse_impossible(case, trace)
+        reports = watch(case, whole_trace(trace, blocks, ended), save, stack, looked, gaps)
+        refuse_impossible(case, extent_of(trace, window), gaps)
         reports.sort(key=lambda report: report.statement.line)
         failures = [report.text(files.shown(case.path)) for report in reports]
         if failures:
@@ -404,12 +420,17 @@ def whole_trace(trace: traces.Trace, blocks: Iterator[bytes], ended: Ended | Non
 
 
 def watch(
-    case: Case, rows: Iterator[traces.TraceRow], save: bool, stack: contextlib.ExitStack, looked: Iterator[int]
+    case: Case,
+    rows: Iterator[traces.TraceRow],
+    save: bool,
+    stack: contextlib.ExitStack,
+    looked: Iterator[int],
+    gaps: list[Gap],
 ) -> list[Report]:
     """Shows the watchers of a case all rows; what they report."""
     before: collections.deque[traces.TraceRow] = collections.deque(maxlen=CONTEXT)
     told: list[Report] = []  # reports of rows, which tell what came behind
-    watchers, writers = watchers_of(case, save, stack, Near(before, told))
+    watchers, writers = watchers_of(case, save, stack, Near(before, told), gaps)
     feeds = [watcher.feed for watcher in watchers]
     nodes, kinds = case.nodes, case.kinds
     for row in rows:
@@ -429,10 +450,10 @@ def watch(
 
 
 def watchers_of(
-    case: Case, save: bool, stack: contextlib.ExitStack, near: Near
+    case: Case, save: bool, stack: contextlib.ExitStack, near: Near, gaps: list[Gap]
 ) -> tuple[list[Watcher], list[Watcher]]:
     """What looks at each row, and what looks at what is written to USART0."""
-    watchers: list[Watcher] = [Sequence(case, near)]
+    watchers: list[Watcher] = [Sequence(case, near, gaps)]
     writers: list[Watcher] = []
     for statement in case.statements:
         if isinstance(statement, Golden):
@@ -451,25 +472,53 @@ def watchers_of(
     return watchers, writers
 
 
-def refuse_impossible(case: Case, trace: traces.Trace) -> None:
-    """Raises BadInput where no row of the trace can match what a case expects: of a node that it does not have, or in
-    cycles behind its end."""
-    nodes, limit = len(trace.ended), trace.limit or 0
+def extent_of(trace: traces.Trace, window: range | None) -> Extent:
+    """Where the trace, which is read, can have rows. Where nothing else tells the window its rows do: what they do not
+    show, no check of them can tell."""
+    traced = trace.traced if window is None else (window[0], window[-1]) if window else None
+    return Extent(len(trace.ended), trace.limit or 0, Span(*traced) if traced else None)
+
+
+def refuse_impossible(case: Case, extent: Extent, gaps: list[Gap]) -> None:
+    """Raises BadInput where no row of the trace can match what a case expects: of a node that it does not have, in cycles
+    in which it has no such rows, or between rows that leave no room for it."""
+    name = files.shown(case.path)
     for node in sorted(case.nodes or ()):
-        if node >= nodes:
-            raise BadInput(f"{files.shown(case.path)}: `only` names node {node}, and the trace has {nodes} nodes")
+        if node >= extent.nodes:
+            raise BadInput(f"{name}: `only` names node {node}, and the trace has {extent.nodes} nodes")
+    for kind in sorted(case.kinds or ()):
+        if kind in TRACED and extent.window is None:
+            raise BadInput(f"{name}: `only` names {kind}: {extent.why_not(kind)}")
     for statement in case.statements:
-        why = ""
-        if isinstance(statement, (Expected, Never, Count)):
-            why = statement.pattern.why_not(nodes, limit)
-        if isinstance(statement, (Text, Lines)) and statement.node >= nodes:
-            why = f"the trace has no node {statement.node}, but nodes 0 to {nodes - 1}"
-        if isinstance(statement, (Never, Count, Text, Lines)) and statement.span:
-            of_end = isinstance(statement, (Never, Count)) and End.kind in statement.pattern.kinds
-            if statement.span.first > limit or statement.span.first == limit and not of_end:
-                why = f"the trace ends in cycle {limit}, before {statement.span}"
-        if why:
-            raise BadInput(f"{files.shown(case.path)}, line {statement.line}: {why}")
+        if why := why_impossible(statement, extent):
+            raise BadInput(f"{name}, line {statement.line}: {why}")
+    for never, first, last in gaps:
+        if why := never.pattern.why_not(extent, Span(first, extent.limit if last is None else last), first):
+            raise BadInput(f"{name}, line {never.line}: {why}, where the rows about it were found")
+
+
+def why_impossible(statement: Statement, extent: Extent) -> str:
+    """Why no row can meet a statement, whatever its place; "" where one may."""
+    if isinstance(statement, Expected):
+        return statement.pattern.why_not(extent)
+    if isinstance(statement, (Never, Count)):
+        return statement.pattern.why_not(extent, statement.span or EVERY)
+    if isinstance(statement, (Text, Lines)) and statement.node >= extent.nodes:
+        return f"the trace has no node {statement.node}, but nodes 0 to {extent.nodes - 1}"
+    if isinstance(statement, (Text, Lines)) and statement.span and statement.span.first >= extent.limit:
+        return f"the trace ends in cycle {extent.limit}, and not within {statement.span}"
+    return ""
+
+
+def window_of(case: Case) -> range | None:
+    """The cycles in which a run of the case traces instructions; None where only its rows can tell."""
+    what, *words = case.source or ("trace",)
+    if what == "node":
+        return range(min(MAX_WINDOW, int(words[1]))) if words[1].isdigit() and len(words[1]) < 20 else None
+    if what == "run":
+        with contextlib.suppress(ToolError):  # whether it is a scenario the simulator says
+            return range(*Scenario.load(os.path.join(case.folder, words[0])).window)
+    return None
 
 
 def run_case(case: Case, avrora: str, save: bool = False, timeout: float | None = None) -> Outcome:
@@ -528,7 +577,7 @@ def checked_run(
         timer.daemon = True
         timer.start()
     try:
-        return check(case, traces.blocks_of(cast(BinaryIO, process.stdout)), save, words, ended)
+        return check(case, traces.blocks_of(cast(BinaryIO, process.stdout)), save, words, ended, window_of(case))
     finally:
         if timer:
             timer.cancel()

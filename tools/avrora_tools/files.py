@@ -1,5 +1,6 @@
 """Files: how messages call them, reading them, and writing them whole or not at all."""
 import contextlib
+import errno
 import gzip
 import os
 import re
@@ -9,7 +10,7 @@ import zlib
 from collections.abc import Iterator
 from typing import IO, Any, BinaryIO, cast
 
-from avrora_tools.errors import BadInput
+from avrora_tools.errors import BadInput, CannotWork
 
 # More bytes than a small file has: a scenario, a case, a campaign.
 LARGEST_TEXT = 16 * 1024 * 1024
@@ -29,13 +30,19 @@ def printable(text: str) -> str:
     return re.sub(r"[\x00-\x1f\x7f-\x9f\u2028\u2029]", lambda match: f"\\x{ord(match[0]):02X}", text)
 
 
+# What keeps a tool from a file that may be as good as any.
+NOT_OF_THE_FILE = (errno.EACCES, errno.EPERM, errno.EIO, errno.ENOMEM, errno.EMFILE, errno.ENFILE, errno.ESTALE)
+
+
 @contextlib.contextmanager
 def readable(name: str) -> Iterator[None]:
-    """What opening or reading the file `name` raises in the block becomes BadInput."""
+    """What opening or reading the file `name` raises in the block becomes BadInput, or CannotWork where it does not tell
+    of the file."""
     try:
         yield
     except (OSError, EOFError, zlib.error, ValueError) as fault:  # ValueError: a name with NUL, or one that is no text
-        raise BadInput(f"cannot read {shown(name)}: {getattr(fault, 'strerror', None) or fault}") from None
+        raised = CannotWork if getattr(fault, "errno", None) in NOT_OF_THE_FILE else BadInput
+        raise raised(f"cannot read {shown(name)}: {getattr(fault, 'strerror', None) or fault}") from None
 
 
 @contextlib.contextmanager
@@ -68,20 +75,29 @@ def read_text(name: str) -> str:
         raise BadInput(f"{shown(name)}: no text in UTF-8") from None
 
 
+def open_to_write(file: str | int, binary: bool) -> IO[Any]:
+    """A file, by its name or its number, to write bytes to, or text."""
+    return cast(
+        IO[Any], open(file, "wb") if binary else open(file, "w", encoding="utf-8", errors="surrogateescape")
+    )
+
+
 @contextlib.contextmanager
 def whole_file(path: str, binary: bool = False, lasting: bool = True) -> Iterator[IO[Any]]:
     """A file to write to, which becomes `path` only once all is written.
 
-    A `lasting` one is on the disk then, so that the name has all its content also where the machine loses its power.
+    A `lasting` one is on the disk then, so that the name has all its content also where the machine loses its power. A device
+    or a pipe is written to as it comes, and stays what it is; so does a link, whose file is written.
     """
-    folder = os.path.dirname(os.path.abspath(path))
+    if os.path.exists(path) and not os.path.isfile(path):
+        with open_to_write(path, binary) as file:
+            yield file
+        return
+    path = os.path.realpath(path)
+    folder = os.path.dirname(path)
     handle, name = tempfile.mkstemp(dir=folder, prefix=f".{os.path.basename(path)}."[:100])
     try:
-        file = cast(
-            IO[Any],
-            open(handle, "wb") if binary else open(handle, "w", encoding="utf-8", errors="surrogateescape"),
-        )
-        with file:
+        with open_to_write(handle, binary) as file:
             yield file
             if lasting:
                 file.flush()

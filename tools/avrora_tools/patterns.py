@@ -7,7 +7,17 @@ from collections.abc import Callable
 from typing import NamedTuple
 
 from avrora_tools.cli import MAX_NODES
-from avrora_tools.events import FINAL_STATES, FIRST_VECTOR, KINDS, LAST_VECTOR, MAX_AGE, MAX_INSTRUCTIONS, End, Event
+from avrora_tools.events import (
+    FINAL_STATES,
+    FIRST_VECTOR,
+    KINDS,
+    LAST_VECTOR,
+    MAX_AGE,
+    MAX_INSTRUCTIONS,
+    TRACED,
+    End,
+    Event,
+)
 from avrora_tools.instructions import TABLE
 from avrora_tools.scenarios import MAX_CYCLES
 from avrora_tools.states import STOPS
@@ -33,8 +43,50 @@ class Span(NamedTuple):
     def meets(self, first: int, last: int) -> bool:
         return self.first <= last and (self.last is None or self.last >= first)
 
+    def both(self, other: "Span") -> "Span | None":
+        """The numbers that are in both; None where none is."""
+        lasts = [span.last for span in (self, other) if span.last is not None]
+        common = Span(max(self.first, other.first), min(lasts, default=None))
+        return None if common.last is not None and common.last < common.first else common
+
+    def later(self, by: int) -> "Span":
+        return Span(self.first + by, None if self.last is None else self.last + by)
+
     def __str__(self) -> str:
         return f"{self.first}..{'' if self.last is None else self.last}"
+
+
+EVERY = Span(0, None)
+
+
+class Extent(NamedTuple):
+    """Where a trace can have rows: its nodes, the cycle of its end rows, and the cycles in which instructions and entries
+    are traced, None where they are in none."""
+
+    nodes: int
+    limit: int
+    window: Span | None
+
+    def of(self, kind: str) -> Span | None:
+        """The cycles in which it can have rows of a kind."""
+        if kind == End.kind:
+            return Span(self.limit, self.limit)
+        if kind in TRACED:
+            return self.window
+        return Span(0, self.limit - 1) if self.limit else None
+
+    def allows(self, kind: str, span: Span, within: Span) -> bool:
+        """Whether it can have a row of a kind in a cycle that is in both spans."""
+        room, both = self.of(kind), span.both(within)
+        return room is not None and both is not None and room.both(both) is not None
+
+    def why_not(self, kind: str) -> str:
+        """Why rows of a kind do not stand in some cycles."""
+        if kind not in TRACED:
+            return f"the trace ends in cycle {self.limit}"
+        if self.window is None:
+            return f"the trace has no window, and {kind} rows stand in one alone"
+        return f"{kind} rows stand in the window alone, which the trace has in cycles {self.window}"
 
 
 def whole(text: str, base: int = 10) -> int:
@@ -201,6 +253,8 @@ class Pattern:
         self.named = self.nodes if re.fullmatch(r"[0-9]+|\{.*\}", node) else frozenset[int]()
         self.shapes = self.read_shapes(kind, rest)
         self.kinds = frozenset(self.shapes)
+        self.named_kinds = self.kinds if kind != ANY else frozenset[str]()
+        self.rest = [kind, *rest]
         self.known: dict[Event, bool] = {}
 
     def read_cycles(self, word: str) -> list[Span]:
@@ -274,13 +328,30 @@ class Pattern:
         """Whether a row has the node and the kind of this one, as far as the pattern names them."""
         return node in self.nodes and event.kind in self.kinds
 
-    def why_not(self, nodes: int, limit: int) -> str:
-        """Why no row of a trace of so many nodes that ends in the cycle `limit` matches; "" where one may."""
-        strange = sorted(node for node in self.named if node >= nodes)
-        if strange or min(self.nodes) >= nodes:
-            return f"the trace has no node {strange[0] if strange else min(self.nodes)}, but nodes 0 to {nodes - 1}"
-        if self.is_relative or any(span.first < limit for span in self.cycles) and self.kinds != {End.kind}:
-            return ""
-        if End.kind in self.kinds and any(span.has(limit) for span in self.cycles):
-            return ""
-        return f"the trace ends in cycle {limit}"
+    def covers(self, other: "Pattern") -> bool:
+        """Whether each row that the other one matches is matched by this one, as far as their texts tell."""
+        is_any = self.is_open and all(word == ANY for word in self.rest[1:]) and self.kinds >= other.kinds
+        says_all = is_any or (self.rest, self.is_open) == (other.rest, other.is_open)
+        return says_all and self.cycles == [EVERY] and not self.is_relative and self.nodes >= other.nodes
+
+    def why_not(self, extent: Extent, within: Span = EVERY, base: int | None = None) -> str:
+        """Why no row of a trace in the cycles `within` matches, or none of a node, a kind or a span of cycles that the
+        pattern names; "" where they may. Relative cycles are counted from the cycle `base`, or are any where it is None."""
+        strange = sorted(node for node in self.named if node >= extent.nodes)
+        if strange or min(self.nodes) >= extent.nodes:
+            node = strange[0] if strange else min(self.nodes)
+            return f"the trace has no node {node}, but nodes 0 to {extent.nodes - 1}"
+        spans = self.cycles
+        if self.is_relative:
+            spans = [EVERY] if base is None else [span.later(base) for span in self.cycles]
+        for span in spans:
+            if not span.both(within):
+                return f"cycles {span} are not within {within}"
+        behind = "" if within == EVERY else f", and not within {within}"
+        for kind in sorted(self.named_kinds):
+            if not any(extent.allows(kind, span, within) for span in spans):
+                return extent.why_not(kind) + behind
+        for span in spans:
+            if not any(extent.allows(kind, span, within) for kind in self.kinds):
+                return extent.why_not(min(self.kinds, key=lambda kind: (kind in TRACED, kind))) + behind
+        return ""

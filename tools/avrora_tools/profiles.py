@@ -195,10 +195,13 @@ LONGEST_LINE = 80
 
 
 class MonitorReader:
-    """Reads what `avrora monitor` wrote: of each node of a scenario, in their order, all its lines."""
+    """Reads what `avrora monitor` wrote: of each node of a scenario, in their order, all its lines.
 
-    def __init__(self, name: str, scenario: Scenario) -> None:
-        self.name, self.scenario = name, scenario
+    The cycles are those of `window`, or without one of the scenario's window.
+    """
+
+    def __init__(self, name: str, scenario: Scenario, window: tuple[int, int] | None = None) -> None:
+        self.name, self.scenario, self.window = name, scenario, window or scenario.window
         self.spent: list[Spent] = []
         self.line = LINES.index("charge")  # the kind of the last line
         self.word = -1  # of the last line
@@ -251,13 +254,13 @@ class MonitorReader:
         count = len(self.scenario.images)
         if self.line != LINES.index("charge") or len(self.spent) != count:
             raise BadInput(f"{self.name}: it ends with node {len(self.spent) - 1}, and the scenario has {count} nodes")
-        first, end = self.scenario.window
+        first, end = self.window
         for node, spent in enumerate(self.spent):
             rest = spent.charge - BUSY_CHARGE * spent.busy() - ASLEEP_CHARGE * spent.asleep
             if spent.total() != end - first or rest < 0 or rest % SEND_CHARGE:
                 raise BadInput(
-                    f"{self.name}: the lines of node {node} do not add up to the {end - first:,} cycles of the scenario's "
-                    "window and to their charge"
+                    f"{self.name}: the lines of node {node} do not add up to the {end - first:,} cycles of the window "
+                    "and to their charge"
                 )
         if first == end:
             raise BadInput(NOTHING_TRACED)

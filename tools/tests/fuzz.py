@@ -2,9 +2,10 @@
 """Damages traces, states, cases, scenarios and campaigns, and feeds them to the tools: each ends with status 0, 1 or 2, and
 no other exception comes up than those that the command makes a line of.
 
-    tools/tests/fuzz.py [COUNT] [SEED]     100,000 inputs where no COUNT is named; the same SEED makes the same ones
+    tools/tests/fuzz.py [COUNT] [SEED] [FIRST]     the inputs from number FIRST (else 0) on and below COUNT (else 100,000);
+                                                   the same SEED makes the same ones
 
-Exit status: 0 none was found, 1 an input was found that ends a tool otherwise; it is told, and kept in a file.
+Exit status: 0 none was found, 1 inputs were found that end a tool otherwise; each is told, and kept in a file.
 """
 import contextlib
 import io
@@ -21,7 +22,7 @@ sys.path.insert(0, os.path.dirname(TESTS))
 from avrora_tools import main  # noqa: E402
 from avrora_tools.errors import Status, ToolError  # noqa: E402
 
-COUNT, SEED = 100_000, 1
+COUNT, SEED, FIRST = 100_000, 1, 0
 
 # Bytes that mean something to one of the readers.
 TELLING = [b"\n", b" ", b"0", b"9", b"-", b"..", b"*", b"{", b"}", b"[", b"]", b'"', b"'", b"=", b"#", b"\\", b"\xff", b"\x00", b"\r"]
@@ -137,9 +138,10 @@ def ended(words):
         return traceback.format_exc()
 
 
-def fuzz(count, seed):
+def fuzz(count, seed, first):
     draw = random.Random(seed)
     good = (Status.GOOD, Status.NOT_MET, Status.BAD_INPUT)
+    found = 0
     with tempfile.TemporaryDirectory() as folder:
         path = f"{folder}/input"
         with open(f"{folder}/net.toml", "wb") as file:
@@ -149,21 +151,23 @@ def fuzz(count, seed):
             content, tools = SUBJECTS[kind]
             content = damaged(draw, content)
             words = draw.choice(tools)
+            if number < first:
+                continue
             with open(path, "wb") as file:
                 file.write(content)
             end = ended([path if word == "@" else word for word in words])
             if end not in good:
+                found += 1
                 kept = f"fuzz-{seed}-{number}"
                 with open(kept, "wb") as file:
                     file.write(content)
-                print(f"{' '.join(words)}, with {kept} as @, input {number} of seed {seed}: {end}")
-                return 1
+                print(f"{' '.join(words)}, with {kept} as @, input {number} of seed {seed}: {end}", flush=True)
             if number % 1000 == 999:
                 print(f"{number + 1:,} inputs", flush=True)
-    print(f"{count:,} damaged inputs end a tool as they should")
-    return 0
+    print(f"{found} of the damaged inputs {first:,} to {count - 1:,} end a tool otherwise than they should")
+    return int(found > 0)
 
 
 if __name__ == "__main__":
     numbers = [int(word.replace("_", "").replace(",", "")) for word in sys.argv[1:]]
-    sys.exit(fuzz(*(numbers + [COUNT, SEED][len(numbers) :])))
+    sys.exit(fuzz(*(numbers + [COUNT, SEED, FIRST][len(numbers) :])))

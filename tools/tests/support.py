@@ -28,10 +28,16 @@ sys.dont_write_bytecode = True
 TOOL = [sys.executable, "-B", TOOLS]
 
 
-def run_tool(*words, stdin="", env=None):
+CLOSED = "closed"  # as an output
+
+NOBODY = 65_534  # a user who may read what all may
+
+
+def run_tool(*words, stdin="", env=None, out=None, by_nobody=False):
     """Runs a tool as a process of its own; its status, output and errors.
 
     The process is a fork of this one, which starts at once; a new interpreter where the environment says what it imports.
+    `out` is a file that its output goes to instead, or CLOSED; by root it may run `by_nobody`.
     """
     content = stdin if isinstance(stdin, bytes) else stdin.encode()
     if "PYTHONPATH" in (env or {}):
@@ -40,24 +46,31 @@ def run_tool(*words, stdin="", env=None):
         )
         return done.returncode, done.stdout.decode(), done.stderr.decode()
     with contextlib.ExitStack() as stack:
-        source, out, errors = streams = [stack.enter_context(tempfile.TemporaryFile()) for _ in range(3)]
+        source, caught, errors = [stack.enter_context(tempfile.TemporaryFile()) for _ in range(3)]
         source.write(content)
         source.seek(0)
         child = os.fork()
         if child == 0:
-            be_tool(words, streams, env or {})
+            be_tool(words, [source, caught if out in (None, CLOSED) else out, errors], env or {}, out == CLOSED, by_nobody)
         status = os.waitstatus_to_exitcode(os.waitpid(child, 0)[1])
-        out.seek(0)
+        caught.seek(0)
         errors.seek(0)
-        return status, out.read().decode(), errors.read().decode()
+        return status, caught.read().decode(), errors.read().decode()
 
 
-def be_tool(words, streams, env):
+def be_tool(words, streams, env, closes_output, by_nobody):
     """Ends this process as the tool."""
     try:
         for number, stream in enumerate(streams):
             os.dup2(stream.fileno(), number)
         sys.stdin, sys.stdout, sys.stderr = open(0), open(1, "w"), open(2, "w")
+        if closes_output:
+            sys.stdout.close()
+            sys.stdout = None
+        if by_nobody and os.getuid() == 0:
+            os.setgroups([])
+            os.setgid(NOBODY)
+            os.setuid(NOBODY)
         os.environ.update(env)
         main.main(list(words))
     finally:

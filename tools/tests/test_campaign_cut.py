@@ -1,6 +1,8 @@
 """campaign: ended in each way, and what keeps a result of before."""
+import contextlib
 import os
 import signal
+import sqlite3
 import subprocess
 import sys
 import tempfile
@@ -74,6 +76,24 @@ class Ended(unittest.TestCase):
 
     def test_interrupted(self):
         self.assertEqual(self.ended_by(signal.SIGINT), 130)
+
+    def test_a_worker_is_killed(self):
+        """It is said, a new one comes, and each run has its result."""
+        with folder(HELD) as path:
+            env = {**os.environ, "CAMPAIGN_LOG": f"{path}/log", "CAMPAIGN_HELD": "40"}
+            words = [*TOOL, "campaign", "--processes", "2", "--avrora", f"{path}/avrora", f"{path}/c.toml"]
+            streams = {"stdout": subprocess.DEVNULL, "stderr": subprocess.PIPE, "text": True}
+            with subprocess.Popen(words, env=env, **streams) as process:
+                held = wait_for(lambda: list(Path(path).glob("held-*")))
+                os.kill(int(held[0].name.split("-")[1]), signal.SIGKILL)
+                let_go(path)
+                errors = process.communicate(timeout=LONG)[1]
+            self.assertEqual(process.returncode, 1, errors)
+            self.assertIn("the worker ended with status -9", errors)
+            with contextlib.closing(sqlite3.connect(f"{path}/c.results/{results.FILE}")) as database:
+                found = dict(database.execute("SELECT name, outcome FROM run"))
+            self.assertEqual([found.pop("net latency=20")], ["failed"])
+            self.assertEqual(found, {f"net latency={latency}": "passed" for latency in (30, 40, 50)})
 
     def test_the_lock_is_of_the_client_alone(self):
         """Killed while a child of it goes on: the next one is let in."""

@@ -137,6 +137,20 @@ def test_the_tool_shows_both_contexts_and_its_status_is_one():
         assert run_tool("diff", "-k", "sent", first, second)[0] == 0
 
 
+@pytest.mark.parametrize(
+    "words, why",
+    [
+        (["-n", "1,2"], "neither trace has a row of node 2"),
+        (["-k", "instr"], "neither trace has a window, and instr rows stand in one alone"),
+        (["-k", "enter,instr"], "neither trace has a window, and enter and instr rows stand in one alone"),
+    ],
+)
+def test_what_neither_trace_can_have_is_refused(words, why):
+    with scratch("one.trace", BEFORE.lstrip()) as path:
+        assert run_tool("diff", *words, path, path) == (2, "", f"avrora-tools diff: {why}\n")
+        assert run_tool("diff", "-k", "stop", path, path) == (0, "the same: neither trace has such a row\n", "")
+
+
 @pytest.mark.parametrize("words", [["-", "-"], ["-k", "sorted", "A", "B"], ["A"], ["/nowhere/a", "/nowhere/b"]])
 def test_bad_words_and_files_have_status_two(words):
     status, out, err = run_tool("diff", *words)

@@ -126,3 +126,12 @@ def test_the_report_of_another_scenario_is_refused(inputs, tmp_path):
 def test_the_report_comes_from_the_standard_input_too(inputs):
     assert run_tool("energy", *inputs[:2], stdin=REPORT)[0] == 0
     assert run_tool("energy", *inputs[:2], stdin="")[0] == 2
+
+
+def test_the_report_of_a_span_is_whole_by_the_window_that_is_named(inputs, tmp_path):
+    """The report has 1,000 cycles a node, and the scenario's window 400."""
+    (tmp_path / "s.toml").write_text(SCENARIO.replace("[0, 1_000]", "[600, 1_000]"))
+    assert run_tool("energy", *inputs, "--window", "0..1_000")[0] == 0
+    for words in ((), ("--window", "0..999")):
+        status, out, err = run_tool("energy", *inputs, *words)
+        assert (status, out) == (2, "") and "node 0 do not add up" in err

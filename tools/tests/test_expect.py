@@ -126,14 +126,14 @@ class Met(unittest.TestCase):
 
     def test_all_that_is_not_met_is_told(self):
         failure = outcome(
-            "10 0 sent 71\n20 0 heard *\nnever * 1 serial *\ncount == 1: * 1 serial *\ntext 1 'x'\nnext * 1 sent *\n"
+            "10 0 sent 71\n20 0 heard *\nnever * 1 serial *\ncount == 1: * 1 serial *\ntext 1 'x'\nnext 5: * 1 sent *\n"
         ).failure
         told = [line.split(": ")[0].split(", ")[1] for line in failure.splitlines() if "case.expect" in line]
         self.assertEqual(told, ["line 1", "line 4", "line 5"])
         self.assertIn("so 2 more, expected behind it, were not looked for", failure)
-        failure = outcome("10 0 sent 72\nnever * 1 serial *\nnever * * heard *\nnext 50 1 sent *\n").failure
+        failure = outcome("10 0 sent 72\nnever * 1 serial *\nnever * * heard *\nnext 1: 50 1 sent *\n").failure
         told = [line.split(": ")[0].split(", ")[1] for line in failure.splitlines() if "case.expect" in line]
-        self.assertEqual(told, ["line 4"])  # `next` is missed at once, so nothing stands between
+        self.assertEqual(told, ["line 3", "line 4"])  # it is missed before the row of line 2 comes
 
     def test_only(self):
         self.met("only 1 heard serial", "30 1 heard *", "next 40 1 serial *", "next 60 1 heard *", "count == 0: * 1 heard 2 *")
@@ -296,6 +296,12 @@ class Refused(unittest.TestCase):
             ("only 0\ncount == 1: * 1 sent *", "node 1 is none of those of `only`"),
             ("only sent\nnever * * stop *", "rows stop are none of those of `only`"),
             ("only 0\nonly 1", "a second `only`"),
+            ("only sent\nnever * * {sent,stop} *", "rows stop are none of those of `only`"),
+            ("within 0..50: never 60.. * sent *", "cycles 60.. are not within 0..50"),
+            ("within 0..50: count == 0: {10,60} * sent *", "cycles 60..60 are not within 0..50"),
+            ("10 0 sent *\nnever * * stop *\nnext 20 0 heard *", "line 2: line 3 expects the next row, so that none can come between"),
+            ("never * 1 serial *\nnever * * stop *\nnext 2: * * serial *", "line 1: such a row is the one that line 3 expects"),
+            ("never 5.. 1 sent 41\n* {0,1} *", "line 1: such a row is the one that line 2 expects"),
         ):
             with self.subTest(line), scratch("case.expect", f"{line}\n") as path:
                 with self.assertRaises(BadInput) as refusal:
@@ -311,14 +317,73 @@ class Refused(unittest.TestCase):
             ("never 99.. * sent *", "the trace ends in cycle 99"),
             ("never 100 * end *", "the trace ends in cycle 99"),
             ("never 98 * end *", "the trace ends in cycle 99"),
-            ("within 99..200: never * * sent *", "the trace ends in cycle 99, before 99..200"),
-            ("within 99..: text 0 'a'", "the trace ends in cycle 99, before 99.."),
+            ("never {10,99} * sent *", "the trace ends in cycle 99"),
+            ("within 99..200: never * * sent *", "the trace ends in cycle 99, and not within 99..200"),
+            ("within 99..: text 0 'a'", "the trace ends in cycle 99, and not within 99.."),
+            ("within 0..98: count == 0: * * end *", "the trace ends in cycle 99, and not within 0..98"),
+            ("within 0..98: never * * {end,stop} *", "the trace ends in cycle 99, and not within 0..98"),
+            ("never * * instr *", "line 1: the trace has no window, and instr rows stand in one alone"),
+            ("never * * enter *", "the trace has no window, and enter rows"),
+            ("count == 0: * * enter *", "the trace has no window"),
+            ("count <= 5: * * {sent,instr} *", "the trace has no window, and instr rows"),
+            ("within 0..50: never * 1 instr 006E *", "the trace has no window"),
+            ("10 0 sent *\nnever +1.. * enter *", "the trace has no window"),
+            ("* * instr *", "the trace has no window"),
+            ("only instr sent\nnever * * sent 41", "`only` names instr: the trace has no window"),
+            ("only instr\ncount == 0: * *", "`only` names instr: the trace has no window"),
         ):
             with self.subTest(line), self.assertRaises(BadInput) as refusal:
                 outcome(line)
             self.assertIn(why, str(refusal.exception))
-        for line in ("never 98 * sent *", "never * 0..9 sent 41", "within 99..: count == 2: * * end *", "99 1 end *"):
-            self.assertIsNone(outcome(line).failure)
+        for line in (
+            "never 98 * sent *",
+            "never * 0..9 sent 41",
+            "within 99..: count == 2: * * end *",
+            "99 1 end *",
+            "never 81.. * *",
+            "count == 2: 99 * *",
+        ):
+            self.assertEqual((outcome(line).failure is None), line != "never 81.. * *")
+
+    def test_what_the_rows_about_it_leave_no_room_for(self):
+        """A row that is never to come between two others is looked for in the cycles between them alone."""
+        for lines, why in (
+            ("10 0 sent *\nnever 51.. * stop *\n50 1 sent *", "line 2: cycles 51.. are not within 10..50"),
+            ("10 0 sent *\nnever ..9 * stop *", "line 2: cycles 0..9 are not within 10..99"),
+            ("10 0 sent *\nnever +41.. * stop *\n50 1 sent *", "cycles 51.. are not within 10..50, where the rows about it were found"),
+            ("10 0 sent *\nnever +89.. * stop *", "line 2: the trace ends in cycle 99, and not within 10..99"),
+            ("never +11.. * stop *\n10 0 sent *", "line 1: cycles 11.. are not within 0..10"),
+            ("never * * end *\n50 1 sent *", "line 1: the trace ends in cycle 99, and not within 0..50"),
+            ("* 1 end *\nnever * * stop *", "line 2: the trace ends in cycle 99, and not within 99..99"),
+        ):
+            with self.subTest(lines), self.assertRaises(BadInput) as refusal:
+                outcome(lines)
+            self.assertIn(why, str(refusal.exception))
+        for lines in (
+            "10 0 sent *\nnever 50.. * stop *\n50 1 sent *",
+            "10 0 sent *\nnever ..10 * stop *",
+            "10 0 sent *\nnever +0..40 * stop *\n50 1 sent *",
+            "never * * end 5 *\n99 1 end *",
+        ):
+            self.assertIsNone(outcome(lines).failure)
+        # One that is not met otherwise is not met: what comes behind a row that did not come is not known.
+        self.assertIn("did not come", outcome("10 0 sent 71\nnever 5 * stop *\n50 1 sent *").failure)
+
+    WINDOW = "30 0 enter 001E 0081\n39 0 instr 001E nop\n40 1 sent 41\n99 0 end 12 running\n99 1 end 7 running\n"
+
+    def test_the_window_that_rows_show(self):
+        for line in (
+            "never * 1 instr *",
+            "count == 1: * * instr *",
+            "within 39..50: never * * enter *",
+            "never 30 1 enter *",
+            "only instr\ncount == 1: * * *",
+        ):
+            self.assertIsNone(outcome(line, self.WINDOW).failure)
+        for line in ("never 40.. * instr *", "within 0..29: never * * {instr,sent} *", "40 1 sent *\nnever * * instr *"):
+            with self.subTest(line), self.assertRaises(BadInput) as refusal:
+                outcome(line, self.WINDOW)
+            self.assertIn("instr rows stand in the window alone, which the trace has in cycles 30..39", str(refusal.exception))
 
     def test_nothing_expected(self):
         with scratch("case.expect", "run a.toml\n# only this\n") as path, self.assertRaisesRegex(
@@ -369,6 +434,30 @@ class Command(unittest.TestCase):
             status, out, _ = run_tool("expect", "--avrora", avrora, case)
         self.assertEqual(status, 2)
         self.assertIn("avrora run net: status 4: avrora: no.toml: scenario refused: NoNodes", out)
+
+    def test_the_window_of_a_run(self):
+        """A scenario tells its window, also where no instruction was executed in it; `node` has the first 20,000 cycles."""
+        trace = "5 0 sent 41\n30000 0 end 12 asleep\n"
+        scenario = 'cycles = 30_000\n{}[[node]]\nimage = "a.hex"\n'
+        simulator = f"#!{sys.executable}\nprint({trace!r}, end='')\n"
+        refusal = "the trace has no window, and instr rows stand in one alone"
+        for text, case, status, says in (
+            ("", "run net.toml\nnever * * instr *", 2, f"line 2: {refusal}"),
+            ("window = [7, 7]\n", "run net.toml\nnever * * instr *", 2, refusal),
+            ("window = [10, 20]\n", "run net.toml\nnever * * instr *", 0, "ok 1"),
+            ("window = [10, 20]\n", "run net.toml\nonly instr\nwithin 15..: count == 0: * * *", 0, "ok 1"),
+            ("window = [10, 20]\n", "run net.toml\nwithin 20..: never * * instr *", 2, "in cycles 10..19, and not within 20.."),
+            ("", "node a.hex 30000\nnever 19999 * instr *", 0, "ok 1"),
+            ("", "node a.hex 30000\nnever 20000.. * instr *", 2, "in cycles 0..19999"),
+            ("no scenario", "run net.toml\nnever * * instr *", 2, refusal),  # what it runs, the simulator says
+        ):
+            with self.subTest(case), scratch("avrora", simulator) as avrora, scratch("a.expect", case) as path:
+                os.chmod(avrora, 0o755)
+                with open(f"{os.path.dirname(path)}/net.toml", "w", encoding="utf-8") as file:
+                    file.write(text if text == "no scenario" else scenario.format(text))
+                ended, out, _ = run_tool("expect", "--avrora", avrora, path)
+                self.assertEqual(ended, status, out)
+                self.assertIn(says, out)
 
     def test_a_run_that_fails_late(self):
         """A golden trace is not renewed by it, and its status goes before rows that did not come."""

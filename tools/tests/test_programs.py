@@ -343,6 +343,9 @@ class Profile(unittest.TestCase):
                 self.refused(why, *words, trace=self.MONITOR.replace(old, new))
             self.refused("the scenario has 1 nodes", *words, trace=self.MONITOR + self.MONITOR.replace("\n0", "\n1").replace("0 lead", "1 lead", 1))
         self.refused("its scenario (-s) tells whether it is whole", trace=self.MONITOR)
+        with scratch("net.toml", self.SCENARIO.format(1105, 1135)) as scenario:  # the report is of more cycles than the window
+            self.refused("do not add up to the 30 cycles", "-s", scenario, trace=self.MONITOR)
+            self.assertEqual(self.profile("-s", scenario, "--window", "1100..1140", trace=self.MONITOR), self.profile("--window", "1100..1140"))
 
     def test_no_instructions(self):
         """In a trace, and in what a monitor writes of a scenario without a window."""

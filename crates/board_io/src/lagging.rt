@@ -13,8 +13,10 @@ use std::marker::Model;
 /// interrupt lines are those that are kept.
 #[derive(Drop)]
 pub struct LaggingBoard {
-    pub(crate) board: Board,
+    // before the board, whose clock is then not at the address of the whole: that is passed to calls, so the host would keep
+    // it in a register, and look the clock up by it
     pub(crate) ahead: Forecast,
+    pub(crate) board: Board,
 }
 
 impl Model for LaggingBoard {

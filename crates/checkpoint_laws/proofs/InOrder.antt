@@ -16,7 +16,7 @@ use Rattle.air_base.proofs.Each.{All_each}
 use Rattle.world_core.proofs.Sends.{all_inside, each_cycle, first, next_sends}
 use Rattle.state_text.specs.Bounds.{are_sends, follows, is_kept, kept_behind}
 use Rattle.checkpoint_text.proofs.Ordered.{of_one}
-use Rattle.checkpoint_text.proofs.Pauses.{pairs_append}
+use Rattle.checkpoint_text.proofs.Records.{pairs_append}
 
 -- x comes before y
 abbrev pub Before : Send → Send → Type 0

@@ -1,3 +1,4 @@
 pub mod Kept
 pub mod InOrder
 pub mod Accepted
+pub mod Chains

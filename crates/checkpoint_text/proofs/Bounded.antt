@@ -4,7 +4,7 @@ use Rattle.std.specs.Prelude.{IfOk, is_none, nat_le, slice_index}
 use Rattle.std.specs.List.{All, AllByRecursion}
 use Rattle.std.proofs.lemmas.Bool.{and_parts, cases_eq, cases_lt, eqb-true, leb-true, ltb-true}
 use Rattle.std.proofs.lemmas.List.{get_or_default, length-append, length-map, length-take, same_lists}
-use Rattle.std.proofs.lemmas.List.Elements.{All-cons, All-nil}
+use Rattle.std.proofs.lemmas.List.Elements.{All-cons, All-nil, All-weaker}
 use Rattle.std.proofs.lemmas.List.FromFn.{get_or-map-range_with_len, length-map-range_with_len}
 use Rattle.std.proofs.lemmas.List.Kept.{AllPairs-cons}
 use Rattle.std.proofs.lemmas.List.Quantifiers.{position-Some}
@@ -90,7 +90,7 @@ are_fit sc cycle (n ∷ ns) h = All-cons (IsFit cycle) n ns (is_fit sc cycle n h
 
 -- ---- sends
 
-abbrev IsInside : Topology → ℕ → Send → Type 0
+abbrev pub IsInside : Topology → ℕ → Send → Type 0
 IsInside t cycle x = (x.node < t.nodes) × (x.cycle < cycle)
 
 inside : (t : Topology) (cycle : ℕ) (x : Send) → is_kept t cycle x ≡ true → IsInside t cycle x
@@ -99,7 +99,7 @@ inside t cycle x h =
     let at = and_parts (ltb x.cycle cycle) _ node.1 in
     (ltb-true x.node t.nodes node.0, ltb-true x.cycle cycle at.0)
 
-are_inside : (t : Topology) (cycle : ℕ) (before : Option Send) (xs : List Send) → are_sends t cycle before xs ≡ true → All (IsInside t cycle) xs
+pub are_inside : (t : Topology) (cycle : ℕ) (before : Option Send) (xs : List Send) → are_sends t cycle before xs ≡ true → All (IsInside t cycle) xs
 are_inside t cycle before [] h = All-nil (IsInside t cycle)
 are_inside t cycle before (x ∷ xs) h =
     let both = and_parts (kept_behind t cycle before x) (are_sends t cycle (Some x) xs) h in
@@ -107,9 +107,9 @@ are_inside t cycle before (x ∷ xs) h =
     All-cons (IsInside t cycle) x xs (inside t cycle x kept.0) (are_inside t cycle (Some x) xs both.1)
 
 -- a send behind another one: not of the same node in the same cycle, and in no earlier cycle
-record IsBehind (y x : Send) : Type 0 where
-  later : y.cycle ≤ x.cycle
-  same : y.cycle ≡ x.cycle → y.node < x.node
+pub record IsBehind (y x : Send) : Type 0 where
+  pub later : y.cycle ≤ x.cycle
+  pub same : y.cycle ≡ x.cycle → y.node < x.node
 
 follows_behind : (y x : Send) → follows (Some y) x ≡ true → IsBehind y x
 follows_behind y x h = go (ltb y.cycle x.cycle) refl h
@@ -149,27 +149,34 @@ rises y z b same =
       ]
     ]
 
-all_behind : (t : Topology) (cycle : ℕ) (y x : Send) (xs : List Send) → IsBehind y x → are_sends t cycle (Some x) xs ≡ true → All (λ z. y.node ≡ z.node → y.cycle < z.cycle) xs
-all_behind t cycle y x [] a h = All-nil (λ z. y.node ≡ z.node → y.cycle < z.cycle)
-all_behind t cycle y x (z ∷ xs) a h =
+later_all : (t : Topology) (cycle : ℕ) (y x : Send) (xs : List Send) → IsBehind y x → are_sends t cycle (Some x) xs ≡ true → All (IsBehind y) xs
+later_all t cycle y x [] a h = All-nil (IsBehind y)
+later_all t cycle y x (z ∷ xs) a h =
     let both = and_parts (kept_behind t cycle (Some x) z) (are_sends t cycle (Some z) xs) h in
     let kept = and_parts (is_kept t cycle z) (follows (Some x) z) both.0 in
     let b = behind_behind y x z a (follows_behind x z kept.1) in
-    All-cons (λ z. y.node ≡ z.node → y.cycle < z.cycle) z xs (rises y z b) (all_behind t cycle y z xs b both.1)
+    All-cons (IsBehind y) z xs b (later_all t cycle y z xs b both.1)
 
-all_after : (t : Topology) (cycle : ℕ) (x : Send) (xs : List Send) → are_sends t cycle (Some x) xs ≡ true → All (λ z. x.node ≡ z.node → x.cycle < z.cycle) xs
-all_after t cycle x [] h = All-nil (λ z. x.node ≡ z.node → x.cycle < z.cycle)
-all_after t cycle x (z ∷ xs) h =
+all_behind : (t : Topology) (cycle : ℕ) (x : Send) (xs : List Send) → are_sends t cycle (Some x) xs ≡ true → All (IsBehind x) xs
+all_behind t cycle x [] h = All-nil (IsBehind x)
+all_behind t cycle x (z ∷ xs) h =
     let both = and_parts (kept_behind t cycle (Some x) z) (are_sends t cycle (Some z) xs) h in
     let kept = and_parts (is_kept t cycle z) (follows (Some x) z) both.0 in
     let b = follows_behind x z kept.1 in
-    All-cons (λ z. x.node ≡ z.node → x.cycle < z.cycle) z xs (rises x z b) (all_behind t cycle x z xs b both.1)
+    All-cons (IsBehind x) z xs b (later_all t cycle x z xs b both.1)
+
+-- each is behind all before it
+pub are_behind : (t : Topology) (cycle : ℕ) (before : Option Send) (x : Send) (xs : List Send) → are_sends t cycle before (x ∷ xs) ≡ true → All (IsBehind x) xs × (are_sends t cycle (Some x) xs ≡ true)
+are_behind t cycle before x xs h =
+    let both = and_parts (kept_behind t cycle before x) (are_sends t cycle (Some x) xs) h in
+    (all_behind t cycle x xs both.1, both.1)
 
 they_rise : (t : Topology) (cycle : ℕ) (before : Option Send) (xs : List Send) → are_sends t cycle before xs ≡ true → Rises xs
 they_rise t cycle before [] h = λ i j d low high. absurd (omega (arith, low, high))
 they_rise t cycle before (x ∷ xs) h =
-    let both = and_parts (kept_behind t cycle before x) (are_sends t cycle (Some x) xs) h in
-    AllPairs-cons (λ (x : Send) (y : Send). x.node ≡ y.node → x.cycle < y.cycle) x xs (all_after t cycle x xs both.1) (they_rise t cycle (Some x) xs both.1)
+    let behind = are_behind t cycle before x xs h in
+    AllPairs-cons (λ (x : Send) (y : Send). x.node ≡ y.node → x.cycle < y.cycle) x xs
+    (All-weaker (IsBehind x) (λ z. x.node ≡ z.node → x.cycle < z.cycle) (rises x) xs behind.0) (they_rise t cycle (Some x) xs behind.1)
 
 -- ---- the state
 
@@ -183,6 +190,7 @@ can_resume sc st h =
       nodes = are_fit sc st.cycle st.nodes h.nodes;
       sends = are_inside sc.topo st.cycle None st.sends h.sends;
       rises = they_rise sc.topo st.cycle None st.sends h.sends;
+      order = h.sends;
     }
 
 pub if_can_resume : (sc : ScenarioOf) (text : List ℕ) (read : Result StateOf StateFault) → IfOk read (λ st. IsState (rules_of sc) st × (text ≡ state_text st)) → IfOk read (λ st. CanResume sc st)

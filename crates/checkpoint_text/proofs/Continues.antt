@@ -1,6 +1,7 @@
 -- A run that begins again in a moment of another, without the sends that are over, makes the rest of its rows.
-use Rattle.std.proofs.Common.{◌≡◌, ℕ, zero, suc, ◌+◌, ◌-◌, ◌<◌, ◌≤◌, List, [], ◌∷◌, ◌++◌, refl, sym, subst, ◌∙◌, ap, arith, append_assoc}
+use Rattle.std.proofs.Common.{◌≡◌, ℕ, zero, suc, ◌+◌, ◌-◌, ◌<◌, ◌≤◌, false, List, [], ◌∷◌, ◌++◌, refl, sym, subst, ◌∙◌, ap, arith, append_assoc}
 use Rattle.std.specs.List.{filter}
+use Rattle.std.proofs.lemmas.Bool.Decides.{nat_tests}
 use Rattle.std.proofs.lemmas.List.Elements.{filter-append}
 use Rattle.air_base.specs.declared.air.Send.{Send}
 use Rattle.air_base.specs.Each.{each_below}
@@ -62,6 +63,35 @@ module _ {S R : Type 0} (f : Fleet S R) (c : ℕ) (from : f.start ≤ c) (lim : 
   goes n =
       let e : f.start + (c - f.start) ≡ c = omega arith in
       subst (λ (t : ℕ). GoesOn (world_at f c) (world_after (resumed f t (world_at f c)) n) (world_after f (c - f.start + n))) e (resumes f (c - f.start) n)
+
+  -- ---- up to a later cycle d
+  module _ (d : ℕ) (later : c ≤ d) where
+    abbrev n : ℕ
+    n = d - c
+
+    there : c - f.start + n ≡ d - f.start
+    there = omega arith
+
+    -- each node is as it is in the run that never stopped
+    pub node_later : (k : ℕ) → k < f.topo.nodes → node_at g k d ≡ node_at f k d
+    node_later k l = (alike n).state k l ∙ ap (λ (s : ℕ → S). s k) (goes n).state ∙ ap (λ (t : ℕ). (world_after f t).state k) there
+
+    -- what is over at the cut is over then
+    kept_kept : (x : Send) → is_kept f.topo c x ≡ false → is_kept f.topo d x ≡ false
+    kept_kept x e = grind (arith, nat_tests)
+
+    -- and the sends that can still be heard are the same
+    pub kept_later : filter (is_kept f.topo d) (world_at g d).sends ≡ filter (is_kept f.topo d) (world_at f d).sends
+    kept_later =
+        let p = is_kept f.topo d in
+        let v = (world_after g n).sends in
+        let w = (world_after h n).sends in
+        sym (through p (is_kept f.topo c) kept_kept v) ∙ ap (filter p) (alike n).sends ∙ through p (is_kept f.topo c) kept_kept w
+        ∙ ap (filter p) ((goes n).sends ∙ ap (λ (t : ℕ). (world_after f t).sends) there)
+
+    -- and the rows up to there are those up to the cut, and then those of the run that begins again
+    pub rows_later : (world_at f d).rows ≡ (world_at f c).rows ++ (world_at g d).rows
+    rows_later = ap (λ (t : ℕ). (world_after f t).rows) (sym there) ∙ (goes n).rows ∙ ap (λ (l : List R). (world_at f c).rows ++ l) (sym (alike n).rows)
 
   pub continues : run_rows f ≡ (world_at f c).rows ++ run_rows (record f { start = c; begins = begins; sent = sent })
   continues =

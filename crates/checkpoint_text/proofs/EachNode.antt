@@ -3,10 +3,7 @@ use Rattle.std.proofs.Common.{◌≡◌, ◌≢◌, ℕ, suc, ◌+◌, ◌-◌, 
 use Rattle.std.proofs.lemmas.List.{get_or-set_same, get_or-set_other, get_or_append_left, get_or-append_right, get_or_default, length-append}
 use Rattle.std.proofs.Common.{get_or}
 use native.Mathlib.Decide.{ℕ_discrete}
-use Rattle.air_base.specs.declared.air.Heard.{Heard}
-use Rattle.air_base.specs.declared.air.Send.{Send}
 use Rattle.air_base.specs.Each.{each_below}
-use Rattle.air_base.specs.NodeKind.{NodeKind}
 use Rattle.air_base.specs.NodeRun.{Timed}
 use Rattle.air_base.proofs.Each.{each_same}
 use Rattle.node_core.specs.declared.row.Row.{Row}
@@ -16,8 +13,7 @@ use Rattle.node_runner.specs.Scenario.{ScenarioOf}
 use Rattle.state_text.specs.Text.{StateOf}
 use Rattle.checkpoint_text.specs.NodeOf.{node_of}
 use Rattle.checkpoint_text.specs.Onward.{saved_node}
-use Rattle.checkpoint_text.specs.Alone.{AllRan, RanAlone, RunsAlone, alone_sends, node_in, sent_by}
-use Rattle.checkpoint_text.specs.Paused.{AllRestored, IsGathered, ends_of}
+use Rattle.checkpoint_text.specs.Paused.{AllRestored, IsGathered, ends_of, node_in}
 
 -- one more of what is made number by number
 pub one_more : {X : Type 0} (k : ℕ) (g h : ℕ → List X) → ((j : ℕ) → j < k → g j ≡ h j) → each_below (k + 1) h ≡ each_below k g ++ h k
@@ -32,65 +28,6 @@ module _ {S R : Type 0} where
 
   pub at_other : (items : List (Timed S R)) (k j : ℕ) (q d : Timed S R) → j ≢ k → node_in (set items k q) j d ≡ node_in items j d
   at_other items k j q d ne = get_or-set_other items k j q d ne
-
-  -- ---- each runs alone
-  module _ (m : NodeKind S R) (h : ℕ → ℕ → Heard) (end : ℕ) (vs : List (Timed S R)) where
-    pub record RanSo (k : ℕ) (items : List (Timed S R)) (zs : List Send) : Type 0 where
-      pub count : length items ≡ length vs
-      pub done : (j : ℕ) (d : Timed S R) → j < k → RanAlone m (h j) j end (node_in vs j d) (node_in items j d)
-      pub left : (j : ℕ) (d : Timed S R) → k ≤ j → node_in items j d ≡ node_in vs j d
-      pub sends : (d : Timed S R) → zs ≡ each_below k (λ j. sent_by m (h j) j (node_in vs j d) (node_in items j d))
-
-    pub ran_none : (sends : List Send) → sends ≡ [] → RanSo 0 vs sends
-    ran_none sends e = record { count = refl; done = (λ j d lt. absurd (omega arith)); left = (λ j d le. refl); sends = (λ d. e) }
-
-    -- what is sent behind other sends
-    pub fresh : (k : ℕ) (v w : Timed S R) (xs ys : List Send) → RunsAlone m (h k) k end v xs w ys → RanAlone m (h k) k end v w × (ys ≡ xs ++ sent_by m (h k) k v w)
-    fresh k v w xs ys r =
-        let g = r.goes in
-        let n : g.count ≡ w.cycle - v.cycle = (let c = g.cycle in omega arith) in
-        let own : alone_sends m (h k) k v.cycle g.count v.state ≡ sent_by m (h k) k v w = ap (λ (i : ℕ). alone_sends m (h k) k v.cycle i v.state) n in (
-          record { goes = record { count = g.count; calm = g.calm; cycle = g.cycle; state = g.state; rows = g.rows; sends = sym own }; has = r.has },
-          g.sends ∙ ap (λ (l : List Send). xs ++ l) own,
-        )
-
-    module _ (k : ℕ) (items : List (Timed S R)) (sends : List Send) (so : RanSo k items sends) (lt : k < length vs) (p q : Timed S R) (ys : List Send) (at : p ≡ node_in items k p) (runs : RunsAlone m (h k) k end p sends q ys) where
-      was : p ≡ node_in vs k p
-      was = at ∙ so.left k p (omega arith)
-
-      home : (d : Timed S R) → node_in vs k d ≡ p
-      home d = get_or_default vs k d p lt ∙ sym was
-
-      ran_here : (d : Timed S R) → RanAlone m (h k) k end (node_in vs k d) (node_in (set items k q) k d)
-      ran_here d =
-          let same : node_in (set items k q) k d ≡ q = at_own items k q d (let c = so.count in omega arith) in
-          subst (RanAlone m (h k) k end (node_in vs k d)) (sym same) (subst (λ (v : Timed S R). RanAlone m (h k) k end v q) (sym (home d)) (fresh k p q sends ys runs).0)
-
-      done_case : (j : ℕ) (d : Timed S R) → Dec (j ≡ k) → j < k + 1 → RanAlone m (h j) j end (node_in vs j d) (node_in (set items k q) j d)
-      done_case j d (yes e) l = subst (λ (i : ℕ). RanAlone m (h i) i end (node_in vs i d) (node_in (set items k q) i d)) (sym e) (ran_here d)
-      done_case j d (no ne) l = subst (RanAlone m (h j) j end (node_in vs j d)) (sym (at_other items k j q d ne)) (so.done j d (omega arith))
-
-      pub ran_more : RanSo (k + 1) (set items k q) ys
-      ran_more = record {
-        count = length-set items k q ∙ so.count;
-        done = (λ j d l. done_case j d (ℕ_discrete j k) l);
-        left = (λ j d le. at_other items k j q d (λ e. absurd (omega arith)) ∙ so.left j d (omega arith));
-        sends = (λ d.
-            let here : sent_by m (h k) k p q ≡ sent_by m (h k) k (node_in vs k d) (node_in (set items k q) k d) =
-            (λ i. sent_by m (h k) k (sym (home d) i) (sym (at_own items k q d (let c = so.count in omega arith)) i)) in
-            (fresh k p q sends ys runs).1 ∙ (λ i. so.sends d i ++ here i)
-            ∙ sym (one_more k (λ j. sent_by m (h j) j (node_in vs j d) (node_in items j d)) (λ j. sent_by m (h j) j (node_in vs j d) (node_in (set items k q) j d))
-            (λ j l. ap (sent_by m (h j) j (node_in vs j d)) (sym (at_other items k j q d (λ e. absurd (omega arith)))))));
-      }
-
-    pub all_ran : (k : ℕ) (items : List (Timed S R)) (sends : List Send) → RanSo k items sends → length vs ≤ k → k ≤ length vs → AllRan m h end vs items sends
-    all_ran k items sends so low high =
-        let e : k ≡ length vs = omega arith in
-        record {
-          count = so.count;
-          nodes = (λ j d l. so.done j d (omega arith));
-          sends = (λ d. so.sends d ∙ ap (λ (n : ℕ). each_below n (λ j. sent_by m (h j) j (node_in vs j d) (node_in items j d))) e);
-        }
 
   -- ---- the rows are taken from each
   module _ (vs : List (Timed S R)) where

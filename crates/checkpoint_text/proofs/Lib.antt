@@ -1,7 +1,9 @@
+pub mod Alone
 pub mod Trails
 pub mod Ordered
 pub mod Hearing
-pub mod Pauses
+pub mod Flights
+pub mod Steps
 pub mod NodeIs
 pub mod EachNode
 pub mod OnwardRows
@@ -10,3 +12,4 @@ pub mod Continues
 pub mod Bounded
 pub mod Prefix
 pub mod Shown
+pub mod Saving

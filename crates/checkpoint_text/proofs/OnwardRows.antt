@@ -27,7 +27,7 @@ use Rattle.node_runner.proofs.Gathered.{agree_by}
 use Rattle.state_text.specs.Text.{StateOf}
 use Rattle.checkpoint_text.specs.NodeOf.{node_of}
 use Rattle.checkpoint_text.specs.Onward.{CanResume, onward, saved_node}
-use Rattle.checkpoint_text.specs.Alone.{node_in}
+use Rattle.checkpoint_text.specs.Paused.{node_in}
 use Rattle.checkpoint_text.specs.Paused.{AllRestored, AtRest, IsGathered, IsPaused, ends_of}
 
 differ : (a b : ℕ) → a ≢ b → (a == b) ≡ false

@@ -10,11 +10,9 @@ use Rattle.std.specs.Prelude.{Some, None}
 use Rattle.air_base.specs.Each.{each_below}
 use Rattle.air_base.specs.NodeKind.{ticked, ticked_rows}
 use Rattle.world_core.specs.Order.{Fleet, Moment, hears, node_at, rows_in, send_of, world_at}
-use Rattle.world_core.specs.Sends.{sends_of}
 use Rattle.air_base.proofs.Each.{All_each, each_same}
 use Rattle.world_core.proofs.Sends.{next}
-use Rattle.world_core.proofs.Sorted.{agrees}
-use Rattle.checkpoint_text.specs.Alone.{alone, alone_rows, alone_sends}
+use Rattle.checkpoint_text.proofs.Alone.{alone, alone_rows, alone_sends}
 
 -- a send of node k in cycle t
 pub of_one : (P : Send → Type 0) (t k : ℕ) (o : Option ℕ) → ((b : ℕ) → P (record { node = k; cycle = t; byte = b })) → All P (send_of t k o)
@@ -43,11 +41,6 @@ module _ {S R : Type 0} (f : Fleet S R) where
       All_each P n (λ i. each_below f.topo.nodes (sent_in (a + i)))
       (λ i l. All_each P f.topo.nodes (sent_in (a + i))
       (λ k m. of_one P (a + i) k (f.kind.sends (a + i) (node_at f k (a + i))) (λ b. h (record { node = k; cycle = a + i; byte = b }) (omega arith) (omega arith) m)))
-
-  -- node by node they are the same of each node
-  pub sends_by_node : (a n k : ℕ) → sends_of k (each_below n (λ i. each_below f.topo.nodes (sent_in (a + i)))) ≡ sends_of k (each_below f.topo.nodes (λ j. each_below n (λ i. sent_in (a + i) j)))
-  sends_by_node a n k =
-      sym (agrees (λ (x : Send). x.node) 0 (λ i j. sent_in (a + i) j) (λ i j. of_one (λ x. x.node ≡ 0 + j) (a + i) j (f.kind.sends (a + i) (node_at f j (a + i))) (λ b. let e : j ≡ 0 + j = omega arith in e)) k n f.topo.nodes)
 
   -- ---- one node, where what it hears in n cycles from cycle c on is known
   module _ (k c : ℕ) (h : ℕ → Heard) (from : f.start ≤ c) where

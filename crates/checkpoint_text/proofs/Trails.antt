@@ -1,15 +1,14 @@
 -- A node that runs by itself: stretches of cycles joined, quiet ones passed in one leap, and one that stopped.
-use Rattle.std.proofs.Common.{◌≡◌, ℕ, zero, suc, ◌+◌, ◌-◌, ◌<◌, ◌≤◌, ◌⊎◌, inl, inr, Bool, true, false, Option, None, List, [], ◌∷◌, ◌++◌, refl, sym, ◌∙◌, ap, arith, append-nil, append_assoc, add-zero}
+use Rattle.std.proofs.Common.{◌≡◌, ℕ, zero, suc, ◌+◌, ◌-◌, true, false, Option, None, List, [], ◌∷◌, ◌++◌, refl, sym, ◌∙◌, ap, arith, append-nil, append_assoc, add-zero}
 use Rattle.air_base.specs.declared.air.Heard.{Heard}
 use Rattle.air_base.specs.declared.air.Send.{Send}
 use Rattle.air_base.specs.Each.{each_below}
 use Rattle.air_base.specs.NodeKind.{NodeKind, IsSteady, ticked, ticked_rows}
-use Rattle.air_base.specs.NodeRun.{Timed, AllQuiet, Asks, Comes, Rests, Sends, Stops, answered, passed, passed_rows}
-use Rattle.std.proofs.lemmas.Bool.{false≢true}
+use Rattle.air_base.specs.NodeRun.{Timed, AllQuiet, Asks, Comes, Rests, Sends, answered, passed, passed_rows}
 use Rattle.world_core.specs.Order.{send_of}
 use Rattle.world_core.proofs.Alone.{cond_true, cond_false}
 use Rattle.air_base.proofs.Each.{each_none, each_same}
-use Rattle.checkpoint_text.specs.Alone.{GoesAlone, RunsAlone, Steps, alone, alone_rows, alone_sends}
+use Rattle.checkpoint_text.proofs.Alone.{GoesAlone, alone, alone_rows, alone_sends}
 
 pub each_add : {X : Type 0} (n j : ℕ) (g : ℕ → List X) → each_below (n + j) g ≡ each_below n g ++ each_below j (λ i. g (n + i))
 each_add n zero g = ap (λ (l : ℕ). each_below l g) (add-zero n) ∙ sym (append-nil (each_below n g))
@@ -91,17 +90,6 @@ module _ {S R : Type 0} (m : NodeKind S R) (h : ℕ → Heard) where
             ∙ ap (λ (l : List Send). xs ++ l) (sym (alone_sends_add k v.cycle n j v.state));
       }
 
-  pub goes_none : (k : ℕ) (v : Timed S R) (xs : List Send) → v.asking ≡ false → GoesAlone m h k v xs v xs
-  unfolding alone
-  goes_none k v xs calm = record {
-    count = 0;
-    calm = calm;
-    cycle = omega arith;
-    state = refl;
-    rows = sym (append-nil v.rows);
-    sends = sym (append-nil xs);
-  }
-
   -- it came through quiet cycles to the beginning of cycle c
   pub comes_alone : (k c : ℕ) (v w : Timed S R) (xs : List Send) → Rests m v c w → GoesAlone m h k v xs w xs
   comes_alone k c v w xs r =
@@ -130,7 +118,7 @@ module _ {S R : Type 0} (m : NodeKind S R) (h : ℕ → Heard) where
         sends = sends ∙ ap (λ (n : List Send). xs ++ n) (λ i. send_of (q i) k (m.sends (q i) s));
       }
 
-  stands_at : (c : ℕ) (v : Timed S R) (s : S) (l : List R) → Comes m v c s l → Rests m v c (record { cycle = c; asking = false; state = s; rows = l })
+  pub stands_at : (c : ℕ) (v : Timed S R) (s : S) (l : List R) → Comes m v c s l → Rests m v c (record { cycle = c; asking = false; state = s; rows = l })
   stands_at c v s l comes = record { cycle = refl; asking = refl; comes = comes }
 
   pub sends_alone : (k c b : ℕ) (v u : Timed S R) (xs ys : List Send) → Sends m v c b u → ys ≡ xs ++ record { node = k; cycle = c; byte = b } ∷ [] → GoesAlone m h k v xs u ys
@@ -161,54 +149,9 @@ module _ {S R : Type 0} (m : NodeKind S R) (h : ℕ → Heard) where
       ∙ ap (λ (l : List R). r.rows ++ (m.begun_rows c s ++ l)) (sym (cond_true (m.asks c s) (m.finished_rows c (m.begun c s) (h c)) [] r.asks)))
       (sym (ap (λ (o : Option ℕ). xs ++ send_of c k o) (apart s r.asks) ∙ append-nil xs)))
 
-  -- ---- a step, by where the run of the node ended
-  pub rests_step : (k end : ℕ) (v w : Timed S R) (xs : List Send) → Rests m v end w → Steps m h k end false v xs w xs
-  rests_step k end v w xs r = record {
-    goes = comes_alone k end v w xs r;
-    within = (let q = r.cycle in omega arith);
-    later = (λ e. absurd (false≢true e));
-    has = (λ e. record { within = (let q = r.cycle in omega arith); over = inr r.cycle });
-  }
-
-  pub stops_step : (k end : ℕ) (v w : Timed S R) (xs : List Send) → w.cycle ≤ end → Stops m v w → Steps m h k end false v xs w xs
-  stops_step k end v w xs le r = record {
-    goes = comes_alone k w.cycle v w xs r.rests;
-    within = le;
-    later = (λ e. absurd (false≢true e));
-    has = (λ e. record { within = le; over = inl r.stopped });
-  }
-
-  pub sends_step : (k end c b : ℕ) (v w : Timed S R) (xs ys : List Send) → c < end → Sends m v c b w → ys ≡ xs ++ record { node = k; cycle = c; byte = b } ∷ [] → Steps m h k end true v xs w ys
-  sends_step k end c b v w xs ys lt r e =
-      let at : w.cycle ≡ c + 1 = ap (λ (z : Timed S R). z.cycle) r.after in
-      record {
-        goes = sends_alone k c b v w xs ys r e;
-        within = omega arith;
-        later = (λ q. let l = r.comes.later in omega arith);
-        has = (λ q. absurd (false≢true (sym q)));
-      }
-
-  pub asks_step : (k end c : ℕ) (v w u : Timed S R) (xs : List Send) (x : Heard) → ((s : S) → m.asks c s ≡ true → m.sends c s ≡ None) → c < end → Asks m v c w → x ≡ h c → u ≡ answered m w x → Steps m h k end true v xs u xs
-  asks_step k end c v w u xs x apart lt r same after =
-      let at : w.cycle ≡ c = ap (λ (z : Timed S R). z.cycle) r.after in
-      let then : u.cycle ≡ w.cycle + 1 = ap (λ (z : Timed S R). z.cycle) after in
-      record {
-        goes = asks_alone k c v w u xs x apart r same after;
-        within = omega arith;
-        later = (λ q. let l = r.comes.later in omega arith);
-        has = (λ q. absurd (false≢true (sym q)));
-      }
-
-  -- one more step, and the last
-  pub step_on : (k end : ℕ) (more : Bool) (v w u : Timed S R) (xs ys zs : List Send) → GoesAlone m h k v xs w ys → Steps m h k end more w ys u zs → GoesAlone m h k v xs u zs
-  step_on k end more v w u xs ys zs a b = goes_on k v w u xs ys zs a b.goes
-
-  pub steps_end : (k end : ℕ) (more : Bool) (v w u : Timed S R) (xs ys zs : List Send) → more ≡ false → GoesAlone m h k v xs w ys → Steps m h k end more w ys u zs → RunsAlone m h k end v xs u zs
-  steps_end k end more v w u xs ys zs e a b = record { goes = goes_on k v w u xs ys zs a b.goes; has = b.has e }
-
   -- ---- a node that stopped
   module _ (steady : IsSteady m) where
-    stopped_alone : (t n : ℕ) (s : S) → m.is_stopped s ≡ true → alone m h t n s ≡ s
+    pub stopped_alone : (t n : ℕ) (s : S) → m.is_stopped s ≡ true → alone m h t n s ≡ s
     unfolding alone
     stopped_alone t zero s e = refl
     stopped_alone t (suc n) s e =
@@ -216,47 +159,12 @@ module _ {S R : Type 0} (m : NodeKind S R) (h : ℕ → Heard) where
         ∙ cond_false (m.asks (t + n) s) (m.finished (t + n) (m.begun (t + n) s) (h (t + n))) (m.begun (t + n) s) (steady.deaf (t + n) s e)
         ∙ steady.stays (t + n) s e
 
-    stopped_rows : (t n : ℕ) (s : S) → m.is_stopped s ≡ true → alone_rows m h t n s ≡ []
+    pub stopped_rows : (t n : ℕ) (s : S) → m.is_stopped s ≡ true → alone_rows m h t n s ≡ []
     stopped_rows t n s e =
         each_none n (λ i. ticked_rows m (t + i) (alone m h t i s) (h (t + i)))
         (λ i l. ap (λ (u : S). ticked_rows m (t + i) u (h (t + i))) (stopped_alone t i s e) ∙ quiet_rows (t + i) s (h (t + i)) (steady.deaf (t + i) s e) ∙ steady.mute (t + i) s e)
 
-    stopped_sends : (k t n : ℕ) (s : S) → m.is_stopped s ≡ true → alone_sends m h k t n s ≡ []
+    pub stopped_sends : (k t n : ℕ) (s : S) → m.is_stopped s ≡ true → alone_sends m h k t n s ≡ []
     stopped_sends k t n s e =
         each_none n (λ i. send_of (t + i) k (m.sends (t + i) (alone m h t i s)))
         (λ i l. ap (λ (u : S). send_of (t + i) k (m.sends (t + i) u)) (stopped_alone t i s e) ∙ ap (send_of (t + i) k) (steady.silent (t + i) s e))
-
-    -- what n of its cycles from cycle t on did is what all did that it was to run
-    pub record Same (k t n all : ℕ) (s : S) : Type 0 where
-      pub state : alone m h t n s ≡ alone m h t all s
-      pub rows : alone_rows m h t n s ≡ alone_rows m h t all s
-      pub sends : alone_sends m h k t n s ≡ alone_sends m h k t all s
-
-    pub same_whole : (k t n all : ℕ) (s : S) → n ≤ all → (m.is_stopped (alone m h t n s) ≡ true) ⊎ (n ≡ all) → Same k t n all s
-    same_whole k t n all s le (inr e) = record {
-      state = ap (λ (l : ℕ). alone m h t l s) e;
-      rows = ap (λ (l : ℕ). alone_rows m h t l s) e;
-      sends = ap (λ (l : ℕ). alone_sends m h k t l s) e;
-    }
-    same_whole k t n all s le (inl stop) =
-        let j : ℕ = all - n in
-        let e : n + j ≡ all = omega arith in
-        let u : S = alone m h t n s in
-        record {
-          state = sym (stopped_alone (t + n) j u stop) ∙ sym (alone_add t n j s) ∙ ap (λ (l : ℕ). alone m h t l s) e;
-          rows = sym (append-nil (alone_rows m h t n s)) ∙ ap (λ (l : List R). alone_rows m h t n s ++ l) (sym (stopped_rows (t + n) j u stop)) ∙ sym (alone_rows_add t n j s) ∙ ap (λ (l : ℕ). alone_rows m h t l s) e;
-          sends = sym (append-nil (alone_sends m h k t n s)) ∙ ap (λ (l : List Send). alone_sends m h k t n s ++ l) (sym (stopped_sends k (t + n) j u stop)) ∙ sym (alone_sends_add k t n j s) ∙ ap (λ (l : ℕ). alone_sends m h k t l s) e;
-        }
-
-    -- a node that has stopped may stand at another cycle
-    pub same_stopped : (k t n c all : ℕ) (s : S) → m.is_stopped s ≡ true
-        → (alone m h t n s ≡ alone m h c all s) × (alone_rows m h t n s ≡ alone_rows m h c all s) × (alone_sends m h k t n s ≡ alone_sends m h k c all s)
-    same_stopped k t n c all s stop = (
-      stopped_alone t n s stop ∙ sym (stopped_alone c all s stop),
-      stopped_rows t n s stop ∙ sym (stopped_rows c all s stop),
-      stopped_sends k t n s stop ∙ sym (stopped_sends k c all s stop),
-    )
-
-    -- stopped, it stays so
-    pub stays_stopped : (t n : ℕ) (s : S) → m.is_stopped s ≡ true → m.is_stopped (alone m h t n s) ≡ true
-    stays_stopped t n s stop = ap m.is_stopped (stopped_alone t n s stop) ∙ stop

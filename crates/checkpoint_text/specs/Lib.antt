@@ -1,5 +1,5 @@
 pub mod NodeOf
 pub mod Onward
-pub mod Alone
 pub mod Paused
+pub mod Turns
 pub mod State

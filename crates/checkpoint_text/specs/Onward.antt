@@ -1,6 +1,6 @@
 -- The run onward from a saved state: the nodes of the state, in the cycle of the state, with the sends that may still
 -- be heard, go on in the single global order of cycles. Own to this simulator.
-use Rattle.std.specs.Prelude.{◌≡◌, ℕ, ◌<◌, Bool, [], length, None, slice_index_or}
+use Rattle.std.specs.Prelude.{◌≡◌, ℕ, ◌<◌, Bool, true, [], length, None, slice_index_or}
 use Rattle.std.specs.List.{All}
 use Rattle.world_core.specs.Chain.{Rises}
 use Rattle.world_core.specs.Order.{Fleet}
@@ -8,6 +8,7 @@ use Rattle.node_core.specs.declared.row.Row.{Row}
 use Rattle.node_core.specs.Restored.{fault_of}
 use Rattle.node_core.specs.State.{NodeState}
 use Rattle.node_runner.specs.Scenario.{ScenarioOf, fleet_of}
+use Rattle.state_text.specs.Bounds.{are_sends}
 use Rattle.state_text.specs.Text.{NodeOf, StateOf}
 use Rattle.checkpoint_text.specs.NodeOf.{node_of}
 
@@ -36,6 +37,8 @@ pub record CanResume (sc : ScenarioOf) (st : StateOf) : Type 0 where
   pub nodes : All (IsFit st.cycle) st.nodes
   pub sends : All (λ x. (x.node < sc.topo.nodes) × (x.cycle < st.cycle)) st.sends
   pub rises : Rises st.sends
+  -- they may still be heard, and stand in order of cycle, then node
+  pub order : are_sends sc.topo st.cycle None st.sends ≡ true
 
 -- a run onward: the scenario, the state that it began in, the cycle reached, and whether there was want of memory
 pub record SavedAt : Type 0 where

@@ -1,9 +1,10 @@
 -- All nodes of a run at one cycle, and the record of the sends that may still be heard. These are words of contracts.
-use Rattle.std.specs.Prelude.{◌≡◌, ℕ, ◌<◌, ◌≤◌, false, List, [], ◌∷◌, length}
+use Rattle.std.specs.Prelude.{◌≡◌, ◌⊎◌, ℕ, ◌<◌, ◌≤◌, true, false, None, List, [], ◌∷◌, length, slice_index_or}
 use Rattle.std.specs.List.{All, filter}
 use Rattle.air_base.specs.declared.air.Send.{Send}
-use Rattle.world_core.specs.Chain.{IsAfter, Rises}
+use Rattle.world_core.specs.Chain.{Rises}
 use Rattle.world_core.specs.Kept.{is_kept}
+use Rattle.air_base.specs.NodeKind.{NodeKind}
 use Rattle.air_base.specs.NodeRun.{Timed}
 use Rattle.world_core.specs.Order.{Fleet, node_at, rows_between, world_at}
 use Rattle.world_core.specs.Sends.{sends_of}
@@ -12,10 +13,19 @@ use Rattle.node_core.specs.State.{NodeState}
 use Rattle.node_core.specs.Cycle.{end_row}
 use Rattle.air_base.specs.Each.{each_below}
 use Rattle.node_runner.specs.Scenario.{IsScenario, ScenarioOf}
+use Rattle.state_text.specs.Bounds.{are_sends}
 use Rattle.state_text.specs.Text.{StateOf}
-use Rattle.checkpoint_text.specs.Alone.{HasRun, node_in}
 use Rattle.checkpoint_text.specs.NodeOf.{node_of}
 use Rattle.checkpoint_text.specs.Onward.{SavedAt, onward, saved_node}
+
+-- node k of a list
+abbrev pub node_in : {S R : Type 0} → List (Timed S R) → ℕ → Timed S R → Timed S R
+node_in vs k d = slice_index_or vs k d
+
+-- it has come to the cycle `end`, or stopped before
+pub record HasRun {S R : Type 0} (m : NodeKind S R) (end : ℕ) (w : Timed S R) : Type 0 where
+  pub within : w.cycle ≤ end
+  pub over : (m.is_stopped w.state ≡ true) ⊎ (w.cycle ≡ end)
 
 -- node k has come to cycle c, or stopped before it, and has its rows from the cycle `since` on
 pub record AtRest {S R : Type 0} (f : Fleet S R) (since c k : ℕ) (v : Timed S R) : Type 0 where
@@ -39,6 +49,7 @@ pub record IsSaved (a : SavedAt) (last : ℕ) (vs : List (Timed NodeState Row)) 
   pub scenario : IsScenario a.scenario
   pub limit : last ≡ a.scenario.topo.limit
   pub within : a.floor ≤ last
+  pub order : are_sends a.scenario.topo a.state.cycle None a.state.sends ≡ true
   pub paused : a.failed ≡ false → IsPaused (onward a.scenario a.state) a.floor a.floor vs xs
 
 -- the rows of all nodes, one node's after another's, which were taken from them
@@ -56,10 +67,8 @@ pub record AllRestored (sc : ScenarioOf) (st : StateOf) (n : ℕ) (vs : List (Ti
   pub count : length vs ≡ n
   pub nodes : (k : ℕ) (d : Timed NodeState Row) → k < n → node_in vs k d ≡ record { cycle = st.cycle; asking = false; state = node_of sc k (saved_node st k); rows = [] }
 
--- a record of these sends takes those ones behind them
-pub record CanPost (xs ys : List Send) : Type 0 where
-  pub old_nodes : All (λ x. x.node < 64) xs
-  pub new_nodes : All (λ x. x.node < 64) ys
-  pub old_rises : Rises xs
-  pub new_rises : Rises ys
-  pub behind : All (λ x. All (λ y. IsAfter y x) ys) xs
+-- a record of these sends takes one of node k of the cycle c or later
+pub record CanPost (k c : ℕ) (xs : List Send) : Type 0 where
+  pub nodes : All (λ x. x.node < 64) xs
+  pub rises : Rises xs
+  pub behind : All (λ x. x.node ≡ k → x.cycle < c) xs

@@ -1,18 +1,21 @@
 -- The state of a scenario that a text says, and the one that is written of a run at a cycle. Own to this simulator.
 use Rattle.std.specs.Prelude.{◌≡◌, ℕ, ◌^◌, ◌<◌, ◌==◌, ◌&&◌, nat_le, Bool, true, false, List, length, map, slice_index, is_none, Option, Some, None, Result}
-use Rattle.std.specs.List.{AllByRecursion, range_with_len}
-use Rattle.world_core.specs.Order.{node_at}
+use Rattle.std.specs.List.{AllByRecursion, filter, range_with_len}
+use Rattle.world_core.specs.Kept.{is_kept}
+use Rattle.world_core.specs.Order.{Fleet, node_at, world_at}
 use Rattle.air_base.specs.declared.air.Send.{Send}
+use Rattle.air_base.specs.NodeRun.{Timed}
 use Rattle.board_io.specs.Kept.{first_refused, io_of}
 use Rattle.node_core.specs.Numbers.{first_outside, numbers_of}
+use Rattle.node_core.specs.declared.row.Row.{Row}
 use Rattle.node_core.specs.State.{NodeState}
 use Rattle.node_runner.specs.Place.{Place, state_at}
-use Rattle.node_runner.specs.Run.{kept_at}
 use Rattle.node_runner.specs.Scenario.{ScenarioOf, fleet_of}
 use Rattle.state_text.specs.Bounds.{Rules, rules}
 use Rattle.state_text.specs.Reading.{state_of}
 use Rattle.state_text.specs.Text.{NodeOf, StateOf}
 use Rattle.state_text.specs.declared.fault.StateFault.{StateFault}
+use Rattle.checkpoint_text.specs.Onward.{onward}
 
 -- ---- what is read
 
@@ -54,17 +57,36 @@ parts_of s = record {
   sram = map (λ k. slice_index s.bus.sram k) (range_with_len 0 4096);
 }
 
--- all nodes as they are at cycle c, beside these sends
-abbrev pub saved_with : ScenarioOf → ℕ → List Send → StateOf
-saved_with sc c sends = record {
+-- the sends of a run that may still be heard at cycle c, in order of cycle, then node
+abbrev pub kept_of : Fleet NodeState Row → ℕ → List Send
+kept_of f c = filter (is_kept f.topo c) (world_at f c).sends
+
+-- all nodes of a run as they are at cycle c, beside these sends
+abbrev pub state_with : Fleet NodeState Row → ℕ → List Send → StateOf
+state_with f c sends = record {
   cycle = c;
-  nodes = map (λ k. parts_of (node_at (fleet_of sc) k c)) (range_with_len 0 sc.topo.nodes);
+  nodes = map (λ k. parts_of (node_at f k c)) (range_with_len 0 f.topo.nodes);
   sends = sends;
 }
 
 -- the state of a run at cycle c: all nodes, and the sends that may still be heard
+abbrev pub saved_of : Fleet NodeState Row → ℕ → StateOf
+saved_of f c = state_with f c (kept_of f c)
+
+-- that of a run from reset on
 abbrev pub saved_at : ScenarioOf → ℕ → StateOf
-saved_at sc c = saved_with sc c (kept_at sc c)
+saved_at sc c = saved_of (fleet_of sc) c
+
+-- and that of the run onward from a state
+abbrev pub saved_from : ScenarioOf → StateOf → ℕ → StateOf
+saved_from sc st c = saved_of (onward sc st) c
+
+abbrev pub saved_with : ScenarioOf → ℕ → List Send → StateOf
+saved_with sc c sends = state_with (fleet_of sc) c sends
+
+-- of nodes
+abbrev pub stood : List (Timed NodeState Row) → List NodeOf
+stood vs = map (λ v. parts_of v.state) vs
 
 -- a runner that is at cycle c or stopped before it, so that its node is as it is at cycle c, with no sample unanswered
 pub record IsAt (sc : ScenarioOf) (c k : ℕ) (p : Place) : Type 0 where

@@ -1,16 +1,16 @@
 //! A saved state of a run, as text and as a run that goes on from it.
 #![tactic(auto)]
 
-mod alone;
-mod block;
+mod flight;
 mod law;
 mod reading;
 mod record;
 mod rows;
 mod saved;
+mod turns;
 mod writing;
 
 pub use law::fit_law;
 pub use reading::{read_parts, read_state};
 pub use saved::Saved;
-pub use writing::write_state;
+pub use writing::{write_onward_state, write_state};

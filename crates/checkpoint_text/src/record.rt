@@ -1,9 +1,10 @@
 // The record of the sends that may still be heard.
-ghost use Rattle.std.specs.Prelude.{◌≡◌, ◌<◌, ◌≤◌, ◌+◌, ◌^◌, ◌++◌, ◌⊎◌, length, IfOk, OnOk};
+ghost use Rattle.std.specs.Prelude.{◌≡◌, ◌<◌, ◌≤◌, ◌+◌, ◌^◌, ◌++◌, ◌∷◌, [], length, IfOk, OnOk};
 ghost use Rattle.std.specs.List.{All, filter};
 ghost use Rattle.world_core.specs.Chain.{Rises, log_of};
 ghost use Rattle.world_core.specs.Kept.{is_kept};
 ghost use Rattle.checkpoint_text.specs.Paused.{CanPost};
+ghost use Rattle.checkpoint_text.specs.Turns.{Grows};
 
 use air_base::Send;
 use avr_base::NoMemory;
@@ -36,23 +37,16 @@ pub fn record_of(alloc: Global, sends: &[Send], room: usize) -> Result<SendLog, 
     Ok(log)
 }
 
-// Drops what is over at the cycle `floor`, and takes more room where less than half would be free behind `more` sends
-// more: so a send is copied a few times at most, however often a record is full.
-fn make_room(
-    alloc: Global,
-    topo: &Topo,
-    log: &mut SendLog,
-    more: usize,
-    floor: u64,
-) -> Result<(), NoMemory>
-    requires more { more < 2 ^ 63 }
+// Drops what is over at the cycle `floor`, and takes more room where less than half would be free: so a send is copied a
+// few times at most, however often a record is full.
+fn make_room(alloc: Global, topo: &Topo, log: &mut SendLog, floor: u64) -> Result<(), NoMemory>
     requires nodes { All (λ x. x.node < 64) log.old.sends }
     requires rises { Rises log.old.sends }
     ensures sends { OnOk result (log.new.sends ≡ filter (is_kept topo.now floor) log.old.sends) }
-    ensures room { OnOk result (length log.new.sends + more ≤ log.new.room) }
+    ensures room { OnOk result (length log.new.sends < log.new.room) }
 {
     log.cut(topo, floor);
-    let room = (log.sends().len() + more).saturating_mul(2);
+    let room = (log.sends().len() + 1).saturating_mul(2);
     if room <= log.room() {
         return Ok(());
     }
@@ -61,37 +55,39 @@ fn make_room(
     Ok(())
 }
 
-// Puts sends into a record that has no room for them, behind what of it is not over at the cycle `floor`.
+// Puts a send into a record that has no room for it, behind what of it is not over at the cycle `floor`.
 fn post_to_full(
     alloc: Global,
     topo: &Topo,
     log: &mut SendLog,
-    sends: &[Send],
+    send: Send,
     floor: u64,
 ) -> Result<(), NoMemory>
-    requires { CanPost log.old.sends sends.now }
-    ensures { OnOk result (log.new.sends ≡ filter (is_kept topo.now floor) log.old.sends ++ sends.now) }
+    requires node { send.node < 64 }
+    requires behind { CanPost send.node send.cycle log.old.sends }
+    ensures { OnOk result (log.new.sends ≡ filter (is_kept topo.now floor) log.old.sends ++ send ∷ []) }
 {
-    make_room(alloc, topo, log, sends.len(), floor)?;
-    append(log, sends);
+    make_room(alloc, topo, log, floor)?;
+    log.push(send);
     Ok(())
 }
 
-/// Puts sends into the record, behind those that it has. Where there is no room for them, what is over at the cycle
+/// Puts a send into the record, behind those that it has. Where there is no room for it, what is over at the cycle
 /// `floor` is dropped first.
 pub fn post(
     alloc: Global,
     topo: &Topo,
     log: &mut SendLog,
-    sends: &[Send],
+    send: Send,
     floor: u64,
 ) -> Result<(), NoMemory>
-    requires { CanPost log.old.sends sends.now }
-    ensures { OnOk result ((log.new.sends ≡ log.old.sends ++ sends.now) ⊎ (log.new.sends ≡ filter (is_kept topo.now floor) log.old.sends ++ sends.now)) }
+    requires node { send.node < 64 }
+    requires behind { CanPost send.node send.cycle log.old.sends }
+    ensures { OnOk result (Grows topo.now floor log.old.sends send log.new.sends) }
 {
-    if log.room() < log.sends().len() + sends.len() {
-        return post_to_full(alloc, topo, log, sends, floor);
+    if log.room() <= log.sends().len() {
+        return post_to_full(alloc, topo, log, send, floor);
     }
-    append(log, sends);
+    log.push(send);
     Ok(())
 }

@@ -7,11 +7,10 @@ ghost use Rattle.node_core.specs.Cycle.{end_row};
 ghost use Rattle.node_core.specs.State.{NodeState};
 ghost use Rattle.node_core.specs.declared.row.Row.{Row};
 ghost use Rattle.node_runner.specs.Run.{rows_upto};
-ghost use Rattle.checkpoint_text.specs.Alone.{node_in};
 ghost use Rattle.checkpoint_text.specs.Onward.{onward};
-ghost use Rattle.checkpoint_text.specs.Paused.{IsPaused, IsGathered, ends_of};
+ghost use Rattle.checkpoint_text.specs.Paused.{IsPaused, IsGathered, ends_of, node_in};
 
-use crate::block::run_to;
+use crate::flight::run_to;
 use avr_base::NoMemory;
 use node_core::{Node, Row};
 use node_runner::{Scenario, put_behind, sort};

@@ -1,18 +1,25 @@
 // A run that goes on from a saved state.
-ghost use Rattle.std.specs.Prelude.{◌≡◌, ◌<◌, ◌≤◌, ◌+◌, ◌++◌, ◌==◌, [], min, true, false, length, IfOk, OnOk};
+ghost use Rattle.std.specs.Prelude.{◌≡◌, ℕ, ◌<◌, ◌≤◌, ◌+◌, ◌++◌, ◌==◌, [], min, true, false, length, slice_index_or, IfOk, OnOk};
 ghost use Rattle.std.specs.List.{All};
 ghost use Rattle.node_runner.specs.Scenario.{IsScenario};
 ghost use Rattle.world_core.specs.Kept.{epoch};
+ghost use Rattle.air_base.specs.NodeRun.{Timed};
+ghost use Rattle.node_core.specs.declared.row.Row.{Row};
+ghost use Rattle.node_core.specs.State.{NodeState};
 ghost use Rattle.node_runner.specs.Run.{rows_upto};
+ghost use Rattle.world_core.specs.Order.{node_at};
 ghost use Rattle.checkpoint_text.specs.Onward.{CanResume, IsFit, onward};
 ghost use Rattle.checkpoint_text.specs.NodeOf.{node_of};
 ghost use Rattle.checkpoint_text.specs.Paused.{AllRestored};
+ghost use Rattle.checkpoint_text.specs.State.{kept_of};
 
 use crate::record::record_of;
 use crate::rows::rows_to;
+use air_base::Send;
 use avr_base::NoMemory;
 use node_core::{Node, RestoreFault, Row};
 use node_runner::Scenario;
+use send_order::ordered;
 use state_text::{NodeParts, StateParts};
 use std::alloc::Global;
 use std::marker::Model;
@@ -148,6 +155,29 @@ impl Saved {
         ensures sound { IsScenario self.now.scenario }
     {
         self.floor == self.limit
+    }
+
+    /// Its nodes, in order of number: each as it is at the cycle reached. Not after `NoMemory`.
+    pub fn nodes(&self) -> &[Node]
+        requires { self.now.failed ≡ false }
+        ensures count { length result.now ≡ self.now.scenario.topo.nodes }
+        ensures states { (k : ℕ) (d : Timed NodeState Row) → k < self.now.scenario.topo.nodes → (slice_index_or result.now k d).state ≡ node_at (onward self.now.scenario self.now.state) k self.now.floor }
+    {
+        &self.nodes
+    }
+
+    /// The sends that can still be heard in the cycle reached or later, in order of cycle, then node, those of the state
+    /// included. The scenario is the one of the state. Not after `NoMemory`.
+    pub fn sends(&self, scenario: &Scenario) -> Result<Vec<Send>, NoMemory>
+        requires same { scenario.now ≡ self.now.scenario }
+        requires sound { self.now.failed ≡ false }
+        ensures { IfOk result (λ sends. sends.items ≡ kept_of (onward scenario.now self.now.state) self.now.floor) }
+    {
+        let all = self.log.sends();
+        let mut kept = record_of(self.alloc, all, all.len())?;
+        kept.cut(scenario.lawful_topo(), self.floor);
+        let sends = ordered(self.alloc, kept.sends())?;
+        Ok(sends)
     }
 
     /// The rows of the next epoch, cycle by cycle and in a cycle node by node, with the last row of each node after the

@@ -4,8 +4,10 @@ ghost use Rattle.sim_io.specs.Outside.{Rose, TookFront, extended};
 ghost use Rattle.node_runner.specs.Place.{Place, state_at};
 ghost use Rattle.state_text.specs.Text.{state_text};
 ghost use Rattle.state_text.specs.Writing.{node_of};
-ghost use Rattle.checkpoint_text.specs.State.{IsAt, parts_of, saved_with};
+ghost use Rattle.checkpoint_text.specs.Onward.{onward};
+ghost use Rattle.checkpoint_text.specs.State.{IsAt, parts_of, saved_with, state_with, stood};
 
+use crate::saved::Saved;
 use air_base::Send;
 use node_core::Node;
 use node_runner::{Runner, Scenario};
@@ -67,6 +69,70 @@ impl<'a> Nodes for Runners<'a> {
     fn sram(&self, node: usize, place: usize) -> u8 {
         self.node(node).sram(0x0100 + place as u16)
     }
+}
+
+// The nodes of a run onward.
+#[derive(Drop)]
+struct Stood<'a> {
+    nodes: &'a [Node],
+}
+
+impl<'a> Model for Stood<'a> {
+    ghost use Rattle.std.specs.Prelude.{List};
+    ghost use Rattle.air_base.specs.NodeRun.{Timed};
+    ghost use Rattle.node_core.specs.declared.row.Row.{Row};
+    ghost use Rattle.node_core.specs.State.{NodeState};
+
+    ghost Value = { List (Timed NodeState Row) };
+
+    ghost view = { λ s. s.nodes.now };
+}
+
+// The node at a place.
+fn stood_at(nodes: &[Node], node: usize) -> &Node
+    requires { node < length nodes.now }
+    ensures { parts_of result.now.state ≡ node_of (stood nodes.now) node }
+{
+    &nodes[node]
+}
+
+impl<'a> Nodes for Stood<'a> {
+    ghost nodes = { λ nodes. stood nodes };
+
+    fn count(&self) -> usize {
+        self.nodes.len()
+    }
+
+    fn numbers(&self, node: usize) -> [u64; 108] {
+        stood_at(self.nodes, node).numbers()
+    }
+
+    fn io(&self, node: usize, place: usize) -> u8 {
+        stood_at(self.nodes, node).io(0x20 + place as u16)
+    }
+
+    fn sram(&self, node: usize, place: usize) -> u8 {
+        stood_at(self.nodes, node).sram(0x0100 + place as u16)
+    }
+}
+
+/// Writes the text of the state of a run onward at the cycle that it has reached, with these sends, of which `sends`
+/// has those that may still be heard. At a fault a front of the text was taken, and the sink's count rose.
+pub fn write_onward_state<O: Sink>(
+    saved: &Saved,
+    sends: &[Send],
+    sink: &mut O,
+) -> Result<(), SinkFault>
+    requires { saved.now.failed ≡ false }
+    ensures taken { OnOk result (O.taken sink.new ≡ extended (O.taken sink.old) (state_text (state_with (onward saved.now.scenario saved.now.state) saved.now.floor sends.now))) }
+    ensures ok { OnOk result (O.faults sink.new ≡ O.faults sink.old) }
+
+    ensures front { OnErr result (TookFront (O.taken sink.old) (state_text (state_with (onward saved.now.scenario saved.now.state) saved.now.floor sends.now)) (O.taken sink.new)) }
+    ensures later { O.faults sink.old ≤ O.faults sink.new }
+    ensures rose { OnErr result (Rose (O.faults sink.old) (O.faults sink.new)) }
+{
+    let nodes = saved.nodes();
+    write(saved.cycle(), &Stood { nodes }, sends, sink)
 }
 
 /// Writes the text of the state of a run of the scenario at `cycle`: of all nodes, each with no sample unanswered and

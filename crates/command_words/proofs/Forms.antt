@@ -1,11 +1,18 @@
 -- The forms of accepted words, told apart.
-use Rattle.std.proofs.Common.{◌≡◌, ℕ, ◌&&◌, if◌then◌else◌, Bool, true, false, option_map, List, Option, Some, None, [], ◌∷◌, codes, refl, sym}
+use Rattle.std.proofs.Common.{◌≡◌, ℕ, arith, nat_le, ◌&&◌, if◌then◌else◌, Bool, true, false, option_map, List, Option, Some, None, [], ◌∷◌, codes, refl, sym}
 use Rattle.std.proofs.lemmas.Bool.{and_parts}
+use Rattle.std.proofs.lemmas.Bool.Decides.{nat_tests}
 use Rattle.std.proofs.lemmas.Slice.Eq.{bytes_eq-Decides}
 use Rattle.std.specs.Prelude.{IfSome}
 use Rattle.command_words.specs.declared.command.Command.{Command}
-use Rattle.command_words.specs.Words.{Asked, Node, Run, RunPlain, Monitor, Sniff, Check, Disasm, Asm, Make, Head, Save, Resume, as_make, as_plain_run, as_resume, asked_by, cycles_of, epochs_of, file_behind, is_file, is_word, or_else, sample_of, shown, with_number, IsInLimits}
+use Rattle.command_words.specs.Words.{Asked, Node, Run, RunPlain, Monitor, Sniff, Check, Disasm, Asm, Make, Head, Save, Resume, HeadOn, SaveOn, MonitorSpan, as_make, as_plain_run, as_resume, as_span, asked_by, cycles_of, epochs_of, bound_of, file_behind, in_order, is_file, is_word, or_else, sample_of, shown, span_of, with_number, with_state, IsInLimits}
 use Rattle.command_words.proofs.Numerals.{number_limits}
+
+-- the two numbers of a span
+pub record Span (from to : List ℕ) (a b : ℕ) : Type 0 where
+  pub from_is : bound_of from ≡ Some a
+  pub to_is : bound_of to ≡ Some b
+  pub order : nat_le a b ≡ true
 
 -- words that ask for something, each form with what it says
 pub data Form : List (List ℕ) → Asked → Type 0 where
@@ -21,6 +28,9 @@ pub data Form : List (List ℕ) → Asked → Type 0 where
   IsHead : (file epochs : List ℕ) (n : ℕ) → is_file file ≡ true → epochs_of epochs ≡ Some n → Form (codes "head" ∷ file ∷ epochs ∷ []) (Head file n)
   IsSave : (file epochs : List ℕ) (n : ℕ) → is_file file ≡ true → epochs_of epochs ≡ Some n → Form (codes "save" ∷ file ∷ epochs ∷ []) (Save file n)
   IsResume : (file state : List ℕ) → is_file file ≡ true → is_file state ≡ true → Form (codes "resume" ∷ file ∷ state ∷ []) (Resume file state)
+  IsHeadOn : (file epochs state : List ℕ) (n : ℕ) → is_file file ≡ true → epochs_of epochs ≡ Some n → is_file state ≡ true → Form (codes "head" ∷ file ∷ epochs ∷ state ∷ []) (HeadOn file n state)
+  IsSaveOn : (file epochs state : List ℕ) (n : ℕ) → is_file file ≡ true → epochs_of epochs ≡ Some n → is_file state ≡ true → Form (codes "save" ∷ file ∷ epochs ∷ state ∷ []) (SaveOn file n state)
+  IsMonitorSpan : (file from to : List ℕ) (a b : ℕ) → is_file file ≡ true → Span from to a b → Form (codes "monitor" ∷ file ∷ from ∷ to ∷ []) (MonitorSpan file a b)
 
 same : (name word : List ℕ) → is_word name word ≡ true → word ≡ name
 same name word h = (bytes_eq-Decides word name).0 h
@@ -45,6 +55,65 @@ module _ (name : List ℕ) (read : List ℕ → Option ℕ) (made : List ℕ →
   of_number (a ∷ b ∷ []) asked h = absurd (cc)
   of_number (word ∷ file ∷ number ∷ []) asked h = number_form word file number _ refl _ refl asked h
   of_number (a ∷ b ∷ c ∷ d ∷ more) asked h = absurd (cc)
+
+-- a command with a file, a number and a state
+module _ (name : List ℕ) (made : List ℕ → ℕ → List ℕ → Asked)
+    (form : (file number state : List ℕ) (n : ℕ) → is_file file ≡ true → epochs_of number ≡ Some n → is_file state ≡ true → Form (name ∷ file ∷ number ∷ state ∷ []) (made file n state)) where
+  state_form : (word file number state : List ℕ) (b : Bool) → b ≡ (is_word name word && is_file file && is_file state) → (o : Option ℕ) → o ≡ epochs_of number → (asked : Asked)
+      → (if b then option_map (λ n. made file n state) o else None) ≡ Some asked → Form (word ∷ file ∷ number ∷ state ∷ []) asked
+  state_form word file number state false e o f asked h = absurd (cc)
+  state_form word file number state true e None f asked h = absurd (cc)
+  state_form word file number state true e (Some n) f asked h =
+      let p = and_parts (is_word name word && is_file file) (is_file state) (sym e) in
+      let q = and_parts (is_word name word) (is_file file) p.0 in
+      let w : word ≡ name = same name word q.0 in
+      let a : made file n state ≡ asked = cc in
+      rw (w, ← a) (form file number state n q.1 (sym f) p.1)
+
+  of_state : (words : List (List ℕ)) (asked : Asked) → with_state name made words ≡ Some asked → Form words asked
+  unfolding with_state
+  of_state [] asked h = absurd (cc)
+  of_state (a ∷ []) asked h = absurd (cc)
+  of_state (a ∷ b ∷ []) asked h = absurd (cc)
+  of_state (a ∷ b ∷ c ∷ []) asked h = absurd (cc)
+  of_state (word ∷ file ∷ number ∷ state ∷ []) asked h = state_form word file number state _ refl _ refl asked h
+  of_state (a ∷ b ∷ c ∷ d ∷ e ∷ more) asked h = absurd (cc)
+
+-- two words that are a span
+span_if : (from to : List ℕ) (a b : ℕ) (t : Bool) → t ≡ nat_le a b → bound_of from ≡ Some a → bound_of to ≡ Some b → (p : ℕ × ℕ)
+    → (if t then Some (a, b) else None) ≡ Some p → Span from to p.0 p.1
+span_if from to a b false e f g p h = absurd (cc)
+span_if from to a b true e f g p h =
+    let s : (a, b) ≡ p = cc in
+    rw (← s) (record { from_is = f; to_is = g; order = sym e })
+
+span_parts : (from to : List ℕ) (o q : Option ℕ) → o ≡ bound_of from → q ≡ bound_of to → (p : ℕ × ℕ) → in_order o q ≡ Some p → Span from to p.0 p.1
+span_parts from to (Some a) (Some b) f g p h = span_if from to a b _ refl (sym f) (sym g) p h
+span_parts from to (Some a) None f g p h = absurd (cc)
+span_parts from to None q f g p h = absurd (cc)
+
+span_given : (from to : List ℕ) (p : ℕ × ℕ) → span_of from to ≡ Some p → Span from to p.0 p.1
+unfolding span_of
+span_given from to p h = span_parts from to _ _ refl refl p h
+
+span_form : (word file from to : List ℕ) (b : Bool) → b ≡ (is_word (codes "monitor") word && is_file file) → (o : Option (ℕ × ℕ)) → o ≡ span_of from to → (asked : Asked)
+    → (if b then option_map (λ p. MonitorSpan file p.0 p.1) o else None) ≡ Some asked → Form (word ∷ file ∷ from ∷ to ∷ []) asked
+span_form word file from to false e o f asked h = absurd (cc)
+span_form word file from to true e None f asked h = absurd (cc)
+span_form word file from to true e (Some p) f asked h =
+    let q = and_parts (is_word (codes "monitor") word) (is_file file) (sym e) in
+    let w : word ≡ codes "monitor" = same (codes "monitor") word q.0 in
+    let a : MonitorSpan file p.0 p.1 ≡ asked = cc in
+    rw (w, ← a) (IsMonitorSpan file from to p.0 p.1 q.1 (span_given from to p (sym f)))
+
+of_span : (words : List (List ℕ)) (asked : Asked) → as_span words ≡ Some asked → Form words asked
+unfolding as_span
+of_span [] asked h = absurd (cc)
+of_span (a ∷ []) asked h = absurd (cc)
+of_span (a ∷ b ∷ []) asked h = absurd (cc)
+of_span (a ∷ b ∷ c ∷ []) asked h = absurd (cc)
+of_span (word ∷ file ∷ from ∷ to ∷ []) asked h = span_form word file from to _ refl _ refl asked h
+of_span (a ∷ b ∷ c ∷ d ∷ e ∷ more) asked h = absurd (cc)
 
 resume_form : (word file state : List ℕ) (b : Bool) → b ≡ (is_word (codes "resume") word && is_file file && is_file state) → (asked : Asked)
     → (if b then Some (Resume file state) else None) ≡ Some asked → Form (word ∷ file ∷ state ∷ []) asked
@@ -150,7 +219,10 @@ form_of words asked h =
     (either words asked (as_make words) _ (of_make words asked)
     (either words asked (with_number (codes "head") epochs_of Head words) _ (of_number (codes "head") epochs_of Head IsHead words asked)
     (either words asked (with_number (codes "save") epochs_of Save words) _ (of_number (codes "save") epochs_of Save IsSave words asked)
-    (of_resume words asked))))))))))) h
+    (either words asked (as_resume words) _ (of_resume words asked)
+    (either words asked (with_state (codes "head") HeadOn words) _ (of_state (codes "head") HeadOn IsHeadOn words asked)
+    (either words asked (with_state (codes "save") SaveOn words) _ (of_state (codes "save") SaveOn IsSaveOn words asked)
+    (of_span words asked)))))))))))))) h
 
 pub in_limits : (words : List (List ℕ)) (asked : Asked) → Form words asked → IsInLimits asked
 in_limits _ _ (IsNode file cycles n f e) = number_limits 8 1 10000000 cycles n e
@@ -165,6 +237,11 @@ in_limits _ _ (IsMake number n e) = (number_limits 5 0 65535 number n e).1
 in_limits _ _ (IsHead file epochs n f e) = number_limits 7 1 9999999 epochs n e
 in_limits _ _ (IsSave file epochs n f e) = number_limits 7 1 9999999 epochs n e
 in_limits _ _ (IsResume file state f g) = tt
+in_limits _ _ (IsHeadOn file epochs state n f e g) = number_limits 7 1 9999999 epochs n e
+in_limits _ _ (IsSaveOn file epochs state n f e g) = number_limits 7 1 9999999 epochs n e
+in_limits _ _ (IsMonitorSpan file from to a b f s) =
+    let order : nat_le a b ≡ true = s.order in
+    (grind (arith, nat_tests), (number_limits 13 0 1099511627776 to b s.to_is).1)
 
 -- a command that is what the words ask for
 pub command_in_limits : (words : List (List ℕ)) (command : Option Command) → option_map shown command ≡ asked_by words → IfSome command (λ o. IsInLimits (shown o))

@@ -1,14 +1,14 @@
 -- How the words of each form are split.
-use Rattle.std.proofs.Common.{◌≡◌, ℕ, is_some, ◌==◌, Bool, true, false, not, List, Option, Some, None, [], ◌∷◌, refl, sym, ◌∙◌}
+use Rattle.std.proofs.Common.{◌≡◌, ℕ, is_some, ◌==◌, Bool, true, false, not, List, Option, Some, None, [], ◌∷◌, refl, sym, ap, ◌∙◌, option_map}
 use Rattle.std.specs.Str.{bytes_eq}
 use Rattle.clap.specs.Lexer.{strip_byte}
 use Rattle.clap.specs.Words.{subcommand_of, takes}
 use Rattle.clap.proofs.OnLiterals.{clap_on_literals}
-use Rattle.command_words.specs.Words.{Asked, Node, Run, RunPlain, Monitor, Sniff, Check, Disasm, Asm, Make, Head, Save, Resume, asked_by, is_file}
+use Rattle.command_words.specs.Words.{Asked, Node, Run, RunPlain, Monitor, Sniff, Check, Disasm, Asm, Make, Head, Save, Resume, HeadOn, SaveOn, MonitorSpan, asked_by, epochs_of, is_file, span_of}
 use Rattle.command_words.specs.Apps.{the_app}
-use Rattle.command_words.specs.Split.{asked_in, asked_of, cut_in, read_in, watch_in}
+use Rattle.command_words.specs.Split.{asked_in, asked_of, cut_in, from_in, read_in, watch_in, within_in}
 use Rattle.command_words.proofs.Numerals.{number_file}
-use Rattle.command_words.proofs.Forms.{Form, IsNode, IsRun, IsPlainRun, IsMonitor, IsSniff, IsCheck, IsDisasm, IsAsm, IsMake, IsHead, IsSave, IsResume, form_of}
+use Rattle.command_words.proofs.Forms.{Form, Span, IsNode, IsRun, IsPlainRun, IsMonitor, IsSniff, IsCheck, IsDisasm, IsAsm, IsMake, IsHead, IsSave, IsResume, IsHeadOn, IsSaveOn, IsMonitorSpan, form_of}
 
 -- a word that `clap` takes for a value
 record Plain (word : List ℕ) : Type 0 where
@@ -24,6 +24,10 @@ plain_file [] h = absurd (cc)
 plain_file (x ∷ xs) h =
     let no : (x == 45) ≡ false = not_false (x == 45) h in
     record { short = rw no refl; long = rw no refl }
+
+span_is : (from to : List ℕ) (m n : ℕ) → Span from to m n → span_of from to ≡ Some (m, n)
+unfolding span_of
+span_is from to m n s = rw (s.from_is, s.to_is, s.order) refl
 
 -- it takes the words
 pub taken : (words : List (List ℕ)) (asked : Asked) → Form words asked → takes the_app words ≡ true
@@ -52,6 +56,21 @@ taken _ _ (IsResume file state f g) =
     let a = plain_file file f in
     let b = plain_file state g in
     simp (a.short, a.long, b.short, b.long) (refl {a = true})
+taken _ _ (IsHeadOn file epochs state n f e g) =
+    let a = plain_file file f in
+    let b = plain_file epochs (number_file 7 1 9999999 epochs n e) in
+    let c = plain_file state g in
+    simp (a.short, a.long, b.short, b.long, c.short, c.long) (refl {a = true})
+taken _ _ (IsSaveOn file epochs state n f e g) =
+    let a = plain_file file f in
+    let b = plain_file epochs (number_file 7 1 9999999 epochs n e) in
+    let c = plain_file state g in
+    simp (a.short, a.long, b.short, b.long, c.short, c.long) (refl {a = true})
+taken _ _ (IsMonitorSpan file from to m n f s) =
+    let a = plain_file file f in
+    let b = plain_file from (number_file 13 0 1099511627776 from m s.from_is) in
+    let c = plain_file to (number_file 13 0 1099511627776 to n s.to_is) in
+    simp (a.short, a.long, b.short, b.long, c.short, c.long) (refl {a = true})
 
 -- and its matches ask for what the words ask for
 pub kept : (words : List (List ℕ)) (asked : Asked) → Form words asked → asked_of (subcommand_of the_app words) ≡ Some asked
@@ -80,6 +99,24 @@ kept _ _ (IsResume file state f g) =
     let a = plain_file file f in
     let b = plain_file state g in
     simp (a.short, a.long, b.short, b.long) (refl {a = Some (Resume file state)})
+kept _ _ (IsHeadOn file epochs state n f e g) =
+    let a = plain_file file f in
+    let b = plain_file epochs (number_file 7 1 9999999 epochs n e) in
+    let c = plain_file state g in
+    let asked : option_map (from_in Head HeadOn file (Some state)) (epochs_of epochs) ≡ Some (HeadOn file n state) = ap (option_map (from_in Head HeadOn file (Some state))) e in
+    simp (a.short, a.long, b.short, b.long, c.short, c.long) asked
+kept _ _ (IsSaveOn file epochs state n f e g) =
+    let a = plain_file file f in
+    let b = plain_file epochs (number_file 7 1 9999999 epochs n e) in
+    let c = plain_file state g in
+    let asked : option_map (from_in Save SaveOn file (Some state)) (epochs_of epochs) ≡ Some (SaveOn file n state) = ap (option_map (from_in Save SaveOn file (Some state))) e in
+    simp (a.short, a.long, b.short, b.long, c.short, c.long) asked
+kept _ _ (IsMonitorSpan file from to m n f s) =
+    let a = plain_file file f in
+    let b = plain_file from (number_file 13 0 1099511627776 from m s.from_is) in
+    let c = plain_file to (number_file 13 0 1099511627776 to n s.to_is) in
+    let asked : within_in file (Some from) to ≡ Some (MonitorSpan file m n) = ap (option_map (λ span. MonitorSpan file span.0 span.1)) (span_is from to m n s) in
+    simp (a.short, a.long, b.short, b.long, c.short, c.long) asked
 
 some_of : (o : Option Asked) → is_some o ≡ true → (asked : Asked) × (o ≡ Some asked)
 some_of None h = absurd (cc)

@@ -10,6 +10,10 @@ use Rattle.clap.specs.declared.builder.ArgAction.TheVariants.{SetTrue}
 abbrev pub required : Text → Rule
 required id = record (new_rule id) { required = true }
 
+-- a word that may stand at its place
+abbrev pub optional : Text → Rule
+optional id = new_rule id
+
 -- `--plain`
 abbrev pub plain_flag : Rule
 plain_flag = record (new_rule (codes "plain")) { long = Some (codes "plain"); action = Some SetTrue }
@@ -28,6 +32,14 @@ run_app = with_rule (with_rule (new_app (codes "run")) plain_flag) (required (co
 abbrev pub one_word_app : Text → Text → App
 one_word_app name id = with_rule (new_app name) (required id)
 
+-- a subcommand that cuts a run: a file, a number of epochs, and maybe the file of a state
+abbrev pub cut_app : Text → App
+cut_app name = with_rule (two_words_app name (codes "epochs")) (optional (codes "state"))
+
+-- a file, and maybe two cycles
+abbrev pub monitor_app : App
+monitor_app = with_rule (with_rule (one_word_app (codes "monitor") (codes "file")) (optional (codes "from"))) (optional (codes "to"))
+
 -- the words begin behind the program's name
 abbrev pub without_first : App → App
 without_first a = record a { top = record a.top { no_binary_name = true } }
@@ -38,7 +50,7 @@ simulating app = with_subcommand (with_subcommand (with_subcommand app node_app.
 
 -- those that watch what they simulate
 abbrev pub watching : App → App
-watching app = with_subcommand (with_subcommand app (one_word_app (codes "monitor") (codes "file")).top) (one_word_app (codes "sniff") (codes "file")).top
+watching app = with_subcommand (with_subcommand app monitor_app.top) (one_word_app (codes "sniff") (codes "file")).top
 
 -- those that simulate nothing
 abbrev pub reading : App → App
@@ -49,7 +61,7 @@ reading app =
 -- and those that cut a run, or go on with one
 abbrev pub cutting : App → App
 cutting app =
-    with_subcommand (with_subcommand (with_subcommand app (two_words_app (codes "head") (codes "epochs")).top) (two_words_app (codes "save") (codes "epochs")).top)
+    with_subcommand (with_subcommand (with_subcommand app (cut_app (codes "head")).top) (cut_app (codes "save")).top)
     (two_words_app (codes "resume") (codes "state")).top
 
 abbrev pub the_app : App

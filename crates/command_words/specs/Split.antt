@@ -1,9 +1,9 @@
 -- What the words that were split ask for.
-use Rattle.std.specs.Prelude.{List, [], codes, Option, Some, None, option_map, if◌then◌else◌}
+use Rattle.std.specs.Prelude.{ℕ, List, [], codes, Option, Some, None, option_map, if◌then◌else◌}
 use Rattle.std.specs.Option.{option_map_or}
 use Rattle.std.specs.Str.{bytes_eq}
 use Rattle.clap.specs.Words.{Row, Text, first_of}
-use Rattle.command_words.specs.Words.{Asked, Node, Run, RunPlain, Monitor, Sniff, Check, Disasm, Asm, Make, Head, Save, Resume, cycles_of, epochs_of, sample_of}
+use Rattle.command_words.specs.Words.{Asked, Node, Run, RunPlain, Monitor, Sniff, Check, Disasm, Asm, Make, Head, Save, Resume, HeadOn, SaveOn, MonitorSpan, cycles_of, epochs_of, sample_of, span_of}
 
 -- the word of this name, or no text
 abbrev pub text_in : Text → List Row → Text
@@ -20,11 +20,32 @@ make_in rows = option_map Make (sample_of (text_in (codes "number") rows))
 abbrev pub node_in : List Row → Option Asked
 node_in rows = option_map (Node (text_in (codes "file") rows)) (cycles_of (text_in (codes "cycles") rows))
 
+-- with the file of a state from that state on, without one from reset on
+abbrev pub from_in : (List ℕ → ℕ → Asked) → (List ℕ → ℕ → List ℕ → Asked) → List ℕ → Option Text → ℕ → Asked
+from_in reset onward file None epochs = reset file epochs
+from_in reset onward file (Some state) epochs = onward file epochs state
+
+abbrev pub head_in : List Row → Option Asked
+head_in rows =
+    option_map (from_in Head HeadOn (text_in (codes "file") rows) (first_of (codes "state") rows)) (epochs_of (text_in (codes "epochs") rows))
+
+abbrev pub save_in : List Row → Option Asked
+save_in rows =
+    option_map (from_in Save SaveOn (text_in (codes "file") rows) (first_of (codes "state") rows)) (epochs_of (text_in (codes "epochs") rows))
+
+-- over a span of cycles where one is given
+abbrev pub within_in : List ℕ → Option Text → Text → Option Asked
+within_in file None to = Some (Monitor file)
+within_in file (Some from) to = option_map (λ span. MonitorSpan file span.0 span.1) (span_of from to)
+
+abbrev pub monitor_in : List Row → Option Asked
+monitor_in rows = within_in (text_in (codes "file") rows) (first_of (codes "from") rows) (text_in (codes "to") rows)
+
 -- what a subcommand that cuts a run, or goes on with one, asks for with these words
 unfoldable pub cut_in : Text → List Row → Option Asked
 cut_in name rows =
-    if bytes_eq name (codes "head") then option_map (Head (text_in (codes "file") rows)) (epochs_of (text_in (codes "epochs") rows))
-    else if bytes_eq name (codes "save") then option_map (Save (text_in (codes "file") rows)) (epochs_of (text_in (codes "epochs") rows))
+    if bytes_eq name (codes "head") then head_in rows
+    else if bytes_eq name (codes "save") then save_in rows
     else if bytes_eq name (codes "resume") then Some (Resume (text_in (codes "file") rows) (text_in (codes "state") rows))
     else None
 
@@ -39,7 +60,7 @@ read_in name rows =
 -- what a subcommand that watches a run asks for with these words, or one of those that simulate nothing
 unfoldable pub watch_in : Text → List Row → Option Asked
 watch_in name rows =
-    if bytes_eq name (codes "monitor") then Some (Monitor (text_in (codes "file") rows))
+    if bytes_eq name (codes "monitor") then monitor_in rows
     else if bytes_eq name (codes "sniff") then Some (Sniff (text_in (codes "file") rows))
     else read_in name rows
 

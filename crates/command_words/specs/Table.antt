@@ -2,7 +2,7 @@
 use Rattle.std.specs.Prelude.{List, [], ◌∷◌, Some}
 use Rattle.clap.specs.Words.{App, Rule, new_app, new_rule, with_rule}
 use Rattle.clap.specs.declared.builder.ArgAction.TheVariants.{SetTrue}
-use Rattle.command_words.specs.Apps.{required}
+use Rattle.command_words.specs.Apps.{optional, required}
 use Rattle.command_words.specs.declared.building.Word.{Word}
 use Rattle.command_words.specs.declared.building.Word.TheVariants as word
 use Rattle.command_words.specs.declared.building.Form.{Form}
@@ -11,6 +11,7 @@ use Rattle.command_words.specs.declared.building.Form.{Form}
 abbrev pub rule_in : Word → Rule
 rule_in (word.Flag id) = record (new_rule id.now) { long = Some id.now; action = Some SetTrue }
 rule_in (word.Required id) = required id.now
+rule_in (word.Optional id) = optional id.now
 
 abbrev pub with_words : App → List Word → App
 with_words app [] = app

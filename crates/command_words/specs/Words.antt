@@ -33,6 +33,14 @@ pub data Asked : Type 0 where
   Save : (file : List ℕ) (epochs : ℕ) → Asked
   -- simulate the network of the scenario in this file from the state in that file on
   Resume : (file state : List ℕ) → Asked
+  -- simulate so many epochs of the network of the scenario in this file from the state in that file on
+  HeadOn : (file : List ℕ) (epochs : ℕ) (state : List ℕ) → Asked
+  -- simulate so many epochs of the network of the scenario in this file from the state in that file on, and write the
+  -- state in which it is then
+  SaveOn : (file : List ℕ) (epochs : ℕ) (state : List ℕ) → Asked
+  -- simulate the network of the scenario in this file, and write on what its nodes spent the cycles from one on and
+  -- below another
+  MonitorSpan : (file : List ℕ) (from to : ℕ) → Asked
 
 -- what the code's value asks for
 abbrev pub shown : Command → Asked
@@ -48,6 +56,9 @@ shown (variant.Make number) = Make number
 shown (variant.Head file epochs) = Head file.now epochs
 shown (variant.Save file epochs) = Save file.now epochs
 shown (variant.Resume file state) = Resume file.now state.now
+shown (variant.HeadOn file epochs state) = HeadOn file.now epochs state.now
+shown (variant.SaveOn file epochs state) = SaveOn file.now epochs state.now
+shown (variant.MonitorSpan file from to) = MonitorSpan file.now from to
 
 abbrev pub is_word : List ℕ → List ℕ → Bool
 is_word name word = pointwise ◌==◌ word name
@@ -75,6 +86,18 @@ sample_of word = number_of 5 0 65535 word
 -- N: one to seven decimal digits that write a number from 1 on
 abbrev pub epochs_of : List ℕ → Option ℕ
 epochs_of word = number_of 7 1 9999999 word
+
+-- FROM, or TO: one to thirteen decimal digits that write a cycle of at most 1,099,511,627,776
+abbrev pub bound_of : List ℕ → Option ℕ
+bound_of word = number_of 13 0 1099511627776 word
+
+abbrev pub in_order : Option ℕ → Option ℕ → Option (ℕ × ℕ)
+in_order (Some from) (Some to) = if nat_le from to then Some (from, to) else None
+in_order _ _ = None
+
+-- FROM TO: two cycles, the second not below the first
+unfoldable pub span_of : List ℕ → List ℕ → Option (ℕ × ℕ)
+span_of from to = in_order (bound_of from) (bound_of to)
 
 -- the FILE and the number of a command that has these two: `node FILE CYCLES`, `head FILE N`, `save FILE N`
 unfoldable pub with_number : List ℕ → (List ℕ → Option ℕ) → (List ℕ → ℕ → Asked) → List (List ℕ) → Option Asked
@@ -105,6 +128,20 @@ as_resume (command ∷ file ∷ state ∷ []) =
     if is_word (codes "resume") command && is_file file && is_file state then Some (Resume file state) else None
 as_resume _ = None
 
+-- the FILE, the N and the STATE of a command that has these three: `head FILE N STATE`, `save FILE N STATE`
+unfoldable pub with_state : List ℕ → (List ℕ → ℕ → List ℕ → Asked) → List (List ℕ) → Option Asked
+with_state name made (command ∷ file ∷ number ∷ state ∷ []) =
+    if is_word name command && is_file file && is_file state then option_map (λ epochs. made file epochs state) (epochs_of number)
+    else None
+with_state name made _ = None
+
+-- `monitor FILE FROM TO`
+unfoldable pub as_span : List (List ℕ) → Option Asked
+as_span (command ∷ file ∷ from ∷ to ∷ []) =
+    if is_word (codes "monitor") command && is_file file then option_map (λ span. MonitorSpan file span.0 span.1) (span_of from to)
+    else None
+as_span _ = None
+
 abbrev pub or_else : Option Asked → Option Asked → Option Asked
 or_else (Some asked) other = Some asked
 or_else None other = other
@@ -123,10 +160,13 @@ asked_by words =
     (or_else (as_make words)
     (or_else (with_number (codes "head") epochs_of Head words)
     (or_else (with_number (codes "save") epochs_of Save words)
-    (as_resume words)))))))))))
+    (or_else (as_resume words)
+    (or_else (with_state (codes "head") HeadOn words)
+    (or_else (with_state (codes "save") SaveOn words)
+    (as_span words))))))))))))))
 
--- the number of cycles, where there is one, is from 1 to 10,000,000, that of a sample at most 65,535, and that of
--- epochs from 1 to 9,999,999
+-- the number of cycles, where there is one, is from 1 to 10,000,000, that of a sample at most 65,535, that of epochs
+-- from 1 to 9,999,999, and a span ends not before it begins and at most at 1,099,511,627,776
 abbrev pub IsInLimits : Asked → Type 0
 IsInLimits (Node file cycles) = (1 ≤ cycles) × (cycles ≤ 10000000)
 IsInLimits (Run file) = Unit {0}
@@ -140,3 +180,6 @@ IsInLimits (Make number) = number ≤ 65535
 IsInLimits (Head file epochs) = (1 ≤ epochs) × (epochs ≤ 9999999)
 IsInLimits (Save file epochs) = (1 ≤ epochs) × (epochs ≤ 9999999)
 IsInLimits (Resume file state) = Unit {0}
+IsInLimits (HeadOn file epochs state) = (1 ≤ epochs) × (epochs ≤ 9999999)
+IsInLimits (SaveOn file epochs state) = (1 ≤ epochs) × (epochs ≤ 9999999)
+IsInLimits (MonitorSpan file from to) = (from ≤ to) × (to ≤ 1099511627776)

@@ -3,7 +3,7 @@
 ghost use Rattle.std.specs.Prelude.{[], ◌≡◌, ◌∷◌, is_some, map};
 ghost use Rattle.command_words.specs.Words.{asked_by};
 
-use crate::operands::{cycles, epochs, is_file, sample};
+use crate::operands::{cycles, epochs, is_file, sample, span};
 
 // Whether the word behind the name of a command that takes one is accepted.
 fn is_pair(command: &str, word: &str) -> bool
@@ -29,6 +29,17 @@ fn is_triple(command: &str, first: &str, second: &str) -> bool
     }
 }
 
+// Whether the words behind the name of a command that takes three are accepted.
+fn is_quadruple(command: &str, first: &str, second: &str, third: &str) -> bool
+    ensures { result ≡ is_some (asked_by (command.now ∷ first.now ∷ second.now ∷ third.now ∷ [])) }
+{
+    match command {
+        "head" | "save" => is_file(first) & is_file(third) & epochs(second).is_some(),
+        "monitor" => is_file(first) & span(second, third).is_some(),
+        _ => false,
+    }
+}
+
 /// Whether the words after the program's name are accepted.
 pub fn is_accepted(words: &[&str]) -> bool
     ensures { result ≡ is_some (asked_by (map (λ w. w.now) words.now)) }
@@ -36,6 +47,7 @@ pub fn is_accepted(words: &[&str]) -> bool
     match words {
         [command, word] => is_pair(command, word),
         [command, first, second] => is_triple(command, first, second),
+        [command, first, second, third] => is_quadruple(command, first, second, third),
         _ => false,
     }
 }

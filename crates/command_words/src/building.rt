@@ -14,6 +14,8 @@ enum Word {
     Flag(&'static str),
     // any word
     Required(&'static str),
+    // any word, or none
+    Optional(&'static str),
 }
 
 // One form of a command line.
@@ -39,7 +41,11 @@ static FORMS: [Form; 11] = [
     },
     Form {
         name: "monitor",
-        words: &[Word::Required("file")],
+        words: &[
+            Word::Required("file"),
+            Word::Optional("from"),
+            Word::Optional("to"),
+        ],
     },
     Form {
         name: "sniff",
@@ -59,11 +65,19 @@ static FORMS: [Form; 11] = [
     },
     Form {
         name: "head",
-        words: &[Word::Required("file"), Word::Required("epochs")],
+        words: &[
+            Word::Required("file"),
+            Word::Required("epochs"),
+            Word::Optional("state"),
+        ],
     },
     Form {
         name: "save",
-        words: &[Word::Required("file"), Word::Required("epochs")],
+        words: &[
+            Word::Required("file"),
+            Word::Required("epochs"),
+            Word::Optional("state"),
+        ],
     },
     Form {
         name: "resume",
@@ -78,6 +92,7 @@ fn arg_of<'w>(alloc: Global, word: &Word) -> Arg<'w>
     match *word {
         Word::Flag(id) => Arg::new(alloc, id).long(id).action(ArgAction::SetTrue),
         Word::Required(id) => Arg::new(alloc, id).required(true),
+        Word::Optional(id) => Arg::new(alloc, id),
     }
 }
 

@@ -4,28 +4,77 @@
 #[derive(Clone, Copy)]
 pub enum Command<'w> {
     /// `node FILE CYCLES`: simulate one node with this image for so many cycles, 1 to 10,000,000.
-    Node { file: &'w str, cycles: u64 },
+    Node {
+        file: &'w str,
+        cycles: u64,
+    },
     /// `run FILE`: simulate the network of this scenario.
-    Run { file: &'w str },
+    Run {
+        file: &'w str,
+    },
     /// `run --plain FILE`: simulate the network of this scenario on one thread.
-    RunPlain { file: &'w str },
+    RunPlain {
+        file: &'w str,
+    },
     /// `check FILE`: read this scenario and its images, and run nothing.
-    Check { file: &'w str },
+    Check {
+        file: &'w str,
+    },
     /// `disasm FILE`: list the instructions of this image.
-    Disasm { file: &'w str },
+    Disasm {
+        file: &'w str,
+    },
     /// `asm FILE`: write the program of this source in assembly as an image.
-    Asm { file: &'w str },
+    Asm {
+        file: &'w str,
+    },
     /// `monitor FILE`: simulate the network of this scenario, and write on what its nodes spent the window.
-    Monitor { file: &'w str },
+    Monitor {
+        file: &'w str,
+    },
     /// `sniff FILE`: simulate the network of this scenario, and write the frames that its nodes sent.
-    Sniff { file: &'w str },
+    Sniff {
+        file: &'w str,
+    },
     /// `make NUMBER`: simulate the sample network of this number, and count what came out.
-    Make { number: u16 },
+    Make {
+        number: u16,
+    },
     /// `head FILE N`: simulate the first epochs of the network of this scenario, 1 to 9,999,999.
-    Head { file: &'w str, epochs: u64 },
+    Head {
+        file: &'w str,
+        epochs: u64,
+    },
     /// `save FILE N`: simulate the first epochs of the network of this scenario, 1 to 9,999,999, and write the state in
     /// which it is then.
-    Save { file: &'w str, epochs: u64 },
+    Save {
+        file: &'w str,
+        epochs: u64,
+    },
     /// `resume FILE STATE`: simulate the network of this scenario from the state in this file on.
-    Resume { file: &'w str, state: &'w str },
+    Resume {
+        file: &'w str,
+        state: &'w str,
+    },
+    /// `head FILE N STATE`: simulate so many epochs of the network of this scenario, 1 to 9,999,999, from the state in
+    /// this file on.
+    HeadOn {
+        file: &'w str,
+        epochs: u64,
+        state: &'w str,
+    },
+    /// `save FILE N STATE`: simulate so many epochs of the network of this scenario, 1 to 9,999,999, from the state in
+    /// this file on, and write the state in which it is then.
+    SaveOn {
+        file: &'w str,
+        epochs: u64,
+        state: &'w str,
+    },
+    /// `monitor FILE FROM TO`: simulate the network of this scenario, and write on what its nodes spent the cycles from
+    /// one on and below another, which is not the lower one; both at most 1,099,511,627,776.
+    MonitorSpan {
+        file: &'w str,
+        from: u64,
+        to: u64,
+    },
 }

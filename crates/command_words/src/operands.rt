@@ -2,7 +2,7 @@
 ghost use Rattle.std.specs.Prelude.{◌≡◌, ◌≤◌, IfSome};
 ghost use Rattle.std.specs.Char.{is_ascii_digit};
 ghost use Rattle.std.specs.List.{list_all};
-ghost use Rattle.command_words.specs.Words.{cycles_of, epochs_of, is_file, number_of, sample_of};
+ghost use Rattle.command_words.specs.Words.{bound_of, cycles_of, epochs_of, is_file, number_of, sample_of, span_of};
 
 /// Whether a word names a file: it is not empty, and no option.
 pub fn is_file(word: &str) -> bool
@@ -23,7 +23,7 @@ fn all_digits(word: &str) -> bool
 // The number from `least` to `most` that a word gives in one to `digits` decimal digits, with no sign.
 #[tactic(auto, unfolding(crate::specs::Words::number_of))]
 fn number(word: &str, digits: usize, least: u64, most: u64) -> Option<u64>
-    requires { digits ≤ 8 }
+    requires { digits ≤ 13 }
     ensures value { result ≡ number_of digits least most word.now }
     ensures limits { IfSome result (λ n. (least ≤ n) × (n ≤ most)) }
 {
@@ -54,6 +54,31 @@ pub fn epochs(word: &str) -> Option<u64>
     ensures { result ≡ epochs_of word.now }
 {
     number(word, 7, 1, 9_999_999)
+}
+
+// The cycle that a word gives as a bound of a span.
+fn bound(word: &str) -> Option<u64>
+    ensures value { result ≡ bound_of word.now }
+    ensures limits { IfSome result (λ n. n ≤ 1099511627776) }
+{
+    number(word, 13, 0, 1 << 40)
+}
+
+/// The span of cycles that two words give: each one to thirteen decimal digits, no sign, at most 1,099,511,627,776,
+/// and the second not below the first.
+#[tactic(auto, unfolding(crate::specs::Words::span_of))]
+pub fn span(from: &str, to: &str) -> Option<(u64, u64)>
+    ensures { result ≡ span_of from.now to.now }
+{
+    match (bound(from), bound(to)) {
+        (Some(from), Some(to)) => {
+            if from > to {
+                return None;
+            }
+            Some((from, to))
+        }
+        _ => None,
+    }
 }
 
 /// The number of a sample that a word gives: one to five decimal digits, no sign, at most 65,535.

@@ -1,17 +1,23 @@
 // What the words that were split ask for.
 ghost use Rattle.std.specs.Prelude.{◌≡◌, option_map};
-ghost use Rattle.clap.specs.Words.{found_of, rows_of, subcommand_rows_of};
+ghost use Rattle.clap.specs.Words.{first_of, found_of, rows_of, subcommand_rows_of};
 ghost use Rattle.command_words.specs.Words.{shown};
-ghost use Rattle.command_words.specs.Split.{asked_in, asked_of, cut_in, make_in, node_in, read_in, run_in, text_in, watch_in};
+ghost use Rattle.command_words.specs.Split.{asked_in, asked_of, cut_in, head_in, make_in, monitor_in, node_in, read_in, run_in, save_in, text_in, watch_in};
 
 use crate::Command;
-use crate::operands::{cycles, epochs, sample};
+use crate::operands::{cycles, epochs, sample, span};
 use clap::ArgMatches;
+
+fn word_at<'w>(matches: &ArgMatches<'w>, id: &str) -> Option<&'w str>
+    ensures { option_map (λ s. s.now) result ≡ first_of id.now (rows_of (found_of matches.now)) }
+{
+    matches.get_str(id)
+}
 
 fn text_at<'w>(matches: &ArgMatches<'w>, id: &str) -> &'w str
     ensures { result.now ≡ text_in id.now (rows_of (found_of matches.now)) }
 {
-    match matches.get_str(id) {
+    match word_at(matches, id) {
         Some(text) => text,
         None => "",
     }
@@ -28,23 +34,63 @@ fn run_command<'w>(matches: &ArgMatches<'w>) -> Command<'w>
     }
 }
 
+fn head_command<'w>(matches: &ArgMatches<'w>) -> Option<Command<'w>>
+    ensures { option_map shown result ≡ head_in (rows_of (found_of matches.now)) }
+{
+    let file = text_at(matches, "file");
+    match epochs(text_at(matches, "epochs")) {
+        Some(epochs) => match word_at(matches, "state") {
+            Some(state) => Some(Command::HeadOn {
+                file,
+                epochs,
+                state,
+            }),
+            None => Some(Command::Head { file, epochs }),
+        },
+        None => None,
+    }
+}
+
+fn save_command<'w>(matches: &ArgMatches<'w>) -> Option<Command<'w>>
+    ensures { option_map shown result ≡ save_in (rows_of (found_of matches.now)) }
+{
+    let file = text_at(matches, "file");
+    match epochs(text_at(matches, "epochs")) {
+        Some(epochs) => match word_at(matches, "state") {
+            Some(state) => Some(Command::SaveOn {
+                file,
+                epochs,
+                state,
+            }),
+            None => Some(Command::Save { file, epochs }),
+        },
+        None => None,
+    }
+}
+
+fn monitor_command<'w>(matches: &ArgMatches<'w>) -> Option<Command<'w>>
+    ensures { option_map shown result ≡ monitor_in (rows_of (found_of matches.now)) }
+{
+    let file = text_at(matches, "file");
+    match word_at(matches, "from") {
+        Some(from) => match span(from, text_at(matches, "to")) {
+            Some((from, to)) => Some(Command::MonitorSpan { file, from, to }),
+            None => None,
+        },
+        None => Some(Command::Monitor { file }),
+    }
+}
+
 // What a subcommand that cuts a run, or goes on with one, asks for.
 #[tactic(auto, unfolding(crate::specs::Split::cut_in))]
 fn cutting_in<'w>(name: &str, matches: &ArgMatches<'w>) -> Option<Command<'w>>
     ensures { option_map shown result ≡ cut_in name.now (rows_of (found_of matches.now)) }
 {
-    let file = text_at(matches, "file");
     match name {
-        "head" => match epochs(text_at(matches, "epochs")) {
-            Some(epochs) => Some(Command::Head { file, epochs }),
-            None => None,
-        },
-        "save" => match epochs(text_at(matches, "epochs")) {
-            Some(epochs) => Some(Command::Save { file, epochs }),
-            None => None,
-        },
+        "head" => head_command(matches),
+        "save" => save_command(matches),
         "resume" => Some(Command::Resume {
-            file,
+            file: text_at(matches, "file"),
             state: text_at(matches, "state"),
         }),
         _ => None,
@@ -70,10 +116,11 @@ fn reading_in<'w>(name: &str, matches: &ArgMatches<'w>) -> Option<Command<'w>>
 fn watching_in<'w>(name: &str, matches: &ArgMatches<'w>) -> Option<Command<'w>>
     ensures { option_map shown result ≡ watch_in name.now (rows_of (found_of matches.now)) }
 {
-    let file = text_at(matches, "file");
     match name {
-        "monitor" => Some(Command::Monitor { file }),
-        "sniff" => Some(Command::Sniff { file }),
+        "monitor" => monitor_command(matches),
+        "sniff" => Some(Command::Sniff {
+            file: text_at(matches, "file"),
+        }),
         _ => reading_in(name, matches),
     }
 }

@@ -4,3 +4,4 @@ pub mod States
 pub mod Epochs
 pub mod Traces
 pub mod Statuses
+pub mod Onwards

@@ -1,53 +1,76 @@
 -- How the reading of a network ends, and what is left to do then.
-use Rattle.std.proofs.Common.{◌≡◌, ℕ, ◌*◌, ◌<◌, ◌≤◌, nat_lt, Bool, true, false, if◌then◌else◌, List, sym, ap, subst, arith}
+use Rattle.std.proofs.Common.{◌≡◌, ℕ, ◌*◌, ◌<◌, ◌≤◌, nat_le, nat_lt, Bool, true, false, if◌then◌else◌, List, sym, ap, subst, arith}
 use Rattle.std.proofs.lemmas.Bool.Decides.{nat_tests}
 use Rattle.ihex_loader.specs.Flash.{Image}
 use Rattle.scenario_file.specs.Scenario.{ScenarioParts}
+use Rattle.scenario_file.specs.declared.fault.ScenarioFault.TheVariants.{OutOfRange}
 use Rattle.world_core.specs.Kept.{epoch}
 use Rattle.node_runner.specs.Scenario.{ScenarioOf}
 use Rattle.state_text.specs.declared.fault.StateFault.TheVariants.{PastEnd}
+use Rattle.command_plans.specs.declared.trouble.ScenarioCause.TheVariants as scenario_cause
 use Rattle.command_plans.specs.declared.trouble.StateCause.TheVariants as cause
-use Rattle.command_plans.specs.Plan.{Plan, Give, Refuse, BadState, and_then, images_plan, scenario_plan}
+use Rattle.command_plans.specs.Plan.{Plan, Give, Refuse, BadScenario, BadState, and_then, images_plan, scenario_plan}
 use Rattle.command_plans.specs.Reading.{Files, Reached}
 use Rattle.command_plans.specs.Ends.{End, Reads, Stream}
 use Rattle.command_plans.specs.Parts.{StopsAt}
-use Rattle.command_plans.proofs.Steps.{both, goes_on, stops_on, stops_moved, stops_behind, reached_moved}
+use Rattle.command_plans.proofs.Steps.{both, goes_on, stops_on, stops_moved, stops_behind, reached_moved, through}
 use Rattle.commands.specs.Network.{network_of}
 use Rattle.commands.specs.Job.{Job}
-use Rattle.commands.specs.Plan.{cut_or, cut_plan, network_plan}
+use Rattle.commands.specs.Plan.{cut_or, cut_plan, images_for, network_plan, span_or, span_plan}
 use Rattle.commands.specs.Parts.{HasRead, IsShort, Ready, job_at}
 use Rattle.commands.specs.declared.job.Job.{Job as JobValue}
 
-module _ (files files' : Files) (name : List ℕ) where
-  -- what is read behind the scenario
-  abbrev Rest : ScenarioParts → Plan ScenarioOf
-  Rest parts = and_then (images_plan parts.images) (λ images. Give (network_of parts images))
-
-  pub stops_at_scenario : (store store' : Reads) (end : End) → StopsAt files (scenario_plan name) store store' end → StopsAt files (network_plan name) store store' end
-  stops_at_scenario store store' end stops = stops_behind files (scenario_plan name) Rest store store' end stops
+-- a plan for what a scenario says, and behind it its images
+module _ (files files' : Files) (first : Plan ScenarioParts) where
+  pub stops_at_scenario : (store store' : Reads) (end : End) → StopsAt files first store store' end → StopsAt files (and_then first images_for) store store' end
+  stops_at_scenario store store' end stops = stops_behind files first images_for store store' end stops
 
   pub stops_at_image : (parts : ScenarioParts) (store mid store' : Reads) (end : End) → files' ≡ files → mid ≡ store
-      → Reached files (scenario_plan name) (Give parts) → StopsAt files' (images_plan parts.images) mid store' end → StopsAt files (network_plan name) store store' end
+      → Reached files first (Give parts) → StopsAt files' (images_plan parts.images) mid store' end → StopsAt files (and_then first images_for) store store' end
   stops_at_image parts store mid store' end e f reached stops =
-      stops_on files (network_plan name) (Rest parts) store store' end (goes_on files (scenario_plan name) parts Rest reached)
+      stops_on files (and_then first images_for) (images_for parts) store store' end (goes_on files first parts images_for reached)
       (stops_behind files (images_plan parts.images) (λ images. Give (network_of parts images)) store store' end
       (stops_moved files files' (images_plan parts.images) store mid store' end e f stops))
 
   pub network_reached : (parts : ScenarioParts) (images : List Image) (network : ScenarioOf) → files' ≡ files
-      → Reached files (scenario_plan name) (Give parts) → Reached files' (images_plan parts.images) (Give images)
-      → network ≡ network_of parts images → Reached files (network_plan name) (Give network)
+      → Reached files first (Give parts) → Reached files' (images_plan parts.images) (Give images)
+      → network ≡ network_of parts images → Reached files (and_then first images_for) (Give network)
   network_reached parts images network e reached more same =
       let made : ScenarioOf = network_of parts images in
-      subst (λ n. Reached files (network_plan name) (Give n)) (sym same)
-      (both files (network_plan name) (Rest parts) (Give made) (goes_on files (scenario_plan name) parts Rest reached)
+      subst (λ n. Reached files (and_then first images_for) (Give n)) (sym same)
+      (both files (and_then first images_for) (images_for parts) (Give made) (goes_on files first parts images_for reached)
       (goes_on files (images_plan parts.images) images (λ it. Give (network_of parts it)) (reached_moved files files' (images_plan parts.images) (Give images) e more)))
+
+-- ---- a network with another window
+
+within : (a b : ℕ) → a ≤ b → nat_le a b ≡ true
+within a b h = grind (arith, nat_tests)
+
+not_within : (a b : ℕ) → b < a → nat_le a b ≡ false
+not_within a b h = grind (arith, nat_tests)
+
+module _ (files : Files) (name : List ℕ) (from to : ℕ) (parts : ScenarioParts) (reached : Reached files (scenario_plan name) (Give parts)) where
+  abbrev Spanned : Bool → Plan ScenarioParts
+  Spanned b = if b then Give (record parts { window = (from, to) }) else Refuse (BadScenario name (scenario_cause.Faulty OutOfRange))
+
+  spanned : Reached files (and_then (scenario_plan name) (span_or name from to)) (span_or name from to parts)
+  spanned = goes_on files (scenario_plan name) parts (span_or name from to) reached
+
+  pub span_reached : to ≤ parts.topology.limit → Reached files (and_then (scenario_plan name) (span_or name from to)) (Give (record parts { window = (from, to) }))
+  span_reached h = subst (λ (b : Bool). Reached files (and_then (scenario_plan name) (span_or name from to)) (Spanned b)) (within to parts.topology.limit h) spanned
+
+  pub span_refused : parts.topology.limit < to → Reached files (span_plan name from to) (Refuse (BadScenario name (scenario_cause.Faulty OutOfRange)))
+  unfolding and_then
+  span_refused h =
+      through files (and_then (scenario_plan name) (span_or name from to)) (Refuse (BadScenario name (scenario_cause.Faulty OutOfRange))) images_for
+      (subst (λ (b : Bool). Reached files (and_then (scenario_plan name) (span_or name from to)) (Spanned b)) (not_within to parts.topology.limit h) spanned)
 
 -- ---- a network whose run is cut
 
-below : (a b : ℕ) → a < b → nat_lt a b ≡ true
+pub below : (a b : ℕ) → a < b → nat_lt a b ≡ true
 below a b h = grind (arith, nat_tests)
 
-not_below : (a b : ℕ) → b ≤ a → nat_lt a b ≡ false
+pub not_below : (a b : ℕ) → b ≤ a → nat_lt a b ≡ false
 not_below a b h = grind (arith, nat_tests)
 
 module _ (files : Files) (name : List ℕ) (epochs : ℕ) (network : ScenarioOf) (reached : Reached files (network_plan name) (Give network)) where

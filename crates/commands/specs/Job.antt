@@ -1,5 +1,5 @@
 -- What a command writes.
-use Rattle.std.specs.Prelude.{ℕ, ◌*◌, List}
+use Rattle.std.specs.Prelude.{ℕ, ◌+◌, ◌*◌, List}
 use Rattle.ihex_loader.specs.Flash.{Image}
 use Rattle.ihex_loader.specs.Hex.{hex_of}
 use Rattle.world_core.specs.Kept.{epoch}
@@ -7,7 +7,7 @@ use Rattle.node_runner.specs.Scenario.{ScenarioOf, fleet_of}
 use Rattle.run_reports.specs.Profiles.{profiles_text}
 use Rattle.run_reports.specs.Frames.{frames_text}
 use Rattle.checkpoint_text.specs.Onward.{onward}
-use Rattle.checkpoint_text.specs.State.{saved_at}
+use Rattle.checkpoint_text.specs.State.{saved_at, saved_from}
 use Rattle.state_text.specs.Text.{StateOf, state_text}
 use Rattle.trace_writer.specs.Line.{rows_text}
 use Rattle.world_core.specs.Order.{run_rows, world_at}
@@ -37,6 +37,10 @@ pub data Job : Type 0 where
   SaveJob : (network : ScenarioOf) (epochs : ℕ) → Job
   -- the trace of this network from a state on
   ResumeJob : (network : ScenarioOf) (state : StateOf) → Job
+  -- the trace of so many epochs of this network from a state on
+  HeadOnJob : (network : ScenarioOf) (state : StateOf) (epochs : ℕ) → Job
+  -- the state in which it is then
+  SaveOnJob : (network : ScenarioOf) (state : StateOf) (epochs : ℕ) → Job
 
 -- what a job writes to `out`
 unfoldable pub output : Job → List ℕ
@@ -50,3 +54,5 @@ output (SampleJob number) = sample_line number
 output (HeadJob network epochs) = rows_text (world_at (fleet_of network) (epochs * epoch)).rows
 output (SaveJob network epochs) = state_text (saved_at network (epochs * epoch))
 output (ResumeJob network state) = rows_text (run_rows (onward network state))
+output (HeadOnJob network state epochs) = rows_text (world_at (onward network state) (state.cycle + epochs * epoch)).rows
+output (SaveOnJob network state epochs) = state_text (saved_from network state (state.cycle + epochs * epoch))

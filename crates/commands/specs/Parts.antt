@@ -1,36 +1,42 @@
 -- What the parts of a call owe to one another: the job that a value of the code stands for, and what is known once it
 -- was read. These are the contracts of functions inside this crate, and no part of what the top clause says.
-use Rattle.std.specs.Prelude.{◌≡◌, false, ◌≤◌, ◌<◌, ◌-◌, ◌*◌, ℕ, min, true, is_some, length, List, Result, Ok, Err}
+use Rattle.std.specs.Prelude.{◌≡◌, false, ◌≤◌, ◌<◌, ◌+◌, ◌-◌, ◌*◌, ℕ, min, true, is_some, length, List, Result, Ok, Err}
 use Rattle.world_core.specs.Kept.{epoch}
 use Rattle.node_runner.specs.Scenario.{ScenarioOf}
 use Rattle.checkpoint_text.specs.Onward.{SavedAt}
+use Rattle.state_text.specs.Text.{StateOf}
 use Rattle.command_words.specs.Words.{asked_by}
 use Rattle.command_plans.specs.Plan.{Plan, Give}
 use Rattle.command_plans.specs.Reading.{Files, Reached}
 use Rattle.command_plans.specs.Ends.{Reads, Stream}
 use Rattle.command_plans.specs.Parts.{Stopped}
 use Rattle.command_plans.specs.declared.status.Status.{Status}
-use Rattle.commands.specs.Job.{Job, TraceJob, MonitorJob, SniffJob, SizeJob, DisasmJob, AsmJob, SampleJob, HeadJob, SaveJob, ResumeJob}
+use Rattle.commands.specs.Job.{Job, TraceJob, MonitorJob, SniffJob, SizeJob, DisasmJob, AsmJob, SampleJob, HeadJob, SaveJob, ResumeJob, HeadOnJob, SaveOnJob}
 use Rattle.commands.specs.Plan.{plan}
 use Rattle.commands.specs.TopClause.{TopClause}
 use Rattle.commands.specs.declared.job.Job.{Job as JobValue}
 use Rattle.commands.specs.declared.job.Job.TheVariants as job
 
--- the window of a scenario's network has at most 20,000 cycles
-abbrev pub IsNarrow : ScenarioOf → Type 0
-IsNarrow network = network.to - network.from ≤ 20000
+-- the window of a network ends within its run
+abbrev pub EndsWithin : ScenarioOf → Type 0
+EndsWithin network = network.to ≤ network.topo.limit
 
 -- an epoch of the network ends at this cycle
 pub record EndsEpoch (network : ScenarioOf) (cycle : ℕ) : Type 0 where
   pub count : ℕ
   pub at : cycle ≡ min (count * epoch) network.topo.limit
 
+-- an epoch of a run of the network that began in the cycle `start` ends at this cycle
+pub record EndsFrom (network : ScenarioOf) (start cycle : ℕ) : Type 0 where
+  pub count : ℕ
+  pub at : cycle ≡ min (start + count * epoch) network.topo.limit
+
 -- a plan that gets the network of a scenario was read, and nothing was said
 pub record HasRead (files : Files) (plan : Plan ScenarioOf) (store store' : Reads) (err err' : Stream) (network : ScenarioOf) : Type 0 where
   pub reached : Reached files plan (Give network)
   pub same : store' ≡ store
   pub silent : err' ≡ err
-  pub narrow : IsNarrow network
+  pub within : EndsWithin network
 
 -- the job that a value of the code stands for
 abbrev pub job_at : JobValue → Job
@@ -45,17 +51,31 @@ job_at (job.Sample number) = SampleJob number
 job_at (job.Head network epochs) = HeadJob network epochs
 job_at (job.Save network epochs) = SaveJob network epochs
 job_at (job.Resume network saved) = ResumeJob network saved.state
+job_at (job.HeadOn network saved epochs) = HeadOnJob network saved.state epochs
+job_at (job.SaveOn network saved epochs) = SaveOnJob network saved.state epochs
 
 -- a saved state of this network, with which nothing was done yet
 pub record IsFresh (network : ScenarioOf) (saved : SavedAt) : Type 0 where
   pub is : saved ≡ record { scenario = network; state = saved.state; floor = saved.state.cycle; failed = false }
   pub early : saved.state.cycle < network.topo.limit
 
--- a program is no longer than the flash, a window that is watched is narrow, and a run is cut below its limit
+-- and so many epochs from its cycle on end below the limit
+pub record IsCutOn (network : ScenarioOf) (saved : SavedAt) (epochs : ℕ) : Type 0 where
+  pub fresh : IsFresh network saved
+  pub within : saved.state.cycle + epochs * epoch < network.topo.limit
+
+-- a plan that gets a network and a state of it was read, and nothing was said
+pub record HasReadOn (files : Files) (plan : Plan (ScenarioOf × StateOf)) (epochs : ℕ) (store store' : Reads) (err err' : Stream) (network : ScenarioOf) (saved : SavedAt) : Type 0 where
+  pub reached : Reached files plan (Give (network, saved.state))
+  pub same : store' ≡ store
+  pub silent : err' ≡ err
+  pub cut : IsCutOn network saved epochs
+
+-- a program is no longer than the flash, a window that is watched ends within the run, and a run is cut below its limit
 abbrev pub IsShort : JobValue → Type 0
 IsShort (job.Trace network) = Unit {0}
 IsShort (job.PlainTrace network) = Unit {0}
-IsShort (job.Profiles network) = IsNarrow network
+IsShort (job.Profiles network) = EndsWithin network
 IsShort (job.Frames network) = Unit {0}
 IsShort (job.Size network) = Unit {0}
 IsShort (job.Listing flash) = Unit {0}
@@ -64,6 +84,8 @@ IsShort (job.Sample number) = Unit {0}
 IsShort (job.Head network epochs) = epochs * epoch < network.topo.limit
 IsShort (job.Save network epochs) = epochs * epoch < network.topo.limit
 IsShort (job.Resume network saved) = IsFresh network saved
+IsShort (job.HeadOn network saved epochs) = IsCutOn network saved epochs
+IsShort (job.SaveOn network saved epochs) = IsCutOn network saved epochs
 
 -- what a plan reads was read, this is left to do, and nothing was said
 pub record Ready (files : Files) (plan : Plan Job) (store store' : Reads) (err err' : Stream) (todo : JobValue) : Type 0 where

@@ -1,20 +1,36 @@
 -- What each command reads, in order, and what it is to write then.
-use Rattle.std.specs.Prelude.{ℕ, ◌*◌, nat_lt, if◌then◌else◌, List, Option, Some, None, Result, Ok, Err}
-use Rattle.command_words.specs.Words.{Asked, Node, Run, RunPlain, Monitor, Sniff, Check, Disasm, Asm, Make, Head, Save, Resume, asked_by}
+use Rattle.std.specs.Prelude.{ℕ, ◌+◌, ◌*◌, nat_le, nat_lt, if◌then◌else◌, List, Option, Some, None, Result, Ok, Err}
+use Rattle.command_words.specs.Words.{Asked, Node, Run, RunPlain, Monitor, Sniff, Check, Disasm, Asm, Make, Head, Save, Resume, HeadOn, SaveOn, MonitorSpan, asked_by}
 use Rattle.world_core.specs.Kept.{epoch}
+use Rattle.scenario_file.specs.Scenario.{ScenarioParts}
+use Rattle.scenario_file.specs.declared.fault.ScenarioFault.TheVariants.{OutOfRange}
 use Rattle.node_runner.specs.Scenario.{ScenarioOf}
 use Rattle.checkpoint_text.specs.State.{state_in}
 use Rattle.state_text.specs.Text.{StateOf}
 use Rattle.state_text.specs.declared.fault.StateFault.{StateFault}
 use Rattle.state_text.specs.declared.fault.StateFault.TheVariants.{PastEnd}
+use Rattle.command_plans.specs.declared.trouble.ScenarioCause.TheVariants as scenario_cause
 use Rattle.command_plans.specs.declared.trouble.StateCause.TheVariants as cause
-use Rattle.command_plans.specs.Plan.{Plan, Give, Refuse, Read, BadWords, BadState, and_then, image_plan, images_plan, scenario_plan, source_plan}
-use Rattle.commands.specs.Job.{Job, TraceJob, MonitorJob, SniffJob, SizeJob, DisasmJob, AsmJob, SampleJob, HeadJob, SaveJob, ResumeJob}
+use Rattle.command_plans.specs.Plan.{Plan, Give, Refuse, Read, BadWords, BadScenario, BadState, and_then, image_plan, images_plan, scenario_plan, source_plan}
+use Rattle.commands.specs.Job.{Job, TraceJob, MonitorJob, SniffJob, SizeJob, DisasmJob, AsmJob, SampleJob, HeadJob, SaveJob, ResumeJob, HeadOnJob, SaveOnJob}
 use Rattle.commands.specs.Network.{lone_node, network_of}
+
+-- read the image of each node of a scenario, for the network
+abbrev pub images_for : ScenarioParts → Plan ScenarioOf
+images_for parts = and_then (images_plan parts.images) (λ images. Give (network_of parts images))
 
 -- read a scenario and then the image of each of its nodes, for the network
 abbrev pub network_plan : List ℕ → Plan ScenarioOf
-network_plan name = and_then (scenario_plan name) (λ parts. and_then (images_plan parts.images) (λ images. Give (network_of parts images)))
+network_plan name = and_then (scenario_plan name) images_for
+
+-- these cycles in place of the scenario's window, where they end within its run
+abbrev pub span_or : List ℕ → ℕ → ℕ → ScenarioParts → Plan ScenarioParts
+span_or name from to parts =
+    if nat_le to parts.topology.limit then Give (record parts { window = (from, to) }) else Refuse (BadScenario name (scenario_cause.Faulty OutOfRange))
+
+-- read a scenario and then the image of each of its nodes, for the network with that window
+abbrev pub span_plan : List ℕ → ℕ → ℕ → Plan ScenarioOf
+span_plan name from to = and_then (and_then (scenario_plan name) (span_or name from to)) images_for
 
 -- a run can be cut where an epoch ends below its limit
 abbrev pub cut_or : List ℕ → ℕ → ScenarioOf → Plan ScenarioOf
@@ -33,6 +49,16 @@ state_or name (Err fault) = Refuse (BadState name (cause.Faulty fault))
 abbrev pub state_plan : ScenarioOf → List ℕ → Plan StateOf
 state_plan network name = Read name 4194304 (BadState name cause.TooLong) (λ bytes. state_or name (state_in network bytes))
 
+-- a run from a state on can be cut where an epoch ends below the limit, too
+abbrev pub cut_on_or : List ℕ → ℕ → ScenarioOf → StateOf → Plan (ScenarioOf × StateOf)
+cut_on_or name epochs network state =
+    if nat_lt (state.cycle + epochs * epoch) network.topo.limit then Give (network, state)
+    else Refuse (BadState name (cause.Faulty PastEnd))
+
+-- read a network, and then a state of it, from which its run is to be cut after so many epochs
+abbrev pub cut_on_plan : List ℕ → ℕ → List ℕ → Plan (ScenarioOf × StateOf)
+cut_on_plan file epochs name = and_then (network_plan file) (λ network. and_then (state_plan network name) (cut_on_or name epochs network))
+
 -- what each command reads
 unfoldable pub plan_of : Asked → Plan Job
 plan_of (Node file cycles) = and_then (image_plan file) (λ flash. Give (TraceJob (lone_node flash cycles)))
@@ -47,6 +73,9 @@ plan_of (Make number) = Give (SampleJob number)
 plan_of (Head file epochs) = and_then (cut_plan file epochs) (λ network. Give (HeadJob network epochs))
 plan_of (Save file epochs) = and_then (cut_plan file epochs) (λ network. Give (SaveJob network epochs))
 plan_of (Resume file state) = and_then (network_plan file) (λ network. and_then (state_plan network state) (λ saved. Give (ResumeJob network saved)))
+plan_of (HeadOn file epochs state) = and_then (cut_on_plan file epochs state) (λ at. Give (HeadOnJob at.0 at.1 epochs))
+plan_of (SaveOn file epochs state) = and_then (cut_on_plan file epochs state) (λ at. Give (SaveOnJob at.0 at.1 epochs))
+plan_of (MonitorSpan file from to) = and_then (span_plan file from to) (λ network. Give (MonitorJob network))
 
 -- the plan of what the words ask for
 abbrev pub plan_for : Option Asked → Plan Job

@@ -27,6 +27,8 @@ use std::alloc::Global;
 /// | `head FILE N` | the trace of the first N epochs of 262,144 cycles, of the network of the scenario in FILE |
 /// | `save FILE N` | the state in which it is then |
 /// | `resume FILE STATE` | the trace of that network from the state in STATE on |
+/// | `head FILE N STATE` | the trace of N epochs of that network from the state in STATE on |
+/// | `save FILE N STATE` | the state in which it is then |
 /// | `make NUMBER` | what came out of the sample network of NUMBER: how often its nodes sent, and what they heard |
 ///
 /// `node` has no links and no input, and runs over CYCLES cycles; `monitor` runs up to the window's end.

@@ -1,19 +1,20 @@
 // Saved states: one is read from its text, written as text, and gone on from.
-ghost use Rattle.std.specs.Prelude.{◌≡◌, ◌<◌, ◌≤◌, ◌*◌, min, false, IfOk, OnOk};
+ghost use Rattle.std.specs.Prelude.{◌≡◌, ◌<◌, ◌≤◌, ◌+◌, ◌*◌, min, false, IfOk, OnOk};
 ghost use Rattle.checkpoint_text.specs.Onward.{onward};
-ghost use Rattle.checkpoint_text.specs.State.{saved_at};
+ghost use Rattle.checkpoint_text.specs.State.{saved_at, saved_from};
 ghost use Rattle.command_plans.specs.Ends.{reads, stream};
 ghost use Rattle.command_plans.specs.Parts.{ReadAs, Written};
-ghost use Rattle.commands.specs.Parts.{EndsEpoch, IsFresh};
+ghost use Rattle.commands.specs.Parts.{EndsEpoch, EndsFrom, IsCutOn, IsFresh};
 ghost use Rattle.commands.specs.Plan.{state_plan};
 ghost use Rattle.world_core.specs.Kept.{epoch};
+ghost use Rattle.node_runner.specs.Run.{rows_upto};
 ghost use Rattle.node_runner.specs.Scenario.{IsScenario};
 ghost use Rattle.state_text.specs.Text.{state_text};
 ghost use Rattle.trace_writer.specs.Line.{rows_text};
-ghost use Rattle.world_core.specs.Order.{run_rows};
+ghost use Rattle.world_core.specs.Order.{run_rows, world_at};
 
 use avr_base::NoMemory;
-use checkpoint_text::{Saved, read_state, write_state};
+use checkpoint_text::{Saved, read_state, write_onward_state, write_state};
 use command_plans::{Complaint, StateCause, Trouble, read_file};
 use fleet_plain::PlainRun;
 use node_runner::Scenario;
@@ -85,17 +86,70 @@ pub fn write_saved<'n, O: Sink>(
     }
 }
 
-/// Goes on with a network from a saved state, with which nothing was done yet, up to the limit, and writes the rows of
-/// each epoch before the next one is run.
-pub fn write_onward<'n, O: Sink>(
+// Goes on with a network from a saved state, with which nothing was done yet, up to the cycle `end`, where one of its
+// epochs ends.
+fn go_on(network: &Scenario, saved: &mut Saved, end: u64) -> Result<(), NoMemory>
+    requires fresh { IsFresh network.now saved.old }
+    requires end { EndsFrom network.now saved.old.state.cycle end }
+    ensures { OnOk result (saved.new ≡ record { scenario = network.now; state = saved.old.state; floor = end; failed = false }) }
+{
+    while saved.cycle() < end {
+        // The rows up to there are in no saved state.
+        let _ = saved.epoch(network)?;
+    }
+    Ok(())
+}
+
+// Writes the state in which a run onward is.
+fn write_reached<'n, O: Sink>(
     network: &Scenario,
-    mut saved: Saved,
+    saved: &Saved,
     out: &mut O,
 ) -> Result<(), Trouble<'n>>
-    requires { IsFresh network.now saved }
-    ensures { Written (rows_text (run_rows (onward network.now saved.state))) (stream (O.taken out.old) (O.faults out.old)) (stream (O.taken out.new) (O.faults out.new)) result }
+    requires same { network.now ≡ saved.now.scenario }
+    requires sound { saved.now.failed ≡ false }
+    ensures { Written (state_text (saved_from network.now saved.now.state saved.now.floor)) (stream (O.taken out.old) (O.faults out.old)) (stream (O.taken out.new) (O.faults out.new)) result }
 {
-    while !saved.done() {
+    let Ok(sends) = saved.sends(network) else {
+        return Err(Trouble::NoMemory);
+    };
+    match write_onward_state(saved, sends.as_slice(), out) {
+        Ok(()) => Ok(()),
+        Err(_) => Err(Trouble::OutFailed),
+    }
+}
+
+/// Goes on with a network from a saved state, with which nothing was done yet, over so many epochs, which end below its
+/// limit, and writes the state in which it is then.
+pub fn write_saved_on<'n, O: Sink>(
+    network: &Scenario,
+    mut saved: Saved,
+    epochs: u64,
+    out: &mut O,
+) -> Result<(), Trouble<'n>>
+    requires { IsCutOn network.now saved epochs }
+    ensures { Written (state_text (saved_from network.now saved.state (saved.state.cycle + epochs * epoch))) (stream (O.taken out.old) (O.faults out.old)) (stream (O.taken out.new) (O.faults out.new)) result }
+{
+    let end = saved.cycle() + epochs * EPOCH;
+    match go_on(network, &mut saved, end) {
+        Ok(()) => write_reached(network, &saved, out),
+        Err(_) => Err(Trouble::NoMemory),
+    }
+}
+
+// Goes on with a network from a saved state, with which nothing was done yet, up to the cycle `end`, where one of its
+// epochs ends, and writes the rows of each epoch before the next one is run.
+fn write_rows_to<'n, O: Sink>(
+    network: &Scenario,
+    mut saved: Saved,
+    end: u64,
+    out: &mut O,
+) -> Result<(), Trouble<'n>>
+    requires fresh { IsFresh network.now saved }
+    requires end { EndsFrom network.now saved.state.cycle end }
+    ensures { Written (rows_text (rows_upto (onward network.now saved.state) end)) (stream (O.taken out.old) (O.faults out.old)) (stream (O.taken out.new) (O.faults out.new)) result }
+{
+    while saved.cycle() < end {
         let Ok(rows) = saved.epoch(network) else {
             return Err(Trouble::NoMemory);
         };
@@ -105,4 +159,32 @@ pub fn write_onward<'n, O: Sink>(
         }
     }
     Ok(())
+}
+
+/// Goes on with a network from a saved state, with which nothing was done yet, over so many epochs, which end below its
+/// limit, and writes their rows; it goes no further.
+pub fn write_head_on<'n, O: Sink>(
+    network: &Scenario,
+    saved: Saved,
+    epochs: u64,
+    out: &mut O,
+) -> Result<(), Trouble<'n>>
+    requires { IsCutOn network.now saved epochs }
+    ensures { Written (rows_text (world_at (onward network.now saved.state) (saved.state.cycle + epochs * epoch)).rows) (stream (O.taken out.old) (O.faults out.old)) (stream (O.taken out.new) (O.faults out.new)) result }
+{
+    let end = saved.cycle() + epochs * EPOCH;
+    write_rows_to(network, saved, end, out)
+}
+
+/// Goes on with a network from a saved state, with which nothing was done yet, up to the limit, and writes the rows of
+/// each epoch before the next one is run.
+pub fn write_onward<'n, O: Sink>(
+    network: &Scenario,
+    saved: Saved,
+    out: &mut O,
+) -> Result<(), Trouble<'n>>
+    requires { IsFresh network.now saved }
+    ensures { Written (rows_text (run_rows (onward network.now saved.state))) (stream (O.taken out.old) (O.faults out.old)) (stream (O.taken out.new) (O.faults out.new)) result }
+{
+    write_rows_to(network, saved, network.lawful_topo().limit(), out)
 }

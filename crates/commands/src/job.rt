@@ -4,7 +4,7 @@ ghost use Rattle.command_plans.specs.Parts.{Written};
 ghost use Rattle.commands.specs.Job.{output};
 ghost use Rattle.commands.specs.Parts.{IsShort, job_at};
 
-use crate::checkpoints::{write_onward, write_saved};
+use crate::checkpoints::{write_head_on, write_onward, write_saved, write_saved_on};
 use crate::frames::write_frames;
 use crate::image::write_program;
 use crate::listing::write_listing;
@@ -43,6 +43,10 @@ pub enum Job {
     Save(Scenario, u64),
     /// To write the trace of this network from a saved state on.
     Resume(Scenario, Saved),
+    /// To write the trace of so many epochs of this network from a saved state on.
+    HeadOn(Scenario, Saved, u64),
+    /// To write the state in which this network is so many epochs after a saved state.
+    SaveOn(Scenario, Saved, u64),
 }
 
 /// Does a job on one thread.
@@ -63,5 +67,7 @@ pub fn do_job<'n, O: Sink>(alloc: Global, job: Job, out: &mut O) -> Result<(), T
         Job::Head(network, epochs) => write_head(alloc, &network, epochs, out),
         Job::Save(network, epochs) => write_saved(alloc, &network, epochs, out),
         Job::Resume(network, saved) => write_onward(&network, saved, out),
+        Job::HeadOn(network, saved, epochs) => write_head_on(&network, saved, epochs, out),
+        Job::SaveOn(network, saved, epochs) => write_saved_on(&network, saved, epochs, out),
     }
 }

@@ -17,6 +17,7 @@ mod profiles;
 mod program;
 mod reading;
 mod sample;
+mod spans;
 mod threads;
 mod top;
 mod trace;

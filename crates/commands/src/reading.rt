@@ -3,13 +3,15 @@ ghost use Rattle.std.specs.Prelude.{◌≡◌, ◌<◌, ◌≤◌, ◌*◌, map,
 ghost use Rattle.command_words.specs.Words.{IsInLimits, shown};
 ghost use Rattle.command_plans.specs.Ends.{reads, stream};
 ghost use Rattle.command_plans.specs.Parts.{Stopped};
-ghost use Rattle.commands.specs.Plan.{cut_plan, network_plan, plan_of};
-ghost use Rattle.commands.specs.Parts.{HasRead, JobRead, Prepares};
+ghost use Rattle.commands.specs.Plan.{cut_on_plan, cut_plan, network_plan, plan_of};
+ghost use Rattle.commands.specs.Parts.{HasRead, HasReadOn, JobRead, Prepares};
 ghost use Rattle.world_core.specs.Kept.{epoch};
 
 use crate::checkpoints::read_saved;
 use crate::job::Job;
 use crate::network::lone_node;
+use crate::spans::read_span;
+use checkpoint_text::Saved;
 use command_plans::{
     Complaint, StateCause, Status, Trouble, read_image, read_images, read_scenario, read_source,
     tell,
@@ -78,6 +80,42 @@ fn read_cut<'w, S: Store, E: Sink>(
     Err(tell(err, Trouble::Refused(Complaint::BadState(file, past_end))))
 }
 
+// The network of the scenario in a file, and its state in the file `name`, from which a run is cut after so many epochs.
+// Where that is not to be had, or these epochs do not end below the limit, `err` has the line that says why, and the
+// answer is the status of the call.
+fn read_cut_on<'w, S: Store, E: Sink>(
+    alloc: Global,
+    file: &'w str,
+    epochs: u64,
+    name: &'w str,
+    store: &mut S,
+    err: &mut E,
+) -> Result<(Scenario, Saved), Status>
+    requires few { epochs ≤ 9999999 }
+    ensures held { S.held store.new ≡ S.held store.old }
+    ensures ok { IfOk result (λ at. HasReadOn (S.held store.old) (cut_on_plan file.entry.now epochs name.entry.now) epochs
+        (reads (S.faults store.old) (S.failed store.old)) (reads (S.faults store.new) (S.failed store.new))
+        (stream (E.taken err.old) (E.faults err.old)) (stream (E.taken err.new) (E.faults err.new)) at.0 at.1) }
+    ensures err { IfErr result (Stopped (S.held store.old) (cut_on_plan file.entry.now epochs name.entry.now)
+        (reads (S.faults store.old) (S.failed store.old)) (reads (S.faults store.new) (S.failed store.new))
+        (stream (E.taken err.old) (E.faults err.old)) (stream (E.taken err.new) (E.faults err.new))) }
+{
+    let network = match read_network(alloc, file, store, err) {
+        Ok(network) => network,
+        Err(status) => return Err(status),
+    };
+    let saved = match read_saved(alloc, &network, name, store) {
+        Ok(saved) => saved,
+        Err(trouble) => return Err(tell(err, trouble)),
+    };
+    let end = saved.cycle() + epochs * EPOCH;
+    if end < network.lawful_topo().limit() {
+        return Ok((network, saved));
+    }
+    let past_end = StateCause::Faulty(StateFault::PastEnd);
+    Err(tell(err, Trouble::Refused(Complaint::BadState(name, past_end))))
+}
+
 // Reads what a command needs. Where that is not to be had, `err` has the line that says why, and the answer is the
 // status of the call.
 fn read_job<'w, S: Store, E: Sink>(
@@ -144,6 +182,28 @@ fn read_job<'w, S: Store, E: Sink>(
             },
             Err(status) => Err(status),
         },
+        Command::HeadOn {
+            file,
+            epochs,
+            state,
+        } => match read_cut_on(alloc, file, epochs, state, store, err) {
+            Ok((network, saved)) => Ok(Job::HeadOn(network, saved, epochs)),
+            Err(status) => Err(status),
+        },
+        Command::SaveOn {
+            file,
+            epochs,
+            state,
+        } => match read_cut_on(alloc, file, epochs, state, store, err) {
+            Ok((network, saved)) => Ok(Job::SaveOn(network, saved, epochs)),
+            Err(status) => Err(status),
+        },
+        Command::MonitorSpan { file, from, to } => {
+            match read_span(alloc, file, from, to, store, err) {
+                Ok(network) => Ok(Job::Profiles(network)),
+                Err(status) => Err(status),
+            }
+        }
     }
 }
 

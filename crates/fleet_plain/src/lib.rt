@@ -6,6 +6,5 @@
 mod fleet;
 mod gather;
 mod plain;
-mod sends;
 
 pub use plain::{PlainRun, run_plain};

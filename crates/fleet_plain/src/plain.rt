@@ -11,11 +11,11 @@ ghost use Rattle.node_runner.specs.Place.{Place};
 
 use crate::fleet::run_to;
 use crate::gather::{ends_at, gather, start};
-use crate::sends::ordered;
 use air_base::Send;
 use avr_base::NoMemory;
 use node_core::Row;
 use node_runner::{Runner, Scenario, sort};
+use send_order::ordered;
 use std::alloc::Global;
 use std::marker::Model;
 use std::snapshot::Snapshot;
@@ -165,8 +165,24 @@ impl PlainRun {
         ensures after { OnOk result (self.new ≡ record self.old { floor = min (self.old.floor + epoch) self.old.scenario.topo.limit }) }
         ensures scenario { self.new.scenario ≡ self.old.scenario }
     {
-        self.failed = true;
         let end = (self.floor + EPOCH).min(self.limit);
+        self.up_to(scenario, end)
+    }
+
+    /// The rows of the next cycles below `end`, of an epoch's at most: in the order of `epoch`, and with the last row of
+    /// each node where `end` is the limit. All nodes come to rest there, however long the epoch is. The scenario is the
+    /// one of `new`. After `NoMemory` the run can only be dropped.
+    pub fn up_to(&mut self, scenario: &Scenario, end: u64) -> Result<Vec<Row>, NoMemory>
+        requires same { scenario.now ≡ self.old.scenario }
+        requires more { self.old.floor < end }
+        requires within { end ≤ self.old.scenario.topo.limit }
+        requires span { end ≤ self.old.floor + epoch }
+        requires sound { self.old.failed ≡ false }
+        ensures rows { IfOk result (λ v. rows_upto (fleet_of scenario.now) end ≡ rows_upto (fleet_of scenario.now) self.old.floor ++ v.items) }
+        ensures after { OnOk result (self.new ≡ record self.old { floor = end }) }
+        ensures scenario { self.new.scenario ≡ self.old.scenario }
+    {
+        self.failed = true;
         let rows = rows_to(
             self.alloc,
             &mut self.runners,

@@ -4,6 +4,9 @@ pub mod Compared
 pub mod Registers
 pub mod Sums
 pub mod Pairs
+pub mod Carried
+pub mod Constants
+pub mod Longer
 pub mod Stack
 pub mod Returns
 pub mod Sram

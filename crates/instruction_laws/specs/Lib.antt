@@ -1,3 +1,4 @@
 pub mod Branches
+pub mod Carries
 pub mod Stack
 pub mod Sram

@@ -1,13 +1,13 @@
-//! What instructions mean beyond their tables: comparisons and the branches behind them, sums and differences of two
-//! bytes, what comes back from the stack, and how many words an instruction takes. Each law is the contract of a
+//! What instructions mean beyond their tables: comparisons and the branches behind them, sums and differences of bytes
+//! and of words, what comes back from the stack, and how many words an instruction takes. Each law is the contract of a
 //! function that does nothing; it is about the definitions that the steps are proved to compute.
 #![tactic(auto)]
 
-ghost use Rattle.std.specs.Prelude.{◌≡◌, ◌≢◌, ℕ, ◌+◌, ◌-◌, ◌%◌, ◌≤◌, nat_le, nat_lt, int_lt, not, ◌==◌, ℤ, Bool, true, List, Ok, if◌then◌else◌};
+ghost use Rattle.std.specs.Prelude.{◌≡◌, ◌≢◌, ℕ, ◌+◌, ◌-◌, ◌*◌, ◌%◌, ◌≤◌, ◌<◌, nat_le, nat_lt, int_lt, not, ◌==◌, ℤ, Bool, true, List, Ok, if◌then◌else◌};
 ghost use Rattle.avr_decoder.specs.Opcodes.{op_at};
 ghost use Rattle.avr_decoder.specs.Words.{is_two_words, words_of};
 ghost use Rattle.avr_decoder.specs.declared.op.Op.TheVariants as op;
-ghost use Rattle.avr_base.specs.Flags.{C, S, Z, has_flag};
+ghost use Rattle.avr_base.specs.Flags.{C, H, S, Z, has_flag};
 ghost use Rattle.avr_core.specs.ArithTable.{arith_cpu};
 ghost use Rattle.data_space.specs.declared.cpu.Cpu.{Cpu};
 ghost use Rattle.instruction_laws.specs.Branches.{AreApart, AreBytes, IsCompared, IsCore, both, branches, reg, word, word_in};
@@ -15,6 +15,7 @@ ghost use Rattle.data_space.specs.Core.{advanced, with_reg};
 ghost use Rattle.arith_step.specs.Whole.{signed};
 ghost use Rattle.avr_core.specs.FlowTable.{flow_effect};
 ghost use Rattle.avr_core.specs.MemoryTable.{memory_effect};
+ghost use Rattle.instruction_laws.specs.Carries.{IsAdded, IsOrdered, IsTaken, carried};
 ghost use Rattle.instruction_laws.specs.Stack.{Accesses, ComesBack, IsMemory, IsStack, TakesReturn, ended, then_memory};
 ghost use Rattle.instruction_laws.specs.Sram.{HasStack, NodeComesBack, has_sram, node_accesses, sram_first, sram_last, then_executed, with_byte};
 ghost use Rattle.board_io.specs.declared.board.Board.{Board};
@@ -75,6 +76,56 @@ pub fn difference_law()
         → IsCompared 32768 (word_in dl dh cpu) (word_in rl rh cpu) (both (op.Sub dl rl) (op.Sbc dh rh) cpu) }
     ensures constant { (dl dh kl kh : ℕ) (cpu : Cpu) → IsCore cpu → AreBytes kl kh → AreApart dl dh
         → word_in dl dh (both (op.Subi dl kl) (op.Sbci dh kh) cpu) ≡ (word_in dl dh cpu + 65536 - word kl kh) % 65536 }
+{}
+
+/// After ADD and ADC, C says that the sum of the two bytes, and of the carry that ADC finds, does not fit a byte, and H
+/// that the sum of their low halves does not fit a half.
+pub fn carry_law()
+    ensures add { (d r : ℕ) (cpu : Cpu) → IsAdded (reg d cpu) (reg r cpu) 0 (arith_cpu (op.Add d r) cpu) }
+    ensures add_with_carry { (d r : ℕ) (cpu : Cpu) → IsAdded (reg d cpu) (reg r cpu) (carried cpu) (arith_cpu (op.Adc d r) cpu) }
+{}
+
+/// After SUB, SUBI, CP and CPI, C says that the one byte is below the other, and H that its low half is; after SBC,
+/// SBCI and CPC, that it is below the other and the borrow that they find. NEG takes from 0: C where the byte is not 0.
+pub fn borrow_law()
+    ensures subtract { (d r : ℕ) (cpu : Cpu) → IsTaken (reg d cpu) (reg r cpu) 0 (arith_cpu (op.Sub d r) cpu) }
+    ensures subtract_constant { (d k : ℕ) (cpu : Cpu) → IsTaken (reg d cpu) k 0 (arith_cpu (op.Subi d k) cpu) }
+    ensures compare { (d r : ℕ) (cpu : Cpu) → IsTaken (reg d cpu) (reg r cpu) 0 (arith_cpu (op.Cp d r) cpu) }
+    ensures compare_constant { (d k : ℕ) (cpu : Cpu) → IsTaken (reg d cpu) k 0 (arith_cpu (op.Cpi d k) cpu) }
+    ensures with_borrow { (d r : ℕ) (cpu : Cpu) → IsTaken (reg d cpu) (reg r cpu) (carried cpu) (arith_cpu (op.Sbc d r) cpu) }
+    ensures constant_with_borrow { (d k : ℕ) (cpu : Cpu) → IsTaken (reg d cpu) k (carried cpu) (arith_cpu (op.Sbci d k) cpu) }
+    ensures compare_with_borrow { (d r : ℕ) (cpu : Cpu) → IsTaken (reg d cpu) (reg r cpu) (carried cpu) (arith_cpu (op.Cpc d r) cpu) }
+    ensures negate { (d : ℕ) (cpu : Cpu) → IsTaken 0 (reg d cpu) 0 (arith_cpu (op.Neg d) cpu) }
+{}
+
+/// ADIW and SBIW give the sum and the difference of the word in a pair and a constant, modulo 65,536. After ADIW C says
+/// that the sum does not fit 16 bits; after SBIW the flags compare the word with the constant, so C says that it is
+/// below. H stays.
+pub fn pair_law()
+    ensures sum { (d k : ℕ) (cpu : Cpu) → IsCore cpu → d < 31
+        → word_in d (d + 1) (arith_cpu (op.Adiw d k) cpu) ≡ (word_in d (d + 1) cpu + k) % 65536 }
+    ensures carry { (d k : ℕ) (cpu : Cpu) → d < 31
+        → has_flag (arith_cpu (op.Adiw d k) cpu).sreg.bits C ≡ nat_le 65536 (word_in d (d + 1) cpu + k) }
+    ensures difference { (d k : ℕ) (cpu : Cpu) → IsCore cpu → d < 31
+        → word_in d (d + 1) (arith_cpu (op.Sbiw d k) cpu) ≡ (word_in d (d + 1) cpu + 65536 - k) % 65536 }
+    ensures compared { (d k : ℕ) (cpu : Cpu) → IsCore cpu → d < 31 → k < 64
+        → IsCompared 32768 (word_in d (d + 1) cpu) k (arith_cpu (op.Sbiw d k) cpu) }
+    ensures half_after_sum { (d k : ℕ) (cpu : Cpu) → has_flag (arith_cpu (op.Adiw d k) cpu).sreg.bits H ≡ has_flag cpu.sreg.bits H }
+    ensures half_after_difference { (d k : ℕ) (cpu : Cpu) → has_flag (arith_cpu (op.Sbiw d k) cpu).sreg.bits H ≡ has_flag cpu.sreg.bits H }
+{}
+
+/// Numbers of any length, byte by byte. Where C says that the sum of what lies below does not fit there, it says after
+/// ADC of the bytes above that the longer sum does not fit. Where C and Z compare what lies below, they compare the
+/// longer numbers after SBC, SBCI and CPC of the bytes above.
+pub fn longer_law()
+    ensures sum { (m a b d r : ℕ) (cpu : Cpu) → a < m → b < m → has_flag cpu.sreg.bits C ≡ nat_le m (a + b)
+        → has_flag (arith_cpu (op.Adc d r) cpu).sreg.bits C ≡ nat_le (m * 256) (a + m * reg d cpu + (b + m * reg r cpu)) }
+    ensures difference { (m a b d r : ℕ) (cpu : Cpu) → a < m → b < m → AreBytes (reg d cpu) (reg r cpu) → IsOrdered a b cpu
+        → IsOrdered (a + m * reg d cpu) (b + m * reg r cpu) (arith_cpu (op.Sbc d r) cpu) }
+    ensures constant { (m a b d k : ℕ) (cpu : Cpu) → a < m → b < m → AreBytes (reg d cpu) k → IsOrdered a b cpu
+        → IsOrdered (a + m * reg d cpu) (b + m * k) (arith_cpu (op.Sbci d k) cpu) }
+    ensures compare { (m a b d r : ℕ) (cpu : Cpu) → a < m → b < m → AreBytes (reg d cpu) (reg r cpu) → IsOrdered a b cpu
+        → IsOrdered (a + m * reg d cpu) (b + m * reg r cpu) (arith_cpu (op.Cpc d r) cpu) }
 {}
 
 /// PUSH and then POP: the register has the byte that was pushed, and all else of the core is as before.

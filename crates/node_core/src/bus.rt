@@ -14,10 +14,11 @@ use std::alloc::Global;
 /// `address past 0x10FF`.
 #[derive(Drop)]
 pub struct NodeBus {
+    /// The I/O registers and the devices. They stand before the SRAM, whose address is then not that of the whole, which is
+    /// passed to calls: so the host looks up a byte of it at once.
+    pub board: LaggingBoard,
     /// The internal SRAM.
     pub sram: Sram,
-    /// The I/O registers and the devices.
-    pub board: LaggingBoard,
 }
 
 impl NodeBus {

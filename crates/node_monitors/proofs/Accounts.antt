@@ -22,13 +22,13 @@ unowned true false s cycle from end c h below = refl
 unowned true true s cycle from end c h below = grind (arith, nat_tests)
 
 -- a row that a node's account over a window does not ask for
-record Idle (node : ℕ) (window : ℕ × ℕ) (r : Row) : Type 0 where
+pub record Idle (node : ℕ) (window : ℕ × ℕ) (r : Row) : Type 0 where
   pub unowned : (c : ℕ) → c < window.1 → (owns node r && nat_le r.cycle c) ≡ false
   pub uncounted : ((r.node == node) && is_traced r.kind) ≡ false
   pub unsent : ((r.node == node) && (is_sent r.kind && (nat_le window.0 r.cycle && nat_lt r.cycle window.1))) ≡ false
 
 -- what a list of rows is kept of: all that is left out is idle
-abbrev Keeps : ℕ → ℕ × ℕ → (Row → Bool) → Row → Type 0
+abbrev pub Keeps : ℕ → ℕ × ℕ → (Row → Bool) → Row → Type 0
 Keeps node window p r = p r ≡ false → Idle node window r
 
 module _ (node : ℕ) (window : ℕ × ℕ) (p : Row → Bool) where
@@ -78,7 +78,7 @@ count-kept p q (r ∷ rows) all =
     count_case (p r) q r (filter p rows) rows (All-head (λ (x : Row). p x ≡ false → q x ≡ false) r rows all)
     (count-kept p q rows (All-tail (λ (x : Row). p x ≡ false → q x ≡ false) r rows all))
 
-not_counted : (n : Bool) (test : Kind → Bool) (k : Kind) → (test k ≡ true → is_traced k ≡ true) → (n && is_traced k) ≡ false → (n && test k) ≡ false
+pub not_counted : (n : Bool) (test : Kind → Bool) (k : Kind) → (test k ≡ true → is_traced k ≡ true) → (n && is_traced k) ≡ false → (n && test k) ≡ false
 not_counted false test k traced h = refl
 not_counted true test k traced h = case_of (test k) refl
   where
@@ -93,7 +93,7 @@ rows_that-kept test node window p rows traced all =
     count-kept p (λ r. (r.node == node) && test r.kind) rows
     (λ i d lt h. let r = get_or rows i d in not_counted (r.node == node) test r.kind (traced r.kind) (all i d lt h).uncounted)
 
-instr_traced : (at : ℕ) (k : Kind) → is_instr at k ≡ true → is_traced k ≡ true
+pub instr_traced : (at : ℕ) (k : Kind) → is_instr at k ≡ true → is_traced k ≡ true
 instr_traced at (Instr pc word next) h = refl
 instr_traced at (Enter vector back) h = refl
 instr_traced at (Serial byte) h = h
@@ -102,7 +102,7 @@ instr_traced at (Heard heard) h = h
 instr_traced at (Stop pc cause) h = h
 instr_traced at (End state instructions) h = h
 
-entry_traced : (at : ℕ) (k : Kind) → is_entry at k ≡ true → is_traced k ≡ true
+pub entry_traced : (at : ℕ) (k : Kind) → is_entry at k ≡ true → is_traced k ≡ true
 entry_traced at (Instr pc word next) h = refl
 entry_traced at (Enter vector back) h = refl
 entry_traced at (Serial byte) h = h
@@ -178,7 +178,7 @@ untraced false b h = refl
 untraced true false h = refl
 untraced true true h = absurd (h refl)
 
-matters_keeps : (node : ℕ) (window : ℕ × ℕ) (r : Row) → IsBelow window.1 r → Keeps node window (matters window) r
+pub matters_keeps : (node : ℕ) (window : ℕ × ℕ) (r : Row) → IsBelow window.1 r → Keeps node window (matters window) r
 matters_keeps node window r below h = record {
   unowned = λ c lt. unowned (r.node == node) (takes_over r.kind) (is_sent r.kind) r.cycle window.0 window.1 c h lt;
   uncounted = untraced (r.node == node) (is_traced r.kind) (λ is. matters_below (takes_over r.kind) (is_sent r.kind) r.cycle window.0 window.1 h (traced_takes r.kind is) (below is));
@@ -190,7 +190,7 @@ account_that_matters node window rows below = account-kept node window (matters 
 
 -- ---- rows of other nodes
 
-other_keeps : (node : ℕ) (window : ℕ × ℕ) (p : Row → Bool) (r : Row) → (r.node ≡ node → p r ≡ true) → Keeps node window p r
+pub other_keeps : (node : ℕ) (window : ℕ × ℕ) (p : Row → Bool) (r : Row) → (r.node ≡ node → p r ≡ true) → Keeps node window p r
 other_keeps node window p r own h =
     let none : (r.node == node) ≡ false = not_own (r.node == node) refl in
     record {

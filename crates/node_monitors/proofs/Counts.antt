@@ -1,9 +1,10 @@
 -- Counting the numbers of a range that pass a test.
-use Rattle.std.proofs.Common.{◌≡◌, ℕ, zero, suc, ◌+◌, ◌-◌, ◌<◌, ◌≤◌, Bool, false, ◌&&◌, cond, max, arith, refl, ap}
+use Rattle.std.proofs.Common.{◌≡◌, ℕ, zero, suc, ◌+◌, ◌-◌, ◌<◌, ◌≤◌, Bool, true, false, ◌&&◌, not, cond, max, arith, refl, sym, ap, ◌∙◌}
 use Rattle.std.proofs.Math.Dec.{leb, ltb, eqb}
 use Rattle.std.specs.List.{count_by, range_with_len}
 use Rattle.std.proofs.lemmas.Bool.Decides.{nat_tests}
-use Rattle.std.proofs.lemmas.List.Sums.{sum_by-cons}
+use Rattle.std.proofs.lemmas.List.Sums.{count_by-le-length, sum_by-cons}
+use Rattle.std.proofs.lemmas.List.FromFn.{length-range_with_len}
 
 -- one for a test that passes
 abbrev pub bit : Bool → ℕ
@@ -57,3 +58,41 @@ bit-equal k a n = grind (arith, nat_tests)
 pub count-equal : (k a n : ℕ) → count_by (λ c. eqb k c) (range_with_len a n) ≡ bit (between a (a + n) k)
 count-equal k a zero = grind (arith, nat_tests)
 count-equal k a (suc n) = omega (arith, counted (λ c. eqb k c) a n, count-equal k (a + 1) n, bit-equal k a n)
+
+-- ---- ranges in two parts, and tests that all numbers pass
+
+pub count-split : (p : ℕ → Bool) (a m n : ℕ) → count_by p (range_with_len a (m + n)) ≡ count_by p (range_with_len a m) + count_by p (range_with_len (a + m) n)
+count-split p a zero n =
+    let none : count_by p (range_with_len a 0) ≡ 0 = refl in
+    let all : 0 + n ≡ n = omega arith in
+    let first : a + 0 ≡ a = omega arith in
+    let left : count_by p (range_with_len a (0 + n)) ≡ count_by p (range_with_len a n) = ap (λ (k : ℕ). count_by p (range_with_len a k)) all in
+    let right : count_by p (range_with_len (a + 0) n) ≡ count_by p (range_with_len a n) = ap (λ (k : ℕ). count_by p (range_with_len k n)) first in
+    omega (arith, none, left, right)
+count-split p a (suc m) n =
+    let all : suc m + n ≡ suc (m + n) = omega arith in
+    let first : a + 1 + m ≡ a + suc m = omega arith in
+    let left : count_by p (range_with_len a (suc m + n)) ≡ count_by p (range_with_len a (suc (m + n))) = ap (λ (k : ℕ). count_by p (range_with_len a k)) all in
+    let right : count_by p (range_with_len (a + 1 + m) n) ≡ count_by p (range_with_len (a + suc m) n) = ap (λ (k : ℕ). count_by p (range_with_len k n)) first in
+    omega (arith, left, right, counted p a (m + n), counted p a m, count-split p (a + 1) m n)
+
+pub count-all : (p : ℕ → Bool) (a n : ℕ) → ((c : ℕ) → p c ≡ true) → count_by p (range_with_len a n) ≡ n
+count-all p a zero h = refl
+count-all p a (suc n) h =
+    let here : bit (p a) ≡ 1 = ap bit (h a) in
+    omega (arith, here, counted p a n, count-all p (a + 1) n h)
+
+not_bit : (b : Bool) → 1 ≡ bit (not b) + bit b
+not_bit true = refl
+not_bit false = refl
+
+-- all but one number
+pub count-rest : (p : ℕ → Bool) (k a n : ℕ) → ((c : ℕ) → p c ≡ not (eqb k c)) → count_by p (range_with_len a n) + bit (between a (a + n) k) ≡ n
+count-rest p k a n h =
+    let both : count_by (λ c. true) (range_with_len a n) ≡ count_by p (range_with_len a n) + count_by (λ c. eqb k c) (range_with_len a n) =
+    count-add (λ c. true) p (λ c. eqb k c) a n (λ c low high. not_bit (eqb k c) ∙ ap (λ (b : Bool). bit b + bit (eqb k c)) (sym (h c))) in
+    omega (arith, both, count-all (λ c. true) a n (λ c. refl), count-equal k a n)
+
+-- a count is no longer than its range
+pub count-most : (p : ℕ → Bool) (a n : ℕ) → count_by p (range_with_len a n) ≤ n
+count-most p a n = omega (arith, count_by-le-length p (range_with_len a n), length-range_with_len a n)

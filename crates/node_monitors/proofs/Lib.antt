@@ -1,6 +1,10 @@
 pub mod Accounts
 pub mod Counts
+pub mod Growing
 pub mod Owners
 pub mod Rooms
+pub mod Shares
 pub mod Steps
 pub mod Tables
+pub mod Tallies
+pub mod Whole

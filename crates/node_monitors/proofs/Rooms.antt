@@ -20,7 +20,8 @@ use Rattle.node_monitors.proofs.Owners.{lead-is}
 use Rattle.node_monitors.proofs.Steps.{took-taken}
 use Rattle.node_monitors.proofs.Tables.{table-at, table-length, table-same, cycles-used, used-whole}
 
-rows_most : (test : Kind → Bool) (node : ℕ) (rows : List Row) → rows_that test node rows ≤ length rows
+-- no more rows of a kind than rows
+pub rows_most : (test : Kind → Bool) (node : ℕ) (rows : List Row) → rows_that test node rows ≤ length rows
 unfolding rows_that
 rows_most test node rows = count_by-le-length (λ r. nat_eq r.node node && test r.kind) rows
 
@@ -251,7 +252,7 @@ taken-charge rows s v h =
     ap cycles_in (sym (all_entered s.node s.window rows s.words v.most v.within)) ∙ ap (λ slots. cycles_in (filter is_used slots)) (sym h.entered) ∙ cycles-used s.entered h.quiet_entered in
     omega (arith, at, entered, h.awake, h.asleep, h.sent)
 
-account_same : (a b : ℕ) (c d e f : List Spent) (g h i j k l : ℕ) → a ≡ b → c ≡ d → e ≡ f → g ≡ h → i ≡ j → k ≡ l →
+pub account_same : (a b : ℕ) (c d e f : List Spent) (g h i j k l : ℕ) → a ≡ b → c ≡ d → e ≡ f → g ≡ h → i ≡ j → k ≡ l →
     ◌≡◌ {A = Account} (record { lead = a; at = c; entered = e; asleep = g; stopped = i; charge = k }) (record { lead = b; at = d; entered = f; asleep = h; stopped = j; charge = l })
 account_same a b c d e f g h i j k l p q r s t u = cc
 

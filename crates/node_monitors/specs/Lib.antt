@@ -4,3 +4,5 @@ pub mod Owner
 pub mod Spent
 pub mod Sums
 pub mod Taken
+pub mod Tallied
+pub mod Tally

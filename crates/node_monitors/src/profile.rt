@@ -12,12 +12,12 @@ use std::marker::Model;
 /// On what a node spent each cycle of a window of a trace. A contract sees it as its account.
 #[derive(Drop)]
 pub struct Profile {
-    lead: u64,
-    at: Vec<Spent>,
-    entered: Vec<Spent>,
-    asleep: u64,
-    stopped: u64,
-    charge: u64,
+    pub(crate) lead: u64,
+    pub(crate) at: Vec<Spent>,
+    pub(crate) entered: Vec<Spent>,
+    pub(crate) asleep: u64,
+    pub(crate) stopped: u64,
+    pub(crate) charge: u64,
 }
 
 impl Model for Profile {

@@ -3,3 +3,4 @@ pub mod Networks
 pub mod Sizes
 pub mod Room
 pub mod Joined
+pub mod Made

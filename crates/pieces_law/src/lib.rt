@@ -2,19 +2,26 @@
 //! nothing; it is about the definitions that a call of the program is proved to compute.
 #![tactic(auto)]
 
-ghost use Rattle.std.specs.Prelude.{◌≡◌, ◌++◌, ℕ, List};
+ghost use Rattle.std.specs.Prelude.{◌≡◌, ◌++◌, ℕ, List, Some};
+ghost use Rattle.command_words.specs.Words.{Node, asked_by};
 ghost use Rattle.command_plans.specs.Reading.{Accepted, Accepts, Files, verdict};
 ghost use Rattle.commands.specs.Job.{Job, output};
+ghost use Rattle.commands.specs.Network.{lone_node};
 ghost use Rattle.commands.specs.Plan.{network_plan, plan};
+ghost use Rattle.ihex_loader.specs.Flash.{Image};
 ghost use Rattle.node_runner.specs.Accepted.{IsAccepted};
 ghost use Rattle.node_runner.specs.Scenario.{IsScenario, ScenarioOf};
+ghost use Rattle.sample_maker.specs.Sample.{sample};
 ghost use Rattle.pieces_law.specs.Pieces.{AreThePieces, IsInPieces};
 
-/// A network that a command has accepted is one that accepted texts give, and it is a scenario. So what the laws of the
-/// order and of saved states ask for holds of it.
+/// Every network that a call runs is a scenario: one that a command has accepted, which accepted texts give; that of
+/// `node`, whatever its image; that of `make`. So what the laws of the order and of saved states ask for holds of it.
 pub fn network_law()
     ensures texts { (files : Files) (file : List ℕ) (network : ScenarioOf) → verdict files (network_plan file) ≡ Accepted network → IsAccepted network }
     ensures scenario { (files : Files) (file : List ℕ) (network : ScenarioOf) → verdict files (network_plan file) ≡ Accepted network → IsScenario network }
+    ensures alone { (words : List (List ℕ)) (file : List ℕ) (cycles : ℕ) (flash : Image) → asked_by words ≡ Some (Node file cycles)
+        → IsScenario (lone_node flash cycles) }
+    ensures sample { (number : ℕ) → IsScenario (sample number 8) }
 {}
 
 /// Where `save FILE N` is accepted, so are `head FILE N` and `run FILE`, and `resume FILE STATE` over what `save` wrote,

@@ -3,3 +3,4 @@ pub mod Cycles
 pub mod Runs
 pub mod Told
 pub mod Feeding
+pub mod TalliesMore

@@ -1,25 +1,27 @@
 -- The rows of a run that count in a profile: those of the cycles below the window's end, however far the run goes on.
-use Rattle.std.proofs.Common.{◌≡◌, ◌≢◌, ℕ, zero, suc, ◌+◌, ◌-◌, ◌*◌, ◌^◌, ◌<◌, ◌≤◌, ◌&&◌, ◌||◌, ◌==◌, ◌⊎◌, inl, inr, nat_le, nat_lt, Bool, true, false, cond, List, [], ◌∷◌, ◌++◌, length, length-append, refl, sym, subst, ap, ◌∙◌, arith, append-nil}
-use Rattle.std.specs.List.{All, filter}
+use Rattle.std.proofs.Common.{◌≡◌, ◌≢◌, ℕ, zero, suc, ◌+◌, ◌-◌, ◌*◌, ◌^◌, ◌<◌, ◌≤◌, ◌&&◌, ◌||◌, ◌==◌, ◌⊎◌, inl, inr, nat_le, nat_lt, Bool, true, false, cond, List, [], ◌∷◌, ◌++◌, map, get_or, length, length-append, refl, sym, subst, ap, ◌∙◌, arith, append-nil}
+use Rattle.std.specs.List.{All, filter, range_with_len}
+use Rattle.std.specs.List.Sorted.{IsNonDecreasingBy}
 use Rattle.std.proofs.lemmas.Bool.Decides.{nat_tests}
 use Rattle.std.proofs.lemmas.List.Elements.{filter-append, All-append, All-cons, All-nil}
-use Rattle.std.proofs.lemmas.List.Sums.{count_by-le-length, length-filter}
 use native.Mathlib.Decide.{ℕ_discrete}
 use Rattle.air_base.specs.Each.{each_below}
 use Rattle.world_core.specs.Order.{Fleet, world_at, world_after, hears, node_at, rows_in, end_rows, run_rows}
-use Rattle.air_base.proofs.Each.{filter_none, All_each, each_same}
+use Rattle.air_base.proofs.Each.{filter_none, All_each}
 use Rattle.world_core.proofs.OrderRows.{rows_from, rows_bear}
+use Rattle.world_core.proofs.Sorted.{Sorted, sorted_append, sorted_cycles, sorted_level}
 use Rattle.node_core.specs.declared.row.Row.{Row}
 use Rattle.node_core.specs.State.{NodeState}
 use Rattle.node_runner.specs.Scenario.{ScenarioOf, IsScenario, fleet_of}
 use Rattle.node_runner.specs.Run.{rows_upto}
 use Rattle.node_runner.proofs.Epoch.{first_rows}
 use Rattle.node_runner.proofs.Sound.{sound}
-use Rattle.node_monitors.specs.Account.{Account, bytes_sent, account}
+use Rattle.node_monitors.specs.Account.{Account, account}
 use Rattle.node_monitors.specs.Matters.{matters, IsBelow}
-use Rattle.node_monitors.proofs.Rooms.{sent-most}
-use Rattle.node_monitors.proofs.Accounts.{account_that_matters, account_of_own}
-use Rattle.run_reports.specs.Profiles.{is_between, profile_at, profile_text, profiles_text, window_of}
+use Rattle.node_monitors.specs.Tally.{TallyOf, ended, tallied, tallied_all, tallied_kind, told, untallied}
+use Rattle.node_monitors.proofs.Tallies.{all-kept, ended-most, sent-few, tallied-kept, tally-account}
+use Rattle.run_reports.specs.Profiles.{profile_at, profile_text, profiles_text, window_of}
+use Rattle.run_reports.specs.Tallies.{tallies, tally_of}
 use Rattle.run_reports.proofs.Given.{given_after}
 use Rattle.run_reports.proofs.Cycles.{cycle_few, cycle_below}
 
@@ -47,17 +49,39 @@ differ a b e = grind (arith, nat_tests)
 pub over_at : (m n : ℕ) → true ≡ (m == n) → m ≡ n
 over_at m n e = grind (arith, nat_tests)
 
--- the rows of an epoch that count stand behind those of the epochs before
-pub counted_next : (window : ℕ × ℕ) (before rows after kept more : List Row) → after ≡ before ++ rows → kept ≡ filter (matters window) before → more ≡ kept ++ filter (matters window) rows
-    → more ≡ filter (matters window) after
-counted_next window before rows after kept more all so is =
-    is ∙ ap (λ (l : List Row). l ++ filter (matters window) rows) so ∙ sym (ap (filter (matters window)) all ∙ filter-append (matters window) before rows)
-
 -- at the limit the rows are those of the whole run
 pub rows_whole : (f : Fleet NodeState Row) (c : ℕ) → c ≡ f.topo.limit → rows_upto f c ≡ run_rows f
 rows_whole f c e =
     ap (λ (b : Bool). (world_at f c).rows ++ cond b (end_rows f) []) (equal c f.topo.limit e)
     ∙ ap (λ (t : ℕ). (world_at f t).rows ++ end_rows f) e
+
+-- a list in order, position by position
+rising : {X : Type 0} (key : X → ℕ) (xs : List X) → Sorted key xs → IsNonDecreasingBy key xs
+rising key [] s i j d le lt = absurd (omega arith)
+rising key (x ∷ xs) s zero zero d le lt = omega arith
+rising key (x ∷ xs) s zero (suc j) d le lt = s.0 j d (omega arith)
+rising key (x ∷ xs) s (suc i) zero d le lt = absurd (omega arith)
+rising key (x ∷ xs) s (suc i) (suc j) d le lt = rising key xs s.1 i j d (omega arith) (omega arith)
+
+map_same : {X Y : Type 0} (g h : X → Y) → ((x : X) → g x ≡ h x) → (xs : List X) → map g xs ≡ map h xs
+map_same g h same [] = refl
+map_same g h same (x ∷ xs) = λ i. same x i ∷ map_same g h same xs i
+
+-- only rows that matter are taken
+tallied_matter : (window : ℕ × ℕ) (rows : List Row) (t : TallyOf) → t.window ≡ window → tallied_all (filter (matters window) rows) t ≡ tallied_all rows t
+unfolding tallied_all
+tallied_matter window [] t e = refl
+tallied_matter window (r ∷ rows) t e = case_of (matters window r) refl (tallied_matter window rows (tallied r t) ((tallied-kept r t).1 ∙ e))
+  where
+    both_false : (b : Bool) → (b && false) ≡ false
+    both_false true = refl
+    both_false false = refl
+
+    case_of : (b : Bool) → matters window r ≡ b → tallied_all (filter (matters window) rows) (tallied r t) ≡ tallied_all rows (tallied r t) → tallied_all (cond b (r ∷ filter (matters window) rows) (filter (matters window) rows)) t ≡ tallied_all rows (tallied r t)
+    case_of true q rest = rest
+    case_of false q rest =
+        let none : tallied r t ≡ t = ap (λ (b : Bool). cond b (tallied_kind r r.kind t) t) (ap (λ (w : ℕ × ℕ). (r.node == t.node) && matters w r) e ∙ ap (λ (b : Bool). (r.node == t.node) && b) q ∙ both_false (r.node == t.node)) in
+        ap (tallied_all (filter (matters window) rows)) (sym none) ∙ rest
 
 module _ (sc : ScenarioOf) (ok : IsScenario sc) where
   abbrev f : Fleet NodeState Row
@@ -107,20 +131,6 @@ module _ (sc : ScenarioOf) (ok : IsScenario sc) where
   pub counted : (c : ℕ) → c ≤ sc.topo.limit → (c ≡ sc.topo.limit) ⊎ (sc.to ≤ c) → filter (matters (window_of sc)) (rows_upto f c) ≡ filter (matters (window_of sc)) (run_rows f)
   counted c le over = counted_case c le (ℕ_discrete c sc.topo.limit) over
 
-  -- so what was kept till then is what counts
-  pub counted_end : (window : ℕ × ℕ) (c : ℕ) (kept : List Row) → window.0 ≡ sc.from → window.1 ≡ sc.to → c ≤ sc.topo.limit → (c ≡ sc.topo.limit) ⊎ (window.1 ≤ c)
-      → kept ≡ filter (matters window) (rows_upto f c) → kept ≡ filter (matters (window_of sc)) (run_rows f)
-  counted_end window c kept from to le over is =
-      is ∙ (λ i. filter (matters (from i, to i)) (rows_upto f c)) ∙ counted c le (behind over)
-    where
-      behind : (c ≡ sc.topo.limit) ⊎ (window.1 ≤ c) → (c ≡ sc.topo.limit) ⊎ (sc.to ≤ c)
-      behind (inl e) = inl e
-      behind (inr h) = inr (omega arith)
-
-  -- before the first epoch no row counts
-  pub counted_first : (window : ℕ × ℕ) (c : ℕ) → c ≡ 0 → [] ≡ filter (matters window) (rows_upto f c)
-  counted_first window c e = sym (ap (λ (n : ℕ). filter (matters window) (rows_upto f n)) e ∙ ap (filter (matters window)) (first_rows sc ok))
-
   -- the rows of the whole run from its first cycle on
   whole : (world_at f sc.topo.limit).rows ≡ each_below sc.topo.limit (λ i. each_below f.topo.nodes (λ k. rows_in f k (0 + i)))
   unfolding world_after
@@ -138,15 +148,22 @@ module _ (sc : ScenarioOf) (ok : IsScenario sc) where
       (All_each (IsBelow sc.to) sc.topo.limit _ (λ i lt. All_each (IsBelow sc.to) f.topo.nodes _ (λ k l. below_cycle k (0 + i)))))
       (All_each (IsBelow sc.to) f.topo.nodes _ (λ k lt. All-cons (IsBelow sc.to) _ [] (λ e. absurd (cc)) (All-nil (IsBelow sc.to))))
 
-  -- the profiles by the rows that count are those by all rows
-  pub profiles_counted : (nodes : ℕ) → each_below nodes (profile_at (window_of sc) (filter (matters (window_of sc)) (run_rows f))) ≡ each_below nodes (profile_at (window_of sc) (run_rows f))
-  unfolding profile_at
-  profiles_counted nodes = each_same nodes _ _ (λ k lt. ap (profile_text k) (account_that_matters k (window_of sc) (run_rows f) below_run))
-
-  pub profiles_end : (nodes : ℕ) (window : ℕ × ℕ) (rows : List Row) (text : List ℕ) → nodes ≡ sc.topo.nodes → window.0 ≡ sc.from → window.1 ≡ sc.to
-      → rows ≡ filter (matters (window_of sc)) (run_rows f) → text ≡ each_below nodes (profile_at window rows) → text ≡ profiles_text sc
-  unfolding profiles_text
-  profiles_end nodes window rows text count from to is so = so ∙ (λ i. each_below (count i) (profile_at (from i, to i) (is i))) ∙ profiles_counted sc.topo.nodes
+  -- the rows of a run are in order of cycle
+  rows_rise : IsNonDecreasingBy (λ r. r.cycle) (run_rows f)
+  rows_rise =
+      let bears = λ (k i : ℕ). rows_bear f (sound sc ok).kind k (0 + i) in
+      let early : All (λ r. r.cycle ≤ sc.topo.limit) (world_at f sc.topo.limit).rows =
+      subst (λ (l : List Row). All (λ r. r.cycle ≤ sc.topo.limit) l) (sym whole)
+      (All_each (λ r. r.cycle ≤ sc.topo.limit) sc.topo.limit _
+      (λ i lt. All_each (λ r. r.cycle ≤ sc.topo.limit) f.topo.nodes _ (λ k l j d h. let e : (get_or (rows_in f k (0 + i)) j d).cycle ≡ 0 + i = bears k i j d h in omega arith))) in
+      let level : All (λ r. r.cycle ≡ sc.topo.limit) (end_rows f) =
+      All_each (λ r. r.cycle ≡ sc.topo.limit) f.topo.nodes _ (λ k lt. All-cons (λ r. r.cycle ≡ sc.topo.limit) _ [] refl (All-nil (λ r. r.cycle ≡ sc.topo.limit))) in
+      let sorted : Sorted (λ (r : Row). r.cycle) (world_at f sc.topo.limit).rows =
+      subst (Sorted (λ (r : Row). r.cycle)) (sym whole) (sorted_cycles (λ (r : Row). r.cycle) 0 (λ k i. rows_in f k (0 + i)) bears f.topo.nodes sc.topo.limit) in
+      rising (λ (r : Row). r.cycle) (run_rows f)
+      (sorted_append (λ (r : Row). r.cycle) sc.topo.limit (world_at f sc.topo.limit).rows (end_rows f) early
+      (λ j d h. let e : (get_or (end_rows f) j d).cycle ≡ sc.topo.limit = level j d h in omega arith)
+      sorted (sorted_level (λ (r : Row). r.cycle) sc.topo.limit (end_rows f) level))
 
   few_rows : length (run_rows f) ≤ sc.topo.limit * 256 + 64
   few_rows =
@@ -158,34 +175,68 @@ module _ (sc : ScenarioOf) (ok : IsScenario sc) where
       let same = ap length whole in
       omega arith
 
-  pub few_counted : (rows : List Row) → rows ≡ filter (matters (window_of sc)) (run_rows f) → length rows < 2 ^ 50
-  few_counted rows e =
+  few : length (run_rows f) ≤ 281474976710656 + 64
+  few =
       let limit : sc.topo.limit ≤ 1099511627776 = ok.topo.ranges.limit_to in
-      let kept = length-filter (matters (window_of sc)) (run_rows f) in
-      let most = count_by-le-length (matters (window_of sc)) (run_rows f) in
-      let same = ap length e in
-      let few = few_rows in
+      let rows = few_rows in
       omega arith
 
--- the charge of a narrow window fits
-pub charge_fits : (node : ℕ) (window : ℕ × ℕ) (p : Row → Bool) (rows group : List Row) → group ≡ filter p rows → length rows < 2 ^ 50 → window.1 - window.0 ≤ 20000
-    → 8 * (window.1 - window.0) + 512 * bytes_sent node window group < 2 ^ 64
-charge_fits node window p rows group e few narrow =
-    let sent = sent-most node window group in
-    let kept = length-filter p rows in
-    let most = count_by-le-length p rows in
-    let same = ap length e in
-    omega arith
+  -- ---- the tallies of a run
 
-own_between : (node first end : ℕ) → first ≤ node → node < end → (r : Row) → r.node ≡ node → is_between first end r ≡ true
-own_between node first end low high r e = grind (arith, nat_tests)
+  -- what was taken up to the window's end is what counts of the whole run
+  tally_whole : (c k : ℕ) → sc.to ≤ c → c ≤ sc.topo.limit → tally_of (window_of sc) (rows_upto f c) k ≡ tally_of (window_of sc) (run_rows f) k
+  tally_whole c k over le =
+      sym (tallied_matter (window_of sc) (rows_upto f c) (untallied k (window_of sc)) refl)
+      ∙ ap (λ (l : List Row). tallied_all l (untallied k (window_of sc))) (counted c le (inr over))
+      ∙ tallied_matter (window_of sc) (run_rows f) (untallied k (window_of sc)) refl
 
--- one node's profile more, by the rows of its group
-pub profile_more : (node first end : ℕ) (window : ℕ × ℕ) (rows group : List Row) (before after : List ℕ) (a : Account) → first ≤ node → node < end
-    → group ≡ filter (is_between first end) rows → a ≡ account node window group → before ≡ each_below node (profile_at window rows) → after ≡ before ++ profile_text node a
-    → after ≡ each_below (suc node) (profile_at window rows)
-unfolding profile_at
-profile_more node first end window rows group before after a low high is same so more =
-    let whole : a ≡ account node window rows =
-    same ∙ ap (account node window) is ∙ account_of_own node window (is_between first end) rows (own_between node first end low high) in
-    more ∙ (λ i. so i ++ profile_text node (whole i))
+  pub tallies_whole : (window : ℕ × ℕ) (c : ℕ) (all : List TallyOf) → window.0 ≡ sc.from → window.1 ≡ sc.to → window.1 ≤ c → c ≤ sc.topo.limit
+      → all ≡ tallies sc.topo.nodes (window_of sc) (rows_upto f c) → all ≡ tallies sc.topo.nodes (window_of sc) (run_rows f)
+  unfolding tallies
+  tallies_whole window c all from to over le is =
+      is ∙ map_same (tally_of (window_of sc) (rows_upto f c)) (tally_of (window_of sc) (run_rows f)) (λ k. tally_whole c k (omega arith) le) (range_with_len 0 sc.topo.nodes)
+
+  -- before the first row
+  pub tallies_first : (c : ℕ) (all : List TallyOf) → c ≡ 0 → all ≡ tallies sc.topo.nodes (window_of sc) [] → all ≡ tallies sc.topo.nodes (window_of sc) (rows_upto f c)
+  tallies_first c all e is =
+      is ∙ ap (tallies sc.topo.nodes (window_of sc)) (sym (ap (rows_upto f) e ∙ first_rows sc ok))
+
+  -- the charge fits
+  pub tally_fits : (k : ℕ) (t : TallyOf) → sc.to ≤ sc.topo.limit → t ≡ tally_of (window_of sc) (run_rows f) k → 8 * (t.window.1 - t.window.0) + (ended t).asleep + 512 * t.sent < 2 ^ 64
+  tally_fits k t within e = rw e fits
+    where
+      fits : 8 * ((tally_of (window_of sc) (run_rows f) k).window.1 - (tally_of (window_of sc) (run_rows f) k).window.0) + (ended (tally_of (window_of sc) (run_rows f) k)).asleep
+          + 512 * (tally_of (window_of sc) (run_rows f) k).sent < 2 ^ 64
+      fits =
+          let limit : sc.topo.limit ≤ 1099511627776 = ok.topo.ranges.limit_to in
+          let rows = few in
+          let narrow : sc.to < 2 ^ 64 = omega arith in
+          let short : length (run_rows f) < 2 ^ 64 - 1 = omega arith in
+          let asleep = ended-most k (window_of sc) (run_rows f) short narrow rows_rise below_run in
+          let sent = sent-few k (window_of sc) (run_rows f) short narrow rows_rise below_run in
+          let same = (all-kept (run_rows f) (untallied k (window_of sc))).1 in
+          let from : (tally_of (window_of sc) (run_rows f) k).window.0 ≡ sc.from = ap (λ (w : ℕ × ℕ). w.0) same in
+          let to : (tally_of (window_of sc) (run_rows f) k).window.1 ≡ sc.to = ap (λ (w : ℕ × ℕ). w.1) same in
+          omega arith
+
+  -- the profile of a node's tally is its account
+  pub tally_told : (k : ℕ) (t : TallyOf) (a : Account) → sc.to ≤ sc.topo.limit → t ≡ tally_of (window_of sc) (run_rows f) k → length (ended t).at ≤ 65536 → length (ended t).entered ≤ 65536
+      → a ≡ told (ended t) → a ≡ account k (window_of sc) (run_rows f)
+  tally_told k t a within e at entered is =
+      let limit : sc.topo.limit ≤ 1099511627776 = ok.topo.ranges.limit_to in
+      let rows = few in
+      let narrow : sc.to < 2 ^ 64 = omega arith in
+      let short : length (run_rows f) < 2 ^ 64 - 1 = omega arith in
+      is ∙ ap (λ (u : TallyOf). told (ended u)) e
+      ∙ tally-account k (window_of sc) (run_rows f) short narrow rows_rise below_run
+      (subst (λ (u : TallyOf). length (ended u).at ≤ 65536) e at) (subst (λ (u : TallyOf). length (ended u).entered ≤ 65536) e entered)
+
+  -- one node's profile more
+  pub profile_next : (k : ℕ) (a : Account) (before after : List ℕ) → a ≡ account k (window_of sc) (run_rows f) → before ≡ each_below k (profile_at (window_of sc) (run_rows f)) → after ≡ before ++ profile_text k a
+      → after ≡ each_below (suc k) (profile_at (window_of sc) (run_rows f))
+  unfolding profile_at
+  profile_next k a before after is so more = more ∙ (λ i. so i ++ profile_text k (is i))
+
+  pub profiles_all : (nodes : ℕ) (text : List ℕ) → nodes ≡ sc.topo.nodes → text ≡ each_below nodes (profile_at (window_of sc) (run_rows f)) → text ≡ profiles_text sc
+  unfolding profiles_text
+  profiles_all nodes text count is = is ∙ ap (λ (n : ℕ). each_below n (profile_at (window_of sc) (run_rows f))) count

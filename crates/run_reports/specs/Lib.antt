@@ -1,3 +1,4 @@
 pub mod Profiles
 pub mod Frames
 pub mod Sniffing
+pub mod Tallies

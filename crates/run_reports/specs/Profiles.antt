@@ -1,5 +1,5 @@
 -- What is written of the profiles of a run.
-use Rattle.std.specs.Prelude.{ℕ, Bool, ◌&&◌, nat_le, nat_lt, List, ◌++◌, codes, decimal}
+use Rattle.std.specs.Prelude.{ℕ, List, ◌++◌, codes, decimal}
 use Rattle.std.specs.List.{flat_map}
 use Rattle.sim_io.specs.Digits.{hex4}
 use Rattle.air_base.specs.Each.{each_below}
@@ -34,7 +34,3 @@ profile_at window rows node = profile_text node (account node window rows)
 -- the profile of each node over the window of the trace, by the rows of the whole run, node after node
 unfoldable pub profiles_text : ScenarioOf → List ℕ
 profiles_text network = each_below network.topo.nodes (profile_at (window_of network) (run_rows (fleet_of network)))
-
--- a row of a node from the first of these numbers on, below the second
-abbrev pub is_between : ℕ → ℕ → Row → Bool
-is_between first end r = nat_le first r.node && nat_lt r.node end

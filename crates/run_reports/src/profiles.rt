@@ -1,79 +1,64 @@
 // The profiles of all nodes.
-ghost use Rattle.std.specs.Prelude.{◌≡◌, ◌≤◌, ◌<◌, ◌-◌, ◌^◌, length, IfOk, OnOk};
-ghost use Rattle.std.specs.List.{filter};
-ghost use Rattle.air_base.specs.Each.{each_below};
-ghost use Rattle.world_core.specs.Order.{run_rows};
-ghost use Rattle.node_monitors.specs.Matters.{matters};
+ghost use Rattle.std.specs.Prelude.{◌≡◌, ◌≤◌, ◌++◌, ◌∷◌, [], ℕ, List, IfOk, OnOk};
+ghost use Rattle.node_core.specs.declared.row.Row.{Row};
 ghost use Rattle.node_runner.specs.Scenario.{fleet_of};
-ghost use Rattle.run_reports.specs.Profiles.{is_between, profile_at, profiles_text, window_of};
+ghost use Rattle.run_reports.specs.Profiles.{profiles_text, window_of};
+ghost use Rattle.run_reports.specs.Tallies.{tallies};
+ghost use Rattle.world_core.specs.Order.{run_rows};
 
 use crate::profile_lines::put_profile;
 use avr_base::NoMemory;
 use node_core::Row;
-use node_monitors::Profile;
+use node_monitors::Tally;
 use node_runner::Scenario;
 use std::alloc::{AllocError, Global};
 
-// The rows of so many nodes are taken apart from all others at once. A profile goes over the rows once, and would come
-// to memory for all rows of 64 nodes; those of eight stay in the processor's caches.
-const GROUP: u8 = 8;
-
-// The rows of the nodes from `first` on, below `end`.
-fn group_of(alloc: Global, rows: &[Row], first: u8, end: u8) -> Result<Vec<Row>, AllocError>
-    ensures { IfOk result (λ group. group.items ≡ filter (is_between first end) rows.now) }
+/// A tally of each node of a network over its window, in order of number. No row was taken.
+pub fn tally_all(alloc: Global, network: &Scenario) -> Result<Vec<Tally>, AllocError>
+    ensures { IfOk result (λ all. all.items ≡ tallies network.now.topo.nodes (window_of network.now) []) }
 {
-    rows.iter()
-        .filter(|row| first <= row.node && row.node < end)
-        .copied()
-        .collect(alloc)
+    let window = network.window();
+    let mut all = Vec::new(alloc);
+    for node in 0..network.lawful_topo().nodes() {
+        all.push(Tally::new(alloc, node, window))?;
+    }
+    Ok(all)
 }
 
-// Appends the profiles of the nodes from `first` on, below `end`, to those of the nodes before.
-fn put_group(
-    alloc: Global,
-    first: u8,
-    end: u8,
-    window: (u64, u64),
-    rows: &[Row],
-    text: &mut Vec<u8>,
-) -> Result<(), NoMemory>
-    requires rises { first ≤ end }
-    requires narrow { window.1 - window.0 ≤ 20000 }
-    requires few { length rows.now < 2 ^ 50 }
-    requires before { text.old.items ≡ each_below first (profile_at window rows.now) }
-    ensures { OnOk result (text.new.items ≡ each_below end (profile_at window rows.now)) }
+// The next row of a run goes to its node's tally.
+fn tally_row(row: &Row, all: &mut Vec<Tally>) -> Result<(), AllocError>
+    ensures { (nodes : ℕ) (window : ℕ × ℕ) (before : List Row) → all.old.items ≡ tallies nodes window before → OnOk result (all.new.items ≡ tallies nodes window (before ++ row.now ∷ [])) }
 {
-    let group = group_of(alloc, rows, first, end)?;
-    for node in first..end {
-        let profile = Profile::of(alloc, node, window, group.as_slice())?;
-        put_profile(node, &profile, text)?;
+    let number = usize::from(row.node);
+    if number < all.len() {
+        all[number].take(row)?;
     }
     Ok(())
 }
 
-// The profiles of the nodes below `nodes`.
-fn put_all(alloc: Global, nodes: u8, window: (u64, u64), rows: &[Row]) -> Result<Vec<u8>, NoMemory>
-    requires narrow { window.1 - window.0 ≤ 20000 }
-    requires few { length rows.now < 2 ^ 50 }
-    ensures { IfOk result (λ text. text.items ≡ each_below nodes (profile_at window rows.now)) }
+/// The next rows of a run go to the tallies of their nodes.
+pub fn tally_rows(rows: &[Row], all: &mut Vec<Tally>) -> Result<(), AllocError>
+    ensures { (nodes : ℕ) (window : ℕ × ℕ) (before : List Row) → all.old.items ≡ tallies nodes window before → OnOk result (all.new.items ≡ tallies nodes window (before ++ rows.now)) }
 {
-    let mut text = Vec::new(alloc);
-    let mut first = 0;
-    while first < nodes {
-        let end = first + GROUP.min(nodes - first);
-        put_group(alloc, first, end, window, rows, &mut text)?;
-        first = end;
+    for row in rows {
+        tally_row(row, all)?;
     }
-    Ok(text)
+    Ok(())
 }
 
-/// The profile of each node of a network over its window, of at most 20,000 cycles, node after node. The rows are those
-/// of its run that count in a profile over that window. `Err` only for want of memory.
-pub fn profiles_of(alloc: Global, network: &Scenario, rows: &[Row]) -> Result<Vec<u8>, NoMemory>
-    requires narrow { network.now.to - network.now.from ≤ 20000 }
-    requires rows { rows.now ≡ filter (matters (window_of network.now)) (run_rows (fleet_of network.now)) }
+/// No more rows come: the profile of each node of a network over its window, which lies within its run, node after node.
+/// `Err` only for want of memory.
+pub fn profiles_of(alloc: Global, network: &Scenario, all: Vec<Tally>) -> Result<Vec<u8>, NoMemory>
+    requires within { network.now.to ≤ network.now.topo.limit }
+    requires taken { all.items ≡ tallies network.now.topo.nodes (window_of network.now) (run_rows (fleet_of network.now)) }
     ensures { IfOk result (λ text. text.items ≡ profiles_text network.now) }
 {
-    let nodes = network.lawful_topo().nodes();
-    put_all(alloc, nodes, network.window(), rows)
+    let _lawful = network.lawful_topo();
+    let mut text = Vec::new(alloc);
+    for tally in all {
+        let node = tally.node();
+        let profile = tally.profile(alloc)?;
+        put_profile(node, &profile, &mut text)?;
+    }
+    Ok(text)
 }

@@ -5,7 +5,8 @@ from collections.abc import Iterator
 from avrora_tools import cli, events, programs, scenarios, traces
 from avrora_tools.commands.annotate import Notes
 from avrora_tools.differences import Alignment, NodeDifference, differences
-from avrora_tools.errors import BadWords, Status
+from avrora_tools.errors import BadInput, BadWords, Status
+from avrora_tools.events import TRACED
 from avrora_tools.traces import Row
 
 SUMMARY = "what differs between two traces: first rows, and what is later, gone or new"
@@ -16,7 +17,7 @@ by kind how many are the same but in other cycles, by how much, and which are go
 their order, without their cycles (of a sample without its age too); where they are not the same the next ones that are are
 sought among 64.
 
-Status 0: no row differs; 1: one does; 2: bad words or a file that is no trace."""
+Status 0: no row differs; 1: one does; 2: bad words, a file that is no trace, or two that can have no such row."""
 
 COLUMN = 44  # where notes on a row begin
 
@@ -26,22 +27,36 @@ def run(arguments: argparse.Namespace) -> int:
         raise BadWords("only one of two traces can come from the standard input")
     scenario = scenarios.Scenario.load(arguments.scenario) if arguments.scenario else None
     notes = Notes(programs.Programs(arguments.elf, scenario, arguments.force))
-    first, second = (chosen(arguments, name) for name in (arguments.first, arguments.second))
+    came: set[tuple[int, str]] = set()
+    first, second = (chosen(arguments, name, came) for name in (arguments.first, arguments.second))
     nodes = differences(first, second, not arguments.without_cycles)
+    refuse_unseen(arguments, came)
     same = [number for number, node in nodes.items() if not node.has_parted]
     for number, node in nodes.items():
         if node.has_parted:
             print_node(number, node, notes)
     if same:
         print(f"the same: node{'s' * (len(same) > 1)} {', '.join(map(str, same))}")
+    if not nodes:
+        print("the same: neither trace has such a row")
     return Status.GOOD if len(same) == len(nodes) else Status.NOT_MET
 
 
-def chosen(arguments: argparse.Namespace, name: str) -> Iterator[Row]:
-    """The rows of the nodes and kinds that are asked for."""
+def chosen(arguments: argparse.Namespace, name: str, came: set[tuple[int, str]]) -> Iterator[Row]:
+    """The rows of the nodes and kinds that are asked for; `came` has the nodes and kinds of all rows then."""
     for row in traces.rows(name):
+        came.add((row.node, row.kind))
         if (arguments.nodes is None or row.node in arguments.nodes) and row.kind in arguments.kinds:
             yield row
+
+
+def refuse_unseen(arguments: argparse.Namespace, came: set[tuple[int, str]]) -> None:
+    """Raises BadInput where no row of the traces can be one that is asked for."""
+    missing = sorted((arguments.nodes or set()) - {node for node, _ in came})
+    if missing:
+        raise BadInput(f"neither trace has a row of node {missing[0]}")
+    if arguments.kinds <= TRACED and not any(kind in TRACED for _, kind in came):
+        raise BadInput(f"neither trace has a window, and {' and '.join(sorted(arguments.kinds))} rows stand in one alone")
 
 
 def print_node(number: int, node: NodeDifference, notes: Notes) -> None:

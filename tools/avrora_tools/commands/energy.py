@@ -22,8 +22,9 @@ a TOML file of currents in mA:
   [node.'1-4']       # other currents of some nodes
   listening = 0.5
 
-Cycles without an owner (`lead`: the window began within a sleep or an instruction) may be awake or asleep, so what depends
-on them is told as a span. A byte that is sent counts for a whole byte time. From its stop on a node draws nothing. Means and
+`avrora monitor FILE 0 END`, where END are the `cycles` of the scenario, writes of the whole run (--window 0..END). Cycles
+without an owner (`lead`: the window began within a sleep or an instruction) may be awake or asleep, so what depends on them
+is told as a span. A byte that is sent counts for a whole byte time. From its stop on a node draws nothing. Means and
 days are those of the window of the report."""
 
 PARTS = {"awake": "#c0392b", "asleep": "#a9b8d0", "sending": "#3b6fb6", "listening": "#7bbf8a", "unknown": "#e0e0e0"}
@@ -34,7 +35,7 @@ def run(arguments: argparse.Namespace) -> int:
     scenario = scenarios.Scenario.load(arguments.scenario)
     name = files.shown(arguments.report)
     lines = profiles.text_lines(traces.file_blocks(arguments.report), name)
-    nodes = list(profiles.MonitorReader(name, scenario).read(lines).values())
+    nodes = list(profiles.MonitorReader(name, scenario, arguments.window).read(lines).values())
     if unknown := sorted(set(table.by_node) - set(range(len(nodes)))):
         raise BadInput(f"{files.shown(arguments.currents)}: there is no node {unknown[0]}")
     accounts = [account(node, table.of(k), scenario.byte_time, table.hz) for k, node in enumerate(nodes)]
@@ -104,6 +105,7 @@ def picture(accounts: list[Account], seconds: float, width: int = 900) -> str:
 def configure(parser: argparse.ArgumentParser) -> None:
     cli.describe(parser, DESCRIPTION, "energy currents.toml packet.toml packet.profile")
     parser.add_argument("--svg", metavar="FILE", help="a picture too: a bar for each node")
+    parser.add_argument("--window", type=cli.window, metavar="A..B", help="the FROM and TO of the report, where it is not of the scenario's window")
     parser.add_argument("currents", metavar="CURRENTS", help="the currents, a TOML file")
     parser.add_argument("scenario", metavar="SCENARIO", help="whose report it is: its byte time says how long a byte is sent")
     parser.add_argument("report", nargs="?", default="-", metavar="REPORT", help="what `avrora monitor` wrote; - or none: the standard input")

@@ -2,7 +2,6 @@
 import argparse
 import collections
 import itertools
-import re
 from collections.abc import Callable, Mapping
 
 from avrora_tools import cli, files, programs, profiles, traces
@@ -101,18 +100,11 @@ class Names:
         return line or f"{self.function(node, word)} (no line)"
 
 
-def window(text: str) -> tuple[int, int]:
-    match = re.fullmatch(r"([0-9][0-9_]*)\.\.([0-9][0-9_]*)", text)
-    if not match or not match[1].rstrip("_") or int(match[1].replace("_", "")) >= int(match[2].replace("_", "")):
-        raise argparse.ArgumentTypeError(f"{text} is no window A..B")
-    return int(match[1].replace("_", "")), int(match[2].replace("_", ""))
-
-
 def configure(parser: argparse.ArgumentParser) -> None:
     cli.describe(parser, DESCRIPTION, "profile --callers -s relay.toml -e relay.elf relay.trace")
     programs.add_programs(parser)
     cli.add_nodes(parser)
-    parser.add_argument("--window", type=window, metavar="A..B", help="the cycles that are counted")
+    parser.add_argument("--window", type=cli.window, metavar="A..B", help="the cycles that are counted; of a monitor's report its FROM and TO")
     parser.add_argument("--by-node", action="store_true", help="a table for each node too")
     parser.add_argument("--lines", action="store_true", help="by source line too")
     parser.add_argument("--callers", action="store_true", help="who called whom too")
@@ -157,7 +149,7 @@ def read(
     if profiles.is_monitor(first):
         if scenario is None:
             raise BadWords(f"{name} is what a monitor wrote: its scenario (-s) tells whether it is whole")
-        return profiles.MonitorReader(name, scenario).read(profiles.text_lines(blocks, name)), None
+        return profiles.MonitorReader(name, scenario, arguments.window).read(profiles.text_lines(blocks, name)), None
     trace = traces.Trace(blocks, name, traces.form_of(arguments), scenario=scenario, epochs=arguments.head)
     reader = profiles.read_trace(trace, arguments.window, scenario, all_programs)
     return reader.spent, reader.calls

@@ -1,5 +1,6 @@
 use Rattle.node_runner.proofs.Accepted.{is_scenario}
 use Rattle.pieces_law.proofs.Networks.{network_accepted}
+use Rattle.pieces_law.proofs.Made.{alone, made}
 use Rattle.pieces_law.proofs.network_law.Goals as goal
 
 pub returns-clause-texts : goal.returns-clause-texts
@@ -7,3 +8,9 @@ returns-clause-texts c = network_accepted
 
 pub returns-clause-scenario : goal.returns-clause-scenario
 returns-clause-scenario c = λ files file network e. is_scenario network (network_accepted files file network e)
+
+pub returns-clause-alone : goal.returns-clause-alone
+returns-clause-alone c = alone
+
+pub returns-clause-sample : goal.returns-clause-sample
+returns-clause-sample c = made

@@ -1,5 +1,5 @@
-use Rattle.std.proofs.Common.{◌≡◌, ◌<◌, List, sym, subst, ap, ◌∙◌}
-use Rattle.std.specs.List.{All, filter}
+use Rattle.std.proofs.Common.{◌<◌, List, sym, subst, ap, ◌∙◌}
+use Rattle.std.specs.List.{All}
 use Rattle.std.proofs.lemmas.List.Elements.{All-filter}
 use Rattle.std.proofs.lemmas.List.Kept.{AllPairs-filter}
 use Rattle.air_base.specs.declared.air.Send.{Send}

@@ -10,6 +10,6 @@ returns-in-Err-clause-value c =
     let word = c.args.word.now in
     let digits : list_all is_ascii_digit word ≡ true = search rules in
     let some : 0 < length word = search rules in
-    let few : length word ≤ 8 = omega arith in
+    let few : length word ≤ 13 = omega arith in
     let read = read_few word c.parse.result c.parse.ensures.value.0 digits some few in
     absurd (cc (read, c.in-Err.is))

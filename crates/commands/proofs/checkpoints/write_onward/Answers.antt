@@ -1,84 +1,20 @@
-use Rattle.std.proofs.Common.{◌≡◌, ℕ, ◌+◌, ◌<◌, ◌≤◌, min, List, ◌++◌, refl, sym, ap, ◌∙◌, subst, arith}
-use Rattle.world_core.specs.Kept.{epoch}
-use Rattle.sim_io.specs.Outside.{Rose, TookFront, extended}
+use Rattle.std.proofs.Common.{List, ap, ◌∙◌, subst}
 use Rattle.node_core.specs.declared.row.Row.{Row}
 use Rattle.trace_writer.specs.Line.{rows_text}
-use Rattle.checkpoint_text.specs.Onward.{SavedAt, onward}
-use Rattle.node_runner.specs.Run.{rows_upto}
-use Rattle.node_runner.specs.Scenario.{ScenarioOf}
-use Rattle.state_text.specs.Text.{StateOf}
-use Rattle.run_reports.proofs.Runs.{over_at, rows_whole}
+use Rattle.world_core.specs.Topology.{Topology}
+use Rattle.checkpoint_text.specs.Onward.{onward}
+use Rattle.run_reports.proofs.Runs.{rows_whole}
+use Rattle.command_plans.specs.Parts.{Written}
 use Rattle.command_plans.specs.Ends.{stream}
-use Rattle.commands.proofs.Traces.{front_taken, front_failed, rows_none, taken_none, taken_next}
+use Rattle.commands.proofs.Epochs.{from_limit}
 use Rattle.commands.proofs.checkpoints.write_onward.Goals as goal
 
-pub loop-saved-init : goal.loop-saved-init
-loop-saved-init g c =
-    let network : ScenarioOf = c.args.network.now in
-    let state : StateOf = c.args.saved.state in
-    let is = c.requires.is in
-    let at : c.args.saved.floor ≡ state.cycle = ap (λ (a : SavedAt). a.floor) is in
-    let none = ap (rows_upto (onward network state)) at ∙ rows_none (onward network state) c.requires.early in
-    record {
-      same = ap (λ (a : SavedAt). a.scenario) is;
-      state = refl;
-      sound = ap (λ (a : SavedAt). a.failed) is;
-      begun = omega arith;
-      taken = taken_none _ (rows_upto (onward network state) c.args.saved.floor) none;
-      count = refl;
-    }
-
-pub returns-in_default : goal.returns-in_default
-returns-in_default g c =
-    let f = onward c.args.network.now c.args.saved.state in
-    let within : c.loop-saved.saved.floor ≤ c.args.network.now.topo.limit =
-    subst (λ (s : ScenarioOf). c.loop-saved.saved.floor ≤ s.topo.limit) c.loop-saved.invariant.same c.loop-saved-test.ensures.within in
-    (front_taken f c.loop-saved.saved.floor c.loop-saved.invariant.begun within _ _ c.loop-saved.invariant.taken, c.loop-saved.invariant.count)
-
--- what an epoch more has told, by the state that the run began in
-rows_told : (network : ScenarioOf) (state now : StateOf) (c d : ℕ) (rows : List Row) → now ≡ state → rows_upto (onward network now) d ≡ rows_upto (onward network now) c ++ rows
-    → rows_upto (onward network state) d ≡ rows_upto (onward network state) c ++ rows
-rows_told network state now c d rows e h = subst (λ (s : StateOf). rows_upto (onward network s) d ≡ rows_upto (onward network s) c ++ rows) e h
-
-pub returns-in-Err : goal.returns-in-Err
-returns-in-Err g c =
-    let network : ScenarioOf = c.args.network.now in
-    let f = onward network c.args.saved.state in
-    let end : c.epoch.new.self.floor ≡ min (c.loop-saved.saved.floor + epoch) c.loop-saved.saved.scenario.topo.limit = ap (λ (a : SavedAt). a.floor) c.in-Ok.ensures.after in
-    let most : c.epoch.new.self.floor ≤ c.loop-saved.saved.scenario.topo.limit = omega arith in
-    let within : c.epoch.new.self.floor ≤ network.topo.limit = subst (λ (s : ScenarioOf). c.epoch.new.self.floor ≤ s.topo.limit) c.loop-saved.invariant.same most in
-    let limit = c.loop-saved-test.ensures.within in
-    let begun : c.args.saved.state.cycle ≤ c.epoch.new.self.floor = let b = c.loop-saved.invariant.begun in omega arith in
-    let front : TookFront (g.O.Sink.taken c.loop-saved.out) (rows_text c.in-Ok.rows.items) (g.O.Sink.taken c.write.new.sink) =
-    subst (λ (l : List Row). TookFront (g.O.Sink.taken c.loop-saved.out) (rows_text l) (g.O.Sink.taken c.write.new.sink)) c.as_slice.ensures.value c.in-Err.ensures.front in
-    let rows = rows_told network c.args.saved.state c.loop-saved.saved.state c.loop-saved.saved.floor c.epoch.new.self.floor c.in-Ok.rows.items c.loop-saved.invariant.state c.in-Ok.ensures.rows in
-    record {
-      front = front_failed f c.epoch.new.self.floor begun within _ _ _ _ c.in-Ok.rows.items c.loop-saved.invariant.taken rows front;
-      rose = subst (λ (n : ℕ). Rose n (g.O.Sink.faults c.write.new.sink)) c.loop-saved.invariant.count c.in-Err.ensures.rose;
-    }
-
-pub loop-saved-preserved : goal.loop-saved-preserved
-loop-saved-preserved g c =
-    let network : ScenarioOf = c.args.network.now in
-    let after = c.in-Ok.ensures.after in
-    let end : c.epoch.new.self.floor ≡ min (c.loop-saved.saved.floor + epoch) c.loop-saved.saved.scenario.topo.limit = ap (λ (a : SavedAt). a.floor) after in
-    let limit = c.loop-saved-test.ensures.within in
-    let rows = rows_told network c.args.saved.state c.loop-saved.saved.state c.loop-saved.saved.floor c.epoch.new.self.floor c.in-Ok.rows.items c.loop-saved.invariant.state c.in-Ok.ensures.rows in
-    let took : g.O.Sink.taken c.write.new.sink ≡ extended (g.O.Sink.taken c.loop-saved.out) (rows_text c.in-Ok.rows.items) =
-    c.in-Ok-write.ensures.taken ∙ ap (λ (l : List Row). extended (g.O.Sink.taken c.loop-saved.out) (rows_text l)) c.as_slice.ensures.value in
-    record {
-      same = ap (λ (a : SavedAt). a.scenario) after ∙ c.loop-saved.invariant.same;
-      state = ap (λ (a : SavedAt). a.state) after ∙ c.loop-saved.invariant.state;
-      sound = ap (λ (a : SavedAt). a.failed) after ∙ c.loop-saved.invariant.sound;
-      begun = let b = c.loop-saved.invariant.begun in omega arith;
-      taken = taken_next _ _ _ _ c.in-Ok.rows.items _ c.loop-saved.invariant.taken rows took;
-      count = c.in-Ok-write.ensures.ok ∙ c.loop-saved.invariant.count;
-    }
+pub write_rows_to-requires-clause-end : goal.write_rows_to-requires-clause-end
+write_rows_to-requires-clause-end g c =
+    from_limit c.args.network.now c.args.saved.state.cycle c.limit.result (c.limit.ensures.value ∙ ap (λ (t : Topology). t.limit) c.lawful_topo.ensures.value)
 
 pub returns : goal.returns
 returns g c =
-    let f = onward c.args.network.now c.args.saved.state in
-    let over : c.loop-saved.saved.floor ≡ c.loop-saved.saved.scenario.topo.limit = over_at _ _ c.loop-saved-test.ensures.value in
-    let limit : c.loop-saved.saved.floor ≡ c.args.network.now.topo.limit = over ∙ ap (λ (s : ScenarioOf). s.topo.limit) c.loop-saved.invariant.same in
-    let taken = c.loop-saved.invariant.taken ∙ ap (λ (l : List Row). extended (g.O.Sink.taken c.args.out.now) (rows_text l)) (rows_whole f c.loop-saved.saved.floor limit) in
-    λ i. stream (taken i) (c.loop-saved.invariant.count i)
+    let limit = c.limit.ensures.value ∙ ap (λ (t : Topology). t.limit) c.lawful_topo.ensures.value in
+    subst (λ (l : List Row). Written (rows_text l) (stream (g.O.Sink.taken c.args.out.now) (g.O.Sink.faults c.args.out.now)) (stream (g.O.Sink.taken c.write_rows_to.new.out) (g.O.Sink.faults c.write_rows_to.new.out)) c.write_rows_to.result)
+    (rows_whole (onward c.args.network.now c.args.saved.state) c.limit.result limit) c.write_rows_to.ensures

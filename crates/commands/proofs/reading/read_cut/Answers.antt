@@ -20,7 +20,7 @@ returns-then-epochs-limit-clause-ok g c =
     let limit : c.limit.result ≡ c.in-Ok.network.topo.limit = c.limit.ensures.value ∙ ap (λ (t : Topology). t.limit) c.lawful_topo.ensures.value in
     let test = c.if-epochs-limit.true in
     let below : c.args.epochs * epoch < c.in-Ok.network.topo.limit = omega arith in
-    record { reached = cut_reached _ c.args.file.now c.args.epochs c.in-Ok.network read.reached below; same = read.same; silent = read.silent; narrow = read.narrow }
+    record { reached = cut_reached _ c.args.file.now c.args.epochs c.in-Ok.network read.reached below; same = read.same; silent = read.silent; within = read.within }
 
 pub returns-clause-err : goal.returns-clause-err
 returns-clause-err g c =

@@ -4,9 +4,9 @@ use Rattle.command_plans.specs.Plan.{Give, image_plan, source_plan}
 use Rattle.command_plans.specs.Parts.{end_at}
 use Rattle.command_plans.specs.Reading.{Here}
 use Rattle.command_plans.proofs.Steps.{stopped_behind}
-use Rattle.commands.specs.Job.{Job, TraceJob, MonitorJob, SniffJob, SizeJob, DisasmJob, AsmJob, SampleJob, HeadJob, SaveJob}
+use Rattle.commands.specs.Job.{Job, TraceJob, MonitorJob, SniffJob, SizeJob, DisasmJob, AsmJob, SampleJob, HeadJob, SaveJob, HeadOnJob, SaveOnJob}
 use Rattle.commands.specs.Network.{lone_node}
-use Rattle.commands.specs.Plan.{cut_plan, network_plan, plan_of}
+use Rattle.commands.specs.Plan.{cut_on_plan, cut_plan, network_plan, plan_of, span_plan}
 use Rattle.commands.proofs.Networks.{network_ready, ready}
 use Rattle.commands.proofs.States.{resume_ready, resume_stopped}
 use Rattle.commands.proofs.reading.read_job.Goals as goal
@@ -29,7 +29,7 @@ returns-in-Err-read_network-clause-read g c = rw c.in-RunPlain.is (stopped_behin
 
 pub returns-in-Ok-read_network-2-clause-read : goal.returns-in-Ok-read_network-2-clause-read
 unfolding plan_of
-returns-in-Ok-read_network-2-clause-read g c = rw c.in-Monitor.is (network_ready _ (network_plan c.in-Monitor.file.now) MonitorJob _ _ _ _ _ _ c.in-Ok-read_network-2.ensures.ok refl c.in-Ok-read_network-2.ensures.ok.narrow)
+returns-in-Ok-read_network-2-clause-read g c = rw c.in-Monitor.is (network_ready _ (network_plan c.in-Monitor.file.now) MonitorJob _ _ _ _ _ _ c.in-Ok-read_network-2.ensures.ok refl c.in-Ok-read_network-2.ensures.ok.within)
 
 pub returns-in-Err-read_network-2-clause-read : goal.returns-in-Err-read_network-2-clause-read
 unfolding plan_of
@@ -133,3 +133,38 @@ returns-in-Err-read_saved-clause-read g c =
 pub returns-in-Err-read_network-5-clause-read : goal.returns-in-Err-read_network-5-clause-read
 unfolding plan_of
 returns-in-Err-read_network-5-clause-read g c = rw c.in-Resume.is (stopped_behind _ (network_plan c.in-Resume.file.now) _ _ _ _ _ _ c.in-Err-read_network-5.ensures.err)
+
+pub returns-in-Ok-read_cut_on-clause-read : goal.returns-in-Ok-read_cut_on-clause-read
+unfolding plan_of
+returns-in-Ok-read_cut_on-clause-read g c =
+    let read = c.in-Ok-read_cut_on.ensures.ok in
+    rw c.in-HeadOn.is
+    (ready _ (cut_on_plan c.in-HeadOn.file.now c.in-HeadOn.epochs c.in-HeadOn.state.now) (λ at. HeadOnJob at.0 at.1 c.in-HeadOn.epochs) _ _ _ _ _ _ read.reached refl read.same read.silent read.cut)
+
+pub returns-in-Err-read_cut_on-clause-read : goal.returns-in-Err-read_cut_on-clause-read
+unfolding plan_of
+returns-in-Err-read_cut_on-clause-read g c =
+    rw c.in-HeadOn.is (stopped_behind _ (cut_on_plan c.in-HeadOn.file.now c.in-HeadOn.epochs c.in-HeadOn.state.now) _ _ _ _ _ _ c.in-Err-read_cut_on.ensures.err)
+
+pub returns-in-Ok-read_cut_on-2-clause-read : goal.returns-in-Ok-read_cut_on-2-clause-read
+unfolding plan_of
+returns-in-Ok-read_cut_on-2-clause-read g c =
+    let read = c.in-Ok-read_cut_on-2.ensures.ok in
+    rw c.in-SaveOn.is
+    (ready _ (cut_on_plan c.in-SaveOn.file.now c.in-SaveOn.epochs c.in-SaveOn.state.now) (λ at. SaveOnJob at.0 at.1 c.in-SaveOn.epochs) _ _ _ _ _ _ read.reached refl read.same read.silent read.cut)
+
+pub returns-in-Err-read_cut_on-2-clause-read : goal.returns-in-Err-read_cut_on-2-clause-read
+unfolding plan_of
+returns-in-Err-read_cut_on-2-clause-read g c =
+    rw c.in-SaveOn.is (stopped_behind _ (cut_on_plan c.in-SaveOn.file.now c.in-SaveOn.epochs c.in-SaveOn.state.now) _ _ _ _ _ _ c.in-Err-read_cut_on-2.ensures.err)
+
+pub returns-in-Ok-read_span-clause-read : goal.returns-in-Ok-read_span-clause-read
+unfolding plan_of
+returns-in-Ok-read_span-clause-read g c =
+    rw c.in-MonitorSpan.is
+    (network_ready _ (span_plan c.in-MonitorSpan.file.now c.in-MonitorSpan.from c.in-MonitorSpan.to) MonitorJob _ _ _ _ _ _ c.in-Ok-read_span.ensures.ok refl c.in-Ok-read_span.ensures.ok.within)
+
+pub returns-in-Err-read_span-clause-read : goal.returns-in-Err-read_span-clause-read
+unfolding plan_of
+returns-in-Err-read_span-clause-read g c =
+    rw c.in-MonitorSpan.is (stopped_behind _ (span_plan c.in-MonitorSpan.file.now c.in-MonitorSpan.from c.in-MonitorSpan.to) _ _ _ _ _ _ c.in-Err-read_span.ensures.err)

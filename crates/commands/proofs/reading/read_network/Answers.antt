@@ -1,7 +1,7 @@
 use Rattle.std.proofs.Common.{◌≤◌, ◌-◌, refl, sym, subst, ◌∙◌}
 use Rattle.scenario_file.specs.Shown.{parts}
 use Rattle.node_runner.specs.Scenario.{ScenarioOf}
-use Rattle.command_plans.specs.Plan.{Give, images_plan}
+use Rattle.command_plans.specs.Plan.{Give, images_plan, scenario_plan}
 use Rattle.command_plans.specs.Reading.{Reached}
 use Rattle.command_plans.specs.Ends.{reads}
 use Rattle.command_plans.specs.Parts.{StopsAt, end_at}
@@ -11,7 +11,7 @@ use Rattle.commands.proofs.reading.read_network.Goals as goal
 pub returns-in-Err-clause-err : goal.returns-in-Err-clause-err
 returns-in-Err-clause-err g c = record {
   end = end_at c.in-Err.trouble;
-  stops = stops_at_scenario _ (g.S.Store.held c.read_scenario.new.store) c.args.file.now _ _ (end_at c.in-Err.trouble) c.in-Err.ensures.read;
+  stops = stops_at_scenario _ (g.S.Store.held c.read_scenario.new.store) (scenario_plan c.args.file.now) _ _ (end_at c.in-Err.trouble) c.in-Err.ensures.read;
   told = c.tell.ensures;
 }
 
@@ -23,7 +23,7 @@ returns-in-Err-read_images-clause-err g c =
     rw (← c.as_slice.ensures.value) c.in-Err-read_images.ensures.read in
     record {
       end = end_at c.in-Err-read_images.trouble;
-      stops = stops_at_image _ _ c.args.file.now (parts c.in-Ok.text) _ _ _ (end_at c.in-Err-read_images.trouble) c.in-Ok.ensures.held c.in-Ok.ensures.read.0 c.in-Ok.ensures.read.1 stops;
+      stops = stops_at_image _ _ (scenario_plan c.args.file.now) (parts c.in-Ok.text) _ _ _ (end_at c.in-Err-read_images.trouble) c.in-Ok.ensures.held c.in-Ok.ensures.read.0 c.in-Ok.ensures.read.1 stops;
       told = c.tell-in-Err-read_images.ensures;
     }
 
@@ -32,8 +32,8 @@ returns-in-Ok-read_images-clause-ok g c =
     let more : Reached (g.S.Store.held c.read_scenario.new.store) (images_plan c.in-Ok.text.images.items) (Give c.in-Ok-read_images.images.items) =
     rw (← c.as_slice.ensures.value) c.in-Ok-read_images.ensures.read.1 in
     record {
-      reached = network_reached _ _ c.args.file.now (parts c.in-Ok.text) c.in-Ok-read_images.images.items _ c.in-Ok.ensures.held c.in-Ok.ensures.read.1 more c.new.ensures;
+      reached = network_reached _ _ (scenario_plan c.args.file.now) (parts c.in-Ok.text) c.in-Ok-read_images.images.items _ c.in-Ok.ensures.held c.in-Ok.ensures.read.1 more c.new.ensures;
       same = c.in-Ok-read_images.ensures.read.0 ∙ c.in-Ok.ensures.read.0;
       silent = refl;
-      narrow = subst (λ (n : ScenarioOf). n.to - n.from ≤ 20000) (sym c.new.ensures) c.in-Ok.ensures.lawful.narrow;
+      within = subst (λ (n : ScenarioOf). n.to ≤ n.topo.limit) (sym c.new.ensures) c.in-Ok.ensures.lawful.within;
     }

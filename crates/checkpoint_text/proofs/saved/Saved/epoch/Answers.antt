@@ -22,5 +22,6 @@ invariant_of-self-2 c =
       scenario = c.self.invariant.scenario;
       limit = c.self.invariant.limit;
       within = omega arith;
+      order = c.self.invariant.order;
       paused = (λ q. subst (λ (s : ScenarioOf). IsPaused (onward s i.state.value) c.min-end.result c.min-end.result c.rows_to.new.nodes.items c.rows_to.new.log.sends) same c.in_ok-rows.ensures.paused);
     }

@@ -31,6 +31,7 @@ invariant_of-result c =
       scenario = c.lawful_topo.ensures.sound;
       limit = limit;
       within = omega arith;
+      order = c.requires.order;
       paused = (λ e. first_paused sc st c.in_ok-nodes.nodes.items c.in_ok-log.log.sends c.requires c.in_ok-nodes.ensures (ap (λ (l : LogFacts). l.sends) c.in_ok-log.ensures ∙ sends));
     } in
     let at : (record { scenario = sc; state = st; floor = st.cycle; failed = false }) ≡ (record { scenario = c.of.result.value; state = c.of-2.result.value; floor = c.state.inside.cycle; failed = false }) =

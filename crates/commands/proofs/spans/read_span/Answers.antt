@@ -1,0 +1,37 @@
+use Rattle.std.proofs.Common.{◌≡◌, ◌≤◌, refl, sym, subst, ap, ◌∙◌, arith}
+use Rattle.scenario_file.specs.Shown.{parts}
+use Rattle.scenario_file.specs.declared.fault.ScenarioFault.TheVariants.{OutOfRange}
+use Rattle.node_runner.specs.Scenario.{ScenarioOf}
+use Rattle.command_plans.specs.declared.trouble.ScenarioCause.TheVariants.{Faulty}
+use Rattle.command_plans.specs.Plan.{Give, BadScenario, and_then, images_plan, scenario_plan}
+use Rattle.command_plans.specs.Reading.{Reached}
+use Rattle.command_plans.specs.Ends.{Refused, reads}
+use Rattle.command_plans.specs.Parts.{StopsAt, end_at}
+use Rattle.command_plans.proofs.Steps.{stops_behind}
+use Rattle.commands.specs.Plan.{span_or}
+use Rattle.commands.proofs.Networks.{stops_at_scenario, stops_at_image, network_reached, span_reached, span_refused}
+use Rattle.commands.proofs.spans.read_span.Goals as goal
+
+pub returns-in-Err-clause-err : goal.returns-in-Err-clause-err
+returns-in-Err-clause-err g c = record {
+  end = end_at c.in-Err.trouble;
+  stops = stops_at_scenario _ (g.S.Store.held c.read_scenario.new.store) (and_then (scenario_plan c.args.file.now) (span_or c.args.file.now c.args.from c.args.to)) _ _ (end_at c.in-Err.trouble)
+      (stops_behind _ (scenario_plan c.args.file.now) (span_or c.args.file.now c.args.from c.args.to) _ _ (end_at c.in-Err.trouble) c.in-Err.ensures.read);
+  told = c.tell.ensures;
+}
+
+pub returns-in-Err-read_images-clause-err : goal.returns-in-Err-read_images-clause-err
+returns-in-Err-read_images-clause-err g c =
+    let most : c.args.to ≤ c.limit.result = c.if-limit-to.false in
+    let limit : c.limit.result ≡ c.in-Ok.text.topo.limit = c.limit.ensures.value in
+    let stops : StopsAt (g.S.Store.held c.read_scenario.new.store) (images_plan c.in-Ok.text.images.items)
+    (reads (g.S.Store.faults c.read_scenario.new.store) (g.S.Store.failed c.read_scenario.new.store))
+    (reads (g.S.Store.faults c.read_images.new.store) (g.S.Store.failed c.read_images.new.store)) (end_at c.in-Err-read_images.trouble) =
+    rw (← c.as_slice.ensures.value) c.in-Err-read_images.ensures.read in
+    record {
+      end = end_at c.in-Err-read_images.trouble;
+      stops = stops_at_image _ _ (and_then (scenario_plan c.args.file.now) (span_or c.args.file.now c.args.from c.args.to)) (record (parts c.in-Ok.text) { window = (c.args.from, c.args.to) }) _ _ _
+          (end_at c.in-Err-read_images.trouble) c.in-Ok.ensures.held c.in-Ok.ensures.read.0
+          (span_reached _ c.args.file.now c.args.from c.args.to (parts c.in-Ok.text) c.in-Ok.ensures.read.1 (omega arith)) stops;
+      told = c.tell-in-Err-read_images.ensures;
+    }
