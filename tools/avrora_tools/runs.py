@@ -107,12 +107,14 @@ class Check:
 
 @dataclasses.dataclass(frozen=True)
 class Shipment:
-    """All that a worker needs for a campaign: `traces` says of which runs the trace is handed back."""
+    """All that a worker needs for a campaign: `traces` says of which runs the trace is handed back, and `words` how the
+    simulator is called."""
 
     files: dict[str, bytes]
     checks: Sequence[Check]
     timeout: int
     traces: str
+    words: tuple[str, ...] = ("run", SCENARIO)
 
 
 class Sick(Exception):
@@ -244,7 +246,7 @@ class Bench:
         scenario, check, _ = job
         self.write_scenario(place, scenario)
         try:
-            status, said = self.said_at_end(place, ["run", SCENARIO], trace)
+            status, said = self.said_at_end(place, self.shipment.words, trace)
             if status in REFUSALS:
                 return answer(REFUSED, said)
             if status:
