@@ -1,9 +1,11 @@
 -- What each status says of a call.
-use Rattle.std.proofs.Common.{◌≡◌, ◌≢◌, ◌⊎◌, ℕ, ◌*◌, nat_lt, Bool, if◌then◌else◌, List, Option, Some, None, is_some, true, false, Result, Ok, Err, inl, inr, refl, sym, ap, ◌∙◌, subst}
+use Rattle.std.proofs.Common.{◌≡◌, ◌≢◌, ◌⊎◌, ℕ, ◌+◌, ◌*◌, nat_le, nat_lt, Bool, if◌then◌else◌, List, Option, Some, None, is_some, true, false, Result, Ok, Err, inl, inr, refl, sym, ap, ◌∙◌, subst}
 use Rattle.sim_io.specs.Outside.{Rose}
-use Rattle.command_words.specs.Words.{Asked, Node, Run, RunPlain, Monitor, Sniff, Check, Disasm, Asm, Make, Head, Save, Resume, asked_by, shown}
+use Rattle.command_words.specs.Words.{Asked, Node, Run, RunPlain, Monitor, Sniff, Check, Disasm, Asm, Make, Head, Save, Resume, HeadOn, SaveOn, MonitorSpan, asked_by, shown}
 use Rattle.command_words.specs.declared.command.Command.{Command}
 use Rattle.world_core.specs.Kept.{epoch}
+use Rattle.scenario_file.specs.Scenario.{ScenarioParts}
+use Rattle.scenario_file.specs.declared.fault.ScenarioFault.TheVariants.{OutOfRange}
 use Rattle.node_runner.specs.Scenario.{ScenarioOf}
 use Rattle.checkpoint_text.specs.State.{state_in}
 use Rattle.state_text.specs.Text.{StateOf}
@@ -16,6 +18,7 @@ use Rattle.command_plans.specs.Parts.{Told, Said, Unsaid, Reported, Stopped, Wri
 use Rattle.command_plans.specs.declared.trouble.Trouble.{Trouble}
 use Rattle.command_plans.specs.declared.trouble.ImageCause.{ImageCause}
 use Rattle.command_plans.specs.declared.trouble.ScenarioCause.{ScenarioCause}
+use Rattle.command_plans.specs.declared.trouble.ScenarioCause.TheVariants as scenario_cause
 use Rattle.command_plans.specs.declared.trouble.SourceCause.{SourceCause}
 use Rattle.command_plans.specs.declared.trouble.StateCause.{StateCause}
 use Rattle.command_plans.specs.declared.trouble.StateCause.TheVariants as cause
@@ -23,8 +26,7 @@ use Rattle.command_plans.specs.declared.status.Status.{Status}
 use Rattle.command_plans.specs.declared.status.Status.TheVariants as case
 use Rattle.command_plans.proofs.Endings.{KeepsWords, ends_job, ends_stopped, keeps_both, keeps_image, keeps_images, keeps_reached, keeps_scenario, keeps_source, refuses, reported_stop, state_is_no_words}
 use Rattle.commands.specs.Job.{Job, output}
-use Rattle.commands.specs.Network.{network_of}
-use Rattle.commands.specs.Plan.{cut_plan, network_plan, plan, plan_for, plan_of, state_or, state_plan}
+use Rattle.commands.specs.Plan.{cut_on_or, cut_on_plan, cut_plan, images_for, network_plan, plan, plan_for, plan_of, span_or, span_plan, state_or, state_plan}
 use Rattle.commands.specs.TopClause.{TopClause}
 use Rattle.commands.specs.Parts.{JobRead, Prepared, Prepares, Ready, job_at}
 use Rattle.commands.specs.declared.job.Job.{Job as JobValue}
@@ -32,13 +34,25 @@ use Rattle.commands.specs.declared.job.Job.{Job as JobValue}
 asked_not_none : (o : Option Asked) (asked : Asked) → o ≡ Some asked → o ≡ None → ⊥
 asked_not_none o asked e none = cc
 
-keeps_network : (name : List ℕ) → KeepsWords (network_plan name)
-keeps_network name =
-    keeps_both (scenario_plan name) _ (keeps_scenario name) (λ parts. keeps_both (images_plan parts.images) _ (keeps_images _ parts.images) (λ images. tt))
+keeps_images_for : (parts : ScenarioParts) → KeepsWords (images_for parts)
+keeps_images_for parts = keeps_both (images_plan parts.images) _ (keeps_images _ parts.images) (λ images. tt)
 
-keeps_if : (b : Bool) (network : ScenarioOf) (refusal : Refusal) → refusal ≢ BadWords → KeepsWords (if b then Give network else Refuse refusal)
-keeps_if true network refusal h = tt
-keeps_if false network refusal h = h
+keeps_network : (name : List ℕ) → KeepsWords (network_plan name)
+keeps_network name = keeps_both (scenario_plan name) images_for (keeps_scenario name) keeps_images_for
+
+keeps_if : {A : Type 0} (b : Bool) (got : A) (refusal : Refusal) → refusal ≢ BadWords → KeepsWords (if b then Give got else Refuse refusal)
+keeps_if true got refusal h = tt
+keeps_if false got refusal h = h
+
+past_run_is_no_words : (name : List ℕ) (why : ScenarioCause) → BadScenario name why ≢ BadWords
+past_run_is_no_words name why e = cc
+
+keeps_span : (name : List ℕ) (from to : ℕ) → KeepsWords (span_plan name from to)
+keeps_span name from to =
+    keeps_both (and_then (scenario_plan name) (span_or name from to)) images_for
+    (keeps_both (scenario_plan name) (span_or name from to) (keeps_scenario name)
+    (λ parts. keeps_if (nat_le to parts.topology.limit) _ _ (past_run_is_no_words name (scenario_cause.Faulty OutOfRange))))
+    keeps_images_for
 
 keeps_cut : (name : List ℕ) (epochs : ℕ) → KeepsWords (cut_plan name epochs)
 keeps_cut name epochs =
@@ -51,6 +65,12 @@ keeps_state_or name (Err fault) = state_is_no_words name (cause.Faulty fault)
 
 keeps_state : (network : ScenarioOf) (name : List ℕ) → KeepsWords (state_plan network name)
 keeps_state network name = (state_is_no_words name cause.TooLong, λ bytes. keeps_state_or name (state_in network bytes))
+
+keeps_cut_on : (file : List ℕ) (epochs : ℕ) (name : List ℕ) → KeepsWords (cut_on_plan file epochs name)
+keeps_cut_on file epochs name =
+    keeps_both (network_plan file) _ (keeps_network file)
+    (λ network. keeps_both (state_plan network name) (cut_on_or name epochs network) (keeps_state network name)
+    (λ state. keeps_if (nat_lt (state.cycle + epochs * epoch) network.topo.limit) _ _ (state_is_no_words name (cause.Faulty PastEnd))))
 
 keeps_plan : (asked : Asked) → KeepsWords (plan_of asked)
 unfolding plan_of
@@ -67,6 +87,9 @@ keeps_plan (Head file epochs) = keeps_both (cut_plan file epochs) _ (keeps_cut f
 keeps_plan (Save file epochs) = keeps_both (cut_plan file epochs) _ (keeps_cut file epochs) (λ network. tt)
 keeps_plan (Resume file state) =
     keeps_both (network_plan file) _ (keeps_network file) (λ network. keeps_both (state_plan network state) _ (keeps_state network state) (λ saved. tt))
+keeps_plan (HeadOn file epochs state) = keeps_both (cut_on_plan file epochs state) _ (keeps_cut_on file epochs state) (λ at. tt)
+keeps_plan (SaveOn file epochs state) = keeps_both (cut_on_plan file epochs state) _ (keeps_cut_on file epochs state) (λ at. tt)
+keeps_plan (MonitorSpan file from to) = keeps_both (span_plan file from to) _ (keeps_span file from to) (λ network. tt)
 
 -- words are refused only where nothing is asked for
 asked_none : (files : Files) (asked : Option Asked) → Reached files (plan_for asked) (Refuse BadWords) → asked ≡ None
