@@ -120,7 +120,7 @@ def control(facts: Facts, files: Files) -> str:
             f"Installed-Size: {size + len(archives.folders(files))}",
             f"Depends: libc6 (>= {facts.libc})",
             "Recommends: avr-libc, gcc-avr, python3 (>= 3.11)",
-            "Suggests: python3-distributed, python3-junit.xml, python3-pyelftools",
+            "Suggests: python3-distributed, python3-junit.xml, python3-pyelftools, python3-tomlkit",
             "Description: cycle-accurate simulator of networks of sensor nodes",
             *(f" {line}" for line in about),
             "",

@@ -75,20 +75,29 @@ def read_text(name: str) -> str:
         raise BadInput(f"{shown(name)}: no text in UTF-8") from None
 
 
+def open_to_write(file: str | int, binary: bool) -> IO[Any]:
+    """A file, by its name or its number, to write bytes to, or text."""
+    return cast(
+        IO[Any], open(file, "wb") if binary else open(file, "w", encoding="utf-8", errors="surrogateescape")
+    )
+
+
 @contextlib.contextmanager
 def whole_file(path: str, binary: bool = False, lasting: bool = True) -> Iterator[IO[Any]]:
     """A file to write to, which becomes `path` only once all is written.
 
-    A `lasting` one is on the disk then, so that the name has all its content also where the machine loses its power.
+    A `lasting` one is on the disk then, so that the name has all its content also where the machine loses its power. A device
+    or a pipe is written to as it comes, and stays what it is; so does a link, whose file is written.
     """
-    folder = os.path.dirname(os.path.abspath(path))
+    if os.path.exists(path) and not os.path.isfile(path):
+        with open_to_write(path, binary) as file:
+            yield file
+        return
+    path = os.path.realpath(path)
+    folder = os.path.dirname(path)
     handle, name = tempfile.mkstemp(dir=folder, prefix=f".{os.path.basename(path)}."[:100])
     try:
-        file = cast(
-            IO[Any],
-            open(handle, "wb") if binary else open(handle, "w", encoding="utf-8", errors="surrogateescape"),
-        )
-        with file:
+        with open_to_write(handle, binary) as file:
             yield file
             if lasting:
                 file.flush()

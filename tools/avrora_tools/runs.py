@@ -10,7 +10,6 @@ compared in each way; `seconds` is the time of the run and its checks, `trace` t
 whether another attempt can come to something else, and `trouble` whether it was the worker that failed. All of it is of
 Python's own kinds, so a client reads it whatever the worker has.
 """
-import collections
 import contextlib
 import dataclasses
 import gzip
@@ -53,6 +52,11 @@ WORKER_FAULTS = (1, 3)
 MEMORY_FAULTS = (6, 9)
 
 COUNTS = ("sent", "heard", "clashes", "serial", "stops")
+
+# What a row of each of them has in it.
+TELLING = (b" sent ", b" heard %d " % ONE_BYTE, b" heard %d " % CLASH, b" serial ", b" stop ")
+
+BLOCK = 1 << 20  # bytes that are looked at together
 
 Job = tuple[str, int, dict[str, bytes]]
 Answer = dict[str, Any]
@@ -103,12 +107,14 @@ class Check:
 
 @dataclasses.dataclass(frozen=True)
 class Shipment:
-    """All that a worker needs for a campaign: `traces` says of which runs the trace is handed back."""
+    """All that a worker needs for a campaign: `traces` says of which runs the trace is handed back, and `words` how the
+    simulator is called."""
 
     files: dict[str, bytes]
     checks: Sequence[Check]
     timeout: int
     traces: str
+    words: tuple[str, ...] = ("run", SCENARIO)
 
 
 class Sick(Exception):
@@ -240,7 +246,7 @@ class Bench:
         scenario, check, _ = job
         self.write_scenario(place, scenario)
         try:
-            status, said = self.said_at_end(place, ["run", SCENARIO], trace)
+            status, said = self.said_at_end(place, self.shipment.words, trace)
             if status in REFUSALS:
                 return answer(REFUSED, said)
             if status:
@@ -298,9 +304,6 @@ class Bench:
         ]
         return case._replace(path=shipped.path, statements=statements)
 
-    def close(self) -> None:
-        shutil.rmtree(self.folder, ignore_errors=True)
-
 
 def answer(outcome: str, message: str = "", again: bool = False, trouble: bool = False) -> Answer:
     return {
@@ -346,14 +349,11 @@ def counted(trace: IO[bytes]) -> list[int]:
     """How many rows of each kind the trace has, in the order of COUNTS; of those that heard, how many heard one byte, and
     how many a clash."""
     trace.seek(0)
-    found: collections.Counter[bytes] = collections.Counter()
-    for row in trace:
-        parts = row.split(b" ", 4)
-        found[parts[2]] += 1
-        if parts[2] == b"heard":
-            found[b"heard " + parts[3]] += 1
-    one_byte, clash = (b"heard %d" % status for status in (ONE_BYTE, CLASH))
-    return [found[key] for key in (b"sent", one_byte, clash, b"serial", b"stop")]
+    found = [0] * len(TELLING)
+    # Whole rows: in them each of these texts stands for a kind alone, as the text of an instruction has none of them.
+    while block := trace.read(BLOCK) + trace.readline():
+        found = [count + block.count(text) for count, text in zip(found, TELLING)]
+    return found
 
 
 def package() -> bytes:
@@ -395,13 +395,14 @@ def for_dask(name: str, shipment: Shipment) -> tuple[Any, Any, Any]:
         def setup(self, worker: Any) -> None:
             import threading
 
-            self.place = worker.local_directory
+            self.place, self.folder = worker.local_directory, ""
             self.bench: Any = None
             self.lock = threading.Lock()  # for a worker of several threads: its folder is for one run at a time
 
         def teardown(self, worker: Any) -> None:
-            if self.bench:
-                self.bench.close()
+            import shutil
+
+            shutil.rmtree(self.folder, ignore_errors=True)
 
         def made(self) -> Any:
             import importlib
@@ -410,8 +411,8 @@ def for_dask(name: str, shipment: Shipment) -> tuple[Any, Any, Any]:
             import sys
             import tempfile
 
-            folder = tempfile.mkdtemp(prefix="avrora-", dir=self.place)
-            archive = os.path.join(folder, "tools.zip")
+            self.folder = self.folder or tempfile.mkdtemp(prefix="avrora-", dir=self.place)
+            archive = os.path.join(self.folder, "tools.zip")
             with open(archive, "wb") as file:
                 file.write(tools)
             for module in [it for it in sys.modules if it.partition(".")[0] == "avrora_tools"]:
@@ -419,7 +420,7 @@ def for_dask(name: str, shipment: Shipment) -> tuple[Any, Any, Any]:
             sys.path.insert(0, archive)
             runs = importlib.import_module("avrora_tools.runs")
             sys.path.remove(archive)
-            return runs.Bench(pickle.loads(packed_shipment), folder)
+            return runs.Bench(pickle.loads(packed_shipment), self.folder)
 
         def prove(self) -> list[Any]:
             import socket

@@ -1,10 +1,12 @@
 """campaign: runs compared with other ways to run them, and what is told of that."""
 import contextlib
+import io
 import os
 import re
 import sys
 import tempfile
 import unittest
+from unittest import mock
 
 from campaign_runs import folder, run_campaign
 from support import DATA, run_tool
@@ -112,6 +114,18 @@ class InACampaign(unittest.TestCase):
             _, _, errors, rows = run_campaign(path)
             self.assertNotIn("already", errors)
             self.assertEqual(rows["net latency=100"]["compared"], {"resumed": 5, "links": 1})
+
+
+class Counts(unittest.TestCase):
+    def test_rows_of_each_kind(self):
+        """By hand; a block ends within each row once."""
+        rows = (
+            b"0 0 instr 0000 ldi r16, 0x01\n7 0 sent AA\n9 1 heard 1 AA 0\n9 2 heard 2 AB 0\n9 3 heard 0 00 0\n"
+            b"10 1 heard 1 AA 1\n11 1 serial 0D\n12 1 stop 0010 BREAK\n12 1 entry 2\n20 0 end 11 running\n"
+        )
+        for size in range(1, len(rows) + 1):
+            with mock.patch.object(runs, "BLOCK", size):
+                self.assertEqual(runs.counted(io.BytesIO(rows)), [1, 2, 1, 1, 1])
 
 
 class OneByOne(unittest.TestCase):

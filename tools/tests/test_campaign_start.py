@@ -7,14 +7,14 @@ import unittest
 
 from campaign_runs import folder, hidden_dask, let_go
 from support import LONG, TOOL, TOP, wait_for
-from avrora_tools import campaigns, results, runs
+from avrora_tools import campaigns, results, runs, shipping
 from avrora_tools.commands import campaign as campaign_command
 
 
 class Start(unittest.TestCase):
     def test_it_is_built_where_avrora_is(self):
         """What ./avrora has proved and built is taken, and not built anew."""
-        room = campaign_command.BUILT
+        room = shipping.BUILT
         with open(f"{TOP}/avrora", encoding="utf-8") as file:
             words = file.read()
         self.assertIn(f"\nroom=$top/{room}\n", words)

@@ -2,6 +2,7 @@
 import argparse
 import os
 import signal
+import stat
 import subprocess
 import unittest
 import unittest.mock
@@ -190,3 +191,20 @@ class WholeFiles(unittest.TestCase):
             with open(path, encoding="utf-8") as file:
                 self.assertEqual(file.read(), "after")
             self.assertEqual(os.listdir(os.path.dirname(path)), ["out"])
+
+    def test_what_is_no_file_stays(self):
+        """A device or a pipe is written to, and is not replaced; nor is a link."""
+        with scratch("target", "before") as path:
+            folder = os.path.dirname(path)
+            link, pipe = f"{folder}/link", f"{folder}/pipe"
+            os.symlink("target", link)
+            files.write_whole(link, "after")
+            self.assertTrue(os.path.islink(link))
+            with open(path, encoding="utf-8") as file:
+                self.assertEqual(file.read(), "after")
+            os.mkfifo(pipe)
+            with open(os.open(pipe, os.O_RDONLY | os.O_NONBLOCK), "rb") as reader:
+                files.write_whole(pipe, b"through")
+                self.assertEqual(reader.read(), b"through")
+            self.assertTrue(stat.S_ISFIFO(os.stat(pipe).st_mode))
+            self.assertEqual(sorted(os.listdir(folder)), ["link", "pipe", "target"])

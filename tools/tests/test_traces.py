@@ -97,7 +97,18 @@ class Rows(Refusals):
             "2 0 instr 006E .word 0xFFFF",
             "2 0 enter 001E",
             "2 0 enter 001F 0081",
+            "2 0 enter 0000 0081",
             "2 0 enter 0046 0081",
+            "2 0 enter 001E 008a",
+            "2 0 serial 7f",
+            "2 0 heard 1 7f 0",
+            "2 0 heard 2 7f 0",
+            "2 0 instr 006e nop",
+            "2 0 stop 010a break",
+            f"2 0 end {2**40 + 1} running",
+            "2 0 end 01 running",
+            f"{'9' * 5000} 0 sent 7F",
+            f"2 {'9' * 5000} sent 7F",
             "2 0 stop 0102 .word 0xFFFF",
             "2 0 sent \xe9\xe9",
             "2 0 sent 7F\v3 0 sent 7F",
@@ -105,15 +116,17 @@ class Rows(Refusals):
             "ok 5 nodes, 4 links, 90000 cycles",
         ):
             with self.subTest(line):
-                self.refused(f"1 0 sent 7F\n{line}\n", "^t, line 2: ", Form.ROWS)
+                self.refused(f"1 0 serial 7F\n{line}\n", "^t, line 2: no row of a trace: ", Form.ROWS)
 
     def test_a_later_kind_is_named(self):
         self.refused("1 0 slept 7F\n", "^t, line 1: no row has the kind slept: ")
 
     def test_greatest_values(self):
         """The bounds themselves are rows: each is a mutant of the reader that allows one less."""
-        text = f"0 63 heard 1 FF 255\n{2**40 - 1} 63 sent FF\n"
+        text = f"0 63 heard 1 FF 255\n5 0 enter 0002 FFFF\n5 1 enter 0044 FFFF\n{2**40 - 1} 63 sent FF\n"
         self.assertEqual(lines(text, Form.ROWS), text.splitlines())
+        text = "".join(f"{2**40} {node} end {2**40} running\n" for node in range(64))
+        self.assertEqual(lines(text), text.splitlines())
 
     def test_a_line_without_end(self):
         for name in ("console", "profile"):

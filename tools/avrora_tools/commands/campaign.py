@@ -5,12 +5,11 @@ import hashlib
 import os
 import re
 import signal
-import subprocess
 import sys
 from collections.abc import Callable, Iterator
 from types import FrameType
 
-from avrora_tools import campaigns, checkers, cli, driving, files, pools, reports, results, runs, scenarios, terminal
+from avrora_tools import campaigns, checkers, cli, driving, files, pools, reports, results, runs, scenarios, shipping, terminal
 from avrora_tools.campaigns import Campaign, Shard
 from avrora_tools.errors import BadInput, BadWords, CannotWork, Status, ToolError
 from avrora_tools.variants import Run
@@ -32,31 +31,9 @@ same words. A run that came to no answer (its worker died, it took too long) is 
 Status 0: all runs are passed; 1: one is failed or refused; 2: FILE is no campaign; 3: none is failed, and one came to
 no answer, or the campaign cannot go on."""
 
-BUILT = "crates/avrora_program/out/rlib"
-
 SQLITE_MAGIC = b"SQLite format 3\0"
 
 RUNS_A_PAUSE = 500  # that are looked at one after another for whether their results are there
-
-
-def program(path: str | None) -> bytes:
-    """The simulator as one file that needs the C library alone. Where `path` is the script ./avrora that is the program
-    which the script builds and starts."""
-    path = cli.simulator(path)
-    top = os.path.dirname(os.path.realpath(path))
-    if not os.path.exists(f"{top}/prove.py"):
-        return content_of(path)
-    if subprocess.run([sys.executable, f"{top}/prove.py", "avrora_program", f"{top}/{BUILT}"], check=False).returncode:
-        raise CannotWork("the simulator could not be built; see above")
-    return content_of(f"{top}/{BUILT}/avrora_program")
-
-
-def content_of(path: str) -> bytes:
-    try:
-        with open(path, "rb") as file:
-            return file.read()
-    except OSError as fault:
-        raise CannotWork(f"cannot read the simulator {files.shown(path)}: {fault.strerror}") from None
 
 
 def folder_of(campaign: Campaign, shard: Shard, named: str | None) -> str:
@@ -125,7 +102,7 @@ class Sitting:
 
 def run_all(campaign: Campaign, arguments: argparse.Namespace) -> int:
     """Runs what has no result yet, and tells what came of all runs."""
-    simulator = program(arguments.avrora)
+    simulator = shipping.program(arguments.avrora)
     folder = folder_of(campaign, arguments.shard, arguments.results)
     os.makedirs(folder, exist_ok=True)
     with contextlib.ExitStack() as stack:

@@ -5,10 +5,11 @@ import re
 from collections.abc import Iterator
 from contextlib import contextmanager
 
-from avrora_tools import cases, cli, files, programs, scenarios, toml
+from avrora_tools import cases, cli, files, programs, scenarios, shipping, toml
 from avrora_tools.errors import BadInput, BadWords, Status
 from avrora_tools.states import State
 from avrora_tools.sweeping import findings as grouping
+from avrora_tools.sweeping.cluster import ClusterTails
 from avrora_tools.sweeping.events import InputByte, Move, Moved, MovedScenario, moved_scenario, parsed_event
 from avrora_tools.sweeping.findings import Finding
 from avrora_tools.sweeping.plans import Cell
@@ -72,10 +73,21 @@ def prepared(arguments: argparse.Namespace) -> Iterator[Sweep]:
     state_cycle = State.of_text(state.decode("ascii", "replace"), arguments.state).cycle if state else None
     scenario = moved_scenario(document, moved, arguments.until, state_cycle)
     simulator = Simulator(cli.simulator(arguments.avrora), folder_of(arguments.scenario), arguments.timeout)
-    with ProcessTails(simulator, scenario, arguments.jobs, state) as tails:
+    with tails_of(arguments, simulator, scenario, state) as tails:
         check = check_of(arguments, tails, scenario, order)
         program, sharing = program_of(arguments, simulator, document, moved[-1])
         yield Sweep(tails, scenario, check, program, sharing)
+
+
+def tails_of(
+    arguments: argparse.Namespace, simulator: Simulator, scenario: MovedScenario, state: bytes | None
+) -> ProcessTails:
+    """What makes the runs: processes of this machine, or the workers of a scheduler."""
+    if not arguments.scheduler:
+        return ProcessTails(simulator, scenario, arguments.jobs, state)
+    tails = ClusterTails(simulator, scenario, state)
+    tails.connect(arguments.scheduler, shipping.program(arguments.avrora))
+    return tails
 
 
 def folder_of(scenario: str) -> str:
@@ -277,6 +289,9 @@ def configure(parser: argparse.ArgumentParser) -> None:
     parser.add_argument("--stop", action="store_true", help="end at the first failure")
     parser.add_argument("--runs", type=cli.positive, metavar="N", help="end after N runs")
     parser.add_argument("--jobs", type=cli.positive, default=processors(), metavar="N", help="runs at a time (%(default)s)")
+    parser.add_argument(
+        "--scheduler", metavar="ADDRESS", help="run on the workers of a scheduler of dask, as tcp://HOST:8786"
+    )
     parser.add_argument("--timeout", type=cli.positive, default=60, metavar="S", help="seconds that a run may take (%(default)s)")
     cli.add_simulator(parser)
     parser.add_argument("scenario", metavar="SCENARIO")

@@ -14,7 +14,7 @@ returns-in-Err-clause-err g c = stopped_behind _ (network_plan c.args.file.now) 
 pub returns-in-Err-read_saved-clause-err : goal.returns-in-Err-read_saved-clause-err
 returns-in-Err-read_saved-clause-err g c =
     state_stopped _ _ c.args.file.now c.args.name.now c.args.epochs c.in-Ok.network _ _ _ _ _ c.in-Ok.ensures.ok c.in-Ok.ensures.held (end_at c.in-Err-read_saved.trouble) _ _
-    c.in-Err-read_saved.ensures.read c.tell-in-Err-read_saved.ensures
+    c.in-Err-read_saved.ensures.read c.tell.ensures
 
 pub returns-then-end-limit-clause-ok : goal.returns-then-end-limit-clause-ok
 returns-then-end-limit-clause-ok g c =
@@ -32,4 +32,4 @@ returns-clause-err g c =
     let limit : c.limit.result ≡ c.in-Ok.network.topo.limit = c.limit.ensures.value ∙ ap (λ (t : Topology). t.limit) c.lawful_topo.ensures.value in
     let test = c.if-end-limit.false in
     let over : c.in-Ok.network.topo.limit ≤ saved.state.cycle + c.args.epochs * epoch = omega arith in
-    past_end _ _ c.args.file.now c.args.name.now c.args.epochs c.in-Ok.network _ _ _ _ _ c.in-Ok.ensures.ok c.in-Ok.ensures.held saved.state _ _ c.in-Ok-read_saved.ensures.read over c.tell.ensures
+    past_end _ _ c.args.file.now c.args.name.now c.args.epochs c.in-Ok.network _ _ _ _ _ c.in-Ok.ensures.ok c.in-Ok.ensures.held saved.state _ _ c.in-Ok-read_saved.ensures.read over c.tell-2.ensures

@@ -1,0 +1,154 @@
+"""sweep on workers that are sent batches: the order of what they answer, workers that go or are sick, and a real cluster."""
+import gzip
+import os
+import re
+import shutil
+import subprocess
+import tomllib
+import unittest
+from pathlib import Path
+
+import pytest
+
+import test_cluster
+from avrora_tools import pools, runs
+from avrora_tools.errors import BadInput, CannotWork
+from avrora_tools.sweeping.cluster import ClusterTails
+from avrora_tools.sweeping.events import LinkLatency, Moved, Span, moved_scenario
+from avrora_tools.sweeping.simulation import NO_WINDOW, Simulator
+from support import LONG, TOOL, TOP, needs_loopback, needs_module
+
+DOCUMENT = tomllib.loads(
+    """
+version = 2
+cycles = 1_000
+node = [{ image = "folder/a.hex" }, { image = "b.hex" }, { image = "folder/a.hex" }]
+link = [{ from = 0, to = 1 }]
+"""
+)
+RUNS = 40
+
+
+class Pool:
+    """Workers that answer a run by its latency; the last batch that was sent is answered first. `faults` has, by a worker's
+    name, what it does with its first batch: nothing but go, be sick behind one answer, or answer as it is told."""
+
+    def __init__(self, names, faults=None):
+        self.there = [pools.Worker(name) for name in names]
+        self.faults = faults or {}
+        self.events = [pools.Proved(worker) for worker in self.there]
+        self.sent = []
+        self.sizes = []
+        self.closed = False
+
+    def send(self, worker, ticket, jobs):
+        assert worker in self.there
+        worker.tickets[ticket] = None
+        self.sent.append((worker, ticket, jobs))
+        self.sizes.append(len(jobs))
+
+    def wait(self, seconds):
+        events, self.events = self.events, []
+        if events:
+            return events
+        worker, ticket, jobs = self.sent.pop()
+        fault = self.faults.pop(worker.name, None)
+        if fault == "go":
+            self.there.remove(worker)
+            tickets = list(worker.tickets)
+            self.sent = [it for it in self.sent if it[0] is not worker]
+            return [pools.Lost(worker, tickets, "the worker is gone")]
+        answers = [self.answer(text, fault) for text, _, _ in jobs]
+        del worker.tickets[ticket]
+        if fault == "sick":
+            return [pools.Done(worker, ticket, answers[:1], "no space left")]
+        return [pools.Done(worker, ticket, answers, None)]
+
+    @staticmethod
+    def answer(text, fault):
+        if isinstance(fault, dict):
+            return fault
+        document = tomllib.loads(text)
+        assert [node["image"] for node in document["node"]] == ["image0.hex", "image1.hex", "image0.hex"]
+        return {**runs.answer(runs.PASSED), "trace": gzip.compress(b"%d" % document["link"][0]["latency"]), "seconds": 0.1}
+
+    def set_aside(self, worker):
+        self.there.remove(worker)
+        self.sent = [it for it in self.sent if it[0] is not worker]
+
+    def has_hope(self):
+        return bool(self.there)
+
+    def close(self):
+        self.closed = True
+
+
+def outputs(pool, count=RUNS):
+    scenario = moved_scenario(DOCUMENT, [Moved(LinkLatency(0, 1), Span(1, RUNS))], None)
+    with ClusterTails(Simulator("avrora", ".", LONG), scenario) as tails:
+        tails.pool = pool
+        found = tails.outputs(((latency,), NO_WINDOW) for latency in range(1, RUNS + 1))
+        return [int(next(found)) for _ in range(count)] if count < RUNS else [int(it) for it in found]
+
+
+ALL = list(range(1, RUNS + 1))
+
+
+def test_outputs_come_in_the_order_of_the_jobs():
+    pool = Pool(["a", "b", "c"])
+    assert outputs(pool) == ALL
+    assert pool.closed
+    assert sum(pool.sizes) == RUNS  # each once
+    assert max(pool.sizes) > 1  # a run takes a fifth of a batch's time
+
+
+def test_who_asks_for_some_gets_some():
+    assert outputs(Pool(["a", "b"]), 3) == [1, 2, 3]
+
+
+@pytest.mark.parametrize("fault", ["go", "sick", {**runs.answer(runs.BROKEN, "took more than 60 s", again=True)}])
+def test_what_one_worker_does_not_answer_another_one_does(fault):
+    assert outputs(Pool(["a", "b"], {"a": fault})) == ALL
+
+
+def test_nobody_is_left(capsys):
+    with pytest.raises(CannotWork, match="all workers are set aside: b: no space left"):
+        outputs(Pool(["a", "b"], {"a": "go", "b": "sick"}))
+    assert "the worker a: the worker is gone" in capsys.readouterr().err
+
+
+def test_a_run_that_never_comes_to_an_answer():
+    class Broken(Pool):
+        def answer(self, text, fault):
+            return {**runs.answer(runs.BROKEN, "took more than 60 s", again=True)}
+
+    with pytest.raises(CannotWork, match="a run came to no answer 3 times: took more than 60 s"):
+        outputs(Broken(["a"]))
+
+
+def test_a_scenario_that_is_refused():
+    with pytest.raises(BadInput, match="SelfLink"):
+        outputs(Pool(["a"], {"a": runs.answer(runs.REFUSED, "scenario refused: SelfLink")}))
+
+
+@unittest.skipUnless(os.environ.get("AVRORA_PROGRAM"), "AVRORA_PROGRAM names no program")
+@needs_module("distributed", "python3-distributed")
+@needs_loopback
+class OnDask(test_cluster.Cluster):
+    """The race of `wake` on two workers that know nothing of this repository."""
+
+    WORKERS = 2
+
+    def swept(self, *words):
+        """What a sweep says, without how long it took."""
+        shutil.copytree(Path(TOP) / "examples/races", f"{self.path}/races", dirs_exist_ok=True)
+        words = [*TOOL, "sweep", *words, f"{self.path}/races/wake.toml", "--start", "0=514_180..514_239", "--until", "530_000"]
+        ran = subprocess.run(words, capture_output=True, text=True, timeout=LONG, check=False)
+        self.assertEqual((ran.returncode, ran.stderr), (1, ""))
+        return re.sub(r"[\d.]+ s\b|\(\d+ a second\)", "", ran.stdout)
+
+    def test_the_same_is_told(self):
+        self.wait_for_workers(2)
+        told = self.swept("--scheduler", self.address)
+        self.assertIn("moves: 514,208 to 514,211", told)
+        self.assertEqual(told, self.swept())
