@@ -394,7 +394,10 @@ def check(
     failures: list[str] = []
     with contextlib.suppress(Unmet), contextlib.ExitStack() as stack:
         reports = watch(case, whole_trace(trace, blocks, ended), save, stack, looked, gaps)
-        refuse_impossible(case, extent_of(trace, window), gaps)
+        extent = extent_of(trace, window)
+        refuse_impossible(case, extent)
+        if not reports:
+            refuse_gaps(case, extent, gaps)
         reports.sort(key=lambda report: report.statement.line)
         failures = [report.text(files.shown(case.path)) for report in reports]
         if failures:
@@ -479,9 +482,9 @@ def extent_of(trace: traces.Trace, window: range | None) -> Extent:
     return Extent(len(trace.ended), trace.limit or 0, Span(*traced) if traced else None)
 
 
-def refuse_impossible(case: Case, extent: Extent, gaps: list[Gap]) -> None:
-    """Raises BadInput where no row of the trace can match what a case expects: of a node that it does not have, in cycles
-    in which it has no such rows, or between rows that leave no room for it."""
+def refuse_impossible(case: Case, extent: Extent) -> None:
+    """Raises BadInput where no row of the trace can match what a case expects: of a node that it does not have, or in
+    cycles in which it has no such rows."""
     name = files.shown(case.path)
     for node in sorted(case.nodes or ()):
         if node >= extent.nodes:
@@ -492,9 +495,14 @@ def refuse_impossible(case: Case, extent: Extent, gaps: list[Gap]) -> None:
     for statement in case.statements:
         if why := why_impossible(statement, extent):
             raise BadInput(f"{name}, line {statement.line}: {why}")
+
+
+def refuse_gaps(case: Case, extent: Extent, gaps: list[Gap]) -> None:
+    """Raises BadInput where the rows that were found leave no room between them for one that was never to come."""
     for never, first, last in gaps:
         if why := never.pattern.why_not(extent, Span(first, extent.limit if last is None else last), first):
-            raise BadInput(f"{name}, line {never.line}: {why}, where the rows about it were found")
+            where = f"{files.shown(case.path)}, line {never.line}"
+            raise BadInput(f"{where}: {why}, where the rows about it were found")
 
 
 def why_impossible(statement: Statement, extent: Extent) -> str:

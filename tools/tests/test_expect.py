@@ -374,7 +374,8 @@ class Refused(unittest.TestCase):
             "never * * end 5 *\n99 1 end *",
         ):
             self.assertIsNone(outcome(lines).failure)
-        # One that is not met otherwise is not met: what comes behind a row that did not come is not known.
+        # What is not met is told first: it may be why the rows stand elsewhere.
+        self.assertIn("== 1 rows", outcome("10 0 sent *\nnever 51.. * stop *\n50 1 sent *\ncount == 1: * * serial *").failure)
         self.assertIn("did not come", outcome("10 0 sent 71\nnever 5 * stop *\n50 1 sent *").failure)
 
     WINDOW = "30 0 enter 001E 0081\n39 0 instr 001E nop\n40 1 sent 41\n99 0 end 12 running\n99 1 end 7 running\n"
