@@ -3,16 +3,15 @@
 
     bench/campaigns.py PROGRAM [RUNS]
 
-Three nodes of examples/packet.hex, 1,666,667 cycles each (5,000,000 cycles of nodes), whose traces are checked by a case. Of each part
-the processor time of a campaign of RUNS runs (400) less that of one of a quarter of them, by the runs that it has more: so
-what it takes to start is not in it. Of the program alone: the mean of RUNS / 4 runs in turn. Workers are four processes of this machine;
-then, where dask.distributed is installed, four of dask beside a scheduler. Then one worker beside four, by the clock, and what
-the processor times bound; and how a campaign of a million variants begins. Other work on the machine adds to the clock, and some
-percent to processor times.
+Runs of 5,000,000 cycles of nodes: `radio`, three nodes of examples/packet.hex that send and listen, and `alone`, a node of
+bench/mixed.hex that computes; the trace of each is checked by a case. Of each part the processor time of a campaign of RUNS runs
+(400) less that of one of a quarter of them, by the runs that it has more: so what it takes to start is not in it. Of the program
+by itself: the mean of RUNS / 4 runs in turn. Workers are four processes of this machine; then, where dask.distributed is
+installed, four of dask beside a scheduler. Then one worker beside four, by the clock, and what the processor times bound. First,
+how a campaign of a million variants begins. Other work on the machine adds to the clock, and some percent to processor times.
 """
 import contextlib
 import importlib.util
-import itertools
 import json
 import os
 import re
@@ -45,28 +44,35 @@ MILLION = 1_000_000
 
 
 class Folder:
-    """A folder with the scenario and campaigns of it."""
+    """A folder with the scenarios, and campaigns of them."""
 
     def __init__(self, path, program):
         self.path, self.program = Path(path), program
-        text = (TOP / "examples" / "packet.toml").read_text().replace("737_280", "1_666_667")
-        (self.path / "packet.toml").write_text(text.replace('"packet.hex"', f'"{TOP}/examples/packet.hex"'))
+        radio = (TOP / "examples" / "packet.toml").read_text().replace("737_280", "1_666_667")
+        self.write("radio.toml", radio.replace('"packet.hex"', f'"{TOP}/examples/packet.hex"'))
+        self.write("radio.expect", (TOP / "examples" / "arrives.expect").read_text())
+        self.write("alone.toml", f'cycles = 5_000_000\nlatency = 100\n[[node]]\nimage = "{TOP}/bench/mixed.hex"\n')
+        self.write("alone.expect", "* 0 end * running\n")
 
-    def campaign(self, runs):
+    def write(self, name, text):
+        (self.path / name).write_text(text)
+        return self.path / name
+
+    def campaign(self, which, runs):
         """The file of a campaign of so many variants."""
-        path = self.path / f"{runs}.toml"
-        second = max(1, runs // 1_000)
-        path.write_text(
-            f'[[run]]\nscenario = "packet.toml"\nexpect = "{TOP}/examples/arrives.expect"\n'
-            f"[run.vary]\nlatency = {{ from = 100, to = {99 + runs // second} }}\n"
-            f'"input.2.at" = {{ from = 30_000, to = {29_999 + second} }}\n'
+        windows = max(1, runs // 1_000)
+        return self.write(
+            f"{runs}.campaign",
+            f'[[run]]\nscenario = "{which}.toml"\nexpect = "{which}.expect"\n[run.vary]\n'
+            f"latency = {{ from = 100, to = {99 + runs // windows} }}\n"
+            f"window = [{', '.join(f'[{cycle}, {cycle}]' for cycle in range(windows))}]\n",
         )
-        return path
 
-    def run(self, runs, *words):
+    def run(self, which, runs, *words):
         """Runs a campaign anew; the seconds by the clock, and the processor times of the client and of its children."""
         used = self.path / "used"
-        words = [sys.executable, "-B", "-c", CLIENT, TOOLS, used, "--anew", "--avrora", self.program, *words, self.campaign(runs)]
+        words = [sys.executable, "-B", "-c", CLIENT, TOOLS, used, "--anew", "--avrora", self.program, *words]
+        words.append(self.campaign(which, runs))
         start = time.monotonic()
         done = subprocess.run(words, stdout=subprocess.PIPE, stderr=subprocess.STDOUT, text=True, check=False)
         if done.returncode:
@@ -82,9 +88,9 @@ def used_by(process):
     return used.ru_utime + used.ru_stime
 
 
-def program_seconds(folder, runs):
+def program_seconds(folder, which, runs):
     """The processor time of the program by itself, the mean of some runs."""
-    words = [folder.program, "run", folder.path / "packet.toml"]
+    words = [folder.program, "run", folder.path / f"{which}.toml"]
     before = resource.getrusage(resource.RUSAGE_CHILDREN)
     for _ in range(runs):
         subprocess.run(words, stdout=subprocess.DEVNULL, check=True)
@@ -92,13 +98,13 @@ def program_seconds(folder, runs):
     return (after.ru_utime - before.ru_utime + after.ru_stime - before.ru_stime) / runs
 
 
-def local_costs(folder, runs):
+def local_costs(folder, which, runs):
     """Seconds of client and of workers with their programs, for so many runs on processes of this machine."""
-    _, client, workers = folder.run(runs, "--processes", str(WORKERS))
+    _, client, workers = folder.run(which, runs, "--processes", str(WORKERS))
     return {"client": client, "workers": workers}
 
 
-def dask_costs(folder, runs):
+def dask_costs(folder, which, runs):
     """The same on dask, and of its scheduler."""
     module = [sys.executable, "-m"]
     file = folder.path / "scheduler.json"
@@ -118,51 +124,57 @@ def dask_costs(folder, runs):
         for _ in range(WORKERS)
     ]
     try:
-        _, client, _ = folder.run(runs, "--scheduler", address)
+        _, client, _ = folder.run(which, runs, "--scheduler", address)
     finally:
         used = [used_by(worker) for worker in workers]
         of_scheduler = used_by(scheduler)
     return {"client": client, "scheduler": of_scheduler, "workers": sum(used)}
 
 
-def tell_costs(name, costs, folder, runs, program):
+def tell_costs(name, costs, folder, which, runs):
     """Prints the milliseconds a run of each part, and gives them."""
-    few, many = costs(folder, runs // 4), costs(folder, runs)
+    program = 1_000 * program_seconds(folder, which, runs // 4)
+    few, many = costs(folder, which, runs // 4), costs(folder, which, runs)
     each = {part: 1_000 * (many[part] - few[part]) / (runs - runs // 4) for part in many}
     each["workers"] -= program
     overhead = sum(each.values())
     parts = ", ".join(f"{part} {value:.2f}" for part, value in each.items())
-    print(f"{name}: {parts}, program {program:.2f} ms a run; all but the program {overhead:.2f}, {overhead / program:.2f} of it", flush=True)
-    return each
+    print(f"{which}, {name}: {parts}, program {program:.2f} ms a run; all but the program {overhead / program:.2f} of it", flush=True)
+    return {**each, "program": program}
 
 
-def tell_speeds(folder, runs, each, program):
+def tell_speeds(folder, which, runs, each):
     """Four workers beside one."""
-    seconds = {count: folder.run(runs, "--processes", str(count))[0] - folder.run(runs // 4, "--processes", str(count))[0] for count in (1, WORKERS)}
-    worker = each["workers"] + program
-    bound = min(WORKERS, WORKERS * worker / (each["client"] + worker)) if os.cpu_count() <= WORKERS else min(WORKERS, worker / each["client"])
+    seconds = {}
+    for count in (1, WORKERS):
+        few, many = (folder.run(which, number, "--processes", str(count))[0] for number in (runs // 4, runs))
+        seconds[count] = many - few
+    client, worker = each["client"], each["workers"] + each["program"]
+    processors = os.cpu_count() or 1
+    # With one worker the client works beside it; with as many as there are processors they share these.
+    bound = min(WORKERS, processors * worker / (client + worker), worker / client)
     print(
-        f"{WORKERS} workers are {seconds[1] / seconds[WORKERS]:.2f} times as fast as one by the clock; by processor time, with the "
-        f"client on one of {os.cpu_count()} processors, {bound:.2f} times",
+        f"{which}: {WORKERS} workers are {seconds[1] / seconds[WORKERS]:.2f} times as fast as one by the clock; by processor times "
+        f"{bound:.2f} on {processors} processors, {min(WORKERS, worker / client):.2f} on more",
         flush=True,
     )
 
 
 def tell_beginning(folder):
     """How long a million take to begin, and the client's memory then and some results later."""
-    path = folder.campaign(MILLION)
+    path = folder.campaign("radio", MILLION)
     words = [sys.executable, "-B", TOOLS, "campaign", "--avrora", folder.program, "--processes", str(WORKERS), path]
     start = time.monotonic()
     client = subprocess.Popen(words, stdout=subprocess.DEVNULL, stderr=subprocess.DEVNULL)
     said = False
-    for _ in itertools.count():
+    while True:
         time.sleep(0.05)
         found = results(folder.path / f"{MILLION}.results" / "results.sqlite")
         if found and not said:
             said = True
             print(f"{MILLION:,} variants: the first result is there after {time.monotonic() - start:.1f} s", end="")
             print(f", {used_until_now(client.pid):.1f} s of the client's processor time; {memory(client.pid)} MB at most", end="")
-        if found >= 2_000 or time.monotonic() - start > 120:
+        if found >= 1_000 or time.monotonic() - start > 120:
             print(f", {memory(client.pid)} MB after {found:,} results")
             break
     client.send_signal(signal.SIGTERM)
@@ -197,13 +209,13 @@ def main():
     with tempfile.TemporaryDirectory() as path:
         folder = Folder(path, os.path.abspath(sys.argv[1]))
         tell_beginning(folder)
-        program = 1_000 * program_seconds(folder, runs // 4)
-        each = tell_costs("processes of this machine", local_costs, folder, runs, program)
+        each = tell_costs("processes of this machine", local_costs, folder, "radio", runs)
+        tell_costs("processes of this machine", local_costs, folder, "alone", runs)
         if importlib.util.find_spec("distributed"):
-            tell_costs("dask", dask_costs, folder, runs, program)
+            tell_costs("dask", dask_costs, folder, "radio", runs)
         else:
             print("dask: skipped, distributed is not installed")
-        tell_speeds(folder, runs, each, program)
+        tell_speeds(folder, "radio", runs, each)
 
 
 if __name__ == "__main__":

@@ -135,6 +135,8 @@ def read_case(path: str) -> Case:
     for statement in statements:
         refuse_unseen(name, statement, only or Only())
     refuse_between(name, statements)
+    if only is None:
+        refuse_any_row(name, statements)
     return Case(path, folder, source, (only or Only()).nodes, (only or Only()).kinds, statements)
 
 
@@ -168,6 +170,24 @@ def refuse_between(name: str, statements: list[Statement]) -> None:
                     continue
                 raise BadInput(f"{name}, line {never.line}: {why}")
             nevers = []
+
+
+# The comparisons that say that there is a row.
+AT_LEAST_ONE = ((">=", 1), (">", 0), ("!=", 0))
+
+
+def refuse_any_row(name: str, statements: list[Statement]) -> None:
+    """Raises BadInput where the first row that is expected, or that is counted at all, may be any: each trace has one."""
+    found: list[Expected | Count] = []
+    found += [statement for statement in statements if isinstance(statement, Expected)][:1]
+    found += [
+        statement
+        for statement in statements
+        if isinstance(statement, Count) and not statement.span and (statement.comparison, statement.wanted) in AT_LEAST_ONE
+    ]
+    for statement in found:
+        if statement.pattern.is_any_row:
+            raise BadInput(f"{name}, line {statement.line}: each trace has such a row")
 
 
 def without_comment(line: str) -> str:

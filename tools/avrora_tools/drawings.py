@@ -1,4 +1,5 @@
 """What is drawn of a trace, node by node, and how it is thinned where it is too much for a page."""
+import json
 import os
 from array import array
 from collections.abc import Iterable, Iterator
@@ -9,7 +10,7 @@ from avrora_tools.events import CLASH, NOTHING, End, Enter, Event, Heard, Instr,
 from avrora_tools.hearing import Hearing
 from avrora_tools.instructions import SLEEP
 from avrora_tools.scenarios import DEFAULT_TIME
-from avrora_tools.traces import Trace
+from avrora_tools.traces import LAST_LIMIT, Trace
 
 MAX_WAYS = 250  # lines from sends to where they were heard
 
@@ -198,10 +199,15 @@ class Thinning(NamedTuple):
         return f"thinned to one in {self.step:,} cycles: {words}" if self.step else ""
 
 
-WORDS = {"quiet": "samples of nothing", "enter": "interrupts", "asleep": "sleep", "heard": "heard", "serial": "USART0", "sent": "sent"}
+WORDS = {"quiet": "samples of nothing", "enter": "interrupts", "asleep": "sleep", "heard": "heard", "serial": "USART0", "sent": "sent", "clash": "clashes"}
 
-# In which order kinds are thinned: clashes and stops never.
-THINNED = (("quiet",), ("quiet", "enter", "asleep"), ("quiet", "enter", "asleep", "heard", "serial", "sent"))
+# In which order kinds are thinned: clashes last, stops never.
+THINNED = (
+    ("quiet",),
+    ("quiet", "enter", "asleep"),
+    ("quiet", "enter", "asleep", "heard", "serial", "sent"),
+    ("quiet", "enter", "asleep", "heard", "serial", "sent", "clash"),
+)
 
 FINEST, COARSEST = 1 << 14, 1 << 9  # in how many parts a thinning divides what is drawn
 
@@ -215,6 +221,29 @@ def thinnings(drawing: Drawing) -> Iterator[Thinning]:
         while parts >= COARSEST:
             yield Thinning(kinds, max(1, span // parts))
             parts //= 2
+
+
+# What has no shorter text as a thinning.
+MOST_WORDS = Thinning(THINNED[-1], LAST_LIMIT)
+
+
+def least_thinning(drawing: Drawing, most: int) -> Thinning:
+    """The first thinning with which the events take at most so many bytes as JSON; the coarsest where none does."""
+    sizes: dict[tuple[str, int], int] = {}
+    thinning = Thinning()
+    for thinning in thinnings(drawing):
+        steps = [(kind, thinning.step if kind in thinning.kinds else 0) for kind in FIELDS]
+        for kind, step in steps:
+            if (kind, step) not in sizes:
+                sizes[kind, step] = sum(size_of(kind, thinning, lane) for lane in drawing.lanes.values())
+        if sum(sizes[one] for one in steps) <= most:
+            break
+    return thinning
+
+
+def size_of(kind: str, thinning: Thinning, lane: Lane) -> int:
+    """How many bytes the events of a kind take as JSON, without the brackets about them."""
+    return len(json.dumps(flat(thinning.of(kind, lane), kind), separators=(",", ":"))) - len("[]")
 
 
 def thinned(events: Iterable[Drawn], step: int) -> Iterator[Drawn]:

@@ -262,6 +262,8 @@ class Pattern:
         if word == ANY:
             return [Span(0, None)]
         word = word[1:] if self.is_relative else word
+        if not word:
+            raise ValueError("a + stands before a number of cycles, such as +5 or +0..9")
         spans = [span_of(one) for one in members(word) or [word]]
         if any(span.first > LAST_CYCLE for span in spans):
             raise ValueError(f"{word}: no row has a cycle above {LAST_CYCLE:,}")
@@ -328,11 +330,24 @@ class Pattern:
         """Whether a row has the node and the kind of this one, as far as the pattern names them."""
         return node in self.nodes and event.kind in self.kinds
 
+    @property
+    def is_any_rest(self) -> bool:
+        """Whether it says nothing of what stands behind the kind."""
+        return self.is_open and all(word == ANY for word in self.rest[1:])
+
+    @property
+    def is_any_row(self) -> bool:
+        return self.is_any_rest and self.kinds == set(KINDS) and len(self.nodes) == MAX_NODES and self.is_any_cycle
+
+    @property
+    def is_any_cycle(self) -> bool:
+        return self.cycles == [EVERY] and not self.is_relative
+
     def covers(self, other: "Pattern") -> bool:
         """Whether each row that the other one matches is matched by this one, as far as their texts tell."""
-        is_any = self.is_open and all(word == ANY for word in self.rest[1:]) and self.kinds >= other.kinds
-        says_all = is_any or (self.rest, self.is_open) == (other.rest, other.is_open)
-        return says_all and self.cycles == [EVERY] and not self.is_relative and self.nodes >= other.nodes
+        says_all = self.is_any_rest and self.kinds >= other.kinds
+        says_all = says_all or (self.rest, self.is_open) == (other.rest, other.is_open)
+        return says_all and self.is_any_cycle and self.nodes >= other.nodes
 
     def why_not(self, extent: Extent, within: Span = EVERY, base: int | None = None) -> str:
         """Why no row of a trace in the cycles `within` matches, or none of a node, a kind or a span of cycles that the

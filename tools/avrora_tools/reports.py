@@ -92,10 +92,10 @@ class Report:
 
     def closing_line(self) -> str:
         found = self.outcomes()
-        counts = ", ".join(f"{found[word]} {word}" for word in runs.OUTCOMES if found[word])
+        counts = ", ".join(f"{found[word]:,} {word}" for word in runs.OUTCOMES if found[word])
         missing = self.total() - found.total()
-        parts = [f"{self.name}: {self.total()} runs", *([counts] if counts else [])]
-        return ", ".join([*parts, *([f"{missing} without a result yet"] if missing > 0 else [])])
+        parts = [f"{self.name}: {self.total():,} runs", *([counts] if counts else [])]
+        return ", ".join([*parts, *([f"{missing:,} without a result yet"] if missing > 0 else [])])
 
     def compared(self) -> list[str]:
         """A line for each way in which runs were compared: how much of how many."""

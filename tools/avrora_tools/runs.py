@@ -304,9 +304,6 @@ class Bench:
         ]
         return case._replace(path=shipped.path, statements=statements)
 
-    def close(self) -> None:
-        shutil.rmtree(self.folder, ignore_errors=True)
-
 
 def answer(outcome: str, message: str = "", again: bool = False, trouble: bool = False) -> Answer:
     return {
@@ -398,13 +395,14 @@ def for_dask(name: str, shipment: Shipment) -> tuple[Any, Any, Any]:
         def setup(self, worker: Any) -> None:
             import threading
 
-            self.place = worker.local_directory
+            self.place, self.folder = worker.local_directory, ""
             self.bench: Any = None
             self.lock = threading.Lock()  # for a worker of several threads: its folder is for one run at a time
 
         def teardown(self, worker: Any) -> None:
-            if self.bench:
-                self.bench.close()
+            import shutil
+
+            shutil.rmtree(self.folder, ignore_errors=True)
 
         def made(self) -> Any:
             import importlib
@@ -413,8 +411,8 @@ def for_dask(name: str, shipment: Shipment) -> tuple[Any, Any, Any]:
             import sys
             import tempfile
 
-            folder = tempfile.mkdtemp(prefix="avrora-", dir=self.place)
-            archive = os.path.join(folder, "tools.zip")
+            self.folder = self.folder or tempfile.mkdtemp(prefix="avrora-", dir=self.place)
+            archive = os.path.join(self.folder, "tools.zip")
             with open(archive, "wb") as file:
                 file.write(tools)
             for module in [it for it in sys.modules if it.partition(".")[0] == "avrora_tools"]:
@@ -422,7 +420,7 @@ def for_dask(name: str, shipment: Shipment) -> tuple[Any, Any, Any]:
             sys.path.insert(0, archive)
             runs = importlib.import_module("avrora_tools.runs")
             sys.path.remove(archive)
-            return runs.Bench(pickle.loads(packed_shipment), folder)
+            return runs.Bench(pickle.loads(packed_shipment), self.folder)
 
         def prove(self) -> list[Any]:
             import socket

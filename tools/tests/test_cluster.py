@@ -1,5 +1,6 @@
 """campaign on dask: a cluster that is there, workers that are sick or die, a scheduler that goes."""
 import contextlib
+import glob
 import json
 import os
 import socket
@@ -162,7 +163,8 @@ class ClientKilled(Cluster):
     WORKERS = 2
 
     def test_the_same_command_goes_on(self):
-        """At once, though the workers still have the runs of the client that was killed."""
+        """At once, though the workers still have the runs of the client that was killed; and at the end they have no files of
+        either."""
         campaign, _ = self.start_campaign()
         wait_for(lambda: any(name.startswith("held-") for name in os.listdir(self.path)) and stored(self.path) >= 3)
         campaign.kill()
@@ -175,6 +177,7 @@ class ClientKilled(Cluster):
         self.assertIn(f"{at_kill} of 20 results are there already, and are kept", text)
         self.assertEqual([row["outcome"] for row in self.rows()], ["passed"] * 20)
         self.assertLessEqual(len(set(starts(self.path))), 20 - at_kill)
+        wait_for(lambda: not glob.glob(f"{self.path}/worker*/**/avrora-*", recursive=True))
 
 
 class Gone(Cluster):

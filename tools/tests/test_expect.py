@@ -59,6 +59,8 @@ class Met(unittest.TestCase):
         self.met("* 1 stop 0102 {reserved,undefined} *", "* * {end,stop} *", "* * end * stopped")
         self.fails("* 0 sent 73..7F")
         self.met("{10,20} 0 *", "* 0 *", "*")
+        self.met("only stop", "*", "count == 1: *", "count > 0: *")
+        self.fails("only sent", "* * *", "*", "*", "*")
 
     def test_cycles_since_the_row_before(self):
         self.met("10 0 sent 72", "+20 1 heard *", "+0..10 1 serial 72", "+10+-0 1 sent *")
@@ -296,6 +298,12 @@ class Refused(unittest.TestCase):
             ("only 0\ncount == 1: * 1 sent *", "node 1 is none of those of `only`"),
             ("only sent\nnever * * stop *", "rows stop are none of those of `only`"),
             ("only 0\nonly 1", "a second `only`"),
+            ("+ 0 sent *", "a + stands before a number of cycles"),
+            ("10 0 sent *\nnever + 0 sent *", "a + stands before a number of cycles"),
+            ("*", "line 1: each trace has such a row"),
+            ("text 0 'a'\n0.. 0..63 *", "line 2: each trace has such a row"),
+            ("count > 0: *", "each trace has such a row"),
+            ("count != 0: * * *", "each trace has such a row"),
             ("only sent\nnever * * {sent,stop} *", "rows stop are none of those of `only`"),
             ("within 0..50: never 60.. * sent *", "cycles 60.. are not within 0..50"),
             ("within 0..50: count == 0: {10,60} * sent *", "cycles 60..60 are not within 0..50"),

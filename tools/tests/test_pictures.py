@@ -136,6 +136,21 @@ class Page(unittest.TestCase):
         status, out, err = run_tool("timeline", "--from", "0", "--to", "10000", stdin=trace)
         self.assertEqual((status, err, data_of(out)["thinned"]), (0, "", ""))
 
+    def test_clashes_are_thinned_last(self):
+        """Where they alone are more than a page may have; what a pixel can show is there, and stops are."""
+        rows = [f"{cycle} {node} heard 2 FF 0\n" for cycle in range(0, 4_000_000, 100) for node in range(2)]
+        trace = "".join(rows) + "3999999 0 stop 0000 break\n4000000 0 end 1 stopped\n4000000 1 end 1 running\n"
+        with unittest.mock.patch.object(timeline, "LARGEST_PAGE", 100_000):
+            status, out, err = run_tool("timeline", stdin=trace)
+        self.assertEqual(status, 0)
+        self.assertLess(len(out), 100_000)
+        drawn = data_of(out)
+        self.assertRegex(drawn["thinned"], r"^thinned to one in 1,953 cycles: .*, clashes$")
+        self.assertIn(drawn["thinned"], err)
+        for node in drawn["nodes"]:
+            self.assertEqual(cycles(node["clash"], 3), list(range(0, 4_000_000, 2_000)))
+        self.assertEqual(drawn["nodes"][0]["stop"], [3_999_999, "0000 break"])
+
     def test_another_scenario(self):
         """What was heard is not what the sends give by it."""
         with scratch("net.toml", data("flood.toml").replace("from = 1\n", "from = 15\n", 1)) as scenario:
@@ -157,12 +172,15 @@ class Page(unittest.TestCase):
         self.assertEqual((status, err), (2, "avrora-tools timeline: the trace has no row of these nodes\n"))
 
     PROBE = """<script>
-goToClash(true); paint();
+dispatchEvent(new KeyboardEvent("keydown", { key: "n" })); paint();
 const frame = sky.getBoundingClientRect(), at = { clientX: frame.left + x(15506), clientY: frame.top + y(6) + 5 };
 sky.dispatchEvent(new MouseEvent("mousemove", { ...at, bubbles: true }));
 const { data: points } = pen.getImageData(0, 0, sky.width, sky.height);
 const ink = points.filter((value, i) => i % 4 === 0 && value < 128).length;
-document.body.innerHTML = `<pre>${tip.textContent}|${shown.length}|${Math.round(from)}|${ink > 1000}|</pre>`;
+const said = tip.textContent, ways = shown.length;
+byNumber.get(2).node.sent = [[10, 1]];  // as where the send that clashed is thinned
+sky.dispatchEvent(new MouseEvent("mousemove", { ...at, bubbles: true }));
+document.body.innerHTML = `<pre>${said}|${ways}|${Math.round(from)}|${ink > 1000}|${tip.textContent}|</pre>`;
 </script>"""
 
     @needs_program("chromium", "chromium")
@@ -184,6 +202,7 @@ document.body.innerHTML = `<pre>${tip.textContent}|${shown.length}|${Math.round(
             said = f"ended with status {status}" if status > 0 else f"did not end in {BROWSER} s"
             self.skipTest(f"chromium {said}")
         self.assertIn("15,506  CLASH of node 2's 01 of 15,051, node 5's 01 of 15,046|2|5266|true|", dump)
+        self.assertIn("15,506  CLASH of node 2, node 5's 01 of 15,046|</pre>", dump)
 
     def ended(self, words, env):
         """The status and the output of a command; below 0 where it did not end in time."""

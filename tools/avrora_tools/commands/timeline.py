@@ -17,7 +17,8 @@ DESCRIPTION = """Draws a trace: nodes from top to bottom, cycles from left to ri
 other file (zoom with the wheel, drag, hover, go to a cycle, from clash to clash), or with --svg a picture for papers.
 With the scenario (-s) it knows how long a byte is on the air, and who clashed with whom. Sleep is known in the window
 of the scenario alone, where instructions are traced. A page of more than 5 MB is thinned: of samples, then of other
-events that lie close together one is kept, and the page says so; --from, --to and --nodes draw less, and all of it.
+events, of clashes last, that lie close together one is kept, and the page says so; --from, --to and --nodes draw less,
+and all of it.
 It takes a trace with its end rows, also one of `avrora resume` and of the tool window, or with --head the beginning of
 one."""
 
@@ -28,22 +29,23 @@ def page(drawing: Drawing, hz: int | None, name: str) -> str:
     """The page: timeline.html with the data in its place, thinned to what a page may have."""
     template = importlib.resources.files(avrora_tools).joinpath("timeline.html").read_text("utf-8")
     template = template.replace("/*TITLE*/", html.escape(name))
-    for thinning in drawings.thinnings(drawing):
-        text = json.dumps(content(drawing, hz, thinning), separators=(",", ":")).replace("</", "<\\/")
-        if len(template) + len(text) <= LARGEST_PAGE:
-            break
+    thinning = drawings.least_thinning(drawing, LARGEST_PAGE - len(template) - len(in_json(content(drawing, hz))))
     if thinning.step:
         terminal.warn(f"{thinning}; --from, --to and --nodes draw less, and all of it")
-    return template.replace("/*DATA*/null", text)
+    return template.replace("/*DATA*/null", in_json(content(drawing, hz, thinning)).replace("</", "<\\/"))
 
 
-def content(drawing: Drawing, hz: int | None, thinning: drawings.Thinning) -> dict[str, object]:
-    """The data of the page."""
+def in_json(value: object) -> str:
+    return json.dumps(value, separators=(",", ":"))
+
+
+def content(drawing: Drawing, hz: int | None, thinning: drawings.Thinning | None = None) -> dict[str, object]:
+    """The data of the page; without an event where no `thinning` is named."""
     scenario = drawing.scenario
     links = [[link.sender, link.hearer, link.latency] for link in scenario.links] if scenario else []
     nodes = [
         {"node": node, "name": drawing.name(node), "state": lane.state}
-        | {kind: drawings.flat(thinning.of(kind, lane), kind) for kind in drawings.FIELDS}
+        | {kind: drawings.flat(thinning.of(kind, lane), kind) if thinning else [] for kind in drawings.FIELDS}
         for node, lane in sorted(drawing.lanes.items())
     ]
     return {
@@ -53,7 +55,7 @@ def content(drawing: Drawing, hz: int | None, thinning: drawings.Thinning) -> di
         "hz": hz or 0,
         "links": links,
         "window": list(drawing.window),
-        "thinned": str(thinning),
+        "thinned": str(thinning or drawings.MOST_WORDS),
         "nodes": nodes,
         "vectors": {word: programs.vector_name(word) for word in programs.VECTORS},
     }

@@ -17,8 +17,8 @@ returns-in-Ok-write_onward_state g c =
     let taken = c.in-Ok-write_onward_state.ensures.taken ∙ ap (λ (st : StateOf). extended (g.O.Sink.taken c.args.out.now) (state_text st)) is in
     λ i. stream (taken i) (c.in-Ok-write_onward_state.ensures.ok i)
 
-pub returns-in-Err : goal.returns-in-Err
-returns-in-Err g c =
+pub returns : goal.returns
+returns g c =
     let a = c.args.saved.now in
     let sends = c.as_slice.ensures.value ∙ c.in-Ok.ensures in
     let is : state_with (onward a.scenario a.state) a.floor c.as_slice.result.now ≡ saved_from c.args.network.now a.state a.floor =

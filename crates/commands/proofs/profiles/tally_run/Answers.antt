@@ -37,7 +37,7 @@ pub returns-clause-taken : goal.returns-clause-taken
 returns-clause-taken c =
     let sc = c.args.network.now in
     let over = c.loop-run-test.false in
-    let to = c.window.ensures.to in
+    let to = c.window-end.ensures.to in
     let within = c.loop-run.invariant.within in
     let limit = c.requires.within in
-    tallies_whole sc c.requires.sound c.window.result c.loop-run.run.floor c.loop-run.all.items c.window.ensures.from c.window.ensures.to (omega arith) (omega arith) c.loop-run.invariant.all
+    tallies_whole sc c.requires.sound c.window-end.result c.loop-run.run.floor c.loop-run.all.items c.window-end.ensures.from c.window-end.ensures.to (omega arith) (omega arith) c.loop-run.invariant.all

@@ -1,4 +1,4 @@
-use Rattle.std.proofs.Common.{◌≡◌, ◌≤◌, refl, sym, subst, ap, ◌∙◌, arith}
+use Rattle.std.proofs.Common.{◌≡◌, ◌<◌, ◌≤◌, refl, sym, subst, ◌∙◌, arith}
 use Rattle.scenario_file.specs.Shown.{parts}
 use Rattle.scenario_file.specs.declared.fault.ScenarioFault.TheVariants.{OutOfRange}
 use Rattle.node_runner.specs.Scenario.{ScenarioOf}
@@ -34,4 +34,30 @@ returns-in-Err-read_images-clause-err g c =
           (end_at c.in-Err-read_images.trouble) c.in-Ok.ensures.held c.in-Ok.ensures.read.0
           (span_reached _ c.args.file.now c.args.from c.args.to (parts c.in-Ok.text) c.in-Ok.ensures.read.1 (omega arith)) stops;
       told = c.tell-in-Err-read_images.ensures;
+    }
+
+-- the cycles end behind the run
+pub returns-then-limit-to-clause-err : goal.returns-then-limit-to-clause-err
+returns-then-limit-to-clause-err g c =
+    let past : c.limit.result < c.args.to = c.if-limit-to.true in
+    let limit : c.limit.result ≡ c.in-Ok.text.topo.limit = c.limit.ensures.value in
+    record {
+      end = Refused (BadScenario c.args.file.now (Faulty OutOfRange));
+      stops = (c.in-Ok.ensures.read.0, span_refused _ c.args.file.now c.args.from c.args.to (parts c.in-Ok.text) c.in-Ok.ensures.read.1 (omega arith));
+      told = c.tell-then-limit-to.ensures;
+    }
+
+pub returns-in-Ok-read_images-clause-ok : goal.returns-in-Ok-read_images-clause-ok
+returns-in-Ok-read_images-clause-ok g c =
+    let most : c.args.to ≤ c.limit.result = c.if-limit-to.false in
+    let limit : c.limit.result ≡ c.in-Ok.text.topo.limit = c.limit.ensures.value in
+    let in_run : c.args.to ≤ c.in-Ok.text.topo.limit = omega arith in
+    let more : Reached (g.S.Store.held c.read_scenario.new.store) (images_plan c.in-Ok.text.images.items) (Give c.in-Ok-read_images.images.items) =
+    rw (← c.as_slice.ensures.value) c.in-Ok-read_images.ensures.read.1 in
+    record {
+      reached = network_reached _ _ (and_then (scenario_plan c.args.file.now) (span_or c.args.file.now c.args.from c.args.to)) (record (parts c.in-Ok.text) { window = (c.args.from, c.args.to) })
+          c.in-Ok-read_images.images.items _ c.in-Ok.ensures.held (span_reached _ c.args.file.now c.args.from c.args.to (parts c.in-Ok.text) c.in-Ok.ensures.read.1 in_run) more c.new.ensures;
+      same = c.in-Ok-read_images.ensures.read.0 ∙ c.in-Ok.ensures.read.0;
+      silent = refl;
+      within = subst (λ (n : ScenarioOf). n.to ≤ n.topo.limit) (sym c.new.ensures) in_run;
     }
