@@ -112,7 +112,8 @@ def dask_costs(folder, which, runs):
     quiet = {"stdout": subprocess.DEVNULL, "stderr": subprocess.DEVNULL, "cwd": folder.path}
     place = ["--host", LOOPBACK, "--no-dashboard"]
     scheduler = subprocess.Popen(
-        [*module, "distributed.cli.dask_scheduler", *place, "--port", "0", "--scheduler-file", file], **quiet
+        [*module, "distributed.cli.dask_scheduler", *place, "--port", "0", "--scheduler-file", file],
+        **quiet,
     )
     address = None
     while address is None:
