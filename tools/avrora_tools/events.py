@@ -4,7 +4,6 @@ Rows that say the same share one event, so what it costs to read one counts once
 """
 import enum
 import re
-from collections.abc import Iterable
 from typing import ClassVar
 
 from avrora_tools.instructions import is_instruction
@@ -167,37 +166,16 @@ def event_of(text: str) -> Event | None:
         return None
 
 
-# The place of a row in its cycle (the node, then the code of the event), its node, and its event.
-Tail = tuple[int, int, Event]
+class Events(dict[str, tuple[int, Event]]):
+    """The events with their codes by their texts, as far as they came; a text that says none raises KeyError."""
 
+    MOST = 50_000  # beyond which all are forgotten, so that memory does not grow with a trace
 
-class Tails(dict[str, Tail]):
-    """What rows say behind their cycles, by its text, as far as it came; a text that no node has raises KeyError."""
-
-    MOST = 100_000  # beyond which all are forgotten, so that memory does not grow with a trace
-
-    def __init__(self, nodes: int) -> None:
-        """Rows of the nodes 0 to `nodes` - 1."""
-        super().__init__()
-        self.nodes = {str(node): node for node in range(nodes)}
-        self.events: dict[str, Event] = {}
-
-    def leave_out(self, nodes: Iterable[int]) -> None:
-        """From now on rows of these nodes raise KeyError."""
-        for node in nodes:
-            self.nodes.pop(str(node), None)
-        self.clear()
-
-    def __missing__(self, text: str) -> Tail:
-        digits, _, rest = text.partition(" ")
-        node = self.nodes[digits]
-        event = self.events.get(rest) or event_of(rest)
+    def __missing__(self, text: str) -> tuple[int, Event]:
+        event = event_of(text)
         if event is None:
             raise KeyError(text)
         if len(self) >= self.MOST:
             self.clear()
-        if len(self.events) >= self.MOST:
-            self.events.clear()
-        self.events[rest] = event
-        tail = self[text] = node << 4 | event.code, node, event
-        return tail
+        self[text] = event.code, event
+        return event.code, event

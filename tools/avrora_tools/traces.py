@@ -14,7 +14,7 @@ from typing import BinaryIO, NamedTuple
 from avrora_tools import files, terminal
 from avrora_tools.cli import MAX_NODES
 from avrora_tools.errors import BadInput
-from avrora_tools.events import KINDS, STOPPED, Care, End, Event, Sent, Stop, Tails, event_of
+from avrora_tools.events import KINDS, STOPPED, Care, End, Event, Events, Sent, Stop, event_of
 from avrora_tools.scenarios import BYTE_TIME, MAX_CYCLES, MAX_WINDOW, Scenario
 from avrora_tools.states import State
 
@@ -74,8 +74,8 @@ class Trace:
         self.ended: dict[int, End] = {}
         self.last_sent: dict[int, int] = {}
         self.most_nodes = len(scenario.images) if scenario else len(state.nodes) if state else MAX_NODES
-        # What rows say, of the nodes that may have rows of any kind; those that stopped may have an end row alone.
-        self.tails = Tails(self.most_nodes)
+        # The nodes that may have rows of any kind, by their digits; those that stopped may have an end row alone.
+        self.nodes = {str(node): node for node in range(self.most_nodes)}
         self.stopped: set[int] = set()
         self.remaining: Iterator[str] = iter(())  # what is left of the lines of the block
         for node, one in enumerate(state.nodes if state else ()):
@@ -83,7 +83,7 @@ class Trace:
                 self.note_stop(node)
 
     def __iter__(self) -> Iterator[TraceRow]:
-        tails = self.tails
+        events, nodes = Events(), self.nodes
         first, bound = self.first, self.bound
         order, digits, cycle, window_end = -1, "", -1, -1
         for lines in self.lines():
@@ -91,26 +91,23 @@ class Trace:
             if self.first_row is None:
                 self.first_row = leading_number(lines[0])
             for line in self.remaining:
-                text, _, tail = line.partition(" ")
                 try:
-                    place, node, event = tails[tail]
-                except KeyError:
-                    node, event = self.unusual(line)
-                    place = node << 4 | event.code
+                    text, node_text, rest = line.split(" ", 2)
+                    code, event = events[rest]
+                    node = nodes[node_text]
+                except (KeyError, ValueError):
+                    text, node, event = self.unusual(line)
+                    code = event.code
                 if text != digits:
-                    digits = text
-                    try:
-                        cycle = int(text)
-                    except ValueError:
-                        cycle = NEVER
+                    cycle, digits = int(text) if text.isdigit() and len(text) < LONGEST_ROW else NEVER, text
                     if not first <= cycle < bound or str(cycle) != text:
                         self.check_cycle(line, text, cycle)
-                now = cycle << 10 | place
+                now = cycle << 10 | node << 4 | code
                 if now <= order:
                     raise self.fault(out_of_order(order, cycle, node), line)
                 order = now | CARE_BITS  # two rows of one rank are too many, whatever care they want
-                if place & CARE_BITS:
-                    if place & CARE_BITS != Care.TRACED:
+                if code & CARE_BITS:
+                    if code & CARE_BITS != Care.TRACED:
                         self.note(line, cycle, node, event)
                     elif cycle < window_end:
                         self.last_traced = cycle
@@ -156,13 +153,15 @@ class Trace:
                 return self.fault(f"no row has the kind {parts[2]}", line)
         return self.fault("no row of a trace", line)
 
-    def unusual(self, line: str) -> tuple[int, Event]:
-        """The node and the event of a row that a node may have no more, or BadInput that says what is wrong with it."""
+    def unusual(self, line: str) -> tuple[str, int, Event]:
+        """The parts of a row that a node may have no more, or BadInput that says what is wrong with it."""
         parts = line.split(" ", 2)
         event = event_of(parts[2]) if len(parts) == 3 else None
         if event is None:
             raise self.no_row(line)
-        digits = parts[1]
+        text, digits, _ = parts
+        if digits in self.nodes:
+            return text, self.nodes[digits], event
         if not digits.isdigit() or str(int(digits[:9])) != digits or int(digits) >= MAX_NODES:
             raise self.no_row(line)
         node = int(digits)
@@ -175,7 +174,7 @@ class Trace:
             raise self.fault(f"{what} has {self.most_nodes} nodes, so it is not its trace", line)
         if not isinstance(event, End):
             raise self.fault("a row behind an end row", line)
-        return node, event
+        return text, node, event
 
     def check_cycle(self, line: str, text: str, cycle: int) -> None:
         """A cycle that is not within the bounds of the rows: only an end row may have it."""
@@ -210,7 +209,7 @@ class Trace:
             self.note_end(line, cycle, node, event)
 
     def note_stop(self, node: int) -> None:
-        self.tails.leave_out({node})
+        del self.nodes[str(node)]
         self.stopped.add(node)
 
     def note_end(self, line: str, cycle: int, node: int, event: End) -> None:
@@ -228,7 +227,7 @@ class Trace:
         if event.instructions > cycle:
             raise self.fault("more instructions than cycles", line)
         self.ended[node] = event
-        self.tails.leave_out(range(self.most_nodes))
+        self.nodes.clear()
 
     def is_from_reset(self) -> bool:
         """Whether the trace has all stops of the run."""
