@@ -14,12 +14,11 @@ import math
 import os
 import re
 import sys
-import tomllib
 from collections.abc import Callable, Sequence
 from pathlib import Path
 from typing import Any
 
-from avrora_tools import campaign_keys, checkers, networks, scenarios
+from avrora_tools import campaign_keys, checkers, networks, scenarios, toml
 from avrora_tools.campaign_keys import Table, unknown
 from avrora_tools.errors import BadInput
 from avrora_tools.files import printable
@@ -404,11 +403,9 @@ def value_text(value: Any) -> str:
 
 def parsed(text: str, path: str) -> Table:
     try:
-        return tomllib.loads(text)
-    except tomllib.TOMLDecodeError as fault:
+        return toml.loads(text)
+    except toml.NotToml as fault:
         raise BadInput(f"{path}: no TOML: {fault}") from None
-    except RecursionError:
-        raise BadInput(f"{path}: no TOML: too many arrays and tables in one another") from None
 
 
 def content_name(content: bytes, path: str) -> str:

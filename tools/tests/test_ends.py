@@ -189,8 +189,6 @@ DEEP = {
 def test_toml_in_many_levels(tool, number, name, place):
     (place / "deep.toml").write_text(DEEP[name])
     status, out, err = run_tool(tool, *words_of(tool, place, {number: str(place / "deep.toml")}))
-    if tool == "campaign" and status == 3:
-        pytest.xfail("campaign reads its TOML in another way than the other tools")
     if tool == "why":
         assert (status, err, out.count("\n")) == (1, "", 1) and out.startswith("NotToml: ")
     else:

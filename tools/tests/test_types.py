@@ -6,14 +6,11 @@ import pytest
 
 from support import TOOLS
 
-# Modules without types.
-UNTYPED = ("avrora_tools/campaigns.py", "avrora_tools/pools.py", "avrora_tools/runs.py", "avrora_tools/commands/campaign.py")
-
 
 def test_types(tmp_path):
     pytest.importorskip("mypy", reason="needs mypy (Debian's mypy)")
     words = [sys.executable, "-m", "mypy", "--cache-dir", str(tmp_path)]
     done = subprocess.run(words, cwd=TOOLS, capture_output=True, text=True, check=False)
     assert "source file" in done.stdout, done.stdout + done.stderr  # it came to its last line
-    wrong = [line for line in done.stdout.splitlines() if ": error: " in line and not line.startswith(UNTYPED)]
+    wrong = [line for line in done.stdout.splitlines() if ": error: " in line]
     assert not wrong
