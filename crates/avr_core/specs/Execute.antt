@@ -126,8 +126,6 @@ pushed_as (Err cause) = Err cause
 -- asked
 abbrev pub accesses_sram : Op → Cpu → Bool
 accesses_sram (op.Call k) cpu = calls_by_sram cpu.sp
-accesses_sram (op.Rcall k) cpu = calls_by_sram cpu.sp
-accesses_sram op.Icall cpu = calls_by_sram cpu.sp
 accesses_sram op.Ret cpu = returns_by_sram cpu.sp
 accesses_sram (op.LdX d) cpu = in_sram (pair_at x cpu)
 accesses_sram (op.LddY d q) cpu = in_sram (displaced y q cpu)

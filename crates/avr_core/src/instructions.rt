@@ -11,7 +11,7 @@ use crate::accesses::{
     displaced, io_address, load_at, load_post_increment, load_pre_decrement, retire, set_bit,
     store_at, store_post_increment, store_pre_decrement,
 };
-use crate::calls::{reti, z_pointer};
+use crate::calls::{call_at_z, call_near, reti, z_pointer};
 use crate::flash::{
     load_extended, load_extended_post_increment, load_program, load_program_post_increment,
 };
@@ -20,9 +20,7 @@ use crate::shapes::{
     add, compare, compare_with_carry, copy, copy_pair, load_bit, multiply, put_bits, put_byte,
     put_word, set_flag, store_bit, subtract, subtract_with_carry, swap,
 };
-use crate::sram_accesses::{
-    Accessed, called, called_at_z, called_near, load, pop, push, returned, store,
-};
+use crate::sram_accesses::{Accessed, called, load, pop, push, returned, store};
 use arith_step::{MulKind, adiw, asr, com, dec, inc, lsr, neg, ror, sbiw};
 use avr_base::{Reg, Sreg, StopCause};
 use avr_decoder::{Class, Op};
@@ -271,8 +269,8 @@ pub fn execute_plain<P: ProgramMemory, B: Bus>(
             bus,
         )),
         Op::Call { k } => accessed(called(k, regs, core, bus)),
-        Op::Rcall { k } => accessed(called_near(k, regs, core, bus)),
-        Op::Icall => accessed(called_at_z(regs, core, bus)),
+        Op::Rcall { k } => stored(call_near(k, regs, core, bus)),
+        Op::Icall => stored(call_at_z(regs, core, bus)),
         Op::Ret => accessed(returned(regs, core, bus)),
         Op::LdX { d } => accessed(load(d, pair(regs, x), 1, 2, regs, core, bus)),
         Op::LddY { d, q } => accessed(load(d, displaced(y, q, regs), 1, 2, regs, core, bus)),

@@ -4,15 +4,15 @@
 ghost use Rattle.std.specs.Prelude.{◌≡◌, ◌+◌, ◌%◌, if◌then◌else◌, true, false, IfOk, OnErr};
 ghost use Rattle.data_space.specs.Core.{pair_at, whole};
 ghost use Rattle.data_space.specs.Sequence.{pushed_word};
-ghost use Rattle.avr_core.specs.FlowShapes.{calls, relative, returns};
+ghost use Rattle.avr_core.specs.FlowShapes.{calls, returns};
 ghost use Rattle.avr_core.specs.MemoryShapes.{loads, pops, pushes, stores};
 ghost use Rattle.avr_core.specs.declared.instructions.After.TheVariants as after;
 ghost use Rattle.avr_core.specs.Execute.{after_access, calls_by_sram, pushed_as, returns_by_sram};
 
 use crate::accesses::{load_at, pop_reg, push_reg, store_at};
-use crate::calls::{call, call_at_z, call_near, ret, z_pointer};
+use crate::calls::{call, ret};
 use crate::instructions::After;
-use crate::jumps::{jump, relative_to};
+use crate::jumps::jump;
 use crate::sram::is_in_sram;
 use avr_base::{Reg, StopCause};
 use data_space::{Bus, Core, Done, Registers, pair, push_both};
@@ -132,36 +132,6 @@ pub fn called<B: Bus>(k: u16, regs: &mut Registers, core: &mut Core, bus: &mut B
     match push_by_sram(regs, *core, bus, back) {
         Ok(true) => (After::Nothing, Ok(jump(4, k, core))),
         Ok(false) => (After::Store, call(k, regs, core, bus)),
-        Err(cause) => (After::Nothing, Err(cause)),
-    }
-}
-
-/// RCALL of the word address `k` words behind the next word, as [`call_near`].
-#[inline(always)]
-#[tactic(auto, unfolding(crate::specs::FlowShapes::calls))]
-pub fn called_near<B: Bus>(k: i16, regs: &mut Registers, core: &mut Core, bus: &mut B) -> Accessed
-    ensures after { result.0 ≡ (if calls_by_sram regs.old.sp then after.Nothing else after.Store) }
-    ensures outcome { record { result = result.1; cpu = whole regs.new core.new; bus = bus.new } ≡ calls B.put_gives 3 1 (relative k) (whole regs.old core.old) bus.old }
-{
-    let back = core.pc.wrapping_add(1);
-    match push_by_sram(regs, *core, bus, back) {
-        Ok(true) => (After::Nothing, Ok(jump(3, relative_to(k, core), core))),
-        Ok(false) => (After::Store, call_near(k, regs, core, bus)),
-        Err(cause) => (After::Nothing, Err(cause)),
-    }
-}
-
-/// ICALL, as [`call_at_z`].
-#[inline(always)]
-#[tactic(auto, unfolding(crate::specs::FlowShapes::calls))]
-pub fn called_at_z<B: Bus>(regs: &mut Registers, core: &mut Core, bus: &mut B) -> Accessed
-    ensures after { result.0 ≡ (if calls_by_sram regs.old.sp then after.Nothing else after.Store) }
-    ensures outcome { record { result = result.1; cpu = whole regs.new core.new; bus = bus.new } ≡ calls B.put_gives 3 1 (pair_at 30) (whole regs.old core.old) bus.old }
-{
-    let back = core.pc.wrapping_add(1);
-    match push_by_sram(regs, *core, bus, back) {
-        Ok(true) => (After::Nothing, Ok(jump(3, z_pointer(regs), core))),
-        Ok(false) => (After::Store, call_at_z(regs, core, bus)),
         Err(cause) => (After::Nothing, Err(cause)),
     }
 }

@@ -110,29 +110,26 @@ push_is b cpu bus h =
     ap (λ (a : Access (Unit {0}) NodeBus). lowered ((cpu.sp + 65535) % 65536) a a.result) (store_is cpu.sp b cpu bus h)
 
 -- the end of a call, by the access that pushes the high byte of the address, and by that which pushes the low one
-module _ (cycles words : ℕ) (target : Cpu → ℕ) where
-  abbrev called_by : Access (Unit {0}) NodeBus → Outcome NodeBus
-  called_by high = then_do high high.result (λ _ c b. flow_ends (jumped cycles (target c) c) b)
+abbrev called_by : ℕ → Access (Unit {0}) NodeBus → Outcome NodeBus
+called_by k high = then_do high high.result (λ _ c b. flow_ends (jumped 4 k c) b)
 
-  abbrev called_from : ℕ → Access (Unit {0}) NodeBus → Outcome NodeBus
-  called_from word low = called_by (then_do low low.result (λ _ c b. pushed bus_put (word / 256) c b))
+abbrev called_from : ℕ → ℕ → Access (Unit {0}) NodeBus → Outcome NodeBus
+called_from k word low = called_by k (then_do low low.result (λ _ c b. pushed bus_put (word / 256) c b))
 
-  call_leaves : (cpu : Cpu) (bus : NodeBus) → calls_by_sram cpu.sp ≡ true → Leaves cpu bus (calls bus_put cycles words target cpu bus)
-  unfolding calls pushed_word
-  call_leaves cpu bus h =
-      let word : ℕ = (cpu.pc + words) % 65536 in
-      let lower : Cpu = record cpu { sp = (cpu.sp + 65535) % 65536 } in
-      let both = and_parts _ _ h in
-      let there : NodeBus = record bus { sram = slice_set bus.sram (cpu.sp - 0x100) (word % 256) } in
-      let high : Leaves cpu bus (called_by (pushed bus_put (word / 256) lower there)) = subst (λ (a : Access (Unit {0}) NodeBus). Leaves cpu bus (called_by a)) (sym (push_is (word / 256) lower there both.1)) (refl, refl) in
-      subst (λ (a : Access (Unit {0}) NodeBus). Leaves cpu bus (called_from word a)) (sym (push_is (word % 256) cpu bus both.0)) high
+call_leaves : (k : ℕ) (cpu : Cpu) (bus : NodeBus) → calls_by_sram cpu.sp ≡ true → Leaves cpu bus (calls bus_put 4 2 (λ _. k) cpu bus)
+unfolding calls pushed_word
+call_leaves k cpu bus h =
+    let word : ℕ = (cpu.pc + 2) % 65536 in
+    let lower : Cpu = record cpu { sp = (cpu.sp + 65535) % 65536 } in
+    let both = and_parts _ _ h in
+    let there : NodeBus = record bus { sram = slice_set bus.sram (cpu.sp - 0x100) (word % 256) } in
+    let high : Leaves cpu bus (called_by k (pushed bus_put (word / 256) lower there)) = subst (λ (a : Access (Unit {0}) NodeBus). Leaves cpu bus (called_by k a)) (sym (push_is (word / 256) lower there both.1)) (refl, refl) in
+    subst (λ (a : Access (Unit {0}) NodeBus). Leaves cpu bus (called_from k word a)) (sym (push_is (word % 256) cpu bus both.0)) high
 
 module _ (flash : List ℕ) (cpu : Cpu) (bus : NodeBus) where
   pub sram_leaves : (o : Op) → accesses_sram o cpu ≡ true → Leaves cpu bus (executed flash o cpu bus)
   unfolding executed_over memory_effect flow_effect
-  sram_leaves (op.Call k) h = call_leaves 4 2 (λ _. k) cpu bus h
-  sram_leaves (op.Rcall k) h = call_leaves 3 1 (relative k) cpu bus h
-  sram_leaves op.Icall h = call_leaves 3 1 (pair_at 30) cpu bus h
+  sram_leaves (op.Call k) h = call_leaves k cpu bus h
   sram_leaves op.Ret h = return_leaves cpu bus h
   sram_leaves (op.LdX d) h = load_leaves d (pair_at x cpu) 1 2 cpu bus h
   sram_leaves (op.LddY d q) h = load_leaves d (displaced y q cpu) 1 2 cpu bus h
