@@ -4,6 +4,7 @@ ghost use Rattle.serial_ports.specs.Script.{Arrives, first_byte, script_byte};
 
 use crate::Stretch;
 use avr_base::NoMemory;
+use std::alloc::Global;
 use std::marker::Model;
 
 // One stretch, which most scripts are, is held without a list in memory.
@@ -37,7 +38,8 @@ impl Model for Script {
 
 // The byte of the first of the stretches that has one in a cycle.
 fn first_byte(stretches: &[Stretch], cycle: u64) -> Option<u8>
-    ensures { result ≡ first_byte stretches.now cycle }
+    ensures value { result ≡ first_byte stretches.now cycle }
+    ensures law { Arrives (record { stretches = stretches.now }) cycle result }
 {
     for stretch in stretches {
         if let Some(byte) = stretch.byte_at(cycle) {
@@ -62,10 +64,10 @@ fn quiet(stretches: &[Stretch], cycle: u64, most: u64) -> u64
 }
 
 // Equal stretches.
-fn copies(stretches: &Vec<Stretch>) -> Result<Vec<Stretch>, NoMemory>
-    ensures { IfOk result (λ copies. copies.items ≡ stretches.now.items) }
+fn copies(alloc: Global, stretches: &[Stretch]) -> Result<Vec<Stretch>, NoMemory>
+    ensures { IfOk result (λ copies. copies.items ≡ stretches.now) }
 {
-    let mut copies = Vec::new(*stretches.allocator());
+    let mut copies = Vec::new(alloc);
     for stretch in stretches {
         if copies.push(stretch.copy()?).is_err() {
             return Err(NoMemory);
@@ -128,7 +130,9 @@ impl Script {
     {
         let stretches = match &self.stretches {
             Stretches::One(stretch) => Stretches::One(stretch.copy()?),
-            Stretches::Many(stretches) => Stretches::Many(copies(stretches)?),
+            Stretches::Many(stretches) => {
+                Stretches::Many(copies(*stretches.allocator(), stretches)?)
+            }
         };
         Ok(Script { stretches })
     }
