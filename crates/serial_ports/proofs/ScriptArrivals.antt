@@ -3,7 +3,7 @@ use Rattle.std.proofs.Common.{◌≡◌, ℕ, zero, suc, ◌+◌, ◌<◌, ◌�
 use Rattle.std.specs.List.{slice_get}
 use Rattle.std.specs.Option.{option_or}
 use Rattle.std.proofs.lemmas.Bool.{cases_lt}
-use Rattle.std.proofs.lemmas.List.{drop_more, take_more}
+use Rattle.std.proofs.lemmas.List.{drop_all, drop_more, take_more}
 use Rattle.std.proofs.lemmas.Option.{slice_get-get_or, slice_get_within}
 use Rattle.serial_ports.specs.Script.{Arrives, IsByteOf, ScriptBytes, StretchBytes, first_byte, script_byte, stretch_byte}
 
@@ -69,6 +69,10 @@ pub here-arrives : (xs : List StretchBytes) (t i b : ℕ) (d : StretchBytes) →
 here-arrives xs t i b d l law p = (i, get_or xs i d, slice_get-get_or xs i d l, law, p.before)
 
 -- there is no other
+pub never-byte : (xs : List StretchBytes) (t i : ℕ) → length xs ≤ i → IsPast xs t i → first_byte xs t ≡ None
+unfolding first_byte
+never-byte xs t i l p = p.rest ∙ ap (λ (ys : List StretchBytes). first_byte ys t) (drop_all i xs l)
+
 pub never-arrives : (xs : List StretchBytes) (t i : ℕ) → length xs ≤ i → IsPast xs t i → Arrives (record { stretches = xs }) t None
 never-arrives xs t i l p = λ j y e. let within = slice_get_within xs j y e in p.before j y (omega arith) e
 
