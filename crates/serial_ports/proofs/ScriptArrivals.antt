@@ -5,7 +5,7 @@ use Rattle.std.specs.Option.{option_or}
 use Rattle.std.proofs.lemmas.Bool.{cases_lt}
 use Rattle.std.proofs.lemmas.List.{drop_all, drop_more, take_more}
 use Rattle.std.proofs.lemmas.Option.{slice_get-get_or, slice_get_within}
-use Rattle.serial_ports.specs.Script.{Arrives, IsByteOf, ScriptBytes, StretchBytes, first_byte, script_byte, stretch_byte}
+use Rattle.serial_ports.specs.Script.{Arrives, IsByteOf, StretchBytes, first_byte, stretch_byte}
 
 -- ---- one stretch behind others
 or-none : (o : Option ℕ) → option_or o None ≡ o

@@ -1,4 +1,4 @@
-use Rattle.std.proofs.Common.{◌≡◌, ◌∷◌, [], ◌+◌, is_some, sym, ap, ◌∙◌}
+use Rattle.std.proofs.Common.{◌≡◌, ◌∷◌, [], ◌+◌, is_some, ap, ◌∙◌}
 use Rattle.serial_ports.specs.Script.{ScriptBytes, script_byte}
 use Rattle.serial_ports.proofs.ScriptArrivals.{one-byte}
 use Rattle.serial_ports.proofs.script.Script.quiet.Goals as goal
