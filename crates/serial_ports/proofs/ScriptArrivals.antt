@@ -25,7 +25,11 @@ unfolding first_byte
 first_byte-push [] x t = or-none (stretch_byte x t)
 first_byte-push (y ∷ xs) x t = ap (option_or (stretch_byte y t)) (first_byte-push xs x t) ∙ or-or (stretch_byte y t) (first_byte xs t) (stretch_byte x t)
 
--- ---- a script of one stretch
+-- ---- a script of no stretch, and of one
+pub no-byte : (t : ℕ) → first_byte [] t ≡ None
+unfolding first_byte
+no-byte t = refl
+
 pub one-byte : (x : StretchBytes) (t : ℕ) → first_byte (x ∷ []) t ≡ stretch_byte x t
 unfolding first_byte
 one-byte x t = or-none (stretch_byte x t)
