@@ -2,7 +2,6 @@
 -- `next` nothing of it ends and no timer sets a flag, so that flags and lines can be told without a leap of the timers.
 -- Its clock may be past `next`: whoever moved it there knew that no timer sets a flag before.
 use Rattle.std.specs.Prelude.{◌≡◌, ℕ, ◌+◌, ◌-◌, ◌^◌, ◌<◌, ◌≤◌, ◌==◌, ◌&&◌, not, Bool, true, false, Ok}
-use Rattle.device_base.specs.Bounds.{LAST_CYCLE}
 use Rattle.board_io.specs.declared.board.Board.{Board}
 use Rattle.board_io.specs.declared.ahead.Forecast.{Forecast}
 use Rattle.board_io.specs.Board.{clock_at}
@@ -26,8 +25,8 @@ caught_up settled b = timers_leap settled (b.clock - settled) b
 -- what is kept of a board that lags is true of it
 pub record IsAhead (a : Forecast) (b : Board) : Type 0 where
   pub settled : a.settled ≤ b.clock
-  pub now : b.clock ≤ LAST_CYCLE
-  pub early : a.next ≤ LAST_CYCLE
+  pub now : b.clock ≤ 2 ^ 40
+  pub early : a.next ≤ 2 ^ 40
   pub quiet : (t : ℕ) → b.clock ≤ t → t < a.next → board_quiet t b ≡ true
   pub calm : (i : ℕ) → a.settled + i < a.next → sets_flag_at a.settled b i ≡ false
   pub past : (i : ℕ) → a.settled + i < b.clock → sets_flag_at a.settled b i ≡ false

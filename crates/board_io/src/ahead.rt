@@ -1,11 +1,12 @@
 // What is known of a board's next cycles.
 ghost use Rattle.std.specs.Prelude.{◌≡◌, ◌≤◌, ◌<◌, ◌+◌, ◌^◌, ℕ, false};
-ghost use Rattle.device_base.specs.Bounds.{LAST_CYCLE};
 ghost use Rattle.board_io.specs.Passing.{sets_flag_at};
 ghost use Rattle.board_io.specs.Lagging.{IsAhead};
 
 use crate::Board;
-use device_base::LAST_CYCLE;
+
+// The last cycle that anything is told of.
+const LAST: u64 = 1 << 40;
 
 /// What is known of a board whose timers have done the cycles below one.
 #[derive(Clone, Copy)]
@@ -36,12 +37,12 @@ impl Board {
     /// What is known of it from the cycle of its clock on, which its timers have come to.
     #[inline(always)]
     pub fn ahead(&self) -> Forecast
-        requires { self.now.clock ≤ LAST_CYCLE }
+        requires { self.now.clock ≤ 2 ^ 40 }
         ensures settled { result.settled ≡ self.now.clock }
         ensures ahead { IsAhead result self.now }
     {
         let settled = self.clock.get();
-        let calm = self.quiet(settled, LAST_CYCLE - settled);
+        let calm = self.quiet(settled, LAST - settled);
         let same = self.same_lines(settled, calm + 1);
         let next = settled + (same - 1);
         let lines = self.lines().bits;
@@ -56,8 +57,8 @@ impl Board {
     /// What is known of it, where of its timers what `before` tells is known still.
     pub fn ahead_beside(&self, before: Forecast) -> Forecast
         requires settled { before.settled ≤ self.now.clock }
-        requires now { self.now.clock ≤ LAST_CYCLE }
-        requires early { before.next ≤ LAST_CYCLE }
+        requires now { self.now.clock ≤ 2 ^ 40 }
+        requires early { before.next ≤ 2 ^ 40 }
         requires calm { (i : ℕ) → before.settled + i < before.next → sets_flag_at before.settled self.now i ≡ false }
         requires past { (i : ℕ) → before.settled + i < self.now.clock → sets_flag_at before.settled self.now i ≡ false }
         ensures settled { result.settled ≡ before.settled }

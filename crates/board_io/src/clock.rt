@@ -1,5 +1,5 @@
 // The clock of a board.
-ghost use Rattle.std.specs.Prelude.{◌≡◌, ◌≤◌, ◌^◌};
+ghost use Rattle.std.specs.Prelude.{◌≡◌, ◌≤◌};
 ghost use Rattle.device_base.specs.Bounds.{LAST_END};
 
 use std::marker::Model;
@@ -11,7 +11,8 @@ pub struct Clock {
 }
 
 impl Model for Clock {
-    ghost use Rattle.std.specs.Prelude.{ℕ, ◌≤◌, ◌^◌};
+    ghost use Rattle.std.specs.Prelude.{ℕ, ◌≤◌};
+    ghost use Rattle.device_base.specs.Bounds.{LAST_END};
 
     ghost Value = { ℕ };
 
