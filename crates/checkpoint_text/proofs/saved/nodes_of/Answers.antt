@@ -8,7 +8,7 @@ use Rattle.fleet_flight.proofs.EachNode.{none_begun, one_begun}
 use Rattle.checkpoint_text.proofs.saved.nodes_of.Goals as goal
 
 pub loop-k-init : goal.loop-k-init
-loop-k-init c = none_begun (origin_of c.args.scenario.now c.args.state.now) _ c.new.ensures.items
+loop-k-init c = none_begun (origin_of c.args.scenario.now c.args.state.now) _ c.new-nodes.ensures.items
 
 pub node_of-requires-clause-fits : goal.node_of-requires-clause-fits
 node_of-requires-clause-fits c =

@@ -4,7 +4,7 @@ use Rattle.fleet_plain.specs.Run.{at_reset}
 use Rattle.fleet_plain.proofs.begun.nodes_at_reset.Goals as goal
 
 pub loop-k-init : goal.loop-k-init
-loop-k-init c = none_begun (at_reset c.args.scenario.now) _ c.new.ensures.items
+loop-k-init c = none_begun (at_reset c.args.scenario.now) _ c.new-nodes.ensures.items
 
 pub loop-k-preserved : goal.loop-k-preserved
 loop-k-preserved c =
