@@ -19,8 +19,9 @@ from collections import Counter
 from collections.abc import Iterator
 from pathlib import Path
 
+from states import EPOCH
+
 TOP = Path(__file__).resolve().parent.parent.parent
-EPOCH = 262_144  # cycles
 WINDOW = 20_000  # the most cycles that one trace has
 MICROCHARGE = {"awake": 8, "asleep": 1, "sent": 512}  # what a cycle, or a byte, takes
 
