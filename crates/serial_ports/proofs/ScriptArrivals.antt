@@ -100,6 +100,7 @@ calm-push xs x t most n m l none some p = record {
   where
     sooner : m < n → is_some (option_or (first_byte xs (t + m)) (stretch_byte x (t + m))) ≡ true
     sooner j = ap (λ (o : Option ℕ). is_some (option_or o (stretch_byte x (t + m)))) (p.none m j) ∙ some j
+
     same : m ≡ n → m < most → is_some (option_or (first_byte xs (t + m)) (stretch_byte x (t + m))) ≡ true
     same e k = some-or (first_byte xs (t + m)) (stretch_byte x (t + m)) (ap (λ (i : ℕ). is_some (first_byte xs (t + i))) e ∙ p.first (omega arith))
 
