@@ -4,6 +4,7 @@ use Rattle.std.specs.Prelude.{ℕ, ◌+◌, ◌*◌, ◌/◌, ◌%◌, if◌then
 use Rattle.avr_base.specs.declared.stop.StopCause.{StopCause}
 use Rattle.avr_base.specs.declared.stop.StopCause.TheVariants as stop
 use Rattle.device_base.specs.Bits.{any_bit, bit}
+use Rattle.device_base.specs.Names.{COM_ABC, FOC_ABC, ICES, ICNC}
 use Rattle.avr_timers.specs.declared.prescaler.Prescaler.TheVariants.{Shared}
 use Rattle.avr_timers.specs.Prescaler.{is_pin}
 use Rattle.avr_timers.specs.declared.mode.Mode16.{Mode16}
@@ -29,10 +30,10 @@ with_compare tm C value = record tm { compare_c = value }
 abbrev pub word_with : Timer16 → ℕ → ℕ
 word_with tm low = tm.temp * 256 + low
 
--- TCCRnB: ICNC 7, ICES 6, WGM3:2 in 4 and 3, clock select in 2 to 0; bit 5 reads 0
+-- TCCRnB: ICNC, ICES, WGM3:2 in 4 and 3, clock select in 2 to 0; bit 5 reads 0
 abbrev pub control_b : Timer16 → ℕ
 control_b tm =
-    bit_or (bit_or (bit_or (bit tm.noise_canceler 0x80) (bit tm.rising_edge 0x40)) (number_of tm.mode / 4 * 8)) tm.select
+    bit_or (bit_or (bit_or (bit tm.noise_canceler ICNC) (bit tm.rising_edge ICES)) (number_of tm.mode / 4 * 8)) tm.select
 
 -- what a read gives, and the timer after it: reading the low byte of TCNT or ICR fills TEMP with the high one, and
 -- their high byte reads TEMP; the compare values are read without it, and TCCRnC and TCCRnA read 0
@@ -57,13 +58,13 @@ abbrev pub with_control_b : Timer16 → Option Mode16 → ℕ → Result Timer16
 with_control_b tm None b = Err stop.PwmMode
 with_control_b tm (Some mode) b =
     if is_pin Shared (b % 8) then Err stop.ExternalTimerClock
-    else Ok (record tm { mode = mode; select = b % 8; noise_canceler = any_bit b 0x80; rising_edge = any_bit b 0x40 })
+    else Ok (record tm { mode = mode; select = b % 8; noise_canceler = any_bit b ICNC; rising_edge = any_bit b ICES })
 
 -- the timer after a write of the byte b, or why that stops
 abbrev pub put_of : Timer16 → Reg16 → ℕ → Result Timer16 StopCause
-put_of tm ControlA b = if any_bit b 0xFC then Err stop.CompareOutput else with_control_a tm (mode_of (number_of tm.mode / 4 * 4 + b % 4))
+put_of tm ControlA b = if any_bit b COM_ABC then Err stop.CompareOutput else with_control_a tm (mode_of (number_of tm.mode / 4 * 4 + b % 4))
 put_of tm ControlB b = with_control_b tm (mode_of (b / 8 % 4 * 4 + number_of tm.mode % 4)) b
-put_of tm ControlC b = if any_bit b 0xE0 then Err stop.ForcedCompare else Ok tm
+put_of tm ControlC b = if any_bit b FOC_ABC then Err stop.ForcedCompare else Ok tm
 put_of tm CountL b = Ok (record tm { count = word_with tm b; match_blocked = true })
 put_of tm CountH b = Ok (record tm { temp = b })
 put_of tm IcrL b = Ok (if clears_at_icr tm.mode then record tm { icr = word_with tm b } else tm)

@@ -3,6 +3,7 @@ ghost use Rattle.std.specs.Prelude.{◌≡◌, true, Some, IfSome, is_some};
 ghost use Rattle.avr_timers.specs.Numbers8.{are_numbers};
 
 use crate::{Prescaler, Reg8, Timer8};
+use device_base::names::WGM1;
 use device_base::{all_fit, any_bit};
 
 impl Timer8 {
@@ -54,7 +55,7 @@ impl Timer8 {
         let [control, count, compare, match_blocked, tov, ocf_a] = *numbers;
         Some(Timer8 {
             prescaler,
-            ctc: any_bit(control as u8, 0x08),
+            ctc: any_bit(control as u8, WGM1),
             select: (control % 8) as u8,
             count: count as u8,
             compare: compare as u8,

@@ -3,6 +3,7 @@ ghost use Rattle.std.specs.Prelude.{◌≡◌, ◌≤◌, ◌+◌, ◌/◌, ◌%
 
 use crate::{Mode16, Prescaler, Timer16};
 use avr_base::StopCause;
+use device_base::names::{COM_ABC, FOC_ABC, ICES, ICNC};
 use device_base::{any_bit, bit};
 
 /// The channel of a compare value.
@@ -87,7 +88,7 @@ impl Timer16 {
     pub(crate) fn control_b(&self) -> u8
         ensures { result ≡ control_b self.now }
     {
-        let input_capture = bit(self.noise_canceler, 0x80) | bit(self.rising_edge, 0x40);
+        let input_capture = bit(self.noise_canceler, ICNC) | bit(self.rising_edge, ICES);
         input_capture | self.mode.number() / 4 * 8 | self.select
     }
 
@@ -146,7 +147,7 @@ impl Timer16 {
             Reg16::ControlA => self.put_control_a(b),
             Reg16::ControlB => self.put_control_b(b),
             Reg16::ControlC => {
-                if any_bit(b, 0xE0) {
+                if any_bit(b, FOC_ABC) {
                     return Err(StopCause::ForcedCompare);
                 }
                 Ok(())
@@ -179,7 +180,7 @@ impl Timer16 {
         ensures err { IfErr result (λ cause. put_of self.old Reg16.ControlA b ≡ Err cause) }
         ensures same { OnErr result (self.new ≡ self.old) }
     {
-        if any_bit(b, 0xFC) {
+        if any_bit(b, COM_ABC) {
             return Err(StopCause::CompareOutput);
         }
         match Mode16::numbered(self.mode.number() / 4 * 4 + b % 4) {
@@ -205,8 +206,8 @@ impl Timer16 {
                 }
                 self.mode = mode;
                 self.select = b % 8;
-                self.noise_canceler = any_bit(b, 0x80);
-                self.rising_edge = any_bit(b, 0x40);
+                self.noise_canceler = any_bit(b, ICNC);
+                self.rising_edge = any_bit(b, ICES);
                 Ok(())
             }
         }

@@ -3,6 +3,7 @@ ghost use Rattle.std.specs.Prelude.{◌≡◌, ◌≤◌, ◌+◌, ◌^◌, ◌<
 
 use crate::Timer8;
 use avr_base::StopCause;
+use device_base::names::{COM, FOC, WGM0, WGM1};
 use device_base::{any_bit, bit};
 
 /// The registers of a timer (ATmega128 datasheet, "8-bit Timer/Counter Register Description").
@@ -26,7 +27,7 @@ impl Timer8 {
         ensures { result ≡ get_of self.now reg }
     {
         match reg {
-            Reg8::Control => bit(self.ctc, 0x08) | self.select,
+            Reg8::Control => bit(self.ctc, WGM1) | self.select,
             Reg8::Count => self.count,
             Reg8::Compare => self.compare,
         }
@@ -57,19 +58,19 @@ impl Timer8 {
     {
         match reg {
             Reg8::Control => {
-                if any_bit(b, 0x80) {
+                if any_bit(b, FOC) {
                     return Err(StopCause::ForcedCompare);
                 }
-                if any_bit(b, 0x40) {
+                if any_bit(b, WGM0) {
                     return Err(StopCause::PwmMode);
                 }
-                if any_bit(b, 0x30) {
+                if any_bit(b, COM) {
                     return Err(StopCause::CompareOutput);
                 }
                 if self.prescaler.is_pin(b % 8) {
                     return Err(StopCause::ExternalTimerClock);
                 }
-                self.ctc = any_bit(b, 0x08);
+                self.ctc = any_bit(b, WGM1);
                 self.select = b % 8;
             }
             Reg8::Count => {

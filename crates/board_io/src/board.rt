@@ -1,5 +1,6 @@
 // The board and what its other parts read of it.
 ghost use Rattle.std.specs.Prelude.{◌≡◌, ◌≤◌, ◌^◌, map, slice_set};
+ghost use Rattle.device_base.specs.Bounds.{LAST_END};
 ghost use Rattle.std.specs.List.{range_with_len};
 ghost use Rattle.board_io.specs.Table.{start_of};
 
@@ -93,7 +94,7 @@ impl Board {
 
     /// Sets the cycle in which its registers are accessed from now on.
     pub fn set_clock(&mut self, cycle: u64)
-        requires { cycle ≤ 2 ^ 41 }
+        requires { cycle ≤ LAST_END }
         ensures { self.new ≡ clock_at cycle self.old }
     {
         self.clock = Clock::new(cycle);

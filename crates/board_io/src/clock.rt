@@ -1,5 +1,6 @@
 // The clock of a board.
-ghost use Rattle.std.specs.Prelude.{◌≡◌, ◌≤◌, ◌^◌};
+ghost use Rattle.std.specs.Prelude.{◌≡◌, ◌≤◌};
+ghost use Rattle.device_base.specs.Bounds.{LAST_END};
 
 use std::marker::Model;
 
@@ -10,13 +11,14 @@ pub struct Clock {
 }
 
 impl Model for Clock {
-    ghost use Rattle.std.specs.Prelude.{ℕ, ◌≤◌, ◌^◌};
+    ghost use Rattle.std.specs.Prelude.{ℕ, ◌≤◌};
+    ghost use Rattle.device_base.specs.Bounds.{LAST_END};
 
     ghost Value = { ℕ };
 
     ghost view = { λ c. c.cycle };
 
-    ghost invariant = { λ c. c.cycle ≤ 2 ^ 41 };
+    ghost invariant = { λ c. c.cycle ≤ LAST_END };
 
     ghost inverse = { λ n. record { cycle = n } };
 }
@@ -24,7 +26,7 @@ impl Model for Clock {
 impl Clock {
     /// A clock that shows this cycle.
     pub fn new(cycle: u64) -> Clock
-        requires { cycle ≤ 2 ^ 41 }
+        requires { cycle ≤ LAST_END }
         ensures { result ≡ cycle }
     {
         Clock { cycle }
@@ -33,7 +35,7 @@ impl Clock {
     /// The number of its cycle.
     pub fn get(self) -> u64
         ensures value { result ≡ self }
-        ensures early { result ≤ 2 ^ 41 }
+        ensures early { result ≤ LAST_END }
     {
         self.cycle
     }

@@ -1,5 +1,6 @@
 // One cycle of the devices.
 ghost use Rattle.std.specs.Prelude.{◌≡◌, ◌≤◌, ◌^◌, true, is_some};
+ghost use Rattle.device_base.specs.Bounds.{LAST_END};
 ghost use Rattle.serial_ports.specs.Usart.{frame_ended};
 ghost use Rattle.avr_timers.specs.Timer16 as timer16;
 ghost use Rattle.avr_timers.specs.Timer8 as timer8;
@@ -44,7 +45,7 @@ impl CycleOutput {
 #[inline(always)]
 #[tactic(auto, using(crate::proofs::Halted::halted_8))]
 fn tick_8(timer: &mut Timer8, cycle: u64)
-    requires { cycle ≤ 2 ^ 41 }
+    requires { cycle ≤ LAST_END }
     ensures { timer.new ≡ timer8.timer_cycle cycle timer.old }
 {
     if timer.select != 0 {
@@ -56,7 +57,7 @@ fn tick_8(timer: &mut Timer8, cycle: u64)
 #[inline(always)]
 #[tactic(auto, using(crate::proofs::Halted::halted_16))]
 fn tick_16(timer: &mut Timer16, cycle: u64)
-    requires { cycle ≤ 2 ^ 41 }
+    requires { cycle ≤ LAST_END }
     ensures { timer.new ≡ timer16.timer_cycle cycle timer.old }
 {
     if timer.select != 0 {
@@ -69,7 +70,7 @@ impl Board {
 
     // The timers' part of a cycle.
     fn tick_timers(&mut self, cycle: u64)
-        requires { cycle ≤ 2 ^ 41 }
+        requires { cycle ≤ LAST_END }
         ensures { self.new ≡ timers_cycle cycle self.old }
     {
         tick_8(&mut self.t0, cycle);
@@ -80,7 +81,7 @@ impl Board {
 
     // The part of USART0: a byte that arrives, and then the transmitter, with the byte whose frame ends.
     fn tick_usart(&mut self, cycle: u64, arrival: Option<u8>) -> Option<u8>
-        requires { cycle ≤ 2 ^ 41 }
+        requires { cycle ≤ LAST_END }
         ensures state { self.new ≡ usart_cycle cycle arrival self.old }
         ensures ended { result ≡ frame_ended cycle self.old.usart }
     {
@@ -115,7 +116,7 @@ impl Board {
 
     // The part of the serial peripheral interface and the radio, up to a sample.
     fn exchange(&mut self, cycle: u64) -> OnAir
-        requires { cycle ≤ 2 ^ 41 }
+        requires { cycle ≤ LAST_END }
         ensures state { self.new ≡ with_moved (moved cycle self.old) self.old }
         ensures air { result ≡ air_of (moved cycle self.old) }
         ensures waits { is_asks result ≡ true → is_some self.new.spi.shift_register ≡ true }
@@ -135,7 +136,7 @@ impl Board {
     #[inline(always)]
     #[tactic(auto, unfolding(crate::specs::Cycle::ports_begun, crate::specs::Cycle::board_serial, crate::specs::Cycle::board_air))]
     pub fn begin_ports(&mut self, cycle: u64, arrival: Option<u8>) -> CycleOutput
-        requires { cycle ≤ 2 ^ 41 }
+        requires { cycle ≤ LAST_END }
         ensures state { self.new ≡ ports_begun cycle arrival self.old }
         ensures serial { result.serial ≡ board_serial cycle self.old }
         ensures air { result.air ≡ board_air cycle self.old }
@@ -151,7 +152,7 @@ impl Board {
     /// what is heard, does the rest.
     #[tactic(auto, using(crate::proofs::Ports::begun_ports, crate::proofs::Ports::serial_ports, crate::proofs::Ports::air_ports))]
     pub fn begin(&mut self, cycle: u64, arrival: Option<u8>) -> CycleOutput
-        requires { cycle ≤ 2 ^ 41 }
+        requires { cycle ≤ LAST_END }
         ensures state { self.new ≡ board_begun cycle arrival self.old }
         ensures serial { result.serial ≡ board_serial cycle self.old }
         ensures air { result.air ≡ board_air cycle self.old }

@@ -12,12 +12,10 @@ use crate::names::{
 use avr_base::{Lines, Vector};
 use avr_timers::TimerFlags;
 use device_base::any_bit;
+use device_base::names::SPIE;
 
 // The bits of UCSR0B that enable the interrupts of USART0: RXCIE0, TXCIE0 and UDRIE0.
 const USART_ENABLES: u8 = 0xE0;
-
-// The bit of SPCR that enables the interrupt of the serial peripheral interface.
-const SPIE: u8 = 0x80;
 
 // Each flag by itself.
 const OVER: TimerFlags = TimerFlags {

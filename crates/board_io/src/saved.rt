@@ -1,5 +1,6 @@
 // What a board is saved and restored by.
 ghost use Rattle.std.specs.Prelude.{◌≡◌, ◌≤◌, ◌+◌, ◌^◌, None, Some, IfSome, is_some, length, option_map};
+ghost use Rattle.device_base.specs.Bounds.{LAST_CYCLE, LAST_END};
 ghost use Rattle.std.specs.List.{list_all, position};
 ghost use Rattle.board_io.specs.Kept.{first_refused, is_io, is_kept, kept_bits, kept_of};
 
@@ -157,7 +158,7 @@ impl Board {
         io: &[u8],
     ) -> Option<Board>
         requires byte_time { byte_time ≤ 4096 }
-        requires cycle { cycle ≤ 2 ^ 41 }
+        requires cycle { cycle ≤ LAST_END }
         requires io { length io.now ≡ 224 }
         ensures none { is_some result ≡ list_all (λ fit. fit) (fits ends_from numbers.now) }
         ensures some { IfSome result (λ b. IsRestored byte_time numbers.now io.now b) }
@@ -183,7 +184,7 @@ impl LaggingBoard {
 
     /// A board as it stands, whose clock is at most 2^40.
     pub fn restored(board: Board) -> LaggingBoard
-        requires { board.clock ≤ 2 ^ 40 }
+        requires { board.clock ≤ LAST_CYCLE }
         ensures { result ≡ board }
     {
         let ahead = board.ahead();

@@ -1,2 +1,4 @@
 pub mod Bits
 pub mod Numbers
+pub mod Names
+pub mod Bounds

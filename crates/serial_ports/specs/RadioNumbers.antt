@@ -2,6 +2,7 @@
 -- answers left), the status, the byte and the age of what was heard, and the first cycle in which it may send again.
 use Rattle.std.specs.Prelude.{◌≡◌, ℕ, ◌^◌, ◌==◌, if◌then◌else◌, nat_le, Bool, List, [], ◌∷◌, slice_index}
 use Rattle.std.specs.List.{list_all}
+use Rattle.device_base.specs.Bounds.{LAST_END}
 use Rattle.serial_ports.specs.Numbers.{owned}
 use Rattle.serial_ports.specs.declared.radio.Radio.{Radio}
 use Rattle.serial_ports.specs.declared.radio.RadioState.{RadioState}
@@ -44,7 +45,7 @@ fits n =
     ∷ nat_le (slice_index n 1) (owned (nat_le 2 (slice_index n 0)) 2)
     ∷ nat_le (slice_index n 2) (owned (nat_le 2 (slice_index n 0)) 255)
     ∷ nat_le (slice_index n 3) (owned (nat_le 2 (slice_index n 0)) 255)
-    ∷ nat_le (slice_index n 4) (2 ^ 41)
+    ∷ nat_le (slice_index n 4) LAST_END
     ∷ []
 
 -- whether each is

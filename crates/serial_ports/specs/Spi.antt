@@ -2,6 +2,7 @@
 -- and "SPI Status Register - SPSR"). The cycle of a transfer's end is this simulator's own choice.
 use Rattle.std.specs.Prelude.{ℕ, ◌*◌, ◌/◌, ◌%◌, ◌==◌, ◌&&◌, if◌then◌else◌, Bool, true, false, None}
 use Rattle.device_base.specs.Bits.{any_bit}
+use Rattle.device_base.specs.Names.{SPIE}
 use Rattle.serial_ports.specs.Transmission.{is_end}
 use Rattle.serial_ports.specs.declared.spi.Spi.{Spi}
 
@@ -37,6 +38,6 @@ ends_at t s = is_end s.shift_register t
 abbrev pub spi_finished : ℕ → Spi → Spi
 spi_finished x s = record s { receive_buffer = x; spif = true; shift_register = None }
 
--- whether it asks for its interrupt: SPIF and SPIE, bit 7 of SPCR
+-- whether it asks for its interrupt: SPIF and SPIE
 abbrev pub asks_interrupt : Spi → Bool
-asks_interrupt s = s.spif && any_bit s.control 0x80
+asks_interrupt s = s.spif && any_bit s.control SPIE

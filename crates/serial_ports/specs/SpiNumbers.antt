@@ -3,6 +3,7 @@
 use Rattle.std.specs.Prelude.{ℕ, ◌==◌, nat_le, ◌&&◌, not, Bool, is_some, List, [], ◌∷◌, slice_index}
 use Rattle.std.specs.List.{list_all}
 use Rattle.device_base.specs.Bits.{any_bit, bit}
+use Rattle.device_base.specs.Names.{MSTR, SPE}
 use Rattle.serial_ports.specs.Numbers.{byte_number, end_number, is_end_number, owned}
 use Rattle.serial_ports.specs.declared.spi.Spi.{Spi}
 
@@ -24,10 +25,10 @@ numbers_of s =
 -- accepts, and a transfer runs with SPE alone
 unfoldable pub fits : ℕ → List ℕ → List Bool
 fits t n =
-    (nat_le (slice_index n 0) 255 && not (any_bit (slice_index n 0) 0x40 && not (any_bit (slice_index n 0) 0x10)))
+    (nat_le (slice_index n 0) 255 && not (any_bit (slice_index n 0) SPE && not (any_bit (slice_index n 0) MSTR)))
     ∷ nat_le (slice_index n 1) 1
     ∷ nat_le (slice_index n 2) 255
-    ∷ nat_le (slice_index n 3) (owned (any_bit (slice_index n 0) 0x40) 1)
+    ∷ nat_le (slice_index n 3) (owned (any_bit (slice_index n 0) SPE) 1)
     ∷ is_end_number t (slice_index n 3 == 1) (slice_index n 4)
     ∷ nat_le (slice_index n 5) (owned (slice_index n 3 == 1) 255)
     ∷ nat_le (slice_index n 6) 1

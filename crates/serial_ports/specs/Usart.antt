@@ -2,19 +2,20 @@
 -- buffer). The cycles in which a frame begins and ends are this simulator's own choice.
 use Rattle.std.specs.Prelude.{ℕ, ◌+◌, ◌*◌, ◌/◌, ◌%◌, ◌^◌, ◌&&◌, not, if◌then◌else◌, Bool, true, false, Option, Some, None, is_some}
 use Rattle.device_base.specs.Bits.{any_bit}
+use Rattle.device_base.specs.Names.{RXCIE0, RXEN0, TXCIE0, UCSZ0, UDRIE0, USBS0}
 use Rattle.serial_ports.specs.Transmission.{ended_byte, is_end}
 use Rattle.serial_ports.specs.declared.usart_receive_buffer.ReceiveBuffer.{ReceiveBuffer}
 use Rattle.serial_ports.specs.declared.usart_receive_buffer.ReceiveBuffer.TheVariants.{Empty, One, Two}
 use Rattle.serial_ports.specs.declared.usart.Usart.{Usart}
 use Rattle.serial_ports.specs.declared.usart.UsartLines.{UsartLines}
 
--- UCSR0C starts as 0x06: eight data bits and one stop bit
+-- UCSR0C starts with eight data bits and one stop bit
 abbrev pub reset_usart : Usart
 reset_usart = record {
   baud = 0;
   double = false;
   control_b = 0;
-  control_c = 0x06;
+  control_c = UCSZ0;
   txc = false;
   dor = false;
   receive_buffer = Empty;
@@ -27,7 +28,7 @@ abbrev pub data_bits : Usart → ℕ
 data_bits u = 5 + u.control_c / 2 % 4
 
 abbrev pub stop_bits : Usart → ℕ
-stop_bits u = if any_bit u.control_c 0x08 then 2 else 1
+stop_bits u = if any_bit u.control_c USBS0 then 2 else 1
 
 -- a bit lasts 16 (UBRR + 1) cycles, and half of that with U2X ("Equations for Calculating Baud Rate Register Setting")
 abbrev pub bit_cycles : Usart → ℕ
@@ -68,20 +69,19 @@ buffered Empty x u = record u { receive_buffer = One x }
 buffered (One a) x u = record u { receive_buffer = Two a x }
 buffered (Two a b) x u = record u { dor = true }
 
--- a byte arrives: lost where RXEN, bit 4 of UCSR0B, is clear
+-- a byte arrives: lost where RXEN is clear
 unfoldable pub arrived : ℕ → Usart → Usart
-arrived b u = if any_bit u.control_b 0x10 then buffered u.receive_buffer (cut u b) u else u
+arrived b u = if any_bit u.control_b RXEN0 then buffered u.receive_buffer (cut u b) u else u
 
 abbrev pub is_filled : ReceiveBuffer → Bool
 is_filled Empty = false
 is_filled (One a) = true
 is_filled (Two a b) = true
 
--- the lines of its three interrupts: RXC with RXCIE, UDRE with UDRIE, TXC with TXCIE, bits 7, 5 and 6 of UCSR0B. UDRE
--- says that no byte waits
+-- the lines of its three interrupts: RXC with RXCIE, UDRE with UDRIE, TXC with TXCIE. UDRE says that no byte waits
 abbrev pub lines_of : Usart → UsartLines
 lines_of u = record {
-  rxc = is_filled u.receive_buffer && any_bit u.control_b 0x80;
-  udre = not (is_some u.transmit_buffer) && any_bit u.control_b 0x20;
-  txc = u.txc && any_bit u.control_b 0x40;
+  rxc = is_filled u.receive_buffer && any_bit u.control_b RXCIE0;
+  udre = not (is_some u.transmit_buffer) && any_bit u.control_b UDRIE0;
+  txc = u.txc && any_bit u.control_b TXCIE0;
 }

@@ -3,6 +3,7 @@ ghost use Rattle.std.specs.Prelude.{◌≡◌};
 ghost use Rattle.serial_ports.specs.Numbers.{byte_number, end_number, is_end_number, owned, transmission_of};
 
 use crate::Transmission;
+use device_base::LAST_END;
 
 // The bound of a number, 0 where its owner is not there.
 #[inline]
@@ -17,7 +18,7 @@ pub(crate) fn is_end_number(cycle: u64, runs: bool, n: u64) -> bool
     ensures { result ≡ is_end_number cycle runs n }
 {
     if runs {
-        cycle <= n && n <= 1 << 41
+        cycle <= n && n <= LAST_END
     } else {
         n == 0
     }

@@ -1,5 +1,6 @@
 // The radio, transfer by transfer.
 ghost use Rattle.std.specs.Prelude.{◌≡◌, ◌≤◌, ◌+◌, ◌^◌, ℕ};
+ghost use Rattle.device_base.specs.Bounds.{LAST_END};
 
 use air_base::Heard;
 
@@ -97,7 +98,7 @@ impl Radio {
 
     // What a byte to send comes to, in the cycle `cycle`.
     fn send(&mut self, cycle: u64, byte: u8) -> TransferOutcome
-        requires { cycle ≤ 2 ^ 41 }
+        requires { cycle ≤ LAST_END }
         ensures { (result, self.new) ≡ send_transfer cycle byte self.old }
     {
         if cycle < self.free {
@@ -110,7 +111,7 @@ impl Radio {
 
     // What a byte comes to for a radio that is selected.
     fn selected(&mut self, cycle: u64, mosi: u8) -> TransferOutcome
-        requires { cycle ≤ 2 ^ 41 }
+        requires { cycle ≤ LAST_END }
         ensures { (result, self.new) ≡ selected_transfer cycle mosi self.old.state self.old }
     {
         match self.state {
@@ -128,7 +129,7 @@ impl Radio {
     /// radio busy for the byte time.
     #[tactic(auto, unfolding(crate::specs::Radio::radio_transfer))]
     pub fn transfer(&mut self, cycle: u64, selected: bool, mosi: u8) -> TransferOutcome
-        requires { cycle ≤ 2 ^ 41 }
+        requires { cycle ≤ LAST_END }
         ensures moved { (result, self.new) ≡ radio_transfer cycle selected mosi self.old }
         ensures gap { self.new.byte_time ≡ self.old.byte_time }
         ensures busy { self.old.free ≤ self.new.free }

@@ -5,7 +5,7 @@ ghost use Rattle.serial_ports.specs.RadioNumbers.{are_numbers, heard_in, state_n
 use crate::numbers::owned;
 use crate::{Radio, RadioState};
 use air_base::Heard;
-use device_base::all_fit;
+use device_base::{LAST_END, all_fit};
 
 impl Radio {
     ghost use Rattle.serial_ports.specs.RadioNumbers.{HasNumbers, fits, numbers_of};
@@ -39,7 +39,7 @@ impl Radio {
             status <= owned(answers, 2),
             byte <= owned(answers, 255),
             age <= owned(answers, 255),
-            free <= 1 << 41,
+            free <= LAST_END,
         ]
     }
 

@@ -3,6 +3,7 @@ ghost use Rattle.std.specs.Prelude.{◌≡◌, ◌≤◌, ◌%◌, false, true, 
 
 use crate::transmission::{Transmission, byte_of, end_of};
 use device_base::any_bit;
+use device_base::names::SPIE;
 
 /// The serial peripheral interface as a master (ATmega128 datasheet, "Serial Peripheral Interface - SPI").
 #[derive(Clone, Copy)]
@@ -100,11 +101,11 @@ impl Spi {
         }
     }
 
-    /// Whether it asks for its interrupt: SPIF is set, and SPIE, bit 7 of SPCR.
+    /// Whether it asks for its interrupt: SPIF is set, and SPIE.
     pub fn line(&self) -> bool
         ensures { result ≡ asks_interrupt self.now }
     {
-        self.spif && any_bit(self.control, 0x80)
+        self.spif && any_bit(self.control, SPIE)
     }
 
     /// Clears SPIF, as entry to its vector does. Nothing else changes.

@@ -1,8 +1,10 @@
 // The registers of the interface.
 ghost use Rattle.std.specs.Prelude.{◌≡◌, ◌≤◌, ◌^◌, Ok, Err, OnOk, OnErr, IfErr};
+ghost use Rattle.device_base.specs.Bounds.{LAST_END};
 
 use crate::{Spi, Transmission};
 use avr_base::StopCause;
+use device_base::names::{MSTR, SPE, SPI2X, SPIF, WCOL};
 use device_base::{any_bit, bit};
 
 /// The registers of the serial peripheral interface (ATmega128 datasheet, "SPI Control Register - SPCR", "SPI Status
@@ -24,7 +26,7 @@ impl Spi {
     fn status(&self) -> u8
         ensures { result ≡ status_of self.now }
     {
-        bit(self.spif, 0x80) + bit(self.wcol, 0x40) + bit(self.double, 0x01)
+        bit(self.spif, SPIF) + bit(self.wcol, WCOL) + bit(self.double, SPI2X)
     }
 
     // An access of SPDR: it clears the flags that the last read of SPSR saw set.
@@ -39,10 +41,10 @@ impl Spi {
 
     // Takes the byte `b` to transfer it from the cycle `cycle` on, where the interface is enabled and free.
     fn send_out(&mut self, cycle: u64, b: u8)
-        requires { cycle ≤ 2 ^ 41 }
+        requires { cycle ≤ LAST_END }
         ensures { self.new ≡ sent_out cycle b self.old }
     {
-        if !any_bit(self.control, 0x40) {
+        if !any_bit(self.control, SPE) {
             return;
         }
         if self.shift_register.is_some() {
@@ -81,22 +83,22 @@ impl Spi {
     /// SPI2X is written. It stops, and changes nothing, exactly where SPCR would make the interface a slave.
     #[inline(always)]
     pub fn put(&mut self, cycle: u64, reg: SpiReg, b: u8) -> Result<(), StopCause>
-        requires { cycle ≤ 2 ^ 41 }
+        requires { cycle ≤ LAST_END }
         ensures ok { OnOk result (put_of cycle self.old reg b ≡ Ok self.new) }
         ensures err { IfErr result (λ cause. put_of cycle self.old reg b ≡ Err cause) }
         ensures same { OnErr result (self.new ≡ self.old) }
     {
         match reg {
             SpiReg::Control => {
-                if any_bit(b, 0x40) && !any_bit(b, 0x10) {
+                if any_bit(b, SPE) && !any_bit(b, MSTR) {
                     return Err(StopCause::SpiSlave);
                 }
                 self.control = b;
-                if !any_bit(b, 0x40) {
+                if !any_bit(b, SPE) {
                     self.shift_register = None;
                 }
             }
-            SpiReg::Status => self.double = any_bit(b, 0x01),
+            SpiReg::Status => self.double = any_bit(b, SPI2X),
             SpiReg::Spdr => {
                 self.access();
                 self.send_out(cycle, b);

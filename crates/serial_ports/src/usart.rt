@@ -1,9 +1,11 @@
 // The port, cycle by cycle.
 ghost use Rattle.std.specs.Prelude.{◌≡◌, ◌≤◌, ◌^◌, ◌↔◌, false, None};
+ghost use Rattle.device_base.specs.Bounds.{LAST_END};
 
 use crate::ReceiveBuffer;
 use crate::transmission::{Transmission, end_of};
 use device_base::any_bit;
+use device_base::names::{RXCIE0, RXEN0, TXCIE0, UCSZ0, UDRIE0, USBS0};
 
 /// USART0 as an asynchronous port (ATmega128 datasheet, "USART"). The cycles in which a frame begins and ends are this
 /// simulator's own choice: it begins in the cycle of the write of UDR0, or in the one that ends the frame before it.
@@ -53,7 +55,7 @@ impl Usart {
             baud: 0,
             double: false,
             control_b: 0,
-            control_c: 0x06,
+            control_c: UCSZ0,
             txc: false,
             dor: false,
             receive_buffer: ReceiveBuffer::Empty,
@@ -85,7 +87,7 @@ impl Usart {
         ensures value { result ≡ frame_cycles self.now }
         ensures most { result ≤ 2 ^ 24 }
     {
-        let stop_bits = if any_bit(self.control_c, 0x08) { 2 } else { 1 };
+        let stop_bits = if any_bit(self.control_c, USBS0) { 2 } else { 1 };
         (1 + u64::from(self.data_bits()) + stop_bits) * self.bit_cycles()
     }
 
@@ -104,7 +106,7 @@ impl Usart {
 
     // Begins the frame of a byte in a cycle.
     pub(super) fn start(&mut self, cycle: u64, byte: u8)
-        requires { cycle ≤ 2 ^ 41 }
+        requires { cycle ≤ LAST_END }
         ensures { self.new ≡ started cycle byte self.old }
     {
         self.shift_register = Some(Transmission {
@@ -135,7 +137,7 @@ impl Usart {
     pub fn arrive(&mut self, byte: u8)
         ensures { self.new ≡ arrived byte self.old }
     {
-        if any_bit(self.control_b, 0x10) {
+        if any_bit(self.control_b, RXEN0) {
             let cut = self.cut(byte);
             self.buffer(cut);
         }
@@ -143,7 +145,7 @@ impl Usart {
 
     // What follows the end of a frame: that of the byte in the transmit buffer, or TXC.
     fn next_frame(&mut self, cycle: u64)
-        requires { cycle ≤ 2 ^ 41 }
+        requires { cycle ≤ LAST_END }
         ensures { self.new ≡ next_frame cycle self.old.transmit_buffer self.old }
     {
         match self.transmit_buffer {
@@ -162,7 +164,7 @@ impl Usart {
     /// none ends. The byte that waits then begins its frame; where none waits, TXC is set.
     #[tactic(auto, unfolding(crate::specs::Usart::frame_ended, crate::specs::Usart::usart_cycle))]
     pub fn tick(&mut self, cycle: u64) -> Option<u8>
-        requires { cycle ≤ 2 ^ 41 }
+        requires { cycle ≤ LAST_END }
         ensures value { result ≡ frame_ended cycle self.old }
         ensures state { self.new ≡ usart_cycle cycle self.old }
         ensures none { (result ≡ None) ↔ (ends_at cycle self.old ≡ false) }
@@ -188,9 +190,9 @@ impl Usart {
         ensures { result ≡ lines_of self.now }
     {
         UsartLines {
-            rxc: self.receive_buffer.is_filled() && any_bit(self.control_b, 0x80),
-            udre: self.transmit_buffer.is_none() && any_bit(self.control_b, 0x20),
-            txc: self.txc && any_bit(self.control_b, 0x40),
+            rxc: self.receive_buffer.is_filled() && any_bit(self.control_b, RXCIE0),
+            udre: self.transmit_buffer.is_none() && any_bit(self.control_b, UDRIE0),
+            txc: self.txc && any_bit(self.control_b, TXCIE0),
         }
     }
 

@@ -1,8 +1,12 @@
 // The registers of the port.
 ghost use Rattle.std.specs.Prelude.{◌≡◌, ◌≤◌, ◌^◌, false, Ok, Err, OnOk, OnErr, IfErr};
+ghost use Rattle.device_base.specs.Bounds.{LAST_END};
 
 use crate::{ReceiveBuffer, Usart};
 use avr_base::StopCause;
+use device_base::names::{
+    DOR0, MPCM0, RXC0, RXEN0, TXC0, TXEN0, U2X0, UCSR0B_KEPT, UCSR0C_KEPT, UCSZ02, UDRE0, UMSEL0_UPM0,
+};
 use device_base::{any_bit, bit};
 
 /// The registers of USART0 (ATmega128 datasheet, "USART Register Description").
@@ -29,11 +33,11 @@ impl Usart {
     fn status(&self) -> u8
         ensures { result ≡ status_of self.now }
     {
-        bit(self.receive_buffer.is_filled(), 0x80)
-            + bit(self.txc, 0x40)
-            + bit(self.transmit_buffer.is_none(), 0x20)
-            + bit(self.dor, 0x08)
-            + bit(self.double, 0x02)
+        bit(self.receive_buffer.is_filled(), RXC0)
+            + bit(self.txc, TXC0)
+            + bit(self.transmit_buffer.is_none(), UDRE0)
+            + bit(self.dor, DOR0)
+            + bit(self.double, U2X0)
     }
 
     // Takes the oldest byte that was received, 0 where there is none.
@@ -64,10 +68,10 @@ impl Usart {
 
     // Sends a byte from a cycle on: it begins its frame, or waits for the frame that runs, or is lost.
     fn send(&mut self, cycle: u64, byte: u8)
-        requires { cycle ≤ 2 ^ 41 }
+        requires { cycle ≤ LAST_END }
         ensures { self.new ≡ sent_out cycle byte self.old }
     {
-        if !any_bit(self.control_b, 0x08) {
+        if !any_bit(self.control_b, TXEN0) {
             return;
         }
         if self.shift_register.is_none() {
@@ -81,8 +85,8 @@ impl Usart {
     fn put_control_b(&mut self, b: u8)
         ensures { self.new ≡ with_control_b b self.old }
     {
-        self.control_b = b & 0xF9;
-        if !any_bit(b, 0x10) {
+        self.control_b = b & UCSR0B_KEPT;
+        if !any_bit(b, RXEN0) {
             self.receive_buffer = ReceiveBuffer::Empty;
             self.dor = false;
         }
@@ -93,30 +97,30 @@ impl Usart {
     /// another byte waits. It stops, with [`StopCause::UsartMode`] and nothing changed, exactly where the byte asks for
     /// multi-processor mode, nine data bits, synchronous mode or parity.
     pub fn put(&mut self, cycle: u64, reg: UsartReg, b: u8) -> Result<(), StopCause>
-        requires { cycle ≤ 2 ^ 41 }
+        requires { cycle ≤ LAST_END }
         ensures ok { OnOk result (put_of cycle self.old reg b ≡ Ok self.new) }
         ensures err { IfErr result (λ cause. put_of cycle self.old reg b ≡ Err cause) }
         ensures same { OnErr result (self.new ≡ self.old) }
     {
         match reg {
             UsartReg::StatusA => {
-                if any_bit(b, 0x01) {
+                if any_bit(b, MPCM0) {
                     return Err(StopCause::UsartMode);
                 }
-                self.double = any_bit(b, 0x02);
-                self.txc = self.txc && !any_bit(b, 0x40);
+                self.double = any_bit(b, U2X0);
+                self.txc = self.txc && !any_bit(b, TXC0);
             }
             UsartReg::ControlB => {
-                if any_bit(b, 0x04) {
+                if any_bit(b, UCSZ02) {
                     return Err(StopCause::UsartMode);
                 }
                 self.put_control_b(b);
             }
             UsartReg::ControlC => {
-                if any_bit(b, 0x70) {
+                if any_bit(b, UMSEL0_UPM0) {
                     return Err(StopCause::UsartMode);
                 }
-                self.control_c = b & 0x0F;
+                self.control_c = b & UCSR0C_KEPT;
             }
             UsartReg::BaudL => self.baud = self.baud / 256 * 256 + u16::from(b),
             UsartReg::BaudH => self.baud = u16::from(b % 16) * 256 + self.baud % 256,
