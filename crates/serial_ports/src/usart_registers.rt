@@ -1,11 +1,12 @@
 // The registers of the port.
-ghost use Rattle.std.specs.Prelude.{◌≡◌, ◌≤◌, ◌^◌, false, Ok, Err, OnOk, OnErr, IfErr};
+ghost use Rattle.std.specs.Prelude.{◌≡◌, ◌≤◌, false, Ok, Err, OnOk, OnErr, IfErr};
 ghost use Rattle.device_base.specs.Bounds.{LAST_END};
 
 use crate::{ReceiveBuffer, Usart};
 use avr_base::StopCause;
 use device_base::names::{
-    DOR0, MPCM0, RXC0, RXEN0, TXC0, TXEN0, U2X0, UCSR0B_KEPT, UCSR0C_KEPT, UCSZ02, UDRE0, UMSEL0_UPM0,
+    DOR0, MPCM0, RXC0, RXEN0, TXC0, TXEN0, U2X0, UCSR0B_KEPT, UCSR0C_KEPT, UCSZ02, UDRE0,
+    UMSEL0_UPM0,
 };
 use device_base::{any_bit, bit};
 

@@ -6,8 +6,8 @@ ghost use Rattle.node_core.specs.Pace.Leaps.{IsBeside, IsCountdown, IsLongLoweri
 ghost use Rattle.node_core.specs.Pace.Midway.{IsSprinted};
 ghost use Rattle.serial_ports.specs.Script.{script_byte};
 
-use crate::pace::leaps::{LONGEST, Round};
 use crate::machine::Machine;
+use crate::pace::leaps::{LONGEST, Round};
 use avr_base::Reg;
 use avr_decoder::Op;
 use data_space::Cpu;
