@@ -15,7 +15,7 @@ ask-requires-clause-floor g c =
 
 pub returns-in-Ok-Heard-clause-on : goal.returns-in-Ok-Heard-clause-on
 returns-in-Ok-Heard-clause-on g c =
-    let looked = c.in-Ok-Heard.ensures.answer.1 in
+    let looked = has_looked g.N.Session.world c.args.self.now.air c.ask.new.air c.cycle-cycle.result c.ask.result c.ask.ensures.answer in
     let new : Member = record { runner = c.answer.new.self; air = c.ask.new.air; turn = c.args.self.now.turn; gap = c.args.self.now.gap; halted = c.args.self.now.halted } in
     answered _ _ _ _ _ c.args.self.now c.requires.member c.requires.asking new c.answer.ensures.place c.answer.ensures.count looked.number looked.table looked.world looked.told looked.clock refl
 
