@@ -1,3 +1,4 @@
 pub mod Computed
 pub mod Bits
 pub mod Lowest
+pub mod Causes

@@ -1,6 +1,6 @@
 // Why a node stops.
 ghost use Rattle.std.specs.Prelude.{◌≡◌, ◌≤◌, length};
-ghost use Rattle.avr_base.specs.Causes.{cause_number, cause_text};
+ghost use Rattle.avr_base.specs.Causes.{cause_number, cause_text, stop_number};
 
 /// Why a node stopped: what its program asked for that the simulated part does not have. A stop is a row of the
 /// trace, and no fault.
@@ -94,6 +94,44 @@ impl StopCause {
             StopCause::ReservedAddress => 25,
             StopCause::PastMemory => 26,
         }
+    }
+
+    /// The cause of a number up to 26, and none of 0.
+    #[tactic(auto, unfolding(crate::specs::Causes::cause_number))]
+    pub fn of(number: u64) -> Option<StopCause>
+        requires { number ≤ 26 }
+        ensures { stop_number result ≡ number }
+    {
+        let cause = match number {
+            0 => return None,
+            1 => StopCause::ReservedOpcode,
+            2 => StopCause::UndefinedOperands,
+            3 => StopCause::Spm,
+            4 => StopCause::BreakOp,
+            5 => StopCause::SleepMode,
+            6 => StopCause::PwmMode,
+            7 => StopCause::ExternalTimerClock,
+            8 => StopCause::CompareOutput,
+            9 => StopCause::ForcedCompare,
+            10 => StopCause::InputCapture,
+            11 => StopCause::Prescaler,
+            12 => StopCause::UsartMode,
+            13 => StopCause::SpiSlave,
+            14 => StopCause::ExternalMemory,
+            15 => StopCause::Watchdog,
+            16 => StopCause::Eeprom,
+            17 => StopCause::Adc,
+            18 => StopCause::Comparator,
+            19 => StopCause::Twi,
+            20 => StopCause::ExternalInterrupt,
+            21 => StopCause::ClockDivision,
+            22 => StopCause::AsyncTimer,
+            23 => StopCause::MovedVectors,
+            24 => StopCause::Usart1,
+            25 => StopCause::ReservedAddress,
+            _ => StopCause::PastMemory,
+        };
+        Some(cause)
     }
 
     /// The text of the cause, as a trace prints it: at most 20 bytes.

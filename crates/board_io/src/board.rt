@@ -1,5 +1,5 @@
 // The board and what its other parts read of it.
-ghost use Rattle.std.specs.Prelude.{◌≡◌, ◌≤◌, ◌^◌, map, slice_set};
+ghost use Rattle.std.specs.Prelude.{◌≡◌, ◌≤◌, map, slice_set};
 ghost use Rattle.device_base.specs.Bounds.{LAST_END};
 ghost use Rattle.std.specs.List.{range_with_len};
 ghost use Rattle.board_io.specs.Table.{start_of};

@@ -2,9 +2,8 @@
 use Rattle.std.proofs.Common.{◌≡◌, ◌<◌, ◌+◌, ℕ, Bool, true, ◌==◌, refl, sym, ◌∙◌, ap, arith, List, take, drop, slice_index, Option, None, Some}
 use Rattle.std.proofs.lemmas.Bool.{and_parts}
 use Rattle.std.proofs.lemmas.List.{get_or-drop, get_or-take}
-use Rattle.avr_base.specs.Causes.{cause_number}
-use Rattle.avr_base.specs.declared.stop.StopCause.{StopCause}
-use Rattle.avr_base.specs.declared.stop.StopCause.TheVariants as stop
+use Rattle.avr_base.specs.Causes.{cause_of}
+use Rattle.avr_base.proofs.Causes.{cause_again}
 use Rattle.board_io.specs.Saved as board
 use Rattle.board_io.specs.declared.board.Board.{Board}
 use Rattle.board_io.proofs.OneBoard.{all, fits-parts}
@@ -22,43 +21,13 @@ use Rattle.avr_timers.proofs.Saved16 as saved16
 use Rattle.serial_ports.proofs.UsartSaved.{one-usart}
 use Rattle.serial_ports.proofs.SpiSaved.{one-spi}
 use Rattle.serial_ports.proofs.RadioSaved.{one-radio}
-use Rattle.node_core.specs.Numbers.{core_tail, ends_from, first_outside, stop_number}
+use Rattle.node_core.specs.Numbers.{core_tail, ends_from, first_outside}
 use Rattle.node_core.specs.Restored.{cpu_of}
 use Rattle.node_core.specs.State.{NodeState}
 use Rattle.node_core.proofs.Saved.{board-fits, has-numbers}
 use Rattle.node_runner.specs.Scenario.{ScenarioOf, IsRestoredIn}
 use Rattle.state_text.specs.Text.{NodeOf}
-use Rattle.checkpoint_text.specs.NodeOf.{board_of, cause_of, node_of, radio_of, some_mode, spi_of, timer16_of, timer8_of, usart_of}
-
-cause_again : (o : Option StopCause) → cause_of (stop_number o) ≡ o
-unfolding cause_number
-cause_again None = refl
-cause_again (Some stop.ReservedOpcode) = refl
-cause_again (Some stop.UndefinedOperands) = refl
-cause_again (Some stop.Spm) = refl
-cause_again (Some stop.BreakOp) = refl
-cause_again (Some stop.SleepMode) = refl
-cause_again (Some stop.PwmMode) = refl
-cause_again (Some stop.ExternalTimerClock) = refl
-cause_again (Some stop.CompareOutput) = refl
-cause_again (Some stop.ForcedCompare) = refl
-cause_again (Some stop.InputCapture) = refl
-cause_again (Some stop.Prescaler) = refl
-cause_again (Some stop.UsartMode) = refl
-cause_again (Some stop.SpiSlave) = refl
-cause_again (Some stop.ExternalMemory) = refl
-cause_again (Some stop.Watchdog) = refl
-cause_again (Some stop.Eeprom) = refl
-cause_again (Some stop.Adc) = refl
-cause_again (Some stop.Comparator) = refl
-cause_again (Some stop.Twi) = refl
-cause_again (Some stop.ExternalInterrupt) = refl
-cause_again (Some stop.ClockDivision) = refl
-cause_again (Some stop.AsyncTimer) = refl
-cause_again (Some stop.MovedVectors) = refl
-cause_again (Some stop.Usart1) = refl
-cause_again (Some stop.ReservedAddress) = refl
-cause_again (Some stop.PastMemory) = refl
+use Rattle.checkpoint_text.specs.NodeOf.{board_of, node_of, radio_of, some_mode, spi_of, timer16_of, timer8_of, usart_of}
 
 -- ---- the devices
 by_mode : (o : Option Mode16) (n : List ℕ) → saved16.timer_of (some_mode o) n ≡ saved16.timer_by o n

@@ -1,5 +1,5 @@
 -- What a step makes of a node that is under way.
-use Rattle.std.specs.Prelude.{is_some, nat_lt}
+use Rattle.std.specs.Prelude.{is_some, nat_lt, Result, Ok, Err}
 use Rattle.std.proofs.Common.{◌≡◌, ℕ, ◌+◌, ◌-◌, ◌<◌, ◌≤◌, ◌⊎◌, inl, inr, ⊎_elim, min, max, Bool, true, false, cond, not, ◌&&◌, ◌||◌, List, [], ◌∷◌, ◌++◌, length, refl, sym, subst, ◌∙◌, ap, arith}
 use Rattle.std.specs.List.{Contains}
 use Rattle.std.proofs.lemmas.Bool.{false≢true}
@@ -20,8 +20,9 @@ use Rattle.node_core.specs.Cycle.{node_kind}
 use Rattle.world_core.specs.Order.{Fleet, facts_of, node_at}
 use Rattle.world_core.proofs.OrderRows.{stopped_count}
 use Rattle.world_core.proofs.OrderSteps.{asked}
-use Rattle.neighbour_sync.specs.declared.answers.SampleAttempt.{SampleAttempt}
-use Rattle.neighbour_sync.specs.declared.answers.SampleAttempt.TheVariants.{Heard, NotYet, Halted, NoMemory as NoAnswer}
+use Rattle.neighbour_sync.specs.declared.answers.Behind.{Behind}
+use Rattle.neighbour_sync.specs.declared.answers.SampleOutcome.{SampleOutcome}
+use Rattle.neighbour_sync.specs.declared.answers.SampleOutcome.TheVariants.{Heard, Halted, NoMemory as NoAnswer}
 use Rattle.node_runner.specs.declared.runner.Event.TheVariants.{Ask, Sent, Turn, Ended, NoMemory}
 use Rattle.node_runner.specs.Scenario.{ScenarioOf, fleet_of}
 use Rattle.node_runner.specs.Place.{Place, is_live, state_at, noted_of, sends_passed}
@@ -54,21 +55,21 @@ pub turn_of : (end now cycle turn : ℕ) → cycle ≡ now → turn ≡ min (end
 turn_of end now cycle turn e is = is ∙ ap (λ (n : ℕ). min (end - n) 1024) e
 
 -- whatever it is answered, a seat has looked at words
-pub has_looked : (w : WorldFacts) (a b : NodeFacts) (s : ℕ) (r : SampleAttempt) → IsAnswered w a s r b → HasLooked a b
-has_looked w a b s (Heard h) e = e.1
-has_looked w a b s (NotYet k c) e = e
-has_looked w a b s Halted e = e
-has_looked w a b s NoAnswer e = e
+pub has_looked : (w : WorldFacts) (a b : NodeFacts) (s : ℕ) (r : Result SampleOutcome Behind) → IsAnswered w a s r b → HasLooked a b
+has_looked w a b s (Ok (Heard h)) e = e.1
+has_looked w a b s (Ok Halted) e = e
+has_looked w a b s (Ok NoAnswer) e = e
+has_looked w a b s (Err k) e = e
 
 -- a try looks at the halt once
 tried : (old new : NodeFacts) (n : ℕ) → new.halts ≡ old.halts ++ n ∷ [] → LooksOnce old new
 tried old new n e = let a = ap length e in let b = length_push old.halts n in omega arith
 
-pub tried_once : (w : WorldFacts) (old : NodeFacts) (s : ℕ) (r : SampleAttempt) (new : NodeFacts) → IsTried w old s r new → LooksOnce old new
-tried_once w old s (Heard h) new e = tried old new 0 (ap (λ (n : NodeFacts). n.halts) e.1.2)
-tried_once w old s (NotYet k c) new e = tried old new 0 (ap (λ (n : NodeFacts). n.halts) e.1.1)
-tried_once w old s Halted new e = tried old new 1 (ap (λ (n : NodeFacts). n.halts) e)
-tried_once w old s NoAnswer new e = tried old new 0 (ap (λ (n : NodeFacts). n.halts) e.2)
+pub tried_once : (w : WorldFacts) (old : NodeFacts) (s : ℕ) (r : Result SampleOutcome Behind) (new : NodeFacts) → IsTried w old s r new → LooksOnce old new
+tried_once w old s (Ok (Heard h)) new e = tried old new 0 (ap (λ (n : NodeFacts). n.halts) e.1.2)
+tried_once w old s (Ok Halted) new e = tried old new 1 (ap (λ (n : NodeFacts). n.halts) e)
+tried_once w old s (Ok NoAnswer) new e = tried old new 0 (ap (λ (n : NodeFacts). n.halts) e.2)
+tried_once w old s (Err k) new e = tried old new 0 (ap (λ (n : NodeFacts). n.halts) e.1.1)
 
 -- the node whose sample is unanswered is live
 pub asking_live : (end : ℕ) (p : Place) → p.asking ≡ true → is_live end p ≡ true

@@ -5,7 +5,7 @@ ghost use Rattle.fleet_threads.specs.declared.member.Sampling.TheVariants.{Tries
 ghost use Rattle.fleet_threads.specs.Answers.{IsAnswered, LooksOnce};
 
 use crate::gate::Gate;
-use neighbour_sync::{NodeAir, SampleAttempt, SampleOutcome, Session, Shared};
+use neighbour_sync::{Behind, NodeAir, SampleOutcome, Session, Shared};
 use node_runner::{Event, Runner, Scenario};
 use std::sync::Wait;
 
@@ -45,14 +45,14 @@ pub enum Sampling {
     Tries,
 }
 
-// Samples the air.
+// Samples the air. `Err` where it only tries, and another node is behind.
 fn ask<N: Session, R: Wait>(
     rt: &R,
     shared: &Shared<Scenario, N>,
     sampling: Sampling,
     air: &mut NodeAir,
     cycle: u64,
-) -> SampleAttempt
+) -> Result<SampleOutcome, Behind>
     requires session { (air.old.table ≡ N.table) × (air.old.world ≡ N.world) }
     requires asked { Contains N.world.asks record { node = air.old.number; cycle = cycle } }
     requires floor { N.floor ≤ cycle }
@@ -61,11 +61,7 @@ fn ask<N: Session, R: Wait>(
 {
     match sampling {
         Sampling::Tries => air.try_sample(rt, shared, cycle),
-        Sampling::Waits => match air.sample_when_passed(rt, shared, cycle) {
-            SampleOutcome::Heard(heard) => SampleAttempt::Heard(heard),
-            SampleOutcome::Halted => SampleAttempt::Halted,
-            SampleOutcome::NoMemory => SampleAttempt::NoMemory,
-        },
+        Sampling::Waits => Ok(air.sample_when_passed(rt, shared, cycle)),
     }
 }
 
@@ -162,9 +158,9 @@ impl Member {
     {
         let cycle = self.runner.cycle();
         match ask(rt, shared, sampling, &mut self.air, cycle) {
-            SampleAttempt::Heard(heard) => self.runner.answer(heard),
-            SampleAttempt::NotYet { .. } => {}
-            SampleAttempt::Halted | SampleAttempt::NoMemory => self.halt(shared, scenario, end),
+            Ok(SampleOutcome::Heard(heard)) => self.runner.answer(heard),
+            Ok(SampleOutcome::Halted | SampleOutcome::NoMemory) => self.halt(shared, scenario, end),
+            Err(_) => {}
         }
     }
 

@@ -1,10 +1,14 @@
 -- What one try adds to the looks before it.
-use Rattle.std.proofs.Common.{◌≡◌, ℕ, suc, true, List, [], ◌∷◌, ◌++◌, replicate, sym, ◌∙◌, ap, subst, append_assoc}
+use Rattle.std.proofs.Common.{◌≡◌, ℕ, suc, true, List, [], ◌∷◌, ◌++◌, replicate, sym, ◌∙◌, ap, subst, append_assoc, Ok}
 use Rattle.world_core.specs.declared.world.WorldFacts.{WorldFacts}
+use Rattle.world_core.specs.Settled.{truth}
+use Rattle.neighbour_sync.specs.declared.answers.SampleOutcome.{SampleOutcome}
+use Rattle.neighbour_sync.specs.declared.answers.SampleOutcome.TheVariants.{Heard, Halted, NoMemory}
 use Rattle.neighbour_sync.specs.Seats.{NodeFacts, node_asked}
 use Rattle.neighbour_sync.specs.Loads.{IsBehind}
 use Rattle.neighbour_sync.specs.Looks.{peeked, looked, AreSeenPast}
-use Rattle.neighbour_sync.specs.Waits.{IsEnd}
+use Rattle.neighbour_sync.specs.Tries.{IsTried}
+use Rattle.neighbour_sync.specs.Waits.{IsEnd, IsPassed}
 use Rattle.neighbour_sync.proofs.Seeing.{all_after, look_peek, look_more, zeros_more}
 
 -- ---- within a try: a is the seat before it, b after some looks, c after one more round of looks
@@ -43,3 +47,8 @@ pub waits_halted : (a b c : NodeFacts) (tries : ℕ) (m : List (ℕ × ℕ)) →
     → (tries : ℕ) × (loads : List (ℕ × ℕ)) × (c ≡ looked a loads (replicate tries 0 ++ 1 ∷ []))
 waits_halted a b c tries m e f =
     (tries, m, f ∙ ap (λ (n : NodeFacts). node_asked n true) e ∙ ap (λ (l : List ℕ). record a { loads = a.loads ++ m; halts = l }) (append_assoc a.halts (replicate tries 0) (1 ∷ [])))
+
+pub waits_over : (w : WorldFacts) (s : ℕ) (a b c : NodeFacts) (tries : ℕ) (m : List (ℕ × ℕ)) → b ≡ looked a m (replicate tries 0) → (r : SampleOutcome) → IsTried w b s (Ok r) c → IsPassed w a s r c
+waits_over w s a b c tries m e (Heard h) t = (t.0 ∙ ap (λ (n : NodeFacts). truth w n.number s) e, waits_end w s a b c tries m e t.1)
+waits_over w s a b c tries m e Halted t = waits_halted a b c tries m e t
+waits_over w s a b c tries m e NoMemory t = waits_end w s a b c tries m e t

@@ -24,7 +24,7 @@ mod session;
 mod shared;
 mod steps;
 
-pub use answers::{Behind, Posted, SampleAttempt, SampleOutcome};
+pub use answers::{Behind, Posted, SampleOutcome};
 pub use clocks::Clocks;
 pub use cutting::cut_when_passed;
 pub use law::{state_law, step_law};

@@ -1,6 +1,6 @@
 // What a node does with the shared air.
 use crate::NodeSeat;
-use crate::answers::{SampleAttempt, SampleOutcome};
+use crate::answers::{Behind, SampleOutcome};
 use crate::session::Session;
 use crate::shared::Shared;
 use crate::steps::{record, see_posted, try_once};
@@ -111,14 +111,14 @@ impl NodeAir {
     /// Tries to take one of the node's samples, not below the session's floor. It looks at the halt first, then at the
     /// clocks of the nodes that it may hear, and takes the lock only where it has seen all of them far enough; but for
     /// the lock it waits for nobody. What is heard is what all sends of the world give, and is recorded. `Halted`
-    /// exactly where its look at the halt gave 1. `NotYet` only where the clock that it names was looked at last, is of
-    /// a node that may be heard, and is not past the last cycle whose sends may be heard.
+    /// exactly where its look at the halt gave 1. `Err` where that cannot be told yet: the clock that it names was
+    /// looked at last, is of a node that may be heard, and is not past the last cycle whose sends may be heard.
     pub fn try_sample<W: World, N: Session, R: Wait>(
         &mut self,
         rt: &R,
         shared: &Shared<W, N>,
         cycle: u64,
-    ) -> SampleAttempt
+    ) -> Result<SampleOutcome, Behind>
         requires session { (self.old.table ≡ N.table) × (self.old.world ≡ N.world) }
         requires asked { Contains N.world.asks record { node = self.old.number; cycle = cycle } }
         requires floor { N.floor ≤ cycle }
@@ -161,10 +161,8 @@ impl NodeAir {
     {
         for _ in rt.forever() {
             match self.try_sample(rt, shared, cycle) {
-                SampleAttempt::Heard(heard) => return SampleOutcome::Heard(heard),
-                SampleAttempt::NotYet { node, .. } => self.sleep(rt, shared, node, cycle),
-                SampleAttempt::Halted => return SampleOutcome::Halted,
-                SampleAttempt::NoMemory => return SampleOutcome::NoMemory,
+                Ok(outcome) => return outcome,
+                Err(behind) => self.sleep(rt, shared, behind.node, cycle),
             }
         }
         unreachable!()

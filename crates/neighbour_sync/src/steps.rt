@@ -6,7 +6,7 @@ ghost use Rattle.neighbour_sync.specs.Seats.{node_told};
 ghost use Rattle.world_core.specs.Kept.{epoch};
 ghost use Rattle.neighbour_sync.specs.Tries.{IsTried};
 
-use crate::answers::SampleAttempt;
+use crate::answers::{Behind, SampleOutcome};
 use crate::looking::first_behind;
 use crate::session::Session;
 use crate::shared::Shared;
@@ -56,7 +56,7 @@ pub fn try_once<W: World, N: Session, R: Wait>(
     seat: &mut NodeSeat,
     topo: &Topo,
     cycle: u64,
-) -> SampleAttempt
+) -> Result<SampleOutcome, Behind>
     requires session { (seat.old.table ≡ N.table) × (seat.old.world ≡ N.world) }
     requires topo { topo.now ≡ seat.old.world.topo }
     requires asked { Contains N.world.asks record { node = seat.old.number; cycle = cycle } }
@@ -66,18 +66,15 @@ pub fn try_once<W: World, N: Session, R: Wait>(
     let clocks = shared.clocks();
     let node = seat.number();
     if clocks.halted(seat) {
-        return SampleAttempt::Halted;
+        return Ok(SampleOutcome::Halted);
     }
     for _ in rt.forever() {
         if let Some(behind) = first_behind(clocks, seat, topo, cycle) {
-            return SampleAttempt::NotYet {
-                node: behind.node,
-                clock: behind.clock,
-            };
+            return Err(behind);
         }
         match shared.sample(rt, node, cycle) {
-            Sampled::Heard(heard) => return SampleAttempt::Heard(heard),
-            Sampled::NoMemory => return SampleAttempt::NoMemory,
+            Sampled::Heard(heard) => return Ok(SampleOutcome::Heard(heard)),
+            Sampled::NoMemory => return Ok(SampleOutcome::NoMemory),
             // The record is asked again once this node has seen for itself that nobody is behind.
             Sampled::NotYet { .. } => {}
         }

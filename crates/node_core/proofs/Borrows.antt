@@ -18,10 +18,10 @@ use Rattle.arith_step.specs.Whole.{one_if, overflows, signed, with_carries, with
 use Rattle.avr_decoder.specs.declared.op.Op.TheVariants as op
 use Rattle.data_space.specs.declared.cpu.Cpu.{Cpu}
 use Rattle.board_io.specs.Lines.{lines_of}
-use Rattle.node_core.specs.declared.countdowns.Lowering.{Lowering}
+use Rattle.node_core.specs.declared.pace.countdowns.Lowering.{Lowering}
 use Rattle.node_core.specs.declared.machine.Machine.{Machine}
 use Rattle.node_core.specs.Cycle.{op_now}
-use Rattle.node_core.specs.Leaps.{IsLongLowering, IsStillStep, Walk, counter_at, goes, with_counter}
+use Rattle.node_core.specs.Pace.Leaps.{IsLongLowering, IsStillStep, Walk, counter_at, goes, with_counter}
 use Rattle.node_core.specs.Shown.{shown}
 use Rattle.node_core.proofs.Counting.{came, counter_put, high_put, low_put, other_step, set_twice, walk_one}
 

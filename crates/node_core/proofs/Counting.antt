@@ -26,12 +26,12 @@ use Rattle.data_space.specs.declared.cpu.Cpu.{Cpu}
 use Rattle.data_space.specs.Core.{pair_at, with_reg}
 use Rattle.data_space.specs.Sequence.{Outcome, done}
 use Rattle.node_core.specs.declared.bus.NodeBus.{NodeBus}
-use Rattle.node_core.specs.declared.countdowns.Countdown.{Countdown}
-use Rattle.node_core.specs.declared.countdowns.Lowering.{Lowering}
+use Rattle.node_core.specs.declared.pace.countdowns.Countdown.{Countdown}
+use Rattle.node_core.specs.declared.pace.countdowns.Lowering.{Lowering}
 use Rattle.node_core.specs.declared.machine.Machine.{Machine}
 use Rattle.node_core.specs.Cycle.{op_now, owes}
 use Rattle.node_core.specs.Execute.{executed, executed_by}
-use Rattle.node_core.specs.Leaps.{IsBeside, IsCountdown, IsLowering, IsStillStep, Walk, bus_later, counter_at, goes, lowered, spared, stays, with_counter}
+use Rattle.node_core.specs.Pace.Leaps.{IsBeside, IsCountdown, IsLowering, IsStillStep, Walk, bus_later, counter_at, goes, lowered, spared, stays, with_counter}
 use Rattle.node_core.specs.Shown.{shown}
 use Rattle.avr_core.proofs.Executes.{arith_awake, is_arith}
 use Rattle.node_core.proofs.Ran.{by_class}

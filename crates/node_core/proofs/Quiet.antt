@@ -26,7 +26,7 @@ use Rattle.node_core.specs.Bus.{bus_get, bus_put}
 use Rattle.node_core.specs.Cycle.{is_sei}
 use Rattle.avr_core.specs.Execute.{after_of, executed_over, is_short_back}
 use Rattle.node_core.specs.Execute.{executed, executed_by}
-use Rattle.node_core.specs.Midway.{turned_on}
+use Rattle.node_core.specs.Pace.Midway.{turned_on}
 use Rattle.avr_core.proofs.Executes.{is_arith}
 
 -- behind which the flag I may be another

@@ -22,7 +22,7 @@ use Rattle.node_core.specs.Cycle.{acted, acted_rows, after_entry, after_instruct
 use Rattle.avr_core.specs.Execute.{executed_over}
 use Rattle.node_core.specs.Execute.{executed, executed_by}
 use Rattle.node_core.specs.Interrupts.{due, entry}
-use Rattle.node_core.specs.Midway.{IsActed}
+use Rattle.node_core.specs.Pace.Midway.{IsActed}
 use Rattle.node_core.specs.Shown.{shown}
 use Rattle.node_core.specs.State.{NodeState}
 

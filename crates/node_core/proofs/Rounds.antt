@@ -17,8 +17,8 @@ use Rattle.node_core.specs.declared.machine.Machine.{Machine}
 use Rattle.node_core.specs.Bus.{with_board}
 use Rattle.node_core.specs.Inside.{IsCalm, MayAct, is_told}
 use Rattle.node_core.specs.Interrupts.{due}
-use Rattle.node_core.specs.Leaps.{IsStillStep, Walk, stays, goes, bus_later}
-use Rattle.node_core.specs.Midway.{IsSprinted, IsSprinting, IsStepped}
+use Rattle.node_core.specs.Pace.Leaps.{IsStillStep, Walk, stays, goes, bus_later}
+use Rattle.node_core.specs.Pace.Midway.{IsSprinted, IsSprinting, IsStepped}
 use Rattle.node_core.specs.Shown.{shown}
 use Rattle.node_core.specs.State.{NodeState}
 use Rattle.node_core.proofs.Sprints.{begins}

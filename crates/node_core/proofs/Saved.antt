@@ -9,9 +9,9 @@ use Rattle.std.proofs.lemmas.List.Sums.{AllPass-from_list_all}
 use Rattle.std.proofs.lemmas.List.Elements.{All-get_or}
 use Rattle.std.proofs.lemmas.Bool.{and_parts, leb-true}
 use Rattle.std.proofs.lemmas.Option.{none-some}
-use Rattle.avr_base.specs.Causes.{cause_number}
+use Rattle.avr_base.specs.Causes.{cause_of, stop_number}
+use Rattle.avr_base.proofs.Causes.{cause_again}
 use Rattle.avr_base.specs.declared.stop.StopCause.{StopCause}
-use Rattle.avr_base.specs.declared.stop.StopCause.TheVariants as stop
 use Rattle.board_io.specs.Saved as board
 use Rattle.board_io.specs.declared.board.Board.{Board}
 use Rattle.board_io.proofs.OneBoard.{all, one-board}
@@ -20,7 +20,7 @@ use Rattle.device_base.specs.Bits.{bit}
 use Rattle.device_base.specs.Numbers.{part}
 use Rattle.device_base.proofs.Places.{bit-flag, flag-bit, by-places, from_places, none_outside, same-list}
 use Rattle.serial_ports.specs.Script.{ScriptBytes}
-use Rattle.node_core.specs.Numbers.{core_fits, core_tail, ends_from, first_outside, fits, numbers_of, stop_number}
+use Rattle.node_core.specs.Numbers.{core_fits, core_tail, ends_from, first_outside, fits, numbers_of}
 use Rattle.node_core.specs.Restored.{cpu_of, fault_by, IsCore, IsRestored}
 use Rattle.node_core.specs.State.{NodeState}
 use Rattle.node_core.specs.declared.bus.NodeBus.{NodeBus}
@@ -85,68 +85,8 @@ core-within cycle n len e =
 
 -- ---- the number of a stop's cause
 
-cause_of : ℕ → Option StopCause
-cause_of n =
-    if n == 1 then Some stop.ReservedOpcode
-    else if n == 2 then Some stop.UndefinedOperands
-    else if n == 3 then Some stop.Spm
-    else if n == 4 then Some stop.BreakOp
-    else if n == 5 then Some stop.SleepMode
-    else if n == 6 then Some stop.PwmMode
-    else if n == 7 then Some stop.ExternalTimerClock
-    else if n == 8 then Some stop.CompareOutput
-    else if n == 9 then Some stop.ForcedCompare
-    else if n == 10 then Some stop.InputCapture
-    else if n == 11 then Some stop.Prescaler
-    else if n == 12 then Some stop.UsartMode
-    else if n == 13 then Some stop.SpiSlave
-    else if n == 14 then Some stop.ExternalMemory
-    else if n == 15 then Some stop.Watchdog
-    else if n == 16 then Some stop.Eeprom
-    else if n == 17 then Some stop.Adc
-    else if n == 18 then Some stop.Comparator
-    else if n == 19 then Some stop.Twi
-    else if n == 20 then Some stop.ExternalInterrupt
-    else if n == 21 then Some stop.ClockDivision
-    else if n == 22 then Some stop.AsyncTimer
-    else if n == 23 then Some stop.MovedVectors
-    else if n == 24 then Some stop.Usart1
-    else if n == 25 then Some stop.ReservedAddress
-    else if n == 26 then Some stop.PastMemory
-    else None
-
-cause-again : (o : Option StopCause) → cause_of (stop_number o) ≡ o
-unfolding cause_number cause_of
-cause-again None = refl
-cause-again (Some stop.ReservedOpcode) = refl
-cause-again (Some stop.UndefinedOperands) = refl
-cause-again (Some stop.Spm) = refl
-cause-again (Some stop.BreakOp) = refl
-cause-again (Some stop.SleepMode) = refl
-cause-again (Some stop.PwmMode) = refl
-cause-again (Some stop.ExternalTimerClock) = refl
-cause-again (Some stop.CompareOutput) = refl
-cause-again (Some stop.ForcedCompare) = refl
-cause-again (Some stop.InputCapture) = refl
-cause-again (Some stop.Prescaler) = refl
-cause-again (Some stop.UsartMode) = refl
-cause-again (Some stop.SpiSlave) = refl
-cause-again (Some stop.ExternalMemory) = refl
-cause-again (Some stop.Watchdog) = refl
-cause-again (Some stop.Eeprom) = refl
-cause-again (Some stop.Adc) = refl
-cause-again (Some stop.Comparator) = refl
-cause-again (Some stop.Twi) = refl
-cause-again (Some stop.ExternalInterrupt) = refl
-cause-again (Some stop.ClockDivision) = refl
-cause-again (Some stop.AsyncTimer) = refl
-cause-again (Some stop.MovedVectors) = refl
-cause-again (Some stop.Usart1) = refl
-cause-again (Some stop.ReservedAddress) = refl
-cause-again (Some stop.PastMemory) = refl
-
 same-stop : (a b : Option StopCause) → stop_number a ≡ stop_number b → a ≡ b
-same-stop a b e = sym (cause-again a) ∙ ap cause_of e ∙ cause-again b
+same-stop a b e = sym (cause_again a) ∙ ap cause_of e ∙ cause_again b
 
 same-flag : (a b : Bool) → bit a 1 ≡ bit b 1 → a ≡ b
 same-flag a b e = sym (flag-bit a) ∙ ap (λ n. n == 1) e ∙ flag-bit b

@@ -26,7 +26,7 @@ use Rattle.node_core.specs.Bus.{with_board}
 use Rattle.node_core.specs.Cycle.{instructed, instructed_rows, node_kind, row}
 use Rattle.node_core.specs.Inside.{IsCalm, MayAct, is_told}
 use Rattle.node_core.specs.Interrupts.{due}
-use Rattle.node_core.specs.Midway.{IsActed, IsMidway, IsSprinted, IsSprinting, IsStepped, IsStopping, IsTurning, MayEnd, beside, over, owing, turned_on}
+use Rattle.node_core.specs.Pace.Midway.{IsActed, IsMidway, IsSprinted, IsSprinting, IsStepped, IsStopping, IsTurning, MayEnd, beside, over, owing, turned_on}
 use Rattle.node_core.specs.Shown.{shown}
 use Rattle.node_core.specs.State.{NodeState}
 use Rattle.node_core.proofs.Acts.{one_more, one_row}

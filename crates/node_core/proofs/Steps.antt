@@ -26,8 +26,8 @@ use Rattle.node_core.specs.Cycle.{first_word, instructed, instructed_rows, is_id
 use Rattle.node_core.specs.Execute.{executed}
 use Rattle.node_core.specs.Inside.{IsCalm, MayAct, is_told}
 use Rattle.node_core.specs.Interrupts.{due}
-use Rattle.node_core.specs.Midway.{IsActed, IsMidway, IsStep, IsStepped, IsStopping, counted, leaves_board, leaves_i, owing, step_of, turned_on}
-use Rattle.node_core.specs.declared.sprint.Step.{Step}
+use Rattle.node_core.specs.Pace.Midway.{IsActed, IsMidway, IsStep, IsStepped, IsStopping, counted, leaves_board, leaves_i, owing, step_of, turned_on}
+use Rattle.node_core.specs.declared.pace.sprint.Step.{Step}
 use Rattle.node_core.specs.Shown.{shown}
 use Rattle.node_core.specs.State.{NodeState}
 use Rattle.node_core.proofs.Clocks.{executed_clock}

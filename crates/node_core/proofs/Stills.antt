@@ -25,7 +25,7 @@ use Rattle.data_space.specs.Sequence.{Outcome, done, then_do}
 use Rattle.node_core.specs.declared.bus.NodeBus.{NodeBus}
 use Rattle.node_core.specs.Bus.{board_got, bus_get, with_board}
 use Rattle.node_core.specs.Execute.{executed}
-use Rattle.node_core.specs.Leaps.{IsLoad, IsStill, LoadsStill, bus_later, is_steering}
+use Rattle.node_core.specs.Pace.Leaps.{IsLoad, IsStill, LoadsStill, bus_later, is_steering}
 use Rattle.avr_core.proofs.Executes.{arith_awake, is_arith}
 use Rattle.node_core.proofs.Ran.{by_class}
 use Rattle.node_core.proofs.Wakes.{wakes}

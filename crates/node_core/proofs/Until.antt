@@ -4,7 +4,7 @@ use Rattle.board_io.specs.declared.cycle.OnAir.{OnAir}
 use Rattle.node_core.specs.declared.machine.Machine.{Machine}
 use Rattle.node_core.specs.declared.row.Row.{Row}
 use Rattle.node_core.specs.Cycle.{air_after, asks_in, begun_in, begun_rows, device_rows, devices_cycle, node_kind, sends_in}
-use Rattle.node_core.specs.Midway.{IsMidway, IsRested}
+use Rattle.node_core.specs.Pace.Midway.{IsMidway, IsRested}
 use Rattle.node_core.specs.Shown.{shown}
 use Rattle.node_core.specs.State.{NodeState}
 use Rattle.air_base.specs.NodeRun.{Comes, Timed}

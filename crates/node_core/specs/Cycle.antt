@@ -3,7 +3,6 @@
 -- first cycle; its other cycles count off (AVR Instruction Set Manual, "Cycles"; ATmega128 datasheet, "Interrupt
 -- Response Time", "Sleep Modes").
 use Rattle.std.specs.Prelude.{ℕ, ◌+◌, ◌-◌, ◌%◌, ◌==◌, ◌&&◌, ◌||◌, nat_le, nat_lt, if◌then◌else◌, List, [], ◌∷◌, ◌++◌, Bool, true, false, Option, Some, None, is_some, Result, Ok, Err}
-use Rattle.std.specs.Int.{w16, cast_unsigned}
 use Rattle.avr_base.specs.declared.stop.StopCause.{StopCause}
 use Rattle.avr_base.specs.declared.stop.StopCause.TheVariants as stop
 use Rattle.avr_decoder.specs.declared.op.Op.{Op}
@@ -62,11 +61,6 @@ is_sei _ = false
 -- whether one instruction is owed: after SEI and RETI, and after one that turned the flag I from 0 to 1
 abbrev pub owes : Op → ℕ → ℕ → Bool
 owes o before after = is_sei o || (nat_lt before 128 && nat_le 128 after)
-
--- RJMP to itself, which is 65,535 words on
-abbrev pub is_spin : Op → Bool
-is_spin (op.Rjmp k) = cast_unsigned w16 k == 65535
-is_spin _ = false
 
 abbrev pub is_idle : Sleep → Bool
 is_idle Off = false

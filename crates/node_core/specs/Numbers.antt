@@ -4,16 +4,11 @@
 -- and how many instructions it executed.
 use Rattle.std.specs.Prelude.{ℕ, ◌^◌, ◌==◌, nat_le, not, if◌then◌else◌, Bool, List, [], ◌∷◌, ◌++◌, Option, None, Some, map, take, slice_index}
 use Rattle.std.specs.List.{position}
-use Rattle.avr_base.specs.Causes.{cause_number}
-use Rattle.avr_base.specs.declared.stop.StopCause.{StopCause}
+use Rattle.avr_base.specs.Causes.{stop_number}
 use Rattle.board_io.specs.Saved as board
 use Rattle.device_base.specs.Bits.{bit}
 use Rattle.device_base.specs.Numbers.{part}
 use Rattle.node_core.specs.State.{NodeState}
-
-abbrev pub stop_number : Option StopCause → ℕ
-stop_number None = 0
-stop_number (Some cause) = cause_number cause
 
 -- the core's numbers behind its registers
 abbrev pub core_tail : NodeState → List ℕ

@@ -1,7 +1,7 @@
 // The data space of a node beside the core.
 ghost use Rattle.std.specs.Prelude.{◌≡◌, ◌≤◌, true, false, Ok, Err, OnOk, IfOk, OnErr, IfErr};
 ghost use Rattle.avr_core.specs.Execute.{in_sram};
-ghost use Rattle.node_core.specs.Leaps.{LoadsStill};
+ghost use Rattle.node_core.specs.Pace.Leaps.{LoadsStill};
 
 use avr_base::{NoMemory, StopCause};
 use avr_core::is_in_sram;

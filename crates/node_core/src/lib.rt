@@ -4,20 +4,16 @@
 #![tactic(auto)]
 
 mod bus;
-mod countdowns;
 mod interrupts;
 mod law;
-mod leaps;
 mod machine;
 mod node;
 mod numbers;
+mod pace;
 mod processor;
 mod restore;
-mod rests;
 mod row;
 mod rows;
-mod sprint;
-mod stride;
 
 pub use avr_core::execute;
 pub use bus::NodeBus;

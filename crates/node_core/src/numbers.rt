@@ -1,6 +1,7 @@
 // The numbers of a node, by which it is saved and restored.
 ghost use Rattle.std.specs.Prelude.{◌≡◌, ◌≤◌, nat_le, map};
-ghost use Rattle.node_core.specs.Numbers.{core_fits, core_tail, ends_from, fits, stop_number};
+ghost use Rattle.avr_base.specs.Causes.{stop_number};
+ghost use Rattle.node_core.specs.Numbers.{core_fits, core_tail, ends_from, fits};
 ghost use Rattle.node_core.specs.Shown.{shown};
 
 use crate::Node;

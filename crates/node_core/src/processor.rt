@@ -7,7 +7,7 @@ ghost use Rattle.avr_decoder.specs.declared.op.Class.TheVariants as class;
 ghost use Rattle.node_core.specs.declared.row.Kind.TheVariants as kind;
 ghost use Rattle.node_core.specs.Inside.{IsGoing, MayAct};
 ghost use Rattle.node_core.specs.Interrupts.{due};
-ghost use Rattle.node_core.specs.Midway.{IsActed};
+ghost use Rattle.node_core.specs.Pace.Midway.{IsActed};
 ghost use Rattle.node_core.specs.Shown.{shown};
 ghost use Rattle.board_io.specs.Board.{sleep_mode};
 ghost use Rattle.board_io.specs.Lines.{lines_of};

@@ -2,7 +2,6 @@
 ghost use Rattle.std.specs.Prelude.{◌≡◌, ◌≤◌, ◌^◌, [], false, None, IfOk, IfErr, OnOk, length, take};
 ghost use Rattle.board_io.specs.Saved as board;
 ghost use Rattle.device_base.specs.Numbers.{part};
-ghost use Rattle.node_core.specs.Numbers.{stop_number};
 ghost use Rattle.node_core.specs.Restored.{cpu_of, fault_of, IsCore, IsRefused, IsRestored};
 ghost use Rattle.node_core.specs.Shown.{shown};
 ghost use Rattle.node_core.specs.State.{NodeState};
@@ -33,44 +32,6 @@ pub enum RestoreFault {
     },
     /// There was no memory.
     NoMemory,
-}
-
-// The cause of a number up to 26, and none of 0.
-#[tactic(auto, unfolding(avr_base::specs::Causes::cause_number))]
-fn stop_of(number: u64) -> Option<StopCause>
-    requires { number ≤ 26 }
-    ensures { stop_number result ≡ number }
-{
-    let cause = match number {
-        0 => return None,
-        1 => StopCause::ReservedOpcode,
-        2 => StopCause::UndefinedOperands,
-        3 => StopCause::Spm,
-        4 => StopCause::BreakOp,
-        5 => StopCause::SleepMode,
-        6 => StopCause::PwmMode,
-        7 => StopCause::ExternalTimerClock,
-        8 => StopCause::CompareOutput,
-        9 => StopCause::ForcedCompare,
-        10 => StopCause::InputCapture,
-        11 => StopCause::Prescaler,
-        12 => StopCause::UsartMode,
-        13 => StopCause::SpiSlave,
-        14 => StopCause::ExternalMemory,
-        15 => StopCause::Watchdog,
-        16 => StopCause::Eeprom,
-        17 => StopCause::Adc,
-        18 => StopCause::Comparator,
-        19 => StopCause::Twi,
-        20 => StopCause::ExternalInterrupt,
-        21 => StopCause::ClockDivision,
-        22 => StopCause::AsyncTimer,
-        23 => StopCause::MovedVectors,
-        24 => StopCause::Usart1,
-        25 => StopCause::ReservedAddress,
-        _ => StopCause::PastMemory,
-    };
-    Some(cause)
 }
 
 // The general registers of their numbers.
@@ -183,7 +144,7 @@ impl Node {
                 wait: numbers[36] as u8,
                 owed: numbers[37] == 1,
                 asleep: numbers[38] == 1,
-                stop: stop_of(numbers[39]),
+                stop: StopCause::of(numbers[39]),
                 count: numbers[40],
                 rows: Vec::new(alloc),
             },

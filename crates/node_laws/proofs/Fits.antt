@@ -8,7 +8,7 @@ use Rattle.std.specs.Int.Bits.{and_zero_r}
 use Rattle.std.proofs.lemmas.Bool.{false≢true, le-leb, lt-ltb}
 use Rattle.std.proofs.lemmas.Bool.Decides.{nat_tests}
 use Rattle.std.proofs.Math.Seq.{take-add}
-use Rattle.avr_base.specs.Causes.{cause_number}
+use Rattle.avr_base.specs.Causes.{cause_number, stop_number}
 use Rattle.avr_base.specs.declared.stop.StopCause.{StopCause}
 use Rattle.avr_base.specs.declared.stop.StopCause.TheVariants as stop
 use Rattle.board_io.specs.declared.board.Board.{Board}
@@ -37,7 +37,7 @@ use Rattle.serial_ports.specs.declared.radio.Radio.{Radio}
 use Rattle.serial_ports.specs.declared.radio.RadioState.{RadioState}
 use Rattle.serial_ports.specs.declared.radio.RadioState.TheVariants.{Idle, ToSend, ToSample, Status, Byte, Age}
 use Rattle.device_laws.specs.States.{IsBoard, IsSpi, IsTimer16, IsTimer8, IsUsart}
-use Rattle.node_core.specs.Numbers.{core_fits, core_tail, ends_from, first_outside, fits, numbers_of, stop_number}
+use Rattle.node_core.specs.Numbers.{core_fits, core_tail, ends_from, first_outside, fits, numbers_of}
 use Rattle.node_core.specs.State.{NodeState}
 use Rattle.node_core.proofs.Saved.{Has, has-numbers}
 use Rattle.node_laws.specs.Within.{BoardWithin, ByteWithin, InboxWithin, RadioWithin, ShiftWithin, SpiWithin, StateWithin, Timer16Within, Timer8Within, UsartWithin}

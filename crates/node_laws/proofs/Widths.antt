@@ -30,7 +30,8 @@ use Rattle.serial_ports.specs.declared.radio.Radio.{Radio}
 use Rattle.serial_ports.specs.declared.radio.RadioState.{RadioState}
 use Rattle.serial_ports.specs.declared.radio.RadioState.TheVariants.{Idle, ToSend, ToSample, Status, Byte, Age}
 use Rattle.device_laws.specs.States.{IsBoard, IsTimer16, IsTimer8, IsUsart}
-use Rattle.node_core.specs.Numbers.{core_tail, numbers_of, stop_number}
+use Rattle.avr_base.specs.Causes.{stop_number}
+use Rattle.node_core.specs.Numbers.{core_tail, numbers_of}
 use Rattle.node_core.specs.State.{NodeState}
 use Rattle.node_laws.specs.Within.{BoardWithin, ByteWithin, InboxWithin, RadioWithin, ShiftWithin, SpiWithin, StateWithin, Timer16Within, Timer8Within, UsartWithin}
 use Rattle.node_laws.specs.Node.{AreBytes, NodeWithin}

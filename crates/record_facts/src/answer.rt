@@ -1,6 +1,6 @@
 // What the record and the nodes of a session answer, as a case file has it.
 use air_cases::{Answer, Fault};
-use neighbour_sync::{Behind, Posted, SampleAttempt, SampleOutcome};
+use neighbour_sync::{Behind, Posted, SampleOutcome};
 
 /// The answer to a post.
 pub fn of_posted(posted: Posted) -> Answer {
@@ -20,12 +20,10 @@ pub fn of_cut(cut: Result<(), Behind>) -> Answer {
 }
 
 /// The answer to a node of a session that tried to sample.
-pub fn of_tried(tried: SampleAttempt) -> Result<Answer, Fault> {
+pub fn of_tried(tried: Result<SampleOutcome, Behind>) -> Result<Answer, Fault> {
     match tried {
-        SampleAttempt::Heard(heard) => Ok(Answer::Heard(heard)),
-        SampleAttempt::NotYet { node, clock } => Ok(Answer::Waits { node, clock }),
-        SampleAttempt::Halted => Ok(Answer::Halted),
-        SampleAttempt::NoMemory => Err(Fault::NoMemory),
+        Ok(outcome) => of_passed(outcome),
+        Err(Behind { node, clock }) => Ok(Answer::Waits { node, clock }),
     }
 }
 

@@ -1,6 +1,6 @@
 -- The five numbers of the radio: its state (0 idle, 1 waits for the byte to send, 2 to 4 with three, two and one
 -- answers left), the status, the byte and the age of what was heard, and the first cycle in which it may send again.
-use Rattle.std.specs.Prelude.{◌≡◌, ℕ, ◌^◌, ◌==◌, if◌then◌else◌, nat_le, Bool, List, [], ◌∷◌, slice_index}
+use Rattle.std.specs.Prelude.{◌≡◌, ℕ, ◌==◌, if◌then◌else◌, nat_le, Bool, List, [], ◌∷◌, slice_index}
 use Rattle.std.specs.List.{list_all}
 use Rattle.device_base.specs.Bounds.{LAST_END}
 use Rattle.serial_ports.specs.Numbers.{owned}

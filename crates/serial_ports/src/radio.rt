@@ -1,5 +1,5 @@
 // The radio, transfer by transfer.
-ghost use Rattle.std.specs.Prelude.{◌≡◌, ◌≤◌, ◌+◌, ◌^◌, ℕ};
+ghost use Rattle.std.specs.Prelude.{◌≡◌, ◌≤◌, ◌+◌, ℕ};
 ghost use Rattle.device_base.specs.Bounds.{LAST_END};
 
 use air_base::Heard;

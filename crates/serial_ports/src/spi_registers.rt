@@ -1,5 +1,5 @@
 // The registers of the interface.
-ghost use Rattle.std.specs.Prelude.{◌≡◌, ◌≤◌, ◌^◌, Ok, Err, OnOk, OnErr, IfErr};
+ghost use Rattle.std.specs.Prelude.{◌≡◌, ◌≤◌, Ok, Err, OnOk, OnErr, IfErr};
 ghost use Rattle.device_base.specs.Bounds.{LAST_END};
 
 use crate::{Spi, Transmission};

@@ -12,3 +12,6 @@ use Rattle.commands.proofs.checkpoints.write_saved.Goals as goal
 
 pub run_up_to-requires-clause-end : goal.run_up_to-requires-clause-end
 run_up_to-requires-clause-end g c = epoch_below c.args.network.now c.args.epochs (c.args.epochs * epoch) c.requires refl
+
+pub write_state-requires-clause-states : goal.write_state-requires-clause-states
+write_state-requires-clause-states g c = ?

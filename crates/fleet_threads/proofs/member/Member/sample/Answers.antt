@@ -13,14 +13,14 @@ ask-requires-clause-floor g c =
     let h : g.N.Session.floor ≤ c.args.self.now.runner.cycle = late _ _ _ _ _ c.args.self.now c.requires.member c.requires.asking in
     omega arith
 
-pub returns-in-Heard-clause-on : goal.returns-in-Heard-clause-on
-returns-in-Heard-clause-on g c =
-    let looked = c.in-Heard.ensures.answer.1 in
+pub returns-in-Ok-Heard-clause-on : goal.returns-in-Ok-Heard-clause-on
+returns-in-Ok-Heard-clause-on g c =
+    let looked = has_looked g.N.Session.world c.args.self.now.air c.ask.new.air c.cycle-cycle.result c.ask.result c.ask.ensures.answer in
     let new : Member = record { runner = c.answer.new.self; air = c.ask.new.air; turn = c.args.self.now.turn; gap = c.args.self.now.gap; halted = c.args.self.now.halted } in
     answered _ _ _ _ _ c.args.self.now c.requires.member c.requires.asking new c.answer.ensures.place c.answer.ensures.count looked.number looked.table looked.world looked.told looked.clock refl
 
-pub returns-in-NotYet-clause-on : goal.returns-in-NotYet-clause-on
-returns-in-NotYet-clause-on g c =
+pub returns-in-Err-clause-on : goal.returns-in-Err-clause-on
+returns-in-Err-clause-on g c =
     let m : Member = c.args.self.now in
     let new : Member = record { runner = m.runner; air = c.ask.new.air; turn = m.turn; gap = m.gap; halted = m.halted } in
     (looked _ _ _ _ _ m c.requires.member new refl refl (has_looked g.N.Session.world m.air c.ask.new.air c.cycle-cycle.result c.ask.result c.ask.ensures.answer), refl)
@@ -31,14 +31,14 @@ halt-requires g c =
     let new : Member = record { runner = m.runner; air = c.ask.new.air; turn = m.turn; gap = m.gap; halted = m.halted } in
     looked _ _ _ _ _ m c.requires.member new refl refl (has_looked g.N.Session.world m.air c.ask.new.air c.cycle-cycle.result c.ask.result c.ask.ensures.answer)
 
-pub returns-in-Halted-clause-on : goal.returns-in-Halted-clause-on
-returns-in-Halted-clause-on g c = (c.halt.ensures.on.0, ap (λ (p : Place). p.number) c.halt.ensures.on.1)
+pub returns-in-Ok-Halted-clause-on : goal.returns-in-Ok-Halted-clause-on
+returns-in-Ok-Halted-clause-on g c = (c.halt.ensures.on.0, ap (λ (p : Place). p.number) c.halt.ensures.on.1)
 
-pub returns-in-Heard-clause-once : goal.returns-in-Heard-clause-once
-returns-in-Heard-clause-once g c = c.ask.ensures.once
+pub returns-in-Ok-Heard-clause-once : goal.returns-in-Ok-Heard-clause-once
+returns-in-Ok-Heard-clause-once g c = c.ask.ensures.once
 
-pub returns-in-NotYet-clause-once : goal.returns-in-NotYet-clause-once
-returns-in-NotYet-clause-once g c = c.ask.ensures.once
+pub returns-in-Err-clause-once : goal.returns-in-Err-clause-once
+returns-in-Err-clause-once g c = c.ask.ensures.once
 
-pub returns-in-Halted-clause-once : goal.returns-in-Halted-clause-once
-returns-in-Halted-clause-once g c = λ e. let looks = ap length c.halt.ensures.looks in let once = c.ask.ensures.once e in omega arith
+pub returns-in-Ok-Halted-clause-once : goal.returns-in-Ok-Halted-clause-once
+returns-in-Ok-Halted-clause-once g c = λ e. let looks = ap length c.halt.ensures.looks in let once = c.ask.ensures.once e in omega arith

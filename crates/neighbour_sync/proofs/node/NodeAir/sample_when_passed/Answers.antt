@@ -1,11 +1,10 @@
-use Rattle.std.proofs.Common.{◌∷◌, [], ◌++◌, ◌∙◌, ap, sym, subst}
+use Rattle.std.proofs.Common.{◌∷◌, [], ◌++◌, ◌∙◌, ap, sym, subst, Result, Ok, Err}
 use Rattle.std.specs.List.{Contains}
-use Rattle.world_core.specs.Settled.{truth}
 use Rattle.neighbour_sync.specs.Seats.{NodeFacts}
-use Rattle.neighbour_sync.specs.declared.answers.SampleAttempt.{SampleAttempt}
-use Rattle.neighbour_sync.specs.declared.answers.SampleAttempt.TheVariants.{Heard, NotYet, Halted, NoMemory}
+use Rattle.neighbour_sync.specs.declared.answers.Behind.{Behind}
+use Rattle.neighbour_sync.specs.declared.answers.SampleOutcome.{SampleOutcome}
 use Rattle.neighbour_sync.specs.Tries.{IsTried}
-use Rattle.neighbour_sync.proofs.Trying.{waits_on, waits_end, waits_halted}
+use Rattle.neighbour_sync.proofs.Trying.{waits_on, waits_over}
 use Rattle.neighbour_sync.proofs.node.NodeAir.sample_when_passed.Goals as goal
 
 pub try_sample-requires : goal.try_sample-requires
@@ -20,32 +19,18 @@ try_sample-requires g c =
 pub loop-preserved : goal.loop-preserved
 loop-preserved g c =
     let before = c.loop.invariant.tries in
-    let k = c.in-NotYet.node in
-    let d = c.in-NotYet.clock in
-    let tried : IsTried g.N.Session.world c.loop.self c.args.cycle (NotYet k d) c.try_sample.new.self = subst (λ (r : SampleAttempt). IsTried g.N.Session.world c.loop.self c.args.cycle r c.try_sample.new.self) c.in-NotYet.is c.try_sample.ensures in
+    let b = c.in-Err.behind in
+    let tried : IsTried g.N.Session.world c.loop.self c.args.cycle (Err b) c.try_sample.new.self = subst (λ (r : Result SampleOutcome Behind). IsTried g.N.Session.world c.loop.self c.args.cycle r c.try_sample.new.self) c.in-Err.is c.try_sample.ensures in
     let load = tried.1 in record {
       next = tt;
       finite = tt;
-      tries = waits_on c.args.self.now c.loop.self c.sleep.new.self before.0 before.1 (load.0 ++ (k, d) ∷ []) before.2 (c.sleep.ensures ∙ load.1);
+      tries = waits_on c.args.self.now c.loop.self c.sleep.new.self before.0 before.1 (load.0 ++ (b.node, b.clock) ∷ []) before.2 (c.sleep.ensures ∙ load.1);
     }
 
-pub returns-in-Heard : goal.returns-in-Heard
-returns-in-Heard g c =
+pub returns-in-Ok : goal.returns-in-Ok
+returns-in-Ok g c =
     let w = g.N.Session.world in
     let before = c.loop.invariant.tries in
-    let tried : IsTried w c.loop.self c.args.cycle (Heard c.in-Heard.heard) c.try_sample.new.self = subst (λ (r : SampleAttempt). IsTried w c.loop.self c.args.cycle r c.try_sample.new.self) c.in-Heard.is c.try_sample.ensures in
-    (tried.0 ∙ ap (λ (n : NodeFacts). truth w n.number c.args.cycle) before.2, waits_end w c.args.cycle c.args.self.now c.loop.self c.try_sample.new.self before.0 before.1 before.2 tried.1)
-
-pub returns-in-NoMemory : goal.returns-in-NoMemory
-returns-in-NoMemory g c =
-    let w = g.N.Session.world in
-    let before = c.loop.invariant.tries in
-    let tried : IsTried w c.loop.self c.args.cycle NoMemory c.try_sample.new.self = subst (λ (r : SampleAttempt). IsTried w c.loop.self c.args.cycle r c.try_sample.new.self) c.in-NoMemory.is c.try_sample.ensures in
-    waits_end w c.args.cycle c.args.self.now c.loop.self c.try_sample.new.self before.0 before.1 before.2 tried
-
-pub returns-in-Halted : goal.returns-in-Halted
-returns-in-Halted g c =
-    let before = c.loop.invariant.tries in
-    let tried : IsTried g.N.Session.world c.loop.self c.args.cycle Halted c.try_sample.new.self =
-    subst (λ (r : SampleAttempt). IsTried g.N.Session.world c.loop.self c.args.cycle r c.try_sample.new.self) c.in-Halted.is c.try_sample.ensures in
-    waits_halted c.args.self.now c.loop.self c.try_sample.new.self before.0 before.1 before.2 tried
+    let r = c.in-Ok.outcome in
+    let tried : IsTried w c.loop.self c.args.cycle (Ok r) c.try_sample.new.self = subst (λ (r : Result SampleOutcome Behind). IsTried w c.loop.self c.args.cycle r c.try_sample.new.self) c.in-Ok.is c.try_sample.ensures in
+    waits_over w c.args.cycle c.args.self.now c.loop.self c.try_sample.new.self before.0 before.1 before.2 r tried

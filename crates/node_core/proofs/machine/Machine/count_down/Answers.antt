@@ -3,11 +3,11 @@ use Rattle.std.proofs.Math.Nat.{le_of_mul-le-mul_right}
 use Rattle.std.specs.Prelude.{slice_index}
 use Rattle.node_core.specs.declared.bus.NodeBus.{NodeBus}
 use Rattle.data_space.specs.declared.cpu.Cpu.{Cpu}
-use Rattle.node_core.specs.declared.countdowns.Countdown.{Countdown}
-use Rattle.node_core.specs.declared.countdowns.Lowering.{Lowering}
+use Rattle.node_core.specs.declared.pace.countdowns.Countdown.{Countdown}
+use Rattle.node_core.specs.declared.pace.countdowns.Lowering.{Lowering}
 use Rattle.node_core.specs.declared.machine.Machine.{Machine}
-use Rattle.node_core.specs.Leaps.{lowered, with_counter}
-use Rattle.node_core.specs.Midway.{IsSprinted}
+use Rattle.node_core.specs.Pace.Leaps.{lowered, with_counter}
+use Rattle.node_core.specs.Pace.Midway.{IsSprinted}
 use Rattle.node_core.proofs.Counting.{stands_first}
 use Rattle.node_core.proofs.Rounds.{leapt_over, none_at_all}
 use Rattle.node_core.proofs.machine.Machine.count_down.Goals as goal

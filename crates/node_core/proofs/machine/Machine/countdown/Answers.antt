@@ -1,10 +1,10 @@
 use Rattle.std.proofs.Common.{◌≡◌, ◌<◌, ◌+◌, ℕ, sym, subst, ap, ◌∙◌, arith}
 use Rattle.data_space.specs.declared.cpu.Cpu.{Cpu}
-use Rattle.node_core.specs.declared.countdowns.Countdown.{Countdown}
-use Rattle.node_core.specs.declared.countdowns.Lowering.{Lowering}
+use Rattle.node_core.specs.declared.pace.countdowns.Countdown.{Countdown}
+use Rattle.node_core.specs.declared.pace.countdowns.Lowering.{Lowering}
 use Rattle.node_core.specs.declared.machine.Machine.{Machine}
 use Rattle.node_core.specs.Cycle.{op_now}
-use Rattle.node_core.specs.Leaps.{IsStillStep, with_counter}
+use Rattle.node_core.specs.Pace.Leaps.{IsStillStep, with_counter}
 use Rattle.node_core.specs.Shown.{shown}
 use Rattle.node_core.proofs.Cores.{same_core}
 use Rattle.node_core.proofs.Counting.{goes_down, goes_round}

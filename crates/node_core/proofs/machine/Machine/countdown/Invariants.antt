@@ -1,6 +1,6 @@
 use Rattle.std.proofs.Common.{◌≡◌, ◌≤◌, ◌-◌}
-use Rattle.node_core.specs.declared.countdowns.Countdown.{Countdown}
-use Rattle.node_core.specs.Leaps.{IsCountdown}
+use Rattle.node_core.specs.declared.pace.countdowns.Countdown.{Countdown}
+use Rattle.node_core.specs.Pace.Leaps.{IsCountdown}
 use Rattle.node_core.proofs.machine.Machine.countdown.Given as goal
 
 abbrev pub invariant-loop-count : goal.invariant-loop-count

@@ -1,7 +1,7 @@
 use Rattle.std.proofs.Common.{◌≡◌, ℕ, ◌+◌, ◌-◌, true, false, refl, sym, subst, arith}
 use Rattle.data_space.specs.declared.cpu.Cpu.{Cpu}
 use Rattle.node_core.specs.declared.machine.Machine.{Machine}
-use Rattle.node_core.specs.Midway.{IsSprinted, IsSprinting, IsStepped, beside, owing}
+use Rattle.node_core.specs.Pace.Midway.{IsSprinted, IsSprinting, IsStepped, beside, owing}
 use Rattle.node_core.proofs.Sprints.{breaks, stays, steps_on}
 use Rattle.node_core.proofs.machine.Machine.end_sprint.Goals as goal
 

@@ -1,7 +1,7 @@
 use Rattle.std.proofs.Common.{◌<◌, ℕ, suc, sym, subst, arith}
 use Rattle.data_space.specs.declared.cpu.Cpu.{Cpu}
 use Rattle.node_core.specs.declared.machine.Machine.{Machine}
-use Rattle.node_core.specs.Leaps.{IsStillStep, Walk, lowered}
+use Rattle.node_core.specs.Pace.Leaps.{IsStillStep, Walk, lowered}
 use Rattle.node_core.proofs.Counting.{walk_one}
 use Rattle.node_core.proofs.machine.Machine.lower.Goals as goal
 

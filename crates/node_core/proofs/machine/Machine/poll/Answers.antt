@@ -1,7 +1,7 @@
 use Rattle.std.proofs.Common.{◌≡◌, refl, sym, ap, subst, arith}
 use Rattle.data_space.specs.declared.cpu.Cpu.{Cpu}
 use Rattle.node_core.specs.declared.machine.Machine.{Machine}
-use Rattle.node_core.specs.Leaps.{Walk}
+use Rattle.node_core.specs.Pace.Leaps.{Walk}
 use Rattle.node_core.proofs.Rounds.{leapt_over, none_at_all}
 use Rattle.node_core.proofs.machine.Machine.poll.Goals as goal
 

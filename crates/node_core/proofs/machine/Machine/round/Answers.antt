@@ -1,7 +1,7 @@
 use Rattle.std.proofs.Common.{◌≡◌, ◌<◌, ◌+◌, ℕ, refl, sym, subst, ap, ◌∙◌, arith}
 use Rattle.data_space.specs.declared.cpu.Cpu.{Cpu}
 use Rattle.node_core.specs.declared.machine.Machine.{Machine}
-use Rattle.node_core.specs.Leaps.{IsStillStep, Walk, goes, stays}
+use Rattle.node_core.specs.Pace.Leaps.{IsStillStep, Walk, goes, stays}
 use Rattle.node_core.proofs.Cores.{same_core}
 use Rattle.node_core.proofs.machine.Machine.round.Goals as goal
 

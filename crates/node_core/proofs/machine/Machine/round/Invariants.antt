@@ -1,5 +1,5 @@
 use Rattle.std.proofs.Common.{◌≡◌, ◌≤◌, ◌-◌, ◌*◌}
-use Rattle.node_core.specs.Leaps.{Walk}
+use Rattle.node_core.specs.Pace.Leaps.{Walk}
 use Rattle.node_core.proofs.machine.Machine.round.Given as goal
 
 abbrev pub invariant-loop-round : goal.invariant-loop-round

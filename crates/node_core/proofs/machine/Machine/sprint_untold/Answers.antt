@@ -9,7 +9,7 @@ use Rattle.board_io.specs.Lines.{lines_of}
 use Rattle.node_core.specs.Cycle.{row}
 use Rattle.node_core.specs.declared.machine.Machine.{Machine}
 use Rattle.node_core.specs.Shown.{shown}
-use Rattle.node_core.specs.Midway.{IsSprinted, IsSprinting, IsStopping, beside, over, owing}
+use Rattle.node_core.specs.Pace.Midway.{IsSprinted, IsSprinting, IsStopping, beside, over, owing}
 use Rattle.node_core.specs.declared.row.Kind.TheVariants as kind
 use Rattle.node_core.proofs.Sprints.{acts, at_it, begins, carried, clear_due, joins, may, may_end, moved, none_owed, not_owed, same_side, silent, stands, stays, stepped_same, stepped_turned, still, still_owed, stops, turn_free, turned, turning, untold}
 use Rattle.node_core.proofs.machine.Machine.sprint_untold.Goals as goal

@@ -2,7 +2,7 @@ use Rattle.std.proofs.Common.{◌≡◌, ◌≤◌, ◌-◌, nat_lt}
 use Rattle.avr_program.specs.Program.{slots_below}
 use Rattle.node_core.specs.declared.machine.Machine.{Machine}
 use Rattle.board_io.specs.Lagging.{IsClear}
-use Rattle.node_core.specs.Midway.{IsTurning}
+use Rattle.node_core.specs.Pace.Midway.{IsTurning}
 use Rattle.node_core.proofs.machine.Machine.sprint_untold.Given as goal
 
 abbrev pub invariant-loop-self : goal.invariant-loop-self

@@ -4,7 +4,7 @@ use Rattle.data_space.specs.Sequence.{Outcome}
 use Rattle.node_core.specs.declared.bus.NodeBus.{NodeBus}
 use Rattle.node_core.specs.declared.machine.Machine.{Machine}
 use Rattle.node_core.specs.Execute.{executed}
-use Rattle.node_core.specs.Leaps.{IsStill}
+use Rattle.node_core.specs.Pace.Leaps.{IsStill}
 use Rattle.node_core.proofs.Sei.{sei_left_on}
 use Rattle.node_core.proofs.Sprints.{none_of}
 use Rattle.node_core.proofs.Stills.{did, leaves}

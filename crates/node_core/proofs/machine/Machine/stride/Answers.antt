@@ -6,7 +6,7 @@ use Rattle.serial_ports.specs.Script.{ScriptBytes, script_byte}
 use Rattle.air_base.specs.NodeRun.{Comes, Timed}
 use Rattle.air_base.proofs.QuietCycles.{comes_none}
 use Rattle.node_core.specs.Cycle.{node_kind}
-use Rattle.node_core.specs.Midway.{IsMidway}
+use Rattle.node_core.specs.Pace.Midway.{IsMidway}
 use Rattle.node_core.specs.Shown.{shown}
 use Rattle.node_core.specs.State.{NodeState}
 use Rattle.node_core.proofs.Acts.{arrives_still, one_more, one_row}

@@ -25,8 +25,8 @@ overflow_cast-result c =
     let wait = w.wait in
     omega arith
 
-pub stop_of-requires : goal.stop_of-requires
-stop_of-requires c =
+pub of-requires : goal.of-requires
+of-requires c =
     let w = core-within c.args.cycle c.args.numbers.now c.told-numbers (no-fault _ _ (sym c.fault.ensures ∙ c.in_default.is)) in
     w.stop
 
@@ -63,10 +63,10 @@ returns-clause-state c =
       wait = slice_index n 36;
       owed = slice_index n 37 == 1;
       asleep = slice_index n 38 == 1;
-      stop = c.stop_of.result;
+      stop = c.of.result;
       count = slice_index n 40;
     } in
-    let made : Made n s = record { cpu = c.cpu_of.ensures; wait = refl; owed = refl; asleep = refl; stop = c.stop_of.ensures; count = refl } in
+    let made : Made n s = record { cpu = c.cpu_of.ensures; wait = refl; owed = refl; asleep = refl; stop = c.of.ensures; count = refl } in
     let here = clocked c.args.byte_time 0 (part 41 67 n) c.args.io.now c.restored.result lags in
     record {
       number = refl;

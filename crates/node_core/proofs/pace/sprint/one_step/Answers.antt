@@ -1,15 +1,15 @@
 use Rattle.std.proofs.Common.{ℕ, sym, subst, ap, ◌∙◌}
 use Rattle.node_core.specs.declared.machine.Machine.{Machine}
-use Rattle.node_core.specs.declared.sprint.Step.{Step}
+use Rattle.node_core.specs.declared.pace.sprint.Step.{Step}
 use Rattle.avr_program.specs.Program.{op_of}
 use Rattle.data_space.specs.declared.cpu.Cpu.{Cpu}
 use Rattle.data_space.specs.Core.{whole}
 use Rattle.ihex_loader.specs.Flash.{Image}
-use Rattle.node_core.specs.Midway.{IsStep, over, step_of}
+use Rattle.node_core.specs.Pace.Midway.{IsStep, over, step_of}
 use Rattle.avr_core.proofs.Lefts.{told}
 use Rattle.node_core.specs.Bus.{bus_get, bus_put}
 use Rattle.node_core.proofs.Steps.{did, leaves_devices, leaves_flag}
-use Rattle.node_core.proofs.sprint.one_step.Goals as goal
+use Rattle.node_core.proofs.pace.sprint.one_step.Goals as goal
 
 pub returns-clause-step : goal.returns-clause-step
 returns-clause-step c first same may untold =

@@ -4,10 +4,10 @@ use Rattle.avr_decoder.specs.declared.op.Op.{Op}
 use Rattle.avr_decoder.specs.declared.op.Op.TheVariants as op
 use Rattle.data_space.specs.Core.{pair_at}
 use Rattle.data_space.specs.declared.cpu.Cpu.{Cpu}
-use Rattle.node_core.specs.declared.countdowns.Lowering.{Lowering}
-use Rattle.node_core.specs.Leaps.{IsLowering, counter_at, spared}
+use Rattle.node_core.specs.declared.pace.countdowns.Lowering.{Lowering}
+use Rattle.node_core.specs.Pace.Leaps.{IsLowering, counter_at, spared}
 use Rattle.node_core.proofs.Counting.{dec_lowers, sbiw_lowers}
-use Rattle.node_core.proofs.countdowns.lowered_by.Goals as goal
+use Rattle.node_core.proofs.pace.countdowns.lowered_by.Goals as goal
 
 pub returns-in-Dec : goal.returns-in-Dec
 returns-in-Dec c =

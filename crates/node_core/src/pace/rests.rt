@@ -1,7 +1,7 @@
 // Cycles in which a node only waits or sleeps, many at once.
 ghost use Rattle.std.specs.Prelude.{◌≡◌, ◌≤◌, ◌<◌, ◌+◌, ◌^◌, None, true};
 ghost use Rattle.node_core.specs.Interrupts.{due};
-ghost use Rattle.node_core.specs.Midway.{IsRested};
+ghost use Rattle.node_core.specs.Pace.Midway.{IsRested};
 ghost use Rattle.node_core.specs.Shown.{shown};
 
 use crate::machine::Machine;

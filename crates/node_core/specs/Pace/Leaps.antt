@@ -12,9 +12,9 @@ use Rattle.data_space.specs.declared.cpu.Cpu.{Cpu}
 use Rattle.data_space.specs.Core.{with_reg}
 use Rattle.data_space.specs.Sequence.{Outcome, done}
 use Rattle.node_core.specs.declared.bus.NodeBus.{NodeBus}
-use Rattle.node_core.specs.declared.countdowns.Countdown.{Countdown}
-use Rattle.node_core.specs.declared.countdowns.Lowering.{Lowering}
-use Rattle.node_core.specs.declared.leaps.Round.{Round}
+use Rattle.node_core.specs.declared.pace.countdowns.Countdown.{Countdown}
+use Rattle.node_core.specs.declared.pace.countdowns.Lowering.{Lowering}
+use Rattle.node_core.specs.declared.pace.leaps.Round.{Round}
 use Rattle.node_core.specs.declared.machine.Machine.{Machine}
 use Rattle.node_core.specs.Bus.{bus_get, with_board}
 use Rattle.avr_core.specs.Execute.{is_sleep}

@@ -3,7 +3,7 @@ ghost use Rattle.std.specs.Prelude.{◌≡◌, ◌≤◌, ◌<◌, ◌+◌, ◌^
 ghost use Rattle.board_io.specs.Lagging.{IsClear};
 ghost use Rattle.node_core.specs.Inside.{MayAct, is_told};
 ghost use Rattle.node_core.specs.Interrupts.{due};
-ghost use Rattle.node_core.specs.Midway.{IsSprinted, IsSprinting, IsStep, IsStepped, MayEnd, beside, counted, leaves_board, leaves_i, over, owing, step_of};
+ghost use Rattle.node_core.specs.Pace.Midway.{IsSprinted, IsSprinting, IsStep, IsStepped, MayEnd, beside, counted, leaves_board, leaves_i, over, owing, step_of};
 ghost use Rattle.node_core.specs.Shown.{shown};
 ghost use Rattle.node_core.specs.declared.machine.Machine.{Machine};
 ghost use Rattle.avr_program.specs.Program.{slots_below};

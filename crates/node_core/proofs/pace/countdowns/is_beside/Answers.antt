@@ -1,8 +1,8 @@
 use Rattle.std.proofs.Common.{◌≡◌, ◌≢◌, nat_eq, not, true, sym, subst, ap, ◌∙◌}
 use Rattle.std.proofs.lemmas.Bool.{and_parts, eq-eqb, false≢true}
-use Rattle.node_core.specs.Leaps.{IsBeside}
+use Rattle.node_core.specs.Pace.Leaps.{IsBeside}
 use Rattle.node_core.proofs.Counting.{brbc_beside, brbs_beside, nop_beside, rjmp_beside, sbci_beside}
-use Rattle.node_core.proofs.countdowns.is_beside.Goals as goal
+use Rattle.node_core.proofs.pace.countdowns.is_beside.Goals as goal
 
 pub returns-in-Nop : goal.returns-in-Nop
 returns-in-Nop c e = subst (IsBeside c.args.low c.args.high) (sym c.in-Nop.is) (nop_beside c.args.low c.args.high)

@@ -12,8 +12,8 @@ use Rattle.data_space.specs.Core.{whole}
 use Rattle.avr_core.specs.declared.instructions.After.{After}
 use Rattle.avr_core.specs.declared.instructions.After.TheVariants as after
 use Rattle.node_core.specs.declared.machine.Machine.{Machine}
-use Rattle.node_core.specs.declared.sprint.Step.{Step}
-use Rattle.node_core.specs.declared.sprint.Step.TheVariants.{Single, Plain, Jumped, Loaded, Stored, Enabled, Stopped, Left}
+use Rattle.node_core.specs.declared.pace.sprint.Step.{Step}
+use Rattle.node_core.specs.declared.pace.sprint.Step.TheVariants.{Single, Plain, Jumped, Loaded, Stored, Enabled, Stopped, Left}
 use Rattle.node_core.specs.declared.bus.NodeBus.{NodeBus}
 use Rattle.board_io.specs.Lines.{lines_of}
 use Rattle.serial_ports.specs.Script.{script_byte}

@@ -1,6 +1,6 @@
 use Rattle.std.proofs.Common.{sym, ◌∙◌}
 use Rattle.node_core.proofs.Stills.{arith_still, load_still, steers_still}
-use Rattle.node_core.proofs.leaps.is_still.Goals as goal
+use Rattle.node_core.proofs.pace.leaps.is_still.Goals as goal
 
 pub returns-then-is_steering : goal.returns-then-is_steering
 returns-then-is_steering c e = steers_still c.args.op.now c.args.bus.now (sym c.is_steering.ensures ∙ c.if-is_steering.true)

@@ -2,12 +2,12 @@
 ghost use Rattle.std.specs.Prelude.{◌≡◌, ◌≤◌, ◌<◌, ◌+◌, ◌*◌, ◌%◌, ◌^◌, ℕ, None, false, true, length, slice_index, IfSome};
 ghost use Rattle.board_io.specs.Lines.{lines_of};
 ghost use Rattle.node_core.specs.Inside.{MayAct, is_told};
-ghost use Rattle.node_core.specs.Leaps.{IsBeside, IsCountdown, IsLongLowering, IsLowering, counter_at, spared, with_counter};
-ghost use Rattle.node_core.specs.Midway.{IsSprinted};
+ghost use Rattle.node_core.specs.Pace.Leaps.{IsBeside, IsCountdown, IsLongLowering, IsLowering, counter_at, spared, with_counter};
+ghost use Rattle.node_core.specs.Pace.Midway.{IsSprinted};
 ghost use Rattle.serial_ports.specs.Script.{script_byte};
 
-use crate::leaps::{LONGEST, Round};
 use crate::machine::Machine;
+use crate::pace::leaps::{LONGEST, Round};
 use avr_base::Reg;
 use avr_decoder::Op;
 use data_space::Cpu;

@@ -2,10 +2,10 @@ use Rattle.std.proofs.Common.{◌≡◌, ◌≢◌, ◌-◌, ◌%◌, ◌<◌, �
 use Rattle.avr_decoder.specs.declared.op.Op.{Op}
 use Rattle.avr_decoder.specs.declared.op.Op.TheVariants as op
 use Rattle.data_space.specs.declared.cpu.Cpu.{Cpu}
-use Rattle.node_core.specs.declared.countdowns.Lowering.{Lowering}
-use Rattle.node_core.specs.Leaps.{IsLongLowering, counter_at}
+use Rattle.node_core.specs.declared.pace.countdowns.Lowering.{Lowering}
+use Rattle.node_core.specs.Pace.Leaps.{IsLongLowering, counter_at}
 use Rattle.node_core.proofs.Borrows.{long_lowers}
-use Rattle.node_core.proofs.countdowns.long_lowered_by.Goals as goal
+use Rattle.node_core.proofs.pace.countdowns.long_lowered_by.Goals as goal
 
 pub returns : goal.returns
 returns c =

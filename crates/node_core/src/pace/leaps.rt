@@ -2,8 +2,8 @@
 ghost use Rattle.std.specs.Prelude.{◌≡◌, ◌≤◌, ◌<◌, ◌+◌, ◌^◌, ℕ, None, false, true, IfSome};
 ghost use Rattle.board_io.specs.Lines.{lines_of};
 ghost use Rattle.node_core.specs.Inside.{MayAct, is_told};
-ghost use Rattle.node_core.specs.Leaps.{IsLoad, IsRound, IsStill, IsStillStep, is_steering};
-ghost use Rattle.node_core.specs.Midway.{IsSprinted};
+ghost use Rattle.node_core.specs.Pace.Leaps.{IsLoad, IsRound, IsStill, IsStillStep, is_steering};
+ghost use Rattle.node_core.specs.Pace.Midway.{IsSprinted};
 ghost use Rattle.serial_ports.specs.Script.{script_byte};
 
 use crate::NodeBus;
