@@ -19,6 +19,7 @@ program=$(realpath "$program")
 probes() {
     cat <<'TABLE'
 straight                     26 none: again: | ldi r20, 1 | dec r20 | ldi r20, 1 | dec r20 | ldi r20, 1 | dec r20 | ldi r20, 1 | dec r20 | ldi r20, 1 | dec r20 | ldi r20, 1 | dec r20 | rjmp again
+straight_flag_each_cycle     25 none: ldi r16, 0 | out 0x31, r16 | ldi r16, 9 | out 0x33, r16 | again: | ldi r20, 1 | dec r20 | ldi r20, 1 | dec r20 | ldi r20, 1 | dec r20 | ldi r20, 1 | dec r20 | ldi r20, 1 | dec r20 | rjmp again
 straight_late                26 late: again: | ldi r20, 1 | dec r20 | ldi r20, 1 | dec r20 | ldi r20, 1 | dec r20 | ldi r20, 1 | dec r20 | ldi r20, 1 | dec r20 | ldi r20, 1 | dec r20 | rjmp again
 dec2                         41 none: again: | ldi r20, 2 | loop: | dec r20 | brne loop | rjmp again
 dec3                         36 none: again: | ldi r20, 3 | loop: | dec r20 | brne loop | rjmp again
@@ -41,16 +42,16 @@ poll_udre                  0.17 none: ldi r17, 8 | out 0x0A, r17 | ldi r17, 255 
 poll_udre_late             0.17 late: ldi r17, 8 | out 0x0A, r17 | ldi r17, 255 | out 0x09, r17 | again: | sts 0x2C, r16 | wait: | lds r16, 0x2B | sbrs r16, 5 | rjmp wait | rjmp again
 poll_udre_line_up            18 none: ldi r16, 1 | out 0x33, r16 | out 0x37, r16 | ldi r17, 8 | out 0x0A, r17 | ldi r17, 255 | out 0x09, r17 | again: | sts 0x2C, r16 | wait: | lds r16, 0x2B | sbrs r16, 5 | rjmp wait | rjmp again
 poll_udre_timer              13 none: ldi r16, 1 | out 0x33, r16 | ldi r17, 8 | out 0x0A, r17 | ldi r17, 255 | out 0x09, r17 | again: | sts 0x2C, r16 | wait: | lds r16, 0x2B | sbrs r16, 5 | rjmp wait | rjmp again
-poll_udre_flag_each_cycle   714 none: ldi r16, 0 | out 0x31, r16 | ldi r16, 9 | out 0x33, r16 | ldi r17, 8 | out 0x0A, r17 | ldi r17, 255 | out 0x09, r17 | again: | sts 0x2C, r16 | wait: | lds r16, 0x2B | sbrs r16, 5 | rjmp wait | rjmp again
+poll_udre_flag_each_cycle  0.20 none: ldi r16, 0 | out 0x31, r16 | ldi r16, 9 | out 0x33, r16 | ldi r17, 8 | out 0x0A, r17 | ldi r17, 255 | out 0x09, r17 | again: | sts 0x2C, r16 | wait: | lds r16, 0x2B | sbrs r16, 5 | rjmp wait | rjmp again
 poll_udre_by_pointer         58 none: ldi r30, 0x2B | ldi r31, 0 | ldi r17, 8 | out 0x0A, r17 | ldi r17, 255 | out 0x09, r17 | again: | sts 0x2C, r16 | wait: | ld r16, Z | sbrs r16, 5 | rjmp wait | rjmp again
-poll_udre_by_call            58 none: ldi r16, 0x10 | out 0x3E, r16 | ldi r16, 0xFF | out 0x3D, r16 | ldi r17, 8 | out 0x0A, r17 | ldi r17, 255 | out 0x09, r17 | again: | sts 0x2C, r16 | wait: | rcall state | tst r24 | breq wait | rjmp again | state: | lds r24, 0x2B | andi r24, 0x20 | ret
+poll_udre_by_call            53 none: ldi r16, 0x10 | out 0x3E, r16 | ldi r16, 0xFF | out 0x3D, r16 | ldi r17, 8 | out 0x0A, r17 | ldi r17, 255 | out 0x09, r17 | again: | sts 0x2C, r16 | wait: | rcall state | tst r24 | breq wait | rjmp again | state: | lds r24, 0x2B | andi r24, 0x20 | ret
 poll_udre_long               30 none: ldi r17, 8 | out 0x0A, r17 | ldi r17, 255 | out 0x09, r17 | again: | sts 0x2C, r16 | wait: | nop | nop | nop | nop | nop | nop | lds r16, 0x2B | sbrs r16, 5 | rjmp wait | rjmp again
 poll_spif                  2.51 none: ldi r16, 0x53 | out 0x0D, r16 | again: | out 0x0F, r16 | wait: | sbis 0x0E, 7 | rjmp wait | rjmp again
 poll_tifr                    60 none: ldi r16, 5 | out 0x33, r16 | ldi r17, 1 | again: | out 0x36, r17 | wait: | in r16, 0x36 | sbrs r16, 0 | rjmp wait | rjmp again
 call                         44 none: ldi r16, 0x10 | out 0x3E, r16 | ldi r16, 0xFF | out 0x3D, r16 | again: | call sub | rjmp again | sub: | ret
-rcall                        58 none: ldi r16, 0x10 | out 0x3E, r16 | ldi r16, 0xFF | out 0x3D, r16 | again: | rcall sub | rjmp again | sub: | ret
-icall                        57 none: ldi r16, 0x10 | out 0x3E, r16 | ldi r16, 0xFF | out 0x3D, r16 | ldi r30, 8 | ldi r31, 0 | again: | icall | rjmp again | sub: | ret
-load_post_increment          40 none: again: | ldi r26, 0 | ldi r27, 2 | ldi r28, 0 | ldi r29, 3 | ld r20, X+ | ld r20, X+ | ld r20, X+ | ld r20, X+ | ld r20, X+ | ld r20, X+ | ld r20, X+ | ld r20, X+ | ld r20, X+ | ld r20, X+ | ld r20, X+ | ld r20, X+ | rjmp again
+rcall                        46 none: ldi r16, 0x10 | out 0x3E, r16 | ldi r16, 0xFF | out 0x3D, r16 | again: | rcall sub | rjmp again | sub: | ret
+icall                        46 none: ldi r16, 0x10 | out 0x3E, r16 | ldi r16, 0xFF | out 0x3D, r16 | ldi r30, 8 | ldi r31, 0 | again: | icall | rjmp again | sub: | ret
+load_post_increment          30 none: again: | ldi r26, 0 | ldi r27, 2 | ldi r28, 0 | ldi r29, 3 | ld r20, X+ | ld r20, X+ | ld r20, X+ | ld r20, X+ | ld r20, X+ | ld r20, X+ | ld r20, X+ | ld r20, X+ | ld r20, X+ | ld r20, X+ | ld r20, X+ | ld r20, X+ | rjmp again
 store_pre_decrement          49 none: again: | ldi r26, 0 | ldi r27, 2 | ldi r28, 0 | ldi r29, 3 | st -Y, r20 | st -Y, r20 | st -Y, r20 | st -Y, r20 | st -Y, r20 | st -Y, r20 | st -Y, r20 | st -Y, r20 | st -Y, r20 | st -Y, r20 | st -Y, r20 | st -Y, r20 | rjmp again
 load_displaced               29 none: again: | ldi r26, 0 | ldi r27, 2 | ldi r28, 0 | ldi r29, 3 | ldd r20, Y+5 | ldd r20, Y+5 | ldd r20, Y+5 | ldd r20, Y+5 | ldd r20, Y+5 | ldd r20, Y+5 | ldd r20, Y+5 | ldd r20, Y+5 | ldd r20, Y+5 | ldd r20, Y+5 | ldd r20, Y+5 | ldd r20, Y+5 | rjmp again
 load_flash                   27 none: again: | ldi r30, 0 | ldi r31, 0 | lpm r20, Z+ | lpm r20, Z+ | lpm r20, Z+ | lpm r20, Z+ | lpm r20, Z+ | lpm r20, Z+ | lpm r20, Z+ | lpm r20, Z+ | lpm r20, Z+ | lpm r20, Z+ | lpm r20, Z+ | lpm r20, Z+ | rjmp again
