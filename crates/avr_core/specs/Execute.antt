@@ -126,15 +126,23 @@ pushed_as (Err cause) = Err cause
 -- asked
 abbrev pub accesses_sram : Op → Cpu → Bool
 accesses_sram (op.Call k) cpu = calls_by_sram cpu.sp
+accesses_sram (op.Rcall k) cpu = calls_by_sram cpu.sp
+accesses_sram op.Icall cpu = calls_by_sram cpu.sp
 accesses_sram op.Ret cpu = returns_by_sram cpu.sp
 accesses_sram (op.LdX d) cpu = in_sram (pair_at x cpu)
 accesses_sram (op.LddY d q) cpu = in_sram (displaced y q cpu)
 accesses_sram (op.LddZ d q) cpu = in_sram (displaced z q cpu)
 accesses_sram (op.Lds d k) cpu = in_sram k
+accesses_sram (op.LdXInc d) cpu = in_sram (pair_at x cpu)
+accesses_sram (op.LdYInc d) cpu = in_sram (pair_at y cpu)
+accesses_sram (op.LdZInc d) cpu = in_sram (pair_at z cpu)
 accesses_sram (op.StX r) cpu = in_sram (pair_at x cpu)
 accesses_sram (op.StdY q r) cpu = in_sram (displaced y q cpu)
 accesses_sram (op.StdZ q r) cpu = in_sram (displaced z q cpu)
 accesses_sram (op.Sts k r) cpu = in_sram k
+accesses_sram (op.StXInc r) cpu = in_sram (pair_at x cpu)
+accesses_sram (op.StYInc r) cpu = in_sram (pair_at y cpu)
+accesses_sram (op.StZInc r) cpu = in_sram (pair_at z cpu)
 accesses_sram (op.Push r) cpu = in_sram cpu.sp
 accesses_sram (op.Pop d) cpu = in_sram ((cpu.sp + 1) % 65536)
 accesses_sram _ cpu = false

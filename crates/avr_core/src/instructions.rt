@@ -8,10 +8,10 @@ ghost use Rattle.avr_core.specs.FlowShapes.{branched};
 ghost use Rattle.avr_core.specs.Execute.{after_at, after_branch, after_cycles, after_jump, after_of, executed_over, is_plain, is_short_back, left_by};
 
 use crate::accesses::{
-    displaced, io_address, load_at, load_post_increment, load_pre_decrement, retire, set_bit,
-    store_at, store_post_increment, store_pre_decrement,
+    displaced, io_address, load_at, load_pre_decrement, retire, set_bit, store_at,
+    store_pre_decrement,
 };
-use crate::calls::{call_at_z, call_near, reti, z_pointer};
+use crate::calls::{reti, z_pointer};
 use crate::flash::{
     load_extended, load_extended_post_increment, load_program, load_program_post_increment,
 };
@@ -20,7 +20,9 @@ use crate::shapes::{
     add, compare, compare_with_carry, copy, copy_pair, load_bit, multiply, put_bits, put_byte,
     put_word, set_flag, store_bit, subtract, subtract_with_carry, swap,
 };
-use crate::sram_accesses::{Accessed, called, load, pop, push, returned, store};
+use crate::sram_accesses::{
+    Accessed, called, called_at_z, called_near, load, load_on, pop, push, returned, store, store_on,
+};
 use arith_step::{MulKind, adiw, asr, com, dec, inc, lsr, neg, ror, sbiw};
 use avr_base::{Reg, Sreg, StopCause};
 use avr_decoder::{Class, Op};
@@ -269,17 +271,17 @@ pub fn execute_plain<P: ProgramMemory, B: Bus>(
             bus,
         )),
         Op::Call { k } => accessed(called(k, regs, core, bus)),
-        Op::Rcall { k } => stored(call_near(k, regs, core, bus)),
-        Op::Icall => stored(call_at_z(regs, core, bus)),
+        Op::Rcall { k } => accessed(called_near(k, regs, core, bus)),
+        Op::Icall => accessed(called_at_z(regs, core, bus)),
         Op::Ret => accessed(returned(regs, core, bus)),
         Op::LdX { d } => accessed(load(d, pair(regs, x), 1, 2, regs, core, bus)),
         Op::LddY { d, q } => accessed(load(d, displaced(y, q, regs), 1, 2, regs, core, bus)),
         Op::LddZ { d, q } => accessed(load(d, displaced(z, q, regs), 1, 2, regs, core, bus)),
         Op::Lds { d, k } => accessed(load(d, k, 2, 2, regs, core, bus)),
         Op::InIo { d, a } => loaded(load_at(d, io_address(a), 1, 1, regs, core, bus)),
-        Op::LdXInc { d } => loaded(load_post_increment(d, x, regs, core, bus)),
-        Op::LdYInc { d } => loaded(load_post_increment(d, y, regs, core, bus)),
-        Op::LdZInc { d } => loaded(load_post_increment(d, z, regs, core, bus)),
+        Op::LdXInc { d } => accessed(load_on(d, x, regs, core, bus)),
+        Op::LdYInc { d } => accessed(load_on(d, y, regs, core, bus)),
+        Op::LdZInc { d } => accessed(load_on(d, z, regs, core, bus)),
         Op::LdXDec { d } => loaded(load_pre_decrement(d, x, regs, core, bus)),
         Op::LdYDec { d } => loaded(load_pre_decrement(d, y, regs, core, bus)),
         Op::LdZDec { d } => loaded(load_pre_decrement(d, z, regs, core, bus)),
@@ -304,9 +306,9 @@ pub fn execute_plain<P: ProgramMemory, B: Bus>(
         )),
         Op::Sts { k, r } => accessed(store(k, reg(regs, r), 2, 2, regs, core, bus)),
         Op::OutIo { a, r } => stored(store_at(io_address(a), reg(regs, r), 1, 1, regs, core, bus)),
-        Op::StXInc { r } => stored(store_post_increment(x, r, regs, core, bus)),
-        Op::StYInc { r } => stored(store_post_increment(y, r, regs, core, bus)),
-        Op::StZInc { r } => stored(store_post_increment(z, r, regs, core, bus)),
+        Op::StXInc { r } => accessed(store_on(x, r, regs, core, bus)),
+        Op::StYInc { r } => accessed(store_on(y, r, regs, core, bus)),
+        Op::StZInc { r } => accessed(store_on(z, r, regs, core, bus)),
         Op::StXDec { r } => stored(store_pre_decrement(x, r, regs, core, bus)),
         Op::StYDec { r } => stored(store_pre_decrement(y, r, regs, core, bus)),
         Op::StZDec { r } => stored(store_pre_decrement(z, r, regs, core, bus)),

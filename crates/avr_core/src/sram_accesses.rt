@@ -2,17 +2,19 @@
 // instructions looks at nothing. Each is executed by the one text that `accesses` and `calls` have, which stands in both
 // branches, since the host's code of the one then has no device in it. A call's two pushes stand apart.
 ghost use Rattle.std.specs.Prelude.{◌≡◌, ◌+◌, ◌%◌, if◌then◌else◌, true, false, IfOk, OnErr};
-ghost use Rattle.data_space.specs.Core.{pair_at, whole};
+ghost use Rattle.data_space.specs.Core.{general, pair_at, whole};
 ghost use Rattle.data_space.specs.Sequence.{pushed_word};
-ghost use Rattle.avr_core.specs.FlowShapes.{calls, returns};
-ghost use Rattle.avr_core.specs.MemoryShapes.{loads, pops, pushes, stores};
+ghost use Rattle.avr_core.specs.FlowShapes.{calls, relative, returns};
+ghost use Rattle.avr_core.specs.MemoryShapes.{loads, loads_post_increment, pops, pushes, stores, stores_post_increment};
 ghost use Rattle.avr_core.specs.declared.instructions.After.TheVariants as after;
 ghost use Rattle.avr_core.specs.Execute.{after_access, calls_by_sram, pushed_as, returns_by_sram};
 
-use crate::accesses::{load_at, pop_reg, push_reg, store_at};
-use crate::calls::{call, ret};
+use crate::accesses::{
+    load_at, load_post_increment, pop_reg, push_reg, store_at, store_post_increment,
+};
+use crate::calls::{call, call_at_z, call_near, ret, z_pointer};
 use crate::instructions::After;
-use crate::jumps::jump;
+use crate::jumps::{jump, relative_to};
 use crate::sram::is_in_sram;
 use avr_base::{Reg, StopCause};
 use data_space::{Bus, Core, Done, Registers, pair, push_both};
@@ -70,6 +72,42 @@ pub fn store<B: Bus>(
         After::Store,
         store_at(at, byte, words, cycles, regs, core, bus),
     )
+}
+
+/// LD rD, P+, as [`load_post_increment`].
+#[inline]
+pub fn load_on<B: Bus>(
+    d: Reg,
+    p: Reg,
+    regs: &mut Registers,
+    core: &mut Core,
+    bus: &mut B,
+) -> Accessed
+    ensures after { result.0 ≡ after_access after.Loaded (pair_at p (general regs.old)) }
+    ensures outcome { record { result = result.1; cpu = whole regs.new core.new; bus = bus.new } ≡ loads_post_increment B.get_gives d p (whole regs.old core.old) bus.old }
+{
+    if is_in_sram(pair(regs, p)) {
+        return (After::Nothing, load_post_increment(d, p, regs, core, bus));
+    }
+    (After::Loaded, load_post_increment(d, p, regs, core, bus))
+}
+
+/// ST P+, rR, as [`store_post_increment`].
+#[inline]
+pub fn store_on<B: Bus>(
+    p: Reg,
+    r: Reg,
+    regs: &mut Registers,
+    core: &mut Core,
+    bus: &mut B,
+) -> Accessed
+    ensures after { result.0 ≡ after_access after.Store (pair_at p (general regs.old)) }
+    ensures outcome { record { result = result.1; cpu = whole regs.new core.new; bus = bus.new } ≡ stores_post_increment B.put_gives p r (whole regs.old core.old) bus.old }
+{
+    if is_in_sram(pair(regs, p)) {
+        return (After::Nothing, store_post_increment(p, r, regs, core, bus));
+    }
+    (After::Store, store_post_increment(p, r, regs, core, bus))
 }
 
 /// PUSH rR.
@@ -132,6 +170,36 @@ pub fn called<B: Bus>(k: u16, regs: &mut Registers, core: &mut Core, bus: &mut B
     match push_by_sram(regs, *core, bus, back) {
         Ok(true) => (After::Nothing, Ok(jump(4, k, core))),
         Ok(false) => (After::Store, call(k, regs, core, bus)),
+        Err(cause) => (After::Nothing, Err(cause)),
+    }
+}
+
+/// RCALL of the word address `k` words behind the next word, as [`call_near`].
+#[inline]
+#[tactic(auto, unfolding(crate::specs::FlowShapes::calls))]
+pub fn called_near<B: Bus>(k: i16, regs: &mut Registers, core: &mut Core, bus: &mut B) -> Accessed
+    ensures after { result.0 ≡ (if calls_by_sram regs.old.sp then after.Nothing else after.Store) }
+    ensures outcome { record { result = result.1; cpu = whole regs.new core.new; bus = bus.new } ≡ calls B.put_gives 3 1 (relative k) (whole regs.old core.old) bus.old }
+{
+    let back = core.pc.wrapping_add(1);
+    match push_by_sram(regs, *core, bus, back) {
+        Ok(true) => (After::Nothing, Ok(jump(3, relative_to(k, core), core))),
+        Ok(false) => (After::Store, call_near(k, regs, core, bus)),
+        Err(cause) => (After::Nothing, Err(cause)),
+    }
+}
+
+/// ICALL, as [`call_at_z`].
+#[inline]
+#[tactic(auto, unfolding(crate::specs::FlowShapes::calls))]
+pub fn called_at_z<B: Bus>(regs: &mut Registers, core: &mut Core, bus: &mut B) -> Accessed
+    ensures after { result.0 ≡ (if calls_by_sram regs.old.sp then after.Nothing else after.Store) }
+    ensures outcome { record { result = result.1; cpu = whole regs.new core.new; bus = bus.new } ≡ calls B.put_gives 3 1 (pair_at 30) (whole regs.old core.old) bus.old }
+{
+    let back = core.pc.wrapping_add(1);
+    match push_by_sram(regs, *core, bus, back) {
+        Ok(true) => (After::Nothing, Ok(jump(3, z_pointer(regs), core))),
+        Ok(false) => (After::Store, call_at_z(regs, core, bus)),
         Err(cause) => (After::Nothing, Err(cause)),
     }
 }

@@ -6,7 +6,7 @@ use Rattle.avr_timers.specs.declared.timer_counter.TimerCounter.{TimerCounter}
 use Rattle.avr_timers.specs.declared.flags.TimerFlags.{TimerFlags}
 use Rattle.avr_timers.specs.Timer as counter
 use Rattle.avr_timers.proofs.Timers as counters
-use Rattle.avr_timers.specs.Timer8.{cleared, counter_of, flags_of, sets_flag_at, timer_cycle, with_counter}
+use Rattle.avr_timers.specs.Timer8.{changes_flag_at, cleared, counter_of, flags_of, sets_flag_at, timer_cycle, with_counter}
 use Rattle.avr_timers.specs.declared.timer8.Timer8.{Timer8}
 
 clock-of : (tm : Timer8) (b : Bool) → counter_of (with_counter tm (cond b (counter.clock (counter_of tm)) (counter_of tm))) ≡ cond b (counter.clock (counter_of tm)) (counter_of tm)
@@ -51,6 +51,16 @@ count_within t n tm l =
 -- the flags stay until a cycle sets one
 pub flags-until : (t n : ℕ) (tm : Timer8) → ((i : ℕ) → i < n → sets_flag_at t tm i ≡ false) → flags_of (cycles timer_cycle t n tm) ≡ flags_of tm
 flags-until t n tm none = ap (λ (c : TimerCounter). c.flags) (cycles-of t n tm) ∙ counters.flags-until t n (counter_of tm) none
+
+-- and until one sets one that is not set
+pub flags-unchanged : (t n : ℕ) (tm : Timer8) → ((i : ℕ) → i < n → changes_flag_at t tm i ≡ false) → flags_of (cycles timer_cycle t n tm) ≡ flags_of tm
+flags-unchanged t n tm none = ap (λ (c : TimerCounter). c.flags) (cycles-of t n tm) ∙ counters.flags-unchanged t n (counter_of tm) none
+
+pub changes-none : (t n : ℕ) (tm : Timer8) → sets_flag_at t tm n ≡ false → changes_flag_at t tm n ≡ false
+changes-none t n tm e = counters.changes-none t n (counter_of tm) e
+
+pub changes-stopped : (t n : ℕ) (tm : Timer8) → tm.select ≡ 0 → changes_flag_at t tm n ≡ false
+changes-stopped t n tm e = counters.changes-stopped t n (counter_of tm) e
 
 -- a halted timer stays as it is
 pub cycles-stopped : (t n : ℕ) (tm : Timer8) → tm.select ≡ 0 → cycles timer_cycle t n tm ≡ tm

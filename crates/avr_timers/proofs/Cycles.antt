@@ -33,6 +33,11 @@ first-next f sets x u w none is first =
     first-shift (λ k. sets (many f k x)) w (ap sets (many-zero f x) ∙ none)
     (first-same (λ k. sets (many f k u)) (λ k. sets (many f (suc k) x)) (Some w) (λ k. ap sets (ap (many f k) is ∙ sym (many-first f k x))) first)
 
+-- and where no other follows
+pub never-next : {A : Type 0} (f : A → A) (sets : A → Bool) (x u : A) → sets x ≡ false → u ≡ f x → ((k : ℕ) → sets (many f k u) ≡ false) → (k : ℕ) → sets (many f k x) ≡ false
+never-next f sets x u none is never zero = ap sets (many-zero f x) ∙ none
+never-next f sets x u none is never (suc k) = ap sets (many-first f k x ∙ ap (many f k) (sym is)) ∙ never k
+
 -- ---- many cycles
 -- n cycles, and then m more
 pub cycles-add : {A : Type 0} (step : ℕ → A → A) (t n m : ℕ) (x : A) → cycles step t (n + m) x ≡ cycles step (t + n) m (cycles step t n x)
@@ -45,6 +50,10 @@ cycles-add step t n (suc m) x =
 
 quotient-later : (d t n : ℕ) → 0 < d → t / d ≤ (t + n) / d
 quotient-later d t n positive = le-div (t / d) (t + n) d positive (omega (arith, div-mul-le_self t d))
+
+and_off : (b : Bool) → (b && false) ≡ false
+and_off true = refl
+and_off false = refl
 
 and_none : (a b : Bool) → ((a && false) && b) ≡ false
 and_none true b = refl
@@ -120,6 +129,13 @@ module _ {A : Type 0} (divider : A → ℕ) (clock : A → A) (keeps : (x : A) �
       → First (λ k. sets (many clock k x)) (Some w) → First (sets_at divider clock sets t x) (Some (e - t))
   first-cycle sets t d w e x is positive at later first =
       (first-cycle-at sets t d w e x is positive at later first.0, λ i l. first-cycle-before sets t d w e i x is positive at later first.1 l)
+
+  -- where no clock sets a flag, no cycle does
+  pub never-cycle : (sets : A → Bool) (t d n : ℕ) (x : A) → divider x ≡ d → 0 < d → ((k : ℕ) → sets (many clock k x) ≡ false) → sets_at divider clock sets t x n ≡ false
+  unfolding sets_at
+  never-cycle sets t d n x is positive never =
+      ap (λ y. clocked (divider x) (t + n) && sets y) (cycles-clocks t n d x is positive)
+      ∙ (ap (λ b. clocked (divider x) (t + n) && b) (never ((t + n) / d - t / d)) ∙ and_off (clocked (divider x) (t + n)))
 
   -- ---- what stays until then
   divider-cycles : (t n : ℕ) (x : A) → divider (cycles (prescaled divider clock) t n x) ≡ divider x

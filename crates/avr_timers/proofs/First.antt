@@ -1,5 +1,5 @@
 -- The first number at which a test holds: of two tests, of a test one clock later, and the flag that it sets.
-use Rattle.std.proofs.Common.{◌≡◌, ℕ, zero, suc, ◌+◌, ◌<◌, nat_lt, add-one, Bool, true, false, ◌||◌, Option, Some, None, refl, sym, ap, ◌∙◌, arith, inl, inr}
+use Rattle.std.proofs.Common.{◌≡◌, ℕ, zero, suc, ◌+◌, ◌<◌, ◌≤◌, nat_lt, add-one, if◌then◌else◌, Bool, true, false, ◌&&◌, ◌||◌, not, Option, Some, None, IfSome, refl, sym, ap, ◌∙◌, arith, inl, inr}
 use Rattle.std.proofs.lemmas.Bool.{cases_lt, cases_order, lt-ltb, le-ltb}
 use Rattle.std.proofs.lemmas.Bool.Decides.{nat_tests}
 use Rattle.avr_timers.specs.First.{First, earlier_of, is_before, seen}
@@ -36,6 +36,37 @@ either-false a b e f = ap (λ x. x || b) e ∙ f
 either-true : (a b : Bool) → b ≡ true → (a || b) ≡ true
 either-true true b f = refl
 either-true false b f = f
+
+seen-on : (p : ℕ → Bool) (k : ℕ) → seen true p k ≡ true
+unfolding seen
+seen-on p zero = refl
+seen-on p (suc k) = ap (λ b. b || p k) (seen-on p k)
+
+and-off : (b : Bool) → (b && false) ≡ false
+and-off true = refl
+and-off false = refl
+
+-- the first number that sets a flag that is not set: none where it is set
+pub first-unset : (flag : Bool) (p : ℕ → Bool) (o : Option ℕ) → First p o → First (λ k. p k && not (seen flag p k)) (if flag then None else o)
+first-unset true p o first = λ i. ap (λ b. p i && not b) (seen-on p i) ∙ and-off (p i)
+first-unset false p None first = λ i. ap (λ b. b && not (seen false p i)) (first i)
+first-unset false p (Some w) first =
+    let unseen : seen false p w ≡ false = seen-first false p (Some w) w first ∙ le-ltb w w (omega arith) in
+    (ap (λ b. b && not (seen false p w)) first.0 ∙ ap not unseen, λ i l. ap (λ b. b && not (seen false p i)) (first.1 i l))
+
+-- of two numbers with a bound, the lesser has it
+pub earlier-within : (a b : Option ℕ) (most : ℕ) → IfSome a (λ w. w ≤ most) → IfSome b (λ w. w ≤ most) → IfSome (earlier_of a b) (λ w. w ≤ most)
+earlier-within None b most e f = f
+earlier-within (Some v) None most e f = e
+earlier-within (Some v) (Some w) most e f = pick (nat_lt v w)
+  where
+    pick : (sooner : Bool) → IfSome (if sooner then Some v else Some w) (λ x. x ≤ most)
+    pick true = e
+    pick false = f
+
+pub unset-within : (flag : Bool) (o : Option ℕ) (most : ℕ) → IfSome o (λ w. w ≤ most) → IfSome (if flag then None else o) (λ w. w ≤ most)
+unset-within true o most e = tt
+unset-within false o most e = e
 
 -- the first number at which one of two tests holds
 pub first-either : (p q : ℕ → Bool) (a b : Option ℕ) → First p a → First q b → First (λ i. p i || q i) (earlier_of a b)

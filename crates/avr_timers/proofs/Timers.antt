@@ -5,14 +5,14 @@ use Rattle.avr_timers.specs.Clock.{clocked, clocks_of, cycles, many, sets_at}
 use Rattle.avr_timers.specs.Counter.{path}
 use Rattle.avr_timers.specs.First.{First, earlier_of, is_before, seen}
 use Rattle.avr_timers.proofs.Cycles.{counted-until, cycles-clocks, cycles-halted, kept-until, many-zero, moved-until}
-use Rattle.avr_timers.proofs.First.{first-same, first-either, seen-first}
-use Rattle.avr_timers.proofs.Calm.{flags_or-none}
+use Rattle.avr_timers.proofs.First.{first-same, first-either, first-unset, seen-first}
+use Rattle.avr_timers.proofs.Calm.{flags_or-none, flags_or-set, without-none}
 use Rattle.avr_timers.specs.declared.flags.TimerFlags.{TimerFlags}
 use Rattle.avr_timers.specs.declared.prescaler.Prescaler.{Prescaler}
 use Rattle.avr_timers.specs.declared.prescaler.Prescaler.TheVariants.{Own, Shared}
 use Rattle.avr_timers.specs.declared.timer_counter.TimerCounter.{TimerCounter}
 use Rattle.avr_timers.specs.Prescaler.{divider_of}
-use Rattle.avr_timers.specs.Timer.{clock, counter_cycle, divider, meets, set_flags, sets, sets_flag_at, top, top_of, count_at}
+use Rattle.avr_timers.specs.Timer.{changes, changes_flag_at, clock, counter_cycle, divider, meets, set_flags, sets, sets_flag_at, top, top_of, count_at}
 
 -- whether it stands at a value after k clocks, none blocked
 abbrev pub at : TimerCounter → Option ℕ → ℕ → Bool
@@ -72,6 +72,29 @@ first-ran c x r s t i e fx fr fs ft fi =
     (first-either (λ j. count_at c j == c.maximum || count_at c j == c.compare_a || at c c.compare_b j) (at c c.compare_c) (earlier_of (earlier_of x r) s) t
     (first-either (λ j. count_at c j == c.maximum || count_at c j == c.compare_a) (at c c.compare_b) (earlier_of x r) s
     (first-either (λ j. count_at c j == c.maximum) (λ j. count_at c j == c.compare_a) x r fx fr) fs) ft) fi)
+
+-- whether it sets one that is not set
+abbrev changes_after : TimerCounter → ℕ → Bool
+changes_after c k = (count_at c k == c.maximum && not (seen c.flags.tov (λ i. count_at c i == c.maximum) k)) || (count_at c k == c.compare_a && not (seen c.flags.ocf_a (λ i. count_at c i == c.compare_a) k)) || (at c c.compare_b k && not (seen c.flags.ocf_b (at c c.compare_b) k)) || (at c c.compare_c k && not (seen c.flags.ocf_c (at c c.compare_c) k)) || (at c c.icr k && not (seen c.flags.icf (at c c.icr) k))
+
+-- the first clock that does, none blocked
+pub first-changed : (c : TimerCounter) (x r s t i : Option ℕ) → c.match_blocked ≡ false
+    → First (λ j. count_at c j == c.maximum) x → First (λ j. count_at c j == c.compare_a) r → First (at c c.compare_b) s → First (at c c.compare_c) t → First (at c c.icr) i
+    → First (λ k. changes (many clock k c)) (earlier_of (earlier_of (earlier_of (earlier_of (if c.flags.tov then None else x) (if c.flags.ocf_a then None else r)) (if c.flags.ocf_b then None else s)) (if c.flags.ocf_c then None else t)) (if c.flags.icf then None else i))
+first-changed c x r s t i e fx fr fs ft fi =
+    let tov : ℕ → Bool = λ k. count_at c k == c.maximum && not (seen c.flags.tov (λ j. count_at c j == c.maximum) k) in
+    let ocf_a : ℕ → Bool = λ k. count_at c k == c.compare_a && not (seen c.flags.ocf_a (λ j. count_at c j == c.compare_a) k) in
+    let ocf_b : ℕ → Bool = λ k. at c c.compare_b k && not (seen c.flags.ocf_b (at c c.compare_b) k) in
+    let ocf_c : ℕ → Bool = λ k. at c c.compare_c k && not (seen c.flags.ocf_c (at c c.compare_c) k) in
+    let icf : ℕ → Bool = λ k. at c c.icr k && not (seen c.flags.icf (at c c.icr) k) in
+    first-same (changes_after c) (λ k. changes (many clock k c)) _
+    (λ k. sym (ap changes (many-clock c k e)))
+    (first-either (λ k. tov k || ocf_a k || ocf_b k || ocf_c k) icf _ _
+    (first-either (λ k. tov k || ocf_a k || ocf_b k) ocf_c _ _
+    (first-either (λ k. tov k || ocf_a k) ocf_b _ _
+    (first-either tov ocf_a _ _
+    (first-unset c.flags.tov (λ j. count_at c j == c.maximum) x fx) (first-unset c.flags.ocf_a (λ j. count_at c j == c.compare_a) r fr))
+    (first-unset c.flags.ocf_b (at c c.compare_b) s fs)) (first-unset c.flags.ocf_c (at c c.compare_c) t ft)) (first-unset c.flags.icf (at c c.icr) i fi))
 
 -- one of two events that comes
 either_comes : (sooner : Bool) (v w : ℕ) → IsSome (if sooner then Some v else Some w)
@@ -147,6 +170,23 @@ calm c e = flags_or-none c.flags (set_flags c) e
 -- the flags stay until a cycle sets one
 pub flags-until : (t n : ℕ) (c : TimerCounter) → ((i : ℕ) → i < n → sets_flag_at t c i ≡ false) → (cycles counter_cycle t n c).flags ≡ c.flags
 flags-until t n c none = kept-until divider clock keeps (λ (u : TimerCounter). u.flags) sets calm t n c none
+
+-- and so does one that sets only flags that are set
+unchanged : (c : TimerCounter) → changes c ≡ false → (clock c).flags ≡ c.flags
+unfolding clock
+unchanged c e = flags_or-set c.flags (set_flags c) e
+
+pub flags-unchanged : (t n : ℕ) (c : TimerCounter) → ((i : ℕ) → i < n → changes_flag_at t c i ≡ false) → (cycles counter_cycle t n c).flags ≡ c.flags
+flags-unchanged t n c none = kept-until divider clock keeps (λ (u : TimerCounter). u.flags) changes unchanged t n c none
+
+-- a cycle that sets no flag sets none that is not set
+set-none : (on : Bool) (c : TimerCounter) → (on && sets c) ≡ false → (on && changes c) ≡ false
+set-none true c e = without-none (set_flags c) c.flags e
+set-none false c e = refl
+
+pub changes-none : (t n : ℕ) (c : TimerCounter) → sets_flag_at t c n ≡ false → changes_flag_at t c n ≡ false
+unfolding sets_at
+changes-none t n c e = set-none (clocked (divider c) (t + n)) (cycles counter_cycle t n c) e
 
 -- and counts on
 never_both : (b : Bool) → (b && false) ≡ false
@@ -234,6 +274,14 @@ undivided p s e = ap (divider_of p) e ∙ halted p
 pub sets-stopped : (t n : ℕ) (c : TimerCounter) → c.select ≡ 0 → sets_flag_at t c n ≡ false
 unfolding sets_at
 sets-stopped t n c e = let d : divider c ≡ 0 = undivided c.prescaler c.select e in rw d refl
+
+pub changes-stopped : (t n : ℕ) (c : TimerCounter) → c.select ≡ 0 → changes_flag_at t c n ≡ false
+unfolding sets_at
+changes-stopped t n c e = let d : divider c ≡ 0 = undivided c.prescaler c.select e in rw d refl
+
+pub changes-halted : (t n : ℕ) (c : TimerCounter) → divider c ≡ 0 → changes_flag_at t c n ≡ false
+unfolding sets_at
+changes-halted t n c d = rw d refl
 
 -- a halted counter stays as it is
 pub cycles-stopped : (t n : ℕ) (c : TimerCounter) → c.select ≡ 0 → cycles counter_cycle t n c ≡ c

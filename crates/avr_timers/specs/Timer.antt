@@ -5,7 +5,7 @@ use Rattle.avr_timers.specs.declared.flags.TimerFlags.{TimerFlags}
 use Rattle.avr_timers.specs.declared.timer_counter.TimerCounter.{TimerCounter}
 use Rattle.avr_timers.specs.Clock.{prescaled, sets_at}
 use Rattle.avr_timers.specs.Counter.{path, stepped}
-use Rattle.avr_timers.specs.Flags.{any_flag, flags_or}
+use Rattle.avr_timers.specs.Flags.{any_flag, flags_or, flags_without}
 use Rattle.avr_timers.specs.Prescaler.{divider_of}
 
 abbrev pub divider : TimerCounter → ℕ
@@ -38,6 +38,10 @@ set_flags c = record {
 abbrev pub sets : TimerCounter → Bool
 sets c = any_flag (set_flags c)
 
+-- whether a clock sets a flag that is not set
+abbrev pub changes : TimerCounter → Bool
+changes c = any_flag (flags_without (set_flags c) c.flags)
+
 -- one clock
 unfoldable pub clock : TimerCounter → TimerCounter
 clock c = record c {
@@ -53,6 +57,10 @@ counter_cycle = prescaled divider clock
 -- whether cycle t + n sets a flag, of a counter that is c when cycle t begins
 abbrev pub sets_flag_at : ℕ → TimerCounter → ℕ → Bool
 sets_flag_at = sets_at divider clock sets
+
+-- whether cycle t + n sets a flag that is not set, of a counter that is c when cycle t begins
+abbrev pub changes_flag_at : ℕ → TimerCounter → ℕ → Bool
+changes_flag_at = sets_at divider clock changes
 
 -- the count after k clocks, none blocked
 unfoldable pub count_at : TimerCounter → ℕ → ℕ

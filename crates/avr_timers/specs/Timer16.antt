@@ -65,6 +65,10 @@ timer_cycle t tm = with_counter tm (counter.counter_cycle t (counter_of tm))
 abbrev pub sets_flag_at : ℕ → Timer16 → ℕ → Bool
 sets_flag_at t tm = counter.sets_flag_at t (counter_of tm)
 
+-- whether it sets one that is not set
+abbrev pub changes_flag_at : ℕ → Timer16 → ℕ → Bool
+changes_flag_at t tm = counter.changes_flag_at t (counter_of tm)
+
 -- with some flags cleared
 abbrev pub cleared : Timer16 → TimerFlags → Timer16
 cleared tm f = record tm { flags = flags_without tm.flags f }

@@ -43,6 +43,10 @@ timer_cycle t tm = with_counter tm (counter.counter_cycle t (counter_of tm))
 abbrev pub sets_flag_at : ℕ → Timer8 → ℕ → Bool
 sets_flag_at t tm = counter.sets_flag_at t (counter_of tm)
 
+-- whether it sets one that is not set
+abbrev pub changes_flag_at : ℕ → Timer8 → ℕ → Bool
+changes_flag_at t tm = counter.changes_flag_at t (counter_of tm)
+
 -- with some flags cleared
 abbrev pub cleared : Timer8 → TimerFlags → Timer8
 cleared tm f = record tm { tov = tm.tov && not f.tov; ocf_a = tm.ocf_a && not f.ocf_a }

@@ -29,9 +29,9 @@ impl TimerFlags {
         icf: false,
     };
 
-    // Whether one is set.
+    /// Whether one is set.
     #[inline(always)]
-    fn any(self) -> bool
+    pub fn any(self) -> bool
         ensures { result ≡ any_flag self }
     {
         self.tov || self.ocf_a || self.ocf_b || self.ocf_c || self.icf

@@ -21,7 +21,7 @@ mod timer_counter;
 
 pub use clock::{clocks_in, cycle_of_clock, has_clock};
 pub use counter::{clocks_until, count_after, stepped};
-pub use event::{earlier, flag_after};
+pub use event::{earlier, flag_after, unless_set};
 pub use flags::TimerFlags;
 pub use mode::Mode16;
 pub use prescaler::Prescaler;

@@ -1,5 +1,5 @@
 // The timer, cycle by cycle and in leaps.
-ghost use Rattle.std.specs.Prelude.{◌≡◌, ◌≤◌, ◌<◌, ◌+◌, ◌-◌, ◌^◌, ◌↔◌, ℕ, false, None, Some, IfSome};
+ghost use Rattle.std.specs.Prelude.{◌≡◌, ◌≤◌, ◌<◌, ◌+◌, ◌-◌, ◌^◌, ◌↔◌, ℕ, false, None, Some, IfNone, IfSome};
 ghost use Rattle.avr_timers.specs.Clock.{cycles, many};
 ghost use Rattle.avr_timers.specs.First.{First};
 ghost use Rattle.avr_timers.specs.Timer as counter;
@@ -36,7 +36,7 @@ pub struct Timer16 {
 }
 
 impl Timer16 {
-    ghost use Rattle.avr_timers.specs.Timer16.{clears_at_compare, clears_at_icr, cleared, counter_of, reset_timer, sets_flag_at, timer_cycle, with_counter};
+    ghost use Rattle.avr_timers.specs.Timer16.{changes_flag_at, clears_at_compare, clears_at_icr, cleared, counter_of, reset_timer, sets_flag_at, timer_cycle, with_counter};
 
     /// A timer after reset: halted, with all registers and flags 0.
     pub fn new() -> Timer16
@@ -189,5 +189,16 @@ impl Timer16 {
         ensures first { IfSome result (λ e. First (sets_flag_at cycle self.now) (Some (e - cycle))) }
     {
         self.counter().next_event(cycle)
+    }
+
+    /// The first cycle from `cycle` on whose tick sets a flag that is not set. `None` exactly where none does, as of a
+    /// timer that is halted.
+    pub fn next_change(&self, cycle: u64) -> Option<u64>
+        requires { cycle ≤ 2 ^ 40 }
+        ensures never { IfNone result ((i : ℕ) → changes_flag_at cycle self.now i ≡ false) }
+        ensures later { IfSome result (λ e. cycle ≤ e) }
+        ensures first { IfSome result (λ e. First (changes_flag_at cycle self.now) (Some (e - cycle))) }
+    {
+        self.counter().next_change(cycle)
     }
 }

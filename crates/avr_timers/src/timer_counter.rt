@@ -1,12 +1,12 @@
 // The counter of a timer, cycle by cycle and in leaps.
-ghost use Rattle.std.specs.Prelude.{◌≡◌, ◌≤◌, ◌<◌, ◌+◌, ◌-◌, ◌^◌, ◌↔◌, ◌==◌, true, false, is_some, None, Some, IsSome, IfSome};
+ghost use Rattle.std.specs.Prelude.{◌≡◌, ◌≤◌, ◌<◌, ◌+◌, ◌-◌, ◌^◌, ◌↔◌, ◌==◌, ℕ, true, false, is_some, None, Some, IsSome, IfSome, IfNone};
 ghost use Rattle.avr_timers.specs.Clock.{many};
 ghost use Rattle.avr_timers.specs.First.{First};
 ghost use Rattle.avr_timers.specs.Timer.{meets};
 
 use crate::{
     Prescaler, TimerFlags, clocks_until, count_after, cycle_of_clock, earlier, flag_after,
-    has_clock, stepped,
+    has_clock, stepped, unless_set,
 };
 
 /// The counter of a timer of eight or sixteen bits, behind its prescaler, which counts from 0 in cycle 0 and is never
@@ -49,7 +49,7 @@ fn meets(match_blocked: bool, count: u16, value: Option<u16>) -> bool
 }
 
 impl TimerCounter {
-    ghost use Rattle.avr_timers.specs.Timer.{clock, counter_cycle, divider, meets, sets, sets_flag_at, top, count_at};
+    ghost use Rattle.avr_timers.specs.Timer.{changes, changes_flag_at, clock, counter_cycle, divider, meets, set_flags, sets, sets_flag_at, top, count_at};
 
     // What its prescaler divides the clock by, 0 where it is halted.
     #[inline(always)]
@@ -78,6 +78,20 @@ impl TimerCounter {
         }
     }
 
+    // The flags that its next clock sets.
+    #[inline(always)]
+    fn set_flags(&self) -> TimerFlags
+        ensures { result ≡ set_flags self.now }
+    {
+        TimerFlags {
+            tov: self.count == self.maximum,
+            ocf_a: meets(self.match_blocked, self.count, Some(self.compare_a)),
+            ocf_b: meets(self.match_blocked, self.count, self.compare_b),
+            ocf_c: meets(self.match_blocked, self.count, self.compare_c),
+            icf: meets(self.match_blocked, self.count, self.icr),
+        }
+    }
+
     // One clock.
     #[inline(always)]
     #[tactic(auto, unfolding(crate::specs::Timer::clock))]
@@ -89,13 +103,7 @@ impl TimerCounter {
         ensures maximum { self.new.maximum ≡ self.old.maximum }
         ensures free { self.new.match_blocked ≡ false }
     {
-        let set = TimerFlags {
-            tov: self.count == self.maximum,
-            ocf_a: meets(self.match_blocked, self.count, Some(self.compare_a)),
-            ocf_b: meets(self.match_blocked, self.count, self.compare_b),
-            ocf_c: meets(self.match_blocked, self.count, self.compare_c),
-            icf: meets(self.match_blocked, self.count, self.icr),
-        };
+        let set = self.set_flags();
         self.flags = self.flags.or(set);
         self.count = stepped(self.maximum, self.top(), self.match_blocked, self.count);
         self.match_blocked = false;
@@ -245,6 +253,74 @@ impl TimerCounter {
             return None;
         }
         match self.clocks_to_event() {
+            Some(w) => Some(cycle_of_clock(d, cycle, w)),
+            None => None,
+        }
+    }
+
+    // After how many clocks the first follows that sets a flag that is not set, none blocked.
+    #[inline(always)]
+    fn run_to_change(&self) -> Option<u64>
+        requires free { self.now.match_blocked ≡ false }
+        requires count { self.now.count ≤ self.now.maximum }
+        requires top { top self.now ≤ self.now.maximum }
+        ensures first { First (λ k. changes (many clock k self.now)) result }
+        ensures few { IfSome result (λ w. w ≤ 131072) }
+    {
+        let tov = unless_set(self.flags.tov, self.reaches(self.maximum));
+        let a = unless_set(self.flags.ocf_a, self.reaches(self.compare_a));
+        let b = unless_set(self.flags.ocf_b, self.reaches_some(self.compare_b));
+        let c = unless_set(self.flags.ocf_c, self.reaches_some(self.compare_c));
+        let icr = unless_set(self.flags.icf, self.reaches_some(self.icr));
+        earlier(earlier(earlier(earlier(tov, a), b), c), icr)
+    }
+
+    // Whether its next clock sets a flag that is not set.
+    #[inline(always)]
+    fn changes(&self) -> bool
+        ensures { result ≡ changes self.now }
+    {
+        self.set_flags().without(self.flags).any()
+    }
+
+    // After how many clocks the first follows that sets a flag that is not set.
+    #[inline(always)]
+    fn clocks_to_change(&self) -> Option<u64>
+        requires count { self.now.count ≤ self.now.maximum }
+        requires top { top self.now ≤ self.now.maximum }
+        ensures first { First (λ k. changes (many clock k self.now)) result }
+        ensures few { IfSome result (λ w. w ≤ 131073) }
+    {
+        if !self.match_blocked {
+            return self.run_to_change();
+        }
+        if self.changes() {
+            return Some(0);
+        }
+        let mut next = *self;
+        next.clock();
+        match next.run_to_change() {
+            Some(w) => Some(w + 1),
+            None => None,
+        }
+    }
+
+    /// The first cycle from `cycle` on whose tick sets a flag that is not set. `None` exactly where none does, as of one
+    /// that is halted.
+    #[inline(always)]
+    pub fn next_change(&self, cycle: u64) -> Option<u64>
+        requires early { cycle ≤ 2 ^ 40 }
+        requires count { self.now.count ≤ self.now.maximum }
+        requires top { top self.now ≤ self.now.maximum }
+        ensures never { IfNone result ((i : ℕ) → changes_flag_at cycle self.now i ≡ false) }
+        ensures later { IfSome result (λ e. cycle ≤ e) }
+        ensures first { IfSome result (λ e. First (changes_flag_at cycle self.now) (Some (e - cycle))) }
+    {
+        let d = self.divider();
+        if d == 0 {
+            return None;
+        }
+        match self.clocks_to_change() {
             Some(w) => Some(cycle_of_clock(d, cycle, w)),
             None => None,
         }

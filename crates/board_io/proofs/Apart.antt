@@ -14,7 +14,7 @@ use Rattle.board_io.specs.Lagging.{IsAhead, caught_up, is_no_mask, is_plain_read
 use Rattle.board_io.specs.Lines.{lines_of}
 use Rattle.board_io.specs.Names.{ETIMSK, IVSEL, SRE, TIMSK, WDCE, WDE}
 use Rattle.board_io.specs.Registers.{IsGot, IsPut, extended_timer_flags, get_by, put_by, timer_flags}
-use Rattle.board_io.specs.Passing.{sets_flag_at}
+use Rattle.board_io.specs.Passing.{changes_flag_at, sets_flag_at}
 use Rattle.board_io.proofs.Radio.{get_by_clock, put_by_clock}
 use Rattle.board_io.proofs.Steady.{flags_0, flags_1, flags_2, flags_3}
 use Rattle.avr_timers.specs.declared.flags.TimerFlags.{TimerFlags as Flags}
@@ -41,11 +41,12 @@ with_temp x u = record u { temp = x }
 pub record IsLike (b c : Board) : Type 0 where
   pub clock : c.clock ≡ b.clock
   pub quiet : (t : ℕ) → board_quiet t c ≡ board_quiet t b
-  pub calm : (t i : ℕ) → sets_flag_at t c i ≡ sets_flag_at t b i
+  pub calm : (t i : ℕ) → changes_flag_at t c i ≡ changes_flag_at t b i
+  pub steady : (t i : ℕ) → sets_flag_at t c i ≡ sets_flag_at t b i
   pub lines : lines_of c ≡ lines_of b
 
 itself : (b : Board) → IsLike b b
-itself b = record { clock = refl; quiet = λ t. refl; calm = λ t i. refl; lines = refl }
+itself b = record { clock = refl; quiet = λ t. refl; calm = λ t i. refl; steady = λ t i. refl; lines = refl }
 
 like_ahead : (a : Forecast) (b c : Board) → IsLike b c → IsAhead a b → IsAhead a c
 like_ahead a b c like h =
@@ -61,6 +62,7 @@ like_ahead a b c like h =
       quiet = λ t from below. like.quiet t ∙ h.quiet t (omega (arith, e, from)) below;
       calm = λ i below. like.calm a.settled i ∙ h.calm i below;
       past = λ i below. like.calm a.settled i ∙ h.past i (omega (arith, e, below));
+      steady = λ i below. like.steady a.settled i ∙ h.steady i below;
       lines = ap (λ (l : Lines). l.bits) like.lines ∙ h.lines;
     }
 
@@ -72,7 +74,7 @@ GotApart b s n (Err cause) late = late ≡ Err cause
 false_true : false ≡ true → ⊥
 false_true e = cc
 
-timer_flags_later : (s n : ℕ) (b : Board) → ((i : ℕ) → i < n → sets_flag_at s b i ≡ false) → timer_flags (timers_leap s n b) ≡ timer_flags b
+timer_flags_later : (s n : ℕ) (b : Board) → ((i : ℕ) → i < n → changes_flag_at s b i ≡ false) → timer_flags (timers_leap s n b) ≡ timer_flags b
 unfolding timers_leap
 timer_flags_later s n b none =
     let f0 = flags_0 s n b none in
@@ -84,14 +86,14 @@ timer_flags_later s n b none =
     let comp2 = ap (λ (f : Flags). f.ocf_a) f2 in
     rw (over0, comp0, over2, comp2, f1) refl
 
-extended_flags_later : (s n : ℕ) (b : Board) → ((i : ℕ) → i < n → sets_flag_at s b i ≡ false) → extended_timer_flags (timers_leap s n b) ≡ extended_timer_flags b
+extended_flags_later : (s n : ℕ) (b : Board) → ((i : ℕ) → i < n → changes_flag_at s b i ≡ false) → extended_timer_flags (timers_leap s n b) ≡ extended_timer_flags b
 unfolding timers_leap
 extended_flags_later s n b none =
     let f1 = flags_1 s n b none in
     let f3 = flags_3 s n b none in
     rw (f1, f3) refl
 
-pub got_apart : (rule : Rule) (b : Board) (at s n : ℕ) → is_plain_read rule ≡ true → ((i : ℕ) → i < n → sets_flag_at s b i ≡ false) → GotApart b s n (get_by rule b at) (get_by rule (timers_leap s n b) at)
+pub got_apart : (rule : Rule) (b : Board) (at s n : ℕ) → is_plain_read rule ≡ true → ((i : ℕ) → i < n → changes_flag_at s b i ≡ false) → GotApart b s n (get_by rule b at) (get_by rule (timers_leap s n b) at)
 unfolding timers_leap board_quiet lines_of
 got_apart Reserved b at s n e none = refl
 got_apart (Pin port) b at s n e none = (refl, itself b)
@@ -113,7 +115,7 @@ got_apart (Usart0 usart.BaudL) b at s n e none = (refl, itself b)
 got_apart (Usart0 usart.BaudH) b at s n e none = (refl, itself b)
 got_apart (Usart0 usart.Udr) b at s n e none = absurd (false_true e)
 got_apart (Spi spi.Control) b at s n e none = (refl, itself b)
-got_apart (Spi spi.Status) b at s n e none = (refl, record { clock = refl; quiet = λ t. refl; calm = λ t i. refl; lines = refl })
+got_apart (Spi spi.Status) b at s n e none = (refl, record { clock = refl; quiet = λ t. refl; calm = λ t i. refl; steady = λ t i. refl; lines = refl })
 got_apart (Spi spi.Spdr) b at s n e none = absurd (false_true e)
 
 -- where the serial peripheral interface asks for no interrupt, it asks for none after an access
@@ -132,7 +134,7 @@ lines_accessed b p e flag control =
 
 pub got_spdr : (b : Board) (at s n : ℕ) → asks_interrupt b.spi ≡ false → GotApart b s n (get_by (Spi spi.Spdr) b at) (get_by (Spi spi.Spdr) (timers_leap s n b) at)
 unfolding timers_leap board_quiet
-got_spdr b at s n e = (refl, record { clock = refl; quiet = λ t. refl; calm = λ t i. refl; lines = lines_accessed b _ e refl refl })
+got_spdr b at s n e = (refl, record { clock = refl; quiet = λ t. refl; calm = λ t i. refl; steady = λ t i. refl; lines = lines_accessed b _ e refl refl })
 
 module _ (rule : Rule) (b : Board) (at s : ℕ) (apart : GotApart b s (b.clock - s) (get_by rule b at) (get_by rule (caught_up s b) at)) where
   got : (g : Result (ℕ × Board) StopCause) → get_by rule b at ≡ g → GotApart b s (b.clock - s) g (get_by rule (caught_up s b) at)
@@ -167,14 +169,14 @@ unfolding board_quiet lines_of
 like_t1 b tm e = subst (λ (u : Timer16). IsLike b (let c : Board = record b { t1 = u } in c)) (sym e) (temp_like tm.temp)
   where
     temp_like : (x : ℕ) → IsLike b (let c : Board = record b { t1 = with_temp x b.t1 } in c)
-    temp_like x = record { clock = refl; quiet = λ t. refl; calm = λ t i. refl; lines = refl }
+    temp_like x = record { clock = refl; quiet = λ t. refl; calm = λ t i. refl; steady = λ t i. refl; lines = refl }
 
 like_t3 : (b : Board) (tm : Timer16) → tm ≡ with_temp tm.temp b.t3 → IsLike b (let c : Board = record b { t3 = tm } in c)
 unfolding board_quiet lines_of
 like_t3 b tm e = subst (λ (u : Timer16). IsLike b (let c : Board = record b { t3 = u } in c)) (sym e) (temp_like tm.temp)
   where
     temp_like : (x : ℕ) → IsLike b (let c : Board = record b { t3 = with_temp x b.t3 } in c)
-    temp_like x = record { clock = refl; quiet = λ t. refl; calm = λ t i. refl; lines = refl }
+    temp_like x = record { clock = refl; quiet = λ t. refl; calm = λ t i. refl; steady = λ t i. refl; lines = refl }
 
 pub ahead_t1 : (a : Forecast) (b : Board) (tm : Timer16) → tm ≡ with_temp tm.temp b.t1 → IsAhead a b → IsAhead a (let c : Board = record b { t1 = tm } in c)
 ahead_t1 a b tm e h = like_ahead a b (let c : Board = record b { t1 = tm } in c) (like_t1 b tm e) h
@@ -230,7 +232,7 @@ like_kept at y b e =
     let parts = and_parts (not (at == TIMSK)) (not (at == ETIMSK)) e in
     let m : kept_at TIMSK (with_kept at y b) ≡ kept_at TIMSK b = get_or-set_other b.kept at TIMSK y 0 (not_at at TIMSK parts.0) in
     let x : kept_at ETIMSK (with_kept at y b) ≡ kept_at ETIMSK b = get_or-set_other b.kept at ETIMSK y 0 (not_at at ETIMSK parts.1) in
-    record { clock = refl; quiet = λ t. refl; calm = λ t i. refl; lines = rw (m, x) refl }
+    record { clock = refl; quiet = λ t. refl; calm = λ t i. refl; steady = λ t i. refl; lines = rw (m, x) refl }
 
 either : (b : Board) (s n : ℕ) (c : Bool) (p q u w : Result Board StopCause) → PutApart b s n p u → PutApart b s n q w → PutApart b s n (if c then p else q) (if c then u else w)
 either b s n true p q u w h k = h

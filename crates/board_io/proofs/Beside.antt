@@ -7,20 +7,21 @@ use Rattle.board_io.specs.declared.rules.Rule.{Rule}
 use Rattle.board_io.specs.declared.rules.Rule.TheVariants.{Reserved, Pin, Kept, Guarded, WatchdogControl, ResetFlags, CpuControl, TimerFlags, ExtendedTimerFlags, Timer0, Timer1, Timer2, Timer3, Usart0, Spi}
 use Rattle.board_io.specs.Cycle.{timers_leap}
 use Rattle.board_io.specs.Lagging.{IsAhead, caught_up, is_port}
-use Rattle.board_io.specs.Passing.{sets_flag_at}
+use Rattle.board_io.specs.Passing.{changes_flag_at, sets_flag_at}
 use Rattle.board_io.specs.Registers.{IsGot, IsPut, get_by, put_by, with_spi, with_usart}
 use Rattle.serial_ports.specs.declared.spi.Spi.{Spi as SpiPort}
 use Rattle.serial_ports.specs.SpiRegisters as spi
 use Rattle.serial_ports.specs.declared.usart.Usart.{Usart}
 use Rattle.serial_ports.specs.UsartRegisters as usart
 
--- another board has the clock of this one, and timers that set flags when its do
+-- another board has the clock of this one, and timers that set and change flags when its do
 pub record IsBeside (b c : Board) : Type 0 where
   pub clock : c.clock ≡ b.clock
-  pub calm : (t i : ℕ) → sets_flag_at t c i ≡ sets_flag_at t b i
+  pub calm : (t i : ℕ) → changes_flag_at t c i ≡ changes_flag_at t b i
+  pub steady : (t i : ℕ) → sets_flag_at t c i ≡ sets_flag_at t b i
 
 itself : (b : Board) → IsBeside b b
-itself b = record { clock = refl; calm = λ t i. refl }
+itself b = record { clock = refl; calm = λ t i. refl; steady = λ t i. refl }
 
 abbrev GotBeside : Board → ℕ → ℕ → Result (ℕ × Board) StopCause → Result (ℕ × Board) StopCause → Type 0
 GotBeside b s n (Ok p) late = (late ≡ Ok (p.0, timers_leap s n p.1)) × IsBeside b p.1
@@ -48,17 +49,17 @@ got_beside (Timer0 reg) b at s n e = absurd (false_true e)
 got_beside (Timer1 reg) b at s n e = absurd (false_true e)
 got_beside (Timer2 reg) b at s n e = absurd (false_true e)
 got_beside (Timer3 reg) b at s n e = absurd (false_true e)
-got_beside (Usart0 reg) b at s n e = (refl, record { clock = refl; calm = λ t i. refl })
-got_beside (Spi reg) b at s n e = (refl, record { clock = refl; calm = λ t i. refl })
+got_beside (Usart0 reg) b at s n e = (refl, record { clock = refl; calm = λ t i. refl; steady = λ t i. refl })
+got_beside (Spi reg) b at s n e = (refl, record { clock = refl; calm = λ t i. refl; steady = λ t i. refl })
 
 usart_beside : (b : Board) (s n : ℕ) (o : Result Usart StopCause) → PutBeside b s n (with_usart b o) (with_usart (timers_leap s n b) o)
 unfolding timers_leap
-usart_beside b s n (Ok u) = (refl, record { clock = refl; calm = λ t i. refl })
+usart_beside b s n (Ok u) = (refl, record { clock = refl; calm = λ t i. refl; steady = λ t i. refl })
 usart_beside b s n (Err cause) = refl
 
 spi_beside : (b : Board) (s n : ℕ) (o : Result SpiPort StopCause) → PutBeside b s n (with_spi b o) (with_spi (timers_leap s n b) o)
 unfolding timers_leap
-spi_beside b s n (Ok u) = (refl, record { clock = refl; calm = λ t i. refl })
+spi_beside b s n (Ok u) = (refl, record { clock = refl; calm = λ t i. refl; steady = λ t i. refl })
 spi_beside b s n (Err cause) = refl
 
 done_beside : (rule : Rule) (b : Board) (at x s n : ℕ) → is_port rule ≡ true → PutBeside b s n (put_by rule b at x) (put_by rule (timers_leap s n b) at x)
@@ -115,8 +116,11 @@ module _ (rule : Rule) (b : Board) (at s : ℕ) (e : is_port rule ≡ true) wher
   done_timers x (Err cause) c h = subst (IsBeside b) (sym h.1) (itself b)
 
 -- so what was known of the timers is known still
-pub calm_beside : (a : Forecast) (b c : Board) → IsBeside b c → IsAhead a b → (i : ℕ) → a.settled + i < a.next → sets_flag_at a.settled c i ≡ false
+pub calm_beside : (a : Forecast) (b c : Board) → IsBeside b c → IsAhead a b → (i : ℕ) → a.settled + i < a.next → changes_flag_at a.settled c i ≡ false
 calm_beside a b c k h i below = k.calm a.settled i ∙ h.calm i below
 
-pub past_beside : (a : Forecast) (b c : Board) → IsBeside b c → IsAhead a b → (i : ℕ) → a.settled + i < c.clock → sets_flag_at a.settled c i ≡ false
+pub past_beside : (a : Forecast) (b c : Board) → IsBeside b c → IsAhead a b → (i : ℕ) → a.settled + i < c.clock → changes_flag_at a.settled c i ≡ false
 past_beside a b c k h i below = let same = k.clock in k.calm a.settled i ∙ h.past i (omega (arith, same, below))
+
+pub steady_beside : (a : Forecast) (b c : Board) → IsBeside b c → IsAhead a b → (i : ℕ) → a.settled + i < a.steady → sets_flag_at a.settled c i ≡ false
+steady_beside a b c k h i below = k.steady a.settled i ∙ h.steady i below

@@ -12,8 +12,8 @@ use Rattle.air_base.specs.declared.air.Heard.{Heard}
 use Rattle.board_io.specs.Lagging.{IsAhead, IsClear, IsIdle, caught_up}
 use Rattle.board_io.specs.Lines.{lines_of}
 use Rattle.board_io.proofs.Leaps.{leap_quiet, leap_zero}
-use Rattle.board_io.specs.Passing.{sets_flag_at}
-use Rattle.board_io.proofs.Steady.{lines_calm, sets_later}
+use Rattle.board_io.specs.Passing.{changes_flag_at}
+use Rattle.board_io.proofs.Steady.{lines_calm, changes_later}
 use Rattle.avr_timers.proofs.Cycles.{cycles-add}
 use Rattle.serial_ports.specs.Transmission.{ended_byte}
 use Rattle.avr_base.specs.declared.interrupts.Lines.{Lines}
@@ -116,7 +116,7 @@ clear_leap bound n v h le =
     record {
       down = λ l. ap (λ (m : Lines). m.bits) (lines_clock t w ∙ lines_calm v.clock n v (λ i k. h.calm i (omega (arith, le, k)))) ∙ h.down (omega (arith, l));
       quiet = λ u from below. quiet_clock t u w ∙ (leap_quiet u v.clock n v ∙ h.quiet u (omega (arith, from)) below);
-      calm = λ i below. sets_later v.clock n i v ∙ h.calm (n + i) (omega (arith, below));
+      calm = λ i below. changes_later v.clock n i v ∙ h.calm (n + i) (omega (arith, below));
     }
 
 -- and what is clear up to a bound is clear up to an earlier one
@@ -128,19 +128,19 @@ sooner bound less b le h = record {
 }
 
 -- ---- a board that lags
--- n cycles from now on in which nothing ends and no timer sets a flag, nor did it since `settled`
+-- n cycles from now on in which nothing ends and no flag changes, nor did it since `settled`
 pub record IsFree (settled n : ℕ) (b : Board) : Type 0 where
   pub early : b.clock + n ≤ 2 ^ 40
   pub quiet : (i : ℕ) → i < n → board_quiet (b.clock + i) b ≡ true
-  pub calm : (i : ℕ) → settled + i < b.clock + n → sets_flag_at settled b i ≡ false
+  pub calm : (i : ℕ) → settled + i < b.clock + n → changes_flag_at settled b i ≡ false
 
 module _ (a : Forecast) (b : Board) (h : IsAhead a b) where
-  -- up to now no flag was set
-  pub calm_now : (i : ℕ) → i < b.clock - a.settled → sets_flag_at a.settled b i ≡ false
+  -- up to now no flag changed
+  pub calm_now : (i : ℕ) → i < b.clock - a.settled → changes_flag_at a.settled b i ≡ false
   calm_now i l = h.past i (omega (arith, l))
 
-  -- nor is one up to the next event, be it over or not
-  pub known : (i end : ℕ) → a.settled + i < end → end - b.clock ≤ a.next - b.clock → sets_flag_at a.settled b i ≡ false
+  -- nor does one up to the next event, be it over or not
+  pub known : (i end : ℕ) → a.settled + i < end → end - b.clock ≤ a.next - b.clock → changes_flag_at a.settled b i ≡ false
   known i end l le = elim (cases_lt (a.settled + i) b.clock) [
     | inl before ↦ h.past i before
     | inr from ↦ h.calm i (omega (arith, l, le, from))
@@ -162,9 +162,9 @@ module _ (a : Forecast) (b : Board) (h : IsAhead a b) where
   further : (i : ℕ) → timers_leap b.clock i (caught_up a.settled b) ≡ timers_leap a.settled (b.clock - a.settled + i) b
   further i = ap (λ (t : ℕ). timers_leap t i (caught_up a.settled b)) (sym at_now) ∙ sym (leap_add a.settled (b.clock - a.settled) i b)
 
-  -- and whether a timer sets a flag there
-  sets_further : (i : ℕ) → sets_flag_at b.clock (caught_up a.settled b) i ≡ sets_flag_at a.settled b (b.clock - a.settled + i)
-  sets_further i = ap (λ (t : ℕ). sets_flag_at t (caught_up a.settled b) i) (sym at_now) ∙ sets_later a.settled (b.clock - a.settled) i b
+  -- and whether a flag changes there
+  changes_further : (i : ℕ) → changes_flag_at b.clock (caught_up a.settled b) i ≡ changes_flag_at a.settled b (b.clock - a.settled + i)
+  changes_further i = ap (λ (t : ℕ). changes_flag_at t (caught_up a.settled b) i) (sym at_now) ∙ changes_later a.settled (b.clock - a.settled) i b
 
   -- nothing happens up to the next event
   pub free : (n : ℕ) → n ≤ a.next - b.clock → IsFree a.settled n b
@@ -191,14 +191,14 @@ module _ (a : Forecast) (b : Board) (h : IsAhead a b) where
         ];
       }
     where
-      calm_to : IsClear bound (caught_up a.settled b) → (caught_up a.settled b).clock ≡ b.clock → (i : ℕ) → b.clock ≤ a.settled + i → a.settled + i < bound → sets_flag_at a.settled b i ≡ false
+      calm_to : IsClear bound (caught_up a.settled b) → (caught_up a.settled b).clock ≡ b.clock → (i : ℕ) → b.clock ≤ a.settled + i → a.settled + i < bound → changes_flag_at a.settled b i ≡ false
       calm_to k at i from below =
           let l = h.settled in
           let j : ℕ = a.settled + i - b.clock in
           let here : b.clock - a.settled + j ≡ i = omega (arith, l, from) in
-          ap (sets_flag_at a.settled b) (sym here)
-          ∙ (sym (sets_further j)
-          ∙ (ap (λ (t : ℕ). sets_flag_at t (caught_up a.settled b) j) (sym at) ∙ k.calm j (omega (arith, at, from, below))))
+          ap (changes_flag_at a.settled b) (sym here)
+          ∙ (sym (changes_further j)
+          ∙ (ap (λ (t : ℕ). changes_flag_at t (caught_up a.settled b) j) (sym at) ∙ k.calm j (omega (arith, at, from, below))))
 
   -- its value is clear up to what `clear` says
   pub clear_is : (v : Board) → caught_up a.settled b ≡ v → IsClear a.clear v
@@ -210,8 +210,8 @@ module _ (a : Forecast) (b : Board) (h : IsAhead a b) where
         down = λ below. lines_now ∙ h.down (omega (arith, below));
         quiet = λ t from below. leap_quiet t a.settled (b.clock - a.settled) b ∙ h.quiet t (omega (arith, at, from)) (omega (arith, within, below));
         calm = λ i below.
-            ap (λ (t : ℕ). sets_flag_at t (caught_up a.settled b) i) at
-            ∙ (sets_further i ∙ h.calm (b.clock - a.settled + i) (omega (arith, at, l, within, below)));
+            ap (λ (t : ℕ). changes_flag_at t (caught_up a.settled b) i) at
+            ∙ (changes_further i ∙ h.calm (b.clock - a.settled + i) (omega (arith, at, l, within, below)));
       } in
       subst (IsClear a.clear) e k
 
@@ -243,6 +243,7 @@ module _ (a : Forecast) (b : Board) (h : IsAhead a b) where
         quiet = λ t from below. quiet_clock (b.clock + n) t b ∙ h.quiet t (omega (arith, from)) below;
         calm = h.calm;
         past = p.calm;
+        steady = h.steady;
         clear = h.clear;
         down = h.down;
         lines = ap (λ (m : Lines). m.bits) (lines_clock (b.clock + n) b) ∙ h.lines;

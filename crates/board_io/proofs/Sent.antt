@@ -8,7 +8,7 @@ use Rattle.board_io.specs.declared.board.Board.{Board}
 use Rattle.board_io.specs.declared.rules.Rule.TheVariants.{Spi}
 use Rattle.board_io.specs.Lagging.{IsAhead}
 use Rattle.board_io.specs.Lines.{lines_of}
-use Rattle.board_io.specs.Passing.{is_at, sets_flag_at}
+use Rattle.board_io.specs.Passing.{changes_flag_at, is_at, sets_flag_at}
 use Rattle.board_io.specs.Registers.{IsPut, put_by}
 use Rattle.board_io.proofs.Apart.{lines_accessed}
 use Rattle.board_io.proofs.Lags.{known}
@@ -45,8 +45,11 @@ control_sent t x s = one_of (λ (p : SpiPort). p.control) s.control (not (any_bi
 lines_sent : (b : Board) (x : ℕ) → asks_interrupt b.spi ≡ false → lines_of (sent b x) ≡ lines_of b
 lines_sent b x down = lines_accessed b (sent_out b.clock x (accessed b.spi)) down (flag_sent b.clock x (accessed b.spi)) (control_sent b.clock x (accessed b.spi))
 
-calm_sent : (s i : ℕ) (b : Board) (x : ℕ) → sets_flag_at s (sent b x) i ≡ sets_flag_at s b i
+calm_sent : (s i : ℕ) (b : Board) (x : ℕ) → changes_flag_at s (sent b x) i ≡ changes_flag_at s b i
 calm_sent s i b x = refl
+
+steady_sent : (s i : ℕ) (b : Board) (x : ℕ) → sets_flag_at s (sent b x) i ≡ sets_flag_at s b i
+steady_sent s i b x = refl
 
 module _ (a : Forecast) (b : Board) (h : IsAhead a b) (x : ℕ) (down : asks_interrupt b.spi ≡ false) where
   ahead_by : (next clear : ℕ) → next - b.clock ≤ a.next - b.clock → ((t : ℕ) → b.clock ≤ t → t < next → is_at (end_of (sent b x).spi.shift_register) t ≡ false) → clear ≤ next → (0 < clear → a.lines ≡ 0)
@@ -61,6 +64,7 @@ module _ (a : Forecast) (b : Board) (h : IsAhead a b) (x : ℕ) (down : asks_int
         quiet = λ t later below. quiet_too t b (sent b x) refl (h.quiet t later (omega (arith, below, most, later))) (none t later below);
         calm = λ i below. calm_sent a.settled i b x ∙ known a b h i next below most;
         past = λ i below. calm_sent a.settled i b x ∙ h.past i below;
+        steady = λ i below. steady_sent a.settled i b x ∙ h.steady i below;
         lines = ap (λ (l : Lines). l.bits) (lines_sent b x down) ∙ h.lines;
         clear = within;
         down = up;

@@ -7,8 +7,7 @@ use Rattle.board_io.specs.Lagging.{IsAhead, caught_up}
 use Rattle.board_io.specs.Lines.{entered_of, lines_of, no_flags}
 use Rattle.board_io.specs.Names.{SPI_STC, TIMER0_COMP, TIMER0_OVF, TIMER1_COMPA, TIMER1_COMPB, TIMER1_COMPC, TIMER1_OVF, TIMER2_COMP, TIMER2_OVF, TIMER3_COMPA, TIMER3_COMPB, TIMER3_COMPC, TIMER3_OVF, USART0_TX}
 use Rattle.board_io.specs.Passing.{sets_flag_at}
-use Rattle.board_io.proofs.Lags.{calm_now}
-use Rattle.board_io.proofs.Steady.{calm_each}
+use Rattle.board_io.proofs.Steady.{calm_each, changes_none}
 use Rattle.avr_timers.specs.declared.flags.TimerFlags.{TimerFlags}
 use Rattle.avr_timers.proofs.Clocks16 as clocks16
 use Rattle.avr_timers.specs.declared.timer16.Timer16.{Timer16}
@@ -81,29 +80,37 @@ module _ (s n : ℕ) (b : Board) (none : (i : ℕ) → i < n → sets_flag_at s 
   served word =
       pick (word == TIMER2_COMP) _ _ _ _ (is_t2 (record no_flags { ocf_a = true })) (pick (word == TIMER2_OVF) _ _ _ _ (is_t2 (record no_flags { tov = true })) (pick (word == TIMER1_COMPA) _ _ _ _ (is_t1 (record no_flags { ocf_a = true })) (pick (word == TIMER1_COMPB) _ _ _ _ (is_t1 (record no_flags { ocf_b = true })) (pick (word == TIMER1_OVF) _ _ _ _ (is_t1 (record no_flags { tov = true })) (pick (word == TIMER0_COMP) _ _ _ _ (is_t0 (record no_flags { ocf_a = true })) (pick (word == TIMER0_OVF) _ _ _ _ (is_t0 (record no_flags { tov = true })) (pick (word == SPI_STC) _ _ _ _ is_spi (pick (word == USART0_TX) _ _ _ _ is_usart (pick (word == TIMER1_COMPC) _ _ _ _ (is_t1 (record no_flags { ocf_c = true })) (pick (word == TIMER3_COMPA) _ _ _ _ (is_t3 (record no_flags { ocf_a = true })) (pick (word == TIMER3_COMPB) _ _ _ _ (is_t3 (record no_flags { ocf_b = true })) (pick (word == TIMER3_COMPC) _ _ _ _ (is_t3 (record no_flags { ocf_c = true })) (pick (word == TIMER3_OVF) _ _ _ _ (is_t3 (record no_flags { tov = true })) is_none)))))))))))))
 
-module _ (a : Forecast) (b : Board) (h : IsAhead a b) (word : ℕ) where
-  is : IsServed a.settled (b.clock - a.settled) b (calm_now a b h) (entered_of word b) (entered_of word (caught_up a.settled b))
-  is = served a.settled (b.clock - a.settled) b (calm_now a b h) word
+-- where no timer has set a flag since `settled`
+module _ (a : Forecast) (b : Board) (h : IsAhead a b) (within : b.clock ≤ a.steady) (word : ℕ) where
+  none_now : (i : ℕ) → i < b.clock - a.settled → sets_flag_at a.settled b i ≡ false
+  none_now i l = h.steady i (omega (arith, within, l))
 
-  calm_first : (m i : ℕ) → a.settled + m < a.next → i < m → sets_flag_at a.settled b i ≡ false
-  calm_first m i below l = h.calm i (omega (arith, below, l))
+  is : IsServed a.settled (b.clock - a.settled) b none_now (entered_of word b) (entered_of word (caught_up a.settled b))
+  is = served a.settled (b.clock - a.settled) b none_now word
 
-  -- what is known of it stays known, but for its lines
-  pub served_ahead : (lines clear : ℕ) → lines ≡ (lines_of (entered_of word b)).bits → clear ≤ a.next → (0 < clear → lines ≡ 0) → IsAhead (let c : Forecast = record a { lines = lines; clear = clear } in c) (entered_of word b)
-  served_ahead lines clear e within down =
+  -- none sets one up to `steady`
+  steady_on : (i : ℕ) → a.settled + i < a.steady → sets_flag_at a.settled (entered_of word b) i ≡ false
+  steady_on i below = is.calm i (λ j l. h.steady j (omega (arith, below, l))) ∙ h.steady i below
+
+  -- what is known of it stays known up to there, but for its lines
+  pub served_ahead : (next lines clear : ℕ) → next ≤ a.next → next ≤ a.steady → lines ≡ (lines_of (entered_of word b)).bits → clear ≤ next → (0 < clear → lines ≡ 0)
+      → IsAhead (let c : Forecast = record a { next = next; lines = lines; clear = clear } in c) (entered_of word b)
+  served_ahead next lines clear le soon e low down =
       let k = is in
       let at = k.clock in
       let s = h.settled in
       let n = h.now in
+      let early = h.early in
       record {
         settled = omega (arith, at, s);
         now = omega (arith, at, n);
-        early = h.early;
-        quiet = λ t from below. k.quiet t ∙ h.quiet t (omega (arith, at, from)) below;
-        calm = λ i below. k.calm i (λ j l. calm_first i j below l) ∙ h.calm i below;
-        past = λ i below. k.calm i (λ j l. h.past j (omega (arith, at, below, l))) ∙ h.past i (omega (arith, at, below));
+        early = omega (arith, early, le);
+        quiet = λ t from below. k.quiet t ∙ h.quiet t (omega (arith, at, from)) (omega (arith, below, le));
+        calm = λ i below. changes_none a.settled i (entered_of word b) (steady_on i (omega (arith, below, soon)));
+        past = λ i below. changes_none a.settled i (entered_of word b) (steady_on i (omega (arith, at, below, within)));
+        steady = steady_on;
         lines = sym e;
-        clear = within;
+        clear = low;
         down = down;
       }
 
@@ -112,3 +119,6 @@ module _ (a : Forecast) (b : Board) (h : IsAhead a b) (word : ℕ) where
   served_late v e =
       let k = is in
       ap (λ (t : ℕ). timers_leap a.settled (t - a.settled) (entered_of word b)) k.clock ∙ (k.late ∙ ap (entered_of word) e)
+
+pub entered_clock : (word : ℕ) (b : Board) → (entered_of word b).clock ≡ b.clock
+entered_clock word b = (served 0 0 b (λ i l. absurd (omega (arith, l))) word).clock

@@ -4,7 +4,7 @@ use Rattle.std.proofs.lemmas.Bool.{and_parts, cases_lt, or_parts}
 use Rattle.board_io.specs.declared.board.Board.{Board}
 use Rattle.board_io.specs.Cycle.{board_quiet, timers_leap}
 use Rattle.board_io.specs.Lines.{lines_of}
-use Rattle.board_io.specs.Passing.{is_at, sets_flag_at}
+use Rattle.board_io.specs.Passing.{changes_flag_at, is_at, sets_flag_at}
 use Rattle.avr_timers.specs.Clock.{clocked, cycles, sets_at}
 use Rattle.avr_timers.specs.declared.flags.TimerFlags.{TimerFlags}
 use Rattle.avr_timers.specs.First.{First}
@@ -58,6 +58,12 @@ calm_8 t n tm e = clocks8.sets-stopped t n tm e
 pub calm_16 : (t n : ℕ) (tm : Timer16) → tm.select ≡ 0 → timer16.sets_flag_at t tm n ≡ false
 calm_16 t n tm e = clocks16.sets-stopped t n tm e
 
+pub kept_8 : (t n : ℕ) (tm : Timer8) → tm.select ≡ 0 → timer8.changes_flag_at t tm n ≡ false
+kept_8 t n tm e = clocks8.changes-stopped t n tm e
+
+pub kept_16 : (t n : ℕ) (tm : Timer16) → tm.select ≡ 0 → timer16.changes_flag_at t tm n ≡ false
+kept_16 t n tm e = clocks16.changes-stopped t n tm e
+
 -- up to the first cycle that sets a flag, and with it
 pub before_8 : (t w n : ℕ) (tm : Timer8) → First (timer8.sets_flag_at t tm) (Some w) → n ≤ w → timer8.flags_of (cycles timer8.timer_cycle t n tm) ≡ timer8.flags_of tm
 before_8 t w n tm first le = clocks8.flags-until t n tm (λ i l. first.1 i (omega arith))
@@ -98,43 +104,70 @@ calm_each t n b e =
     let r = or_parts (timer8.sets_flag_at t b.t0 n) (timer16.sets_flag_at t b.t1 n) q.0 in
     record { t0 = r.0; t1 = r.1; t2 = q.1; t3 = p.1 }
 
+-- and none changes one
+pub record IsSame (t n : ℕ) (b : Board) : Type 0 where
+  pub t0 : timer8.changes_flag_at t b.t0 n ≡ false
+  pub t1 : timer16.changes_flag_at t b.t1 n ≡ false
+  pub t2 : timer8.changes_flag_at t b.t2 n ≡ false
+  pub t3 : timer16.changes_flag_at t b.t3 n ≡ false
+
+same_each : (t n : ℕ) (b : Board) → changes_flag_at t b n ≡ false → IsSame t n b
+same_each t n b e =
+    let p = or_parts (timer8.changes_flag_at t b.t0 n || timer16.changes_flag_at t b.t1 n || timer8.changes_flag_at t b.t2 n) (timer16.changes_flag_at t b.t3 n) e in
+    let q = or_parts (timer8.changes_flag_at t b.t0 n || timer16.changes_flag_at t b.t1 n) (timer8.changes_flag_at t b.t2 n) p.0 in
+    let r = or_parts (timer8.changes_flag_at t b.t0 n) (timer16.changes_flag_at t b.t1 n) q.0 in
+    record { t0 = r.0; t1 = r.1; t2 = q.1; t3 = p.1 }
+
+either_none : (a b : Bool) → a ≡ false → b ≡ false → (a || b) ≡ false
+either_none a b e f = ap (λ (x : Bool). x || b) e ∙ f
+
+pub unchanged : (t n : ℕ) (b : Board) → timer8.changes_flag_at t b.t0 n ≡ false → timer16.changes_flag_at t b.t1 n ≡ false → timer8.changes_flag_at t b.t2 n ≡ false → timer16.changes_flag_at t b.t3 n ≡ false → changes_flag_at t b n ≡ false
+unchanged t n b e f g h = either_none (timer8.changes_flag_at t b.t0 n || timer16.changes_flag_at t b.t1 n || timer8.changes_flag_at t b.t2 n) (timer16.changes_flag_at t b.t3 n)
+    (either_none (timer8.changes_flag_at t b.t0 n || timer16.changes_flag_at t b.t1 n) (timer8.changes_flag_at t b.t2 n) (either_none (timer8.changes_flag_at t b.t0 n) (timer16.changes_flag_at t b.t1 n) e f) g) h
+
+-- a cycle in which none sets a flag changes none
+pub changes_none : (t n : ℕ) (b : Board) → sets_flag_at t b n ≡ false → changes_flag_at t b n ≡ false
+changes_none t n b e =
+    let k = calm_each t n b e in
+    unchanged t n b (clocks8.changes-none t n b.t0 k.t0) (clocks16.changes-none t n b.t1 k.t1) (clocks8.changes-none t n b.t2 k.t2) (clocks16.changes-none t n b.t3 k.t3)
+
 -- where it is so of cycle after cycle, flags and lines stay
-module _ (t n : ℕ) (b : Board) (none : (i : ℕ) → i < n → sets_flag_at t b i ≡ false) where
+module _ (t n : ℕ) (b : Board) (none : (i : ℕ) → i < n → changes_flag_at t b i ≡ false) where
   pub flags_0 : timer8.flags_of (cycles timer8.timer_cycle t n b.t0) ≡ timer8.flags_of b.t0
-  flags_0 = clocks8.flags-until t n b.t0 (λ i l. (calm_each t i b (none i l)).t0)
+  flags_0 = clocks8.flags-unchanged t n b.t0 (λ i l. (same_each t i b (none i l)).t0)
 
   pub flags_1 : (cycles timer16.timer_cycle t n b.t1).flags ≡ b.t1.flags
-  flags_1 = clocks16.flags-until t n b.t1 (λ i l. (calm_each t i b (none i l)).t1)
+  flags_1 = clocks16.flags-unchanged t n b.t1 (λ i l. (same_each t i b (none i l)).t1)
 
   pub flags_2 : timer8.flags_of (cycles timer8.timer_cycle t n b.t2) ≡ timer8.flags_of b.t2
-  flags_2 = clocks8.flags-until t n b.t2 (λ i l. (calm_each t i b (none i l)).t2)
+  flags_2 = clocks8.flags-unchanged t n b.t2 (λ i l. (same_each t i b (none i l)).t2)
 
   pub flags_3 : (cycles timer16.timer_cycle t n b.t3).flags ≡ b.t3.flags
-  flags_3 = clocks16.flags-until t n b.t3 (λ i l. (calm_each t i b (none i l)).t3)
+  flags_3 = clocks16.flags-unchanged t n b.t3 (λ i l. (same_each t i b (none i l)).t3)
 
   pub lines_calm : lines_of (timers_leap t n b) ≡ lines_of b
   lines_calm = lines_same t n b flags_0 flags_1 flags_2 flags_3
 
--- a cycle sets a flag where it does so of the timers that have done some of the cycles before it
-later_8 : (t n i : ℕ) (tm : Timer8) → timer8.sets_flag_at (t + n) (cycles timer8.timer_cycle t n tm) i ≡ timer8.sets_flag_at t tm (n + i)
+-- a cycle changes a flag where it does so of the timers that have done some of the cycles before it
+later_8 : (t n i : ℕ) (tm : Timer8) → timer8.changes_flag_at (t + n) (cycles timer8.timer_cycle t n tm) i ≡ timer8.changes_flag_at t tm (n + i)
 unfolding sets_at
 later_8 t n i tm =
     let d = ap (λ (u : Timer8). counter.divider (timer8.counter_of u)) (clocks8.cycles-with t n tm) in
     let at : t + n + i ≡ t + (n + i) = omega arith in
     let c = ap (cycles counter.counter_cycle (t + n) i) (clocks8.cycles-of t n tm) ∙ sym (cycles-add counter.counter_cycle t n i (timer8.counter_of tm)) in
-    λ k. clocked (d k) (at k) && counter.sets (c k)
+    λ k. clocked (d k) (at k) && counter.changes (c k)
 
-later_16 : (t n i : ℕ) (tm : Timer16) → timer16.sets_flag_at (t + n) (cycles timer16.timer_cycle t n tm) i ≡ timer16.sets_flag_at t tm (n + i)
+later_16 : (t n i : ℕ) (tm : Timer16) → timer16.changes_flag_at (t + n) (cycles timer16.timer_cycle t n tm) i ≡ timer16.changes_flag_at t tm (n + i)
 unfolding sets_at
 later_16 t n i tm =
     let d = ap (λ (u : Timer16). counter.divider (timer16.counter_of u)) (clocks16.cycles-with t n tm) in
     let at : t + n + i ≡ t + (n + i) = omega arith in
     let c = ap (cycles counter.counter_cycle (t + n) i) (clocks16.cycles-of t n tm) ∙ sym (cycles-add counter.counter_cycle t n i (timer16.counter_of tm)) in
-    λ k. clocked (d k) (at k) && counter.sets (c k)
+    λ k. clocked (d k) (at k) && counter.changes (c k)
 
-pub sets_later : (t n i : ℕ) (b : Board) → sets_flag_at (t + n) (timers_leap t n b) i ≡ sets_flag_at t b (n + i)
+pub changes_later : (t n i : ℕ) (b : Board) → changes_flag_at (t + n) (timers_leap t n b) i ≡ changes_flag_at t b (n + i)
 unfolding timers_leap
-sets_later t n i b = λ k. later_8 t n i b.t0 k || later_16 t n i b.t1 k || later_8 t n i b.t2 k || later_16 t n i b.t3 k
+changes_later t n i b = λ k. later_8 t n i b.t0 k || later_16 t n i b.t1 k || later_8 t n i b.t2 k || later_16 t n i b.t3 k
 
 -- the last of the cycles that are told, where they are not all, ends something or sets a flag
 pub loud_at : (t : ℕ) (b : Board) → is_at (end_of b.usart.shift_register) t ≡ true → board_quiet t b ≡ false
@@ -170,6 +203,22 @@ set_by p q r s most w x y z f g h i lw lx ly lz below =
         | inr b ↦ elim (cases_lt x w) [
           | inl c ↦ (let e : x ≡ z = omega arith in inr (inl (subst (λ (n : ℕ). q (n - 1) ≡ true) e (g c))))
           | inr c ↦ (let e : w ≡ z = omega arith in let d : w < most = omega arith in inl (subst (λ (n : ℕ). p (n - 1) ≡ true) e (f d)))
+        ]
+      ]
+    ])
+
+-- of four tests, each of which holds at its own number where that is below the one before
+pub changed_by : (p q r s : ℕ → Bool) (most w x y z : ℕ) → (w < most → p w ≡ true) → (x < w → q x ≡ true) → (y < x → r y ≡ true) → (z < y → s z ≡ true)
+    → w ≤ most → x ≤ w → y ≤ x → z ≤ y → z < most → (p z || q z || r z || s z) ≡ true
+changed_by p q r s most w x y z f g h i lw lx ly lz below =
+    one_of (p z) (q z) (r z) (s z)
+    (elim (cases_lt z y) [
+      | inl a ↦ inr (inr (inr (i a)))
+      | inr a ↦ elim (cases_lt y x) [
+        | inl b ↦ (let e : y ≡ z = omega arith in inr (inr (inl (subst (λ (n : ℕ). r n ≡ true) e (h b)))))
+        | inr b ↦ elim (cases_lt x w) [
+          | inl c ↦ (let e : x ≡ z = omega arith in inr (inl (subst (λ (n : ℕ). q n ≡ true) e (g c))))
+          | inr c ↦ (let e : w ≡ z = omega arith in let d : w < most = omega arith in inl (subst (λ (n : ℕ). p n ≡ true) e (f d)))
         ]
       ]
     ])

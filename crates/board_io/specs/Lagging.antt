@@ -1,6 +1,8 @@
 -- A board that lags behind its clock: the timers' cycles from `settled` on are still to be made up for, and until
--- `next` nothing of it ends and no timer sets a flag, so that flags and lines can be told without a leap of the timers.
--- Its clock may be past `next`: whoever moved it there knew that no timer sets a flag before.
+-- `next` nothing of it ends and no flag of a timer changes, so that flags and lines can be told without a leap of the
+-- timers. Until `steady` no timer sets a flag, be it set already or not: so none passes its top, and a flag can be cleared
+-- before the cycles that are made up for. Its clock may be past `next`: whoever moved it there knew that no flag changes
+-- before.
 use Rattle.std.specs.Prelude.{◌≡◌, ℕ, ◌+◌, ◌-◌, ◌^◌, ◌<◌, ◌≤◌, ◌==◌, ◌&&◌, not, Bool, true, false, Ok}
 use Rattle.board_io.specs.declared.board.Board.{Board}
 use Rattle.board_io.specs.declared.ahead.Forecast.{Forecast}
@@ -9,7 +11,7 @@ use Rattle.board_io.specs.Cycle.{board_quiet, timers_leap}
 use Rattle.board_io.specs.Registers.{io_get}
 use Rattle.board_io.specs.Lines.{lines_of}
 use Rattle.board_io.specs.Names.{ETIMSK, TIMSK}
-use Rattle.board_io.specs.Passing.{sets_flag_at}
+use Rattle.board_io.specs.Passing.{changes_flag_at, sets_flag_at}
 use Rattle.board_io.specs.declared.rules.Rule.{Rule}
 use Rattle.board_io.specs.declared.rules.Rule.TheVariants.{Reserved, Pin, Kept, Guarded, WatchdogControl, ResetFlags, CpuControl, TimerFlags, ExtendedTimerFlags, Timer0, Timer1, Timer2, Timer3, Usart0, Spi}
 use Rattle.serial_ports.specs.declared.spi.Spi.{Spi as SpiPort}
@@ -28,17 +30,18 @@ pub record IsAhead (a : Forecast) (b : Board) : Type 0 where
   pub now : b.clock ≤ 2 ^ 40
   pub early : a.next ≤ 2 ^ 40
   pub quiet : (t : ℕ) → b.clock ≤ t → t < a.next → board_quiet t b ≡ true
-  pub calm : (i : ℕ) → a.settled + i < a.next → sets_flag_at a.settled b i ≡ false
-  pub past : (i : ℕ) → a.settled + i < b.clock → sets_flag_at a.settled b i ≡ false
+  pub calm : (i : ℕ) → a.settled + i < a.next → changes_flag_at a.settled b i ≡ false
+  pub past : (i : ℕ) → a.settled + i < b.clock → changes_flag_at a.settled b i ≡ false
+  pub steady : (i : ℕ) → a.settled + i < a.steady → sets_flag_at a.settled b i ≡ false
   pub lines : (lines_of b).bits ≡ a.lines
   pub clear : a.clear ≤ a.next
   pub down : 0 < a.clear → a.lines ≡ 0
 
--- up to the beginning of cycle `bound` no line is up, nothing of a board ends and no timer sets a flag
+-- up to the beginning of cycle `bound` no line is up, nothing of a board ends and no flag of a timer changes
 pub record IsClear (bound : ℕ) (b : Board) : Type 0 where
   pub down : b.clock < bound → (lines_of b).bits ≡ 0
   pub quiet : (t : ℕ) → b.clock ≤ t → t < bound → board_quiet t b ≡ true
-  pub calm : (i : ℕ) → b.clock + i < bound → sets_flag_at b.clock b i ≡ false
+  pub calm : (i : ℕ) → b.clock + i < bound → changes_flag_at b.clock b i ≡ false
 
 -- n cycles from cycle t on in which nothing of a board ends, and each of which begins with the lines of now
 pub record IsIdle (t n : ℕ) (b : Board) : Type 0 where

@@ -1,6 +1,6 @@
 // What is known of a board's next cycles.
 ghost use Rattle.std.specs.Prelude.{◌≡◌, ◌≤◌, ◌<◌, ◌+◌, ◌^◌, ℕ, false};
-ghost use Rattle.board_io.specs.Passing.{sets_flag_at};
+ghost use Rattle.board_io.specs.Passing.{changes_flag_at, sets_flag_at};
 ghost use Rattle.board_io.specs.Lagging.{IsAhead};
 
 use crate::Board;
@@ -8,13 +8,19 @@ use crate::Board;
 // The last cycle that anything is told of.
 const LAST: u64 = 1 << 40;
 
+// How many cycles on the next flag must be set at least, so that it is not asked whether it is set already.
+const NEAR: u64 = 32;
+
 /// What is known of a board whose timers have done the cycles below one.
 #[derive(Clone, Copy)]
 pub struct Forecast {
     /// That cycle.
     pub settled: u64,
-    /// Below this cycle, 2^40 at most, no frame and no transfer ends, and up to its beginning the lines stay.
+    /// Below this cycle, 2^40 at most, no frame and no transfer ends and no flag of a timer changes, so that up to its
+    /// beginning the lines stay.
     pub next: u64,
+    /// Below this cycle no timer sets a flag, be it set already or not.
+    pub steady: u64,
     /// The interrupt lines.
     pub lines: u64,
     /// `next` where no line is up, else 0: so one comparison tells whether cycles pass in which no interrupt can be
@@ -44,14 +50,42 @@ impl Board {
         let settled = self.clock.get();
         let calm = self.quiet(settled, LAST - settled);
         let same = self.same_lines(settled, calm + 1);
-        let next = settled + (same - 1);
+        let steady = settled + (same - 1);
+        let next = self.same_until(settled, calm, steady);
         let lines = self.lines().bits;
         Forecast {
             settled,
             next,
+            steady,
             lines,
             clear: clear_until(lines, next),
         }
+    }
+
+    // Up to which cycle, of at most `calm` cycles from `settled` on, no flag changes, where none is set below `steady`.
+    // Most timers set one that is not set; of those that set one again and again, the first that is not is looked for.
+    #[inline(always)]
+    fn same_until(&self, settled: u64, calm: u64, steady: u64) -> u64
+        requires early { settled + calm ≤ 2 ^ 40 }
+        requires within { steady ≤ settled + calm }
+        requires steady { (i : ℕ) → settled + i < steady → sets_flag_at settled self.now i ≡ false }
+        ensures within { result ≤ settled + calm }
+        ensures calm { (i : ℕ) → settled + i < result → changes_flag_at settled self.now i ≡ false }
+    {
+        if steady >= settled + NEAR.min(calm) {
+            return steady;
+        }
+        self.flags_until(settled, calm)
+    }
+
+    // Up to which cycle, of at most `calm` cycles from `settled` on, no flag changes.
+    #[inline(never)]
+    fn flags_until(&self, settled: u64, calm: u64) -> u64
+        requires early { settled + calm ≤ 2 ^ 40 }
+        ensures within { result ≤ settled + calm }
+        ensures calm { (i : ℕ) → settled + i < result → changes_flag_at settled self.now i ≡ false }
+    {
+        settled + self.same_flags(settled, calm)
     }
 
     /// What is known of it, where of its timers what `before` tells is known still.
@@ -59,8 +93,9 @@ impl Board {
         requires settled { before.settled ≤ self.now.clock }
         requires now { self.now.clock ≤ 2 ^ 40 }
         requires early { before.next ≤ 2 ^ 40 }
-        requires calm { (i : ℕ) → before.settled + i < before.next → sets_flag_at before.settled self.now i ≡ false }
-        requires past { (i : ℕ) → before.settled + i < self.now.clock → sets_flag_at before.settled self.now i ≡ false }
+        requires calm { (i : ℕ) → before.settled + i < before.next → changes_flag_at before.settled self.now i ≡ false }
+        requires past { (i : ℕ) → before.settled + i < self.now.clock → changes_flag_at before.settled self.now i ≡ false }
+        requires steady { (i : ℕ) → before.settled + i < before.steady → sets_flag_at before.settled self.now i ≡ false }
         ensures settled { result.settled ≡ before.settled }
         ensures ahead { IsAhead result self.now }
     {
@@ -71,6 +106,7 @@ impl Board {
         Forecast {
             settled: before.settled,
             next,
+            steady: before.steady,
             lines,
             clear: clear_until(lines, next),
         }

@@ -222,9 +222,25 @@ impl LaggingBoard {
     pub fn entered(&mut self, v: Vector)
         ensures { self.new ≡ entered_of v.word self.old }
     {
+        if self.board.clock.get() > self.ahead.steady {
+            self.enter_caught_up(v);
+            return;
+        }
         self.board.entered(v);
         let lines = self.board.lines().bits;
+        let next = self.ahead.next.min(self.ahead.steady);
+        self.ahead.next = next;
         self.ahead.lines = lines;
-        self.ahead.clear = clear_until(lines, self.ahead.next);
+        self.ahead.clear = clear_until(lines, next);
+    }
+
+    // The same where a timer may have set the flag again in a cycle that is not made up for yet.
+    #[inline(never)]
+    fn enter_caught_up(&mut self, v: Vector)
+        ensures { self.new ≡ entered_of v.word self.old }
+    {
+        self.board.catch_up(self.ahead.settled);
+        self.board.entered(v);
+        self.ahead = self.board.ahead();
     }
 }

@@ -152,15 +152,18 @@ impl LaggingBoard {
     {
         let rule = listed_rule(at);
         let settled = self.ahead.settled;
-        let n = self.board.clock.get() - settled;
+        let clock = self.board.clock.get();
+        let n = clock - settled;
+        // whether no timer has passed its top since
+        let steady = clock <= self.ahead.steady;
         match rule {
-            Rule::Timer0(reg) => Ok(self.board.t0.get_calm(settled, n, reg)),
-            Rule::Timer1(reg) => Ok(self.board.t1.get_calm(settled, n, reg)),
-            Rule::Timer2(reg) => Ok(self.board.t2.get_calm(settled, n, reg)),
-            Rule::Timer3(reg) => Ok(self.board.t3.get_calm(settled, n, reg)),
+            Rule::Timer0(reg) if steady => Ok(self.board.t0.get_calm(settled, n, reg)),
+            Rule::Timer1(reg) if steady => Ok(self.board.t1.get_calm(settled, n, reg)),
+            Rule::Timer2(reg) if steady => Ok(self.board.t2.get_calm(settled, n, reg)),
+            Rule::Timer3(reg) if steady => Ok(self.board.t3.get_calm(settled, n, reg)),
             Rule::Spi(SpiReg::Spdr) => self.get_spdr(at),
             _ if is_plain_read(rule) => self.get_plain(rule, at as u8),
-            _ => self.get_port_at(at),
+            _ => self.get_beside(at),
         }
     }
 
@@ -172,19 +175,34 @@ impl LaggingBoard {
         ensures { IsGot (get_by (rule_of at) self.old at) self.old result self.new }
     {
         if self.board.spi.line() {
-            return self.get_port_at(at);
+            return self.get_beside(at);
         }
         self.board.get_by(Rule::Spi(SpiReg::Spdr), at as u8)
     }
 
-    // A read of a port, in a call of its own: inlined, the code would slow the other reads.
+    // A read of a port, or of a timer that may have passed its top, in a call of its own: inlined, the code would slow the
+    // other reads.
     #[inline(never)]
-    fn get_port_at(&mut self, at: u16) -> Result<u8, StopCause>
-        requires listed { at ≤ 0x9F }
-        requires port { is_port (rule_of at) ≡ true }
+    fn get_beside(&mut self, at: u16) -> Result<u8, StopCause>
+        requires { at ≤ 0x9F }
         ensures { IsGot (get_by (rule_of at) self.old at) self.old result self.new }
     {
-        self.get_port(listed_rule(at), at as u8)
+        let low = at as u8;
+        let rule = listed_rule(at);
+        match rule {
+            Rule::Usart0(_) | Rule::Spi(_) => self.get_port(rule, low),
+            _ => self.get_caught_up(rule, low),
+        }
+    }
+
+    // A read of a timer that may have passed its top in the cycles that are made up for first.
+    fn get_caught_up(&mut self, rule: Rule, at: u8) -> Result<u8, StopCause>
+        ensures { IsGot (get_by rule self.old at) self.old result self.new }
+    {
+        self.board.catch_up(self.ahead.settled);
+        let got = self.board.get_by(rule, at);
+        self.ahead = self.board.ahead();
+        got
     }
 
     // A write that looks at no timer.

@@ -93,10 +93,46 @@ fn same_flags_16(timer: &Timer16, cycle: u64, most: u64) -> u64
     }
 }
 
+// For how many cycles from `cycle` on, of at most `most`, no flag of the timer changes.
+#[inline(always)]
+#[tactic(auto, using(crate::proofs::Steady::kept_8))]
+fn unchanged_8(timer: &Timer8, cycle: u64, most: u64) -> u64
+    requires { cycle ≤ 2 ^ 40 }
+    ensures within { result ≤ most }
+    ensures calm { (i : ℕ) → i < result → timer8.changes_flag_at cycle timer.now i ≡ false }
+    ensures first { result < most → timer8.changes_flag_at cycle timer.now result ≡ true }
+{
+    if timer.select == 0 {
+        return most;
+    }
+    match timer.next_change(cycle) {
+        None => most,
+        Some(event) => most.min(event - cycle),
+    }
+}
+
+// For how many cycles from `cycle` on, of at most `most`, no flag of the timer of sixteen bits changes.
+#[inline(always)]
+#[tactic(auto, using(crate::proofs::Steady::kept_16))]
+fn unchanged_16(timer: &Timer16, cycle: u64, most: u64) -> u64
+    requires { cycle ≤ 2 ^ 40 }
+    ensures within { result ≤ most }
+    ensures calm { (i : ℕ) → i < result → timer16.changes_flag_at cycle timer.now i ≡ false }
+    ensures first { result < most → timer16.changes_flag_at cycle timer.now result ≡ true }
+{
+    if timer.select == 0 {
+        return most;
+    }
+    match timer.next_change(cycle) {
+        None => most,
+        Some(event) => most.min(event - cycle),
+    }
+}
+
 impl Board {
     ghost use Rattle.board_io.specs.Cycle.{board_quiet, timers_leap};
     ghost use Rattle.board_io.specs.Lines.{lines_of};
-    ghost use Rattle.board_io.specs.Passing.{sets_flag_at};
+    ghost use Rattle.board_io.specs.Passing.{changes_flag_at, sets_flag_at};
 
     /// For how many cycles from `cycle` on, of at most `most`, no frame and no transfer ends, as far as what runs now
     /// tells: up to the first end.
@@ -139,5 +175,18 @@ impl Board {
         let second = same_flags_16(&self.t1, cycle, first);
         let third = same_flags_8(&self.t2, cycle, second);
         same_flags_16(&self.t3, cycle, third)
+    }
+
+    /// For how many cycles from `cycle` on, of at most `most`, no flag of a timer changes.
+    pub fn same_flags(&self, cycle: u64, most: u64) -> u64
+        requires { cycle ≤ 2 ^ 40 }
+        ensures within { result ≤ most }
+        ensures calm { (i : ℕ) → i < result → changes_flag_at cycle self.now i ≡ false }
+        ensures first { result < most → changes_flag_at cycle self.now result ≡ true }
+    {
+        let first = unchanged_8(&self.t0, cycle, most);
+        let second = unchanged_16(&self.t1, cycle, first);
+        let third = unchanged_8(&self.t2, cycle, second);
+        unchanged_16(&self.t3, cycle, third)
     }
 }

@@ -15,8 +15,8 @@ use Rattle.world_core.specs.Topology.{Topology}
 use Rattle.air_base.proofs.Each.{All_each}
 use Rattle.world_core.proofs.Sends.{all_inside, each_cycle, first, next_sends}
 use Rattle.state_text.specs.Bounds.{are_sends, follows, is_kept, kept_behind}
-use Rattle.checkpoint_text.proofs.Ordered.{of_one}
-use Rattle.checkpoint_text.proofs.Records.{pairs_append}
+use Rattle.fleet_flight.proofs.Ordered.{of_one}
+use Rattle.fleet_flight.proofs.Records.{pairs_append}
 
 -- x comes before y
 abbrev pub Before : Send → Send → Type 0

@@ -14,7 +14,7 @@ use Rattle.world_core.specs.Sends.{sends_of}
 use Rattle.air_base.proofs.Each.{each_same}
 use Rattle.world_core.proofs.Final.{through}
 use Rattle.world_core.proofs.Resumed.{resumes}
-use Rattle.checkpoint_text.proofs.Hearing.{kept_heard}
+use Rattle.fleet_flight.proofs.Hearing.{kept_heard}
 
 module _ {S R : Type 0} (f : Fleet S R) (c : ℕ) (from : f.start ≤ c) (lim : c ≤ f.topo.limit) (begins : ℕ → S) (sent : List Send)
     (same : (k : ℕ) → k < f.topo.nodes → begins k ≡ node_at f k c) (kept : sent ≡ filter (is_kept f.topo c) (world_at f c).sends) where

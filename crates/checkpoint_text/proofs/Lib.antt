@@ -1,15 +1,5 @@
-pub mod Alone
-pub mod Trails
-pub mod Ordered
-pub mod Hearing
-pub mod Flights
-pub mod Steps
 pub mod NodeIs
-pub mod EachNode
-pub mod OnwardRows
-pub mod Records
 pub mod Continues
 pub mod Bounded
 pub mod Prefix
-pub mod Shown
 pub mod Saving

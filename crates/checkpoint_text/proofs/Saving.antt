@@ -1,4 +1,4 @@
--- The state of a run onward: its nodes as they are at the cycle reached, and the sends that can still be heard in order.
+-- The state of a run: its nodes as they are at the cycle reached, and the sends that can still be heard in order.
 use Rattle.std.proofs.Common.{◌≡◌, ℕ, ◌+◌, ◌<◌, ◌≤◌, ◌==◌, Bool, true, false, cond, Option, None, Some, List, [], ◌∷◌, length, map, get_or, refl, sym, subst, ◌∙◌, ap, arith}
 use Rattle.std.specs.Prelude.{slice_index, slice_index_or}
 use Rattle.std.specs.List.{All, AllByRecursion, filter, range_with_len}
@@ -8,7 +8,8 @@ use Rattle.std.proofs.lemmas.List.Elements.{All-cons, All-head, All-nil, All-tai
 use Rattle.std.proofs.lemmas.List.FromFn.{get_or-map-range_with_len, length-map-range_with_len}
 use Rattle.air_base.specs.declared.air.Send.{Send}
 use Rattle.air_base.specs.NodeRun.{Timed}
-use Rattle.board_io.specs.Kept.{io_at}
+use Rattle.board_io.specs.declared.board.Board.{Board}
+use Rattle.board_io.specs.Kept.{io_at, io_of}
 use Rattle.world_core.specs.Kept.{is_kept}
 use Rattle.world_core.specs.Order.{Fleet, node_at}
 use Rattle.world_core.specs.Topology.{Topology}
@@ -22,7 +23,7 @@ use Rattle.state_text.specs.Bounds.{are_sends}
 use Rattle.state_text.specs.Text.{NodeOf, StateOf}
 use Rattle.state_text.specs.Writing.{IsSized, node_of as saved_node_of}
 use Rattle.checkpoint_text.specs.Onward.{onward}
-use Rattle.checkpoint_text.specs.Paused.{IsPaused}
+use Rattle.fleet_flight.specs.Paused.{IsPaused}
 use Rattle.checkpoint_text.specs.State.{kept_of, parts_of, stood}
 use Rattle.checkpoint_text.proofs.Bounded.{IsBehind, IsInside, are_behind, are_inside}
 
@@ -73,6 +74,16 @@ sends_saved sc st c vs xs zs order paused ordered =
     ordered_sends (onward sc st) (earlier sc.topo st.cycle None st.sends order) (state_in_order sc.topo st.cycle st.sends order) c (is_kept sc.topo c) (filter (is_kept sc.topo c) xs) zs paused.begun paused.kept ordered
 
 -- ---- the nodes
+
+pub io_shown : (b : Board) (place : ℕ) → place < 224 → io_at (0x20 + place) b ≡ slice_index (io_of b) place
+io_shown b place low =
+    let at : 0 + place ≡ place = omega arith in
+    sym (get_or-map-range_with_len (λ k. io_at (0x20 + k) b) 0 224 place place 0 low at)
+
+pub sram_shown : (bytes : List ℕ) (place : ℕ) → place < 4096 → slice_index bytes place ≡ slice_index (map (λ k. slice_index bytes k) (range_with_len 0 4096)) place
+sram_shown bytes place low =
+    let at : 0 + place ≡ place = omega arith in
+    sym (get_or-map-range_with_len (λ k. slice_index bytes k) 0 4096 place place 0 low at)
 
 pub stood_at : (vs : List (Timed NodeState Row)) (k : ℕ) (v : Timed NodeState Row) → k < length vs → v ≡ slice_index_or vs k v → saved_node_of (stood vs) k ≡ parts_of v.state
 stood_at vs k v low is = get_or-map (λ v. parts_of v.state) vs k v (record { numbers = []; io = []; sram = [] }) low ∙ ap (λ (w : Timed NodeState Row). parts_of w.state) (sym is)

@@ -1,5 +1,4 @@
 pub mod NodeOf
 pub mod Onward
 pub mod Paused
-pub mod Turns
 pub mod State

@@ -7,6 +7,7 @@ use Rattle.world_core.specs.Order.{Fleet}
 use Rattle.node_core.specs.declared.row.Row.{Row}
 use Rattle.node_core.specs.Restored.{fault_of}
 use Rattle.node_core.specs.State.{NodeState}
+use Rattle.fleet_flight.specs.Origin.{Origin}
 use Rattle.node_runner.specs.Scenario.{ScenarioOf, fleet_of}
 use Rattle.state_text.specs.Bounds.{are_sends}
 use Rattle.state_text.specs.Text.{NodeOf, StateOf}
@@ -22,6 +23,10 @@ saved_node st k = slice_index_or st.nodes k no_node
 -- the nodes of the state, from its cycle on; `run_rows` of it is the rest of the trace
 abbrev pub onward : ScenarioOf → StateOf → Fleet NodeState Row
 onward sc st = record (fleet_of sc) { start = st.cycle; begins = λ k. node_of sc k (saved_node st k); sent = st.sends }
+
+-- the moment in which it begins
+abbrev pub origin_of : ScenarioOf → StateOf → Origin
+origin_of sc st = record { topo = sc.topo; cycle = st.cycle; states = (onward sc st).begins; sends = st.sends }
 
 -- what is saved of a node is that of one that has reached a cycle
 pub record IsFit (cycle : ℕ) (n : NodeOf) : Type 0 where

@@ -9,7 +9,6 @@ use Rattle.board_io.specs.Kept.{first_refused, io_of}
 use Rattle.node_core.specs.Numbers.{first_outside, numbers_of}
 use Rattle.node_core.specs.declared.row.Row.{Row}
 use Rattle.node_core.specs.State.{NodeState}
-use Rattle.node_runner.specs.Place.{Place, state_at}
 use Rattle.node_runner.specs.Scenario.{ScenarioOf, fleet_of}
 use Rattle.state_text.specs.Bounds.{Rules, rules}
 use Rattle.state_text.specs.Reading.{state_of}
@@ -87,8 +86,3 @@ saved_with sc c sends = state_with (fleet_of sc) c sends
 -- of nodes
 abbrev pub stood : List (Timed NodeState Row) → List NodeOf
 stood vs = map (λ v. parts_of v.state) vs
-
--- a runner that is at cycle c or stopped before it, so that its node is as it is at cycle c, with no sample unanswered
-pub record IsAt (sc : ScenarioOf) (c k : ℕ) (p : Place) : Type 0 where
-  pub calm : p.asking ≡ false
-  pub state : state_at p ≡ node_at (fleet_of sc) k c

@@ -1,13 +1,10 @@
 //! A saved state of a run, as text and as a run that goes on from it.
 #![tactic(auto)]
 
-mod flight;
 mod law;
+mod onward;
 mod reading;
-mod record;
-mod rows;
 mod saved;
-mod turns;
 mod writing;
 
 pub use law::fit_law;

@@ -6,20 +6,19 @@ ghost use Rattle.world_core.specs.Kept.{epoch};
 ghost use Rattle.air_base.specs.NodeRun.{Timed};
 ghost use Rattle.node_core.specs.declared.row.Row.{Row};
 ghost use Rattle.node_core.specs.State.{NodeState};
-ghost use Rattle.node_runner.specs.Run.{rows_upto};
 ghost use Rattle.world_core.specs.Order.{node_at};
-ghost use Rattle.checkpoint_text.specs.Onward.{CanResume, IsFit, onward};
+ghost use Rattle.fleet_flight.specs.Paused.{HaveBegun};
+ghost use Rattle.fleet_flight.specs.Rows.{rows_upto};
+ghost use Rattle.checkpoint_text.specs.Onward.{CanResume, IsFit, onward, origin_of};
 ghost use Rattle.checkpoint_text.specs.NodeOf.{node_of};
-ghost use Rattle.checkpoint_text.specs.Paused.{AllRestored};
 ghost use Rattle.checkpoint_text.specs.State.{kept_of};
 
-use crate::record::record_of;
-use crate::rows::rows_to;
+use crate::onward::InState;
 use air_base::Send;
 use avr_base::NoMemory;
+use fleet_flight::{kept_sends, pass_to, record_of, rows_to};
 use node_core::{Node, RestoreFault, Row};
 use node_runner::Scenario;
-use send_order::ordered;
 use state_text::{NodeParts, StateParts};
 use std::alloc::Global;
 use std::marker::Model;
@@ -61,7 +60,7 @@ fn node_of(
 // The nodes of the scenario, in order.
 fn nodes_of(alloc: Global, scenario: &Scenario, state: &StateParts) -> Result<Vec<Node>, NoMemory>
     requires { CanResume scenario.now state.now }
-    ensures { IfOk result (λ nodes. AllRestored scenario.now state.now (length state.now.nodes) nodes.items) }
+    ensures { IfOk result (λ nodes. HaveBegun (origin_of scenario.now state.now) (length state.now.nodes) nodes.items) }
 {
     // The call's clause says that the scenario is one (`IsScenario`), which what follows rests on.
     let _lawful = scenario.lawful_topo();
@@ -117,11 +116,7 @@ impl Model for Saved {
 
 impl Saved {
     /// The run before its first epoch, at the state's cycle.
-    pub(crate) fn new(
-        alloc: Global,
-        scenario: &Scenario,
-        state: &StateParts,
-    ) -> Result<Saved, NoMemory>
+    pub fn new(alloc: Global, scenario: &Scenario, state: &StateParts) -> Result<Saved, NoMemory>
         requires { CanResume scenario.now state.now }
         ensures { IfOk result (λ saved. saved ≡ record { scenario = scenario.now; state = state.now; floor = state.now.cycle; failed = false }) }
     {
@@ -173,10 +168,7 @@ impl Saved {
         requires sound { self.now.failed ≡ false }
         ensures { IfOk result (λ sends. sends.items ≡ kept_of (onward scenario.now self.now.state) self.now.floor) }
     {
-        let all = self.log.sends();
-        let mut kept = record_of(self.alloc, all, all.len())?;
-        kept.cut(scenario.lawful_topo(), self.floor);
-        let sends = ordered(self.alloc, kept.sends())?;
+        let sends = kept_sends(self.alloc, scenario.lawful_topo(), &self.log, self.floor)?;
         Ok(sends)
     }
 
@@ -192,18 +184,49 @@ impl Saved {
         ensures state { self.new.state ≡ self.old.state }
     {
         self.failed = true;
+        let from = InState {
+            scenario,
+            state: &self.state,
+        };
         let end = (self.floor + EPOCH).min(self.limit);
         let rows = rows_to(
             self.alloc,
-            &self.state,
+            &from,
             &mut self.nodes,
             &mut self.log,
-            scenario,
             self.floor,
             end,
         )?;
         self.floor = end;
         self.failed = false;
         Ok(rows)
+    }
+
+    /// Passes over the next epoch, as `epoch` goes through it, but gives no rows. The scenario is the one of the state.
+    /// After `NoMemory` the run can only be dropped.
+    pub fn pass(&mut self, scenario: &Scenario) -> Result<(), NoMemory>
+        requires same { scenario.now ≡ self.old.scenario }
+        requires sound { self.old.failed ≡ false }
+        ensures after { OnOk result (self.new ≡ record self.old { floor = min (self.old.floor + epoch) self.old.scenario.topo.limit }) }
+        ensures scenario { self.new.scenario ≡ self.old.scenario }
+        ensures state { self.new.state ≡ self.old.state }
+    {
+        self.failed = true;
+        let from = InState {
+            scenario,
+            state: &self.state,
+        };
+        let end = (self.floor + EPOCH).min(self.limit);
+        pass_to(
+            self.alloc,
+            &from,
+            &mut self.nodes,
+            &mut self.log,
+            self.floor,
+            end,
+        )?;
+        self.floor = end;
+        self.failed = false;
+        Ok(())
     }
 }

@@ -1,77 +1,25 @@
 // The state of a run is written as text.
-ghost use Rattle.std.specs.Prelude.{◌≡◌, ◌<◌, ◌≤◌, ℕ, false, length, map, slice_index_or, OnErr, OnOk};
+ghost use Rattle.std.specs.Prelude.{◌≡◌, ◌<◌, ◌≤◌, ℕ, false, length, slice_index_or, OnErr, OnOk};
 ghost use Rattle.sim_io.specs.Outside.{Rose, TookFront, extended};
-ghost use Rattle.node_runner.specs.Place.{Place, state_at};
+ghost use Rattle.air_base.specs.NodeRun.{Timed};
+ghost use Rattle.node_core.specs.declared.row.Row.{Row};
+ghost use Rattle.node_core.specs.State.{NodeState};
+ghost use Rattle.world_core.specs.Order.{node_at};
+ghost use Rattle.node_runner.specs.Scenario.{fleet_of};
 ghost use Rattle.state_text.specs.Text.{state_text};
 ghost use Rattle.state_text.specs.Writing.{node_of};
 ghost use Rattle.checkpoint_text.specs.Onward.{onward};
-ghost use Rattle.checkpoint_text.specs.State.{IsAt, parts_of, saved_with, state_with, stood};
+ghost use Rattle.checkpoint_text.specs.State.{parts_of, saved_with, state_with, stood};
 
 use crate::saved::Saved;
 use air_base::Send;
 use node_core::Node;
-use node_runner::{Runner, Scenario};
+use node_runner::Scenario;
 use sim_io::{Sink, SinkFault};
 use state_text::{Nodes, write};
 use std::marker::Model;
 
-// The nodes of a run, none of which has a sample unanswered.
-#[derive(Drop)]
-struct Runners<'a> {
-    runners: &'a [Runner],
-}
-
-impl<'a> Model for Runners<'a> {
-    ghost use Rattle.std.specs.Prelude.{◌≡◌, ◌<◌, ℕ, List, false, length, slice_index_or};
-    ghost use Rattle.node_runner.specs.Place.{Place};
-
-    ghost Value = { List Place };
-
-    ghost view = { λ r. r.runners.now };
-
-    ghost invariant = { λ r. (k : ℕ) (d : Place) → k < length r.runners.now → (slice_index_or r.runners.now k d).asking ≡ false };
-}
-
-// The node of a runner that has no sample unanswered.
-fn node_at(runners: &[Runner], node: usize) -> &Node
-    requires node { node < length runners.now }
-    requires calm { (d : Place) → (slice_index_or runners.now node d).asking ≡ false }
-    ensures { parts_of result.now.state ≡ node_of (map (λ p. parts_of (state_at p)) runners.now) node }
-{
-    runners[node].node()
-}
-
-impl<'a> Runners<'a> {
-    // The node at a place.
-    fn node(&self, node: usize) -> &Node
-        requires { node < length self.now }
-        ensures { parts_of result.now.state ≡ node_of (map (λ p. parts_of (state_at p)) self.now) node }
-    {
-        node_at(self.runners, node)
-    }
-}
-
-impl<'a> Nodes for Runners<'a> {
-    ghost nodes = { λ runners. map (λ p. parts_of (state_at p)) runners };
-
-    fn count(&self) -> usize {
-        self.runners.len()
-    }
-
-    fn numbers(&self, node: usize) -> [u64; 108] {
-        self.node(node).numbers()
-    }
-
-    fn io(&self, node: usize, place: usize) -> u8 {
-        self.node(node).io(0x20 + place as u16)
-    }
-
-    fn sram(&self, node: usize, place: usize) -> u8 {
-        self.node(node).sram(0x0100 + place as u16)
-    }
-}
-
-// The nodes of a run onward.
+// The nodes of a run.
 #[derive(Drop)]
 struct Stood<'a> {
     nodes: &'a [Node],
@@ -135,18 +83,18 @@ pub fn write_onward_state<O: Sink>(
     write(saved.cycle(), &Stood { nodes }, sends, sink)
 }
 
-/// Writes the text of the state of a run of the scenario at `cycle`: of all nodes, each with no sample unanswered and
-/// at that cycle, or stopped before it, and of the sends that may still be heard, in order of cycle, then node. At a
-/// fault a front of the text was taken, and the sink's count rose.
+/// Writes the text of the state of a run of the scenario from reset at `cycle`: of all nodes, as they are then, and of
+/// the sends that may still be heard, in order of cycle, then node. At a fault a front of the text was taken, and the
+/// sink's count rose.
 pub fn write_state<O: Sink>(
     _scenario: &Scenario,
     cycle: u64,
-    runners: &[Runner],
+    nodes: &[Node],
     sends: &[Send],
     sink: &mut O,
 ) -> Result<(), SinkFault>
-    requires count { length runners.now ≡ _scenario.now.topo.nodes }
-    requires at { (k : ℕ) (d : Place) → k < _scenario.now.topo.nodes → IsAt _scenario.now cycle k (slice_index_or runners.now k d) }
+    requires count { length nodes.now ≡ _scenario.now.topo.nodes }
+    requires states { (k : ℕ) (d : Timed NodeState Row) → k < _scenario.now.topo.nodes → (slice_index_or nodes.now k d).state ≡ node_at (fleet_of _scenario.now) k cycle }
     ensures taken { OnOk result (O.taken sink.new ≡ extended (O.taken sink.old) (state_text (saved_with _scenario.now cycle sends.now))) }
     ensures ok { OnOk result (O.faults sink.new ≡ O.faults sink.old) }
 
@@ -154,5 +102,5 @@ pub fn write_state<O: Sink>(
     ensures later { O.faults sink.old ≤ O.faults sink.new }
     ensures rose { OnErr result (Rose (O.faults sink.old) (O.faults sink.new)) }
 {
-    write(cycle, &Runners { runners }, sends, sink)
+    write(cycle, &Stood { nodes }, sends, sink)
 }

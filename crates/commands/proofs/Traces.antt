@@ -12,8 +12,8 @@ use Rattle.air_base.specs.NodeKind.{ticked_rows}
 use Rattle.air_base.specs.Each.{each_below}
 use Rattle.world_core.specs.Order.{Fleet, world_after, world_at, hears, end_rows, run_rows}
 use Rattle.node_runner.specs.Scenario.{ScenarioOf, IsScenario, fleet_of}
-use Rattle.node_runner.specs.Run.{rows_upto}
-use Rattle.node_runner.proofs.Epoch.{first_rows}
+use Rattle.fleet_flight.specs.Rows.{rows_upto}
+use Rattle.fleet_flight.proofs.Epoch.{first_rows}
 use Rattle.run_reports.proofs.Runs.{rows_whole}
 
 -- a list begins with another one
@@ -92,7 +92,7 @@ pub taken_none : (o : Option (List ℕ)) (rows : List Row) → rows ≡ [] → o
 taken_none o rows e = nothing_taken o ∙ ap (extended o) (sym (ap rows_text e ∙ text_none))
 
 pub taken_first : (o : Option (List ℕ)) (sc : ScenarioOf) (c : ℕ) → IsScenario sc → c ≡ 0 → o ≡ extended o (rows_text (rows_upto (fleet_of sc) c))
-taken_first o sc c ok e = taken_none o (rows_upto (fleet_of sc) c) (ap (rows_upto (fleet_of sc)) e ∙ first_rows sc ok)
+taken_first o sc c ok e = taken_none o (rows_upto (fleet_of sc) c) (ap (rows_upto (fleet_of sc)) e ∙ first_rows (fleet_of sc) (let x = ok.topo.ranges.limit_from in omega arith))
 
 -- a sink took the text of these rows, and now that of the next ones
 pub taken_next : (o p q : Option (List ℕ)) (before rows after : List Row) → p ≡ extended o (rows_text before) → after ≡ before ++ rows → q ≡ extended p (rows_text rows)

@@ -7,7 +7,7 @@ ghost use Rattle.command_plans.specs.Parts.{ReadAs, Written};
 ghost use Rattle.commands.specs.Parts.{EndsEpoch, EndsFrom, IsCutOn, IsFresh};
 ghost use Rattle.commands.specs.Plan.{state_plan};
 ghost use Rattle.world_core.specs.Kept.{epoch};
-ghost use Rattle.node_runner.specs.Run.{rows_upto};
+ghost use Rattle.fleet_flight.specs.Rows.{rows_upto};
 ghost use Rattle.node_runner.specs.Scenario.{IsScenario};
 ghost use Rattle.state_text.specs.Text.{state_text};
 ghost use Rattle.trace_writer.specs.Line.{rows_text};
@@ -57,8 +57,7 @@ fn run_up_to(network: &Scenario, run: &mut PlainRun, end: u64) -> Result<(), NoM
     ensures { OnOk result (run.new ≡ record { scenario = network.now; floor = end; failed = false }) }
 {
     while run.floor() < end {
-        // The rows up to there are in no saved state.
-        let _ = run.epoch(network)?;
+        run.pass(network)?;
     }
     Ok(())
 }
@@ -80,7 +79,10 @@ pub fn write_saved<'n, O: Sink>(
     let Ok(()) = run_up_to(network, &mut run, end) else {
         return Err(Trouble::NoMemory);
     };
-    match write_state(network, end, run.runners(), run.sends(), out) {
+    let Ok(sends) = run.sends(network) else {
+        return Err(Trouble::NoMemory);
+    };
+    match write_state(network, end, run.nodes(), sends.as_slice(), out) {
         Ok(()) => Ok(()),
         Err(_) => Err(Trouble::OutFailed),
     }
@@ -94,8 +96,7 @@ fn go_on(network: &Scenario, saved: &mut Saved, end: u64) -> Result<(), NoMemory
     ensures { OnOk result (saved.new ≡ record { scenario = network.now; state = saved.old.state; floor = end; failed = false }) }
 {
     while saved.cycle() < end {
-        // The rows up to there are in no saved state.
-        let _ = saved.epoch(network)?;
+        saved.pass(network)?;
     }
     Ok(())
 }

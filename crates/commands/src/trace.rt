@@ -5,7 +5,7 @@ ghost use Rattle.command_plans.specs.Parts.{Written};
 ghost use Rattle.commands.specs.Network.{trace_of};
 ghost use Rattle.commands.specs.Parts.{EndsEpoch};
 ghost use Rattle.world_core.specs.Kept.{epoch};
-ghost use Rattle.node_runner.specs.Run.{rows_upto};
+ghost use Rattle.fleet_flight.specs.Rows.{rows_upto};
 ghost use Rattle.node_runner.specs.Scenario.{IsScenario, fleet_of};
 ghost use Rattle.trace_writer.specs.Line.{rows_text};
 ghost use Rattle.world_core.specs.Order.{world_at};

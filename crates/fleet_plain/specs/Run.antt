@@ -1,23 +1,21 @@
--- A run in epochs. Own to this simulator.
-use Rattle.std.specs.Prelude.{◌≡◌, ℕ, ◌≤◌, false, List}
-use Rattle.std.specs.List.{All}
+-- A run from reset, in epochs. Own to this simulator.
+use Rattle.std.specs.Prelude.{◌≡◌, ℕ, ◌≤◌, false, List, []}
 use Rattle.air_base.specs.declared.air.Send.{Send}
-use Rattle.world_core.specs.Kept.{epoch, kept_room_of}
-use Rattle.world_core.specs.Chain.{LogFacts}
-use Rattle.node_runner.specs.Scenario.{ScenarioOf, IsScenario}
-use Rattle.node_runner.specs.Place.{Place, is_live}
-use Rattle.node_runner.specs.Run.{RunAt, kept_at}
-use Rattle.fleet_plain.specs.Flight.{InFlight}
+use Rattle.air_base.specs.NodeRun.{Timed}
+use Rattle.node_core.specs.declared.row.Row.{Row}
+use Rattle.node_core.specs.State.{NodeState}
+use Rattle.fleet_flight.specs.Origin.{Origin}
+use Rattle.fleet_flight.specs.Paused.{IsPaused}
+use Rattle.node_runner.specs.Scenario.{ScenarioOf, IsScenario, fleet_of}
+use Rattle.node_runner.specs.Run.{RunAt}
 
--- all nodes have come to the floor, or stopped before
-pub record IsResting (sc : ScenarioOf) (floor : ℕ) (ps : List Place) (log : LogFacts) : Type 0 where
-  pub flight : InFlight sc floor floor ps log.sends
-  pub still : All (λ p. is_live floor p ≡ false) ps
-  pub room : kept_room_of sc.topo epoch ≤ log.room
+-- all nodes of a scenario at reset
+abbrev pub at_reset : ScenarioOf → Origin
+at_reset s = record { topo = s.topo; cycle = 0; states = (fleet_of s).begins; sends = [] }
 
-pub record IsRun (r : RunAt) (last : ℕ) (ps : List Place) (log : LogFacts) (xs : List Send) : Type 0 where
+-- what holds of the inside of a run
+pub record IsRun (r : RunAt) (last : ℕ) (vs : List (Timed NodeState Row)) (xs : List Send) : Type 0 where
   pub scenario : IsScenario r.scenario
   pub limit : last ≡ r.scenario.topo.limit
   pub within : r.floor ≤ last
-  pub rests : r.failed ≡ false → IsResting r.scenario r.floor ps log
-  pub sends : r.failed ≡ false → xs ≡ kept_at r.scenario r.floor
+  pub paused : r.failed ≡ false → IsPaused (fleet_of r.scenario) r.floor r.floor vs xs

@@ -15,9 +15,9 @@ use Rattle.node_runner.specs.Place.{Place, is_live, state_at, rows_of}
 use Rattle.neighbour_sync.specs.NoSession.{no_table, no_world}
 use Rattle.node_runner.specs.Flight.{place_at, IsAt, IsTaken}
 use Rattle.node_runner.specs.Gather.{start_of, end_row_of}
-use Rattle.node_runner.specs.Run.{rows_upto}
+use Rattle.fleet_flight.specs.Rows.{rows_upto}
 use Rattle.node_runner.proofs.Places.{still_calm, still_over}
-use Rattle.node_runner.proofs.Epoch.{next_rows as place_rows}
+use Rattle.fleet_threads.proofs.Epoch.{next_rows as place_rows}
 use Rattle.fleet_threads.specs.declared.member.Member.{Member}
 use Rattle.fleet_threads.specs.Member.{IsPlaced, AreAtEnd}
 use Rattle.fleet_threads.specs.Ending.{rows_at, end_row_at, taken_at, HasEndedAt, IsCalm}

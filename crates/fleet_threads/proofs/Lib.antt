@@ -2,6 +2,8 @@ pub mod Asks
 pub mod Steps
 pub mod Lists
 pub mod Nodes
+pub mod Gathered
+pub mod Epoch
 pub mod Ends
 pub mod Epochs
 pub mod Crossing

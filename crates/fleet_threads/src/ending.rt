@@ -2,14 +2,15 @@
 ghost use Rattle.std.specs.Prelude.{◌≡◌, ◌≤◌, ◌<◌, ◌++◌, ◌==◌, map, true, false, if◌then◌else◌, [], IfOk, OnOk};
 ghost use Rattle.std.specs.List.{All, flat_map};
 ghost use Rattle.node_runner.specs.Scenario.{fleet_of, IsScenario};
-ghost use Rattle.node_runner.specs.Run.{rows_upto};
+ghost use Rattle.fleet_flight.specs.Rows.{rows_upto};
 ghost use Rattle.fleet_threads.specs.Member.{AreAtEnd};
 ghost use Rattle.fleet_threads.specs.Ending.{rows_at, taken_at, end_row_at, HasEndedAt, IsCalm};
 
 use crate::member::Member;
 use avr_base::NoMemory;
+use fleet_flight::{put_behind, sort};
 use node_core::Row;
-use node_runner::{Scenario, put_behind, sort};
+use node_runner::Scenario;
 use std::alloc::{AllocError, Global};
 
 /// Whether a node has halted.

@@ -4,7 +4,7 @@ ghost use Rattle.std.specs.List.{All};
 ghost use Rattle.world_core.specs.Order.{facts_of, run_rows};
 ghost use Rattle.node_runner.specs.Scenario.{fleet_of, IsScenario};
 ghost use Rattle.world_core.specs.Kept.{epoch};
-ghost use Rattle.node_runner.specs.Run.{rows_upto};
+ghost use Rattle.fleet_flight.specs.Rows.{rows_upto};
 ghost use Rattle.fleet_threads.specs.Member.{IsEpoch};
 ghost use Rattle.fleet_threads.specs.Run.{IsTied, IsFirst, air_of};
 
@@ -136,7 +136,8 @@ impl ThreadRun {
     ghost use Rattle.node_runner.specs.Scenario.{fleet_of, IsScenario};
     ghost use Rattle.world_core.specs.Consistent.{IsConsistent};
     ghost use Rattle.neighbour_sync.specs.Shows.{shown};
-    ghost use Rattle.node_runner.specs.Run.{RunAt, rows_upto};
+    ghost use Rattle.node_runner.specs.Run.{RunAt};
+    ghost use Rattle.fleet_flight.specs.Rows.{rows_upto};
 
     /// The run before its first epoch: all nodes at reset.
     pub fn new(alloc: Global, scenario: &Scenario) -> Result<ThreadRun, NoMemory>

@@ -84,7 +84,6 @@ acted_as n u w k l old new state rows h = record {
   state = h.state ∙ state;
   rows = h.rows ∙ ap (λ (r : List Row). old.rows.items ++ r) rows;
   going = h.going;
-  same = h.same;
   room = h.room;
   clock = h.clock;
 }

@@ -229,7 +229,6 @@ stops t at old m w new cause h none q state rows room clock =
       state = state ∙ q.state;
       rows = rows ∙ (λ i. (ap (λ x. x.items) q.same) i ++ q.told i);
       going = λ l. absurd (omega arith);
-      same = λ l. absurd (omega arith);
       room = room ∙ ap (λ x. vec_capacity x) q.same;
       clock = clock ∙ q.clock;
     }

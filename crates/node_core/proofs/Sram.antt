@@ -12,11 +12,11 @@ use Rattle.avr_decoder.specs.declared.op.Op.TheVariants as op
 use Rattle.avr_core.specs.FlowShapes.{bit_is, branched, calls, jumped, relative, returns}
 use Rattle.avr_core.specs.FlowShapes.{ends as flow_ends}
 use Rattle.avr_core.specs.FlowTable.{flow_effect}
-use Rattle.avr_core.specs.MemoryShapes.{displaced, ends, loads, pops, pushes, stores}
+use Rattle.avr_core.specs.MemoryShapes.{displaced, ends, loads, loads_post_increment, pops, pushes, stores, stores_post_increment}
 use Rattle.avr_core.specs.MemoryTable.{memory_effect, x, y, z}
 use Rattle.data_space.specs.declared.bus.Done.{Done}
 use Rattle.data_space.specs.declared.cpu.Cpu.{Cpu}
-use Rattle.data_space.specs.Core.{advanced, core_of, pair_at, with_reg}
+use Rattle.data_space.specs.Core.{advanced, core_of, pair_at, with_pair, with_reg}
 use Rattle.data_space.specs.Sequence.{Outcome, done, popped_word, pushed_word, then_do}
 use Rattle.data_space.specs.Space.{Access, answered, answers, loaded, lowered, popped, pushed, stored, taken, takes, unless_stopped}
 use Rattle.node_core.specs.declared.bus.NodeBus.{NodeBus}
@@ -58,6 +58,16 @@ store_leaves : (at b words cycles : ℕ) (cpu : Cpu) (bus : NodeBus) → in_sram
 unfolding stores
 store_leaves at b words cycles cpu bus h =
     subst (λ (a : Access (Unit {0}) NodeBus). Leaves cpu bus (then_do a a.result (λ _ c n. ends words cycles c n))) (sym (store_is at b cpu bus h)) (refl, refl)
+
+load_on_leaves : (d p : ℕ) (cpu : Cpu) (bus : NodeBus) → in_sram (pair_at p cpu) ≡ true → Leaves cpu bus (loads_post_increment bus_get d p cpu bus)
+unfolding loads_post_increment
+load_on_leaves d p cpu bus h =
+    subst (λ (a : Access ℕ NodeBus). Leaves cpu bus (then_do a a.result (λ byte c b. ends 1 2 (with_pair p (displaced p 1 cpu) (with_reg d byte c)) b))) (sym (load_is (pair_at p cpu) cpu bus h)) (refl, refl)
+
+store_on_leaves : (p r : ℕ) (cpu : Cpu) (bus : NodeBus) → in_sram (pair_at p cpu) ≡ true → Leaves cpu bus (stores_post_increment bus_put p r cpu bus)
+unfolding stores_post_increment
+store_on_leaves p r cpu bus h =
+    subst (λ (a : Access (Unit {0}) NodeBus). Leaves cpu bus (then_do a a.result (λ _ c n. ends 1 2 (with_pair p (displaced p 1 cpu) c) n))) (sym (store_is (pair_at p cpu) (slice_index cpu.r r) cpu bus h)) (refl, refl)
 
 push_leaves : (r : ℕ) (cpu : Cpu) (bus : NodeBus) → in_sram cpu.sp ≡ true → Leaves cpu bus (pushes bus_put r cpu bus)
 unfolding pushes pushed
@@ -110,35 +120,44 @@ push_is b cpu bus h =
     ap (λ (a : Access (Unit {0}) NodeBus). lowered ((cpu.sp + 65535) % 65536) a a.result) (store_is cpu.sp b cpu bus h)
 
 -- the end of a call, by the access that pushes the high byte of the address, and by that which pushes the low one
-abbrev called_by : ℕ → Access (Unit {0}) NodeBus → Outcome NodeBus
-called_by k high = then_do high high.result (λ _ c b. flow_ends (jumped 4 k c) b)
+module _ (cycles words : ℕ) (target : Cpu → ℕ) where
+  abbrev called_by : Access (Unit {0}) NodeBus → Outcome NodeBus
+  called_by high = then_do high high.result (λ _ c b. flow_ends (jumped cycles (target c) c) b)
 
-abbrev called_from : ℕ → ℕ → Access (Unit {0}) NodeBus → Outcome NodeBus
-called_from k word low = called_by k (then_do low low.result (λ _ c b. pushed bus_put (word / 256) c b))
+  abbrev called_from : ℕ → Access (Unit {0}) NodeBus → Outcome NodeBus
+  called_from word low = called_by (then_do low low.result (λ _ c b. pushed bus_put (word / 256) c b))
 
-call_leaves : (k : ℕ) (cpu : Cpu) (bus : NodeBus) → calls_by_sram cpu.sp ≡ true → Leaves cpu bus (calls bus_put 4 2 (λ _. k) cpu bus)
-unfolding calls pushed_word
-call_leaves k cpu bus h =
-    let word : ℕ = (cpu.pc + 2) % 65536 in
-    let lower : Cpu = record cpu { sp = (cpu.sp + 65535) % 65536 } in
-    let both = and_parts _ _ h in
-    let there : NodeBus = record bus { sram = slice_set bus.sram (cpu.sp - 0x100) (word % 256) } in
-    let high : Leaves cpu bus (called_by k (pushed bus_put (word / 256) lower there)) = subst (λ (a : Access (Unit {0}) NodeBus). Leaves cpu bus (called_by k a)) (sym (push_is (word / 256) lower there both.1)) (refl, refl) in
-    subst (λ (a : Access (Unit {0}) NodeBus). Leaves cpu bus (called_from k word a)) (sym (push_is (word % 256) cpu bus both.0)) high
+  call_leaves : (cpu : Cpu) (bus : NodeBus) → calls_by_sram cpu.sp ≡ true → Leaves cpu bus (calls bus_put cycles words target cpu bus)
+  unfolding calls pushed_word
+  call_leaves cpu bus h =
+      let word : ℕ = (cpu.pc + words) % 65536 in
+      let lower : Cpu = record cpu { sp = (cpu.sp + 65535) % 65536 } in
+      let both = and_parts _ _ h in
+      let there : NodeBus = record bus { sram = slice_set bus.sram (cpu.sp - 0x100) (word % 256) } in
+      let high : Leaves cpu bus (called_by (pushed bus_put (word / 256) lower there)) = subst (λ (a : Access (Unit {0}) NodeBus). Leaves cpu bus (called_by a)) (sym (push_is (word / 256) lower there both.1)) (refl, refl) in
+      subst (λ (a : Access (Unit {0}) NodeBus). Leaves cpu bus (called_from word a)) (sym (push_is (word % 256) cpu bus both.0)) high
 
 module _ (flash : List ℕ) (cpu : Cpu) (bus : NodeBus) where
   pub sram_leaves : (o : Op) → accesses_sram o cpu ≡ true → Leaves cpu bus (executed flash o cpu bus)
   unfolding executed_over memory_effect flow_effect
-  sram_leaves (op.Call k) h = call_leaves k cpu bus h
+  sram_leaves (op.Call k) h = call_leaves 4 2 (λ _. k) cpu bus h
+  sram_leaves (op.Rcall k) h = call_leaves 3 1 (relative k) cpu bus h
+  sram_leaves op.Icall h = call_leaves 3 1 (pair_at 30) cpu bus h
   sram_leaves op.Ret h = return_leaves cpu bus h
   sram_leaves (op.LdX d) h = load_leaves d (pair_at x cpu) 1 2 cpu bus h
   sram_leaves (op.LddY d q) h = load_leaves d (displaced y q cpu) 1 2 cpu bus h
   sram_leaves (op.LddZ d q) h = load_leaves d (displaced z q cpu) 1 2 cpu bus h
   sram_leaves (op.Lds d k) h = load_leaves d k (words_of (op.Lds d k)) 2 cpu bus h
+  sram_leaves (op.LdXInc d) h = load_on_leaves d x cpu bus h
+  sram_leaves (op.LdYInc d) h = load_on_leaves d y cpu bus h
+  sram_leaves (op.LdZInc d) h = load_on_leaves d z cpu bus h
   sram_leaves (op.StX r) h = store_leaves (pair_at x cpu) (slice_index cpu.r r) 1 2 cpu bus h
   sram_leaves (op.StdY q r) h = store_leaves (displaced y q cpu) (slice_index cpu.r r) 1 2 cpu bus h
   sram_leaves (op.StdZ q r) h = store_leaves (displaced z q cpu) (slice_index cpu.r r) 1 2 cpu bus h
   sram_leaves (op.Sts k r) h = store_leaves k (slice_index cpu.r r) (words_of (op.Sts k r)) 2 cpu bus h
+  sram_leaves (op.StXInc r) h = store_on_leaves x r cpu bus h
+  sram_leaves (op.StYInc r) h = store_on_leaves y r cpu bus h
+  sram_leaves (op.StZInc r) h = store_on_leaves z r cpu bus h
   sram_leaves (op.Push r) h = push_leaves r cpu bus h
   sram_leaves (op.Pop d) h = pop_leaves d cpu bus h
   sram_leaves _ h = absurd (false≢true h)

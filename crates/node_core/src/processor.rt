@@ -16,7 +16,7 @@ ghost use Rattle.avr_base.specs.Lines.{due_of, pending_of};
 
 use crate::interrupts::enter;
 use crate::machine::Machine;
-use crate::rows::{is_within, put_row, tell, tell_instruction, unless_told};
+use crate::rows::{is_within, put_row, tell, tell_instruction};
 use crate::{Kind, Row};
 use avr_base::{Sreg, StopCause, Vector};
 use avr_core::execute;
@@ -124,7 +124,6 @@ impl Machine {
         ensures rows { self.new.rows.items ≡ self.old.rows.items ++ row_within cycle (shown self.old) (kind.Instr pc (word_at self.old.program.bytes pc) (word_at self.old.program.bytes ((pc + 1) % 65536))) }
         ensures awake { 0 < result → done.sleep ≡ false }
         ensures cycles { 0 < result → result ≡ done.cycles }
-        ensures same { 0 < result → vec_len self.new.rows ≡ vec_len self.old.rows }
         ensures room { vec_capacity self.new.rows ≡ vec_capacity self.old.rows }
         ensures wait { self.new.wait ≡ self.old.wait }
         ensures stop { self.new.stop ≡ self.old.stop }
@@ -136,7 +135,7 @@ impl Machine {
             self.asleep = is_idle(self.bus.board.sleep_mode());
             return 0;
         }
-        unless_told(told, done.cycles)
+        done.cycles
     }
 
     // What is left of the first cycle of an instruction that did not stop, by whether another is owed. The answer is
@@ -151,7 +150,6 @@ impl Machine {
         ensures state { shown self.new ≡ record (shown self.old) { wait = done.cycles - 1; owed = owed; asleep = done.sleep && is_idle (sleep_mode self.old.bus.board); count = self.old.count + 1 } }
         ensures rows { self.new.rows.items ≡ self.old.rows.items ++ row_within cycle (shown self.old) (kind.Instr pc (word_at self.old.program.bytes pc) (word_at self.old.program.bytes ((pc + 1) % 65536))) }
         ensures going { 0 < result → IsGoing result (shown self.new) }
-        ensures same { 0 < result → vec_len self.new.rows ≡ vec_len self.old.rows }
         ensures room { vec_capacity self.new.rows ≡ vec_capacity self.old.rows }
         ensures clock { self.new.bus.board.clock ≡ self.old.bus.board.clock }
     {
@@ -171,8 +169,7 @@ impl Machine {
         is_sleep(op) && is_other(self.bus.board.sleep_mode())
     }
 
-    // The first cycle of an instruction: how many it takes, or 0 where the node stopped, executed SLEEP, or has a row
-    // more.
+    // The first cycle of an instruction: how many it takes, or 0 where the node stopped or executed SLEEP.
     #[inline(always)]
     fn instruct(&mut self, cycle: u64) -> u8
         requires { MayAct cycle self.old }
@@ -198,7 +195,7 @@ impl Machine {
     }
 
     // The first cycle of an interrupt, of which so many cycles more follow: how many it takes, or 0 where the node
-    // stopped or has a row more.
+    // stopped.
     fn enter(&mut self, cycle: u64, wait: u8, vector: Vector) -> u8
         requires short { wait ≤ 7 }
         requires going { self.old.stop ≡ None }
@@ -219,7 +216,7 @@ impl Machine {
                 tell(&mut self.rows, told, Row { cycle, node, kind });
                 self.wait = wait;
                 self.asleep = false;
-                unless_told(told, wait + 1)
+                wait + 1
             }
             Err(cause) => {
                 self.halt(cycle, back, cause);
@@ -237,7 +234,7 @@ impl Machine {
     }
 
     // The processor's part of a cycle in which it neither waits nor sleeps: how many cycles its instruction or its
-    // entry takes, or 0 where the node stopped, executed SLEEP, or has a row more.
+    // entry takes, or 0 where the node stopped or executed SLEEP.
     #[inline(never)]
     pub fn act(&mut self, cycle: u64) -> u8
         requires { MayAct cycle self.old }

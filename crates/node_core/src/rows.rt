@@ -21,7 +21,6 @@ pub fn tell(rows: &mut Vec<Row>, told: bool, row: Row)
     requires { vec_len rows.old < vec_capacity rows.old }
     ensures items { rows.new.items ≡ rows.old.items ++ (if told then row ∷ [] else []) }
     ensures len { vec_len rows.new ≤ vec_len rows.old + 1 }
-    ensures same { told ≡ false → vec_len rows.new ≡ vec_len rows.old }
     ensures room { vec_capacity rows.new ≡ vec_capacity rows.old }
 {
     if told {
@@ -43,7 +42,6 @@ pub fn tell_instruction(
     requires { vec_len rows.old < vec_capacity rows.old }
     ensures items { rows.new.items ≡ rows.old.items ++ (if told then (record { cycle = cycle; node = node; kind = kind.Instr pc (word_at program.now.bytes pc) (word_at program.now.bytes ((pc + 1) % 65536)) }) ∷ [] else []) }
     ensures len { vec_len rows.new ≤ vec_len rows.old + 1 }
-    ensures same { told ≡ false → vec_len rows.new ≡ vec_len rows.old }
     ensures room { vec_capacity rows.new ≡ vec_capacity rows.old }
 {
     if told {
@@ -52,15 +50,6 @@ pub fn tell_instruction(
         let kind = Kind::Instr { pc, word, next };
         put_row(rows, Row { cycle, node, kind });
     }
-}
-
-/// `cycles` where no row is told, else 0.
-#[inline]
-pub fn unless_told(told: bool, cycles: u8) -> u8
-    ensures cycles { 0 < result → result ≡ cycles }
-    ensures told { 0 < result → told ≡ false }
-{
-    if told { 0 } else { cycles }
 }
 
 /// Whether a cycle lies in the window from the cycle `from` on and below `to`. Most cycles lie behind it, so that end

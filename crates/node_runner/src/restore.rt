@@ -1,14 +1,28 @@
-// A node of a scenario, restored.
+// A node of a scenario, at reset and restored.
 ghost use Rattle.std.specs.Prelude.{◌≡◌, ◌<◌, ◌≤◌, ◌^◌, [], false, None, IfOk, IfErr, OnOk, length};
 ghost use Rattle.node_core.specs.Restored.{IsRefused, fault_of};
 ghost use Rattle.node_core.specs.State.{NodeState};
-ghost use Rattle.node_runner.specs.Scenario.{IsRestoredIn};
+ghost use Rattle.node_runner.specs.Scenario.{IsRestoredIn, fleet_of};
 
 use crate::Scenario;
+use avr_base::NoMemory;
 use node_core::{Node, RestoreFault};
 use std::alloc::Global;
 
 impl Scenario {
+    /// Node `node` of the scenario at reset, below the number of its nodes. It shares the node's program, and has a copy
+    /// of its script.
+    pub fn reset(&self, alloc: Global, node: u8) -> Result<Node, NoMemory>
+        requires { node < self.now.topo.nodes }
+        ensures { IfOk result (λ n. n ≡ record { cycle = 0; asking = false; state = (fleet_of self.now).begins node; rows = [] }) }
+    {
+        let topo = self.lawful_topo();
+        let program = self.program(node).share()?;
+        let script = self.script(node).copy()?;
+        let window = self.window();
+        Node::new(alloc, node, program, script, window, topo.byte_time())
+    }
+
     /// Node `node` of the scenario, below the number of its nodes, of what was saved of it, by [`Node::restore`]: with
     /// its number, its program and the bytes that arrive at it, and the scenario's window and byte time.
     pub fn restore(

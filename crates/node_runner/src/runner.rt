@@ -69,23 +69,20 @@ impl Model for Runner {
 }
 
 impl Runner {
-    /// Node `node` of the scenario at reset. It shares the node's program, and has a copy of its script.
+    /// Node `node` of the scenario at reset.
     pub fn new(alloc: Global, scenario: &Scenario, node: u8) -> Result<Runner, NoMemory>
         requires { node < scenario.now.topo.nodes }
         ensures { IfOk result (λ r. r ≡ record { scenario = scenario.now; number = node; since = 0; cycle = 0; asking = false; unnoted = false }) }
     {
-        let topo = scenario.lawful_topo();
-        let program = scenario.program(node).share()?;
-        let script = scenario.script(node).copy()?;
-        let window = scenario.window();
+        let begun = scenario.reset(alloc, node)?;
         Ok(Runner {
             scenario: Snapshot::of(scenario),
             number: node,
-            limit: topo.limit(),
+            limit: scenario.lawful_topo().limit(),
             since: 0,
             count: 0,
             unnoted: false,
-            node: Node::new(alloc, node, program, script, window, topo.byte_time())?,
+            node: begun,
         })
     }
 

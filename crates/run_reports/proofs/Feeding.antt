@@ -1,5 +1,5 @@
 -- Sniffers of all nodes, to which a run is fed epoch by epoch.
-use Rattle.std.proofs.Common.{◌≡◌, ℕ, zero, suc, List, [], ◌∷◌, ◌++◌, map, refl, sym, ap, ◌∙◌, append-nil}
+use Rattle.std.proofs.Common.{◌≡◌, ℕ, zero, suc, ◌<◌, List, [], ◌∷◌, ◌++◌, map, refl, sym, ap, ◌∙◌, append-nil, arith}
 use Rattle.std.specs.List.{flat_map}
 use Rattle.std.proofs.lemmas.Grind.{flat_map-append}
 use Rattle.std.proofs.lemmas.List.{map-append}
@@ -10,8 +10,8 @@ use Rattle.world_core.specs.Sends.{sends_of}
 use Rattle.air_base.proofs.Each.{each_same}
 use Rattle.node_core.specs.declared.row.Row.{Row}
 use Rattle.node_runner.specs.Scenario.{ScenarioOf, IsScenario, fleet_of}
-use Rattle.node_runner.specs.Run.{rows_upto}
-use Rattle.node_runner.proofs.Epoch.{first_rows}
+use Rattle.fleet_flight.specs.Rows.{rows_upto}
+use Rattle.fleet_flight.proofs.Epoch.{first_rows}
 use Rattle.air_sniffer.specs.Frames.{frames}
 use Rattle.air_sniffer.specs.Sniffed.{IsFed}
 use Rattle.air_sniffer.proofs.Cuts as cuts
@@ -42,7 +42,7 @@ each_is nodes v w same = each_same nodes (λ k. v k ∷ []) (λ k. w k ∷ []) (
 -- before the first epoch
 pub fed_first : (sc : ScenarioOf) (c : ℕ) (all : List Watch) → IsScenario sc → c ≡ 0 → all ≡ of_each sc.topo.nodes unfed → all ≡ of_each sc.topo.nodes (fed_all (sends_told (rows_upto (fleet_of sc) c)))
 fed_first sc c all ok e is =
-    let none : [] ≡ sends_told (rows_upto (fleet_of sc) c) = sym (ap (λ (n : ℕ). sends_told (rows_upto (fleet_of sc) n)) e ∙ ap sends_told (first_rows sc ok) ∙ told_none) in
+    let none : [] ≡ sends_told (rows_upto (fleet_of sc) c) = sym (ap (λ (n : ℕ). sends_told (rows_upto (fleet_of sc) n)) e ∙ ap sends_told (first_rows (fleet_of sc) (let x = ok.topo.ranges.limit_from in omega arith)) ∙ told_none) in
     is ∙ each_is sc.topo.nodes unfed (fed_all []) unfed_is ∙ ap (λ (l : List Send). of_each sc.topo.nodes (fed_all l)) none
 
 -- one epoch more

@@ -13,8 +13,8 @@ use Rattle.world_core.proofs.Sorted.{Sorted, sorted_append, sorted_cycles, sorte
 use Rattle.node_core.specs.declared.row.Row.{Row}
 use Rattle.node_core.specs.State.{NodeState}
 use Rattle.node_runner.specs.Scenario.{ScenarioOf, IsScenario, fleet_of}
-use Rattle.node_runner.specs.Run.{rows_upto}
-use Rattle.node_runner.proofs.Epoch.{first_rows}
+use Rattle.fleet_flight.specs.Rows.{rows_upto}
+use Rattle.fleet_flight.proofs.Epoch.{first_rows}
 use Rattle.node_runner.proofs.Sound.{sound}
 use Rattle.node_monitors.specs.Account.{Account, account}
 use Rattle.node_monitors.specs.Matters.{matters, IsBelow}
@@ -199,7 +199,7 @@ module _ (sc : ScenarioOf) (ok : IsScenario sc) where
   -- before the first row
   pub tallies_first : (c : ℕ) (all : List TallyOf) → c ≡ 0 → all ≡ tallies sc.topo.nodes (window_of sc) [] → all ≡ tallies sc.topo.nodes (window_of sc) (rows_upto f c)
   tallies_first c all e is =
-      is ∙ ap (tallies sc.topo.nodes (window_of sc)) (sym (ap (rows_upto f) e ∙ first_rows sc ok))
+      is ∙ ap (tallies sc.topo.nodes (window_of sc)) (sym (ap (rows_upto f) e ∙ first_rows (fleet_of sc) (let x = ok.topo.ranges.limit_from in omega arith)))
 
   -- the charge fits
   pub tally_fits : (k : ℕ) (t : TallyOf) → sc.to ≤ sc.topo.limit → t ≡ tally_of (window_of sc) (run_rows f) k → 8 * (t.window.1 - t.window.0) + (ended t).asleep + 512 * t.sent < 2 ^ 64

@@ -21,7 +21,7 @@ use Rattle.send_order.specs.Order.{AreOrdered}
 tie_is : (a b : ℕ) → (not (is_lt (nat_cmp a b)) && not (is_lt (nat_cmp b a))) ≡ (b == a)
 tie_is a b = grind (arith, nat_tests)
 
-agree_by : {X : Type 0} (key : X → ℕ) (xs ys : List X) → IsStableByKey key nat_cmp xs ys → Agree key ys xs
+pub agree_by : {X : Type 0} (key : X → ℕ) (xs ys : List X) → IsStableByKey key nat_cmp xs ys → Agree key ys xs
 agree_by {X} key xs ys s z =
     sym (filter_agree (ties (λ (x y : X). is_lt (nat_cmp (key x) (key y))) z) (λ (r : X). key r == key z) (λ r. tie_is (key z) (key r)) ys)
     ∙ s z ∙ filter_agree (ties (λ (x y : X). is_lt (nat_cmp (key x) (key y))) z) (λ (r : X). key r == key z) (λ r. tie_is (key z) (key r)) xs

@@ -32,12 +32,11 @@ pub record IsMidway (v : Timed NodeState Row) (c : ℕ) (u : NodeState) (k : Lis
   pub told : k ≡ rows ++ cpu_rows c state
 
 -- the processor's part of a cycle in which it neither waited nor slept: it came to u and told k. Where it answers n,
--- and not 0, the node goes on with an instruction or an entry of n cycles, and told nothing
+-- and not 0, the node goes on with an instruction or an entry of n cycles
 pub record IsActed (n : ℕ) (u : NodeState) (k : List Row) (old new : Machine) : Type 0 where
   pub state : shown new ≡ u
   pub rows : new.rows.items ≡ old.rows.items ++ k
   pub going : 0 < n → IsGoing n (shown new)
-  pub same : 0 < n → vec_len new.rows ≡ vec_len old.rows
   pub room : vec_capacity new.rows ≡ vec_capacity old.rows
   pub clock : new.bus.board.clock ≡ old.bus.board.clock
 

@@ -7,7 +7,7 @@ ghost use Rattle.node_core.specs.Bus.{with_board};
 ghost use Rattle.node_core.specs.Shown.{shown};
 ghost use Rattle.serial_ports.specs.Script.{script_byte};
 
-use crate::machine::Machine;
+use crate::machine::{Machine, ROWS_OF_A_CYCLE};
 
 impl Machine {
     /// The devices' part of the cycle `cycle` and of the others of an instruction of `taken` cycles that began in it,
@@ -53,8 +53,15 @@ impl Machine {
         true
     }
 
-    /// Cycles from `cycle` on, of at most `most`, in which the devices end nothing: how many it were. Of the cycle
-    /// after them the processor's part is done, and the devices' part is still to come.
+    // Whether there is room for the rows of a cycle.
+    fn has_room(&self) -> bool
+        ensures { result ≡ true → vec_len self.now.rows + 4 ≤ vec_capacity self.now.rows }
+    {
+        self.rows.capacity() - self.rows.len() >= ROWS_OF_A_CYCLE
+    }
+
+    /// Cycles from `cycle` on, of at most `most`, in which the devices end nothing, and for whose rows there is room: how
+    /// many it were. Of the cycle after them the processor's part is done, and the devices' part is still to come.
     pub fn stride(&mut self, cycle: u64, most: u64) -> u64
         requires going { self.old.stop ≡ None }
         requires now { self.old.bus.board.clock ≡ cycle }
@@ -84,6 +91,10 @@ impl Machine {
             }
             let pc = self.cpu.pc;
             let taken = self.act(at);
+            // a cycle in which the devices do more may have rows of theirs
+            if !self.has_room() {
+                return at - cycle;
+            }
             if !self.finish_instruction(at, end, taken) {
                 return at - cycle;
             }

@@ -21,26 +21,20 @@ loop-saved-init c =
       within = omega (arith, at, begun);
     }
 
-pub epoch-requires-clause-more : goal.epoch-requires-clause-more
-epoch-requires-clause-more c =
-    let last : c.args.end ≤ c.args.network.now.topo.limit = from_last c.args.network.now c.args.saved.now.state.cycle c.args.end c.requires.end in
-    let more : c.loop-saved.saved.floor < c.args.network.now.topo.limit = omega arith in
-    subst (λ (s : ScenarioOf). c.loop-saved.saved.floor < s.topo.limit) (sym c.loop-saved.invariant.same) more
-
 pub loop-saved-preserved : goal.loop-saved-preserved
 loop-saved-preserved c =
     let network : ScenarioOf = c.args.network.now in
     let state : StateOf = c.args.saved.now.state in
-    let after = c.in_ok-epoch.ensures.after in
-    let floor : c.epoch.new.self.floor ≡ min (c.loop-saved.saved.floor + epoch) c.loop-saved.saved.scenario.topo.limit = ap (λ (a : SavedAt). a.floor) after in
-    let end : c.epoch.new.self.floor ≡ min (c.loop-saved.saved.floor + epoch) network.topo.limit =
-    subst (λ (s : ScenarioOf). c.epoch.new.self.floor ≡ min (c.loop-saved.saved.floor + epoch) s.topo.limit) c.loop-saved.invariant.same floor in
+    let after = c.in_ok-pass.ensures.after in
+    let floor : c.pass.new.self.floor ≡ min (c.loop-saved.saved.floor + epoch) c.loop-saved.saved.scenario.topo.limit = ap (λ (a : SavedAt). a.floor) after in
+    let end : c.pass.new.self.floor ≡ min (c.loop-saved.saved.floor + epoch) network.topo.limit =
+    subst (λ (s : ScenarioOf). c.pass.new.self.floor ≡ min (c.loop-saved.saved.floor + epoch) s.topo.limit) c.loop-saved.invariant.same floor in
     record {
       same = ap (λ (a : SavedAt). a.scenario) after ∙ c.loop-saved.invariant.same;
       state = ap (λ (a : SavedAt). a.state) after ∙ c.loop-saved.invariant.state;
       sound = ap (λ (a : SavedAt). a.failed) after ∙ c.loop-saved.invariant.sound;
-      at = from_next network state.cycle c.loop-saved.saved.floor c.epoch.new.self.floor c.args.end c.loop-saved.invariant.at c.requires.end (omega arith) end;
-      within = from_within network state.cycle c.loop-saved.saved.floor c.epoch.new.self.floor c.args.end c.loop-saved.invariant.at c.requires.end (omega arith) end;
+      at = from_next network state.cycle c.loop-saved.saved.floor c.pass.new.self.floor c.args.end c.loop-saved.invariant.at c.requires.end (omega arith) end;
+      within = from_within network state.cycle c.loop-saved.saved.floor c.pass.new.self.floor c.args.end c.loop-saved.invariant.at c.requires.end (omega arith) end;
     }
 
 pub returns : goal.returns

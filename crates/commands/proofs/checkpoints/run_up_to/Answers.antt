@@ -16,24 +16,18 @@ loop-run-init c =
       within = omega arith;
     }
 
-pub epoch-requires-clause-more : goal.epoch-requires-clause-more
-epoch-requires-clause-more c =
-    let last : c.args.end ≤ c.args.network.now.topo.limit = epoch_last c.args.network.now c.args.end c.requires.end in
-    let more : c.loop-run.run.floor < c.args.network.now.topo.limit = omega arith in
-    subst (λ (s : ScenarioOf). c.loop-run.run.floor < s.topo.limit) (sym c.loop-run.invariant.same) more
-
 pub loop-run-preserved : goal.loop-run-preserved
 loop-run-preserved c =
     let network : ScenarioOf = c.args.network.now in
-    let after = c.in_ok-epoch.ensures.after in
-    let floor : c.epoch.new.self.floor ≡ min (c.loop-run.run.floor + epoch) c.loop-run.run.scenario.topo.limit = ap (λ (r : RunAt). r.floor) after in
-    let end : c.epoch.new.self.floor ≡ min (c.loop-run.run.floor + epoch) network.topo.limit =
-    subst (λ (s : ScenarioOf). c.epoch.new.self.floor ≡ min (c.loop-run.run.floor + epoch) s.topo.limit) c.loop-run.invariant.same floor in
+    let after = c.in_ok-pass.ensures.after in
+    let floor : c.pass.new.self.floor ≡ min (c.loop-run.run.floor + epoch) c.loop-run.run.scenario.topo.limit = ap (λ (r : RunAt). r.floor) after in
+    let end : c.pass.new.self.floor ≡ min (c.loop-run.run.floor + epoch) network.topo.limit =
+    subst (λ (s : ScenarioOf). c.pass.new.self.floor ≡ min (c.loop-run.run.floor + epoch) s.topo.limit) c.loop-run.invariant.same floor in
     record {
       same = ap (λ (r : RunAt). r.scenario) after ∙ c.loop-run.invariant.same;
       sound = ap (λ (r : RunAt). r.failed) after ∙ c.loop-run.invariant.sound;
-      at = epoch_next network c.loop-run.run.floor c.epoch.new.self.floor c.args.end c.loop-run.invariant.at c.requires.end (omega arith) end;
-      within = epoch_within network c.loop-run.run.floor c.epoch.new.self.floor c.args.end c.loop-run.invariant.at c.requires.end (omega arith) end;
+      at = epoch_next network c.loop-run.run.floor c.pass.new.self.floor c.args.end c.loop-run.invariant.at c.requires.end (omega arith) end;
+      within = epoch_within network c.loop-run.run.floor c.pass.new.self.floor c.args.end c.loop-run.invariant.at c.requires.end (omega arith) end;
     }
 
 pub returns : goal.returns

@@ -3,7 +3,7 @@ use Rattle.world_core.specs.Kept.{epoch}
 use Rattle.node_core.specs.declared.row.Row.{Row}
 use Rattle.trace_writer.specs.Line.{rows_text}
 use Rattle.checkpoint_text.specs.Onward.{SavedAt, onward}
-use Rattle.node_runner.specs.Run.{rows_upto}
+use Rattle.fleet_flight.specs.Rows.{rows_upto}
 use Rattle.command_plans.specs.Parts.{Written}
 use Rattle.command_plans.specs.Ends.{stream}
 use Rattle.commands.proofs.Epochs.{from_below}

@@ -4,7 +4,7 @@ use Rattle.sim_io.specs.Outside.{Rose, TookFront, extended}
 use Rattle.node_core.specs.declared.row.Row.{Row}
 use Rattle.trace_writer.specs.Line.{rows_text}
 use Rattle.checkpoint_text.specs.Onward.{SavedAt, onward}
-use Rattle.node_runner.specs.Run.{rows_upto}
+use Rattle.fleet_flight.specs.Rows.{rows_upto}
 use Rattle.node_runner.specs.Scenario.{ScenarioOf}
 use Rattle.state_text.specs.Text.{StateOf}
 use Rattle.command_plans.specs.Ends.{stream}

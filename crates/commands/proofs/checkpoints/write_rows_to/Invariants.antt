@@ -2,7 +2,7 @@ use Rattle.std.proofs.Common.{◌≡◌, ◌-◌, ◌≤◌, false}
 use Rattle.sim_io.specs.Outside.{extended}
 use Rattle.trace_writer.specs.Line.{rows_text}
 use Rattle.checkpoint_text.specs.Onward.{onward}
-use Rattle.node_runner.specs.Run.{rows_upto}
+use Rattle.fleet_flight.specs.Rows.{rows_upto}
 use Rattle.commands.specs.Parts.{EndsFrom}
 use Rattle.commands.proofs.checkpoints.write_rows_to.Given as goal
 

@@ -1,7 +1,8 @@
 use Rattle.std.proofs.Common.{ℕ, List, ap, ◌∙◌}
 use Rattle.node_core.specs.declared.row.Row.{Row}
 use Rattle.node_runner.specs.Scenario.{ScenarioOf, fleet_of}
-use Rattle.node_runner.specs.Run.{RunAt, rows_upto}
+use Rattle.node_runner.specs.Run.{RunAt}
+use Rattle.fleet_flight.specs.Rows.{rows_upto}
 use Rattle.run_reports.specs.Frames.{sends_told}
 use Rattle.run_reports.proofs.Feeding.{fed_first, fed_next, fed_whole}
 use Rattle.run_reports.proofs.Runs.{over_at}

@@ -1,6 +1,6 @@
 use Rattle.std.proofs.Common.{◌≡◌, ◌-◌, false}
 use Rattle.node_runner.specs.Scenario.{fleet_of}
-use Rattle.node_runner.specs.Run.{rows_upto}
+use Rattle.fleet_flight.specs.Rows.{rows_upto}
 use Rattle.run_reports.specs.Frames.{sends_told}
 use Rattle.run_reports.specs.Sniffing.{fed_all, of_each}
 use Rattle.commands.proofs.frames.feed_run.Given as goal

@@ -1,6 +1,6 @@
 use Rattle.std.proofs.Common.{◌≡◌, ◌≤◌, ◌-◌, false}
 use Rattle.node_runner.specs.Scenario.{fleet_of}
-use Rattle.node_runner.specs.Run.{rows_upto}
+use Rattle.fleet_flight.specs.Rows.{rows_upto}
 use Rattle.run_reports.specs.Profiles.{window_of}
 use Rattle.run_reports.specs.Tallies.{tallies}
 use Rattle.commands.proofs.profiles.tally_run.Given as goal

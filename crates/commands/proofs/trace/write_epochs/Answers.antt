@@ -4,7 +4,8 @@ use Rattle.sim_io.specs.Outside.{Rose, TookFront, extended}
 use Rattle.node_core.specs.declared.row.Row.{Row}
 use Rattle.trace_writer.specs.Line.{rows_text}
 use Rattle.node_runner.specs.Scenario.{ScenarioOf, fleet_of}
-use Rattle.node_runner.specs.Run.{RunAt, rows_upto}
+use Rattle.node_runner.specs.Run.{RunAt}
+use Rattle.fleet_flight.specs.Rows.{rows_upto}
 use Rattle.command_plans.specs.Ends.{stream}
 use Rattle.commands.proofs.Epochs.{epoch_last, epoch_next, epoch_within, epoch_zero}
 use Rattle.commands.proofs.Traces.{front_upto, failed_upto, taken_first, taken_next}

@@ -2,7 +2,7 @@ use Rattle.std.proofs.Common.{◌≡◌, ◌≤◌, ◌-◌, false}
 use Rattle.sim_io.specs.Outside.{extended}
 use Rattle.trace_writer.specs.Line.{rows_text}
 use Rattle.node_runner.specs.Scenario.{fleet_of}
-use Rattle.node_runner.specs.Run.{rows_upto}
+use Rattle.fleet_flight.specs.Rows.{rows_upto}
 use Rattle.commands.specs.Parts.{EndsEpoch}
 use Rattle.commands.proofs.trace.write_epochs.Given as goal
 

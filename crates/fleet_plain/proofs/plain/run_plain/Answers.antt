@@ -1,7 +1,8 @@
-use Rattle.std.proofs.Common.{sym, ap, ◌∙◌}
+use Rattle.std.proofs.Common.{◌<◌, sym, ap, ◌∙◌, arith}
+use Rattle.fleet_flight.specs.Rows.{rows_upto}
+use Rattle.fleet_flight.proofs.Epoch.{first_rows}
 use Rattle.node_runner.specs.Scenario.{fleet_of}
-use Rattle.node_runner.specs.Run.{RunAt, rows_upto}
-use Rattle.node_runner.proofs.Epoch.{first_rows}
+use Rattle.node_runner.specs.Run.{RunAt}
 use Rattle.fleet_plain.proofs.plain.run_plain.Goals as goal
 
 pub loop-rows-init : goal.loop-rows-init
@@ -10,5 +11,6 @@ loop-rows-init c =
     record {
       same = ap (λ (r : RunAt). r.scenario) e;
       sound = ap (λ (r : RunAt). r.failed) e;
-      rows = c.new-rows.ensures.items ∙ sym (first_rows c.args.scenario.now c.in_ok-run.ensures.sound) ∙ ap (λ (r : RunAt). rows_upto (fleet_of c.args.scenario.now) r.floor) (sym e);
+      rows = c.new-rows.ensures.items ∙ sym (first_rows (fleet_of c.args.scenario.now) (let x = c.in_ok-run.ensures.sound.topo.ranges.limit_from in omega arith))
+          ∙ ap (λ (r : RunAt). rows_upto (fleet_of c.args.scenario.now) r.floor) (sym e);
     }

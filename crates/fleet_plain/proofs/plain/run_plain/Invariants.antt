@@ -1,6 +1,6 @@
 use Rattle.std.proofs.Common.{◌≡◌, ◌-◌, false}
 use Rattle.node_runner.specs.Scenario.{fleet_of}
-use Rattle.node_runner.specs.Run.{rows_upto}
+use Rattle.fleet_flight.specs.Rows.{rows_upto}
 use Rattle.fleet_plain.proofs.plain.run_plain.Given as goal
 
 abbrev pub invariant-loop-rows : goal.invariant-loop-rows

@@ -14,16 +14,17 @@ returns-clause-ahead c =
     let some = same.goes_on (omega arith) in
     let early = c.requires in
     let within = calm.within in
-    let most = same.within in
+    let next = c.same_until-next.ensures.within in
     record {
       settled = omega (arith, at);
       now = c.requires;
-      early = omega (arith, at, early, within, most, some);
+      early = omega (arith, at, early, within, next);
       quiet = λ u from below.
           (let i : ℕ = u - t in
           let here : t + i ≡ u = omega (arith, from, at) in
-          subst (λ (w : ℕ). board_quiet w b ≡ true) here (calm.none i (omega (arith, from, at, below, most, some))));
-      calm = λ i below. same.calm i (omega (arith, below, some));
+          subst (λ (w : ℕ). board_quiet w b ≡ true) here (calm.none i (omega (arith, from, at, below, next))));
+      calm = c.same_until-next.ensures.calm;
+      steady = λ i below. same.calm i (omega (arith, below, some));
       past = λ i below. absurd (omega (arith, at, below));
       lines = ap (λ (l : Lines). l.bits) (sym c.lines-lines.ensures);
       clear = c.clear_until.ensures.within;

@@ -28,6 +28,7 @@ returns-clause-ahead c =
         | inr from ↦ c.requires.calm i (omega (arith, below, at, within, from))
       ];
       past = c.requires.past;
+      steady = c.requires.steady;
       lines = ap (λ (l : Lines). l.bits) (sym c.lines-lines.ensures);
       clear = c.clear_until.ensures.within;
       down = c.clear_until.ensures.down;

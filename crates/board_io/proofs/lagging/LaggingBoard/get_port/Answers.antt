@@ -1,7 +1,7 @@
 use Rattle.std.proofs.Common.{ℕ, sym, subst, arith}
 use Rattle.board_io.specs.Lagging.{caught_up}
 use Rattle.board_io.specs.Registers.{IsGot, get_by}
-use Rattle.board_io.proofs.Beside.{calm_beside, got_timers, past_beside, read_beside}
+use Rattle.board_io.proofs.Beside.{calm_beside, got_timers, past_beside, read_beside, steady_beside}
 use Rattle.board_io.proofs.lagging.LaggingBoard.get_port.Goals as goal
 
 pub ahead_beside-self-inside-requires-clause-settled : goal.ahead_beside-self-inside-requires-clause-settled
@@ -30,6 +30,11 @@ pub ahead_beside-self-inside-requires-clause-past : goal.ahead_beside-self-insid
 ahead_beside-self-inside-requires-clause-past c =
     let i = c.self.inside in
     past_beside i.ahead i.board c.get_by-got.new.self (got_timers c.args.rule i.board c.args.at i.ahead.settled c.requires c.get_by-got.result c.get_by-got.new.self c.get_by-got.ensures) c.self.invariant
+
+pub ahead_beside-self-inside-requires-clause-steady : goal.ahead_beside-self-inside-requires-clause-steady
+ahead_beside-self-inside-requires-clause-steady c =
+    let i = c.self.inside in
+    steady_beside i.ahead i.board c.get_by-got.new.self (got_timers c.args.rule i.board c.args.at i.ahead.settled c.requires c.get_by-got.result c.get_by-got.new.self c.get_by-got.ensures) c.self.invariant
 
 pub returns : goal.returns
 returns c =

@@ -2,7 +2,7 @@ use Rattle.std.proofs.Common.{◌≡◌, ◌+◌, false, min, sym, subst, ap, �
 use Rattle.world_core.specs.Kept.{epoch}
 use Rattle.node_runner.specs.Scenario.{ScenarioOf}
 use Rattle.checkpoint_text.specs.Onward.{SavedAt, onward}
-use Rattle.checkpoint_text.specs.Paused.{IsPaused}
+use Rattle.fleet_flight.specs.Paused.{IsPaused}
 use Rattle.checkpoint_text.proofs.saved.Saved.epoch.Goals as goal
 
 pub rows_to-requires-clause-paused : goal.rows_to-requires-clause-paused

@@ -1,4 +1,4 @@
-use Rattle.std.proofs.Common.{◌≡◌, ◌<◌, false, sym, subst, ap, ◌∙◌, arith}
+use Rattle.std.proofs.Common.{◌≡◌, ℕ, ◌<◌, false, sym, subst, ap, ◌∙◌, arith}
 use Rattle.std.specs.List.{All}
 use Rattle.std.proofs.lemmas.List.Elements.{All-weaker}
 use Rattle.air_base.specs.declared.air.Send.{Send}
@@ -6,9 +6,10 @@ use Rattle.world_core.specs.Chain.{LogFacts}
 use Rattle.world_core.specs.Topology.{Topology}
 use Rattle.node_runner.specs.Scenario.{ScenarioOf}
 use Rattle.state_text.specs.Text.{StateOf}
-use Rattle.checkpoint_text.specs.Onward.{SavedAt}
+use Rattle.fleet_flight.specs.Paused.{HaveBegun}
+use Rattle.checkpoint_text.specs.Onward.{SavedAt, origin_of}
 use Rattle.checkpoint_text.specs.Paused.{IsSaved}
-use Rattle.checkpoint_text.proofs.OnwardRows.{first_paused}
+use Rattle.fleet_flight.proofs.Epoch.{first_paused}
 use Rattle.checkpoint_text.proofs.saved.Saved.new.Goals as goal
 
 pub record_of-requires-clause-nodes : goal.record_of-requires-clause-nodes
@@ -32,7 +33,8 @@ invariant_of-result c =
       limit = limit;
       within = omega arith;
       order = c.requires.order;
-      paused = (λ e. first_paused sc st c.in_ok-nodes.nodes.items c.in_ok-log.log.sends c.requires c.in_ok-nodes.ensures (ap (λ (l : LogFacts). l.sends) c.in_ok-log.ensures ∙ sends));
+      paused = (λ e. first_paused (origin_of sc st) c.in_ok-nodes.nodes.items c.in_ok-log.log.sends c.requires.sends c.requires.rises
+          (subst (λ (n : ℕ). HaveBegun (origin_of sc st) n c.in_ok-nodes.nodes.items) c.requires.count c.in_ok-nodes.ensures) (ap (λ (l : LogFacts). l.sends) c.in_ok-log.ensures ∙ sends));
     } in
     let at : (record { scenario = sc; state = st; floor = st.cycle; failed = false }) ≡ (record { scenario = c.of.result.value; state = c.of-2.result.value; floor = c.state.inside.cycle; failed = false }) =
     (λ i. record { scenario = sym c.of.ensures i; state = sym c.of-2.ensures i; floor = sym cycle i; failed = false }) in

@@ -4,7 +4,7 @@ use Rattle.air_base.specs.NodeRun.{Timed}
 use Rattle.node_core.specs.declared.row.Row.{Row}
 use Rattle.node_core.specs.State.{NodeState}
 use Rattle.checkpoint_text.specs.Onward.{SavedAt, onward}
-use Rattle.checkpoint_text.specs.Paused.{IsPaused}
+use Rattle.fleet_flight.specs.Paused.{IsPaused}
 use Rattle.checkpoint_text.proofs.saved.Saved.nodes.Goals as goal
 
 pub returns-clause-count : goal.returns-clause-count

@@ -3,31 +3,28 @@ use Rattle.std.specs.Prelude.{List}
 use Rattle.std.specs.List.{All, filter}
 use Rattle.std.proofs.lemmas.List.Elements.{All-weaker}
 use Rattle.air_base.specs.declared.air.Send.{Send}
-use Rattle.world_core.specs.Chain.{LogFacts, Rises}
 use Rattle.world_core.specs.Kept.{is_kept}
 use Rattle.world_core.specs.Topology.{Topology}
 use Rattle.node_runner.specs.Scenario.{ScenarioOf}
 use Rattle.state_text.specs.Bounds.{are_sends}
 use Rattle.checkpoint_text.specs.Onward.{SavedAt, onward}
-use Rattle.checkpoint_text.specs.Paused.{IsPaused}
+use Rattle.fleet_flight.specs.Paused.{IsPaused}
 use Rattle.checkpoint_text.specs.State.{kept_of}
 use Rattle.send_order.specs.Order.{AreOrdered}
 use Rattle.checkpoint_text.proofs.Saving.{sends_saved}
 use Rattle.checkpoint_text.proofs.saved.Saved.sends.Goals as goal
 
-pub record_of-requires-clause-nodes : goal.record_of-requires-clause-nodes
-record_of-requires-clause-nodes c =
+pub kept_sends-requires-clause-nodes : goal.kept_sends-requires-clause-nodes
+kept_sends-requires-clause-nodes c =
     let i = c.self.inside in
     let calm : i.failed ≡ false = ap (λ (a : SavedAt). a.failed) c.self.view_is ∙ c.requires.sound in
     let most = c.self.invariant.scenario.topo.ranges.nodes_to in
-    subst (All (λ (x : Send). x.node < 64)) (sym c.sends-all.ensures)
-    (All-weaker (λ (x : Send). (x.node < i.scenario.value.topo.nodes) × (x.cycle < i.floor)) (λ (x : Send). x.node < 64) (λ x h. (let n = h.0 in omega arith)) i.log.sends (c.self.invariant.paused calm).inside)
+    All-weaker (λ (x : Send). (x.node < i.scenario.value.topo.nodes) × (x.cycle < i.floor)) (λ (x : Send). x.node < 64) (λ x h. (let n = h.0 in omega arith)) i.log.sends (c.self.invariant.paused calm).inside
 
-pub record_of-requires-clause-rises : goal.record_of-requires-clause-rises
-record_of-requires-clause-rises c =
-    let i = c.self.inside in
-    let calm : i.failed ≡ false = ap (λ (a : SavedAt). a.failed) c.self.view_is ∙ c.requires.sound in
-    subst Rises (sym c.sends-all.ensures) (c.self.invariant.paused calm).rises
+pub kept_sends-requires-clause-rises : goal.kept_sends-requires-clause-rises
+kept_sends-requires-clause-rises c =
+    let calm : c.self.inside.failed ≡ false = ap (λ (a : SavedAt). a.failed) c.self.view_is ∙ c.requires.sound in
+    (c.self.invariant.paused calm).rises
 
 pub returns : goal.returns
 returns c =
@@ -39,10 +36,6 @@ returns c =
     let same : c.args.scenario.now ≡ a.scenario = c.requires.same in
     let topo : c.lawful_topo.result.now ≡ a.scenario.topo = c.lawful_topo.ensures.value ∙ ap (λ (s : ScenarioOf). s.topo) same in
     let floor : i.floor ≡ a.floor = ap (λ (a : SavedAt). a.floor) c.self.view_is in
-    let log : c.in_ok-kept.kept.sends ≡ i.log.sends = ap (λ (l : LogFacts). l.sends) c.in_ok-kept.ensures ∙ c.sends-all.ensures in
-    let cut : c.sends.result.now ≡ filter (is_kept a.scenario.topo a.floor) i.log.sends =
-    c.sends.ensures ∙ (ap (λ (l : LogFacts). l.sends) c.cut.ensures ∙ (λ j. filter (is_kept (topo j) (floor j)) (log j))) in
     let zs : List Send = c.in_ok-sends.sends.items in
-    let is : zs ≡ kept_of (onward a.scenario a.state) a.floor =
-    sends_saved a.scenario a.state a.floor i.nodes.items i.log.sends zs order paused (subst (λ (l : List Send). AreOrdered l zs) cut c.in_ok-sends.ensures) in
-    is ∙ ap (λ (s : ScenarioOf). kept_of (onward s a.state) a.floor) (sym same)
+    let ordered = subst (λ (l : List Send). AreOrdered l zs) (λ j. filter (is_kept (topo j) (floor j)) i.log.sends) c.in_ok-sends.ensures in
+    sends_saved a.scenario a.state a.floor i.nodes.items i.log.sends zs order paused ordered ∙ ap (λ (s : ScenarioOf). kept_of (onward s a.state) a.floor) (sym same)

@@ -6,7 +6,7 @@ use Rattle.node_core.specs.State.{NodeState}
 use Rattle.state_text.specs.Text.{NodeOf}
 use Rattle.state_text.specs.Writing.{node_of}
 use Rattle.checkpoint_text.specs.State.{stood}
-use Rattle.checkpoint_text.proofs.Shown.{io_shown}
+use Rattle.checkpoint_text.proofs.Saving.{io_shown}
 use Rattle.checkpoint_text.proofs.writing.StoodNodes.io.Goals as goal
 
 pub returns : goal.returns

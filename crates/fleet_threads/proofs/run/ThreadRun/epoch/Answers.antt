@@ -1,7 +1,8 @@
 use Rattle.std.proofs.Common.{◌≡◌, ℕ, ◌+◌, ◌++◌, Option, IfSome, min, refl, sym, subst, ap, ◌∙◌, arith}
 use Rattle.world_core.specs.Kept.{epoch}
 use Rattle.node_runner.specs.Scenario.{ScenarioOf, fleet_of}
-use Rattle.node_runner.specs.Run.{RunAt, rows_upto}
+use Rattle.node_runner.specs.Run.{RunAt}
+use Rattle.fleet_flight.specs.Rows.{rows_upto}
 use Rattle.fleet_threads.specs.declared.parts.Parts.{Parts}
 use Rattle.fleet_threads.specs.Run.{IsTied}
 use Rattle.fleet_threads.proofs.run.ThreadRun.epoch.Goals as goal

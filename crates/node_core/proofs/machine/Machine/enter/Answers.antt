@@ -25,8 +25,7 @@ returns-in-Ok c =
       rows = c.tell.ensures.items
           ∙ (ap (λ (b : Bool). m.rows.items ++ (if b then row c.args.cycle s (kind.Enter c.args.vector.word m.cpu.pc) else [])) c.is_within-told.ensures
           ∙ let_in_rows c.args.cycle c.args.wait c.args.vector m c.requires.now a c.enter.ensures m.rows.items (Ok _) c.in-Ok.is);
-      going = λ l. record { going = c.requires.going; awake = refl; wait = c.unless_told.ensures.cycles l };
-      same = λ l. c.tell.ensures.same (c.unless_told.ensures.told l);
+      going = λ l. record { going = c.requires.going; awake = refl; wait = refl };
       room = c.tell.ensures.room;
       clock = ap (λ (b : Board). b.clock) c.entered.ensures ∙ (entered_clock c.args.vector.word c.enter.new.bus.board ∙ kept);
     }
@@ -40,7 +39,6 @@ returns-in-Err c =
       state = c.halt.ensures.state ∙ let_in c.args.cycle c.args.wait c.args.vector c.args.self.now c.requires.now a c.enter.ensures (Err c.in-Err.cause) c.in-Err.is;
       rows = c.halt.ensures.rows ∙ let_in_rows c.args.cycle c.args.wait c.args.vector m c.requires.now a c.enter.ensures m.rows.items (Err c.in-Err.cause) c.in-Err.is;
       going = λ l. absurd (omega arith);
-      same = λ l. absurd (omega arith);
       room = c.halt.ensures.room;
       clock = c.halt.ensures.clock ∙ kept;
     }

@@ -29,7 +29,6 @@ returns-then-refuses c =
       state = c.halt.ensures.state ∙ refused c.args.cycle (shown m) c.op-op.result c.op-op.ensures is;
       rows = c.halt.ensures.rows ∙ ap (λ (l : List Row). m.rows.items ++ l) (refused_rows c.args.cycle (shown m) c.op-op.result c.op-op.ensures is);
       going = λ l. absurd (omega arith);
-      same = λ l. absurd (omega arith);
       room = c.halt.ensures.room;
       clock = c.halt.ensures.clock;
     }
@@ -49,7 +48,6 @@ returns-in-Ok c =
           ∙ ran c.args.cycle m o c.op-op.ensures runs c.requires.now a flash refl done (Ok c.in-Ok.done) c.in-Ok.is);
       rows = c.end.ensures.rows ∙ ran_rows c.args.cycle m o c.op-op.ensures runs c.requires.now a flash refl done m.rows.items (Ok c.in-Ok.done) c.in-Ok.is;
       going = c.end.ensures.going;
-      same = c.end.ensures.same;
       room = c.end.ensures.room;
       clock = c.end.ensures.clock ∙ (ap (λ (x : Outcome NodeBus). x.bus.board.clock) done ∙ executed_clock flash o m.cpu m.bus);
     }
@@ -66,7 +64,6 @@ returns-in-Err c =
       state = c.halt-in-Err.ensures.state ∙ ran c.args.cycle m o c.op-op.ensures runs c.requires.now a flash refl done (Err c.in-Err.cause) c.in-Err.is;
       rows = c.halt-in-Err.ensures.rows ∙ ran_rows c.args.cycle m o c.op-op.ensures runs c.requires.now a flash refl done m.rows.items (Err c.in-Err.cause) c.in-Err.is;
       going = λ l. absurd (omega arith);
-      same = λ l. absurd (omega arith);
       room = c.halt-in-Err.ensures.room;
       clock = c.halt-in-Err.ensures.clock ∙ (ap (λ (x : Outcome NodeBus). x.bus.board.clock) done ∙ executed_clock flash o m.cpu m.bus);
     }

@@ -28,8 +28,7 @@ loop-cycle-init c =
       clock = c.requires.now;
       script = refl;
       count = c.requires.few;
-      len = refl;
-      capacity = refl;
+      room = c.requires.room;
     }
 
 pub loop-cycle-preserved : goal.loop-cycle-preserved
@@ -71,8 +70,7 @@ loop-cycle-preserved c =
       clock = f.clock done ∙ next;
       script = ap (λ (x : NodeState). x.script) passed.after ∙ (arrives_still at s u e.state ∙ (q.script none ∙ i.script));
       count = subst (λ (n : ℕ). n ≤ 2 ^ 40 + (at + c.from-at.result)) (sym (ap (λ (x : NodeState). x.count) passed.after)) (omega (arith, some, more_count, few, next));
-      len = ap (λ x. vec_len x) f.rows ∙ (e.same some ∙ (ap (λ x. vec_len x) (q.same none) ∙ i.len));
-      capacity = ap (λ x. vec_capacity x) f.rows ∙ (e.room ∙ (ap (λ x. vec_capacity x) (q.same none) ∙ i.capacity));
+      room = omega (arith, ap (λ x. vec_len x) f.rows, ap (λ x. vec_capacity x) f.rows, c.has_room.ensures c.if-not-has_room.false);
     }
 
 pub sprint-sprinted-requires-clause-none : goal.sprint-sprinted-requires-clause-none
@@ -144,7 +142,7 @@ returns-then-not-finish_instruction-clause-room c =
     let wide : vec_capacity c.finish_instruction.new.self.rows ≡ vec_capacity c.act-taken.new.self.rows = ap (λ x. vec_capacity x) same in
     let kept : vec_len m.rows ≡ vec_len c.loop-cycle.self.rows = ap (λ x. vec_len x) (q.same none) in
     let room : vec_capacity m.rows ≡ vec_capacity c.loop-cycle.self.rows = ap (λ x. vec_capacity x) (q.same none) in
-    omega (arith, few, long, wide, kept, room, e.room, i.len, i.capacity, c.requires.room)
+    omega (arith, few, long, wide, kept, room, e.room, i.room)
 
 pub returns-then-not-finish_instruction-clause-count : goal.returns-then-not-finish_instruction-clause-count
 returns-then-not-finish_instruction-clause-count c =
@@ -174,7 +172,7 @@ pub returns-then-sprinted-clause-room : goal.returns-then-sprinted-clause-room
 returns-then-sprinted-clause-room c =
     let i = c.loop-cycle.invariant in
     let q = c.sprint-sprinted.ensures.sprinted in
-    omega (arith, q.len, q.room, i.len, i.capacity, c.requires.room)
+    omega (arith, q.len, q.room, i.room)
 
 pub returns-then-self-gt0-clause-count : goal.returns-then-self-gt0-clause-count
 returns-then-self-gt0-clause-count c =
@@ -191,7 +189,7 @@ sprint-sprinted-requires-clause-may c =
       now = i.clock;
       few = i.count;
       early = omega (arith, i.within, c.quiet.ensures.within, c.requires.early);
-      room = omega (arith, i.len, i.capacity, c.requires.room);
+      room = omega (arith, i.room);
     }
 
 pub act-taken-requires : goal.act-taken-requires
@@ -209,5 +207,44 @@ act-taken-requires c =
       now = q.clock;
       few = q.few none;
       early = omega (arith, c.sprint-sprinted.ensures.within, c.quiet.ensures.within, c.requires.early);
-      room = omega (arith, kept, wide, i.len, i.capacity, c.requires.room);
+      room = omega (arith, kept, wide, i.room);
     }
+
+pub returns-then-not-has_room-clause-midway : goal.returns-then-not-has_room-clause-midway
+returns-then-not-has_room-clause-midway c =
+    let t : ℕ = c.args.cycle in
+    let i = c.loop-cycle.invariant in
+    let v : Timed NodeState Row = record { cycle = t; asking = false; state = shown c.args.self.now; rows = c.args.self.now.rows.items } in
+    let q = c.sprint-sprinted.ensures.sprinted in
+    let m = c.sprint-sprinted.new.self in
+    let at : ℕ = c.sprint-sprinted.result.at in
+    let none : c.sprint-sprinted.result.inside ≡ false = c.if-sprinted.false in
+    let from = i.from in
+    let later = q.from in
+    let s : NodeState = shown m in
+    let e = c.act-taken.ensures in
+    let comes = comes_on v c.loop-cycle.at at (shown c.loop-cycle.self) s c.loop-cycle.self.rows.items m.rows.items i.comes (q.comes none) in
+    let midway : IsMidway v at (shown c.act-taken.new.self) c.act-taken.new.self.rows.items = record { state = s; rows = m.rows.items; comes = comes; going = ap is_some (q.going none); part = e.state; told = e.rows } in
+    let there : at ≡ t + (at - t) = omega (arith, from, later) in
+    subst (λ (u : ℕ). IsMidway v u (shown c.act-taken.new.self) c.act-taken.new.self.rows.items) there midway
+
+pub returns-then-not-has_room-clause-room : goal.returns-then-not-has_room-clause-room
+returns-then-not-has_room-clause-room c =
+    let i = c.loop-cycle.invariant in
+    let q = c.sprint-sprinted.ensures.sprinted in
+    let m = c.sprint-sprinted.new.self in
+    let e = c.act-taken.ensures in
+    let few = one_row c.sprint-sprinted.result.at (shown m) m.rows.items c.act-taken.new.self.rows.items e.rows in
+    let none : c.sprint-sprinted.result.inside ≡ false = c.if-sprinted.false in
+    let kept : vec_len m.rows ≡ vec_len c.loop-cycle.self.rows = ap (λ x. vec_len x) (q.same none) in
+    let room : vec_capacity m.rows ≡ vec_capacity c.loop-cycle.self.rows = ap (λ x. vec_capacity x) (q.same none) in
+    omega (arith, few, kept, room, e.room, i.room)
+
+pub returns-then-not-has_room-clause-count : goal.returns-then-not-has_room-clause-count
+returns-then-not-has_room-clause-count c =
+    let i = c.loop-cycle.invariant in
+    let q = c.sprint-sprinted.ensures.sprinted in
+    let none : c.sprint-sprinted.result.inside ≡ false = c.if-sprinted.false in
+    let few = q.few none in
+    let more = one_more c.sprint-sprinted.result.at (shown c.sprint-sprinted.new.self) (shown c.act-taken.new.self) c.act-taken.ensures.state in
+    omega (arith, more, i.from, q.from, few)

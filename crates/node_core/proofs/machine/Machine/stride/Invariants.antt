@@ -16,8 +16,7 @@ invariant-loop-cycle l = record {
   clock : l.self.bus.board.clock ≡ l.at;
   script : l.self.script ≡ l.fn.self.script;
   count : l.self.count ≤ 2 ^ 40 + l.at;
-  len : vec_len l.self.rows ≡ vec_len l.fn.self.rows;
-  capacity : vec_capacity l.self.rows ≡ vec_capacity l.fn.self.rows;
+  room : vec_len l.self.rows + 4 ≤ vec_capacity l.self.rows;
 }
 
 abbrev pub decreases-loop-cycle : goal.decreases-loop-cycle

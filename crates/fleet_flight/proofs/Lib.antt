@@ -1,0 +1,10 @@
+pub mod Alone
+pub mod Trails
+pub mod Ordered
+pub mod Near
+pub mod Hearing
+pub mod Flights
+pub mod Steps
+pub mod EachNode
+pub mod Records
+pub mod Epoch

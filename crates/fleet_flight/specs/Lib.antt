@@ -1,0 +1,4 @@
+pub mod Origin
+pub mod Paused
+pub mod Rows
+pub mod Turns

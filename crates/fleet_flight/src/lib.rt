@@ -1,0 +1,17 @@
+//! All nodes of a network on one thread, from any moment on. The node that is furthest behind takes a step, and goes on
+//! while no byte that another has still to send could reach it: so whenever a node samples, all that it could hear is in
+//! the record of the sends. Where they begin, at reset or in a saved state, is what [`Begins`] says.
+#![tactic(auto)]
+
+mod begins;
+mod flight;
+mod latency;
+mod order;
+mod record;
+mod rows;
+mod turns;
+
+pub use begins::Begins;
+pub use order::{put_behind, sort};
+pub use record::{kept_sends, record_of};
+pub use rows::{pass_to, rows_to};
