@@ -1,5 +1,5 @@
 -- A scenario, and its nodes in the single global order of cycles. Own to this simulator.
-use Rattle.std.specs.Prelude.{◌≡◌, ℕ, ◌≤◌, List, [], length, slice_index_or}
+use Rattle.std.specs.Prelude.{◌≡◌, ℕ, ◌≤◌, List, [], length, slice_index_or, slice_set}
 use Rattle.world_core.specs.Topology.{Topology, IsTopology}
 use Rattle.ihex_loader.specs.Flash.{Image}
 use Rattle.serial_ports.specs.Script.{ScriptBytes}
@@ -29,7 +29,7 @@ abbrev no_image : Image
 no_image = record { bytes = []; used = 0 }
 
 abbrev no_script : ScriptBytes
-no_script = record { at = 0; every = 1; bytes = [] }
+no_script = record { stretches = [] }
 
 -- the program memory of node k, and the bytes that arrive at it
 abbrev pub image_at : ScenarioOf → ℕ → Image
@@ -37,6 +37,10 @@ image_at s k = slice_index_or s.images k no_image
 
 abbrev pub script_at : ScenarioOf → ℕ → ScriptBytes
 script_at s k = slice_index_or s.scripts k no_script
+
+-- the same scenario with this script at node k, in place of its own
+abbrev pub with_script : ScenarioOf → ℕ → ScriptBytes → ScenarioOf
+with_script s k script = record s { scripts = slice_set s.scripts k script }
 
 -- all its nodes, from reset on
 abbrev pub fleet_of : ScenarioOf → Fleet NodeState Row

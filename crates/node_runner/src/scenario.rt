@@ -3,6 +3,7 @@ use avr_program::Program;
 use scenario_file::ScenarioText;
 use serial_ports::Script;
 use std::marker::Model;
+use std::mem;
 use world_core::{Topo, World};
 
 /// What a whole run needs: who hears whom, each node's program memory, the bytes that arrive at it, and the window of
@@ -38,7 +39,7 @@ impl Model for Scenario {
 
 impl Scenario {
     ghost use Rattle.std.specs.Prelude.{◌≡◌, ◌<◌, ◌≤◌, vec_len};
-    ghost use Rattle.node_runner.specs.Scenario.{IsScenario, image_at, script_at};
+    ghost use Rattle.node_runner.specs.Scenario.{IsScenario, image_at, script_at, with_script};
 
     /// The scenario of a text whose images were read, one for each node in order. A node at which nothing arrives has a
     /// script of no bytes.
@@ -78,6 +79,16 @@ impl Scenario {
         ensures { result.now ≡ script_at self.now node }
     {
         &self.scripts[usize::from(node)]
+    }
+
+    /// Puts `script` at node `node`, in place of the one that it had, which is given back. All else stays: no program is
+    /// copied, and nothing is allocated.
+    pub fn swap_script(&mut self, node: u8, script: Script) -> Script
+        requires { node < self.old.topo.nodes }
+        ensures before { result ≡ script_at self.old node }
+        ensures after { self.new ≡ with_script self.old node script }
+    {
+        mem::replace(&mut self.scripts[usize::from(node)], script)
     }
 
     /// The cycles from the first on and below the second in which instructions and entries of interrupts are traced.

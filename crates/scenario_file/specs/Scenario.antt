@@ -5,7 +5,7 @@ use Rattle.hex.specs.Hex.{decode_of}
 use Rattle.hex.specs.declared.error.FromHexError.{FromHexError}
 use Rattle.world_core.specs.declared.spans.Span.{Span}
 use Rattle.world_core.specs.Topology.{Topology, topology}
-use Rattle.serial_ports.specs.Script.{ScriptBytes}
+use Rattle.serial_ports.specs.Script.{ScriptBytes, StretchBytes}
 use Rattle.scenario_file.specs.Document.{elements, members_of, number_at, text_at, pair_of, pair_or, pair_at}
 use Rattle.scenario_file.specs.Faults.{nodes, links, inputs, link_of, node_of, document_of, document_fault}
 use Rattle.scenario_file.specs.declared.fault.ScenarioFault.{ScenarioFault}
@@ -54,15 +54,18 @@ bytes_or (Err e) = []
 abbrev pub bytes_in : List ℕ → List ℕ
 bytes_in text = bytes_or (decode_of text)
 
+abbrev stretch_in : Members → StretchBytes
+stretch_in ms = record { at = number_at (codes "at") 0 ms; every = number_at (codes "every") 7680 ms; bytes = bytes_in (text_at (codes "hex") ms) }
+
 abbrev pub script_in : Members → ScriptBytes
-script_in ms = record { at = number_at (codes "at") 0 ms; every = number_at (codes "every") 7680 ms; bytes = bytes_in (text_at (codes "hex") ms) }
+script_in ms = record { stretches = stretch_in ms ∷ [] }
 
 abbrev pub script_of : Data → ScriptBytes
 script_of d = script_in (members_of d)
 
 -- the script of a node at which no byte arrives
 abbrev pub no_script : ScriptBytes
-no_script = record { at = 0; every = 7680; bytes = [] }
+no_script = record { stretches = [] }
 
 -- the script of node k: that of its input, and without one no byte
 unfoldable pub script_for : ℕ → List Data → ScriptBytes
@@ -97,8 +100,11 @@ unfoldable pub scenario_in : List ℕ → Result ScenarioParts ScenarioFault
 scenario_in bytes = of_document (document_of bytes)
 
 -- ---- what holds of each scenario, beside what its topology and its scripts keep by themselves
+abbrev stretch_size : StretchBytes → ℕ
+stretch_size s = length s.bytes
+
 abbrev pub script_size : ScriptBytes → ℕ
-script_size s = length s.bytes
+script_size s = sum (map stretch_size s.stretches)
 
 pub record IsScenario (p : ScenarioParts) : Type 0 where
   pub images : length p.images ≡ p.topology.nodes

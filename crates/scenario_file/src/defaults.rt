@@ -18,5 +18,5 @@ pub const EVERY: u64 = 7_680;
 pub fn no_script(alloc: Global) -> Script
     ensures { result ≡ no_script }
 {
-    Script::new(0, EVERY, Vec::new(alloc))
+    Script::of(Vec::new(alloc))
 }

@@ -9,3 +9,4 @@ pub mod Numbers
 pub mod SpiNumbers
 pub mod UsartNumbers
 pub mod RadioNumbers
+pub mod Stretches

@@ -1,69 +1,102 @@
 // Scripts of arriving bytes.
-ghost use Rattle.std.specs.Prelude.{◌≡◌, ℕ, ◌+◌, ◌-◌, ◌*◌, ◌<◌, ◌≤◌, ◌^◌, true, None, length, slice_get, is_some, IfOk, IfSome};
-ghost use Rattle.serial_ports.specs.Script.{Arrives, IsQuiet, script_byte};
+ghost use Rattle.std.specs.Prelude.{◌≡◌, ℕ, ◌+◌, ◌<◌, ◌≤◌, ◌^◌, true, None, [], ◌∷◌, length, is_some, IfOk};
+ghost use Rattle.serial_ports.specs.Script.{Arrives, first_byte, script_byte};
 
+use crate::Stretch;
 use avr_base::NoMemory;
+use std::alloc::Global;
 use std::marker::Model;
 
-/// The bytes that arrive at a USART from outside: byte i in cycle `at + i * every`. A contract sees it as its
-/// `ScriptBytes`.
+// One stretch, which most scripts are, is held without a list in memory.
+#[derive(Drop)]
+enum Stretches {
+    One(Stretch),
+    Many(Vec<Stretch>),
+}
+
+/// The bytes that arrive at a USART from outside, in stretches: in a cycle the byte of the first stretch that has one. A
+/// contract sees it as its `ScriptBytes`.
 pub struct Script {
-    at: u64,
-    every: u64,
-    bytes: Vec<u8>,
+    stretches: Stretches,
 }
 
 // By hand, so that an exit that lets go of one, here and in the crates above, has one call to prove.
 impl Drop for Script {
     fn drop(self) {
-        let Script {
-            at: _,
-            every: _,
-            bytes: _,
-        } = self;
+        let Script { stretches: _ } = self;
     }
 }
 
 impl Model for Script {
-    ghost use Rattle.serial_ports.specs.Script.{IsScript, ScriptBytes};
+    ghost use Rattle.serial_ports.specs.Script.{ScriptBytes};
+    ghost use Rattle.serial_ports.specs.Stretches.{stretches_of};
 
     ghost Value = { ScriptBytes };
 
-    ghost view = { λ s. record { at = s.at; every = s.every; bytes = s.bytes.items } };
+    ghost view = { λ s. record { stretches = stretches_of s.stretches } };
+}
 
-    ghost invariant = { λ s. IsScript (record { at = s.at; every = s.every; bytes = s.bytes.items }) };
+// The byte of the first of the stretches that has one in a cycle.
+fn first_byte(stretches: &[Stretch], cycle: u64) -> Option<u8>
+    ensures value { result ≡ first_byte stretches.now cycle }
+    ensures law { Arrives (record { stretches = stretches.now }) cycle result }
+{
+    for stretch in stretches {
+        if let Some(byte) = stretch.byte_at(cycle) {
+            return Some(byte);
+        }
+    }
+    None
+}
+
+// In how many of the cycles from one on, of at most `most`, none of the stretches has a byte.
+fn quiet(stretches: &[Stretch], cycle: u64, most: u64) -> u64
+    requires { cycle + most ≤ 2 ^ 41 }
+    ensures within { result ≤ most }
+    ensures none { (i : ℕ) → i < result → first_byte stretches.now (cycle + i) ≡ None }
+    ensures first { result < most → is_some (first_byte stretches.now (cycle + result)) ≡ true }
+{
+    let mut quiet = most;
+    for stretch in stretches {
+        quiet = stretch.quiet(cycle, quiet);
+    }
+    quiet
+}
+
+// Equal stretches.
+fn copies(alloc: Global, stretches: &[Stretch]) -> Result<Vec<Stretch>, NoMemory>
+    ensures { IfOk result (λ copies. copies.items ≡ stretches.now) }
+{
+    let mut copies = Vec::new(alloc);
+    for stretch in stretches {
+        if copies.push(stretch.copy()?).is_err() {
+            return Err(NoMemory);
+        }
+    }
+    Ok(copies)
 }
 
 impl Script {
-    /// The script of `bytes`, at most 65,536 of them: the first arrives in cycle `at`, at most 2^40, and the others
-    /// `every` cycles, 1 to 65,535, one after another.
+    /// The script of one stretch of `bytes`, at most 65,536 of them: the first arrives in cycle `at`, at most 2^40, and
+    /// the others `every` cycles, 1 to 65,535, one after another.
     pub fn new(at: u64, every: u64, bytes: Vec<u8>) -> Script
         requires at { at ≤ 2 ^ 40 }
         requires some { 1 ≤ every }
         requires every { every ≤ 65535 }
         requires few { length bytes.items ≤ 65536 }
-        ensures { result ≡ record { at = at; every = every; bytes = bytes.items } }
+        ensures { result ≡ record { stretches = record { at = at; every = every; bytes = bytes.items } ∷ [] } }
     {
-        Script { at, every, bytes }
+        Script {
+            stretches: Stretches::One(Stretch::new(at, every, bytes)),
+        }
     }
 
-    // The byte with a number.
-    fn byte(&self, number: u64) -> Option<u8>
-        ensures { result ≡ slice_get self.now.bytes number }
+    /// The script of these stretches, in their order. With none of them no byte arrives.
+    pub fn of(stretches: Vec<Stretch>) -> Script
+        ensures { result ≡ record { stretches = stretches.items } }
     {
-        self.bytes.get(number as usize).copied()
-    }
-
-    // The number of a byte that arrives in a cycle, were there so many of them.
-    fn number_at(&self, cycle: u64) -> Option<u64>
-        ensures some { 1 ≤ self.now.every }
-        ensures found { IfSome result (λ i. cycle ≡ self.now.at + i * self.now.every) }
-        ensures none { result ≡ None → (i : ℕ) → cycle ≡ self.now.at + i * self.now.every → ⊥ }
-    {
-        if cycle >= self.at && (cycle - self.at) % self.every == 0 {
-            Some((cycle - self.at) / self.every)
-        } else {
-            None
+        Script {
+            stretches: Stretches::Many(stretches),
         }
     }
 
@@ -72,36 +105,9 @@ impl Script {
         ensures value { result ≡ script_byte self.now cycle }
         ensures law { Arrives self.now cycle result }
     {
-        match self.number_at(cycle) {
-            Some(number) => self.byte(number),
-            None => None,
-        }
-    }
-
-    // How many bytes arrive before a cycle, were there enough of them.
-    fn number_before(&self, cycle: u64) -> u64
-        ensures before { (i : ℕ) → i < result → self.now.at + i * self.now.every < cycle }
-        ensures behind { cycle ≤ self.now.at + result * self.now.every }
-    {
-        if cycle <= self.at {
-            0
-        } else {
-            (cycle - self.at - 1) / self.every + 1
-        }
-    }
-
-    // In how many cycles from one on no byte arrives.
-    fn rest(&self, cycle: u64) -> Option<u64>
-        ensures { IsQuiet self.now cycle result }
-    {
-        if self.bytes.is_empty() {
-            return None;
-        }
-        let number = self.number_before(cycle);
-        if number < self.bytes.len() as u64 {
-            Some(self.at + number * self.every - cycle)
-        } else {
-            None
+        match &self.stretches {
+            Stretches::One(stretch) => stretch.byte_at(cycle),
+            Stretches::Many(stretches) => first_byte(stretches, cycle),
         }
     }
 
@@ -112,9 +118,9 @@ impl Script {
         ensures none { (i : ℕ) → i < result → script_byte self.now (cycle + i) ≡ None }
         ensures first { result < most → is_some (script_byte self.now (cycle + result)) ≡ true }
     {
-        match self.rest(cycle) {
-            Some(rest) if rest < most => rest,
-            _ => most,
+        match &self.stretches {
+            Stretches::One(stretch) => stretch.quiet(cycle, most),
+            Stretches::Many(stretches) => quiet(stretches, cycle, most),
         }
     }
 
@@ -122,10 +128,12 @@ impl Script {
     pub fn copy(&self) -> Result<Script, NoMemory>
         ensures { IfOk result (λ script. script ≡ self.now) }
     {
-        Ok(Script {
-            at: self.at,
-            every: self.every,
-            bytes: self.bytes.clone()?,
-        })
+        let stretches = match &self.stretches {
+            Stretches::One(stretch) => Stretches::One(stretch.copy()?),
+            Stretches::Many(stretches) => {
+                Stretches::Many(copies(*stretches.allocator(), stretches)?)
+            }
+        };
+        Ok(Script { stretches })
     }
 }

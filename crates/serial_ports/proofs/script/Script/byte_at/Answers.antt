@@ -1,15 +1,21 @@
-use Rattle.std.proofs.Common.{sym, ◌∙◌, refl}
-use Rattle.serial_ports.proofs.ScriptArrivals.{arrives, script-at, script-none}
+use Rattle.std.proofs.Common.{◌≡◌, ◌∷◌, [], sym, ap, subst, ◌∙◌}
+use Rattle.serial_ports.specs.Script.{Arrives, ScriptBytes, script_byte}
+use Rattle.serial_ports.proofs.ScriptArrivals.{one-byte, one-arrives}
 use Rattle.serial_ports.proofs.script.Script.byte_at.Goals as goal
 
-pub returns-in-Some-clause-value : goal.returns-in-Some-clause-value
-returns-in-Some-clause-value c =
-    c.byte.ensures ∙ sym (script-at c.args.self.now c.args.cycle c.in-Some.number c.number_at.ensures.some c.in-Some.ensures.found)
+pub returns-in-One-clause-value : goal.returns-in-One-clause-value
+unfolding script_byte
+returns-in-One-clause-value c =
+    let is : record { stretches = c.in-One.stretch ∷ [] } ≡ c.args.self.now = cc in
+    c.byte_at.ensures.value ∙ sym (one-byte c.in-One.stretch c.args.cycle) ∙ ap (λ (s : ScriptBytes). script_byte s c.args.cycle) is
 
-pub returns-in-None-clause-value : goal.returns-in-None-clause-value
-returns-in-None-clause-value c =
-    sym (script-none c.args.self.now c.args.cycle c.number_at.ensures.some (λ i l. c.in-None.ensures.none refl i))
+pub returns-in-One-clause-law : goal.returns-in-One-clause-law
+returns-in-One-clause-law c =
+    let is : record { stretches = c.in-One.stretch ∷ [] } ≡ c.args.self.now = cc in
+    subst (λ (s : ScriptBytes). Arrives s c.args.cycle c.byte_at.result) is (one-arrives c.in-One.stretch c.args.cycle c.byte_at.result c.byte_at.ensures.law)
 
-pub returns-in-Some-clause-law : goal.returns-in-Some-clause-law
-returns-in-Some-clause-law c =
-    arrives c.args.self.now c.args.cycle c.byte.result c.number_at.ensures.some (returns-in-Some-clause-value c)
+pub returns-in-Many-clause-value : goal.returns-in-Many-clause-value
+unfolding script_byte
+returns-in-Many-clause-value c =
+    let is : record { stretches = c.deref.result.now } ≡ c.args.self.now = cc in
+    c.first_byte.ensures.value ∙ ap (λ (s : ScriptBytes). script_byte s c.args.cycle) is

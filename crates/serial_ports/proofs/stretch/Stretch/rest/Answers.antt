@@ -1,7 +1,7 @@
 use Rattle.std.proofs.Common.{◌≤◌, ◌<◌, length, arith}
 use Rattle.std.proofs.lemmas.Bool.Decides.{nat_tests}
-use Rattle.serial_ports.proofs.ScriptArrivals.{quiet-ever, quiet-until}
-use Rattle.serial_ports.proofs.script.Script.rest.Goals as goal
+use Rattle.serial_ports.proofs.StretchArrivals.{quiet-ever, quiet-until}
+use Rattle.serial_ports.proofs.stretch.Stretch.rest.Goals as goal
 
 pub returns-then-is_empty : goal.returns-then-is_empty
 returns-then-is_empty c =
