@@ -75,7 +75,7 @@ taken _ _ (IsSweep file state moves f g h) =
     let a = plain_file file f in
     let b = plain_file state g in
     let c = plain_file moves h in
-    simp (a.short, a.long, b.short, b.long, c.short, c.long) (refl {a = true})
+    simp (a.short, a.long) (simp (b.short, b.long) (simp (c.short, c.long) (refl {a = true})))
 
 -- and its matches ask for what the words ask for
 pub kept : (words : List (List ℕ)) (asked : Asked) → Form words asked → asked_of (subcommand_of the_app words) ≡ Some asked
