@@ -43,8 +43,11 @@ bytes_in line (c ∷ cs) = decoded line (decode_of (c ∷ cs))
 abbrev pub whole_room : Room
 whole_room = record { from = 0; bytes = 65536 }
 
-unfoldable pub room_behind : Room → StretchBytes → Room
-room_behind room s = record { from = s.at + (length s.bytes - 1) * s.every + 1; bytes = room.bytes - length s.bytes }
+unfoldable pub left_behind : Room → ℕ → ℕ → ℕ → Room
+left_behind room at every count = record { from = at + (count - 1) * every + 1; bytes = room.bytes - count }
+
+abbrev pub room_behind : Room → StretchBytes → Room
+room_behind room s = left_behind room s.at s.every (length s.bytes)
 
 -- a stretch that keeps to the room that is left
 unfoldable pub placed : ℕ → Room → StretchBytes → Result StretchBytes MovesFault

@@ -26,11 +26,13 @@ fn stretches_in(
         from: 0,
         bytes: 65_536,
     };
-    while let Some((stretch, behind)) = next_stretch(alloc, line, room, &mut words)? {
+    loop {
+        let Some((stretch, behind)) = next_stretch(alloc, line, room, &mut words)? else {
+            return Ok(stretches);
+        };
         stretches.push(stretch)?;
         room = behind;
     }
-    Ok(stretches)
 }
 
 // What arrives by the words behind the node of a line.
