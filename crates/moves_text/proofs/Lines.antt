@@ -1,5 +1,5 @@
 -- What the loops of the reader keep: what is still read, put behind what was read before, is what the whole is.
-use Rattle.std.proofs.Common.{◌≡◌, ℕ, suc, ◌+◌, ◌<◌, ◌≤◌, true, false, eqb, List, [], ◌∷◌, ◌++◌, length, Option, Some, None, Result, Ok, Err, refl, sym, ap, subst, ◌∙◌, append_assoc, arith}
+use Rattle.std.proofs.Common.{◌≡◌, ◌≢◌, ℕ, suc, ◌+◌, ◌<◌, ◌≤◌, true, false, eqb, List, [], ◌∷◌, ◌++◌, length, Option, Some, None, Result, Ok, Err, refl, sym, ap, subst, ◌∙◌, append_assoc, arith}
 use Rattle.std.proofs.lemmas.List.{append-nil}
 use Rattle.serial_ports.specs.Script.{StretchBytes}
 use Rattle.state_text.specs.Parts.{parts_of, pieces_of}
@@ -24,6 +24,12 @@ pub fails_bind : {A B : Type 0} (e : MovesFault) (r : Result A MovesFault) (f : 
 fails_bind (fault.AtLine line why) r f h = ap (λ x. x >>= f) h
 fails_bind fault.Empty r f h = ap (λ x. x >>= f) h
 fails_bind fault.NoMemory r f h = tt
+
+-- a fault that is no want of memory is that of the text
+pub gave_fault : {A : Type 0} (e : MovesFault) (read : Result A MovesFault) → e ≢ fault.NoMemory → Fails e read → read ≡ Err e
+gave_fault (fault.AtLine line why) read other h = h
+gave_fault fault.Empty read other h = h
+gave_fault fault.NoMemory read other h = absurd (other refl)
 
 -- one more
 regroup : {A : Type 0} (front : List A) (x : A) (read : Result (List A) MovesFault) → behind front (read >>= λ xs. Ok (x ∷ xs)) ≡ behind (front ++ x ∷ []) read

@@ -50,7 +50,8 @@ fn script_in(alloc: Global, line: usize, words: Parts<'_>) -> Result<Script, Mov
 // The move of a line.
 #[tactic(auto, unfolding(crate::specs::Moves::move_of))]
 fn move_of(alloc: Global, nodes: u8, line: usize, text: &[u8]) -> Result<Move, MovesFault>
-    ensures { Gives (λ m. m) result (move_of nodes line (parts_of text.now)) }
+    ensures exact { Gives (λ m. m) result (move_of nodes line (parts_of text.now)) }
+    ensures known { IfOk result (λ m. m.node < nodes) }
 {
     let mut words = Parts::of(text);
     let Some(word) = words.next() else {
@@ -66,7 +67,8 @@ fn move_of(alloc: Global, nodes: u8, line: usize, text: &[u8]) -> Result<Move, M
 
 // The moves of all lines.
 fn moves_of(alloc: Global, nodes: u8, text: &[u8]) -> Result<Vec<Move>, MovesFault>
-    ensures { Gives (λ moves. moves.items) result (moves_from nodes 1 (pieces_of text.now)) }
+    ensures exact { Gives (λ moves. moves.items) result (moves_from nodes 1 (pieces_of text.now)) }
+    ensures known { IfOk result (λ moves. All (λ m. m.node < nodes) moves.items) }
 {
     let mut moves = Vec::new(alloc);
     let mut line = 1;
