@@ -2,7 +2,7 @@
 use crate::answers::Answer;
 use crate::numbers::{byte, cycle, long, short};
 use crate::saved::saved_usart;
-use serial_ports::{Script, Usart, UsartReg};
+use serial_ports::{Script, Stretch, Usart, UsartReg};
 use std::alloc::Global;
 
 fn reg(name: &str) -> Option<UsartReg> {
@@ -59,6 +59,15 @@ pub fn do_usart(port: &mut Usart, words: &[&str]) -> Option<Answer> {
     }
 }
 
+// A stretch of three bytes.
+fn stretch(alloc: Global, at: u64, every: u16, bytes: [u8; 3]) -> Option<Stretch> {
+    if at > 1 << 40 || every == 0 {
+        return None;
+    }
+    let bytes = Vec::from_slice(alloc, &bytes).ok()?;
+    Some(Stretch::new(at, u64::from(every), bytes))
+}
+
 // A script of the bytes 01, 02 and 03.
 fn three(alloc: Global, at: u64, every: u16) -> Option<Script> {
     if at > 1 << 40 || every == 0 {
@@ -68,18 +77,36 @@ fn three(alloc: Global, at: u64, every: u16) -> Option<Script> {
     Some(Script::new(at, u64::from(every), bytes))
 }
 
-/// What a script of three bytes brings, of which a line has the cycle of the first, and how many cycles one comes after
-/// another; `None` where the line is none of the forms.
-pub fn do_script(alloc: Global, words: &[&str]) -> Option<Answer> {
+// A script of two stretches.
+fn six(alloc: Global, first: Option<Stretch>, second: Option<Stretch>) -> Option<Script> {
+    let mut stretches = Vec::new(alloc);
+    stretches.push(first?).ok()?;
+    stretches.push(second?).ok()?;
+    Some(Script::of(stretches))
+}
+
+// What a script brings.
+fn brings(script: Script, words: &[&str]) -> Option<Answer> {
     match words {
-        [at, every, "byte", c] => {
-            let script = three(alloc, long(at)?, short(every)?)?.copy().ok()?;
+        ["byte", c] => {
+            let script = script.copy().ok()?;
             Some(Answer::perhaps_byte(script.byte_at(long(c)?)))
         }
-        [at, every, "quiet", c, most] => {
-            let script = three(alloc, long(at)?, short(every)?)?;
-            Some(Answer::Number(script.quiet(cycle(c)?, cycle(most)?)))
+        ["quiet", c, most] => Some(Answer::Number(script.quiet(cycle(c)?, cycle(most)?))),
+        _ => None,
+    }
+}
+
+/// What a script of three bytes brings, of which a line has the cycle of the first, and how many cycles one comes after
+/// another, or one of twice three; `None` where the line is none of the forms.
+pub fn do_script(alloc: Global, words: &[&str]) -> Option<Answer> {
+    match words {
+        [at, every, "and", from, each, rest @ ..] => {
+            let first = stretch(alloc, long(at)?, short(every)?, [1, 2, 3]);
+            let second = stretch(alloc, long(from)?, short(each)?, [4, 5, 6]);
+            brings(six(alloc, first, second)?, rest)
         }
+        [at, every, rest @ ..] => brings(three(alloc, long(at)?, short(every)?)?, rest),
         _ => None,
     }
 }

@@ -5,7 +5,7 @@ use Rattle.std.specs.Option.{option_or}
 use Rattle.std.proofs.lemmas.Bool.{cases_lt}
 use Rattle.std.proofs.lemmas.List.{drop_all, drop_more, take_more}
 use Rattle.std.proofs.lemmas.Option.{slice_get-get_or, slice_get_within}
-use Rattle.serial_ports.specs.Script.{Arrives, IsByteOf, ScriptBytes, StretchBytes, first_byte, script_byte, stretch_byte}
+use Rattle.serial_ports.specs.Script.{Arrives, IsByteOf, StretchBytes, first_byte, stretch_byte}
 
 -- ---- one stretch behind others
 or-none : (o : Option ℕ) → option_or o None ≡ o
@@ -25,7 +25,11 @@ unfolding first_byte
 first_byte-push [] x t = or-none (stretch_byte x t)
 first_byte-push (y ∷ xs) x t = ap (option_or (stretch_byte y t)) (first_byte-push xs x t) ∙ or-or (stretch_byte y t) (first_byte xs t) (stretch_byte x t)
 
--- ---- a script of one stretch
+-- ---- a script of no stretch, and of one
+pub no-byte : (t : ℕ) → first_byte [] t ≡ None
+unfolding first_byte
+no-byte t = refl
+
 pub one-byte : (x : StretchBytes) (t : ℕ) → first_byte (x ∷ []) t ≡ stretch_byte x t
 unfolding first_byte
 one-byte x t = or-none (stretch_byte x t)

@@ -7,9 +7,10 @@ use avr_base::NoMemory;
 use std::alloc::Global;
 use std::marker::Model;
 
-// One stretch, which most scripts are, is held without a list in memory.
+// No stretch or one, as most scripts have, is held without a list in memory: where no byte comes, one test tells it.
 #[derive(Drop)]
 enum Stretches {
+    Nothing,
     One(Stretch),
     Many(Vec<Stretch>),
 }
@@ -95,9 +96,12 @@ impl Script {
     pub fn of(stretches: Vec<Stretch>) -> Script
         ensures { result ≡ record { stretches = stretches.items } }
     {
-        Script {
-            stretches: Stretches::Many(stretches),
-        }
+        let stretches = if stretches.is_empty() {
+            Stretches::Nothing
+        } else {
+            Stretches::Many(stretches)
+        };
+        Script { stretches }
     }
 
     /// The byte that arrives in `cycle`, `None` exactly where that is no byte's cycle.
@@ -106,6 +110,7 @@ impl Script {
         ensures law { Arrives self.now cycle result }
     {
         match &self.stretches {
+            Stretches::Nothing => None,
             Stretches::One(stretch) => stretch.byte_at(cycle),
             Stretches::Many(stretches) => first_byte(stretches, cycle),
         }
@@ -119,6 +124,7 @@ impl Script {
         ensures first { result < most → is_some (script_byte self.now (cycle + result)) ≡ true }
     {
         match &self.stretches {
+            Stretches::Nothing => most,
             Stretches::One(stretch) => stretch.quiet(cycle, most),
             Stretches::Many(stretches) => quiet(stretches, cycle, most),
         }
@@ -129,6 +135,7 @@ impl Script {
         ensures { IfOk result (λ script. script ≡ self.now) }
     {
         let stretches = match &self.stretches {
+            Stretches::Nothing => Stretches::Nothing,
             Stretches::One(stretch) => Stretches::One(stretch.copy()?),
             Stretches::Many(stretches) => {
                 Stretches::Many(copies(*stretches.allocator(), stretches)?)

@@ -1,5 +1,5 @@
 use Rattle.std.proofs.Common.{◌≡◌, None, Some, get_or, sym, subst, ap, ◌∙◌, arith}
-use Rattle.serial_ports.specs.Script.{IsByteOf, StretchBytes, first_byte, stretch_byte}
+use Rattle.serial_ports.specs.Script.{IsByteOf, StretchBytes, stretch_byte}
 use Rattle.serial_ports.proofs.ScriptArrivals.{past-more, here-byte, here-arrives, never-byte, never-arrives}
 use Rattle.serial_ports.proofs.script.first_byte.Goals as goal
 

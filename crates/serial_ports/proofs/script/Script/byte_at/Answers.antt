@@ -1,7 +1,13 @@
 use Rattle.std.proofs.Common.{◌≡◌, ◌∷◌, [], sym, ap, subst, ◌∙◌}
 use Rattle.serial_ports.specs.Script.{Arrives, ScriptBytes, script_byte}
-use Rattle.serial_ports.proofs.ScriptArrivals.{one-byte, one-arrives}
+use Rattle.serial_ports.proofs.ScriptArrivals.{no-byte, one-byte, one-arrives}
 use Rattle.serial_ports.proofs.script.Script.byte_at.Goals as goal
+
+pub returns-in-Nothing-clause-value : goal.returns-in-Nothing-clause-value
+unfolding script_byte
+returns-in-Nothing-clause-value c =
+    let is : record { stretches = [] } ≡ c.args.self.now = cc in
+    sym (no-byte c.args.cycle) ∙ ap (λ (s : ScriptBytes). script_byte s c.args.cycle) is
 
 pub returns-in-One-clause-value : goal.returns-in-One-clause-value
 unfolding script_byte

@@ -1,7 +1,13 @@
-use Rattle.std.proofs.Common.{◌≡◌, ◌∷◌, [], ◌+◌, is_some, sym, ap, ◌∙◌}
+use Rattle.std.proofs.Common.{◌≡◌, ◌∷◌, [], ◌+◌, is_some, ap, ◌∙◌}
 use Rattle.serial_ports.specs.Script.{ScriptBytes, script_byte}
-use Rattle.serial_ports.proofs.ScriptArrivals.{one-byte}
+use Rattle.serial_ports.proofs.ScriptArrivals.{no-byte, one-byte}
 use Rattle.serial_ports.proofs.script.Script.quiet.Goals as goal
+
+pub returns-in-Nothing-clause-none : goal.returns-in-Nothing-clause-none
+unfolding script_byte
+returns-in-Nothing-clause-none c =
+    let is : c.args.self.now ≡ record { stretches = [] } = cc in
+    λ i l. ap (λ (s : ScriptBytes). script_byte s (c.args.cycle + i)) is ∙ no-byte (c.args.cycle + i)
 
 pub returns-in-One-clause-none : goal.returns-in-One-clause-none
 unfolding script_byte
