@@ -117,7 +117,7 @@ impl Model for Saved {
 
 impl Saved {
     /// The run before its first epoch, at the state's cycle.
-    pub(crate) fn new(
+    pub fn new(
         alloc: Global,
         scenario: &Scenario,
         state: &StateParts,
