@@ -27,6 +27,7 @@ Usage: $called [-C DIR] COMMAND
   head FILE N         run it for N epochs of 262144 cycles, and write their part of the trace
   save FILE N         run it for N epochs, and write the state of the network
   resume FILE STATE   run it from a state on, and write the rest of the trace
+  sweep FILE STATE MOVES  the same again and again, once for each line of MOVES, with the input that it says
   head, save FILE N STATE   the same for N epochs from a state on
   node FILE CYCLES    run the image FILE (Intel HEX) on one node for CYCLES cycles (1 to 10000000, no _), and write its trace
   disasm FILE         list the instructions of the image FILE
@@ -39,7 +40,7 @@ ${own_help:+$own_help
 
 ${notice:+$notice
 }Exit status: 0 all is written, 1 writing failed, 2 bad command line, 3 a file cannot be read, 4 a scenario is refused,
-5 an image is refused, 6 out of memory, 7 a source is refused, 8 a state is refused, 9 the words cannot be had, 10 there is
+5 an image is refused, 6 out of memory, 7 a source is refused, 8 a state is refused, or moves, 9 the words cannot be had, 10 there is
 no program that can run here. docs/FORMATS.md has every row, format and status.
 TEXT
 }

@@ -43,6 +43,8 @@ def state_by_hand():
 def are_words(words):
     """Whether the program takes these words."""
     is_file = [word != "" and word[0] != "-" for word in words[1:]]
+    if words[0] == "sweep":
+        return len(words) == 4 and all(is_file)
     if words[0] in ("head", "save") and len(words) == 4 and is_file[2]:
         words = words[:3]
     if words[:2] == ["run", "--plain"]:
@@ -55,8 +57,8 @@ def are_words(words):
 
 
 class Cases(CaseFile):
-    def __init__(self, folder):
-        super().__init__(folder, HEAD.splitlines())
+    def __init__(self, folder, head=HEAD):
+        super().__init__(folder, head.splitlines())
         self.known = {}
 
     def file(self, name, content):

@@ -8,6 +8,7 @@ cycle after the other in order of their numbers, and a sample hears what the lis
     bench/network/network.py resume FILE STATE    the rows from a state on
     bench/network/network.py head FILE N STATE    the rows of N epochs from a state on
     bench/network/network.py save FILE N STATE    the state behind them
+    bench/network/network.py sweep FILE STATE MOVES    the rows from a state on, once for each line of MOVES
 
 It shares nothing with the crates: it is written from docs/ and the AVR Instruction Set Manual, and reads TOML by Python's
 tomllib. It takes some microseconds for each cycle of a node, so it is for short runs. Exit status and error stream are
@@ -21,6 +22,7 @@ sys.path.insert(0, str(Path(__file__).resolve().parent.parent / "scenario"))
 
 import cases as scenario_rules  # noqa: E402
 from machine import Node  # noqa: E402
+from moves import read_moves  # noqa: E402
 from states import EPOCH, Fault, Rules, Saved, read_state, state_text  # noqa: E402
 
 MOST_SCENARIO, MOST_IMAGE, FLASH = 524_288, 1_048_576, 131_072
@@ -227,6 +229,31 @@ def open_network(files, name):
     return Network(document, flashes)
 
 
+def refused(name, what, fault):
+    return Refused(8, f"avrora: {name}: {what} refused: {fault}")
+
+
+def swept(files, name, state, moves):
+    """The rows of each run of a sweep, one run behind another."""
+    network = open_network(files, name)
+    try:
+        saved = read_state(network.rules, files.read(state))
+    except Fault as fault:
+        raise refused(state, "state", fault) from None
+    try:
+        runs = read_moves(len(network.nodes), files.read(moves))
+    except Fault as fault:
+        raise refused(moves, "moves", fault) from None
+    own, written = [node.script for node in network.nodes], []
+    for moved, script in runs:
+        for node in network.nodes:
+            node.script = script if node.number == moved else own[node.number]
+        network.restore(saved)
+        network.run()
+        written.append(network.trace())
+    return b"".join(written)
+
+
 def outcome(files, words):
     """What a call with these words writes. Raises Refused."""
     if len(words) == 1:
@@ -234,6 +261,8 @@ def outcome(files, words):
         network.run()
         return network.trace()
     kind, name, *rest = words
+    if kind == "sweep":
+        return swept(files, name, *rest)
     state = rest[-1] if kind == "resume" or len(rest) == 2 else None
     network = open_network(files, name)
     try:
@@ -246,14 +275,14 @@ def outcome(files, words):
         if cycle >= network.limit:
             raise Fault("PastEnd")
     except Fault as fault:
-        raise Refused(8, f"avrora: {name if state is None else state}: state refused: {fault}") from None
+        raise refused(name if state is None else state, "state", fault) from None
     network.run_to(cycle)
     return network.trace() if kind == "head" else state_text(network.saved())
 
 
 def main():
     words = sys.argv[1:]
-    counts = {"head": (3, 4), "save": (3, 4), "resume": (3,)}
+    counts = {"head": (3, 4), "save": (3, 4), "resume": (3,), "sweep": (4,)}
     if len(words) != 1 and (not words or len(words) not in counts.get(words[0], ())):
         sys.exit(__doc__)
     try:

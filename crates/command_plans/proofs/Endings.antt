@@ -6,9 +6,11 @@ use Rattle.asm_text.specs.Source.{assembled}
 use Rattle.ihex_loader.specs.Flash.{Image}
 use Rattle.ihex_loader.specs.Image.{hex_fault, image}
 use Rattle.ihex_loader.specs.declared.fault.HexFault.{HexFault}
+use Rattle.moves_text.specs.Moves.{MoveOf, moves_in}
+use Rattle.moves_text.specs.declared.fault.MovesFault.{MovesFault}
 use Rattle.scenario_file.specs.Scenario.{ScenarioParts, scenario_in}
 use Rattle.scenario_file.specs.declared.fault.ScenarioFault.{ScenarioFault}
-use Rattle.command_plans.specs.Plan.{Plan, Give, Refuse, Read, Refusal, BadWords, BadScenario, BadImage, BadSource, BadState, and_then, image_or, image_plan, images_behind, scenario_or, scenario_plan, source_or, source_plan}
+use Rattle.command_plans.specs.Plan.{Plan, Give, Refuse, Read, Refusal, BadWords, BadScenario, BadImage, BadSource, BadState, BadMoves, and_then, image_or, image_plan, images_behind, moves_or, moves_plan, scenario_or, scenario_plan, source_or, source_plan}
 use Rattle.command_plans.specs.Reading.{Files, Reached, Here, Fitting, TooLong, Accepts, Refuses, Verdict, Refused as RefusedVerdict, Accepted, Says, verdict, on_bytes}
 use Rattle.command_plans.specs.Ends.{Ends, End, Done, OutFailed, NoMemory, ReadFailed, Refused, Reads, Stream}
 use Rattle.command_plans.specs.Parts.{Reported, Stopped, StopsAt, Told, Written, end_at, end_of}
@@ -20,6 +22,8 @@ use Rattle.command_plans.specs.declared.trouble.ScenarioCause.TheVariants as sce
 use Rattle.command_plans.specs.declared.trouble.SourceCause.{SourceCause}
 use Rattle.command_plans.specs.declared.trouble.SourceCause.TheVariants as source_cause
 use Rattle.command_plans.specs.declared.trouble.StateCause.{StateCause}
+use Rattle.command_plans.specs.declared.trouble.MovesCause.{MovesCause}
+use Rattle.command_plans.specs.declared.trouble.MovesCause.TheVariants as moves_cause
 use Rattle.command_plans.specs.declared.trouble.Trouble.{Trouble}
 use Rattle.command_plans.specs.declared.trouble.Trouble.TheVariants as trouble
 
@@ -118,6 +122,9 @@ source_is_no_words name why e = cc
 pub state_is_no_words : (name : List ℕ) (why : StateCause) → BadState name why ≢ BadWords
 state_is_no_words name why e = cc
 
+moves_are_no_words : (name : List ℕ) (why : MovesCause) → BadMoves name why ≢ BadWords
+moves_are_no_words name why e = cc
+
 keeps_image_or : (name : List ℕ) (o : Option HexFault) (flash : Image) → KeepsWords (image_or name o flash)
 keeps_image_or name (Some fault) flash = image_is_no_words name (cause.Faulty fault)
 keeps_image_or name None flash = tt
@@ -143,3 +150,10 @@ keeps_source_or name (Err fault) = source_is_no_words name (source_cause.Faulty 
 
 pub keeps_source : (name : List ℕ) → KeepsWords (source_plan name)
 keeps_source name = (source_is_no_words name source_cause.TooLong, λ bytes. keeps_source_or name (assembled bytes))
+
+keeps_moves_or : (name : List ℕ) (r : Result (List MoveOf) MovesFault) → KeepsWords (moves_or name r)
+keeps_moves_or name (Ok moves) = tt
+keeps_moves_or name (Err fault) = moves_are_no_words name (moves_cause.Faulty fault)
+
+pub keeps_moves : (nodes : ℕ) (name : List ℕ) → KeepsWords (moves_plan nodes name)
+keeps_moves nodes name = (moves_are_no_words name moves_cause.TooLong, λ bytes. keeps_moves_or name (moves_in nodes bytes))

@@ -6,9 +6,11 @@ use Rattle.asm_text.specs.declared.fault.AsmFault.{AsmFault}
 use Rattle.ihex_loader.specs.Flash.{Image}
 use Rattle.ihex_loader.specs.Image.{hex_fault, image}
 use Rattle.ihex_loader.specs.declared.fault.HexFault.{HexFault}
+use Rattle.moves_text.specs.Moves.{MoveOf, moves_in}
+use Rattle.moves_text.specs.declared.fault.MovesFault.{MovesFault}
 use Rattle.scenario_file.specs.Scenario.{ScenarioParts, scenario_in}
 use Rattle.scenario_file.specs.declared.fault.ScenarioFault.{ScenarioFault}
-use Rattle.command_plans.specs.Plan.{Plan, Give, Refuse, Read, Refusal, BadScenario, BadImage, BadSource, and_then, image_plan, images_behind, images_plan, scenario_plan, source_plan}
+use Rattle.command_plans.specs.Plan.{Plan, Give, Refuse, Read, Refusal, BadScenario, BadImage, BadSource, BadMoves, and_then, image_plan, images_behind, images_plan, moves_or, moves_plan, scenario_plan, source_plan}
 use Rattle.command_plans.specs.Reading.{Files, IsNext, IsReading, Reached, Here, Fitting, TooLong}
 use Rattle.command_plans.specs.Ends.{Reads, End, Done, OutFailed, NoMemory, ReadFailed, Refused}
 use Rattle.command_plans.specs.Parts.{StopsAt, Stopped}
@@ -17,6 +19,7 @@ use Rattle.command_plans.specs.Ends.{Stream}
 use Rattle.command_plans.specs.declared.trouble.ImageCause.TheVariants as cause
 use Rattle.command_plans.specs.declared.trouble.ScenarioCause.TheVariants as scenario_cause
 use Rattle.command_plans.specs.declared.trouble.SourceCause.TheVariants as source_cause
+use Rattle.command_plans.specs.declared.trouble.MovesCause.TheVariants as moves_cause
 
 -- one reading after another
 pub both : {A : Type 0} (files : Files) (p q r : Plan A) → Reached files p q → Reached files q r → Reached files p r
@@ -120,6 +123,17 @@ pub source_refused : (files : Files) (name bytes : List ℕ) (fault : AsmFault) 
 source_refused files name bytes fault read e =
     opened files name 1048576 (BadSource name source_cause.TooLong) bytes (Refuse (BadSource name (source_cause.Faulty fault))) read _
     (rw e (Here (Refuse (BadSource name (source_cause.Faulty fault)))))
+
+pub moves_accepted : (files : Files) (nodes : ℕ) (name bytes : List ℕ) (moves : List MoveOf) → Reached files (Read name 4194304 (BadMoves name moves_cause.TooLong) Give) (Give bytes)
+    → moves_in nodes bytes ≡ Ok moves → Reached files (moves_plan nodes name) (Give moves)
+moves_accepted files nodes name bytes moves read e =
+    opened files name 4194304 (BadMoves name moves_cause.TooLong) bytes (Give moves) read (λ b. moves_or name (moves_in nodes b)) (rw e (Here (Give moves)))
+
+pub moves_refused : (files : Files) (nodes : ℕ) (name bytes : List ℕ) (fault : MovesFault) → Reached files (Read name 4194304 (BadMoves name moves_cause.TooLong) Give) (Give bytes)
+    → moves_in nodes bytes ≡ Err fault → Reached files (moves_plan nodes name) (Refuse (BadMoves name (moves_cause.Faulty fault)))
+moves_refused files nodes name bytes fault read e =
+    opened files name 4194304 (BadMoves name moves_cause.TooLong) bytes (Refuse (BadMoves name (moves_cause.Faulty fault))) read (λ b. moves_or name (moves_in nodes b))
+    (rw e (Here (Refuse (BadMoves name (moves_cause.Faulty fault)))))
 
 -- ---- the images of a network
 

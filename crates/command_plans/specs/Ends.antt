@@ -3,8 +3,9 @@ use Rattle.std.specs.Prelude.{◌≡◌, ◌≢◌, ℕ, ◌⊎◌, List, [], �
 use Rattle.sim_io.specs.Outside.{Rose, extended, TookFront}
 use Rattle.asm_text.specs.Fault.{fault_name as source_fault_name, fault_line as source_fault_line}
 use Rattle.ihex_loader.specs.Fault.{fault_name, fault_line}
+use Rattle.moves_text.specs.Fault.{fault_name as moves_fault_name, fault_line as moves_fault_line}
 use Rattle.scenario_file.specs.Faults.{fault_name as scenario_fault_name}
-use Rattle.command_plans.specs.Plan.{Plan, Refusal, BadWords, BadScenario, BadImage, BadSource, BadState}
+use Rattle.command_plans.specs.Plan.{Plan, Refusal, BadWords, BadScenario, BadImage, BadSource, BadState, BadMoves}
 use Rattle.command_plans.specs.Reading.{Files, Accepts, Refuses, IsNext, Verdict, Untold, Refused as RefusedVerdict, Accepted}
 use Rattle.command_plans.specs.declared.trouble.ImageCause.{ImageCause}
 use Rattle.command_plans.specs.declared.trouble.ImageCause.TheVariants as cause
@@ -14,6 +15,8 @@ use Rattle.command_plans.specs.declared.trouble.SourceCause.{SourceCause}
 use Rattle.command_plans.specs.declared.trouble.SourceCause.TheVariants as source_cause
 use Rattle.command_plans.specs.declared.trouble.StateCause.{StateCause}
 use Rattle.command_plans.specs.declared.trouble.StateCause.TheVariants as state_cause
+use Rattle.command_plans.specs.declared.trouble.MovesCause.{MovesCause}
+use Rattle.command_plans.specs.declared.trouble.MovesCause.TheVariants as moves_cause
 use Rattle.state_text.specs.declared.fault.StateFault.TheVariants as state_fault
 use Rattle.command_plans.specs.declared.status.Status.{Status}
 use Rattle.command_plans.specs.declared.status.Status.TheVariants as status
@@ -74,7 +77,7 @@ module _ {J : Type 0} (output : J → List ℕ) where
   Ends files plan store store' out out' (ReadFailed name) = FailedRead store name store' × IsNext files plan name × (out' ≡ out)
   Ends files plan store store' out out' (Refused refusal) = (store' ≡ store) × Refuses files plan refusal × (out' ≡ out)
 
--- where the fault of an image, a source or a state is
+-- where the fault of an image, a source, a state or moves is
 unfoldable pub place_text : Option ℕ → List ℕ
 place_text None = []
 place_text (Some line) = codes ", line " ++ decimal line
@@ -98,6 +101,10 @@ state_cause_text (state_cause.Faulty (state_fault.OutOfBounds line)) = codes "Ou
 state_cause_text (state_cause.Faulty state_fault.PastEnd) = codes "PastEnd"
 state_cause_text (state_cause.Faulty state_fault.NoMemory) = codes "NoMemory"
 
+unfoldable pub moves_cause_text : MovesCause → List ℕ
+moves_cause_text moves_cause.TooLong = codes "TooLong"
+moves_cause_text (moves_cause.Faulty fault) = moves_fault_name fault ++ place_text (moves_fault_line fault)
+
 -- the line on `err` that each end owes
 unfoldable pub line_due : End → List ℕ
 line_due Done = []
@@ -109,6 +116,7 @@ line_due (Refused (BadScenario name why)) = codes "avrora: " ++ name ++ (codes "
 line_due (Refused (BadImage name why)) = codes "avrora: " ++ name ++ (codes ": image refused: " ++ cause_text why ++ codes "\n")
 line_due (Refused (BadSource name why)) = codes "avrora: " ++ name ++ (codes ": source refused: " ++ source_cause_text why ++ codes "\n")
 line_due (Refused (BadState name why)) = codes "avrora: " ++ name ++ (codes ": state refused: " ++ state_cause_text why ++ codes "\n")
+line_due (Refused (BadMoves name why)) = codes "avrora: " ++ name ++ (codes ": moves refused: " ++ moves_cause_text why ++ codes "\n")
 
 abbrev pub refusal_status : Refusal → Status
 refusal_status BadWords = status.BadWords
@@ -116,6 +124,7 @@ refusal_status (BadScenario name why) = status.BadScenario
 refusal_status (BadImage name why) = status.BadImage
 refusal_status (BadSource name why) = status.BadSource
 refusal_status (BadState name why) = status.BadState
+refusal_status (BadMoves name why) = status.BadState
 
 abbrev pub status_due : End → Status
 status_due Done = status.Done

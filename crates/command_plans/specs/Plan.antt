@@ -5,6 +5,8 @@ use Rattle.asm_text.specs.declared.fault.AsmFault.{AsmFault}
 use Rattle.ihex_loader.specs.Flash.{Image}
 use Rattle.ihex_loader.specs.Image.{hex_fault, image}
 use Rattle.ihex_loader.specs.declared.fault.HexFault.{HexFault}
+use Rattle.moves_text.specs.Moves.{MoveOf, moves_in}
+use Rattle.moves_text.specs.declared.fault.MovesFault.{MovesFault}
 use Rattle.scenario_file.specs.Scenario.{ScenarioParts, scenario_in}
 use Rattle.scenario_file.specs.declared.fault.ScenarioFault.{ScenarioFault}
 use Rattle.command_plans.specs.declared.trouble.ImageCause.{ImageCause}
@@ -14,6 +16,8 @@ use Rattle.command_plans.specs.declared.trouble.ScenarioCause.TheVariants as sce
 use Rattle.command_plans.specs.declared.trouble.SourceCause.{SourceCause}
 use Rattle.command_plans.specs.declared.trouble.StateCause.{StateCause}
 use Rattle.command_plans.specs.declared.trouble.SourceCause.TheVariants as source_cause
+use Rattle.command_plans.specs.declared.trouble.MovesCause.{MovesCause}
+use Rattle.command_plans.specs.declared.trouble.MovesCause.TheVariants as moves_cause
 
 -- why a call is refused
 pub data Refusal : Type 0 where
@@ -27,6 +31,8 @@ pub data Refusal : Type 0 where
   BadSource : (name : List ℕ) (why : SourceCause) → Refusal
   -- the saved state in this file is not, or the one that the scenario in this file is to come to cannot be had
   BadState : (name : List ℕ) (why : StateCause) → Refusal
+  -- the moves of a sweep in this file are not
+  BadMoves : (name : List ℕ) (why : MovesCause) → Refusal
 
 -- what is left to do: nothing more, since this was got; a refusal; or a file to be read, of at most so many bytes, and
 -- what comes of its bytes
@@ -76,3 +82,12 @@ source_or name (Err fault) = Refuse (BadSource name (source_cause.Faulty fault))
 -- read a source in assembly, of at most 1,048,576 bytes of text, for the words of its program
 abbrev pub source_plan : List ℕ → Plan (List ℕ)
 source_plan name = Read name 1048576 (BadSource name source_cause.TooLong) (λ bytes. source_or name (assembled bytes))
+
+-- moves are accepted where nothing is wrong with their text
+abbrev pub moves_or : List ℕ → Result (List MoveOf) MovesFault → Plan (List MoveOf)
+moves_or name (Ok moves) = Give moves
+moves_or name (Err fault) = Refuse (BadMoves name (moves_cause.Faulty fault))
+
+-- read the moves of a sweep of so many nodes, of at most 4,194,304 bytes of text
+abbrev pub moves_plan : ℕ → List ℕ → Plan (List MoveOf)
+moves_plan nodes name = Read name 4194304 (BadMoves name moves_cause.TooLong) (λ bytes. moves_or name (moves_in nodes bytes))

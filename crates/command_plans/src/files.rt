@@ -1,15 +1,17 @@
 // Reads the files of a call.
-ghost use Rattle.std.specs.Prelude.{◌≡◌, ◌≤◌, length, IfOk};
+ghost use Rattle.std.specs.Prelude.{◌≡◌, ◌<◌, ◌≤◌, length, IfOk};
+ghost use Rattle.std.specs.List.{All};
 ghost use Rattle.scenario_file.specs.Scenario.{IsScenario};
 ghost use Rattle.scenario_file.specs.Shown.{parts};
-ghost use Rattle.command_plans.specs.Plan.{Give, Read, image_plan, images_plan, scenario_plan, source_plan};
+ghost use Rattle.command_plans.specs.Plan.{Give, Read, image_plan, images_plan, moves_plan, scenario_plan, source_plan};
 ghost use Rattle.command_plans.specs.Ends.{reads};
 ghost use Rattle.command_plans.specs.Parts.{ReadAs, refusal_of};
 
-use crate::trouble::{Complaint, ImageCause, ScenarioCause, SourceCause, Trouble};
+use crate::trouble::{Complaint, ImageCause, MovesCause, ScenarioCause, SourceCause, Trouble};
 use asm_text::{AsmFault, assemble};
 use avr_program::Program;
 use ihex_loader::{Flash, HexFault, load};
+use moves_text::{Move, MovesFault};
 use scenario_file::{ScenarioFault, ScenarioText};
 use sim_io::{Name, ReadFault, Store};
 use std::alloc::Global;
@@ -22,6 +24,9 @@ const MOST_SCENARIO_BYTES: usize = 524_288;
 
 // The most bytes of a source's text.
 const MOST_SOURCE_BYTES: usize = 1_048_576;
+
+// The most bytes of the text of a sweep's moves.
+const MOST_MOVES_BYTES: usize = 4_194_304;
 
 /// The bytes of the file `name`, at most `most`; a longer one is refused as `too_long` says.
 pub fn read_file<'n, S: Store>(
@@ -138,5 +143,29 @@ pub fn read_source<'n, S: Store>(
         Ok(words) => Ok(words),
         Err(AsmFault::NoMemory) => Err(Trouble::NoMemory),
         Err(fault) => Err(Trouble::Refused(Complaint::BadSource(name, SourceCause::Faulty(fault)))),
+    }
+}
+
+/// The moves of a sweep of so many nodes in the file `name`, which has at most 4,194,304 bytes of text.
+pub fn read_moves<'n, S: Store>(
+    alloc: Global,
+    nodes: u8,
+    name: &'n str,
+    store: &mut S,
+) -> Result<Vec<Move>, Trouble<'n>>
+    ensures held { S.held store.new ≡ S.held store.old }
+    ensures known { IfOk result (λ moves. All (λ m. m.node < nodes) moves.items) }
+    ensures read { ReadAs (S.held store.old) (moves_plan nodes name.entry.now) (λ moves. moves.items)
+        (reads (S.faults store.old) (S.failed store.old)) (reads (S.faults store.new) (S.failed store.new)) result }
+{
+    let too_long = Complaint::BadMoves(name, MovesCause::TooLong);
+    let read = match read_file(alloc, name, MOST_MOVES_BYTES, too_long, store) {
+        Ok(bytes) => moves_text::read(alloc, nodes, bytes.as_slice()),
+        Err(trouble) => return Err(trouble),
+    };
+    match read {
+        Ok(moves) => Ok(moves),
+        Err(MovesFault::NoMemory) => Err(Trouble::NoMemory),
+        Err(fault) => Err(Trouble::Refused(Complaint::BadMoves(name, MovesCause::Faulty(fault)))),
     }
 }

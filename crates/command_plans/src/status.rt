@@ -21,7 +21,7 @@ pub enum Status {
     NoMemory,
     /// The source is refused.
     BadSource,
-    /// A saved state is refused, or cannot be had.
+    /// A saved state is refused, or cannot be had, or the moves of a sweep are refused.
     BadState,
 }
 

@@ -1,6 +1,7 @@
 // Why a call does not come to its end.
 use asm_text::AsmFault;
 use ihex_loader::HexFault;
+use moves_text::MovesFault;
 use scenario_file::ScenarioFault;
 use state_text::StateFault;
 
@@ -41,6 +42,15 @@ pub enum StateCause {
     Faulty(StateFault),
 }
 
+/// Why the moves of a sweep are refused.
+#[derive(Clone, Copy)]
+pub enum MovesCause {
+    /// Their text has more than 4,194,304 bytes.
+    TooLong,
+    /// The first thing that is wrong with their text.
+    Faulty(MovesFault),
+}
+
 /// What is refused.
 #[derive(Clone, Copy)]
 pub enum Complaint<'n> {
@@ -54,6 +64,8 @@ pub enum Complaint<'n> {
     BadSource(&'n str, SourceCause),
     /// The saved state in this file, or the one that this scenario is to come to.
     BadState(&'n str, StateCause),
+    /// The moves of a sweep in this file.
+    BadMoves(&'n str, MovesCause),
 }
 
 /// Why a call stops short.

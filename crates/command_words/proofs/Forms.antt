@@ -5,7 +5,7 @@ use Rattle.std.proofs.lemmas.Bool.Decides.{nat_tests}
 use Rattle.std.proofs.lemmas.Slice.Eq.{bytes_eq-Decides}
 use Rattle.std.specs.Prelude.{IfSome}
 use Rattle.command_words.specs.declared.command.Command.{Command}
-use Rattle.command_words.specs.Words.{Asked, Node, Run, RunPlain, Monitor, Sniff, Check, Disasm, Asm, Make, Head, Save, Resume, HeadOn, SaveOn, MonitorSpan, as_make, as_plain_run, as_resume, as_span, asked_by, cycles_of, epochs_of, bound_of, file_behind, in_order, is_file, is_word, or_else, sample_of, shown, span_of, with_number, with_state, IsInLimits}
+use Rattle.command_words.specs.Words.{Asked, Node, Run, RunPlain, Monitor, Sniff, Check, Disasm, Asm, Make, Head, Save, Resume, HeadOn, SaveOn, MonitorSpan, Sweep, as_make, as_plain_run, as_resume, as_span, as_sweep, asked_by, cycles_of, epochs_of, bound_of, file_behind, in_order, is_file, is_word, or_else, sample_of, shown, span_of, with_number, with_state, IsInLimits}
 use Rattle.command_words.proofs.Numerals.{number_limits}
 
 -- the two numbers of a span
@@ -31,6 +31,7 @@ pub data Form : List (List ℕ) → Asked → Type 0 where
   IsHeadOn : (file epochs state : List ℕ) (n : ℕ) → is_file file ≡ true → epochs_of epochs ≡ Some n → is_file state ≡ true → Form (codes "head" ∷ file ∷ epochs ∷ state ∷ []) (HeadOn file n state)
   IsSaveOn : (file epochs state : List ℕ) (n : ℕ) → is_file file ≡ true → epochs_of epochs ≡ Some n → is_file state ≡ true → Form (codes "save" ∷ file ∷ epochs ∷ state ∷ []) (SaveOn file n state)
   IsMonitorSpan : (file from to : List ℕ) (a b : ℕ) → is_file file ≡ true → Span from to a b → Form (codes "monitor" ∷ file ∷ from ∷ to ∷ []) (MonitorSpan file a b)
+  IsSweep : (file state moves : List ℕ) → is_file file ≡ true → is_file state ≡ true → is_file moves ≡ true → Form (codes "sweep" ∷ file ∷ state ∷ moves ∷ []) (Sweep file state moves)
 
 same : (name word : List ℕ) → is_word name word ≡ true → word ≡ name
 same name word h = (bytes_eq-Decides word name).0 h
@@ -114,6 +115,26 @@ of_span (a ∷ b ∷ []) asked h = absurd (cc)
 of_span (a ∷ b ∷ c ∷ []) asked h = absurd (cc)
 of_span (word ∷ file ∷ from ∷ to ∷ []) asked h = span_form word file from to _ refl _ refl asked h
 of_span (a ∷ b ∷ c ∷ d ∷ e ∷ more) asked h = absurd (cc)
+
+sweep_form : (word file state moves : List ℕ) (b : Bool) → b ≡ (is_word (codes "sweep") word && is_file file && is_file state && is_file moves) → (asked : Asked)
+    → (if b then Some (Sweep file state moves) else None) ≡ Some asked → Form (word ∷ file ∷ state ∷ moves ∷ []) asked
+sweep_form word file state moves false e asked h = absurd (cc)
+sweep_form word file state moves true e asked h =
+    let p = and_parts (is_word (codes "sweep") word && is_file file && is_file state) (is_file moves) (sym e) in
+    let q = and_parts (is_word (codes "sweep") word && is_file file) (is_file state) p.0 in
+    let r = and_parts (is_word (codes "sweep") word) (is_file file) q.0 in
+    let w : word ≡ codes "sweep" = same (codes "sweep") word r.0 in
+    let a : Sweep file state moves ≡ asked = cc in
+    rw (w, ← a) (IsSweep file state moves r.1 q.1 p.1)
+
+of_sweep : (words : List (List ℕ)) (asked : Asked) → as_sweep words ≡ Some asked → Form words asked
+unfolding as_sweep
+of_sweep [] asked h = absurd (cc)
+of_sweep (a ∷ []) asked h = absurd (cc)
+of_sweep (a ∷ b ∷ []) asked h = absurd (cc)
+of_sweep (a ∷ b ∷ c ∷ []) asked h = absurd (cc)
+of_sweep (word ∷ file ∷ state ∷ moves ∷ []) asked h = sweep_form word file state moves _ refl asked h
+of_sweep (a ∷ b ∷ c ∷ d ∷ e ∷ more) asked h = absurd (cc)
 
 resume_form : (word file state : List ℕ) (b : Bool) → b ≡ (is_word (codes "resume") word && is_file file && is_file state) → (asked : Asked)
     → (if b then Some (Resume file state) else None) ≡ Some asked → Form (word ∷ file ∷ state ∷ []) asked
@@ -222,7 +243,8 @@ form_of words asked h =
     (either words asked (as_resume words) _ (of_resume words asked)
     (either words asked (with_state (codes "head") HeadOn words) _ (of_state (codes "head") HeadOn IsHeadOn words asked)
     (either words asked (with_state (codes "save") SaveOn words) _ (of_state (codes "save") SaveOn IsSaveOn words asked)
-    (of_span words asked)))))))))))))) h
+    (either words asked (as_span words) _ (of_span words asked)
+    (of_sweep words asked))))))))))))))) h
 
 pub in_limits : (words : List (List ℕ)) (asked : Asked) → Form words asked → IsInLimits asked
 in_limits _ _ (IsNode file cycles n f e) = number_limits 8 1 10000000 cycles n e
@@ -242,6 +264,7 @@ in_limits _ _ (IsSaveOn file epochs state n f e g) = number_limits 7 1 9999999 e
 in_limits _ _ (IsMonitorSpan file from to a b f s) =
     let order : nat_le a b ≡ true = s.order in
     (grind (arith, nat_tests), (number_limits 13 0 1099511627776 to b s.to_is).1)
+in_limits _ _ (IsSweep file state moves f g h) = tt
 
 -- a command that is what the words ask for
 pub command_in_limits : (words : List (List ℕ)) (command : Option Command) → option_map shown command ≡ asked_by words → IfSome command (λ o. IsInLimits (shown o))

@@ -4,11 +4,11 @@ use Rattle.std.specs.Str.{bytes_eq}
 use Rattle.clap.specs.Lexer.{strip_byte}
 use Rattle.clap.specs.Words.{subcommand_of, takes}
 use Rattle.clap.proofs.OnLiterals.{clap_on_literals}
-use Rattle.command_words.specs.Words.{Asked, Node, Run, RunPlain, Monitor, Sniff, Check, Disasm, Asm, Make, Head, Save, Resume, HeadOn, SaveOn, MonitorSpan, asked_by, epochs_of, is_file, span_of}
+use Rattle.command_words.specs.Words.{Asked, Node, Run, RunPlain, Monitor, Sniff, Check, Disasm, Asm, Make, Head, Save, Resume, HeadOn, SaveOn, MonitorSpan, Sweep, asked_by, epochs_of, is_file, span_of}
 use Rattle.command_words.specs.Apps.{the_app}
 use Rattle.command_words.specs.Split.{asked_in, asked_of, cut_in, from_in, read_in, watch_in, within_in}
 use Rattle.command_words.proofs.Numerals.{number_file}
-use Rattle.command_words.proofs.Forms.{Form, Span, IsNode, IsRun, IsPlainRun, IsMonitor, IsSniff, IsCheck, IsDisasm, IsAsm, IsMake, IsHead, IsSave, IsResume, IsHeadOn, IsSaveOn, IsMonitorSpan, form_of}
+use Rattle.command_words.proofs.Forms.{Form, Span, IsNode, IsRun, IsPlainRun, IsMonitor, IsSniff, IsCheck, IsDisasm, IsAsm, IsMake, IsHead, IsSave, IsResume, IsHeadOn, IsSaveOn, IsMonitorSpan, IsSweep, form_of}
 
 -- a word that `clap` takes for a value
 record Plain (word : List ℕ) : Type 0 where
@@ -71,6 +71,11 @@ taken _ _ (IsMonitorSpan file from to m n f s) =
     let b = plain_file from (number_file 13 0 1099511627776 from m s.from_is) in
     let c = plain_file to (number_file 13 0 1099511627776 to n s.to_is) in
     simp (a.short, a.long, b.short, b.long, c.short, c.long) (refl {a = true})
+taken _ _ (IsSweep file state moves f g h) =
+    let a = plain_file file f in
+    let b = plain_file state g in
+    let c = plain_file moves h in
+    simp (a.short, a.long) (simp (b.short, b.long) (simp (c.short, c.long) (refl {a = true})))
 
 -- and its matches ask for what the words ask for
 pub kept : (words : List (List ℕ)) (asked : Asked) → Form words asked → asked_of (subcommand_of the_app words) ≡ Some asked
@@ -117,6 +122,11 @@ kept _ _ (IsMonitorSpan file from to m n f s) =
     let c = plain_file to (number_file 13 0 1099511627776 to n s.to_is) in
     let asked : within_in file (Some from) to ≡ Some (MonitorSpan file m n) = ap (option_map (λ span. MonitorSpan file span.0 span.1)) (span_is from to m n s) in
     simp (a.short, a.long, b.short, b.long, c.short, c.long) asked
+kept _ _ (IsSweep file state moves f g h) =
+    let a = plain_file file f in
+    let b = plain_file state g in
+    let c = plain_file moves h in
+    simp (a.short, a.long, b.short, b.long, c.short, c.long) (refl {a = Some (Sweep file state moves)})
 
 some_of : (o : Option Asked) → is_some o ≡ true → (asked : Asked) × (o ≡ Some asked)
 some_of None h = absurd (cc)

@@ -40,6 +40,10 @@ cut_app name = with_rule (two_words_app name (codes "epochs")) (optional (codes 
 abbrev pub monitor_app : App
 monitor_app = with_rule (with_rule (one_word_app (codes "monitor") (codes "file")) (optional (codes "from"))) (optional (codes "to"))
 
+-- three files
+abbrev pub sweep_app : App
+sweep_app = with_rule (two_words_app (codes "sweep") (codes "state")) (required (codes "moves"))
+
 -- the words begin behind the program's name
 abbrev pub without_first : App → App
 without_first a = record a { top = record a.top { no_binary_name = true } }
@@ -61,8 +65,8 @@ reading app =
 -- and those that cut a run, or go on with one
 abbrev pub cutting : App → App
 cutting app =
-    with_subcommand (with_subcommand (with_subcommand app (cut_app (codes "head")).top) (cut_app (codes "save")).top)
-    (two_words_app (codes "resume") (codes "state")).top
+    with_subcommand (with_subcommand (with_subcommand (with_subcommand app (cut_app (codes "head")).top) (cut_app (codes "save")).top)
+    (two_words_app (codes "resume") (codes "state")).top) sweep_app.top
 
 abbrev pub the_app : App
 the_app = cutting (reading (watching (simulating (without_first (new_app (codes "avrora"))))))

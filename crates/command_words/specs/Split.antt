@@ -3,7 +3,7 @@ use Rattle.std.specs.Prelude.{ℕ, List, [], codes, Option, Some, None, option_m
 use Rattle.std.specs.Option.{option_map_or}
 use Rattle.std.specs.Str.{bytes_eq}
 use Rattle.clap.specs.Words.{Row, Text, first_of}
-use Rattle.command_words.specs.Words.{Asked, Node, Run, RunPlain, Monitor, Sniff, Check, Disasm, Asm, Make, Head, Save, Resume, HeadOn, SaveOn, MonitorSpan, cycles_of, epochs_of, sample_of, span_of}
+use Rattle.command_words.specs.Words.{Asked, Node, Run, RunPlain, Monitor, Sniff, Check, Disasm, Asm, Make, Head, Save, Resume, HeadOn, SaveOn, MonitorSpan, Sweep, cycles_of, epochs_of, sample_of, span_of}
 
 -- the word of this name, or no text
 abbrev pub text_in : Text → List Row → Text
@@ -47,6 +47,7 @@ cut_in name rows =
     if bytes_eq name (codes "head") then head_in rows
     else if bytes_eq name (codes "save") then save_in rows
     else if bytes_eq name (codes "resume") then Some (Resume (text_in (codes "file") rows) (text_in (codes "state") rows))
+    else if bytes_eq name (codes "sweep") then Some (Sweep (text_in (codes "file") rows) (text_in (codes "state") rows) (text_in (codes "moves") rows))
     else None
 
 -- what a subcommand that simulates nothing asks for with these words, or one of those that cut a run

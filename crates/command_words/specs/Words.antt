@@ -41,6 +41,9 @@ pub data Asked : Type 0 where
   -- simulate the network of the scenario in this file, and write on what its nodes spent the cycles from one on and
   -- below another
   MonitorSpan : (file : List ℕ) (from to : ℕ) → Asked
+  -- simulate the network of the scenario in this file from the state in the second one on, once for each line of the
+  -- third one, with the input that the line says
+  Sweep : (file state moves : List ℕ) → Asked
 
 -- what the code's value asks for
 abbrev pub shown : Command → Asked
@@ -59,6 +62,7 @@ shown (variant.Resume file state) = Resume file.now state.now
 shown (variant.HeadOn file epochs state) = HeadOn file.now epochs state.now
 shown (variant.SaveOn file epochs state) = SaveOn file.now epochs state.now
 shown (variant.MonitorSpan file from to) = MonitorSpan file.now from to
+shown (variant.Sweep file state moves) = Sweep file.now state.now moves.now
 
 abbrev pub is_word : List ℕ → List ℕ → Bool
 is_word name word = pointwise ◌==◌ word name
@@ -142,6 +146,12 @@ as_span (command ∷ file ∷ from ∷ to ∷ []) =
     else None
 as_span _ = None
 
+-- `sweep FILE STATE MOVES`
+unfoldable pub as_sweep : List (List ℕ) → Option Asked
+as_sweep (command ∷ file ∷ state ∷ moves ∷ []) =
+    if is_word (codes "sweep") command && is_file file && is_file state && is_file moves then Some (Sweep file state moves) else None
+as_sweep _ = None
+
 abbrev pub or_else : Option Asked → Option Asked → Option Asked
 or_else (Some asked) other = Some asked
 or_else None other = other
@@ -163,7 +173,8 @@ asked_by words =
     (or_else (as_resume words)
     (or_else (with_state (codes "head") HeadOn words)
     (or_else (with_state (codes "save") SaveOn words)
-    (as_span words))))))))))))))
+    (or_else (as_span words)
+    (as_sweep words)))))))))))))))
 
 -- the number of cycles, where there is one, is from 1 to 10,000,000, that of a sample at most 65,535, that of epochs
 -- from 1 to 9,999,999, and a span ends not before it begins and at most at 1,099,511,627,776
@@ -183,3 +194,4 @@ IsInLimits (Resume file state) = Unit {0}
 IsInLimits (HeadOn file epochs state) = (1 ≤ epochs) × (epochs ≤ 9999999)
 IsInLimits (SaveOn file epochs state) = (1 ≤ epochs) × (epochs ≤ 9999999)
 IsInLimits (MonitorSpan file from to) = (from ≤ to) × (to ≤ 1099511627776)
+IsInLimits (Sweep file state moves) = Unit {0}

@@ -36,6 +36,7 @@ fn is_quadruple(command: &str, first: &str, second: &str, third: &str) -> bool
     match command {
         "head" | "save" => is_file(first) & is_file(third) & epochs(second).is_some(),
         "monitor" => is_file(first) & span(second, third).is_some(),
+        "sweep" => is_file(first) & is_file(second) & is_file(third),
         _ => false,
     }
 }

@@ -26,7 +26,7 @@ struct Form {
 }
 
 // The forms, but for `run` with and without its flag, which are one.
-static FORMS: [Form; 11] = [
+static FORMS: [Form; 12] = [
     Form {
         name: "node",
         words: &[Word::Required("file"), Word::Required("cycles")],
@@ -82,6 +82,14 @@ static FORMS: [Form; 11] = [
     Form {
         name: "resume",
         words: &[Word::Required("file"), Word::Required("state")],
+    },
+    Form {
+        name: "sweep",
+        words: &[
+            Word::Required("file"),
+            Word::Required("state"),
+            Word::Required("moves"),
+        ],
     },
 ];
 

@@ -77,4 +77,11 @@ pub enum Command<'w> {
         from: u64,
         to: u64,
     },
+    /// `sweep FILE STATE MOVES`: simulate the network of this scenario from the state in the second file on, once for
+    /// each line of the third one, with the input that the line says in place of that of a node.
+    Sweep {
+        file: &'w str,
+        state: &'w str,
+        moves: &'w str,
+    },
 }

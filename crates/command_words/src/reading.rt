@@ -93,6 +93,11 @@ fn cutting_in<'w>(name: &str, matches: &ArgMatches<'w>) -> Option<Command<'w>>
             file: text_at(matches, "file"),
             state: text_at(matches, "state"),
         }),
+        "sweep" => Some(Command::Sweep {
+            file: text_at(matches, "file"),
+            state: text_at(matches, "state"),
+            moves: text_at(matches, "moves"),
+        }),
         _ => None,
     }
 }

@@ -17,7 +17,7 @@ use Rattle.command_plans.proofs.Steps.{both, goes_on, stops_on, stops_moved, sto
 use Rattle.commands.specs.Network.{network_of}
 use Rattle.commands.specs.Job.{Job}
 use Rattle.commands.specs.Plan.{cut_or, cut_plan, images_for, network_plan, span_or, span_plan}
-use Rattle.commands.specs.Parts.{HasRead, IsShort, Ready, job_at}
+use Rattle.commands.specs.Parts.{HasGot, HasRead, IsShort, Ready, job_at}
 use Rattle.commands.specs.declared.job.Job.{Job as JobValue}
 
 -- a plan for what a scenario says, and behind it its images
@@ -106,3 +106,8 @@ pub network_ready : (files : Files) (plan : Plan ScenarioOf) (next : ScenarioOf 
     → Ready files (and_then plan (λ it. Give (next it))) store store' err err' todo
 network_ready files plan next store store' err err' network todo read is short =
     ready files plan next network store store' err err' todo read.reached is read.same read.silent short
+
+-- a network that was read
+pub got : {files : Files} {plan : Plan ScenarioOf} {store store' : Reads} {err err' : Stream} {network : ScenarioOf} → HasRead files plan store store' err err' network
+    → HasGot files plan store store' err err' network
+got read = record { reached = read.reached; same = read.same; silent = read.silent }

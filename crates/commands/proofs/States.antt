@@ -1,10 +1,12 @@
 -- A saved state that is read, and a network that is to go on from it.
-use Rattle.std.proofs.Common.{◌≡◌, ℕ, List, Ok, Err, ◌∙◌, subst}
+use Rattle.std.proofs.Common.{◌≡◌, ◌≢◌, ℕ, List, Result, Ok, Err, refl, ◌∙◌, subst}
 use Rattle.checkpoint_text.specs.Onward.{SavedAt}
 use Rattle.checkpoint_text.specs.State.{state_in}
 use Rattle.node_runner.specs.Scenario.{ScenarioOf}
 use Rattle.state_text.specs.Text.{StateOf}
+use Rattle.state_text.specs.Reading.{Fails}
 use Rattle.state_text.specs.declared.fault.StateFault.{StateFault}
+use Rattle.state_text.specs.declared.fault.StateFault.TheVariants as fault
 use Rattle.command_plans.specs.Plan.{Plan, Give, Refuse, Read, BadState, and_then}
 use Rattle.command_plans.specs.Reading.{Files, Reached, Here}
 use Rattle.command_plans.specs.Ends.{End, Reads, Stream}
@@ -16,6 +18,13 @@ use Rattle.commands.specs.Job.{Job, ResumeJob}
 use Rattle.commands.specs.Plan.{network_plan, state_or, state_plan}
 use Rattle.commands.specs.Parts.{HasRead, IsFresh, Ready}
 use Rattle.commands.specs.declared.job.Job.TheVariants as job
+
+-- a fault that is no want of memory is that of the text
+pub gave_fault : {A : Type 0} (e : StateFault) (read : Result A StateFault) → e ≢ fault.NoMemory → Fails e read → read ≡ Err e
+gave_fault (fault.NotAState line) read other h = h
+gave_fault (fault.OutOfBounds line) read other h = h
+gave_fault fault.PastEnd read other h = h
+gave_fault fault.NoMemory read other h = absurd (other refl)
 
 module _ (files : Files) (network : ScenarioOf) (name bytes : List ℕ) (read : Reached files (Read name 4194304 (BadState name cause.TooLong) Give) (Give bytes)) where
   pub state_accepted : (state : StateOf) → state_in network bytes ≡ Ok state → Reached files (state_plan network name) (Give state)

@@ -1,7 +1,7 @@
 -- What each status says of a call.
 use Rattle.std.proofs.Common.{◌≡◌, ◌≢◌, ◌⊎◌, ℕ, ◌+◌, ◌*◌, nat_le, nat_lt, Bool, if◌then◌else◌, List, Option, Some, None, is_some, true, false, Result, Ok, Err, inl, inr, refl, sym, ap, ◌∙◌, subst}
 use Rattle.sim_io.specs.Outside.{Rose}
-use Rattle.command_words.specs.Words.{Asked, Node, Run, RunPlain, Monitor, Sniff, Check, Disasm, Asm, Make, Head, Save, Resume, HeadOn, SaveOn, MonitorSpan, asked_by, shown}
+use Rattle.command_words.specs.Words.{Asked, Node, Run, RunPlain, Monitor, Sniff, Check, Disasm, Asm, Make, Head, Save, Resume, HeadOn, SaveOn, MonitorSpan, Sweep, asked_by, shown}
 use Rattle.command_words.specs.declared.command.Command.{Command}
 use Rattle.world_core.specs.Kept.{epoch}
 use Rattle.scenario_file.specs.Scenario.{ScenarioParts}
@@ -11,7 +11,7 @@ use Rattle.checkpoint_text.specs.State.{state_in}
 use Rattle.state_text.specs.Text.{StateOf}
 use Rattle.state_text.specs.declared.fault.StateFault.{StateFault}
 use Rattle.state_text.specs.declared.fault.StateFault.TheVariants.{PastEnd}
-use Rattle.command_plans.specs.Plan.{Plan, Give, Refuse, Refusal, BadWords, BadScenario, BadImage, BadSource, BadState, and_then, image_plan, images_plan, scenario_plan, source_plan}
+use Rattle.command_plans.specs.Plan.{Plan, Give, Refuse, Refusal, BadWords, BadScenario, BadImage, BadSource, BadState, BadMoves, and_then, image_plan, images_plan, moves_plan, scenario_plan, source_plan}
 use Rattle.command_plans.specs.Reading.{Files, Reached, Here, Refuses, Verdict, Untold, Refused as RefusedVerdict, Accepted, Says, verdict}
 use Rattle.command_plans.specs.Ends.{Ends, End, Done, OutFailed, NoMemory, ReadFailed, Refused, Reads, Stream, status_due, EndedSaying, EndedUnsaid, HasStatus}
 use Rattle.command_plans.specs.Parts.{Told, Said, Unsaid, Reported, Stopped, Written, end_of}
@@ -21,12 +21,13 @@ use Rattle.command_plans.specs.declared.trouble.ScenarioCause.{ScenarioCause}
 use Rattle.command_plans.specs.declared.trouble.ScenarioCause.TheVariants as scenario_cause
 use Rattle.command_plans.specs.declared.trouble.SourceCause.{SourceCause}
 use Rattle.command_plans.specs.declared.trouble.StateCause.{StateCause}
+use Rattle.command_plans.specs.declared.trouble.MovesCause.{MovesCause}
 use Rattle.command_plans.specs.declared.trouble.StateCause.TheVariants as cause
 use Rattle.command_plans.specs.declared.status.Status.{Status}
 use Rattle.command_plans.specs.declared.status.Status.TheVariants as case
-use Rattle.command_plans.proofs.Endings.{KeepsWords, ends_job, ends_stopped, keeps_both, keeps_image, keeps_images, keeps_reached, keeps_scenario, keeps_source, refuses, reported_stop, state_is_no_words}
+use Rattle.command_plans.proofs.Endings.{KeepsWords, ends_job, ends_stopped, keeps_both, keeps_image, keeps_images, keeps_moves, keeps_reached, keeps_scenario, keeps_source, refuses, reported_stop, state_is_no_words}
 use Rattle.commands.specs.Job.{Job, output}
-use Rattle.commands.specs.Plan.{cut_on_or, cut_on_plan, cut_plan, images_for, network_plan, plan, plan_for, plan_of, span_or, span_plan, state_or, state_plan}
+use Rattle.commands.specs.Plan.{begun_plan, cut_on_or, cut_on_plan, cut_plan, images_for, network_plan, plan, plan_for, plan_of, span_or, span_plan, state_or, state_plan, sweep_plan}
 use Rattle.commands.specs.TopClause.{TopClause}
 use Rattle.commands.specs.Parts.{JobRead, Prepared, Prepares, Ready, job_at}
 use Rattle.commands.specs.declared.job.Job.{Job as JobValue}
@@ -72,6 +73,13 @@ keeps_cut_on file epochs name =
     (λ network. keeps_both (state_plan network name) (cut_on_or name epochs network) (keeps_state network name)
     (λ state. keeps_if (nat_lt (state.cycle + epochs * epoch) network.topo.limit) _ _ (state_is_no_words name (cause.Faulty PastEnd))))
 
+keeps_begun : (file name : List ℕ) → KeepsWords (begun_plan file name)
+keeps_begun file name = keeps_both (network_plan file) _ (keeps_network file) (λ network. keeps_both (state_plan network name) _ (keeps_state network name) (λ state. tt))
+
+keeps_sweep : (file state name : List ℕ) → KeepsWords (sweep_plan file state name)
+keeps_sweep file state name =
+    keeps_both (begun_plan file state) _ (keeps_begun file state) (λ begun. keeps_both (moves_plan begun.0.topo.nodes name) _ (keeps_moves begun.0.topo.nodes name) (λ moves. tt))
+
 keeps_plan : (asked : Asked) → KeepsWords (plan_of asked)
 unfolding plan_of
 keeps_plan (Node file cycles) = keeps_both (image_plan file) _ (keeps_image file) (λ flash. tt)
@@ -89,6 +97,7 @@ keeps_plan (Resume file state) =
     keeps_both (network_plan file) _ (keeps_network file) (λ network. keeps_both (state_plan network state) _ (keeps_state network state) (λ saved. tt))
 keeps_plan (HeadOn file epochs state) = keeps_both (cut_on_plan file epochs state) _ (keeps_cut_on file epochs state) (λ at. tt)
 keeps_plan (SaveOn file epochs state) = keeps_both (cut_on_plan file epochs state) _ (keeps_cut_on file epochs state) (λ at. tt)
+keeps_plan (Sweep file state moves) = keeps_both (sweep_plan file state moves) _ (keeps_sweep file state moves) (λ it. tt)
 keeps_plan (MonitorSpan file from to) = keeps_both (span_plan file from to) _ (keeps_span file from to) (λ network. tt)
 
 -- words are refused only where nothing is asked for
@@ -106,7 +115,8 @@ EndsWith case.BadScenario end = (name : List ℕ) × ((why : ScenarioCause) × (
 EndsWith case.BadImage end = (name : List ℕ) × ((why : ImageCause) × (end ≡ Refused (BadImage name why)))
 EndsWith case.NoMemory end = end ≡ NoMemory
 EndsWith case.BadSource end = (name : List ℕ) × ((why : SourceCause) × (end ≡ Refused (BadSource name why)))
-EndsWith case.BadState end = (name : List ℕ) × ((why : StateCause) × (end ≡ Refused (BadState name why)))
+EndsWith case.BadState end =
+    ((name : List ℕ) × ((why : StateCause) × (end ≡ Refused (BadState name why)))) ⊎ ((name : List ℕ) × ((why : MovesCause) × (end ≡ Refused (BadMoves name why))))
 
 ends_with_due : (end : End) → EndsWith (status_due end) end
 ends_with_due Done = refl
@@ -117,7 +127,8 @@ ends_with_due (Refused BadWords) = refl
 ends_with_due (Refused (BadScenario name why)) = (name, (why, refl))
 ends_with_due (Refused (BadImage name why)) = (name, (why, refl))
 ends_with_due (Refused (BadSource name why)) = (name, (why, refl))
-ends_with_due (Refused (BadState name why)) = (name, (why, refl))
+ends_with_due (Refused (BadState name why)) = inl (name, (why, refl))
+ends_with_due (Refused (BadMoves name why)) = inr (name, (why, refl))
 
 ends_with : (x answer : Status) (end : End) → answer ≡ status_due end → answer ≡ x → EndsWith x end
 ends_with x answer end e f = subst (λ s. EndsWith s end) (sym e ∙ f) (ends_with_due end)
@@ -194,10 +205,14 @@ module _ (files : Files) (words : List (List ℕ)) (store store' : Reads) (out o
       let s = said h case.BadSource e (λ f. cc) (λ f. cc) in
       (s.1.0, (s.1.1.0, subst SaidSo s.1.1.1 s.2))
 
-  state_from : HowNow → answer ≡ case.BadState → (name : List ℕ) × ((why : StateCause) × SaidSo (Refused (BadState name why)))
+  state_from : HowNow → answer ≡ case.BadState
+      → ((name : List ℕ) × ((why : StateCause) × SaidSo (Refused (BadState name why)))) ⊎ ((name : List ℕ) × ((why : MovesCause) × SaidSo (Refused (BadMoves name why))))
   state_from h e =
       let s = said h case.BadState e (λ f. cc) (λ f. cc) in
-      (s.1.0, (s.1.1.0, subst SaidSo s.1.1.1 s.2))
+      elim s.1 [
+        | inl state ↦ inl (state.0, (state.1.0, subst SaidSo state.1.1 s.2))
+        | inr moves ↦ inr (moves.0, (moves.1.0, subst SaidSo moves.1.1 s.2))
+      ]
 
   memory_from : HowNow → answer ≡ case.NoMemory → SaidSo NoMemory
   memory_from h e =

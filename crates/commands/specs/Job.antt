@@ -1,8 +1,10 @@
 -- What a command writes.
 use Rattle.std.specs.Prelude.{ℕ, ◌+◌, ◌*◌, List}
+use Rattle.std.specs.List.{flat_map}
 use Rattle.ihex_loader.specs.Flash.{Image}
 use Rattle.ihex_loader.specs.Hex.{hex_of}
 use Rattle.world_core.specs.Kept.{epoch}
+use Rattle.moves_text.specs.Moves.{MoveOf}
 use Rattle.node_runner.specs.Scenario.{ScenarioOf, fleet_of}
 use Rattle.run_reports.specs.Profiles.{profiles_text}
 use Rattle.run_reports.specs.Frames.{frames_text}
@@ -13,6 +15,7 @@ use Rattle.trace_writer.specs.Line.{rows_text}
 use Rattle.world_core.specs.Order.{run_rows, world_at}
 use Rattle.commands.specs.Listing.{listing}
 use Rattle.commands.specs.Network.{size_line, trace_of}
+use Rattle.commands.specs.Sweep.{run_text}
 use Rattle.commands.specs.Sample.{sample_line}
 
 -- what a call is to write, once all its files are accepted
@@ -41,6 +44,8 @@ pub data Job : Type 0 where
   HeadOnJob : (network : ScenarioOf) (state : StateOf) (epochs : ℕ) → Job
   -- the state in which it is then
   SaveOnJob : (network : ScenarioOf) (state : StateOf) (epochs : ℕ) → Job
+  -- the traces of this network from a state on, one for each of these moves, one behind another
+  SweepJob : (network : ScenarioOf) (state : StateOf) (moves : List MoveOf) → Job
 
 -- what a job writes to `out`
 unfoldable pub output : Job → List ℕ
@@ -56,3 +61,4 @@ output (SaveJob network epochs) = state_text (saved_at network (epochs * epoch))
 output (ResumeJob network state) = rows_text (run_rows (onward network state))
 output (HeadOnJob network state epochs) = rows_text (world_at (onward network state) (state.cycle + epochs * epoch)).rows
 output (SaveOnJob network state epochs) = state_text (saved_from network state (state.cycle + epochs * epoch))
+output (SweepJob network state moves) = flat_map (run_text network state) moves

@@ -1,6 +1,7 @@
 pub mod Listing
 pub mod Network
 pub mod Sample
+pub mod Sweep
 pub mod Job
 pub mod Plan
 pub mod TopClause

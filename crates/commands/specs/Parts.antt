@@ -1,9 +1,11 @@
 -- What the parts of a call owe to one another: the job that a value of the code stands for, and what is known once it
 -- was read. These are the contracts of functions inside this crate, and no part of what the top clause says.
+use Rattle.std.specs.List.{All}
 use Rattle.std.specs.Prelude.{◌≡◌, false, ◌≤◌, ◌<◌, ◌+◌, ◌-◌, ◌*◌, ℕ, min, true, is_some, length, List, Result, Ok, Err}
 use Rattle.world_core.specs.Kept.{epoch}
 use Rattle.node_runner.specs.Scenario.{ScenarioOf}
-use Rattle.checkpoint_text.specs.Onward.{SavedAt}
+use Rattle.checkpoint_text.specs.Onward.{CanResume, SavedAt}
+use Rattle.moves_text.specs.Moves.{MoveOf}
 use Rattle.state_text.specs.Text.{StateOf}
 use Rattle.command_words.specs.Words.{asked_by}
 use Rattle.command_plans.specs.Plan.{Plan, Give}
@@ -11,7 +13,7 @@ use Rattle.command_plans.specs.Reading.{Files, Reached}
 use Rattle.command_plans.specs.Ends.{Reads, Stream}
 use Rattle.command_plans.specs.Parts.{Stopped}
 use Rattle.command_plans.specs.declared.status.Status.{Status}
-use Rattle.commands.specs.Job.{Job, TraceJob, MonitorJob, SniffJob, SizeJob, DisasmJob, AsmJob, SampleJob, HeadJob, SaveJob, ResumeJob, HeadOnJob, SaveOnJob}
+use Rattle.commands.specs.Job.{Job, TraceJob, MonitorJob, SniffJob, SizeJob, DisasmJob, AsmJob, SampleJob, HeadJob, SaveJob, ResumeJob, HeadOnJob, SaveOnJob, SweepJob}
 use Rattle.commands.specs.Plan.{plan}
 use Rattle.commands.specs.TopClause.{TopClause}
 use Rattle.commands.specs.declared.job.Job.{Job as JobValue}
@@ -53,6 +55,7 @@ job_at (job.Save network epochs) = SaveJob network epochs
 job_at (job.Resume network saved) = ResumeJob network saved.state
 job_at (job.HeadOn network saved epochs) = HeadOnJob network saved.state epochs
 job_at (job.SaveOn network saved epochs) = SaveOnJob network saved.state epochs
+job_at (job.Sweep network state moves) = SweepJob network state moves.items
 
 -- a saved state of this network, with which nothing was done yet
 pub record IsFresh (network : ScenarioOf) (saved : SavedAt) : Type 0 where
@@ -71,6 +74,17 @@ pub record HasReadOn (files : Files) (plan : Plan (ScenarioOf × StateOf)) (epoc
   pub silent : err' ≡ err
   pub cut : IsCutOn network saved epochs
 
+-- a plan was read for this, and nothing was said
+pub record HasGot {A : Type 0} (files : Files) (plan : Plan A) (store store' : Reads) (err err' : Stream) (got : A) : Type 0 where
+  pub reached : Reached files plan (Give got)
+  pub same : store' ≡ store
+  pub silent : err' ≡ err
+
+-- a state from which the network can go on, and moves at its nodes
+pub record IsSweep (network : ScenarioOf) (state : StateOf) (moves : List MoveOf) : Type 0 where
+  pub fit : CanResume network state
+  pub known : All (λ (m : MoveOf). m.node < network.topo.nodes) moves
+
 -- a program is no longer than the flash, a window that is watched ends within the run, and a run is cut below its limit
 abbrev pub IsShort : JobValue → Type 0
 IsShort (job.Trace network) = Unit {0}
@@ -86,6 +100,7 @@ IsShort (job.Save network epochs) = epochs * epoch < network.topo.limit
 IsShort (job.Resume network saved) = IsFresh network saved
 IsShort (job.HeadOn network saved epochs) = IsCutOn network saved epochs
 IsShort (job.SaveOn network saved epochs) = IsCutOn network saved epochs
+IsShort (job.Sweep network state moves) = IsSweep network state moves.items
 
 -- what a plan reads was read, this is left to do, and nothing was said
 pub record Ready (files : Files) (plan : Plan Job) (store store' : Reads) (err err' : Stream) (todo : JobValue) : Type 0 where

@@ -1,9 +1,10 @@
 -- What each command reads, in order, and what it is to write then.
 use Rattle.std.specs.Prelude.{ℕ, ◌+◌, ◌*◌, nat_le, nat_lt, if◌then◌else◌, List, Option, Some, None, Result, Ok, Err}
-use Rattle.command_words.specs.Words.{Asked, Node, Run, RunPlain, Monitor, Sniff, Check, Disasm, Asm, Make, Head, Save, Resume, HeadOn, SaveOn, MonitorSpan, asked_by}
+use Rattle.command_words.specs.Words.{Asked, Node, Run, RunPlain, Monitor, Sniff, Check, Disasm, Asm, Make, Head, Save, Resume, HeadOn, SaveOn, MonitorSpan, Sweep, asked_by}
 use Rattle.world_core.specs.Kept.{epoch}
 use Rattle.scenario_file.specs.Scenario.{ScenarioParts}
 use Rattle.scenario_file.specs.declared.fault.ScenarioFault.TheVariants.{OutOfRange}
+use Rattle.moves_text.specs.Moves.{MoveOf}
 use Rattle.node_runner.specs.Scenario.{ScenarioOf}
 use Rattle.checkpoint_text.specs.State.{state_in}
 use Rattle.state_text.specs.Text.{StateOf}
@@ -11,8 +12,8 @@ use Rattle.state_text.specs.declared.fault.StateFault.{StateFault}
 use Rattle.state_text.specs.declared.fault.StateFault.TheVariants.{PastEnd}
 use Rattle.command_plans.specs.declared.trouble.ScenarioCause.TheVariants as scenario_cause
 use Rattle.command_plans.specs.declared.trouble.StateCause.TheVariants as cause
-use Rattle.command_plans.specs.Plan.{Plan, Give, Refuse, Read, BadWords, BadScenario, BadState, and_then, image_plan, images_plan, scenario_plan, source_plan}
-use Rattle.commands.specs.Job.{Job, TraceJob, MonitorJob, SniffJob, SizeJob, DisasmJob, AsmJob, SampleJob, HeadJob, SaveJob, ResumeJob, HeadOnJob, SaveOnJob}
+use Rattle.command_plans.specs.Plan.{Plan, Give, Refuse, Read, BadWords, BadScenario, BadState, and_then, image_plan, images_plan, moves_plan, scenario_plan, source_plan}
+use Rattle.commands.specs.Job.{Job, TraceJob, MonitorJob, SniffJob, SizeJob, DisasmJob, AsmJob, SampleJob, HeadJob, SaveJob, ResumeJob, HeadOnJob, SaveOnJob, SweepJob}
 use Rattle.commands.specs.Network.{lone_node, network_of}
 
 -- read the image of each node of a scenario, for the network
@@ -59,6 +60,15 @@ cut_on_or name epochs network state =
 abbrev pub cut_on_plan : List ℕ → ℕ → List ℕ → Plan (ScenarioOf × StateOf)
 cut_on_plan file epochs name = and_then (network_plan file) (λ network. and_then (state_plan network name) (cut_on_or name epochs network))
 
+-- read a network, and then a state of it
+abbrev pub begun_plan : List ℕ → List ℕ → Plan (ScenarioOf × StateOf)
+begun_plan file name = and_then (network_plan file) (λ network. and_then (state_plan network name) (λ state. Give (network, state)))
+
+-- read a network, then a state of it, and then the moves of the runs that go on from that
+abbrev pub sweep_plan : List ℕ → List ℕ → List ℕ → Plan ((ScenarioOf × StateOf) × List MoveOf)
+sweep_plan file state name =
+    and_then (begun_plan file state) (λ begun. and_then (moves_plan begun.0.topo.nodes name) (λ moves. Give (begun, moves)))
+
 -- what each command reads
 unfoldable pub plan_of : Asked → Plan Job
 plan_of (Node file cycles) = and_then (image_plan file) (λ flash. Give (TraceJob (lone_node flash cycles)))
@@ -75,6 +85,7 @@ plan_of (Save file epochs) = and_then (cut_plan file epochs) (λ network. Give (
 plan_of (Resume file state) = and_then (network_plan file) (λ network. and_then (state_plan network state) (λ saved. Give (ResumeJob network saved)))
 plan_of (HeadOn file epochs state) = and_then (cut_on_plan file epochs state) (λ at. Give (HeadOnJob at.0 at.1 epochs))
 plan_of (SaveOn file epochs state) = and_then (cut_on_plan file epochs state) (λ at. Give (SaveOnJob at.0 at.1 epochs))
+plan_of (Sweep file state moves) = and_then (sweep_plan file state moves) (λ it. Give (SweepJob it.0.0 it.0.1 it.1))
 plan_of (MonitorSpan file from to) = and_then (span_plan file from to) (λ network. Give (MonitorJob network))
 
 -- the plan of what the words ask for

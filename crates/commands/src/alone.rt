@@ -29,6 +29,7 @@ use std::alloc::Global;
 /// | `resume FILE STATE` | the trace of that network from the state in STATE on |
 /// | `head FILE N STATE` | the trace of N epochs of that network from the state in STATE on |
 /// | `save FILE N STATE` | the state in which it is then |
+/// | `sweep FILE STATE MOVES` | one behind another, the traces from the state in STATE on of that network, one for each line of MOVES, with the input that it says |
 /// | `make NUMBER` | what came out of the sample network of NUMBER: how often its nodes sent, and what they heard |
 ///
 /// `node` has no links and no input, and runs over CYCLES cycles; `monitor` runs up to the window's end.

@@ -1,6 +1,6 @@
 // Saved states: one is read from its text, written as text, and gone on from.
 ghost use Rattle.std.specs.Prelude.{◌≡◌, ◌<◌, ◌≤◌, ◌+◌, ◌*◌, min, false, IfOk, OnOk};
-ghost use Rattle.checkpoint_text.specs.Onward.{onward};
+ghost use Rattle.checkpoint_text.specs.Onward.{CanResume, onward};
 ghost use Rattle.checkpoint_text.specs.State.{saved_at, saved_from};
 ghost use Rattle.command_plans.specs.Ends.{reads, stream};
 ghost use Rattle.command_plans.specs.Parts.{ReadAs, Written};
@@ -14,12 +14,12 @@ ghost use Rattle.trace_writer.specs.Line.{rows_text};
 ghost use Rattle.world_core.specs.Order.{run_rows, world_at};
 
 use avr_base::NoMemory;
-use checkpoint_text::{Saved, read_state, write_onward_state, write_state};
+use checkpoint_text::{Saved, read_parts, read_state, write_onward_state, write_state};
 use command_plans::{Complaint, StateCause, Trouble, read_file};
 use fleet_plain::PlainRun;
 use node_runner::Scenario;
 use sim_io::{Sink, Store};
-use state_text::StateFault;
+use state_text::{StateFault, StateParts};
 use std::alloc::Global;
 use world_core::EPOCH;
 
@@ -45,6 +45,30 @@ pub fn read_saved<'n, S: Store>(
     };
     match read {
         Ok(saved) => Ok(saved),
+        Err(StateFault::NoMemory) => Err(Trouble::NoMemory),
+        Err(fault) => Err(Trouble::Refused(Complaint::BadState(name, StateCause::Faulty(fault)))),
+    }
+}
+
+/// The saved state of a network in the file `name`, as [`read_saved`] reads it, as plain data.
+pub fn read_state_parts<'n, S: Store>(
+    alloc: Global,
+    network: &Scenario,
+    name: &'n str,
+    store: &mut S,
+) -> Result<StateParts, Trouble<'n>>
+    ensures held { S.held store.new ≡ S.held store.old }
+    ensures fit { IfOk result (λ state. CanResume network.now state) }
+    ensures read { ReadAs (S.held store.old) (state_plan network.now name.entry.now) (λ state. state)
+        (reads (S.faults store.old) (S.failed store.old)) (reads (S.faults store.new) (S.failed store.new)) result }
+{
+    let too_long = Complaint::BadState(name, StateCause::TooLong);
+    let read = match read_file(alloc, name, MOST_STATE_BYTES, too_long, store) {
+        Ok(bytes) => read_parts(alloc, network, bytes.as_slice()),
+        Err(trouble) => return Err(trouble),
+    };
+    match read {
+        Ok(state) => Ok(state),
         Err(StateFault::NoMemory) => Err(Trouble::NoMemory),
         Err(fault) => Err(Trouble::Refused(Complaint::BadState(name, StateCause::Faulty(fault)))),
     }

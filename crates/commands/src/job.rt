@@ -11,12 +11,15 @@ use crate::listing::write_listing;
 use crate::network::write_size;
 use crate::profiles::write_profiles;
 use crate::sample::write_sample;
+use crate::sweeps::write_sweep;
 use crate::trace::{write_head, write_trace};
 use checkpoint_text::Saved;
 use command_plans::Trouble;
 use ihex_loader::Flash;
+use moves_text::Move;
 use node_runner::Scenario;
 use sim_io::Sink;
+use state_text::StateParts;
 use std::alloc::Global;
 
 /// What a call is to do once all its files are read and accepted.
@@ -47,6 +50,8 @@ pub enum Job {
     HeadOn(Scenario, Saved, u64),
     /// To write the state in which this network is so many epochs after a saved state.
     SaveOn(Scenario, Saved, u64),
+    /// To write the traces of this network from a state on, one for each of these moves.
+    Sweep(Scenario, StateParts, Vec<Move>),
 }
 
 /// Does a job on one thread.
@@ -69,5 +74,8 @@ pub fn do_job<'n, O: Sink>(alloc: Global, job: Job, out: &mut O) -> Result<(), T
         Job::Resume(network, saved) => write_onward(&network, saved, out),
         Job::HeadOn(network, saved, epochs) => write_head_on(&network, saved, epochs, out),
         Job::SaveOn(network, saved, epochs) => write_saved_on(&network, saved, epochs, out),
+        Job::Sweep(network, state, moves) => {
+            write_sweep(alloc, network, &state, moves.as_slice(), out)
+        }
     }
 }

@@ -18,6 +18,7 @@ mod program;
 mod reading;
 mod sample;
 mod spans;
+mod sweeps;
 mod threads;
 mod top;
 mod trace;

@@ -11,6 +11,7 @@ use crate::checkpoints::read_saved;
 use crate::job::Job;
 use crate::network::lone_node;
 use crate::spans::read_span;
+use crate::sweeps::read_sweep;
 use checkpoint_text::Saved;
 use command_plans::{
     Complaint, StateCause, Status, Trouble, read_image, read_images, read_scenario, read_source,
@@ -23,10 +24,10 @@ use state_text::StateFault;
 use std::alloc::Global;
 use world_core::EPOCH;
 
-// The network of the scenario in `file`, with the image of each node. Where it is not to be had, `err` has the line
-// that says why, and the answer is the status of the call: that line may name a file of the scenario's own, so it
-// cannot be written later.
-fn read_network<'w, S: Store, E: Sink>(
+/// The network of the scenario in `file`, with the image of each node. Where it is not to be had, `err` has the line
+/// that says why, and the answer is the status of the call: that line may name a file of the scenario's own, so it
+/// cannot be written later.
+pub fn read_network<'w, S: Store, E: Sink>(
     alloc: Global,
     file: &'w str,
     store: &mut S,
@@ -201,6 +202,12 @@ fn read_job<'w, S: Store, E: Sink>(
         Command::MonitorSpan { file, from, to } => {
             match read_span(alloc, file, from, to, store, err) {
                 Ok(network) => Ok(Job::Profiles(network)),
+                Err(status) => Err(status),
+            }
+        }
+        Command::Sweep { file, state, moves } => {
+            match read_sweep(alloc, file, state, moves, store, err) {
+                Ok(((network, state), moves)) => Ok(Job::Sweep(network, state, moves)),
                 Err(status) => Err(status),
             }
         }

@@ -115,17 +115,17 @@ pub fn pair_law()
 {}
 
 /// Numbers of any length, byte by byte. Where C says that the sum of what lies below does not fit there, it says after
-/// ADC of the bytes above that the longer sum does not fit. Where C and Z compare what lies below, they compare the
-/// longer numbers after SBC, SBCI and CPC of the bytes above.
+/// ADC of the bytes above that the longer sum does not fit. Where C and Z compare what lies below, the flags compare the
+/// longer numbers after SBC, SBCI and CPC of the bytes above, S in two's complement.
 pub fn longer_law()
     ensures sum { (m a b d r : ℕ) (cpu : Cpu) → a < m → b < m → has_flag cpu.sreg.bits C ≡ nat_le m (a + b)
         → has_flag (arith_cpu (op.Adc d r) cpu).sreg.bits C ≡ nat_le (m * 256) (a + m * reg d cpu + (b + m * reg r cpu)) }
     ensures difference { (m a b d r : ℕ) (cpu : Cpu) → a < m → b < m → AreBytes (reg d cpu) (reg r cpu) → IsOrdered a b cpu
-        → IsOrdered (a + m * reg d cpu) (b + m * reg r cpu) (arith_cpu (op.Sbc d r) cpu) }
+        → IsCompared (m * 128) (a + m * reg d cpu) (b + m * reg r cpu) (arith_cpu (op.Sbc d r) cpu) }
     ensures constant { (m a b d k : ℕ) (cpu : Cpu) → a < m → b < m → AreBytes (reg d cpu) k → IsOrdered a b cpu
-        → IsOrdered (a + m * reg d cpu) (b + m * k) (arith_cpu (op.Sbci d k) cpu) }
+        → IsCompared (m * 128) (a + m * reg d cpu) (b + m * k) (arith_cpu (op.Sbci d k) cpu) }
     ensures compare { (m a b d r : ℕ) (cpu : Cpu) → a < m → b < m → AreBytes (reg d cpu) (reg r cpu) → IsOrdered a b cpu
-        → IsOrdered (a + m * reg d cpu) (b + m * reg r cpu) (arith_cpu (op.Cpc d r) cpu) }
+        → IsCompared (m * 128) (a + m * reg d cpu) (b + m * reg r cpu) (arith_cpu (op.Cpc d r) cpu) }
 {}
 
 /// PUSH and then POP: the register has the byte that was pushed, and all else of the core is as before.

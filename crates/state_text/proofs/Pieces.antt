@@ -49,7 +49,7 @@ split_some p xs i e =
     ]
 
 -- there is always a piece
-some_piece : (p : ℕ → Bool) (xs : List ℕ) → (m : List ℕ) × (ms : List (List ℕ)) × (slice_split p xs ≡ m ∷ ms)
+pub some_piece : (p : ℕ → Bool) (xs : List ℕ) → (m : List ℕ) × (ms : List (List ℕ)) × (slice_split p xs ≡ m ∷ ms)
 some_piece p [] = ([], [], refl)
 some_piece p (x ∷ xs) = go (p x) (slice_split p xs) (some_piece p xs)
   where

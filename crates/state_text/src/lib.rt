@@ -17,9 +17,12 @@ mod state;
 mod writing;
 
 pub use bounds::Bounds;
+pub use cuts::cut;
 pub use fault::StateFault;
 pub use law::{again_law, spelling_law};
 pub use nodes::Nodes;
+pub use numbers::{is_decimal, value};
+pub use parts::Parts;
 pub use reading::read;
 pub use state::{NodeParts, StateParts};
 pub use writing::write;

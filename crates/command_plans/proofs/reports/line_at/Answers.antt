@@ -1,5 +1,5 @@
 use Rattle.std.proofs.Common.{◌≡◌, List, ℕ, ap, refl, sym, ◌∙◌, ◌++◌, codes}
-use Rattle.command_plans.specs.Ends.{Refused, cause_text, line_due, scenario_cause_text, source_cause_text, state_cause_text}
+use Rattle.command_plans.specs.Ends.{Refused, cause_text, line_due, moves_cause_text, scenario_cause_text, source_cause_text, state_cause_text}
 use Rattle.command_plans.specs.Parts.{end_at, refusal_of}
 use Rattle.command_plans.specs.declared.trouble.Complaint.{Complaint}
 use Rattle.command_plans.specs.declared.trouble.Trouble.{Trouble}
@@ -41,3 +41,10 @@ returns-in-Refused-BadState c =
     let at = c.in-Refused-BadState in
     line_is c.args.trouble at.field-0 _ at.name.now (codes ": state refused: ") _ (state_cause_text at.cause) _ at.is (rw at.is at at.field-0-is)
     (refl {a = codes "avrora: " ++ at.name.now ++ (codes ": state refused: " ++ state_cause_text at.cause ++ codes "\n")}) c.put_refusal-in-Refused-BadState.ensures c.state_cause.ensures.text
+
+pub returns-in-Refused-BadMoves : goal.returns-in-Refused-BadMoves
+unfolding line_due
+returns-in-Refused-BadMoves c =
+    let at = c.in-Refused-BadMoves in
+    line_is c.args.trouble at.field-0 _ at.name.now (codes ": moves refused: ") _ (moves_cause_text at.cause) _ at.is (rw at.is at at.field-0-is)
+    (refl {a = codes "avrora: " ++ at.name.now ++ (codes ": moves refused: " ++ moves_cause_text at.cause ++ codes "\n")}) c.put_refusal-in-Refused-BadMoves.ensures c.moves_cause.ensures.text

@@ -37,7 +37,7 @@ job g κs r o =
     let e-send : IsSend e = search (sendable, crosses, scenario) depth 20 in
     let f-send : IsSend f = search (sendable, crosses) depth 20 in
     let h-send : IsSend h = search (sendable, crosses) depth 20 in
-    let name = codes "fleet_threads::threads::fn::begin::spawn_with+Self" in
+    let name = codes "fleet_threads::threads::fn::begin::spawn+Self" in
     let held : List RattleType = a ∷ b ∷ d ∷ e ∷ f ∷ h ∷ i ∷ [] in
     let all : IsSend (TupleAt name held) = declared_send (type_at name held) (
       as_row_send (row_field a) a-send,
@@ -54,8 +54,8 @@ job g κs r o =
     ) in
     record { owned = all.owned; leaving = (λ kept x left. left) }
 
-pub spawn_with-requires-send-F : goal.spawn_with-requires-send-F
-spawn_with-requires-send-F g c κs within = param_send 2 _ (job g κs c.type_bounds.sync-R c.type_bounds.sync-G)
+pub spawn-requires-send-F : goal.spawn-requires-send-F
+spawn-requires-send-F g c κs within = param_send 2 _ (job g κs c.type_bounds.sync-R c.type_bounds.sync-G)
 
-pub spawn_with-requires-send-T : goal.spawn_with-requires-send-T
-spawn_with-requires-send-T g c κs within = search (sendable, crosses, handed) depth 20
+pub spawn-requires-send-T : goal.spawn-requires-send-T
+spawn-requires-send-T g c κs within = search (sendable, crosses, handed) depth 20

@@ -1,0 +1,94 @@
+-- What is read for a sweep, and the runs that it writes one behind another.
+use Rattle.std.proofs.Common.{◌≡◌, ℕ, zero, suc, ◌+◌, ◌<◌, ◌≤◌, List, [], ◌∷◌, ◌++◌, length, get_or, set, drop, flat_map, Option, Result, Err, add-one, refl, sym, ap, ◌∙◌, append-nil, subst, arith}
+use Rattle.std.proofs.Math.Seq.{drop-cons, drop-length}
+use Rattle.sim_io.specs.Outside.{extended, Rose, TookFront}
+use Rattle.sim_io.proofs.Pages.{Stands, stands_front, stands_more, stands_moved}
+use Rattle.serial_ports.specs.Script.{ScriptBytes}
+use Rattle.node_runner.specs.Scenario.{ScenarioOf, script_at, with_script}
+use Rattle.checkpoint_text.specs.Onward.{CanResume}
+use Rattle.state_text.specs.Text.{StateOf}
+use Rattle.command_plans.specs.Plan.{Plan, Give, and_then}
+use Rattle.command_plans.specs.Reading.{Files, Reached}
+use Rattle.command_plans.specs.Ends.{End, Reads, Stream, stream}
+use Rattle.command_plans.specs.Parts.{Stopped, StopsAt, Told, Written}
+use Rattle.command_plans.specs.declared.status.Status.{Status}
+use Rattle.command_plans.specs.declared.trouble.Trouble.{Trouble}
+use Rattle.command_plans.specs.declared.trouble.Trouble.TheVariants as trouble
+use Rattle.command_plans.proofs.Steps.{both, goes_on, reached_moved, stops_behind, stops_moved, stops_on}
+use Rattle.commands.specs.Parts.{HasGot}
+
+-- something was read, and then something that hangs on it
+module _ {A B : Type 0} (files files' : Files) (first : Plan A) (next : A → Plan B) (a : A) (store mid store' : Reads) (err err' : Stream)
+    (got : HasGot files first store mid err err' a) (held : files' ≡ files) where
+  abbrev Behind : A → Plan (A × B)
+  Behind a = and_then (next a) (λ b. Give (a, b))
+
+  abbrev Whole : Plan (A × B)
+  Whole = and_then first Behind
+
+  to_next : Reached files Whole (Behind a)
+  to_next = goes_on files first a Behind got.reached
+
+  pub both_got : (b : B) → (store' ≡ mid) × Reached files' (next a) (Give b) → HasGot files Whole store store' err err' (a, b)
+  both_got b read = record {
+    reached =
+        both files Whole (Behind a) (Give (a, b)) to_next
+        (goes_on files (next a) b (λ b. Give (a, b)) (reached_moved files files' (next a) (Give b) held read.1));
+    same = read.0 ∙ got.same;
+    silent = got.silent;
+  }
+
+  pub next_stopped : (end : End) (said : Stream) (answer : Status) → StopsAt files' (next a) mid store' end → Told end err' said answer → Stopped files Whole store store' err said answer
+  next_stopped end said answer stops told = record {
+    end = end;
+    stops = stops_on files Whole (Behind a) store store' end to_next
+        (stops_behind files (next a) (λ b. Give (a, b)) store store' end (stops_moved files files' (next a) store mid store' end held got.same stops));
+    told = subst (λ e. Told end e said answer) got.silent told;
+  }
+
+-- ---- a network with another input
+
+-- a state from which it can go on is one whatever arrives
+pub fit_moved : (network : ScenarioOf) (state : StateOf) (node : ℕ) (script : ScriptBytes) → CanResume network state → CanResume (with_script network node script) state
+fit_moved network state node script h = record { early = h.early; count = h.count; nodes = h.nodes; sends = h.sends; rises = h.rises; order = h.order }
+
+set_back : {X : Type 0} (xs : List X) (k : ℕ) (x d : X) → set (set xs k x) k (get_or xs k d) ≡ xs
+set_back [] k x d = refl
+set_back (y ∷ ys) zero x d = refl
+set_back (y ∷ ys) (suc k) x d = ap (λ l. y ∷ l) (set_back ys k x d)
+
+-- with its own input in place of the other one it is as it was
+pub own_again : (network : ScenarioOf) (node : ℕ) (script : ScriptBytes) → with_script (with_script network node script) node (script_at network node) ≡ network
+own_again network node script = ap (λ (l : List ScriptBytes). record network { scripts = l }) (set_back network.scripts node script _)
+
+-- ---- texts one behind another
+
+-- the next piece of a text was taken whole
+pub piece_taken : (o p q : Option (List ℕ)) (whole rest piece rest' : List ℕ) → Stands o whole rest p [] → rest ≡ piece ++ rest' → q ≡ extended p piece → Stands o whole rest' q []
+piece_taken o p q whole rest piece rest' s e t =
+    stands_moved o p q whole rest' piece [] (stands_more o p whole rest [] piece piece rest' s e refl) (record { front = piece; parts = sym (append-nil piece); taken = t })
+
+-- all were
+pub all_taken : (o p : Option (List ℕ)) (whole rest : List ℕ) → Stands o whole rest p [] → rest ≡ [] → p ≡ extended o whole
+all_taken o p whole rest s e = s.taken ∙ ap (extended o) (sym (s.parts ∙ ap (λ x. s.front ++ x) e ∙ append-nil s.front))
+
+-- or the writing of the next one stopped
+pub piece_stopped : {A B : Type 0} (o p q : Option (List ℕ)) (whole rest piece rest' : List ℕ) (old mid new : ℕ) (t : Trouble) → Stands o whole rest p [] → rest ≡ piece ++ rest' → mid ≡ old
+    → Written {A = A} piece (stream p mid) (stream q new) (Err t) → Written {A = B} whole (stream o old) (stream q new) (Err t)
+piece_stopped o p q whole rest piece rest' old mid new trouble.OutFailed s e count h = record {
+  front = stands_front o p q whole rest' piece (stands_more o p whole rest [] piece piece rest' s e refl) h.front;
+  rose = subst (λ (n : ℕ). Rose n new) count h.rose;
+}
+piece_stopped o p q whole rest piece rest' old mid new trouble.NoMemory s e count h =
+    (stands_front o p q whole rest' piece (stands_more o p whole rest [] piece piece rest' s e refl) h.0, h.1 ∙ count)
+piece_stopped o p q whole rest piece rest' old mid new (trouble.ReadFailed name) s e count h = absurd h
+piece_stopped o p q whole rest piece rest' old mid new (trouble.Refused k) s e count h = absurd h
+
+-- the pieces from one on
+pub pieces_more : {X : Type 0} (f : X → List ℕ) (xs : List X) (i : ℕ) (x : X) → i < length xs → x ≡ get_or xs i x → flat_map f (drop i xs) ≡ f x ++ flat_map f (drop (i + 1) xs)
+pieces_more f xs i x h at =
+    let front : drop i xs ≡ x ∷ drop (i + 1) xs = rw add-one (drop-cons xs i x h) ∙ ap (λ n. n ∷ drop (i + 1) xs) (sym at) in
+    ap (flat_map f) front
+
+pub pieces_none : {X : Type 0} (f : X → List ℕ) (xs : List X) (i : ℕ) → i ≡ length xs → flat_map f (drop i xs) ≡ []
+pieces_none f xs i e = ap (flat_map f) (ap (λ k. drop k xs) e ∙ drop-length xs)
