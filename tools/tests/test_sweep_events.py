@@ -152,8 +152,8 @@ def test_the_line_of_a_byte_with_those_behind_it():
 
 
 def test_bytes_that_are_far_apart_are_stretches_of_their_own():
-    assert stretches([(5, 1), (70_540, 2), (136_075, 3), (201_611, 4)]) == ["5 65535 010203", "201611 1 04"]
-    assert stretches([(5, 1), (70_541, 2), (70_542, 3)]) == ["5 1 01", "70541 1 0203"]
+    assert stretches([(5, 1), (65_540, 2), (131_075, 3), (196_611, 4)]) == ["5 65535 010203", "196611 1 04"]
+    assert stretches([(5, 1), (65_541, 2), (65_542, 3)]) == ["5 1 01", "65541 1 0203"]
 
 
 @pytest.mark.parametrize(
