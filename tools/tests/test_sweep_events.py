@@ -4,7 +4,7 @@ import tomllib
 import pytest
 
 from avrora_tools.errors import BadInput, BadWords
-from avrora_tools.sweeping.events import EPOCH, InputByte, LinkLatency, Moved, Span, moved_scenario, parsed_event
+from avrora_tools.sweeping.events import EPOCH, InputByte, LinkLatency, Moved, Span, moved_scenario, parsed_event, stretches
 from avrora_tools.sweeping.simulation import scenario_text
 
 DOCUMENT = tomllib.loads(
@@ -122,3 +122,48 @@ def test_bad_words(kind, text):
 def test_a_document_is_written_as_toml():
     document = {**DOCUMENT, "window": [0, 5]} | {"node": [{"image": 'a "b" \\ \x7f.hex'}]}
     assert tomllib.loads(scenario_text(document)) == document
+
+
+def alone(node, index, first, last):
+    return Moved(InputByte(node, index, True), Span(first, last))
+
+
+def test_a_byte_moves_alone_between_its_neighbours():
+    scenario = moved_scenario(DOCUMENT, [alone(1, 1, 600_001, 619_999)], None)
+    assert scenario.begins == 2 * EPOCH
+    assert scenario.line(600_001) == "1 600000 1 0102 620000 1 03\n"
+    assert scenario.line(610_000) == "1 600000 10000 010203\n"
+    assert scenario.line(619_998) == "1 600000 19998 0102 620000 1 03\n"
+    assert scenario.line(None) == "1 600000 20000 0103\n"
+    assert scenario.whole_scenario((610_000,), (0, 0)) is None
+    assert scenario.scenario((None,))["input"][1]["hex"] == "01"
+
+
+def test_a_byte_moves_alone_behind_a_state_that_has_those_before():
+    scenario = moved_scenario(DOCUMENT, [alone(1, 2, 800_000, 800_100)], None)
+    assert scenario.begins == 3 * EPOCH
+    assert scenario.line(800_007) == "1 800007 1 03\n"
+    assert scenario.line(None) == "1 1099511627776 1 00\n"
+
+
+def test_the_line_of_a_byte_with_those_behind_it():
+    scenario = moved_scenario(DOCUMENT, [byte(1, 0, 700_000, 700_100)], 900_000)
+    assert scenario.line(700_050) == "1 700050 10000 010203\n"
+
+
+def test_bytes_that_are_far_apart_are_stretches_of_their_own():
+    assert stretches([(5, 1), (65_540, 2), (131_075, 3), (196_611, 4)]) == ["5 65535 010203", "196611 1 04"]
+    assert stretches([(5, 1), (65_541, 2), (65_542, 3)]) == ["5 1 01", "65541 1 0203"]
+
+
+@pytest.mark.parametrize(
+    "moved, wrong",
+    [
+        (alone(1, 1, 600_000, 610_000), "byte 0 of node 1's input stays in cycle 600,000"),
+        (alone(1, 1, 610_000, 620_000), "byte 2 of node 1's input stays in cycle 620,000"),
+        (alone(0, 0, 2_000, 3_000), "none is before cycle 262,144"),
+    ],
+)
+def test_a_byte_that_moves_alone_passes_no_other(moved, wrong):
+    with pytest.raises(BadInput, match=wrong):
+        moved_scenario(DOCUMENT, [moved], None)

@@ -5,4 +5,4 @@ pub mod Epochs
 pub mod Traces
 pub mod Statuses
 pub mod Onwards
-pub mod Sweeps
+pub mod SweepRuns

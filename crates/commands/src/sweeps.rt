@@ -109,12 +109,13 @@ fn write_run<'n, O: Sink>(
     ensures written { Written (run_text network.old state.now one.now) (stream (O.taken out.old) (O.faults out.old)) (stream (O.taken out.new) (O.faults out.new)) result }
     ensures same { network.new ≡ network.old }
 {
-    let Ok(script) = one.script.copy() else {
+    let node = one.node();
+    let Ok(script) = one.script() else {
         return Err(Trouble::NoMemory);
     };
-    let own = network.swap_script(one.node, script);
+    let own = network.swap_script(node, script);
     let outcome = write_from(alloc, network, state, out);
-    let _ = network.swap_script(one.node, own);
+    let _ = network.swap_script(node, own);
     outcome
 }
 

@@ -4,13 +4,14 @@ import os
 import re
 from collections.abc import Iterator
 from contextlib import contextmanager
+from dataclasses import replace
 
 from avrora_tools import cases, cli, files, programs, scenarios, shipping, toml
 from avrora_tools.errors import BadInput, BadWords, Status
 from avrora_tools.states import State
 from avrora_tools.sweeping import findings as grouping
 from avrora_tools.sweeping.cluster import ClusterTails
-from avrora_tools.sweeping.events import InputByte, Move, Moved, MovedScenario, moved_scenario, parsed_event
+from avrora_tools.sweeping.events import InputByte, Move, Moved, MovedScenario, is_alone, moved_scenario, parsed_event
 from avrora_tools.sweeping.findings import Finding
 from avrora_tools.sweeping.plans import Cell
 from avrora_tools.sweeping.sharing import Sharing, objects_of
@@ -23,7 +24,7 @@ from avrora_tools.terminal import Progress
 SUMMARY = "moves an event cycle by cycle, and tells which moves break a run and where"
 
 DESCRIPTION = """Moves an event of a scenario through a span of cycles and checks each run. What moves, with its span A..B:
-  --input N:I=A..B       byte I of node N's input, with the bytes behind it
+  --input N:I=A..B       byte I of node N's input, with the bytes behind it, or alone with --alone
   --start N=A..B         the first byte of node N's input, by which its program starts
   --latency F-T=A..B     the latency of the link from node F to node T
 Two of them make a grid; A..B/STEP takes each STEP-th value alone.
@@ -85,6 +86,8 @@ def tails_of(
     """What makes the runs: processes of this machine, or the workers of a scheduler."""
     if not arguments.scheduler:
         return ProcessTails(simulator, scenario, arguments.jobs, state)
+    if arguments.alone:
+        raise BadWords("--alone is of runs of this machine")
     tails = ClusterTails(simulator, scenario, state)
     tails.connect(arguments.scheduler, shipping.program(arguments.avrora))
     return tails
@@ -111,6 +114,11 @@ def moved_events(arguments: argparse.Namespace) -> tuple[list[Moved], list[int]]
     order = sorted(range(len(given)), key=lambda i: isinstance(given[i].event, InputByte))
     if len(given) == 2 and given[0].event == given[1].event:
         raise BadWords("the two events are one")
+    if arguments.alone:
+        last = given[order[-1]]
+        if not isinstance(last.event, InputByte):
+            raise BadWords("--alone is of a byte")
+        given[order[-1]] = replace(last, event=replace(last.event, is_alone=True))
     return [given[i] for i in order], [order.index(i) for i in range(len(given))]
 
 
@@ -241,13 +249,17 @@ def write_earliest(path: str, sweep: Sweep, cell: Cell, folder: str) -> None:
     move, point, scenario = cell.move(), cell.arrivals.point, sweep.scenario
     at = point.cycle if point else move[-1] if isinstance(scenario.moved[-1].event, InputByte) else 0
     window = max(scenario.begins, at - BEFORE), min(scenario.until, at + BEHIND)
-    whole = None if sweep.tails.begins_in_given_state else scenario.whole_scenario(move, window)
-    document = whole or scenario.scenario(move, window)
+    whole = None if sweep.tails.begins_in_given_state or is_alone(scenario.moved[-1].event) else scenario.whole_scenario(move, window)
+    told = (*move[:-1], None) if is_alone(scenario.moved[-1].event) else move
+    document = whole or scenario.scenario(told, window)
     files.write_whole(path, scenario_text(document))
     words = ["run", os.path.abspath(path)]
     if whole is None:
         files.write_whole(f"{path}.state", sweep.tails.state or b"")
         words = ["resume", os.path.abspath(path), os.path.abspath(f"{path}.state")]
+    if is_alone(scenario.moved[-1].event):
+        files.write_whole(f"{path}.moves", scenario.line(move[-1]))
+        words = ["sweep", *words[1:], os.path.abspath(f"{path}.moves")]
     print(f"earliest: avrora -C {os.path.relpath(folder)} {' '.join(words)}")
 
 
@@ -266,6 +278,7 @@ def configure(parser: argparse.ArgumentParser) -> None:
     parser.set_defaults(moved=None)
     for option, form in (("--input", "N:I=A..B"), ("--start", "N=A..B"), ("--latency", "F-T=A..B")):
         parser.add_argument(option, action=AddMoved, metavar=form, help="what moves, and its span")
+    parser.add_argument("--alone", action="store_true", help="the bytes behind the one that moves stay where they are")
     parser.add_argument("--until", type=cli.positive, metavar="CYCLE", help="where each run ends: the deadline of all that is checked")
     parser.add_argument("--state", metavar="STATE", help="go on from this state of the scenario")
     parser.add_argument("--expect", metavar="CASE", help="check each run by this case of `expect`")

@@ -38,7 +38,7 @@ class CellMaker:
         rows, start, end = self.rows(before, self.last.event.node)
         found = classes(rows, start, span.first, span.last, end)
         script = self.scenario.scripts[len(self.before)]
-        if script.index < len(script.bytes_) - 1:  # the bytes behind move too, and tell all moves apart
+        if script.index < len(script.bytes_) - 1 and not script.is_alone:  # the bytes behind move too, and tell all moves apart
             found = [ArrivalClass(range(x, x + 1), one.point) for one in found for x in one.moves]
         return found
 

@@ -34,10 +34,11 @@ class Span:
 
 @dataclass(frozen=True)
 class InputByte:
-    """A byte of a node's input. The bytes behind it move with it."""
+    """A byte of a node's input. The bytes behind it move with it, unless it moves alone."""
 
     node: int
     index: int
+    is_alone: bool = False
 
     def __str__(self) -> str:
         return f"byte {self.index} of node {self.node}'s input"
@@ -74,6 +75,7 @@ class Script:
     every: int
     bytes_: bytes
     index: int  # of the byte that moves
+    is_alone: bool = False  # the bytes behind it stay where they are
 
     def nominal(self, index: int) -> int:
         """When a byte arrives that does not move."""
@@ -83,9 +85,25 @@ class Script:
         """How many bytes come before a cycle, in the run in which the byte never comes."""
         return sum(self.nominal(i) < cycle for i in range(self.index))
 
+    def arrivals(self, value: int | None) -> dict[int, int]:
+        """The byte that arrives in each cycle, in the run in which this one does at `value`, or never."""
+        count = len(self.bytes_)
+        cycles = {i: self.nominal(i) for i in range(count) if i < self.index or self.is_alone and i > self.index}
+        if value is not None:
+            moving = range(self.index, self.index + 1 if self.is_alone else count)
+            cycles |= {i: value + (i - self.index) * self.every for i in moving}
+        return {cycle: self.bytes_[i] for i, cycle in sorted(cycles.items())}
+
+    def line(self, begins: int, value: int | None) -> str:
+        """What the simulator's `sweep` reads of that run, from a state of the cycle `begins` on."""
+        coming = [(cycle, byte) for cycle, byte in sorted(self.arrivals(value).items()) if cycle >= begins]
+        return " ".join([str(self.node), *stretches(coming or [(LAST_CYCLE, 0)])]) + "\n"
+
     def table(self, first: int, value: int | None) -> dict[str, Any]:
         """The input from byte `first` on, with the byte at `value`, or never. Raises BadInput where no input says that."""
         here = {"node": self.node, "every": self.every, "at": self.nominal(first)}
+        if value is not None and self.is_alone and self.index < len(self.bytes_) - 1:
+            raise BadInput(f"no input says that byte {self.index} of node {self.node} moves alone")
         if value is None:
             return here | {"hex": self.bytes_[first : self.index].hex()}
         if first == self.index:
@@ -101,6 +119,20 @@ class Script:
         )
 
 
+def stretches(coming: Sequence[tuple[int, int]]) -> list[str]:
+    """Bytes in rising order of their cycles, as stretches of equal distances: the words of `sweep` for each."""
+    found: list[str] = []
+    place = 0
+    while place < len(coming):
+        at, end = coming[place][0], place + 1
+        every = coming[end][0] - at if end < len(coming) else 1
+        while every in EVERY and end < len(coming) and coming[end][0] == at + (end - place) * every:
+            end += 1
+        found.append(f"{at} {every if every in EVERY else 1} {bytes(byte for _, byte in coming[place:end]).hex()}")
+        place = end
+    return found
+
+
 @dataclass(frozen=True)
 class MovedScenario:
     """A scenario whose events move. Runs begin at `begins`, a multiple of an epoch; nothing that moves comes before."""
@@ -114,6 +146,10 @@ class MovedScenario:
     def scenario(self, move: Sequence[int | None], window: tuple[int, int] = (0, 0), until: int | None = None) -> Document:
         """The scenario of a move, for a run that begins at `begins`. A byte whose value is None never comes."""
         return self.changed(move, window, until or self.until, self.begins)
+
+    def line(self, value: int | None) -> str:
+        """What the simulator's `sweep` reads of the run in which the last event, a byte, is at `value`, or never."""
+        return self.scripts[len(self.moved) - 1].line(self.begins, value)
 
     def whole_scenario(self, move: Move, window: tuple[int, int]) -> Document | None:
         """The scenario of a move for a run from reset, or None where no scenario says that."""
@@ -173,7 +209,7 @@ def script_of(document: Document, event: InputByte) -> Script:
             bytes_ = bytes.fromhex(table["hex"])
             if event.index >= len(bytes_):
                 raise BadInput(f"the input of node {event.node} has {len(bytes_)} bytes, and no byte {event.index}")
-            return Script(event.node, table["at"], table.get("every", DEFAULT_EVERY), bytes_, event.index)
+            return Script(event.node, table["at"], table.get("every", DEFAULT_EVERY), bytes_, event.index, event.is_alone)
     raise BadInput(f"the scenario has no input of node {event.node}")
 
 
@@ -196,9 +232,32 @@ def moved_scenario(
     for place, m in enumerate(moved):
         if isinstance(m.event, InputByte) and m.span.first < begins:
             raise BadInput(f"the state is of cycle {begins:,}, and the span begins before, in {m.span.first:,}")
-    for move in (tuple(m.span.first for m in moved), tuple(m.span.last for m in moved)):
-        result.scenario(move)
+    if is_alone(moved[-1].event):
+        check_alone(scripts[len(moved) - 1], moved[-1].span, begins)
+    else:
+        for move in (tuple(m.span.first for m in moved), tuple(m.span.last for m in moved)):
+            result.scenario(move)
     return result
+
+
+def is_alone(event: Event) -> bool:
+    return isinstance(event, InputByte) and event.is_alone
+
+
+def check_alone(script: Script, span: Span, begins: int) -> None:
+    """Raises BadInput where a byte that moves alone would not stay between its neighbours, or where no state comes before."""
+    if not begins:
+        raise BadInput(f"a byte moves alone behind a state, and none is before cycle {EPOCH:,}")
+    stays = None
+    if script.index > 0 and script.nominal(script.index - 1) >= span.first:
+        stays = script.index - 1
+    if script.index + 1 < len(script.bytes_) and script.nominal(script.index + 1) <= span.last:
+        stays = script.index + 1
+    if stays is not None:
+        raise BadInput(
+            f"byte {stays} of node {script.node}'s input stays in cycle {script.nominal(stays):,}, and byte {script.index} does "
+            f"not pass it, but goes from {span.first:,} to {span.last:,}"
+        )
 
 
 def check_span(document: Document, moved: Moved, until: int) -> None:
@@ -216,6 +275,8 @@ def first_epoch(moved: Sequence[Moved], scripts: Mapping[int, Script]) -> int:
     if any(isinstance(m.event, LinkLatency) for m in moved):
         return 0  # a latency counts from the first byte on
     begins = min(m.span.first for m in moved) // EPOCH * EPOCH
+    if is_alone(moved[-1].event):
+        return begins
     while begins > 0 and not all(is_sayable(scripts[place], begins, m.span) for place, m in enumerate(moved)):
         begins -= EPOCH
     return begins

@@ -1,6 +1,9 @@
-"""Runs the moves of a sweep. `Tails` is all that the rest of a sweep knows of it; today each run is a process of its own."""
+"""Runs the moves of a sweep. `Tails` is all that the rest of a sweep knows of it. Runs that go on from one state, and in which
+bytes of one node arrive otherwise, are made by one process, some of them at a time."""
+import itertools
 import json
 import os
+import re
 import subprocess
 import tempfile
 import threading
@@ -11,10 +14,12 @@ from types import TracebackType
 from typing import Protocol
 
 from avrora_tools.errors import BadInput, CannotWork
-from avrora_tools.sweeping.events import EPOCH, Document, Move, MovedScenario
+from avrora_tools.sweeping.events import EPOCH, Document, InputByte, Move, MovedScenario
 
 Window = tuple[int, int]
 NO_WINDOW = (0, 0)
+
+MOST_IN_BATCH = 64  # runs of one process
 
 
 class Tails(Protocol):
@@ -33,11 +38,12 @@ class Simulator:
     def __init__(self, program: str, folder: str, timeout: float) -> None:
         self.program, self.folder, self.timeout = program, folder, timeout
 
-    def call(self, *words: str) -> bytes:
-        """What the program writes. Raises BadInput with what it says where it refuses its input."""
+    def call(self, *words: str, runs: int = 1) -> bytes:
+        """What the program writes, which makes so many runs. Raises BadInput with what it says where it refuses its input."""
+        seconds = self.timeout * runs
         try:
             done = subprocess.run(
-                [self.program, *words], cwd=self.folder, stdin=subprocess.DEVNULL, capture_output=True, timeout=self.timeout
+                [self.program, *words], cwd=self.folder, stdin=subprocess.DEVNULL, capture_output=True, timeout=seconds
             )
         except subprocess.TimeoutExpired:
             raise CannotWork(f"a run took more than {self.timeout:g} seconds (--timeout)") from None
@@ -50,7 +56,8 @@ class Simulator:
 
 
 class ProcessTails:
-    """Each run is a process. Some run at a time, and never more ahead than that of what is asked for."""
+    """Runs are made by processes, some at a time, and never by more ahead than that of what is asked for: a run each, or some
+    where they go on from a state and a byte moves."""
 
     def __init__(self, simulator: Simulator, scenario: MovedScenario, jobs: int, state: bytes | None = None) -> None:
         """`state` is that of the cycle in which the runs begin; without it the simulator makes it."""
@@ -89,24 +96,66 @@ class ProcessTails:
             file.write(scenario_text(document))
         return path
 
+    @property
+    def sweeps(self) -> bool:
+        """Whether one process can make many runs."""
+        return self.state_path is not None and isinstance(self.scenario.moved[-1].event, InputByte)
+
+    def swept(
+        self, before: Sequence[int | None], values: Sequence[int | None], window: Window, until: int | None = None
+    ) -> list[bytes]:
+        """The rows of one run for each value of the last event, a byte."""
+        path = self.written(self.scenario.scenario((*before, None), window, until))
+        lines = [self.scenario.line(value) for value in values]
+        with open(f"{path}.moves", "w", encoding="utf-8") as file:
+            file.writelines(lines)
+        assert self.state_path
+        output = self.simulator.call("sweep", path, self.state_path, f"{path}.moves", runs=len(lines))
+        return pieces(output, len(self.scenario.document["node"]), len(lines))
+
     def output(self, move: Sequence[int | None], window: Window = NO_WINDOW, until: int | None = None) -> bytes:
+        if self.sweeps:
+            return self.swept(move[:-1], move[-1:], window, until)[0]
         path = self.written(self.scenario.scenario(move, window, until))
         if self.state_path:
             return self.simulator.call("resume", path, self.state_path)
         return self.simulator.call("run", "--plain", path)
 
     def outputs(self, jobs: Iterable[tuple[Move, Window]]) -> Iterator[bytes]:
-        waiting: deque[Future[bytes]] = deque()
+        waiting: deque[Future[list[bytes]]] = deque()
         with ThreadPoolExecutor(self.jobs) as pool:
             try:
-                for move, window in jobs:
-                    waiting.append(pool.submit(self.output, move, window))
+                for before, window, values in batches(jobs, MOST_IN_BATCH if self.sweeps else 1):
+                    waiting.append(pool.submit(self.batch, before, window, values))
                     if len(waiting) > self.jobs:
-                        yield waiting.popleft().result()
+                        yield from waiting.popleft().result()
                 while waiting:
-                    yield waiting.popleft().result()
+                    yield from waiting.popleft().result()
             finally:
                 pool.shutdown(cancel_futures=True)
+
+    def batch(self, before: Move, window: Window, values: list[int]) -> list[bytes]:
+        if self.sweeps:
+            return self.swept(before, values, window)
+        return [self.output((*before, value), window) for value in values]
+
+
+def batches(jobs: Iterable[tuple[Move, Window]], most: int) -> Iterator[tuple[Move, Window, list[int]]]:
+    """Jobs that stand one behind another and differ in the last event alone. The first ones are small, so that something is
+    known early."""
+    room = 1
+    for (before, window), group in itertools.groupby(jobs, key=lambda job: (job[0][:-1], job[1])):
+        while batch := [move[-1] for move, _ in itertools.islice(group, room)]:
+            yield before, window, batch
+            room = min(2 * room, most)
+
+
+def pieces(output: bytes, nodes: int, runs: int) -> list[bytes]:
+    """The rows of each run, of those of all: a run ends with the end row of its last node."""
+    ends = [0, *(match.end() for match in re.finditer(rb"^\d+ %d end [^\n]*\n" % (nodes - 1), output, re.M))]
+    if len(ends) != runs + 1 or ends[-1] != len(output):
+        raise CannotWork(f"sweep: {len(ends) - 1} runs came of {runs}")
+    return [output[first:end] for first, end in itertools.pairwise(ends)]
 
 
 def scenario_text(document: Document) -> str:

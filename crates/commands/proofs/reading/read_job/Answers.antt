@@ -4,9 +4,9 @@ use Rattle.command_plans.specs.Plan.{Give, image_plan, source_plan}
 use Rattle.command_plans.specs.Parts.{end_at}
 use Rattle.command_plans.specs.Reading.{Here}
 use Rattle.command_plans.proofs.Steps.{stopped_behind}
-use Rattle.commands.specs.Job.{Job, TraceJob, MonitorJob, SniffJob, SizeJob, DisasmJob, AsmJob, SampleJob, HeadJob, SaveJob, HeadOnJob, SaveOnJob}
+use Rattle.commands.specs.Job.{Job, TraceJob, MonitorJob, SniffJob, SizeJob, DisasmJob, AsmJob, SampleJob, HeadJob, SaveJob, HeadOnJob, SaveOnJob, SweepJob}
 use Rattle.commands.specs.Network.{lone_node}
-use Rattle.commands.specs.Plan.{cut_on_plan, cut_plan, network_plan, plan_of, span_plan}
+use Rattle.commands.specs.Plan.{cut_on_plan, cut_plan, network_plan, plan_of, span_plan, sweep_plan}
 use Rattle.commands.proofs.Networks.{network_ready, ready}
 use Rattle.commands.proofs.States.{resume_ready, resume_stopped}
 use Rattle.commands.proofs.reading.read_job.Goals as goal
@@ -168,3 +168,15 @@ pub returns-in-Err-read_span-clause-read : goal.returns-in-Err-read_span-clause-
 unfolding plan_of
 returns-in-Err-read_span-clause-read g c =
     rw c.in-MonitorSpan.is (stopped_behind _ (span_plan c.in-MonitorSpan.file.now c.in-MonitorSpan.from c.in-MonitorSpan.to) _ _ _ _ _ _ c.in-Err-read_span.ensures.err)
+
+pub returns-in-Ok-read_sweep-clause-read : goal.returns-in-Ok-read_sweep-clause-read
+unfolding plan_of
+returns-in-Ok-read_sweep-clause-read g c =
+    let read = c.in-Ok-read_sweep.ensures.ok in
+    rw c.in-Sweep.is
+    (ready _ (sweep_plan c.in-Sweep.file.now c.in-Sweep.state.now c.in-Sweep.moves.now) (λ it. SweepJob it.0.0 it.0.1 it.1) _ _ _ _ _ _ read.reached refl read.same read.silent c.in-Ok-read_sweep.ensures.fit)
+
+pub returns-in-Err-read_sweep-clause-read : goal.returns-in-Err-read_sweep-clause-read
+unfolding plan_of
+returns-in-Err-read_sweep-clause-read g c =
+    rw c.in-Sweep.is (stopped_behind _ (sweep_plan c.in-Sweep.file.now c.in-Sweep.state.now c.in-Sweep.moves.now) _ _ _ _ _ _ c.in-Err-read_sweep.ensures.err)

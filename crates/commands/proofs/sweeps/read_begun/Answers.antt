@@ -2,7 +2,7 @@ use Rattle.command_plans.specs.Parts.{end_at}
 use Rattle.command_plans.proofs.Steps.{stopped_behind}
 use Rattle.commands.specs.Plan.{network_plan, state_plan}
 use Rattle.commands.proofs.Networks.{got}
-use Rattle.commands.proofs.Sweeps.{both_got, next_stopped}
+use Rattle.commands.proofs.SweepRuns.{both_got, next_stopped}
 use Rattle.commands.proofs.sweeps.read_begun.Goals as goal
 
 pub returns-in-Err-clause-err : goal.returns-in-Err-clause-err

@@ -1,5 +1,29 @@
-use Rattle.std.proofs.Common.{◌≡◌, sym, ap, ◌∙◌, subst}
-use Rattle.node_runner.specs.Scenario.{ScenarioOf}
-use Rattle.checkpoint_text.specs.Onward.{CanResume}
-use Rattle.commands.proofs.Sweeps.{fit_moved, own_again}
+use Rattle.std.proofs.Common.{◌≡◌, ◌<◌, sym, ap, ◌∙◌, subst}
+use Rattle.serial_ports.specs.Script.{ScriptBytes}
+use Rattle.node_runner.specs.Scenario.{ScenarioOf, script_at, with_script}
+use Rattle.checkpoint_text.specs.Onward.{CanResume, onward}
+use Rattle.trace_writer.specs.Line.{rows_text}
+use Rattle.world_core.specs.Order.{run_rows}
+use Rattle.command_plans.specs.Ends.{stream}
+use Rattle.command_plans.specs.Parts.{Written}
+use Rattle.commands.proofs.SweepRuns.{fit_moved, moved_back, same_nodes}
 use Rattle.commands.proofs.sweeps.write_run.Goals as goal
+
+pub write_from-requires : goal.write_from-requires
+write_from-requires g c =
+    subst (λ (n : ScenarioOf). CanResume n c.args.state.now) (sym c.swap_script-own.ensures.after) (fit_moved c.args.network.now c.args.state.now c.node-node.result c.in-Ok.script c.requires.fit)
+
+pub swap_script-requires : goal.swap_script-requires
+swap_script-requires g c =
+    same_nodes c.args.network.now c.swap_script-own.new.self c.node-node.result c.args.one.now.node c.in-Ok.script c.swap_script-own.ensures.after c.node-node.ensures c.requires.known
+
+pub returns-clause-written : goal.returns-clause-written
+returns-clause-written g c =
+    let moved : c.swap_script-own.new.self ≡ with_script c.args.network.now c.args.one.now.node c.args.one.now.script =
+    c.swap_script-own.ensures.after ∙ (λ i. with_script c.args.network.now (c.node-node.ensures i) (c.in-Ok.ensures i)) in
+    subst (λ (n : ScenarioOf). Written (rows_text (run_rows (onward n c.args.state.now))) (stream (g.O.Sink.taken c.args.out.now) (g.O.Sink.faults c.args.out.now)) (stream (g.O.Sink.taken c.write_from-outcome.new.out) (g.O.Sink.faults c.write_from-outcome.new.out)) c.write_from-outcome.result)
+    moved c.write_from-outcome.ensures
+
+pub returns-clause-same : goal.returns-clause-same
+returns-clause-same g c =
+    moved_back c.args.network.now c.swap_script-own.new.self c.swap_script.new.self c.node-node.result c.in-Ok.script c.swap_script-own.result c.swap_script-own.ensures.after c.swap_script-own.ensures.before c.swap_script.ensures.after

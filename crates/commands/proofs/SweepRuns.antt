@@ -1,11 +1,11 @@
 -- What is read for a sweep, and the runs that it writes one behind another.
-use Rattle.std.proofs.Common.{◌≡◌, ℕ, zero, suc, ◌+◌, ◌<◌, ◌≤◌, List, [], ◌∷◌, ◌++◌, length, get_or, set, drop, flat_map, Option, Result, Err, add-one, refl, sym, ap, ◌∙◌, append-nil, subst, arith}
+use Rattle.std.proofs.Common.{◌≡◌, ℕ, false, zero, suc, ◌+◌, ◌<◌, ◌≤◌, List, [], ◌∷◌, ◌++◌, length, get_or, set, drop, flat_map, Option, Result, Err, add-one, refl, sym, ap, ◌∙◌, append-nil, subst, arith}
 use Rattle.std.proofs.Math.Seq.{drop-cons, drop-length}
 use Rattle.sim_io.specs.Outside.{extended, Rose, TookFront}
 use Rattle.sim_io.proofs.Pages.{Stands, stands_front, stands_more, stands_moved}
 use Rattle.serial_ports.specs.Script.{ScriptBytes}
 use Rattle.node_runner.specs.Scenario.{ScenarioOf, script_at, with_script}
-use Rattle.checkpoint_text.specs.Onward.{CanResume}
+use Rattle.checkpoint_text.specs.Onward.{CanResume, SavedAt}
 use Rattle.state_text.specs.Text.{StateOf}
 use Rattle.command_plans.specs.Plan.{Plan, Give, and_then}
 use Rattle.command_plans.specs.Reading.{Files, Reached}
@@ -15,7 +15,7 @@ use Rattle.command_plans.specs.declared.status.Status.{Status}
 use Rattle.command_plans.specs.declared.trouble.Trouble.{Trouble}
 use Rattle.command_plans.specs.declared.trouble.Trouble.TheVariants as trouble
 use Rattle.command_plans.proofs.Steps.{both, goes_on, reached_moved, stops_behind, stops_moved, stops_on}
-use Rattle.commands.specs.Parts.{HasGot}
+use Rattle.commands.specs.Parts.{HasGot, IsFresh}
 
 -- something was read, and then something that hangs on it
 module _ {A B : Type 0} (files files' : Files) (first : Plan A) (next : A → Plan B) (a : A) (store mid store' : Reads) (err err' : Stream)
@@ -46,6 +46,10 @@ module _ {A B : Type 0} (files files' : Files) (first : Plan A) (next : A → Pl
     told = subst (λ e. Told end e said answer) got.silent told;
   }
 
+-- a run that begins in a state with which the network can go on
+pub fresh_saved : (network : ScenarioOf) (state : StateOf) (saved : SavedAt) → saved ≡ record { scenario = network; state = state; floor = state.cycle; failed = false } → CanResume network state → IsFresh network saved
+fresh_saved network state saved is fit = subst (λ (s : SavedAt). IsFresh network s) (sym is) (record { is = refl; early = fit.early })
+
 -- ---- a network with another input
 
 -- a state from which it can go on is one whatever arrives
@@ -60,6 +64,17 @@ set_back (y ∷ ys) (suc k) x d = ap (λ l. y ∷ l) (set_back ys k x d)
 -- with its own input in place of the other one it is as it was
 pub own_again : (network : ScenarioOf) (node : ℕ) (script : ScriptBytes) → with_script (with_script network node script) node (script_at network node) ≡ network
 own_again network node script = ap (λ (l : List ScriptBytes). record network { scripts = l }) (set_back network.scripts node script _)
+
+-- a network whose input was replaced, and then was put back
+pub moved_back : (network moved back : ScenarioOf) (node : ℕ) (script own : ScriptBytes) → moved ≡ with_script network node script → own ≡ script_at network node → back ≡ with_script moved node own
+    → back ≡ network
+moved_back network moved back node script own is had put =
+    put ∙ (ap (λ (n : ScenarioOf). with_script n node own) is ∙ (ap (λ (s : ScriptBytes). with_script (with_script network node script) node s) had ∙ own_again network node script))
+
+-- it has the same nodes
+pub same_nodes : (network moved : ScenarioOf) (node number : ℕ) (script : ScriptBytes) → moved ≡ with_script network node script → node ≡ number → number < network.topo.nodes → node < moved.topo.nodes
+same_nodes network moved node number script is same known =
+    subst (λ (n : ScenarioOf). node < n.topo.nodes) (sym is) (subst (λ (k : ℕ). k < network.topo.nodes) (sym same) known)
 
 -- ---- texts one behind another
 
