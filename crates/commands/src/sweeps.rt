@@ -128,8 +128,8 @@ pub fn write_sweep<'n, O: Sink>(
     moves: &[Move],
     out: &mut O,
 ) -> Result<(), Trouble<'n>>
-    requires { IsSweep network.entry state.now moves.now }
-    ensures { Written (flat_map (run_text network.entry state.now) moves.now) (stream (O.taken out.old) (O.faults out.old)) (stream (O.taken out.new) (O.faults out.new)) result }
+    requires { IsSweep network state.now moves.now }
+    ensures { Written (flat_map (run_text network state.now) moves.now) (stream (O.taken out.old) (O.faults out.old)) (stream (O.taken out.new) (O.faults out.new)) result }
 {
     for one in moves {
         match write_run(alloc, &mut network, state, one, out) {
