@@ -21,6 +21,7 @@ def words(connection: int) -> list[str]:
 
 def main() -> None:
     signal.signal(signal.SIGINT, signal.SIG_IGN)
+    os.set_inheritable(int(sys.argv[1]), False)  # it is not the simulator's
     connection: Connection = Connection(int(sys.argv[1]))
     inbox: queue.SimpleQueue[Any] = queue.SimpleQueue()
 

@@ -20,7 +20,6 @@ import os
 import pickle
 import shutil
 import socket
-import subprocess
 import tempfile
 import time
 import zipfile
@@ -29,7 +28,7 @@ from importlib.abc import Traversable
 from typing import IO, Any, BinaryIO, cast
 
 import avrora_tools
-from avrora_tools import cases, comparisons, expectations
+from avrora_tools import calling, cases, comparisons, expectations
 from avrora_tools.errors import ToolError
 from avrora_tools.events import CLASH, ONE_BYTE
 
@@ -136,6 +135,8 @@ class Bench:
         self.shipment, self.place = shipment, place
         self.folder = ""
         self.cases: dict[int, list[cases.Case]] = {}
+        self.images: dict[str, bytes] = {}  # that are in the folder of a run's own
+        self.caller = calling.Caller()
 
     def prove(self) -> str | None:
         """Unpacks what is not there, and runs a known scenario. None where it came out as it should, else why not."""
@@ -143,15 +144,15 @@ class Bench:
             self.unpack()
             with open(f"{self.folder}/{TRACE}", "w+b") as trace:
                 self.write_scenario(self.folder, PROOF_SCENARIO)
-                done = self.call(self.folder, ["run", SCENARIO], trace, PROOF_SECONDS)
+                ended = self.call(self.folder, ["run", SCENARIO], trace, PROOF_SECONDS)
                 trace.seek(0)
                 found = hashlib.sha256(trace.read()).digest()
         except OSError as fault:
             return described(fault)
-        except subprocess.TimeoutExpired:
+        except calling.TooLong:
             return f"the known scenario took more than {PROOF_SECONDS} s"
-        if done.returncode:
-            return f"the known scenario ended with status {done.returncode}: {said_by(done)}".rstrip(": ")
+        if ended.status:
+            return f"the known scenario ended with status {ended.status}: {ended.said}".rstrip(": ")
         if found != hashlib.sha256(PROOF_TRACE.encode()).digest():
             return "the known scenario came out otherwise than it should"
         return None
@@ -160,6 +161,7 @@ class Bench:
         """Writes the files of the shipment that are not there."""
         if not os.path.isdir(self.folder):
             self.folder = tempfile.mkdtemp(prefix="avrora-", dir=self.place)
+        self.images.clear()
         os.makedirs(f"{self.folder}/{OWN}", exist_ok=True)
         for name, content in [*self.shipment.files.items(), (PROOF_NAME, PROOF_IMAGE.encode())]:
             path = f"{self.folder}/{name}"
@@ -206,36 +208,28 @@ class Bench:
             return self.folder
         place = f"{self.folder}/{OWN}"
         for name, content in images.items():
-            with open(f"{place}/{name}", "wb") as file:
-                file.write(content)
+            if self.images.get(name) != content:
+                self.images.pop(name, None)
+                with named(f"{place}/{name}"), open(f"{place}/{name}", "wb") as file:
+                    file.write(content)
+                self.images[name] = content
         return place
 
     def write_scenario(self, place: str, text: str) -> None:
         with open(f"{place}/{SCENARIO}", "w", encoding="utf-8", errors="surrogateescape") as file:
             file.write(text)
 
-    def call(
-        self, place: str, words: Sequence[str], output: IO[bytes], seconds: float
-    ) -> "subprocess.CompletedProcess[bytes]":
+    def call(self, place: str, words: Sequence[str], output: IO[bytes], seconds: float) -> calling.Ended:
         """Runs the simulator in a folder."""
-        return subprocess.run(
-            [f"{self.folder}/{PROGRAM}", *words],
-            cwd=place,
-            stdin=subprocess.DEVNULL,
-            stdout=output,
-            stderr=subprocess.PIPE,
-            timeout=seconds,
-            check=False,
-        )
+        return self.caller.call(f"{self.folder}/{PROGRAM}", words, place, output, seconds)
 
     def said_at_end(self, place: str, words: Sequence[str], output: IO[bytes]) -> tuple[int, str]:
         """The status of a call of the simulator, and what it said. Raises NoAnswer where that is nothing of the scenario's:
         where another call may come to something else."""
         try:
-            done = self.call(place, words, output, self.shipment.timeout)
-        except subprocess.TimeoutExpired:
+            status, said = self.call(place, words, output, self.shipment.timeout)
+        except calling.TooLong:
             raise NoAnswer(answer(BROKEN, f"took more than {self.shipment.timeout} s", again=True)) from None
-        status, said = done.returncode, said_by(done)
         trouble = status in WORKER_FAULTS
         if trouble or status < 0 or status in MEMORY_FAULTS:
             raise NoAnswer(answer(BROKEN, f"status {status}: {said}", again=True, trouble=trouble))
@@ -277,18 +271,17 @@ class Bench:
             return f"status {status}: {said}" if status else None
 
         compared = {}
+        compares = comparisons.Place(place, SCENARIO, TRACE, call)
         for way in check.ways:
             try:
-                found = comparisons.WAYS[way](comparisons.Place(place, SCENARIO, TRACE, call))
+                found = comparisons.WAYS[way](compares)
             except ToolError as fault:
                 found = comparisons.Found(f"{way}: {fault}", 0)
             compared[way] = found.compared
             if found.difference:
                 failures.append(found.difference)
         judged = answer(FAILED if failures else PASSED, "\n".join(failures))
-        trace.seek(0)
-        judged["hash"] = hashlib.file_digest(cast(io.BufferedRandom, trace), "sha256").hexdigest()
-        judged["counts"] = counted(trace)
+        judged["hash"], judged["counts"] = looked_through(trace)
         judged["compared"] = compared
         return judged
 
@@ -332,10 +325,6 @@ def described(fault: OSError) -> str:
     return f"{fault.filename}: {fault.strerror}" if fault.filename else str(fault.strerror or fault)
 
 
-def said_by(done: "subprocess.CompletedProcess[bytes]") -> str:
-    return done.stderr.decode(errors="replace").strip()
-
-
 def packed(trace: IO[bytes]) -> bytes:
     """A file in gzip's format, without a time in it."""
     trace.seek(0)
@@ -345,15 +334,16 @@ def packed(trace: IO[bytes]) -> bytes:
     return out.getvalue()
 
 
-def counted(trace: IO[bytes]) -> list[int]:
-    """How many rows of each kind the trace has, in the order of COUNTS; of those that heard, how many heard one byte, and
-    how many a clash."""
+def looked_through(trace: IO[bytes]) -> tuple[str, list[int]]:
+    """The hash of a trace, and how many rows of each kind it has, in the order of COUNTS; of those that heard, how many
+    heard one byte, and how many a clash."""
     trace.seek(0)
-    found = [0] * len(TELLING)
+    found, counts = hashlib.sha256(), [0] * len(TELLING)
     # Whole rows: in them each of these texts stands for a kind alone, as the text of an instruction has none of them.
     while block := trace.read(BLOCK) + trace.readline():
-        found = [count + block.count(text) for count, text in zip(found, TELLING)]
-    return found
+        found.update(block)
+        counts = [count + block.count(text) for count, text in zip(counts, TELLING)]
+    return found.hexdigest(), counts
 
 
 def package() -> bytes:
