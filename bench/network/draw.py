@@ -90,7 +90,8 @@ class Assembler:
 
 def drawn_image(rng, is_woken=False):
     """A program that sends, samples, waits, writes to USART0, sleeps and goes on by what it heard, in a drawn order. One that
-    is woken sleeps until its first byte arrives; how long it waits then, and what it sends, goes by that byte."""
+    is woken sleeps until its first byte arrives; how long it waits then, and what it sends, goes by that byte; it does
+    both, send and sample."""
     ticks = rng.random() < 0.4
     a = Assembler(0x40 if ticks or is_woken else 0)
     first = len(a.words)
@@ -111,6 +112,8 @@ def drawn_image(rng, is_woken=False):
         a.add(word("add", d=17, r=18))
     a.add(ldi(19, rng.randrange(1, 256)), word("dec", d=19), word("brbc", s=1, k=-2))
     top = len(a.words)
+    for kind in rng.sample(("send", "sample"), 2) if is_woken else ():
+        add_action(rng, a, kind)
     for _ in range(rng.randrange(1, 8)):
         draw_action(rng, a, ticks)
     if rng.random() < 0.1:
@@ -133,7 +136,10 @@ def drawn_image(rng, is_woken=False):
 
 def draw_action(rng, a, ticks):
     kinds = ["send", "sample", "send", "sample", "wait", "write", "read", "odd", "away", "part", "go"]
-    kind = rng.choice(kinds + ["sleep"] * 3 if ticks else kinds)
+    add_action(rng, a, rng.choice(kinds + ["sleep"] * 3 if ticks else kinds))
+
+
+def add_action(rng, a, kind):
     if kind == "send":
         a.add(ldi(16, 1))
         a.call("transfer")
