@@ -1,4 +1,4 @@
-"""Where a run of a campaign takes place: on a worker of dask, or in a process of this machine.
+"""Where a run of a campaign takes place: in a process of this machine, or in one of a machine that a worker of dask is on.
 
 A worker gets the simulator, the images and the cases once, as a shipment, and then batches of jobs. A job is the text of
 a scenario, whose images are names of files of the shipment, the index of the check by which it is judged, and images of its
@@ -14,20 +14,14 @@ import contextlib
 import dataclasses
 import gzip
 import hashlib
-import importlib.resources
 import io
 import os
-import pickle
 import shutil
-import socket
 import tempfile
 import time
-import zipfile
 from collections.abc import Iterator, Sequence
-from importlib.abc import Traversable
 from typing import IO, Any, BinaryIO, cast
 
-import avrora_tools
 from avrora_tools import calling, cases, comparisons, expectations
 from avrora_tools.errors import ToolError
 from avrora_tools.events import CLASH, ONE_BYTE
@@ -344,86 +338,3 @@ def looked_through(trace: IO[bytes]) -> tuple[str, list[int]]:
         found.update(block)
         counts = [count + block.count(text) for count, text in zip(counts, TELLING)]
     return found.hexdigest(), counts
-
-
-def package() -> bytes:
-    """This package as a zip from which Python imports it."""
-    archive = io.BytesIO()
-    with zipfile.ZipFile(archive, "w") as zipped:
-        for path, content in modules(importlib.resources.files(avrora_tools), avrora_tools.__name__):
-            zipped.writestr(path, content)
-    return archive.getvalue()
-
-
-def modules(folder: Traversable, path: str) -> Iterator[tuple[str, bytes]]:
-    """The path and the content of each module below a folder of the package."""
-    for it in folder.iterdir():
-        if it.is_dir():
-            yield from modules(it, f"{path}/{it.name}")
-        elif it.name.endswith(".py"):
-            yield f"{path}/{it.name}", it.read_bytes()
-
-
-def for_dask(name: str, shipment: Shipment) -> tuple[Any, Any, Any]:
-    """The plugin of dask that takes the shipment to each worker, and two functions to call there: one that proves the
-    worker, one that runs a batch.
-
-    The package goes with it, so a worker needs dask and nothing of this repository; what is pickled here for dask names no
-    module of the package.
-    """
-    from distributed import WorkerPlugin, get_worker
-
-    tools, packed_shipment = package(), pickle.dumps(shipment)
-
-    class Carrier(WorkerPlugin):  # type: ignore[misc]  # a local class, which is always pickled by value
-        """Makes a bench where the worker has its files, with this package in place of another version of it. Nothing is
-        written before the worker proves itself, so that what fails is told as its reason."""
-
-        def __init__(self) -> None:
-            self.name = name
-
-        def setup(self, worker: Any) -> None:
-            import threading
-
-            self.place, self.folder = worker.local_directory, ""
-            self.bench: Any = None
-            self.lock = threading.Lock()  # for a worker of several threads: its folder is for one run at a time
-
-        def teardown(self, worker: Any) -> None:
-            import shutil
-
-            shutil.rmtree(self.folder, ignore_errors=True)
-
-        def made(self) -> Any:
-            import importlib
-            import os
-            import pickle
-            import sys
-            import tempfile
-
-            self.folder = self.folder or tempfile.mkdtemp(prefix="avrora-", dir=self.place)
-            archive = os.path.join(self.folder, "tools.zip")
-            with open(archive, "wb") as file:
-                file.write(tools)
-            for module in [it for it in sys.modules if it.partition(".")[0] == "avrora_tools"]:
-                del sys.modules[module]
-            sys.path.insert(0, archive)
-            runs = importlib.import_module("avrora_tools.runs")
-            sys.path.remove(archive)
-            return runs.Bench(pickle.loads(packed_shipment), self.folder)
-
-        def prove(self) -> list[Any]:
-            import socket
-
-            with self.lock:
-                try:
-                    self.bench = self.bench or self.made()
-                    return [socket.gethostname(), self.bench.prove()]
-                except OSError as fault:
-                    return [socket.gethostname(), f"{fault.filename}: {fault.strerror}" if fault.filename else str(fault)]
-
-        def run_batch(self, jobs: Any) -> Any:
-            with self.lock:
-                return self.bench.run_batch(jobs)
-
-    return Carrier(), lambda: get_worker().plugins[name].prove(), lambda jobs: get_worker().plugins[name].run_batch(jobs)

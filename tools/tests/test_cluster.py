@@ -198,6 +198,11 @@ class Gone(Cluster):
         self.assertEqual((status, len(rows)), (0, 6), errors)
 
 
+def parent_of(process):
+    with open(f"/proc/{process}/stat", encoding="utf-8") as file:
+        return int(file.read().rpartition(")")[2].split()[1])
+
+
 class Killed(Cluster):
     RUNS = 60
     CAMPAIGN = CAMPAIGN.replace("[1, 3, 4, 20, 30]", f"{{ from = 100, to = {99 + RUNS} }}")
@@ -205,8 +210,9 @@ class Killed(Cluster):
     WORKERS = 3
 
     def worker_that_is_held(self):
-        """A worker that has a run under way which waits."""
-        return next((worker for worker in self.workers if os.path.exists(f"{self.path}/held-{worker.pid}")), None)
+        """A worker whose process has a run under way which waits."""
+        held = {parent_of(name.removeprefix("held-")) for name in os.listdir(self.path) if name.startswith("held-")}
+        return next((worker for worker in self.workers if worker.pid in held), None)
 
     def test_a_worker(self):
         campaign, said = self.start_campaign()
