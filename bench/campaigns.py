@@ -6,7 +6,7 @@
 Runs of 5,000,000 cycles of nodes: `radio`, three nodes of examples/packet.hex that send and listen, and `alone`, a node of
 bench/mixed.hex that computes; the trace of each is checked by a case. Of each part the processor time of a campaign of RUNS runs
 (400) less that of one of a quarter of them, by the runs that it has more: so what it takes to start is not in it. Of the program
-by itself: the mean of RUNS / 4 runs in turn. Workers are four processes of this machine; then, where dask.distributed is
+that of the same runs, as their results have it. Workers are four processes of this machine; then, where dask.distributed is
 installed, four of dask beside a scheduler, started as CAMPAIGNS.md says. Then one worker beside four: what a run takes of all
 processors, by which four are so many times as fast as one where each has a processor. First, how a campaign of a million variants
 begins. Other work on the machine adds to the clock, and to processor times as well, where it has to share caches.
@@ -16,7 +16,6 @@ import importlib.util
 import json
 import os
 import re
-import resource
 import signal
 import sqlite3
 import subprocess
@@ -73,15 +72,16 @@ class Folder:
         )
 
     def run(self, which, runs, *words):
-        """Runs a campaign anew; the seconds by the clock, and the processor times of the client and of its children."""
+        """Runs a campaign anew; the processor times of the client, of its children, and of the program, in seconds."""
         used = self.path / "used"
         words = [sys.executable, "-B", "-c", CLIENT, TOOLS, used, "--anew", "--avrora", self.program, *words]
         words.append(self.campaign(which, runs))
-        start = time.monotonic()
         done = subprocess.run(words, stdout=subprocess.PIPE, stderr=subprocess.STDOUT, text=True, check=False)
         if done.returncode:
             sys.exit(f"a campaign ended with status {done.returncode}:\n{done.stdout[-2_000:]}")
-        return time.monotonic() - start, *json.loads(used.read_text())
+        with contextlib.closing(sqlite3.connect(self.path / f"{runs}.results" / "results.sqlite")) as database:
+            (program,) = database.execute("SELECT sum(processor) FROM run").fetchone()
+        return *json.loads(used.read_text()), program
 
 
 def used_by(process):
@@ -92,20 +92,10 @@ def used_by(process):
     return used.ru_utime + used.ru_stime
 
 
-def program_seconds(folder, which, runs):
-    """The processor time of the program by itself, the mean of some runs."""
-    words = [folder.program, "run", folder.path / f"{which}.toml"]
-    before = resource.getrusage(resource.RUSAGE_CHILDREN)
-    for _ in range(runs):
-        subprocess.run(words, stdout=subprocess.DEVNULL, check=True)
-    after = resource.getrusage(resource.RUSAGE_CHILDREN)
-    return (after.ru_utime - before.ru_utime + after.ru_stime - before.ru_stime) / runs
-
-
 def local_costs(folder, which, runs, count=WORKERS):
     """Seconds of client and of workers with their programs, for so many runs on processes of this machine."""
-    _, client, workers = folder.run(which, runs, "--processes", str(count))
-    return {"client": client, "workers": workers}
+    client, workers, program = folder.run(which, runs, "--processes", str(count))
+    return {"client": client, "workers": workers - program, "program": program}
 
 
 def dask_costs(folder, which, runs):
@@ -129,31 +119,34 @@ def dask_costs(folder, which, runs):
         for _ in range(WORKERS)
     ]
     try:
-        _, client, _ = folder.run(which, runs, "--scheduler", address)
+        client, _, program = folder.run(which, runs, "--scheduler", address)
     finally:
         used = [used_by(worker) for worker in workers]
         of_scheduler = used_by(scheduler)
-    return {"client": client, "scheduler": of_scheduler, "workers": sum(used)}
+    return {"client": client, "scheduler": of_scheduler, "workers": sum(used) - program, "program": program}
+
+
+def each_run(costs, folder, which, runs, *words):
+    """The milliseconds of each part for a run more."""
+    few, many = (costs(folder, which, number, *words) for number in (runs // 4, runs))
+    return {part: 1_000 * (many[part] - few[part]) / (runs - runs // 4) for part in many}
 
 
 def tell_costs(name, costs, folder, which, runs):
     """Prints the milliseconds a run of each part."""
-    program = 1_000 * program_seconds(folder, which, runs // 4)
-    few, many = costs(folder, which, runs // 4), costs(folder, which, runs)
-    each = {part: 1_000 * (many[part] - few[part]) / (runs - runs // 4) for part in many}
-    each["workers"] -= program
-    overhead = sum(each.values())
+    each = each_run(costs, folder, which, runs)
     parts = ", ".join(f"{part} {value:.2f}" for part, value in each.items())
-    print(f"{which}, {name}: {parts}, program {program:.2f} ms a run; all but the program {overhead / program:.2f} of it", flush=True)
+    overhead = sum(each.values()) - each["program"]
+    print(f"{which}, {name}: {parts} ms a run; all but the program {overhead / each['program']:.2f} of it", end="")
+    print(f"; {os.getloadavg()[0]:.0f} others", flush=True)
 
 
 def tell_speeds(folder, which, runs):
     """Four workers beside one."""
     spent = {}
     for count in (1, WORKERS):
-        few, many = (local_costs(folder, which, number, count) for number in (runs // 4, runs))
-        each = {part: 1_000 * (many[part] - few[part]) / (runs - runs // 4) for part in many}
-        spent[count] = each["client"] + each["workers"]
+        each = each_run(local_costs, folder, which, runs, count)
+        spent[count] = sum(each.values())
         print(f"{which}, {count} workers: {spent[count]:.2f} ms of all processors a run, {each['client']:.2f} of them the client's")
     print(f"{which}: by processor times {WORKERS} workers are {WORKERS * spent[1] / spent[WORKERS]:.2f} times as fast as one", flush=True)
 

@@ -13,6 +13,14 @@ class Ended(NamedTuple):
     said: str
 
 
+class Child(NamedTuple):
+    """A child that ended: its status, the seconds of processors that it took, and whether it took too long and was killed."""
+
+    status: int
+    processor: float
+    is_late: bool
+
+
 class TooLong(Exception):
     """A call that took longer than it may; it is killed."""
 
@@ -23,6 +31,7 @@ class Caller:
     def __init__(self) -> None:
         self.errors = os.memfd_create("errors")  # in memory: what went wrong is told even where the disk is full
         self.environment = dict(os.environb)  # as bytes, so that nothing is encoded at each call
+        self.processor = 0.0  # seconds of processors that all calls took
 
     def close(self) -> None:
         os.close(self.errors)
@@ -49,28 +58,30 @@ class Caller:
         finally:
             os.fchdir(before)
             os.close(before)
-        return Ended(status_of(process, seconds), self.said())
+        child = ended(process, seconds)
+        self.processor += child.processor
+        if child.is_late:
+            raise TooLong
+        return Ended(child.status, self.said())
 
     def said(self) -> str:
         size = os.fstat(self.errors).st_size
         return os.pread(self.errors, size, 0).decode(errors="replace").strip() if size else ""
 
 
-def status_of(process: int, seconds: float) -> int:
-    """The status with which a child ends. Raises TooLong where that takes longer; however this is left, it has ended."""
-    is_left = True
+def ended(process: int, seconds: float) -> Child:
+    """Waits for the end of a child; it is killed where that takes longer than it may, and where this is interrupted."""
+    is_late = True
     try:
         handle = os.pidfd_open(process)
         try:
             ends = select.poll()
             ends.register(handle, select.POLLIN)
-            if not ends.poll(1_000 * seconds):
-                raise TooLong
+            is_late = not ends.poll(1_000 * seconds)
         finally:
             os.close(handle)
-        is_left = False
     finally:
-        if is_left:
+        if is_late:
             os.kill(process, signal.SIGKILL)
-        _, status = os.waitpid(process, 0)
-    return os.waitstatus_to_exitcode(status)
+        _, status, used = os.wait4(process, 0)
+    return Child(os.waitstatus_to_exitcode(status), used.ru_utime + used.ru_stime, is_late)

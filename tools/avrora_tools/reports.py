@@ -179,7 +179,8 @@ class Report:
             import pyarrow.parquet
         except ImportError:
             raise terminal.missing("pyarrow", "none; it is to be had from elsewhere") from None
-        numbers = {**dict.fromkeys((*runs.COUNTS, "attempts", "number"), pyarrow.int64()), "seconds": pyarrow.float64()}
+        numbers = dict.fromkeys((*runs.COUNTS, "attempts", "number"), pyarrow.int64())
+        numbers |= dict.fromkeys(("seconds", "processor"), pyarrow.float64())
         fields = [(column, numbers.get(column, pyarrow.string())) for column in results.COLUMNS]
         schema = pyarrow.schema(fields)
         with files.whole_file(path, binary=True) as file, pyarrow.parquet.ParquetWriter(file, schema) as writer:

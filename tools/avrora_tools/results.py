@@ -36,13 +36,13 @@ CREATE TABLE run (
     id INTEGER PRIMARY KEY, number INTEGER NOT NULL, name TEXT NOT NULL UNIQUE, parameters TEXT NOT NULL,
     digest BLOB NOT NULL, outcome TEXT NOT NULL, message TEXT NOT NULL,
     {' '.join(f'{name} INTEGER,' for name in runs.COUNTS)}
-    hash BLOB, compared TEXT, trace TEXT, seconds REAL NOT NULL, host INTEGER NOT NULL REFERENCES host,
+    hash BLOB, compared TEXT, trace TEXT, seconds REAL NOT NULL, processor REAL NOT NULL, host INTEGER NOT NULL REFERENCES host,
     attempts INTEGER NOT NULL,
     sitting INTEGER NOT NULL REFERENCES sitting
 );
 CREATE VIEW result AS
     SELECT number, run.name AS name, parameters, outcome, message, {', '.join(runs.COUNTS)},
-        CASE WHEN hash IS NOT NULL THEN lower(hex(hash)) END AS hash, compared, trace, seconds, host.name AS host,
+        CASE WHEN hash IS NOT NULL THEN lower(hex(hash)) END AS hash, compared, trace, seconds, processor, host.name AS host,
         attempts, lower(hex(digest)) AS digest, program, checker
     FROM run JOIN sitting ON sitting.id = run.sitting JOIN host ON host.id = run.host;
 PRAGMA application_id = {APPLICATION};
@@ -50,7 +50,7 @@ PRAGMA user_version = {FORM};
 """
 
 INSERT = f"""INSERT INTO run (number, name, parameters, digest, outcome, message, {', '.join(runs.COUNTS)}, hash,
-    compared, trace, seconds, host, attempts, sitting) VALUES ({', '.join('?' * (13 + len(runs.COUNTS)))})"""
+    compared, trace, seconds, processor, host, attempts, sitting) VALUES ({', '.join('?' * (14 + len(runs.COUNTS)))})"""
 
 # How long a reader may have the file for itself, in seconds.
 PATIENCE = 600.0
@@ -203,6 +203,7 @@ class Store:
                 compact(answer["compared"]) if answer["compared"] else None,
                 trace,
                 answer["seconds"],
+                answer["processor"],
                 self.host(host),
                 attempts,
                 self.sitting,
@@ -272,7 +273,7 @@ def reading(path: str) -> Iterator[sqlite3.Connection]:
 
 
 COLUMNS = (
-    "name", "outcome", *runs.COUNTS, "seconds", "attempts", "host", "parameters", "message", "hash", "compared", "trace",
+    "name", "outcome", *runs.COUNTS, "seconds", "processor", "attempts", "host", "parameters", "message", "hash", "compared", "trace",
     "digest",    "program", "checker", "number",
 )  # fmt: skip
 

@@ -6,7 +6,8 @@ own by their names, which are all that it has where there are any.
 
 An answer is a dictionary: `outcome` is one of the words below, `message` says why, `counts` has how many rows of each
 kind the trace has, `hash` is that of the trace, both None where there is no whole trace; `compared` has how much of it was
-compared in each way; `seconds` is the time of the run and its checks, `trace` the trace in gzip's format or None, `again`
+compared in each way; `seconds` is the time of the run and its checks, `processor` what the simulator took of processors in it,
+in seconds, `trace` the trace in gzip's format or None, `again`
 whether another attempt can come to something else, and `trouble` whether it was the worker that failed. All of it is of
 Python's own kinds, so a client reads it whatever the worker has.
 """
@@ -176,7 +177,7 @@ class Bench:
 
     def run(self, job: Job) -> Answer:
         """Runs a job. Raises Sick where it is the worker that cannot."""
-        start = time.monotonic()
+        start, used = time.monotonic(), self.caller.processor
         try:
             place = self.folder_for(job)
             with open(f"{place}/{TRACE}", "w+b") as trace:
@@ -193,6 +194,7 @@ class Bench:
             if reason:
                 raise Sick(reason)
         found["seconds"] = round(time.monotonic() - start, 4)
+        found["processor"] = round(self.caller.processor - used, 4)
         return found
 
     def folder_for(self, job: Job) -> str:
@@ -300,6 +302,7 @@ def answer(outcome: str, message: str = "", again: bool = False, trouble: bool =
         "hash": None,
         "compared": None,
         "seconds": 0.0,
+        "processor": 0.0,
         "trace": None,
         "again": again,
         "trouble": trouble,
