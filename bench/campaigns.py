@@ -6,16 +6,16 @@
 Runs of 5,000,000 cycles of nodes: `radio`, three nodes of examples/packet.hex that send and listen, and `alone`, a node of
 bench/mixed.hex that computes; the trace of each is checked by a case. Of each part the processor time of a campaign of RUNS runs
 (400) less that of one of a quarter of them, by the runs that it has more: so what it takes to start is not in it. Of the program
-by itself: the mean of RUNS / 4 runs in turn. Workers are four processes of this machine; then, where dask.distributed is
-installed, four of dask beside a scheduler. Then one worker beside four, by the clock, and what the processor times bound. First,
-how a campaign of a million variants begins. Other work on the machine adds to the clock, and some percent to processor times.
+that of the same runs, as their results have it. Workers are four processes of this machine; then, where dask.distributed is
+installed, four of dask beside a scheduler, started as CAMPAIGNS.md says. Then one worker beside four: what a run takes of all
+processors, by which four are so many times as fast as one where each has a processor. First, how a campaign of a million variants
+begins. Other work on the machine adds to the clock, and to processor times as well, where it has to share caches.
 """
 import contextlib
 import importlib.util
 import json
 import os
 import re
-import resource
 import signal
 import sqlite3
 import subprocess
@@ -41,6 +41,9 @@ sys.exit(status)
 
 WORKERS = 4
 MILLION = 1_000_000
+
+# What CAMPAIGNS.md has users set for dask: its own clockwork goes on while a run waits for a processor.
+SETTINGS = {"DASK_DISTRIBUTED__WORKER__PROFILE__ENABLED": "False", "DASK_DISTRIBUTED__ADMIN__TICK__INTERVAL": "1s"}
 
 
 class Folder:
@@ -69,15 +72,16 @@ class Folder:
         )
 
     def run(self, which, runs, *words):
-        """Runs a campaign anew; the seconds by the clock, and the processor times of the client and of its children."""
+        """Runs a campaign anew; the processor times of the client, of its children, and of the program, in seconds."""
         used = self.path / "used"
         words = [sys.executable, "-B", "-c", CLIENT, TOOLS, used, "--anew", "--avrora", self.program, *words]
         words.append(self.campaign(which, runs))
-        start = time.monotonic()
         done = subprocess.run(words, stdout=subprocess.PIPE, stderr=subprocess.STDOUT, text=True, check=False)
         if done.returncode:
             sys.exit(f"a campaign ended with status {done.returncode}:\n{done.stdout[-2_000:]}")
-        return time.monotonic() - start, *json.loads(used.read_text())
+        with contextlib.closing(sqlite3.connect(self.path / f"{runs}.results" / "results.sqlite")) as database:
+            (program,) = database.execute("SELECT sum(processor) FROM run").fetchone()
+        return *json.loads(used.read_text()), program
 
 
 def used_by(process):
@@ -88,20 +92,10 @@ def used_by(process):
     return used.ru_utime + used.ru_stime
 
 
-def program_seconds(folder, which, runs):
-    """The processor time of the program by itself, the mean of some runs."""
-    words = [folder.program, "run", folder.path / f"{which}.toml"]
-    before = resource.getrusage(resource.RUSAGE_CHILDREN)
-    for _ in range(runs):
-        subprocess.run(words, stdout=subprocess.DEVNULL, check=True)
-    after = resource.getrusage(resource.RUSAGE_CHILDREN)
-    return (after.ru_utime - before.ru_utime + after.ru_stime - before.ru_stime) / runs
-
-
-def local_costs(folder, which, runs):
+def local_costs(folder, which, runs, count=WORKERS):
     """Seconds of client and of workers with their programs, for so many runs on processes of this machine."""
-    _, client, workers = folder.run(which, runs, "--processes", str(WORKERS))
-    return {"client": client, "workers": workers}
+    client, workers, program = folder.run(which, runs, "--processes", str(count))
+    return {"client": client, "workers": workers - program, "program": program}
 
 
 def dask_costs(folder, which, runs):
@@ -109,7 +103,7 @@ def dask_costs(folder, which, runs):
     module = [sys.executable, "-m"]
     file = folder.path / "scheduler.json"
     file.unlink(missing_ok=True)
-    quiet = {"stdout": subprocess.DEVNULL, "stderr": subprocess.DEVNULL, "cwd": folder.path}
+    quiet = {"stdout": subprocess.DEVNULL, "stderr": subprocess.DEVNULL, "cwd": folder.path, "env": {**os.environ, **SETTINGS}}
     place = ["--host", LOOPBACK, "--no-dashboard"]
     scheduler = subprocess.Popen(
         [*module, "distributed.cli.dask_scheduler", *place, "--port", "0", "--scheduler-file", file],
@@ -125,40 +119,36 @@ def dask_costs(folder, which, runs):
         for _ in range(WORKERS)
     ]
     try:
-        _, client, _ = folder.run(which, runs, "--scheduler", address)
+        client, _, program = folder.run(which, runs, "--scheduler", address)
     finally:
         used = [used_by(worker) for worker in workers]
         of_scheduler = used_by(scheduler)
-    return {"client": client, "scheduler": of_scheduler, "workers": sum(used)}
+    return {"client": client, "scheduler": of_scheduler, "workers": sum(used) - program, "program": program}
+
+
+def each_run(costs, folder, which, runs, *words):
+    """The milliseconds of each part for a run more."""
+    few, many = (costs(folder, which, number, *words) for number in (runs // 4, runs))
+    return {part: 1_000 * (many[part] - few[part]) / (runs - runs // 4) for part in many}
 
 
 def tell_costs(name, costs, folder, which, runs):
-    """Prints the milliseconds a run of each part, and gives them."""
-    program = 1_000 * program_seconds(folder, which, runs // 4)
-    few, many = costs(folder, which, runs // 4), costs(folder, which, runs)
-    each = {part: 1_000 * (many[part] - few[part]) / (runs - runs // 4) for part in many}
-    each["workers"] -= program
-    overhead = sum(each.values())
+    """Prints the milliseconds a run of each part."""
+    each = each_run(costs, folder, which, runs)
     parts = ", ".join(f"{part} {value:.2f}" for part, value in each.items())
-    print(f"{which}, {name}: {parts}, program {program:.2f} ms a run; all but the program {overhead / program:.2f} of it", flush=True)
-    return {**each, "program": program}
+    overhead = sum(each.values()) - each["program"]
+    print(f"{which}, {name}: {parts} ms a run; all but the program {overhead / each['program']:.2f} of it", end="")
+    print(f"; {os.getloadavg()[0]:.0f} others", flush=True)
 
 
-def tell_speeds(folder, which, runs, each):
+def tell_speeds(folder, which, runs):
     """Four workers beside one."""
-    seconds = {}
+    spent = {}
     for count in (1, WORKERS):
-        few, many = (folder.run(which, number, "--processes", str(count))[0] for number in (runs // 4, runs))
-        seconds[count] = many - few
-    client, worker = each["client"], each["workers"] + each["program"]
-    processors = os.cpu_count() or 1
-    # With one worker the client works beside it; with as many as there are processors they share these.
-    bound = min(WORKERS, processors * worker / (client + worker), worker / client)
-    print(
-        f"{which}: {WORKERS} workers are {seconds[1] / seconds[WORKERS]:.2f} times as fast as one by the clock; by processor times "
-        f"{bound:.2f} on {processors} processors, {min(WORKERS, worker / client):.2f} on more",
-        flush=True,
-    )
+        each = each_run(local_costs, folder, which, runs, count)
+        spent[count] = sum(each.values())
+        print(f"{which}, {count} workers: {spent[count]:.2f} ms of all processors a run, {each['client']:.2f} of them the client's")
+    print(f"{which}: by processor times {WORKERS} workers are {WORKERS * spent[1] / spent[WORKERS]:.2f} times as fast as one", flush=True)
 
 
 def tell_beginning(folder):
@@ -210,13 +200,13 @@ def main():
     with tempfile.TemporaryDirectory() as path:
         folder = Folder(path, os.path.abspath(sys.argv[1]))
         tell_beginning(folder)
-        each = tell_costs("processes of this machine", local_costs, folder, "radio", runs)
+        tell_costs("processes of this machine", local_costs, folder, "radio", runs)
         tell_costs("processes of this machine", local_costs, folder, "alone", runs)
         if importlib.util.find_spec("distributed"):
             tell_costs("dask", dask_costs, folder, "radio", runs)
         else:
             print("dask: skipped, distributed is not installed")
-        tell_speeds(folder, "radio", runs, each)
+        tell_speeds(folder, "radio", runs)
 
 
 if __name__ == "__main__":

@@ -6,12 +6,13 @@ from instructions import TABLE
 from states import EPOCH
 
 HERE = Path(__file__).resolve().parent
+NET = (HERE / "net.hex").read_text()
 SPL, SPH, DDRB, PORTB, MCUCR = 0x3D, 0x3E, 0x17, 0x18, 0x35
 SPCR, SPSR, SPDR = 0x0D, 0x0E, 0x0F
 UBRR, UCSRB, UCSRA, UDR = 0x09, 0x0A, 0x0B, 0x0C
 TCCR0, OCR0, TIMSK = 0x33, 0x31, 0x37
 PATTERNS = {name: pattern for pattern, name, _ in TABLE}
-TIMER0_COMP = 0x1E
+TIMER0_COMP, USART0_RX = 0x1E, 0x24
 
 
 # ---- images
@@ -87,10 +88,12 @@ class Assembler:
         return self.words
 
 
-def drawn_image(rng):
-    """A program that sends, samples, waits, writes to USART0, sleeps and goes on by what it heard, in a drawn order."""
+def drawn_image(rng, is_woken=False):
+    """A program that sends, samples, waits, writes to USART0, sleeps and goes on by what it heard, in a drawn order. One that
+    is woken sleeps until its first byte arrives; how long it waits then, and what it sends, goes by that byte; it does
+    both, send and sample."""
     ticks = rng.random() < 0.4
-    a = Assembler(0x40 if ticks else 0)
+    a = Assembler(0x40 if ticks or is_woken else 0)
     first = len(a.words)
     a.add(ldi(16, 0x10), out(SPH, 16), ldi(16, 0xFF), out(SPL, 16), ldi(16, 1), out(DDRB, 16))
     a.add(ldi(16, 0x50 | rng.choice((0, 0, 0, 1))), out(SPCR, 16))
@@ -100,9 +103,17 @@ def drawn_image(rng):
     if ticks:
         a.add(ldi(16, rng.randrange(20, 200)), out(OCR0, 16), ldi(16, 0x0A), out(TCCR0, 16), ldi(16, 2), out(TIMSK, 16))
         a.add(ldi(16, 0x20), out(MCUCR, 16), word("bset", s=7))
+    if is_woken:
+        a.add(ldi(16, 0x98), out(UCSRB, 16), ldi(16, 0x20), out(MCUCR, 16), word("bset", s=7))
+        a.add(word("sleep"), word("sbic", A=UCSRB, b=7), word("rjmp", k=-3))  # other interrupts wake it, too
+        a.add(word("mov", d=19, r=18), word("dec", d=19), word("brbc", s=1, k=-2))
     a.add(ldi(17, rng.randrange(256)), ldi(22, rng.randrange(3, 40)))
+    if is_woken:
+        a.add(word("add", d=17, r=18))
     a.add(ldi(19, rng.randrange(1, 256)), word("dec", d=19), word("brbc", s=1, k=-2))
     top = len(a.words)
+    for kind in rng.sample(("send", "sample"), 2) if is_woken else ():
+        add_action(rng, a, kind)
     for _ in range(rng.randrange(1, 8)):
         draw_action(rng, a, ticks)
     if rng.random() < 0.1:
@@ -116,12 +127,19 @@ def drawn_image(rng):
         a.words[0] = word("rjmp", k=first - 1)
         a.words[TIMER0_COMP] = word("rjmp", k=len(a.words) - TIMER0_COMP - 1)
         a.add(word("push", r=0), word("in_", d=0, A=0x3F), word("inc", d=21), out(0x3F, 0), word("pop", d=0), word("reti"))
+    if is_woken:
+        a.words[0] = word("rjmp", k=first - 1)
+        a.words[USART0_RX] = word("rjmp", k=len(a.words) - USART0_RX - 1)
+        a.add(word("in_", d=18, A=UDR), word("cbi", A=UCSRB, b=7), word("reti"))
     return a.finish(places)
 
 
 def draw_action(rng, a, ticks):
     kinds = ["send", "sample", "send", "sample", "wait", "write", "read", "odd", "away", "part", "go"]
-    kind = rng.choice(kinds + ["sleep"] * 3 if ticks else kinds)
+    add_action(rng, a, rng.choice(kinds + ["sleep"] * 3 if ticks else kinds))
+
+
+def add_action(rng, a, kind):
     if kind == "send":
         a.add(ldi(16, 1))
         a.call("transfer")
@@ -215,7 +233,7 @@ def drawn(number, nodes_most=8, cycles_most=8000):
         name = f"{k}.hex"
         if which == "orders":
             name = "net.hex"
-            images[name] = (HERE / "net.hex").read_text()
+            images[name] = NET
             document["input"].append({"node": k, "at": rng.randrange(400), "every": rng.randrange(300, 1200),
                                       "hex": bytes(rng.randrange(256) for _ in range(12)).hex()})
         elif which == "foreign":
@@ -257,7 +275,7 @@ def late(number):
                 if rng.random() < 0.2:
                     link["open"] = [[EPOCH - rng.randrange(2000), EPOCH], [EPOCH, EPOCH + rng.randrange(1, 2000)]]
                 document["link"].append(link)
-    return Drawn(document, {"net.hex": (HERE / "net.hex").read_text()})
+    return Drawn(document, {"net.hex": NET})
 
 
 def aimed(number, base, network):

@@ -4,6 +4,8 @@ Each way says what differs, or None, and how much it compared: rows of the trace
 tools refuse what the simulator took, or wrote.
 """
 import contextlib
+import dataclasses
+import functools
 import hashlib
 import io
 import itertools
@@ -21,7 +23,8 @@ STATE, OUTPUT = "compared.state", "compared.trace"
 MOST_SAID = 4_000  # characters of what `links` finds
 
 
-class Place(NamedTuple):
+@dataclasses.dataclass
+class Place:
     """A folder with a scenario, and the trace of its run. `call` runs the simulator there with these words, its output goes
     to a file; None where it ended with status 0, else what to tell of its end."""
 
@@ -33,9 +36,15 @@ class Place(NamedTuple):
     def path(self, name: str) -> str:
         return f"{self.folder}/{name}"
 
+    @functools.cached_property
     def text(self) -> str:
         with open(self.path(self.scenario), encoding="utf-8") as file:
             return file.read()
+
+    @functools.cached_property
+    def read(self) -> scenarios.Scenario:
+        """The scenario as the tools read it, once for all ways."""
+        return scenarios.Scenario.of_text(self.text, "the scenario")
 
 
 class Found(NamedTuple):
@@ -53,11 +62,10 @@ def plain(place: Place) -> Found:
 def resumed(place: Place) -> Found:
     """Cut at the end of an epoch that the scenario's text decides: `head`, and then `resume` from what `save` wrote. A run
     that ends within its first epoch has nothing to compare."""
-    text = place.text()
-    ends = (scenarios.Scenario.of_text(text, "the scenario").cycles - 1) // traces.EPOCH
+    ends = (place.read.cycles - 1) // traces.EPOCH
     if ends < 1:
         return Found(None, 0)
-    epoch = str(1 + int.from_bytes(hashlib.sha256(text.encode()).digest()[:8], "big") % ends)
+    epoch = str(1 + int.from_bytes(hashlib.sha256(place.text.encode()).digest()[:8], "big") % ends)
     with open(place.path(STATE), "wb") as state:
         said = place.call(["save", place.scenario, epoch], state)
     if said:
@@ -71,13 +79,12 @@ def resumed(place: Place) -> Found:
 
 def by_links(place: Place) -> Found:
     """Each sample is what the sends of the trace give, by the rules of docs/AIR.md: what `links` checks."""
-    scenario = scenarios.Scenario.of_text(place.text(), "the scenario")
     said = io.StringIO()
     with contextlib.redirect_stdout(said):
         trace = traces.read(
-            place.path(place.trace), traces.Form.WHOLE, scenario=scenario, least_gap=scenarios.BYTE_TIME.start
+            place.path(place.trace), traces.Form.WHOLE, scenario=place.read, least_gap=scenarios.BYTE_TIME.start
         )
-        reader = links.Reader(scenario, None, tells_clashes=False)
+        reader = links.Samples(place.read, None)
         reader.read(trace)
     samples = sum(reader.samples.values())
     return Found(f"links: {said.getvalue()[:MOST_SAID]}" if reader.faults else None, samples)

@@ -434,7 +434,8 @@ def watch(
     before: collections.deque[traces.TraceRow] = collections.deque(maxlen=CONTEXT)
     told: list[Report] = []  # reports of rows, which tell what came behind
     watchers, writers = watchers_of(case, save, stack, Near(before, told), gaps)
-    feeds = [watcher.feed for watcher in watchers]
+    feeds = [watcher.feed for watcher in watchers if not isinstance(watcher, Sequence) or watcher.steps]
+    tells_context = any(isinstance(statement, Never) for statement in case.statements)
     nodes, kinds = case.nodes, case.kinds
     for row in rows:
         _, node, event = row
@@ -446,9 +447,10 @@ def watch(
         next(looked)
         for feed in feeds:
             feed(row)
-        before.append(row)
-        for report in told:
-            report.show_after(row)
+        if tells_context:
+            before.append(row)
+            for report in told:
+                report.show_after(row)
     return [report for watcher in watchers + writers for report in watcher.finish()]
 
 

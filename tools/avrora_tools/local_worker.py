@@ -1,5 +1,5 @@
-"""A worker of a campaign as a process of this machine: it takes batches from the process that started it, and ends with
-it, however that ends."""
+"""A worker of a campaign as a process: it takes batches from the process that started it, which is the client on this machine or a
+worker of dask, and ends with it, however that ends."""
 import os
 import queue
 import signal
@@ -21,6 +21,7 @@ def words(connection: int) -> list[str]:
 
 def main() -> None:
     signal.signal(signal.SIGINT, signal.SIG_IGN)
+    os.set_inheritable(int(sys.argv[1]), False)  # it is not the simulator's
     connection: Connection = Connection(int(sys.argv[1]))
     inbox: queue.SimpleQueue[Any] = queue.SimpleQueue()
 
@@ -34,7 +35,7 @@ def main() -> None:
             os.killpg(0, signal.SIGKILL)
 
     threading.Thread(target=listen, daemon=True).start()
-    shipment, folder = inbox.get()
+    shipment, folder = inbox.get(), inbox.get()
     bench = runs.Bench(shipment, folder)
     connection.send(bench.prove())
     while True:

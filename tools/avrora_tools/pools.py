@@ -24,7 +24,7 @@ from multiprocessing.connection import Connection
 from pathlib import Path
 from typing import Any, Protocol, cast
 
-from avrora_tools import local_worker, runs, terminal
+from avrora_tools import carriers, local_worker, runs, terminal
 from avrora_tools.errors import CannotWork
 
 GONE = "the scheduler of dask is gone"
@@ -134,7 +134,8 @@ class LocalPool:
             )
         self.workers[ours] = LocalWorker(name, process=process)
         with contextlib.suppress(OSError):  # it is dead, which is seen when it is waited for
-            ours.send((self.shipment, self.folder))
+            ours.send(self.shipment)
+            ours.send(self.folder)
 
     def connection_of(self, worker: Worker) -> Any:
         return next(connection for connection, it in self.workers.items() if it is worker)
@@ -225,7 +226,7 @@ class DaskPool:
             for left in self.client.run_on_scheduler(lambda dask_scheduler: list(dask_scheduler.worker_plugins)):
                 if left.startswith(prefix):
                     self.client.unregister_worker_plugin(left)
-            carrier, self.prove, self.run_batch = runs.for_dask(self.name, shipment)
+            carrier, self.prove, self.run_batch = carriers.for_dask(self.name, shipment)
             self.client.register_worker_plugin(carrier, name=self.name)
         except BaseException:
             self.close()

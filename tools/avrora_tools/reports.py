@@ -21,6 +21,9 @@ MESSAGE_LINES = 12  # of a failure, in the table
 # A table of more runs is not written to the standard output.
 MOST_PRINTED = 200
 
+# Of more runs the files beside the results have those alone that are not passed.
+MOST_IN_SUMMARIES = 100_000
+
 ROWS_A_GROUP = 50_000  # of Parquet
 
 
@@ -142,14 +145,14 @@ class Report:
         if where_all_is:
             out.write(f"Of all runs: {where_all_is}\n")
 
-    def write_lines(self, out: IO[str]) -> None:
+    def write_lines(self, out: IO[str], where: Sequence[str] = runs.OUTCOMES) -> None:
         """A line of JSON a run."""
-        for row in self.rows():
+        for row in self.rows(where):
             counts = {key: row.pop(key) for key in runs.COUNTS}
             row["counts"] = {} if counts["sent"] is None else counts
             out.write(json.dumps(row, default=str) + "\n")
 
-    def write_junit(self, out: IO[str]) -> None:
+    def write_junit(self, out: IO[str], where: Sequence[str] = runs.OUTCOMES) -> None:
         """A report for a server of builds."""
         found = self.outcomes()
         failures = found[runs.FAILED] + found[runs.REFUSED]
@@ -158,7 +161,7 @@ class Report:
         suite = {"name": self.name, "tests": str(found.total()), "failures": str(failures)}
         suite["errors"] = str(found[runs.BROKEN])
         with element(writer, "testsuites", {}), element(writer, "testsuite", suite):
-            for row in self.rows():
+            for row in self.rows(where):
                 words = {"name": row["name"], "classname": self.name, "time": f"{row['seconds']:.4f}"}
                 with element(writer, "testcase", {key: xml_text(value) for key, value in words.items()}):
                     if row["outcome"] != runs.PASSED:
@@ -176,7 +179,8 @@ class Report:
             import pyarrow.parquet
         except ImportError:
             raise terminal.missing("pyarrow", "none; it is to be had from elsewhere") from None
-        numbers = {**dict.fromkeys((*runs.COUNTS, "attempts", "number"), pyarrow.int64()), "seconds": pyarrow.float64()}
+        numbers = dict.fromkeys((*runs.COUNTS, "attempts", "number"), pyarrow.int64())
+        numbers |= dict.fromkeys(("seconds", "processor"), pyarrow.float64())
         fields = [(column, numbers.get(column, pyarrow.string())) for column in results.COLUMNS]
         schema = pyarrow.schema(fields)
         with files.whole_file(path, binary=True) as file, pyarrow.parquet.ParquetWriter(file, schema) as writer:
@@ -216,11 +220,12 @@ def xml_text(text: str) -> str:
 
 def write_summaries(report: Report, folder: str) -> None:
     """The table, the lines of JSON and the JUnit report in the folder of results."""
-    written: dict[str, Callable[[IO[str]], None]] = {
+    where = runs.OUTCOMES if report.outcomes().total() <= MOST_IN_SUMMARIES else runs.OUTCOMES[1:]
+    written: dict[str, Callable[[IO[str], Sequence[str]], None]] = {
         "summary.txt": report.write_table,
         "summary.jsonl": report.write_lines,
         "junit.xml": report.write_junit,
     }
     for name, write in written.items():
         with files.whole_file(f"{folder}/{name}", lasting=False) as file:
-            write(file)
+            write(file, where)

@@ -20,34 +20,37 @@ from avrora_tools.variants import Run
 FILE = "results.sqlite"
 
 # The form of the file: SQLite's application_id says whose it is, its user_version which form.
-APPLICATION, FORM = 0x41565243, 1
+APPLICATION, FORM = 0x41565243, 2
 
 # A sitting is one call of the campaign: `identity` is a hash of all that decides the outcomes of all runs, `program` and
 # `checker` are those of the simulator and of the code that checks. A run belongs to the sitting by which it has its
-# result, or in which that was found to be the same.
+# result, or in which that was found to be the same. Digests and hashes are 32 bytes each, and text in the view.
 SCHEMA = f"""
 CREATE TABLE about (key TEXT PRIMARY KEY, value TEXT NOT NULL) WITHOUT ROWID;
 CREATE TABLE sitting (
     id INTEGER PRIMARY KEY, identity TEXT NOT NULL, program TEXT NOT NULL, checker TEXT NOT NULL, host TEXT NOT NULL,
     began TEXT NOT NULL
 );
+CREATE TABLE host (id INTEGER PRIMARY KEY, name TEXT NOT NULL UNIQUE);
 CREATE TABLE run (
     id INTEGER PRIMARY KEY, number INTEGER NOT NULL, name TEXT NOT NULL UNIQUE, parameters TEXT NOT NULL,
-    digest TEXT NOT NULL, outcome TEXT NOT NULL, message TEXT NOT NULL,
+    digest BLOB NOT NULL, outcome TEXT NOT NULL, message TEXT NOT NULL,
     {' '.join(f'{name} INTEGER,' for name in runs.COUNTS)}
-    hash TEXT, compared TEXT, trace TEXT, seconds REAL NOT NULL, host TEXT NOT NULL, attempts INTEGER NOT NULL,
+    hash BLOB, compared TEXT, trace TEXT, seconds REAL NOT NULL, processor REAL NOT NULL, host INTEGER NOT NULL REFERENCES host,
+    attempts INTEGER NOT NULL,
     sitting INTEGER NOT NULL REFERENCES sitting
 );
 CREATE VIEW result AS
-    SELECT run.number, run.name, parameters, outcome, message, {', '.join(runs.COUNTS)}, hash, compared, trace, seconds, run.host,
-        attempts, digest, program, checker
-    FROM run JOIN sitting ON sitting.id = run.sitting;
+    SELECT number, run.name AS name, parameters, outcome, message, {', '.join(runs.COUNTS)},
+        CASE WHEN hash IS NOT NULL THEN lower(hex(hash)) END AS hash, compared, trace, seconds, processor, host.name AS host,
+        attempts, lower(hex(digest)) AS digest, program, checker
+    FROM run JOIN sitting ON sitting.id = run.sitting JOIN host ON host.id = run.host;
 PRAGMA application_id = {APPLICATION};
 PRAGMA user_version = {FORM};
 """
 
 INSERT = f"""INSERT INTO run (number, name, parameters, digest, outcome, message, {', '.join(runs.COUNTS)}, hash,
-    compared, trace, seconds, host, attempts, sitting) VALUES ({', '.join('?' * (13 + len(runs.COUNTS)))})"""
+    compared, trace, seconds, processor, host, attempts, sitting) VALUES ({', '.join('?' * (14 + len(runs.COUNTS)))})"""
 
 # How long a reader may have the file for itself, in seconds.
 PATIENCE = 600.0
@@ -101,6 +104,7 @@ class Store:
                     os.unlink(path)
         self.next_commit = 0.0
         self.sitting = 0
+        self.hosts: dict[str, int] = {}
         with reported(self.path):
             self.database = sqlite3.connect(self.path, timeout=PATIENCE)
             try:
@@ -164,7 +168,7 @@ class Store:
         found = self.database.execute(
             "SELECT id, digest, outcome, trace FROM run WHERE name = ?", (run.name,)
         ).fetchone()
-        if not found or found[1] != digest or found[2] not in runs.FINAL:
+        if not found or found[1] != bytes.fromhex(digest) or found[2] not in runs.FINAL:
             return False
         if found[2] in TRACED[traces] and found[3] is None:
             return False
@@ -190,20 +194,28 @@ class Store:
             (
                 run.number,
                 run.name,
-                json.dumps(run.parameters, default=str),
-                digest,
+                compact(run.parameters),
+                bytes.fromhex(digest),
                 answer["outcome"],
                 answer["message"],
                 *counts,
-                answer["hash"],
-                json.dumps(answer["compared"]) if answer["compared"] else None,
+                bytes.fromhex(answer["hash"]) if answer["hash"] else None,
+                compact(answer["compared"]) if answer["compared"] else None,
                 trace,
                 answer["seconds"],
-                host,
+                answer["processor"],
+                self.host(host),
                 attempts,
                 self.sitting,
             ),
         )
+
+    def host(self, name: str) -> int:
+        """The key of a host, which is noted where it is new."""
+        if name not in self.hosts:
+            self.database.execute("INSERT OR IGNORE INTO host (name) VALUES (?)", (name,))
+            self.hosts[name] = self.database.execute("SELECT id FROM host WHERE name = ?", (name,)).fetchone()[0]
+        return self.hosts[name]
 
     def scenario_path(self, run: Run) -> str:
         return f"{self.runs}/{file_name(run.name)}.toml"
@@ -213,10 +225,12 @@ class Store:
         return f"{self.runs}/{file_name(name)}.images"
 
     def remove_files(self, name: str) -> None:
-        shutil.rmtree(self.images_path(name), ignore_errors=True)
-        for ending in ("toml", "trace.gz"):
-            with contextlib.suppress(FileNotFoundError):
-                os.unlink(f"{self.runs}/{file_name(name)}.{ending}")
+        stem = f"{self.runs}/{file_name(name)}"
+        for path in (f"{stem}.toml", f"{stem}.trace.gz"):
+            if os.path.lexists(path):
+                os.unlink(path)
+        if os.path.lexists(f"{stem}.images"):
+            shutil.rmtree(f"{stem}.images", ignore_errors=True)
 
     def commit(self, if_due: bool = False) -> None:
         """Ends a transaction: what it has is kept, whatever happens from then on."""
@@ -231,6 +245,10 @@ class Store:
             self.database.commit()
         finally:
             self.database.close()
+
+
+def compact(table: Mapping[str, Any]) -> str:
+    return json.dumps(table, default=str, separators=(",", ":"))
 
 
 def write_images(folder: str, images: Mapping[str, bytes]) -> None:
@@ -255,7 +273,7 @@ def reading(path: str) -> Iterator[sqlite3.Connection]:
 
 
 COLUMNS = (
-    "name", "outcome", *runs.COUNTS, "seconds", "attempts", "host", "parameters", "message", "hash", "compared", "trace",
+    "name", "outcome", *runs.COUNTS, "seconds", "processor", "attempts", "host", "parameters", "message", "hash", "compared", "trace",
     "digest",    "program", "checker", "number",
 )  # fmt: skip
 

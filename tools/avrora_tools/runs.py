@@ -1,4 +1,4 @@
-"""Where a run of a campaign takes place: on a worker of dask, or in a process of this machine.
+"""Where a run of a campaign takes place: in a process of this machine, or in one of a machine that a worker of dask is on.
 
 A worker gets the simulator, the images and the cases once, as a shipment, and then batches of jobs. A job is the text of
 a scenario, whose images are names of files of the shipment, the index of the check by which it is judged, and images of its
@@ -6,7 +6,8 @@ own by their names, which are all that it has where there are any.
 
 An answer is a dictionary: `outcome` is one of the words below, `message` says why, `counts` has how many rows of each
 kind the trace has, `hash` is that of the trace, both None where there is no whole trace; `compared` has how much of it was
-compared in each way; `seconds` is the time of the run and its checks, `trace` the trace in gzip's format or None, `again`
+compared in each way; `seconds` is the time of the run and its checks, `processor` what the simulator took of processors in it,
+in seconds, `trace` the trace in gzip's format or None, `again`
 whether another attempt can come to something else, and `trouble` whether it was the worker that failed. All of it is of
 Python's own kinds, so a client reads it whatever the worker has.
 """
@@ -14,22 +15,15 @@ import contextlib
 import dataclasses
 import gzip
 import hashlib
-import importlib.resources
 import io
 import os
-import pickle
 import shutil
-import socket
-import subprocess
 import tempfile
 import time
-import zipfile
 from collections.abc import Iterator, Sequence
-from importlib.abc import Traversable
 from typing import IO, Any, BinaryIO, cast
 
-import avrora_tools
-from avrora_tools import cases, comparisons, expectations
+from avrora_tools import calling, cases, comparisons, expectations
 from avrora_tools.errors import ToolError
 from avrora_tools.events import CLASH, ONE_BYTE
 from avrora_tools.scenarios import Scenario
@@ -137,6 +131,8 @@ class Bench:
         self.shipment, self.place = shipment, place
         self.folder = ""
         self.cases: dict[int, list[cases.Case]] = {}
+        self.images: dict[str, bytes] = {}  # that are in the folder of a run's own
+        self.caller = calling.Caller()
 
     def prove(self) -> str | None:
         """Unpacks what is not there, and runs a known scenario. None where it came out as it should, else why not."""
@@ -144,15 +140,15 @@ class Bench:
             self.unpack()
             with open(f"{self.folder}/{TRACE}", "w+b") as trace:
                 self.write_scenario(self.folder, PROOF_SCENARIO)
-                done = self.call(self.folder, ["run", SCENARIO], trace, PROOF_SECONDS)
+                ended = self.call(self.folder, ["run", SCENARIO], trace, PROOF_SECONDS)
                 trace.seek(0)
                 found = hashlib.sha256(trace.read()).digest()
         except OSError as fault:
             return described(fault)
-        except subprocess.TimeoutExpired:
+        except calling.TooLong:
             return f"the known scenario took more than {PROOF_SECONDS} s"
-        if done.returncode:
-            return f"the known scenario ended with status {done.returncode}: {said_by(done)}".rstrip(": ")
+        if ended.status:
+            return f"the known scenario ended with status {ended.status}: {ended.said}".rstrip(": ")
         if found != hashlib.sha256(PROOF_TRACE.encode()).digest():
             return "the known scenario came out otherwise than it should"
         return None
@@ -161,6 +157,7 @@ class Bench:
         """Writes the files of the shipment that are not there."""
         if not os.path.isdir(self.folder):
             self.folder = tempfile.mkdtemp(prefix="avrora-", dir=self.place)
+        self.images.clear()
         os.makedirs(f"{self.folder}/{OWN}", exist_ok=True)
         for name, content in [*self.shipment.files.items(), (PROOF_NAME, PROOF_IMAGE.encode())]:
             path = f"{self.folder}/{name}"
@@ -181,7 +178,7 @@ class Bench:
 
     def run(self, job: Job) -> Answer:
         """Runs a job. Raises Sick where it is the worker that cannot."""
-        start = time.monotonic()
+        start, used = time.monotonic(), self.caller.processor
         try:
             place = self.folder_for(job)
             with open(f"{place}/{TRACE}", "w+b") as trace:
@@ -198,6 +195,7 @@ class Bench:
             if reason:
                 raise Sick(reason)
         found["seconds"] = round(time.monotonic() - start, 4)
+        found["processor"] = round(self.caller.processor - used, 4)
         return found
 
     def folder_for(self, job: Job) -> str:
@@ -207,36 +205,28 @@ class Bench:
             return self.folder
         place = f"{self.folder}/{OWN}"
         for name, content in images.items():
-            with open(f"{place}/{name}", "wb") as file:
-                file.write(content)
+            if self.images.get(name) != content:
+                self.images.pop(name, None)
+                with named(f"{place}/{name}"), open(f"{place}/{name}", "wb") as file:
+                    file.write(content)
+                self.images[name] = content
         return place
 
     def write_scenario(self, place: str, text: str) -> None:
         with open(f"{place}/{SCENARIO}", "w", encoding="utf-8", errors="surrogateescape") as file:
             file.write(text)
 
-    def call(
-        self, place: str, words: Sequence[str], output: IO[bytes], seconds: float
-    ) -> "subprocess.CompletedProcess[bytes]":
+    def call(self, place: str, words: Sequence[str], output: IO[bytes], seconds: float) -> calling.Ended:
         """Runs the simulator in a folder."""
-        return subprocess.run(
-            [f"{self.folder}/{PROGRAM}", *words],
-            cwd=place,
-            stdin=subprocess.DEVNULL,
-            stdout=output,
-            stderr=subprocess.PIPE,
-            timeout=seconds,
-            check=False,
-        )
+        return self.caller.call(f"{self.folder}/{PROGRAM}", words, place, output, seconds)
 
     def said_at_end(self, place: str, words: Sequence[str], output: IO[bytes]) -> tuple[int, str]:
         """The status of a call of the simulator, and what it said. Raises NoAnswer where that is nothing of the scenario's:
         where another call may come to something else."""
         try:
-            done = self.call(place, words, output, self.shipment.timeout)
-        except subprocess.TimeoutExpired:
+            status, said = self.call(place, words, output, self.shipment.timeout)
+        except calling.TooLong:
             raise NoAnswer(answer(BROKEN, f"took more than {self.shipment.timeout} s", again=True)) from None
-        status, said = done.returncode, said_by(done)
         trouble = status in WORKER_FAULTS
         if trouble or status < 0 or status in MEMORY_FAULTS:
             raise NoAnswer(answer(BROKEN, f"status {status}: {said}", again=True, trouble=trouble))
@@ -281,18 +271,17 @@ class Bench:
             return f"status {status}: {said}" if status else None
 
         compared = {}
+        compares = comparisons.Place(place, SCENARIO, TRACE, call)
         for way in check.ways:
             try:
-                found = comparisons.WAYS[way](comparisons.Place(place, SCENARIO, TRACE, call))
+                found = comparisons.WAYS[way](compares)
             except ToolError as fault:
                 found = comparisons.Found(f"{way}: {fault}", 0)
             compared[way] = found.compared
             if found.difference:
                 failures.append(found.difference)
         judged = answer(FAILED if failures else PASSED, "\n".join(failures))
-        trace.seek(0)
-        judged["hash"] = hashlib.file_digest(cast(io.BufferedRandom, trace), "sha256").hexdigest()
-        judged["counts"] = counted(trace)
+        judged["hash"], judged["counts"] = looked_through(trace)
         judged["compared"] = compared
         return judged
 
@@ -317,6 +306,7 @@ def answer(outcome: str, message: str = "", again: bool = False, trouble: bool =
         "hash": None,
         "compared": None,
         "seconds": 0.0,
+        "processor": 0.0,
         "trace": None,
         "again": again,
         "trouble": trouble,
@@ -336,10 +326,6 @@ def described(fault: OSError) -> str:
     return f"{fault.filename}: {fault.strerror}" if fault.filename else str(fault.strerror or fault)
 
 
-def said_by(done: "subprocess.CompletedProcess[bytes]") -> str:
-    return done.stderr.decode(errors="replace").strip()
-
-
 def packed(trace: IO[bytes]) -> bytes:
     """A file in gzip's format, without a time in it."""
     trace.seek(0)
@@ -349,95 +335,13 @@ def packed(trace: IO[bytes]) -> bytes:
     return out.getvalue()
 
 
-def counted(trace: IO[bytes]) -> list[int]:
-    """How many rows of each kind the trace has, in the order of COUNTS; of those that heard, how many heard one byte, and
-    how many a clash."""
+def looked_through(trace: IO[bytes]) -> tuple[str, list[int]]:
+    """The hash of a trace, and how many rows of each kind it has, in the order of COUNTS; of those that heard, how many
+    heard one byte, and how many a clash."""
     trace.seek(0)
-    found = [0] * len(TELLING)
+    found, counts = hashlib.sha256(), [0] * len(TELLING)
     # Whole rows: in them each of these texts stands for a kind alone, as the text of an instruction has none of them.
     while block := trace.read(BLOCK) + trace.readline():
-        found = [count + block.count(text) for count, text in zip(found, TELLING)]
-    return found
-
-
-def package() -> bytes:
-    """This package as a zip from which Python imports it."""
-    archive = io.BytesIO()
-    with zipfile.ZipFile(archive, "w") as zipped:
-        for path, content in modules(importlib.resources.files(avrora_tools), avrora_tools.__name__):
-            zipped.writestr(path, content)
-    return archive.getvalue()
-
-
-def modules(folder: Traversable, path: str) -> Iterator[tuple[str, bytes]]:
-    """The path and the content of each module below a folder of the package."""
-    for it in folder.iterdir():
-        if it.is_dir():
-            yield from modules(it, f"{path}/{it.name}")
-        elif it.name.endswith(".py"):
-            yield f"{path}/{it.name}", it.read_bytes()
-
-
-def for_dask(name: str, shipment: Shipment) -> tuple[Any, Any, Any]:
-    """The plugin of dask that takes the shipment to each worker, and two functions to call there: one that proves the
-    worker, one that runs a batch.
-
-    The package goes with it, so a worker needs dask and nothing of this repository; what is pickled here for dask names no
-    module of the package.
-    """
-    from distributed import WorkerPlugin, get_worker
-
-    tools, packed_shipment = package(), pickle.dumps(shipment)
-
-    class Carrier(WorkerPlugin):  # type: ignore[misc]  # a local class, which is always pickled by value
-        """Makes a bench where the worker has its files, with this package in place of another version of it. Nothing is
-        written before the worker proves itself, so that what fails is told as its reason."""
-
-        def __init__(self) -> None:
-            self.name = name
-
-        def setup(self, worker: Any) -> None:
-            import threading
-
-            self.place, self.folder = worker.local_directory, ""
-            self.bench: Any = None
-            self.lock = threading.Lock()  # for a worker of several threads: its folder is for one run at a time
-
-        def teardown(self, worker: Any) -> None:
-            import shutil
-
-            shutil.rmtree(self.folder, ignore_errors=True)
-
-        def made(self) -> Any:
-            import importlib
-            import os
-            import pickle
-            import sys
-            import tempfile
-
-            self.folder = self.folder or tempfile.mkdtemp(prefix="avrora-", dir=self.place)
-            archive = os.path.join(self.folder, "tools.zip")
-            with open(archive, "wb") as file:
-                file.write(tools)
-            for module in [it for it in sys.modules if it.partition(".")[0] == "avrora_tools"]:
-                del sys.modules[module]
-            sys.path.insert(0, archive)
-            runs = importlib.import_module("avrora_tools.runs")
-            sys.path.remove(archive)
-            return runs.Bench(pickle.loads(packed_shipment), self.folder)
-
-        def prove(self) -> list[Any]:
-            import socket
-
-            with self.lock:
-                try:
-                    self.bench = self.bench or self.made()
-                    return [socket.gethostname(), self.bench.prove()]
-                except OSError as fault:
-                    return [socket.gethostname(), f"{fault.filename}: {fault.strerror}" if fault.filename else str(fault)]
-
-        def run_batch(self, jobs: Any) -> Any:
-            with self.lock:
-                return self.bench.run_batch(jobs)
-
-    return Carrier(), lambda: get_worker().plugins[name].prove(), lambda jobs: get_worker().plugins[name].run_batch(jobs)
+        found.update(block)
+        counts = [count + block.count(text) for count, text in zip(counts, TELLING)]
+    return found.hexdigest(), counts

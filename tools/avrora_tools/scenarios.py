@@ -92,10 +92,10 @@ class Scenario:
 
     @classmethod
     def of_text(cls, text: str, name: str, folder: str = "") -> "Scenario":
-        found = faults(text)
+        document, found = looked_through(text)
         if found:
             raise BadInput(f"{name}: scenario refused: {described(found[0])}")
-        return cls(toml.loads(text), folder)
+        return cls(document, folder)
 
 
 def described(fault: Fault) -> str:
@@ -106,15 +106,23 @@ def described(fault: Fault) -> str:
 
 def faults(text: str) -> list[Fault]:
     """All faults of a scenario's text, those of the cause that the simulator tells first."""
+    return looked_through(text)[1]
+
+
+def looked_through(text: str) -> tuple[dict[str, Any], list[Fault]]:
+    """The document of a scenario's text, as far as it is one, and its faults as `faults` gives them."""
     if len(text.encode()) > MAX_BYTES:
-        return [Fault("TooLong", "", 0, f"more than {MAX_BYTES:,} bytes")]
+        return {}, [Fault("TooLong", "", 0, f"more than {MAX_BYTES:,} bytes")]
     try:
         document = toml.loads(text)
     except toml.NotToml as fault:
-        return [Fault("NotToml", f"column {fault.column}" if fault.column else "", fault.line, printable(fault.why))]
-    check = Check(document, places(text.removeprefix(toml.BYTE_ORDER_MARK)))
+        return {}, [Fault("NotToml", f"column {fault.column}" if fault.column else "", fault.line, printable(fault.why))]
+    check = Check(document, {})
     check.all()
-    return sorted(check.found, key=lambda fault: (CAUSES.index(fault.cause), fault.line))
+    if check.found:  # the lines are sought where one is told
+        check = Check(document, places(text.removeprefix(toml.BYTE_ORDER_MARK)))
+        check.all()
+    return document, sorted(check.found, key=lambda fault: (CAUSES.index(fault.cause), fault.line))
 
 
 # A place in a scenario: a table's name ("" is the top), its number, a key ("" is the table itself).

@@ -4,6 +4,7 @@ What version 1.1 has more is written as version 1.0 has it before it is read: li
 tables, `\\e` and `\\xHH` in texts, times without seconds.
 """
 import bisect
+import contextlib
 import enum
 import re
 import tomllib
@@ -47,6 +48,12 @@ class Older(NamedTuple):
 def loads(text: str) -> dict[str, Any]:
     """The document of a text. Raises NotToml."""
     text = text.removeprefix(BYTE_ORDER_MARK).replace("\r\n", "\n")
+    # What version 1.0 takes says the same in 1.1, and nearly all texts are of it. A key of too many parts has as many dots.
+    if text.count(".") < MAX_KEYS:
+        with contextlib.suppress(ValueError, OverflowError, RecursionError):
+            document = tomllib.loads(text, parse_float=float_of)
+            fits(document)
+            return document
     older = as_version_1_0(text)
     try:
         document = tomllib.loads(older.text, parse_float=float_of)

@@ -125,7 +125,7 @@ class Counts(unittest.TestCase):
         )
         for size in range(1, len(rows) + 1):
             with mock.patch.object(runs, "BLOCK", size):
-                self.assertEqual(runs.counted(io.BytesIO(rows)), [1, 2, 1, 1, 1])
+                self.assertEqual(runs.looked_through(io.BytesIO(rows))[1], [1, 2, 1, 1, 1])
 
 
 class OneByOne(unittest.TestCase):

@@ -112,7 +112,7 @@ class TheReport(unittest.TestCase):
         campaign = TWO.replace("[20, 30]", "[20, 30, 100]")
         with folder(campaign) as path, store_of(path) as (read, store):
             for number, (seconds, sent) in enumerate(((2.0, 7), (9.0, 5), (3.0, 6))):
-                store.save(read.run(number), "digest", answer("passed", "", seconds, sent), "host", 1)
+                store.save(read.run(number), "d1" * 32, answer("passed", "", seconds, sent), "host", 1)
             names = "net latency=20", "net latency=30", "net latency=100"
             for by, reverse, expected in (
                 (None, False, (0, 1, 2)),
@@ -131,7 +131,7 @@ class TheReport(unittest.TestCase):
         """With characters that XML cannot have."""
         with folder(TWO.replace("[20, 30]", "[20, 30, 40]")) as path, store_of(path) as (read, store):
             for number, outcome in enumerate(("failed", "broken", "passed")):
-                store.save(read.run(number), "digest", answer(outcome, "first <&\x01\nsecond"), "host", 1)
+                store.save(read.run(number), "d1" * 32, answer(outcome, "first <&\x01\nsecond"), "host", 1)
             with open(f"{path}/junit.xml", "w", encoding="utf-8") as file:
                 reports.Report([store.database]).write_junit(file)
             suite = xml.etree.ElementTree.parse(f"{path}/junit.xml").getroot().find("testsuite")

@@ -3,6 +3,7 @@ import contextlib
 import glob
 import json
 import os
+import signal
 import socket
 import subprocess
 import sys
@@ -198,6 +199,11 @@ class Gone(Cluster):
         self.assertEqual((status, len(rows)), (0, 6), errors)
 
 
+def parent_of(process):
+    with open(f"/proc/{process}/stat", encoding="utf-8") as file:
+        return int(file.read().rpartition(")")[2].split()[1])
+
+
 class Killed(Cluster):
     RUNS = 60
     CAMPAIGN = CAMPAIGN.replace("[1, 3, 4, 20, 30]", f"{{ from = 100, to = {99 + RUNS} }}")
@@ -205,19 +211,28 @@ class Killed(Cluster):
     WORKERS = 3
 
     def worker_that_is_held(self):
-        """A worker that has a run under way which waits."""
-        return next((worker for worker in self.workers if os.path.exists(f"{self.path}/held-{worker.pid}")), None)
+        """A worker whose process has a run under way which waits, and that process."""
+        held = [int(name.removeprefix("held-")) for name in os.listdir(self.path) if name.startswith("held-")]
+        workers = {worker.pid: worker for worker in self.workers}
+        return next(((workers[parent_of(process)], process) for process in held), None)
 
     def test_a_worker(self):
+        self.assert_it_goes_on(lambda worker, _: worker.kill(), "the worker is gone")
+
+    def test_the_process_of_a_worker(self):
+        """The worker starts another one, which proves itself."""
+        self.assert_it_goes_on(lambda _, process: os.kill(process, signal.SIGKILL), "its process ended with status -9")
+
+    def assert_it_goes_on(self, kill, reason):
         campaign, said = self.start_campaign()
-        worker = wait_for(self.worker_that_is_held)
+        held = wait_for(self.worker_that_is_held)
         wait_for(lambda: stored(self.path) >= 5)
-        worker.kill()
+        kill(*held)
         at_kill = stored(self.path)
         let_go(self.path)
         status, text = self.ended(campaign, said)
         self.assertEqual(status, 0, text)
-        self.assertIn("the worker is gone", text)
+        self.assertIn(reason, text)
         self.assertLessEqual(at_kill, self.HELD - 100)
         rows = self.rows()
         self.assertEqual(

@@ -80,14 +80,13 @@ class Fates:
                 self.end(node, flights.popleft())
 
 
-class Reader:
-    """Goes through the rows of a trace."""
+class Samples:
+    """Goes through the rows of a trace, and checks its samples and sends."""
 
-    def __init__(self, scenario: Scenario, state: State | None, tells_clashes: bool) -> None:
+    def __init__(self, scenario: Scenario, state: State | None) -> None:
         self.scenario = scenario
-        self.tells_clashes = tells_clashes
         self.air = scenarios.Air(scenario)
-        self.fates = Fates(scenario)
+        self.life = self.air.reach + scenario.byte_time  # how long a byte can be heard after it was sent
         self.free: collections.Counter[int] = collections.Counter()  # the cycle from which on a node may send
         self.samples: collections.Counter[tuple[int, int]] = collections.Counter()
         self.sends: collections.Counter[int] = collections.Counter()
@@ -95,7 +94,6 @@ class Reader:
         self.has_state = state is not None
         for cycle, node, byte in state.sends if state else ():
             self.air.send(node, cycle, byte)
-            self.fates.send(node, cycle, counted=False)
         for node, one in enumerate(state.nodes if state else ()):
             self.free[node] = one["radio free"]
 
@@ -113,7 +111,6 @@ class Reader:
                 print(f"{cycle} node {node} stopped at {event.rest}")
         for node, count in enumerate(quiet):
             self.samples[node, NOTHING] += count
-        self.fates.end_all()
 
     def send(self, cycle: int, node: int, event: Sent) -> None:
         if cycle < self.free[node]:
@@ -121,9 +118,9 @@ class Reader:
         self.free[node] = cycle + self.scenario.byte_time
         self.sends[node] += 1
         self.air.send(node, cycle, event.byte)
-        self.fates.send(node, cycle)
 
-    def sample(self, trace: traces.Trace, cycle: int, node: int, event: Heard) -> None:
+    def sample(self, trace: traces.Trace, cycle: int, node: int, event: Heard) -> list[OnAir]:
+        """Checks a sample; the bytes that are on the air at it."""
         on_air = self.air.heard(node, cycle)
         status, byte, age = scenarios.answer(on_air, cycle)
         self.samples[node, event.status] += 1
@@ -131,16 +128,13 @@ class Reader:
             self.refuse_rest(trace, cycle)
             senders = ", ".join(map(shown, on_air)) or "nothing"
             self.fault(cycle, node, event, f"on the air is {senders}, so {status} {byte:02X} {age} is to be heard")
-        if status == event.status:
-            self.fates.hear(node, status, on_air)
-        if event.status == CLASH and self.tells_clashes:
-            print(f"{cycle} clash at node {node}: {', '.join(map(shown, on_air))}")
+        return on_air
 
     def refuse_rest(self, trace: traces.Trace, cycle: int) -> None:
         """Raises BadInput where what a sample heard may have been sent before the trace begins: where it may be that of
         `resume`, from a state that is not named, of an epoch's end before its first row."""
         epoch = (trace.first_row or 0) // traces.EPOCH * traces.EPOCH
-        if epoch and not self.has_state and epoch > cycle - self.fates.life:
+        if epoch and not self.has_state and epoch > cycle - self.life:
             raise BadInput(
                 f"{trace.name}: in cycle {cycle} a sample hears what no row sent, and the first row is of cycle "
                 f"{trace.first_row}: where it is the trace of `avrora resume`, name the state (--state)"
@@ -150,6 +144,34 @@ class Reader:
         self.faults += 1
         if self.faults <= MAX_TOLD:
             print(f"{cycle} node {node} {event.text}: {text}")
+
+
+class Reader(Samples):
+    """The same, and what became of the sends."""
+
+    def __init__(self, scenario: Scenario, state: State | None, tells_clashes: bool) -> None:
+        super().__init__(scenario, state)
+        self.tells_clashes = tells_clashes
+        self.fates = Fates(scenario)
+        for cycle, node, _ in state.sends if state else ():
+            self.fates.send(node, cycle, counted=False)
+
+    def read(self, trace: traces.Trace) -> None:
+        super().read(trace)
+        self.fates.end_all()
+
+    def send(self, cycle: int, node: int, event: Sent) -> None:
+        super().send(cycle, node, event)
+        self.fates.send(node, cycle)
+
+    def sample(self, trace: traces.Trace, cycle: int, node: int, event: Heard) -> list[OnAir]:
+        on_air = super().sample(trace, cycle, node, event)
+        status, _, _ = scenarios.answer(on_air, cycle)
+        if status == event.status:
+            self.fates.hear(node, status, on_air)
+        if event.status == CLASH and self.tells_clashes:
+            print(f"{cycle} clash at node {node}: {', '.join(map(shown, on_air))}")
+        return on_air
 
 
 def shown(one: OnAir) -> str:
