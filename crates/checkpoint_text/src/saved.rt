@@ -117,11 +117,7 @@ impl Model for Saved {
 
 impl Saved {
     /// The run before its first epoch, at the state's cycle.
-    pub fn new(
-        alloc: Global,
-        scenario: &Scenario,
-        state: &StateParts,
-    ) -> Result<Saved, NoMemory>
+    pub fn new(alloc: Global, scenario: &Scenario, state: &StateParts) -> Result<Saved, NoMemory>
         requires { CanResume scenario.now state.now }
         ensures { IfOk result (λ saved. saved ≡ record { scenario = scenario.now; state = state.now; floor = state.now.cycle; failed = false }) }
     {
