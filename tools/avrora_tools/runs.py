@@ -32,6 +32,7 @@ import avrora_tools
 from avrora_tools import cases, comparisons, expectations
 from avrora_tools.errors import ToolError
 from avrora_tools.events import CLASH, ONE_BYTE
+from avrora_tools.scenarios import Scenario
 
 PROGRAM = "avrora"  # the simulator's name in a shipment
 
@@ -251,20 +252,23 @@ class Bench:
                 return answer(REFUSED, said)
             if status:
                 return answer(BROKEN, f"status {status}: {said}")
-            return self.checked(check, place, trace)
+            return self.checked(check, scenario, place, trace)
         except NoAnswer as end:
             return end.answer
 
-    def checked(self, index: int, place: str, trace: IO[bytes]) -> Answer:
-        """Shows all cases the trace, and compares it in all ways; the first failure of each is told."""
+    def checked(self, index: int, scenario: str, place: str, trace: IO[bytes]) -> Answer:
+        """Shows all cases the trace of a scenario, and compares it in all ways; the first failure of each is told."""
         check = self.shipment.checks[index]
+        window: range | None = None
+        with contextlib.suppress(ToolError):  # whether it is a scenario the simulator says
+            window = range(*Scenario.of_text(scenario, "the scenario").window)
         if index not in self.cases:
             self.cases[index] = [self.case(shipped) for shipped in check.cases]
         failures = []
         for shipped, case in zip(check.cases, self.cases[index]):
             trace.seek(0)
             try:
-                failure = expectations.check(case, cast(BinaryIO, trace)).failure
+                failure = expectations.check(case, cast(BinaryIO, trace), window=window).failure
             except ToolError as fault:
                 return answer(BROKEN, f"{shipped.path}: {fault}")
             if failure:

@@ -367,6 +367,15 @@ class WithoutDask(Outcomes, unittest.TestCase):
             _, _, errors, rows = run_campaign(path)
             self.assertIn("differs from two.rows", rows["net latency=30"]["message"], errors)
 
+    def test_the_window_of_the_scenario(self):
+        """A case may say that instructions do not come in the scenario's window, and nothing of them outside of it."""
+        scenario = SCENARIO.replace("latency", "window = [0, 100]\nlatency")
+        campaign = CAMPAIGN.replace("[1, 3, 4, 20, 30]", "[30]")
+        for span, outcome in (("0..99", "passed"), ("200..300", "broken")):
+            with self.subTest(span), folder(campaign, f"within {span}: never * 0 instr *\n", scenario) as path:
+                _, _, errors, rows = run_campaign(path)
+                self.assertEqual(rows["net latency=30"]["outcome"], outcome, errors)
+
     def test_two_at_once(self):
         with folder() as path:
             env = {**os.environ, "CAMPAIGN_LOG": f"{path}/log", "CAMPAIGN_HELD": "0", **hidden_dask(path)}
