@@ -354,9 +354,11 @@ class Air:
             self.into[link.hearer].append(link)
         self.reach = max([scenario.latency, *(link.latency for link in scenario.links)])
         self.sends: dict[int, collections.deque[tuple[int, int]]] = collections.defaultdict(collections.deque)
+        self.silent_from = 0  # from this cycle on nobody hears any of them
 
     def send(self, node: int, cycle: int, byte: int) -> None:
         """Records a send, and forgets those of the node that nobody hears any more."""
+        self.silent_from = max(self.silent_from, cycle + self.reach + self.byte_time)
         sends = self.sends[node]
         while sends and sends[0][0] + self.reach + self.byte_time <= cycle:
             sends.popleft()
@@ -365,6 +367,8 @@ class Air:
     def heard(self, hearer: int, cycle: int) -> list[OnAir]:
         """The bytes that a sample of the node `hearer` in `cycle` hears, by sender. Sends of its cycle and of later
         ones change nothing, so they may be recorded or not."""
+        if cycle >= self.silent_from:
+            return []
         found = []
         for link in self.into[hearer]:
             for sent, byte in reversed(self.sends[link.sender]):

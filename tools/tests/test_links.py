@@ -40,6 +40,14 @@ class Links(unittest.TestCase):
         with scratch("net.toml", SCENARIO) as scenario:
             return run_tool("links", *words, scenario, "-", stdin=trace)
 
+    def test_without_a_sample(self):
+        """A check that looked at nothing is not met."""
+        silent = "".join(line for line in TRACE.splitlines(keepends=True) if " heard " not in line)
+        status, out, err = self.links(silent)
+        self.assertEqual(status, 2)
+        self.assertNotIn("is what the sends give", out)
+        self.assertIn("standard input: no node samples the air", err)
+
     def test_fates(self):
         status, out, err = self.links(TRACE)
         self.assertEqual((status, err), (0, ""))

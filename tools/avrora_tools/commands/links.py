@@ -20,8 +20,8 @@ DESCRIPTION = """Tells what became of the bytes on each link of a scenario:
 and what the samples of each node heard. It checks each sample against the sends of the trace, by the rules of
 docs/AIR.md with the scenario's latencies and spans, and that each node sends a byte at a time. The trace must be
 whole, with an end row of each node of the scenario; or with --state that of `avrora resume` from that state, which
-knows what was on the air. Status 0: all samples are as they should be; 1: one is not; 2: no scenario, or no whole
-trace of it."""
+knows what was on the air. Status 0: all samples are as they should be; 1: one is not; 2: no scenario, no whole
+trace of it, or one without any sample, of which nothing can be checked."""
 
 MAX_TOLD = 10  # samples at fault that are told, of any number
 
@@ -100,13 +100,19 @@ class Reader:
             self.free[node] = one["radio free"]
 
     def read(self, trace: traces.Trace) -> None:
+        quiet = [0] * len(self.scenario.images)  # samples that hear nothing while nothing can be heard
         for cycle, node, event in trace:
             if isinstance(event, Heard):
-                self.sample(trace, cycle, node, event)
+                if event.status == NOTHING and cycle >= self.air.silent_from:
+                    quiet[node] += 1
+                else:
+                    self.sample(trace, cycle, node, event)
             elif isinstance(event, Sent):
                 self.send(cycle, node, event)
             elif isinstance(event, Stop):
                 print(f"{cycle} node {node} stopped at {event.rest}")
+        for node, count in enumerate(quiet):
+            self.samples[node, NOTHING] += count
         self.fates.end_all()
 
     def send(self, cycle: int, node: int, event: Sent) -> None:
@@ -218,6 +224,8 @@ def run(arguments: argparse.Namespace) -> int:
     if arguments.map:
         draw_map(arguments, reader)
     total, sends = sum(reader.samples.values()), sum(reader.sends.values())
+    if not total and not reader.faults:
+        raise BadInput(f"{trace.name}: no node samples the air, so nothing tells whether what they hear is right")
     if reader.faults:
         print(f"\n{reader.faults:,} of {total:,} samples and {sends:,} sends are not as they should be")
         return Status.NOT_MET

@@ -147,6 +147,7 @@ class Dump:
         self.writer, self.nodes, self.byte_time, self.window = writer, nodes, byte_time, window
         self.programs = all_programs
         self.naps: set[int] = set()  # nodes whose sleep waits to begin
+        self.last_heard: dict[int, Heard] = {}
 
     def read(self, cycle: int, node: int, event: Event) -> None:
         if self.window and cycle >= self.window[1]:
@@ -203,10 +204,12 @@ class Dump:
 
     def read_heard(self, node: int, event: Heard) -> None:
         put = self.writer.put
-        put(node, "heard_status", event.status)
-        put(node, "heard_byte", event.byte)
-        put(node, "heard_age", event.age)
-        put(node, "clash", int(event.status == CLASH))
+        if self.last_heard.get(node) is not event:
+            self.last_heard[node] = event
+            put(node, "heard_status", event.status)
+            put(node, "heard_byte", event.byte)
+            put(node, "heard_age", event.age)
+            put(node, "clash", int(event.status == CLASH))
         put(node, "sample", 1)
 
 
