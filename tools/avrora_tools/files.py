@@ -95,7 +95,10 @@ def whole_file(path: str, binary: bool = False, lasting: bool = True) -> Iterato
         return
     path = os.path.realpath(path)
     folder = os.path.dirname(path)
-    handle, name = tempfile.mkstemp(dir=folder, prefix=f".{os.path.basename(path)}."[:100])
+    try:
+        handle, name = tempfile.mkstemp(dir=folder, prefix=f".{os.path.basename(path)}."[:100])
+    except OSError as fault:  # which names the file that was to become `path`
+        raise OSError(fault.errno, fault.strerror, path) from None
     try:
         with open_to_write(handle, binary) as file:
             yield file

@@ -249,7 +249,7 @@ class Bench:
     def checked(self, index: int, scenario: str, place: str, trace: IO[bytes]) -> Answer:
         """Shows all cases the trace of a scenario, and compares it in all ways; the first failure of each is told."""
         check = self.shipment.checks[index]
-        window = None
+        window: range | None = None
         with contextlib.suppress(ToolError):  # whether it is a scenario the simulator says
             window = range(*Scenario.of_text(scenario, "the scenario").window)
         if index not in self.cases:

@@ -192,6 +192,11 @@ class WholeFiles(unittest.TestCase):
                 self.assertEqual(file.read(), "after")
             self.assertEqual(os.listdir(os.path.dirname(path)), ["out"])
 
+    def test_a_folder_that_is_not_there(self):
+        """What is named is the file that was asked for."""
+        status, _, err = run_tool("timeline", "-o", "/nowhere/page.html", f"{DATA}/relay.trace")
+        self.assertEqual((status, err), (3, "avrora-tools timeline: /nowhere/page.html: No such file or directory\n"))
+
     def test_what_is_no_file_stays(self):
         """A device or a pipe is written to, and is not replaced; nor is a link."""
         with scratch("target", "before") as path:
