@@ -13,6 +13,7 @@ use std::io;
 use std::process::ExitCode;
 use std::sync::Wait;
 use std::thread::Threads;
+use std::time::Clock;
 use stored_cases::{Failed, write_line};
 
 // A file of cases of a node's parts.
@@ -38,7 +39,7 @@ fn do_parts<R: Files + AllocGlobal, O: Sink>(
 }
 
 // A file of cases of the air, or one of a node's parts; of `trials`, a trial in the place of a file.
-fn do_air<R: Threads + Wait + Files + AllocGlobal + Sync, O: Sink>(
+fn do_air<R: Threads + Wait + Files + Clock + AllocGlobal + Sync, O: Sink>(
     rt: &R,
     kind: &str,
     file: &str,
@@ -54,7 +55,7 @@ fn do_air<R: Threads + Wait + Files + AllocGlobal + Sync, O: Sink>(
 }
 
 // A file of cases of whole calls, or one of what stands below them.
-fn do_calls<R: Threads + Wait + Files + AllocGlobal + Sync, O: Sink>(
+fn do_calls<R: Threads + Wait + Files + Clock + AllocGlobal + Sync, O: Sink>(
     rt: &R,
     kind: &str,
     file: &str,
@@ -70,7 +71,7 @@ fn do_calls<R: Threads + Wait + Files + AllocGlobal + Sync, O: Sink>(
 }
 
 // What one word asks for.
-fn do_word<R: Threads + Wait + Files + AllocGlobal + Sync, O: Sink>(
+fn do_word<R: Threads + Wait + Files + Clock + AllocGlobal + Sync, O: Sink>(
     rt: &R,
     word: &str,
     out: &mut O,
@@ -84,7 +85,7 @@ fn do_word<R: Threads + Wait + Files + AllocGlobal + Sync, O: Sink>(
 }
 
 // Each word after the program's name, under a line that names it. It answers whether the last one was `refused`.
-fn do_words<R: Env + Threads + Wait + Files + AllocGlobal + Sync, O: Sink>(
+fn do_words<R: Env + Threads + Wait + Files + Clock + AllocGlobal + Sync, O: Sink>(
     rt: &R,
     out: &mut O,
 ) -> Result<bool, Failed> {

@@ -14,7 +14,7 @@ use std::marker::PhantomData;
 use std::sync::Wait;
 use std::sync::atomic::{AtomicU64, Ordering};
 use std::thread;
-use std::thread::{Promise, PromisedHandle, Scope, Threads};
+use std::thread::{Promise, PromisedHandle, Scope, SpawnError, Threads};
 
 /// The number of no node: none was refused yet.
 const NOBODY: u64 = u64::MAX;
@@ -146,6 +146,25 @@ fn rotate<N: Session, R: Wait, G: Gate>(
     unreachable!()
 }
 
+// A thread of the scope for a node, unless the gate refuses it, or the system.
+fn spawn<'s, E, G: Gate, P: Promise<T> + Drop, F: FnOnce() -> T + Send + 's, T: Send + Drop + 's>(
+    scope: &Scope<'s, E>,
+    gate: &G,
+    node: u8,
+    promise: P,
+    job: F,
+) -> Result<PromisedHandle<T, P>, SpawnError<F>>
+    requires runs { F.pre job }
+    requires keeps { (r : T) → F.post job r → P.kept_by promise r }
+    ensures ok { IfOk result (λ h. h.promise ≡ promise) }
+    ensures err { IfErr result (λ e. e.value ≡ job) }
+{
+    if gate.refuses(node) {
+        return Err(SpawnError { value: job });
+    }
+    scope.spawn_with(promise, job)
+}
+
 // A thread that takes the node to the end of the epoch. Else the node comes back as it is: where it goes on no more in
 // this epoch, so that a thread would only cost, and where none was found for it.
 fn begin<'s, E, N: Session + Send + Sync, R: Threads + Wait + Sync, G: Gate + Sync>(
@@ -172,7 +191,7 @@ fn begin<'s, E, N: Session + Send + Sync, R: Threads + Wait + Sync, G: Gate + Sy
         end,
         of: PhantomData,
     };
-    match scope.spawn_with(promise, move || {
+    match spawn(scope, gate, number, promise, move || {
         work_unless_refused(rt, shared, gate, scenario, refused, end, member)
     }) {
         Ok(child) => Ok(child),

@@ -17,9 +17,6 @@ use std::sync::Wait;
 use std::time::Duration;
 use world_core::World;
 
-// The longest sleep of one call, in milliseconds: how late a halt is seen.
-const LONGEST_SLEEP: u64 = 10;
-
 // What a want word shows while nobody waits: a cycle that no clock passes.
 const NOBODY: u64 = u64::MAX;
 
@@ -41,7 +38,7 @@ pub(crate) type Words<W> = Table<(), View, Snapshot<W>, ClockRule, Global>;
 /// the sleep ends at once too, or begins at a want that is no higher than its own, and so is passed no later. (The
 /// system compares the low half of the word. The wants of one epoch lie closer than that, and one of an earlier epoch
 /// is below the clock, so the node's next raise clears it; a want whose low half is that of `NOBODY`, one in each
-/// 4,294,967,296 cycles, could sleep for its 10 ms.)
+/// 4,294,967,296 cycles, could sleep for its longest time.)
 pub struct Clocks<W: World> {
     table: Words<W>,
     nodes: u8,
@@ -202,9 +199,16 @@ impl<W: World> Clocks<W> {
         lower::<_, Want>(&self.table, &mut seat.seat, word, cycle).min(cycle)
     }
 
-    /// Sleeps until the clock of a node has passed this cycle, and for 10 ms at most. It may return at any time, as it
-    /// does where there is no such node, and nothing follows from it.
-    pub fn sleep_until_past<R: Wait>(&self, rt: &R, seat: &mut NodeSeat, node: u8, cycle: u64)
+    /// Sleeps until the clock of a node has passed this cycle, and for so many milliseconds at most. It may return at any
+    /// time, as it does where there is no such node, and nothing follows from it.
+    pub fn sleep_until_past<R: Wait>(
+        &self,
+        rt: &R,
+        seat: &mut NodeSeat,
+        node: u8,
+        cycle: u64,
+        longest: u64,
+    )
         requires { seat.old.table ≡ self.now.table }
         ensures { seat.new ≡ seat.old }
     {
@@ -214,7 +218,7 @@ impl<W: World> Clocks<W> {
         let wanted = self.want(seat, node, cycle);
         if self.table.shared.peek(clock_word(node)) <= cycle {
             let low_half = (wanted & u64::from(u32::MAX)) as u32;
-            let longest = Duration::from_millis(LONGEST_SLEEP);
+            let longest = Duration::from_millis(longest);
             self.table
                 .shared
                 .park_timeout(rt, want_word(self.nodes, node), low_half, longest);

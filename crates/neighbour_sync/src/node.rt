@@ -3,11 +3,14 @@ use crate::NodeSeat;
 use crate::answers::{SampleAttempt, SampleOutcome};
 use crate::session::Session;
 use crate::shared::Shared;
-use crate::steps::{record, see_posted, try_once};
+use crate::steps::{post_once, post_until_seen, try_once};
 use air_base::Send;
 use std::marker::Model;
 use std::sync::{Arc, Wait};
 use world_core::{Topo, World};
+
+// The longest sleep of one call, in milliseconds: how late a halt is seen.
+const LONGEST_SLEEP: u64 = 10;
 
 /// A node's part of the air: its seat at the clock words, and the topology, by which it sees for whom it has to wait.
 /// All nodes hold one topology together.
@@ -36,7 +39,7 @@ impl Model for NodeAir {
 }
 
 impl NodeAir {
-    ghost use Rattle.std.specs.Prelude.{◌≡◌, ◌+◌, ◌≤◌, ◌<◌};
+    ghost use Rattle.std.specs.Prelude.{◌≡◌, ◌+◌, ◌≤◌, ◌<◌, true};
     ghost use Rattle.std.specs.Arc.{arc_value};
     ghost use Rattle.std.specs.List.{Contains};
     ghost use Rattle.world_core.specs.Sends.{sends_below, IsSendNumber};
@@ -87,8 +90,28 @@ impl NodeAir {
     }
 
     /// Posts a send of the node, which is number `number` of its sends, counted from 0, and lies below the session's
-    /// floor and an epoch. It posts under the lock until the send stands in the record, and then looks until it sees
-    /// that, so that the node's next raise may pass it. It takes no memory.
+    /// floor and an epoch, by one try under the lock, and looks once whether it is counted: if so, the node's next raise
+    /// may pass it. It takes no memory. Where all its sends before that one are posted it is counted, which no clause
+    /// says.
+    pub fn try_post<W: World, N: Session, R: Wait>(
+        &mut self,
+        rt: &R,
+        shared: &Shared<W, N>,
+        send: Send,
+        number: u64,
+    ) -> bool
+        requires session { (self.old.table ≡ N.table) × (self.old.world ≡ N.world) }
+        requires node { send.node ≡ self.old.number }
+        requires number { IsSendNumber N.world number send }
+        requires early { send.cycle < N.floor + epoch }
+        ensures told { result ≡ true → number < self.new.told }
+        ensures rises { self.old.told ≤ self.new.told }
+        ensures same { self.new ≡ node_told self.old self.new.told }
+    {
+        post_once(rt, shared, &mut self.seat, send, number)
+    }
+
+    /// The same, again and again until the send is counted.
     pub fn post<W: World, N: Session, R: Wait>(
         &mut self,
         rt: &R,
@@ -104,8 +127,7 @@ impl NodeAir {
         ensures rises { self.old.told ≤ self.new.told }
         ensures same { self.new ≡ node_told self.old self.new.told }
     {
-        record(rt, shared, send, number);
-        see_posted(rt, shared.clocks(), &mut self.seat, number);
+        post_until_seen(rt, shared, &mut self.seat, send, number);
     }
 
     /// Tries to take one of the node's samples, not below the session's floor. It looks at the halt first, then at the
@@ -142,7 +164,7 @@ impl NodeAir {
         let last = cycle.saturating_sub(latency);
         shared
             .clocks()
-            .sleep_until_past(rt, &mut self.seat, node, last);
+            .sleep_until_past(rt, &mut self.seat, node, last, LONGEST_SLEEP);
     }
 
     /// Takes one of the node's samples, not below the session's floor, as soon as the nodes that it may hear are far

@@ -1,46 +1,59 @@
 // The steps of a node that take the lock, or wait until its words show what was done under it.
-ghost use Rattle.std.specs.Prelude.{◌≡◌, ◌+◌, ◌≤◌, ◌<◌};
+ghost use Rattle.std.specs.Prelude.{◌≡◌, ◌+◌, ◌≤◌, ◌<◌, true};
 ghost use Rattle.std.specs.List.{Contains};
 ghost use Rattle.world_core.specs.Sends.{IsSendNumber};
 ghost use Rattle.neighbour_sync.specs.Seats.{node_told};
 ghost use Rattle.world_core.specs.Kept.{epoch};
 ghost use Rattle.neighbour_sync.specs.Tries.{IsTried};
 
+use crate::NodeSeat;
 use crate::answers::SampleAttempt;
 use crate::looking::first_behind;
 use crate::session::Session;
 use crate::shared::Shared;
-use crate::{Clocks, NodeSeat, Posted};
 use air_base::{Sampled, Send};
 use crossbeam_utils::Backoff;
 use std::sync::Wait;
 use world_core::{Topo, World};
 
-/// Posts a send under the lock until it stands in the record.
-pub fn record<W: World, N: Session, R: Wait>(rt: &R, shared: &Shared<W, N>, send: Send, number: u64)
+/// Posts a send under the lock, and looks once whether the node's sent word counts it.
+pub fn post_once<W: World, N: Session, R: Wait>(
+    rt: &R,
+    shared: &Shared<W, N>,
+    seat: &mut NodeSeat,
+    send: Send,
+    number: u64,
+) -> bool
+    requires table { seat.old.table ≡ N.table }
     requires number { IsSendNumber N.world number send }
     requires early { send.cycle < N.floor + epoch }
+    ensures told { result ≡ true → number < seat.new.told }
+    ensures rises { seat.old.told ≤ seat.new.told }
+    ensures same { seat.new ≡ node_told seat.old seat.new.told }
 {
-    let backoff = Backoff::new();
-    for _ in rt.forever() {
-        match shared.post(rt, send, number) {
-            Posted::Added | Posted::There => return,
-            Posted::Early { .. } => backoff.snooze(),
-        }
-    }
-    unreachable!()
+    // Whatever it answers, the word shows how many stand there.
+    let _ = shared.post(rt, send, number);
+    shared.clocks().see_sent(seat) > number
 }
 
-/// Looks at the node's sent word until that counts the send of this number.
-pub fn see_posted<W: World, R: Wait>(rt: &R, clocks: &Clocks<W>, seat: &mut NodeSeat, number: u64)
-    requires table { seat.old.table ≡ clocks.now.table }
+/// The same, again and again until the word counts it.
+pub fn post_until_seen<W: World, N: Session, R: Wait>(
+    rt: &R,
+    shared: &Shared<W, N>,
+    seat: &mut NodeSeat,
+    send: Send,
+    number: u64,
+)
+    requires table { seat.old.table ≡ N.table }
+    requires number { IsSendNumber N.world number send }
+    requires early { send.cycle < N.floor + epoch }
     ensures told { number < seat.new.told }
     ensures rises { seat.old.told ≤ seat.new.told }
     ensures same { seat.new ≡ node_told seat.old seat.new.told }
 {
     let backoff = Backoff::new();
     for _ in rt.forever() {
-        if clocks.see_sent(seat) > number {
+        if post_once(rt, shared, seat, send, number) {
             return;
         }
         backoff.snooze();

@@ -2,9 +2,10 @@
 //! many calls on one thread, for `bench/clocks.sh`, `bench/shared.sh` and `bench/air.sh`.
 //!
 //! - `clocks`: one node raises its clock through a million cycles, and another one looks at it all the while.
+//! - `wakes:N`: two nodes wait for each other in each of so many cycles. None of them is to sleep until its time is up.
 //! - `load:N`, `peek:N`, `raise:N`: so many of these calls on clock words.
-//! - `post:N`, `sample:N`, `both:N`: so many rounds in which node 0 posts a thousand bytes; and node 1 samples each of
-//!   them, behind it on one thread, or beside it on another one.
+//! - `post:N`, `sample:N`, `both:N`: so many rounds in which node 0 posts a thousand bytes, in `post` each by one try;
+//!   and node 1 samples each of them, behind it on one thread, or beside it on another one.
 //! - `front:SENDS:SAMPLES`, `all:SENDS:SAMPLES`: so many samples of 64 nodes that have sent so many bytes each, at the
 //!   newest sends or drawn over all of them.
 #![tactic(auto)]
@@ -20,15 +21,17 @@ mod world;
 use sim_io::Sink;
 use std::sync::Wait;
 use std::thread::Threads;
+use std::time::Clock;
 use stored_cases::{Failed, write_line};
 
-// What comes of a trial. `None` where there is none of this name, or there was no memory.
-fn line_of<R: Threads + Wait + AllocGlobal + Sync>(rt: &R, trial: &str) -> Option<String> {
+// What comes of a trial. `None` where there is none of this name, it went wrong, or there was no memory.
+fn line_of<R: Threads + Wait + Clock + AllocGlobal + Sync>(rt: &R, trial: &str) -> Option<String> {
     if trial == "clocks" {
         return clocks::on_threads(rt);
     }
     let (call, numbers) = trial.split_once(':')?;
     match call {
+        "wakes" => clocks::in_turns(rt, numbers.parse().ok()?),
         "load" | "peek" | "raise" => clocks::on_one(rt.alloc(), call, numbers.parse().ok()?),
         "front" => samples::counted(rt.alloc(), false, numbers),
         "all" => samples::counted(rt.alloc(), true, numbers),
@@ -37,7 +40,7 @@ fn line_of<R: Threads + Wait + AllocGlobal + Sync>(rt: &R, trial: &str) -> Optio
 }
 
 /// Does a trial, and writes what came of it.
-pub fn do_trial<R: Threads + Wait + AllocGlobal + Sync, O: Sink>(
+pub fn do_trial<R: Threads + Wait + Clock + AllocGlobal + Sync, O: Sink>(
     rt: &R,
     trial: &str,
     out: &mut O,

@@ -17,6 +17,24 @@ pub fn are_early(sends: &[Send], floor: u64) -> bool
     sends.iter().all(|s| s.cycle.saturating_sub(floor) < EPOCH)
 }
 
+/// Posts all sends of a node, each by one try, up to one that is not counted by it.
+pub fn post_each<N: Session, R: Wait>(
+    rt: &R,
+    shared: &Shared<ListWorld, N>,
+    mut node: NodeAir,
+    sends: &[Send],
+)
+    requires session { (node.table ≡ N.table) × (node.world ≡ N.world) }
+    requires sends { sends.now ≡ sends_of node.number N.world.sends }
+    requires early { All (λ x. x.cycle < N.floor + epoch) sends.now }
+{
+    for place in 0..sends.len() {
+        if !node.try_post(rt, shared, sends[place], place as u64) {
+            return;
+        }
+    }
+}
+
 /// Posts all sends of a node, and raises its clock past each of them as soon as it is posted.
 pub fn send_all<N: Session, R: Wait>(
     rt: &R,

@@ -7,7 +7,7 @@ ghost use Rattle.neighbour_sync.specs.Seats.{AreFirstNodes, first_node};
 ghost use Rattle.world_core.specs.Kept.{epoch};
 ghost use Rattle.neighbour_sync.specs.Parts.{AreParts};
 
-use crate::nodes::{are_early, sample_all, send_all};
+use crate::nodes::{are_early, post_each, sample_all, send_all};
 use crate::world::line_world;
 use air_base::Send;
 use air_cases::own_sends;
@@ -25,7 +25,7 @@ const BYTES: u64 = 1_000;
 // What the nodes do.
 #[derive(Clone, Copy)]
 enum Work {
-    /// Node 0 posts.
+    /// Node 0 posts, each byte by one try.
     Post,
     /// Node 0 posts, and then node 1 samples.
     Sample,
@@ -80,8 +80,7 @@ fn in_session<N: Session + std::marker::Send + Sync, R: Threads + Wait + Sync>(
     let (first, second) = nodes;
     let heard = match work {
         Work::Post => {
-            // The node that comes back sends nothing more.
-            let _ = send_all(rt, &shared, world, first, sends);
+            post_each(rt, &shared, first, sends);
             0
         }
         Work::Sample => {
@@ -130,7 +129,8 @@ fn at_once<N: Session + std::marker::Send + Sync, R: Threads + Wait + Sync>(
     heard
 }
 
-// One round on a new air of this world. `None` where there is no memory, or the world has other nodes than two.
+// One round on a new air of this world. `None` where there is no memory, the world has other nodes than two, or not all
+// sends were recorded.
 fn run_round<R: Threads + Wait + Sync>(
     rt: &R,
     alloc: Global,
@@ -148,6 +148,9 @@ fn run_round<R: Threads + Wait + Sync>(
     }
     let nodes = two_of(&clocks, nodes)?;
     let (air, heard) = in_session::<Brand, R>(rt, clocks, air, world, nodes, &sends, work);
+    if air.sends().len() != sends.len() {
+        return None;
+    }
     Some(Round {
         sends: air.sends().len(),
         samples: air.samples().len(),
@@ -165,7 +168,8 @@ fn work_of(word: &str) -> Option<Work> {
     }
 }
 
-/// What comes of the last of so many rounds of `post`, `sample` or `both`. `None` where there was no memory.
+/// What comes of the last of so many rounds of `post`, `sample` or `both`. `None` where there was no memory, or a send
+/// was not recorded.
 pub fn run_rounds<R: AllocGlobal + Threads + Wait + Sync>(
     rt: &R,
     word: &str,

@@ -22,7 +22,7 @@ pub struct Words {
     ghost worlds: { (air.world ≡ clocks.world) × (first.world ≡ clocks.world) × (second.world ≡ clocks.world) },
     ghost nodes: { clocks.world.topo.nodes ≡ 2 },
     ghost silent: { clocks.world.sends ≡ [] },
-    ghost start: { first.clock ≡ 0 },
+    ghost start: { (first.clock ≡ 0) × (second.clock ≡ 0) },
 }
 
 // A world of two nodes that send nothing, up to this cycle.

@@ -1,11 +1,14 @@
-// Gates that hold a node at a turn until another one has come far enough, and note what they are told.
+// Gates that hold a node at a turn until another one has come far enough, or refuse it its thread, and note what they
+// are told.
 use fleet_threads::Gate;
 use std::sync::Wait;
 use std::sync::atomic::{AtomicBool, AtomicU64, Ordering};
 use std::thread;
+use std::time::Duration;
 
-// How often a gate that holds a node looks, at most.
-const LOOKS: u32 = 100_000_000;
+// How often a gate that holds a node looks, at most: each millisecond, so for ten seconds at least. What it waits for
+// comes in a few.
+const LOOKS: u32 = 10_000;
 
 // How often the gate that watches for a turn too early looks.
 const WATCHED_LOOKS: u32 = 1_000_000;
@@ -18,7 +21,11 @@ const TURNS: usize = 4;
 pub struct Told {
     // node 0 first
     turns: [AtomicBool; 8],
+    // how many nodes were told to begin their turn 0
+    begun: AtomicU64,
     gave_up: AtomicBool,
+    // what nobody changes, to sleep on
+    still: AtomicU64,
 }
 
 impl Told {
@@ -35,7 +42,9 @@ impl Told {
                 AtomicBool::new(false),
                 AtomicBool::new(false),
             ],
+            begun: AtomicU64::new(0),
             gave_up: AtomicBool::new(false),
+            still: AtomicU64::new(0),
         }
     }
 
@@ -47,6 +56,9 @@ impl Told {
     }
 
     fn note(&self, node: u8, turn: u64) {
+        if turn == 0 {
+            self.begun.fetch_add(1, Ordering::SeqCst);
+        }
         if let Some(flag) = self.flag(node, turn) {
             flag.store(true, Ordering::SeqCst);
         }
@@ -65,30 +77,77 @@ impl Told {
         self.gave_up.load(Ordering::SeqCst)
     }
 
+    // Sleeps for a millisecond. Whether the caller is to look again: no gate has given up.
+    fn nap<R: Wait>(&self, rt: &R) -> bool {
+        self.still.park_timeout(rt, 0, Duration::from_millis(1));
+        !self.gave_up()
+    }
+
     // Holds the caller until this node is told to begin this turn.
-    fn hold_until(&self, node: u8, turn: u64) {
+    fn hold_until<R: Wait>(&self, rt: &R, node: u8, turn: u64) {
         for _ in 0..LOOKS {
-            if self.has(node, turn) {
+            if self.has(node, turn) || !self.nap(rt) {
                 return;
             }
-            thread::yield_now();
+        }
+        self.gave_up.store(true, Ordering::SeqCst);
+    }
+
+    // Holds the caller until so many nodes were told to begin their turn 0.
+    fn hold_for<R: Wait>(&self, rt: &R, nodes: u64) {
+        for _ in 0..LOOKS {
+            if self.begun.load(Ordering::SeqCst) >= nodes || !self.nap(rt) {
+                return;
+            }
         }
         self.gave_up.store(true, Ordering::SeqCst);
     }
 }
 
-/// Holds each of the nodes 0 and 1 at its turn 0 until the other's turn 0 is told: so both are under way at once.
+/// Holds each node at its turn 0 until those of all nodes are told: so all of them are under way at once.
 #[derive(Drop)]
-pub struct BothBegin<'t>(pub &'t Told);
+pub struct AllBegin<'t> {
+    pub told: &'t Told,
+    /// How many nodes there are.
+    pub nodes: u64,
+    /// The node that is refused its thread, if there is one of this number.
+    pub refused: u8,
+}
 
-impl<'t> Gate for BothBegin<'t> {
+impl<'t> Gate for AllBegin<'t> {
     fn reached<R: Wait>(&self, rt: &R, node: u8, turn: u64) {
-        // It looks again and again, and does not sleep.
-        let _ = rt;
-        self.0.note(node, turn);
-        if turn == 0 && node <= 1 {
-            self.0.hold_until(1 - node, 0);
+        self.told.note(node, turn);
+        if turn == 0 {
+            self.told.hold_for(rt, self.nodes);
         }
+    }
+
+    fn refuses(&self, node: u8) -> bool {
+        node == self.refused
+    }
+}
+
+/// Refuses each node its thread, and holds none.
+#[derive(Drop)]
+pub struct NoThread<'t> {
+    pub told: &'t Told,
+    /// Whether node 0 or 1 was told its turn 1 before both were told their turn 0.
+    pub went_ahead: &'t AtomicBool,
+}
+
+impl<'t> Gate for NoThread<'t> {
+    fn reached<R: Wait>(&self, rt: &R, node: u8, turn: u64) {
+        // It waits for nobody.
+        let _ = rt;
+        self.told.note(node, turn);
+        if turn == 1 && !(self.told.has(0, 0) && self.told.has(1, 0)) {
+            self.went_ahead.store(true, Ordering::SeqCst);
+        }
+    }
+
+    fn refuses(&self, node: u8) -> bool {
+        let _ = node;
+        true
     }
 }
 
@@ -103,11 +162,9 @@ pub struct FirstIsLate<'t> {
 
 impl<'t> Gate for FirstIsLate<'t> {
     fn reached<R: Wait>(&self, rt: &R, node: u8, turn: u64) {
-        // It looks again and again, and does not sleep.
-        let _ = rt;
         self.told.note(node, turn);
         if turn == 0 && node == 0 {
-            self.told.hold_until(1, 1);
+            self.told.hold_until(rt, 1, 1);
             for _ in 0..WATCHED_LOOKS {
                 if self.told.has(1, 2) {
                     self.went_on.store(true, Ordering::SeqCst);
@@ -125,11 +182,9 @@ pub struct SecondIsLate<'t>(pub &'t Told);
 
 impl<'t> Gate for SecondIsLate<'t> {
     fn reached<R: Wait>(&self, rt: &R, node: u8, turn: u64) {
-        // It looks again and again, and does not sleep.
-        let _ = rt;
         self.0.note(node, turn);
         if turn == 0 && node == 1 {
-            self.0.hold_until(0, 3);
+            self.0.hold_until(rt, 0, 3);
         }
     }
 }

@@ -1,13 +1,15 @@
 //! Networks with each node on a thread of its own, beside gates that hold a node until another one has come far enough:
-//! so the stored run shows that two nodes are under way at once, that a node waits at a sample, and that one which
-//! waits for nobody goes ahead. A body on one thread, one that does not wait and one in lockstep each fail one of them.
-//! The whole program is run, but for `main`. `command_facts` runs it.
+//! so the stored run shows that all nodes are under way at once, that a node waits at a sample, and that one which
+//! waits for nobody goes ahead; or that refuse threads, so that it shows that nodes without one take turns. A body on
+//! one thread, one that does not wait, one in lockstep and one that leaves a refused node, or all others, behind each
+//! fail one of them, and the first that fails is the last. The whole program is run, but for `main`. `command_facts`
+//! runs it.
 #![tactic(auto)]
 
 mod gates;
 mod runs;
 
-use gates::{BothBegin, FirstIsLate, LastTurn, SecondIsLate, Told};
+use gates::{AllBegin, FirstIsLate, LastTurn, NoThread, SecondIsLate, Told};
 use runs::{write_call, write_rows};
 use sim_io::{Sink, write_all};
 use std::fs::Files;
@@ -18,40 +20,113 @@ use stored_cases::{Failed, write_line};
 
 static RUN: [&str; 3] = ["avrora", "run", "gates.toml"];
 
+static APART: [&str; 3] = ["avrora", "run", "gates_apart.toml"];
+
 static MAKE: [&str; 3] = ["avrora", "make", "0"];
+
+// How many nodes `make 0` has.
+const MADE: u64 = 8;
 
 static LONG: [&str; 3] = ["avrora", "run", "gates_long.toml"];
 
-// Whether what is to be so was seen to be so.
+// The number of no node.
+const NOBODY: u8 = u8::MAX;
+
+// Whether what is to be so was seen to be so. Where it was not, no other run is begun, which might not end.
 fn write_seen<O: Sink>(what: &str, seen: bool, out: &mut O) -> Result<(), Failed> {
     write_all(out, what.as_bytes())?;
-    Ok(write_line(if seen { ": yes" } else { ": no" }, out)?)
+    write_line(if seen { ": yes" } else { ": no" }, out)?;
+    if seen { Ok(()) } else { Err(Failed) }
 }
 
-// Whether each of two nodes began while the other was held.
-fn write_both_began<O: Sink>(told: &Told, out: &mut O) -> Result<(), Failed> {
+// Whether each node began while all others were held.
+fn write_all_began<O: Sink>(told: &Told, out: &mut O) -> Result<(), Failed> {
     let seen = !told.gave_up() && told.has(0, 0) && told.has(1, 0);
-    write_seen("both began", seen, out)
+    write_seen("all began", seen, out)
 }
 
-// Each of two nodes begins while the other has not ended.
-fn both_begin<R: Threads + Wait + Files + AllocGlobal + Sync, O: Sink>(
+// The whole program, called by these words for so many nodes: each begins while no other has ended, though the one of
+// this number is refused its thread.
+fn call_at_once<R: Threads + Wait + Files + AllocGlobal + Sync, O: Sink>(
+    rt: &R,
+    words: &[&str],
+    nodes: u64,
+    refused: u8,
+    out: &mut O,
+) -> Result<(), Failed> {
+    let told = Told::none();
+    let gate = AllBegin {
+        told: &told,
+        nodes,
+        refused,
+    };
+    write_call(rt, words, None, &gate, out)?;
+    write_all_began(&told, out)
+}
+
+// Each node begins while no other has ended.
+fn all_begin<R: Threads + Wait + Files + AllocGlobal + Sync, O: Sink>(
     rt: &R,
     out: &mut O,
 ) -> Result<(), Failed> {
     write_line(
-        "# both nodes are under way at once: by run_threads, by run, by make",
+        "# all nodes are under way at once: by run_threads, by run, by make",
         out,
     )?;
     let told = Told::none();
-    write_rows(rt, &BothBegin(&told), out)?;
-    write_both_began(&told, out)?;
-    let told = Told::none();
-    write_call(rt, &RUN, None, &BothBegin(&told), out)?;
-    write_both_began(&told, out)?;
-    let told = Told::none();
-    write_call(rt, &MAKE, None, &BothBegin(&told), out)?;
-    write_both_began(&told, out)
+    let gate = AllBegin {
+        told: &told,
+        nodes: 2,
+        refused: NOBODY,
+    };
+    write_rows(rt, &gate, out)?;
+    write_all_began(&told, out)?;
+    call_at_once(rt, &RUN, 2, NOBODY, out)?;
+    call_at_once(rt, &MAKE, MADE, NOBODY, out)
+}
+
+// One node has no thread of its own, and is under way with the others.
+fn one_refused<R: Threads + Wait + Files + AllocGlobal + Sync, O: Sink>(
+    rt: &R,
+    out: &mut O,
+) -> Result<(), Failed> {
+    write_line(
+        "# all are under way at once where node 1 is refused its thread: by run, by make",
+        out,
+    )?;
+    call_at_once(rt, &RUN, 2, 1, out)?;
+    call_at_once(rt, &MAKE, MADE, 1, out)
+}
+
+// The whole program, called by these words: no node has a thread of its own, and none goes ahead of the others.
+fn call_in_turns<R: Threads + Wait + Files + AllocGlobal + Sync, O: Sink>(
+    rt: &R,
+    words: &[&str],
+    out: &mut O,
+) -> Result<(), Failed> {
+    let (told, went_ahead) = (Told::none(), AtomicBool::new(false));
+    let gate = NoThread {
+        told: &told,
+        went_ahead: &went_ahead,
+    };
+    write_call(rt, words, None, &gate, out)?;
+    let seen = !went_ahead.load(Ordering::SeqCst) && told.has(0, 1) && told.has(1, 1);
+    write_seen("they took turns", seen, out)
+}
+
+// All nodes are refused their threads. Those that hear nobody come first: a node that waits for another one on the same
+// thread would not end.
+fn all_refused<R: Threads + Wait + Files + AllocGlobal + Sync, O: Sink>(
+    rt: &R,
+    out: &mut O,
+) -> Result<(), Failed> {
+    write_line(
+        "# all nodes are refused their threads: by run where none hears another, by run, by make",
+        out,
+    )?;
+    call_in_turns(rt, &APART, out)?;
+    call_in_turns(rt, &RUN, out)?;
+    call_in_turns(rt, &MAKE, out)
 }
 
 // Whether node 1 waited at its sample while node 0 was held.
@@ -118,7 +193,9 @@ pub fn do_all<R: Threads + Wait + Files + AllocGlobal + Sync, O: Sink>(
     rt: &R,
     out: &mut O,
 ) -> Result<(), Failed> {
-    both_begin(rt, out)?;
+    all_begin(rt, out)?;
+    all_refused(rt, out)?;
+    one_refused(rt, out)?;
     first_is_late(rt, out)?;
     second_is_late(rt, out)?;
     epochs(rt, out)

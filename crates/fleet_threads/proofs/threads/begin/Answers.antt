@@ -18,17 +18,17 @@ use Rattle.node_runner.specs.contracts.scenario.ScenarioWorld.TheImpl.{ghosts}
 use Rattle.fleet_threads.specs.contracts.member.Member as Member
 use Rattle.fleet_threads.proofs.Crossing.{handed}
 use Rattle.fleet_threads.proofs.threads.begin.Given.{Over}
-use Rattle.fleet_threads.proofs.threads.begin.Lts.{arg-2-2}
+use Rattle.fleet_threads.proofs.threads.begin.Lts.{arg-2-3}
 use Rattle.fleet_threads.proofs.threads.begin.Goals as goal
 
 -- The closure holds seven things; a search over all of them at once gives up.
-job : (g : Over) (κs : Lfts 12) → IsSync (param 2 g.row.R) → IsSync (param 3 g.row.G) → IsSend (arg-2-2 g.row.E g.row.N g.row.R g.row.G g.E.laws g.N.laws g.R.laws g.G.laws g.N.Session g.N.Session-dict g.R.Threads g.R.Threads-dict g.R.Wait g.R.Wait-dict g.G.Gate g.G.Gate-dict κs)
+job : (g : Over) (κs : Lfts 14) → IsSync (param 2 g.row.R) → IsSync (param 3 g.row.G) → IsSend (arg-2-3 g.row.E g.row.N g.row.R g.row.G g.E.laws g.N.laws g.R.laws g.G.laws g.N.Session g.N.Session-dict g.R.Threads g.R.Threads-dict g.R.Wait g.R.Wait-dict g.G.Gate g.G.Gate-dict κs)
 job g κs r o =
-    let a : RattleType = (shr_ref_field (record { mir = named 7; lft = κs.1.1.1.1.1.1.1.0 }) (param 2 g.row.R) tt).row in
-    let b : RattleType = (shr_ref_field (record { mir = named 8; lft = κs.1.1.1.1.1.1.1.1.0 }) (Shared.the_row Scenario.the_row (param 1 g.row.N) g.N.Session ghosts) tt).row in
-    let d : RattleType = (shr_ref_field (record { mir = named 9; lft = κs.1.1.1.1.1.1.1.1.1.0 }) (param 3 g.row.G) tt).row in
-    let e : RattleType = (shr_ref_field (record { mir = named 10; lft = κs.1.1.1.1.1.1.1.1.1.1.0 }) Scenario.the_row tt).row in
-    let f : RattleType = (shr_ref_field (record { mir = named 11; lft = κs.1.1.1.1.1.1.1.1.1.1.1.0 }) AtomicU64.the_row tt).row in
+    let a : RattleType = (shr_ref_field (record { mir = named 9; lft = κs.1.1.1.1.1.1.1.1.1.0 }) (param 2 g.row.R) tt).row in
+    let b : RattleType = (shr_ref_field (record { mir = named 10; lft = κs.1.1.1.1.1.1.1.1.1.1.0 }) (Shared.the_row Scenario.the_row (param 1 g.row.N) g.N.Session ghosts) tt).row in
+    let d : RattleType = (shr_ref_field (record { mir = named 11; lft = κs.1.1.1.1.1.1.1.1.1.1.1.0 }) (param 3 g.row.G) tt).row in
+    let e : RattleType = (shr_ref_field (record { mir = named 12; lft = κs.1.1.1.1.1.1.1.1.1.1.1.1.0 }) Scenario.the_row tt).row in
+    let f : RattleType = (shr_ref_field (record { mir = named 13; lft = κs.1.1.1.1.1.1.1.1.1.1.1.1.1.0 }) AtomicU64.the_row tt).row in
     let h : RattleType = (u64-field).row in
     let i : RattleType = Member.the_row in
     let a-send : IsSend a = search (sendable, crosses, r) depth 20 in
@@ -37,7 +37,7 @@ job g κs r o =
     let e-send : IsSend e = search (sendable, crosses, scenario) depth 20 in
     let f-send : IsSend f = search (sendable, crosses) depth 20 in
     let h-send : IsSend h = search (sendable, crosses) depth 20 in
-    let name = codes "fleet_threads::threads::fn::begin::spawn_with+Self" in
+    let name = codes "fleet_threads::threads::fn::begin::spawn+Self" in
     let held : List RattleType = a ∷ b ∷ d ∷ e ∷ f ∷ h ∷ i ∷ [] in
     let all : IsSend (TupleAt name held) = declared_send (type_at name held) (
       as_row_send (row_field a) a-send,
@@ -54,8 +54,8 @@ job g κs r o =
     ) in
     record { owned = all.owned; leaving = (λ kept x left. left) }
 
-pub spawn_with-requires-send-F : goal.spawn_with-requires-send-F
-spawn_with-requires-send-F g c κs within = param_send 2 _ (job g κs c.type_bounds.sync-R c.type_bounds.sync-G)
+pub spawn-requires-send-F : goal.spawn-requires-send-F
+spawn-requires-send-F g c κs within = param_send 3 _ (job g κs c.type_bounds.sync-R c.type_bounds.sync-G)
 
-pub spawn_with-requires-send-T : goal.spawn_with-requires-send-T
-spawn_with-requires-send-T g c κs within = search (sendable, crosses, handed) depth 20
+pub spawn-requires-send-T : goal.spawn-requires-send-T
+spawn-requires-send-T g c κs within = search (sendable, crosses, handed) depth 20

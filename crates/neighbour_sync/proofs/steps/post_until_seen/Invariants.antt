@@ -1,6 +1,6 @@
 use Rattle.std.proofs.Common.{◌≡◌, ◌≤◌}
 use Rattle.neighbour_sync.specs.Seats.{node_told}
-use Rattle.neighbour_sync.proofs.steps.see_posted.Given as goal
+use Rattle.neighbour_sync.proofs.steps.post_until_seen.Given as goal
 
 abbrev pub invariant-loop : goal.invariant-loop
 invariant-loop g l = record {
