@@ -88,16 +88,16 @@ pub all_taken : (o p : Option (List ℕ)) (whole rest : List ℕ) → Stands o w
 all_taken o p whole rest s e = s.taken ∙ ap (extended o) (sym (s.parts ∙ ap (λ x. s.front ++ x) e ∙ append-nil s.front))
 
 -- or the writing of the next one stopped
-pub piece_stopped : {A B : Type 0} (o p q : Option (List ℕ)) (whole rest piece rest' : List ℕ) (old mid new : ℕ) (t : Trouble) → Stands o whole rest p [] → rest ≡ piece ++ rest' → mid ≡ old
+pub piece_stopped : (A B : Type 0) (o p q : Option (List ℕ)) (whole rest piece rest' : List ℕ) (old mid new : ℕ) (t : Trouble) → Stands o whole rest p [] → rest ≡ piece ++ rest' → mid ≡ old
     → Written {A = A} piece (stream p mid) (stream q new) (Err t) → Written {A = B} whole (stream o old) (stream q new) (Err t)
-piece_stopped o p q whole rest piece rest' old mid new trouble.OutFailed s e count h = record {
+piece_stopped A B o p q whole rest piece rest' old mid new trouble.OutFailed s e count h = record {
   front = stands_front o p q whole rest' piece (stands_more o p whole rest [] piece piece rest' s e refl) h.front;
   rose = subst (λ (n : ℕ). Rose n new) count h.rose;
 }
-piece_stopped o p q whole rest piece rest' old mid new trouble.NoMemory s e count h =
+piece_stopped A B o p q whole rest piece rest' old mid new trouble.NoMemory s e count h =
     (stands_front o p q whole rest' piece (stands_more o p whole rest [] piece piece rest' s e refl) h.0, h.1 ∙ count)
-piece_stopped o p q whole rest piece rest' old mid new (trouble.ReadFailed name) s e count h = absurd h
-piece_stopped o p q whole rest piece rest' old mid new (trouble.Refused k) s e count h = absurd h
+piece_stopped A B o p q whole rest piece rest' old mid new (trouble.ReadFailed name) s e count h = absurd h
+piece_stopped A B o p q whole rest piece rest' old mid new (trouble.Refused k) s e count h = absurd h
 
 -- the pieces from one on
 pub pieces_more : {X : Type 0} (f : X → List ℕ) (xs : List X) (i : ℕ) (x : X) → i < length xs → x ≡ get_or xs i x → flat_map f (drop i xs) ≡ f x ++ flat_map f (drop (i + 1) xs)

@@ -9,8 +9,8 @@ use Rattle.command_plans.specs.Parts.{Written}
 use Rattle.commands.proofs.SweepRuns.{fit_moved, moved_back, same_nodes}
 use Rattle.commands.proofs.sweeps.write_run.Goals as goal
 
-pub write_from-requires : goal.write_from-requires
-write_from-requires g c =
+pub write_from-outcome-requires : goal.write_from-outcome-requires
+write_from-outcome-requires g c =
     subst (λ (n : ScenarioOf). CanResume n c.args.state.now) (sym c.swap_script-own.ensures.after) (fit_moved c.args.network.now c.args.state.now c.node-node.result c.in-Ok.script c.requires.fit)
 
 pub swap_script-requires : goal.swap_script-requires
