@@ -27,7 +27,7 @@ returns-in-Err g c =
     let i = c.loop-one.invariant in
     let f : MoveOf → List ℕ = run_text c.args.network c.args.state.now in
     let wrote = subst (λ (n : ScenarioOf). Written (run_text n c.args.state.now c.one-item.result) (stream (g.O.Sink.taken c.loop-one.out) (g.O.Sink.faults c.loop-one.out)) (stream (g.O.Sink.taken c.write_run.new.out) (g.O.Sink.faults c.write_run.new.out)) c.write_run.result) i.same c.write_run.ensures.written in
-    piece_stopped _ _ _ _ _ _ _ (f c.one-item.result) _ _ _ _ c.in-Err.trouble i.stands (pieces_more f c.args.moves.now c.loop-one.one-index c.one-item.result (omega arith) c.one-item.is) i.count
+    piece_stopped (Unit {0}) (Unit {0}) _ _ _ _ _ (f c.one-item.result) _ _ _ _ c.in-Err.trouble i.stands (pieces_more f c.args.moves.now c.loop-one.one-index c.one-item.result (omega arith) c.one-item.is) i.count
     (rw c.in-Err.is at wrote)
 
 pub loop-one-preserved : goal.loop-one-preserved
