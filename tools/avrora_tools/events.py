@@ -25,8 +25,7 @@ class Care(enum.IntEnum):
 
     NONE = 0
     TRACED = 1  # it is a row of the processor, of the window alone
-    SENT = 2  # the node's next one must not come too early
-    MORE = 3  # which rows may come afterwards depends on it
+    MORE = 2  # what the node may do afterwards depends on it
 
 
 class Event:
@@ -45,6 +44,11 @@ class Event:
     def __init__(self, text: str, match: re.Match[str]) -> None:
         """`match` is that of `FORM`. Raises ValueError where the row says what no row says."""
         self.text = text
+
+    @property
+    def code(self) -> int:
+        """Its rank and its care as a number: of two events of a node's cycle that of a higher rank has the higher one."""
+        return self.rank << 2 | self.care
 
     @property
     def rest(self) -> str:
@@ -103,7 +107,7 @@ class Serial(Event):
 
 class Sent(Event):
     __slots__ = ("byte",)
-    kind, rank, care = "sent", 2, Care.SENT
+    kind, rank, care = "sent", 2, Care.MORE
     FORM = re.compile("sent ([0-9A-F]{2})")
 
     def __init__(self, text: str, match: re.Match[str]) -> None:
@@ -162,16 +166,16 @@ def event_of(text: str) -> Event | None:
         return None
 
 
-class Events(dict[str, tuple[int, int, Event]]):
-    """The rank, the care and the event by a text, as far as they came; a text that says none raises KeyError."""
+class Events(dict[str, tuple[int, Event]]):
+    """The events with their codes by their texts, as far as they came; a text that says none raises KeyError."""
 
     MOST = 50_000  # beyond which all are forgotten, so that memory does not grow with a trace
 
-    def __missing__(self, text: str) -> tuple[int, int, Event]:
+    def __missing__(self, text: str) -> tuple[int, Event]:
         event = event_of(text)
         if event is None:
             raise KeyError(text)
         if len(self) >= self.MOST:
             self.clear()
-        found = self[text] = event.rank, int(event.care), event
-        return found
+        self[text] = event.code, event
+        return event.code, event

@@ -2,7 +2,6 @@
 import argparse
 import contextlib
 import errno
-import gc
 import importlib
 import io
 import os
@@ -25,10 +24,6 @@ from avrora_tools.cli import Parser
 TRACEBACK_VARIABLE = "AVRORA_TOOLS_TRACEBACK"
 
 INTERRUPTED = 128 + signal.SIGINT
-
-# How many more objects there are before Python looks for those that hold each other alone: what a block of rows is made of
-# comes and goes, and holds nothing.
-MANY_OBJECTS = 100_000
 
 
 def names() -> list[str]:
@@ -86,7 +81,6 @@ def main(words: Sequence[str] | None = None) -> NoReturn:
     while words[:1] == ["--traceback"]:
         words, tells_traceback = words[1:], True
     standard_streams()
-    gc.set_threshold(MANY_OBJECTS)
     status = guarded(words, tells_traceback)
     with contextlib.suppress(OSError, ValueError):
         sys.stderr.flush()

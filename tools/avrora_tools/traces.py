@@ -2,10 +2,10 @@
 
 A trace is read once, in blocks, and its rows are checked as they come, so memory does not grow with it.
 """
+import collections
 import argparse
 import enum
-import itertools
-import operator
+import io
 import os
 from collections.abc import Iterable, Iterator
 from operator import length_hint
@@ -24,13 +24,11 @@ EPOCH = 262_144
 # A row: its cycle, its node, and what it says.
 TraceRow = tuple[int, int, Event]
 
-# Where a row stands: its cycle, its node, and the rank of its event. Places rise from row to row.
-Place = tuple[int, int, int]
-
-BLOCK = 1 << 14  # bytes that are read at once: what is made of them stays in the processor's cache
+BLOCK = 1 << 17  # bytes that are read at once
 LONGEST_ROW = 256  # more bytes than a row has
 LAST_LIMIT = max(MAX_CYCLES.values())
 NEVER = 1 << 62
+CARE_BITS = 3  # of the code of an event
 
 
 class Form(enum.Enum):
@@ -79,88 +77,52 @@ class Trace:
         # The nodes that may have rows of any kind, by their digits; those that stopped may have an end row alone.
         self.nodes = {str(node): node for node in range(self.most_nodes)}
         self.stopped: set[int] = set()
-        self.events = Events()
-        self.place: Place = (-1, 0, 0)  # of the row before
-        self.window_end = -1  # before which all rows of the window stand, once one came
-        self.remaining: Iterator[str] = iter(())  # what is left of the lines of the block that is looked at with care
+        self.remaining: Iterator[str] = iter(())  # what is left of the lines of the block
         for node, one in enumerate(state.nodes if state else ()):
             if one.stop():
                 self.note_stop(node)
 
     def __iter__(self) -> Iterator[TraceRow]:
-        return itertools.chain.from_iterable(self.rows_of_blocks())
-
-    def rows_of_blocks(self) -> Iterator[Iterator[TraceRow]]:
-        for text in self.texts():
+        events, nodes = Events(), self.nodes
+        first, bound = self.first, self.bound
+        order, digits, cycle, window_end = -1, "", -1, -1
+        for lines in self.lines():
+            self.remaining = iter(lines)
             if self.first_row is None:
-                self.first_row = leading_number(text[:LONGEST_ROW])
-            yield self.plain_rows(text) or self.rows_with_care(text)
+                self.first_row = leading_number(lines[0])
+            for line in self.remaining:
+                try:
+                    text, node_text, rest = line.split(" ", 2)
+                    code, event = events[rest]
+                    node = nodes[node_text]
+                except (KeyError, ValueError):
+                    text, node, event = self.unusual(line)
+                    code = event.code
+                if text != digits:
+                    cycle, digits = int(text) if text.isdigit() and len(text) < LONGEST_ROW else NEVER, text
+                    if not first <= cycle < bound or str(cycle) != text:
+                        self.check_cycle(line, text, cycle)
+                now = cycle << 10 | node << 4 | code
+                if now <= order:
+                    raise self.fault(out_of_order(order, cycle, node), line)
+                order = now | CARE_BITS  # two rows of one rank are too many, whatever care they want
+                if code & CARE_BITS:
+                    if code & CARE_BITS != Care.TRACED:
+                        self.note(line, cycle, node, event)
+                    elif cycle < window_end:
+                        self.last_traced = cycle
+                    else:
+                        window_end = self.window_end_of(line, cycle)
+                yield cycle, node, event
         self.finish()
-
-    def plain_rows(self, text: str) -> Iterator[TraceRow] | None:
-        """The rows of the lines of a block, which are looked at together; None where one of them is no row, may not stand
-        there, or changes what may stand behind it: `rows_with_care` looks at each of them then, and this changes nothing."""
-        if text.startswith("0") or "\n0" in text:  # cycle 0, or leading zeros
-            return None
-        try:
-            digits, names, said = zip(*[line.split(" ", 2) for line in text.split("\n")])
-            nodes = tuple(map(self.nodes.__getitem__, names))
-            ranks, cares, events = zip(*map(self.events.__getitem__, said))
-            cycles = tuple(map(int, digits))
-        except (KeyError, ValueError):
-            return None
-        if not "".join(digits).isdigit() or not (self.first <= cycles[0] and cycles[-1] < self.bound):
-            return None
-        places = zip(cycles, nodes, ranks)
-        before = itertools.chain([self.place], zip(cycles, nodes, ranks))
-        if not all(map(operator.lt, before, places)):
-            return None
-        last_sent, last_traced = self.last_sent.copy(), self.last_traced
-        for cycle, node, care in itertools.compress(zip(cycles, nodes, cares), cares):
-            if care == Care.TRACED and cycle < self.window_end:
-                last_traced = cycle
-            elif care == Care.SENT and cycle - last_sent.get(node, -NEVER) >= self.least_gap:
-                last_sent[node] = cycle
-            else:
-                return None
-        self.last_sent, self.last_traced = last_sent, last_traced
-        self.place = cycles[-1], nodes[-1], ranks[-1]
-        return zip(cycles, nodes, events)
-
-    def rows_with_care(self, text: str) -> Iterator[TraceRow]:
-        """The rows of the lines of a block, one after the other."""
-        self.remaining = iter(text.split("\n"))
-        for line in self.remaining:
-            digits, node, event = self.parts(line)
-            cycle = int(digits) if digits.isdigit() and len(digits) < LONGEST_ROW else NEVER
-            if not self.first <= cycle < self.bound or str(cycle) != digits:
-                self.check_cycle(line, digits, cycle)
-            place = cycle, node, event.rank
-            if place <= self.place:
-                raise self.fault(out_of_order(self.place, place), line)
-            self.place = place
-            if event.care is Care.TRACED:
-                self.note_traced(line, cycle)
-            elif event.care is not Care.NONE:
-                self.note(line, cycle, node, event)
-            yield cycle, node, event
-
-    def parts(self, line: str) -> tuple[str, int, Event]:
-        """The digits of a row's cycle, its node and its event. Raises BadInput where it has no such parts, or the node may
-        have no such row any more."""
-        try:
-            digits, node, said = line.split(" ", 2)
-            return digits, self.nodes[node], self.events[said][-1]
-        except (KeyError, ValueError):
-            return self.unusual(line)
 
     @property
     def traced(self) -> tuple[int, int] | None:
         """The cycles of the first and of the last row of the window, as far as the trace is read."""
         return None if self.first_traced is None else (self.first_traced, self.last_traced)
 
-    def texts(self) -> Iterator[str]:
-        """The lines of the trace, those of a block at a time, without the LF of the last one."""
+    def lines(self) -> Iterator[list[str]]:
+        """The lines of the trace, those of a block at a time."""
         rest = b""
         for block in self.blocks:
             cut = block.rfind(b"\n")
@@ -170,10 +132,10 @@ class Trace:
                     self.count += 1
                     raise self.no_row(ascii_of(rest))
                 continue
-            text = ascii_of(rest + block[:cut])
+            lines = ascii_of(rest + block[:cut]).split("\n")
             rest = block[cut + 1 :]
-            self.count += text.count("\n") + 1
-            yield text
+            self.count += len(lines)
+            yield lines
         if rest:
             raise BadInput(f"{self.name}, line {self.count + 1}: the trace is cut off in this line")
 
@@ -223,24 +185,17 @@ class Trace:
         if cycle > self.bound or line.split(" ", 3)[2] != End.kind:
             raise self.fault(f"a row behind the limit of {self.bound:,} cycles", line)
 
-    def note_traced(self, line: str, cycle: int) -> None:
-        """A row of the window."""
-        if cycle >= self.window_end:
-            self.begin_window(line, cycle)
-        self.last_traced = cycle
-
-    def begin_window(self, line: str, cycle: int) -> None:
-        """The first row of the window, which sets the cycle before which all its rows stand; or one behind them."""
+    def window_end_of(self, line: str, cycle: int) -> int:
+        """Notes the first row of the window; returns the cycle before which all its rows stand."""
         if self.first_traced is not None:
             raise self.fault(f"more than {MAX_WINDOW:,} cycles from the first to the last row of a window", line)
-        self.first_traced = cycle
-        self.window_end = cycle + MAX_WINDOW
+        self.first_traced = self.last_traced = cycle
         if not self.scenario or self.form is not Form.WHOLE:
-            return
-        first, self.window_end = self.scenario.window
-        if not first <= cycle < self.window_end:
-            why = f"outside of the scenario's window [{first}, {self.window_end}], so it is not its trace"
-            raise self.fault(why, line)
+            return cycle + MAX_WINDOW
+        first, end = self.scenario.window
+        if not first <= cycle < end:
+            raise self.fault(f"outside of the scenario's window [{first}, {end}], so it is not its trace", line)
+        return end
 
     def note(self, line: str, cycle: int, node: int, event: Event) -> None:
         """A row that says more than what happened."""
@@ -324,18 +279,18 @@ def form_of(arguments: argparse.Namespace) -> Form:
     return Form.HEAD if arguments.head else Form.ENDED
 
 
-def out_of_order(before: Place, place: Place) -> str:
-    """What is wrong with a row of a place, which does not stand behind the place `before`."""
-    cycle, node, _ = place
-    if cycle < before[0]:
-        return f"cycle {cycle} stands behind cycle {before[0]}"
-    if node < before[1]:
-        return f"node {node} stands behind node {before[1]} in cycle {cycle}"
+def out_of_order(order: int, cycle: int, node: int) -> str:
+    """What is wrong with a row that does not come behind the one of the place `order`."""
+    before, node_before = order >> 10, order >> 4 & 0x3F
+    if cycle < before:
+        return f"cycle {cycle} stands behind cycle {before}"
+    if node < node_before:
+        return f"node {node} stands behind node {node_before} in cycle {cycle}"
     return f"a node's rows of cycle {cycle} are out of order"
 
 
-def leading_number(text: str) -> int:
-    digits = text.partition(" ")[0]
+def leading_number(line: str) -> int:
+    digits = line.partition(" ")[0]
     return int(digits) if digits.isdigit() and len(digits) < LONGEST_ROW else 0
 
 

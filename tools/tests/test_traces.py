@@ -29,42 +29,9 @@ def trace_of(text, form=Form.WHOLE, **options):
     return Trace([content], "t", form, **options)
 
 
-class OneByOne(Trace):
-    """A trace whose rows are all looked at one by one."""
-
-    def plain_rows(self, text):
-        return None
-
-
-def found(trace):
-    """The rows of a trace as lines, and what it is refused for, or None."""
-    rows = []
-    try:
-        for cycle, node, event in trace:
-            rows.append(f"{cycle} {node} {event.text}")
-    except BadInput as fault:
-        return rows, str(fault)
-    return rows, None
-
-
 def lines(text, form=Form.WHOLE, **options):
-    """The rows of a trace as lines. They are the same, and so is what it is refused for, whether its rows are looked at
-    together or one by one, and wherever blocks end."""
-    content = text if isinstance(text, bytes) else text.encode("latin-1")
-    rows, why = found(OneByOne([content], "t", form, **options))
-    for blocks in ([content], content.splitlines(keepends=True), halves(content)):
-        if len(content) < 2000:
-            assert found(Trace(blocks, "t", form, **options)) == (rows, why), (content, rows, why)
-    if why is not None:
-        raise BadInput(why)
-    return rows
-
-
-def halves(content):
-    """Two blocks, the first of which has all rows but end rows, and stops."""
-    at = min([content.find(word) for word in (b" end ", b" stop ") if word in content] or [len(content)])
-    at = content.rfind(b"\n", 0, at) + 1
-    return [content[:at], content[at:]] if at else [content]
+    """The rows of a trace as lines."""
+    return [f"{cycle} {node} {event.text}" for cycle, node, event in trace_of(text, form, **options)]
 
 
 def scenario_of(nodes=2, **keys):
