@@ -72,7 +72,8 @@ class CaseFile:
         """What is stored of a stream."""
         lines = text.splitlines()
         self.expected.append(f"{name}: {len(text)} bytes, {text.count(chr(10))} lines")
-        most = lines if len(lines) <= MOST_SHOWN else [*lines[:2], f".. {len(text)} bytes {fnv(text.encode())}", *lines[-2:]]
+        last = -2 if text.endswith("\n") else -3  # two lines, and what stands behind them without an end
+        most = lines if len(lines) <= MOST_SHOWN else [*lines[:2], f".. {len(text)} bytes {fnv(text.encode())}", *lines[last:]]
         self.expected += [f"| {line}" for line in most]
 
     def write(self, word, name):
