@@ -1,9 +1,9 @@
 #!/usr/bin/env python3
 """Writes the tables of docs/SPEED.md from what the scripts beside it printed.
 
-    bench/run.sh >run.out; bench/networks.sh >networks.out; bench/threads.sh >threads0.out
+    bench/run.sh >run.out; bench/paths.py >paths.out; bench/networks.sh >networks.out; bench/threads.sh >threads0.out
     bench/threads.sh PROGRAM 2 >threads2.out; bench/threads.sh PROGRAM 4 >threads4.out
-    bench/tables.py run.out networks.out threads*.out
+    bench/tables.py run.out paths.out networks.out threads*.out
 
 Each table stands between `<!-- table: bench/SCRIPT -->` and `<!-- end -->`; one of whose script no output is given stays as it
 is. Of several outputs of a script the table has the range of each figure. What an image or a network is stays as the table
@@ -19,6 +19,7 @@ NODE = re.compile(r"(simavr, )?(\w+): \d+ cycles in (under )?([\d.]+) s, .*, (\d
 HOST = re.compile(r"(\w+): ([\d.]+) host instructions an instruction")
 NETWORK = re.compile(r"(.+): \d+ cycles of nodes and (\d+) rows in (under )?([\d.]+) s: ([\d.]+) million cycles and ([\d.]+) .*, (\d+) KiB at most")
 BUSY = re.compile(r"\d+ processors, (\d+) busy programs beside, load .*")
+PATH = re.compile(r"([\d,]+) instructions: of one kind ([\d.]+) ns each, drawn ([\d.]+) ns(?:, simavr ([\d.]+) ns)?")
 THREADS = re.compile(r"(.+): one thread ([\d.]+) s, a thread a node ([\d.]+) s, ([\d.]+) times as fast, yardstick [\d.]+, part ([\d.]+), .* rows")
 
 
@@ -36,16 +37,23 @@ class Figures(dict):
 
 
 def node_cells(row):
-    """Time, simavr, ratio, host instructions, memory."""
+    """Time, simavr, ratio, host instructions."""
     ours, peers = row["time"], row.get("peer")
     ratio = span([p / max(o, 0.001) for o, p in zip(ours, peers)], 1) if peers else ""
     time = "under 0.001 s" if max(ours) < 0.001 else span(ours, 3, " s")
     host = span(row["host"], 0 if min(row["host"]) >= 1 else 2) if "host" in row else ""
-    return [time, span(peers, 3, " s") if peers else "", ratio, host, span([it / 1024 for it in row["kib"]], 1, " MiB")]
+    return [time, span(peers, 3, " s") if peers else "", ratio, host]
 
 
 def network_cells(row):
     return [span(row["cycles"], 0, " million"), span(row["rows"], 2, " million"), span(row["kib"], 0, " KiB")]
+
+
+def path_cells(row):
+    """Of one kind, drawn, drawn on simavr, and how many times as long that takes."""
+    peers = row.get("peer")
+    ratio = span([p / o for o, p in zip(row["drawn"], peers)], 1) if peers else ""
+    return [span(row["one"], 1, " ns"), span(row["drawn"], 1, " ns"), span(peers, 1, " ns") if peers else "", ratio]
 
 
 def threads_cells(row):
@@ -55,7 +63,12 @@ def threads_cells(row):
 
 
 # The script of a table, how its cells are made, and how many cells before them say what the row is.
-TABLES = {"bench/run.sh": (node_cells, 2), "bench/networks.sh": (network_cells, 1), "bench/threads.sh": (threads_cells, 1)}
+TABLES = {
+    "bench/run.sh": (node_cells, 2),
+    "bench/paths.py": (path_cells, 1),
+    "bench/networks.sh": (network_cells, 1),
+    "bench/threads.sh": (threads_cells, 1),
+}
 
 
 def read(paths):
@@ -68,6 +81,10 @@ def read(paths):
                 found["bench/run.sh"].add(it[2], "kib", it[5])
         elif it := HOST.fullmatch(line):
             found["bench/run.sh"].add(it[1], "host", it[2])
+        elif it := PATH.fullmatch(line):
+            for name, place in (("one", 2), ("drawn", 3), ("peer", 4)):
+                if it[place]:
+                    found["bench/paths.py"].add(it[1], name, it[place])
         elif it := NETWORK.fullmatch(line):
             for name, place in (("cycles", 5), ("rows", 6), ("kib", 7)):
                 found["bench/networks.sh"].add(it[1], name, it[place])
@@ -109,6 +126,9 @@ def main(paths):
         lines = table_of(script, old, found[script]) if found[script] else old
         return f"<!-- table: {script} -->\n" + "\n".join(lines) + "\n<!-- end -->"
 
+    kib = [it for row in found["bench/run.sh"].values() for it in row.get("kib", [])]
+    if kib:
+        print("memory of one node:", span([it / 1024 for it in kib], 1, " MiB"))
     SPEED.write_text(re.sub(r"<!-- table: (\S+) -->\n(.*?)\n<!-- end -->", replaced, text, flags=re.S))
     return 0
 
