@@ -29,7 +29,8 @@ class Caller:
     """Calls one program. The working folder of the process is changed for each call, so it is one thread's affair."""
 
     def __init__(self) -> None:
-        self.errors = os.memfd_create("errors")  # in memory: what went wrong is told even where the disk is full
+        # Of the call that is under way. In memory: what went wrong is told even where the disk is full.
+        self.errors = os.memfd_create("errors")
         self.environment = dict(os.environb)  # as bytes, so that nothing is encoded at each call
         self.processor = 0.0  # seconds of processors that all calls took
 
@@ -39,8 +40,6 @@ class Caller:
     def call(self, program: str, words: Sequence[str], place: str, output: IO[bytes], seconds: float) -> Ended:
         """Runs the program in the folder `place`, with its output to a file. Raises TooLong, and OSError where it cannot be
         started."""
-        os.ftruncate(self.errors, 0)
-        os.lseek(self.errors, 0, os.SEEK_SET)
         before = os.open(".", os.O_PATH | os.O_DIRECTORY)
         try:
             os.chdir(place)
@@ -59,14 +58,21 @@ class Caller:
             os.fchdir(before)
             os.close(before)
         child = ended(process, seconds)
+        said = self.said()
         self.processor += child.processor
         if child.is_late:
             raise TooLong
-        return Ended(child.status, self.said())
+        return Ended(child.status, said)
 
     def said(self) -> str:
+        """What a call that ended said, which is nothing for most; the file is empty then."""
         size = os.fstat(self.errors).st_size
-        return os.pread(self.errors, size, 0).decode(errors="replace").strip() if size else ""
+        if not size:
+            return ""
+        said = os.pread(self.errors, size, 0)
+        os.ftruncate(self.errors, 0)
+        os.lseek(self.errors, 0, os.SEEK_SET)
+        return said.decode(errors="replace").strip()
 
 
 def ended(process: int, seconds: float) -> Child:
