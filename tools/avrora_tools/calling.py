@@ -6,6 +6,14 @@ from collections.abc import Sequence
 from typing import IO, NamedTuple
 
 
+# How the C library of the program gets its memory, where the user does not say: in one piece that grows by a mebibyte and stays.
+# A short run takes a tenth less than with pieces of their own for larger objects and for threads, a long one as much.
+MEMORY = ":".join(
+    f"glibc.malloc.{name}={value}"
+    for name, value in {"mmap_threshold": 1 << 25, "trim_threshold": 1 << 25, "top_pad": 1 << 20, "arena_max": 1}.items()
+)
+
+
 class Ended(NamedTuple):
     """How a call ended: its status, that of a signal negative, and what it said on the standard error."""
 
@@ -31,7 +39,8 @@ class Caller:
     def __init__(self) -> None:
         # Of the call that is under way. In memory: what went wrong is told even where the disk is full.
         self.errors = os.memfd_create("errors")
-        self.environment = dict(os.environb)  # as bytes, so that nothing is encoded at each call
+        # As bytes, so that nothing is encoded at each call.
+        self.environment = {b"GLIBC_TUNABLES": MEMORY.encode(), **os.environb}
         self.processor = 0.0  # seconds of processors that all calls took
 
     def close(self) -> None:
