@@ -1,15 +1,15 @@
 #!/usr/bin/env python3
-"""What a run of a campaign costs: processor milliseconds of client, scheduler, workers and program.
+"""What a run of a campaign costs: processor milliseconds of client, scheduler, workers and program, as the table of CAMPAIGNS.md.
 
     bench/campaigns.py PROGRAM [RUNS]
 
-Runs of 5,000,000 cycles of nodes: `radio`, three nodes of examples/packet.hex that send and listen, and `alone`, a node of
-bench/mixed.hex that computes; the trace of each is checked by a case. Of each part the processor time of a campaign of RUNS runs
-(400) less that of one of a quarter of them, by the runs that it has more: so what it takes to start is not in it. Of the program
-that of the same runs, as their results have it. Workers are four processes of this machine; then, where dask.distributed is
-installed, four of dask beside a scheduler, started as CAMPAIGNS.md says. Then one worker beside four: what a run takes of all
-processors, by which four are so many times as fast as one where each has a processor. First, how a campaign of a million variants
-begins. Other work on the machine adds to the clock, and to processor times as well, where it has to share caches.
+`radio` and `alone` are runs of 5,000,000 cycles of nodes, each checked by a case: three nodes of examples/packet.hex that send and
+listen, and one of bench/mixed.hex that computes. `drawn` are those of bench/network/drawn.campaign. Of each part the processor time
+of a campaign of RUNS runs (400) less that of one of a quarter of them, by the runs that it has more: so what it takes to start is
+not in it. Of the program that of the same runs, as their results have it. Workers are processes of this machine, or, where
+dask.distributed is installed, those of dask beside a scheduler, started as CAMPAIGNS.md says. What a run takes of all processors
+with one worker and with four tells how many times as fast four are as one, where each has a processor. First, how a campaign of a
+million variants begins. Other work on the machine adds to the clock, and to processor times as well, where it has to share caches.
 """
 import contextlib
 import importlib.util
@@ -63,6 +63,10 @@ class Folder:
 
     def campaign(self, which, runs):
         """The file of a campaign of so many variants."""
+        if which == "drawn":
+            text = (TOP / "bench" / "network" / "drawn.campaign").read_text()
+            text = text.replace("999_999", str(runs - 1)).replace("drawn_runs.py", f"{TOP}/bench/network/drawn_runs.py")
+            return self.write(f"{runs}.campaign", text)
         windows = max(1, runs // 1_000)
         return self.write(
             f"{runs}.campaign",
@@ -92,14 +96,14 @@ def used_by(process):
     return used.ru_utime + used.ru_stime
 
 
-def local_costs(folder, which, runs, count=WORKERS):
-    """Seconds of client and of workers with their programs, for so many runs on processes of this machine."""
+def local_costs(folder, which, runs, count):
+    """Seconds of client and of workers with their programs, for so many runs on so many processes of this machine."""
     client, workers, program = folder.run(which, runs, "--processes", str(count))
-    return {"client": client, "workers": workers - program, "program": program}
+    return {"client": client, "worker": workers - program, "program": program}
 
 
-def dask_costs(folder, which, runs):
-    """The same on dask, and of its scheduler."""
+def dask_costs(folder, which, runs, count):
+    """The same on so many workers of dask, and of its scheduler."""
     module = [sys.executable, "-m"]
     file = folder.path / "scheduler.json"
     file.unlink(missing_ok=True)
@@ -116,39 +120,41 @@ def dask_costs(folder, which, runs):
             address = json.loads(file.read_text())["address"]
     workers = [
         subprocess.Popen([*module, "distributed.cli.dask_worker", *place, "--nthreads", "1", "--no-nanny", address], **quiet)
-        for _ in range(WORKERS)
+        for _ in range(count)
     ]
     try:
         client, _, program = folder.run(which, runs, "--scheduler", address)
     finally:
         used = [used_by(worker) for worker in workers]
         of_scheduler = used_by(scheduler)
-    return {"client": client, "scheduler": of_scheduler, "workers": sum(used) - program, "program": program}
+    return {"client": client, "scheduler": of_scheduler, "worker": sum(used) - program, "program": program}
 
 
-def each_run(costs, folder, which, runs, *words):
-    """The milliseconds of each part for a run more."""
-    few, many = (costs(folder, which, number, *words) for number in (runs // 4, runs))
+def each_run(costs, folder, which, runs, count):
+    """The milliseconds of each part for a run more, and of the clock."""
+    spent = []
+    for number in (runs // 4, runs):
+        start = time.monotonic()
+        spent.append(costs(folder, which, number, count) | {"clock": time.monotonic() - start})
+    few, many = spent
     return {part: 1_000 * (many[part] - few[part]) / (runs - runs // 4) for part in many}
 
 
-def tell_costs(name, costs, folder, which, runs):
-    """Prints the milliseconds a run of each part."""
-    each = each_run(costs, folder, which, runs)
-    parts = ", ".join(f"{part} {value:.2f}" for part, value in each.items())
-    overhead = sum(each.values()) - each["program"]
-    print(f"{which}, {name}: {parts} ms a run; all but the program {overhead / each['program']:.2f} of it", end="")
-    print(f"; {os.getloadavg()[0]:.0f} others", flush=True)
+PARTS = ("client", "scheduler", "worker", "program")
 
 
-def tell_speeds(folder, which, runs):
-    """Four workers beside one."""
-    spent = {}
-    for count in (1, WORKERS):
-        each = each_run(local_costs, folder, which, runs, count)
-        spent[count] = sum(each.values())
-        print(f"{which}, {count} workers: {spent[count]:.2f} ms of all processors a run, {each['client']:.2f} of them the client's")
-    print(f"{which}: by processor times {WORKERS} workers are {WORKERS * spent[1] / spent[WORKERS]:.2f} times as fast as one", flush=True)
+def tell_costs(pools, folder, which, runs):
+    """Prints the rows of one kind of runs, and how many times as fast four workers are as one."""
+    for name, costs in pools.items():
+        taken = {}
+        for count in (1, WORKERS):
+            each = each_run(costs, folder, which, runs, count)
+            taken[count] = sum(each.get(part, 0) for part in PARTS)
+            cells = [f"{each[part]:.2f}" if part in each else "" for part in PARTS]
+            others = f"{taken[count] / each['program'] - 1:.2f}"
+            print("|", " | ".join([f"`{which}`", f"{count} {name}", *cells, others, f"{each['clock']:.1f}"]), "|", flush=True)
+        times = WORKERS * taken[1] / taken[WORKERS]
+        print(f"  {which}, {name}: {WORKERS} are {times:.2f} times as fast as one; load {os.getloadavg()[0]:.0f}", flush=True)
 
 
 def tell_beginning(folder):
@@ -197,16 +203,19 @@ def main():
     runs = int(sys.argv[2]) if len(sys.argv) == 3 else 400
     load = os.getloadavg()[0]
     print(f"{os.cpu_count()} processors; {load:.1f} others want to run on them", flush=True)
+    pools = {"processes": local_costs}
+    if importlib.util.find_spec("distributed"):
+        pools["of dask"] = dask_costs
+    else:
+        print("dask: skipped, distributed is not installed")
     with tempfile.TemporaryDirectory() as path:
         folder = Folder(path, os.path.abspath(sys.argv[1]))
         tell_beginning(folder)
-        tell_costs("processes of this machine", local_costs, folder, "radio", runs)
-        tell_costs("processes of this machine", local_costs, folder, "alone", runs)
-        if importlib.util.find_spec("distributed"):
-            tell_costs("dask", dask_costs, folder, "radio", runs)
-        else:
-            print("dask: skipped, distributed is not installed")
-        tell_speeds(folder, "radio", runs)
+        print("| Runs | Workers |", " | ".join(PARTS), "| all others of the program | clock |")
+        print("|---" * (4 + len(PARTS)) + "|")
+        tell_costs(pools, folder, "radio", runs)
+        tell_costs(pools, folder, "alone", runs)
+        tell_costs({"processes": local_costs}, folder, "drawn", 4 * runs)
 
 
 if __name__ == "__main__":

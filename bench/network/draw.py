@@ -1,4 +1,5 @@
 """Draws networks: images, links, latencies, spans, inputs. Always the same of the same number."""
+import functools
 import random
 from pathlib import Path
 
@@ -18,6 +19,7 @@ TIMER0_COMP, USART0_RX = 0x1E, 0x24
 # ---- images
 
 
+@functools.lru_cache(None)  # as of one instruction there are few, and campaigns draw millions
 def word(name, **fields):
     """The word of an instruction, from the pattern of its row. Registers stand as the pattern spells them."""
     digits = ""

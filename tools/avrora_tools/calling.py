@@ -6,6 +6,14 @@ from collections.abc import Sequence
 from typing import IO, NamedTuple
 
 
+# How the C library of the program gets its memory, where the user does not say: in one piece that grows by a mebibyte and stays.
+# A short run takes a tenth less than with pieces of their own for larger objects and for threads, a long one as much.
+MEMORY = ":".join(
+    f"glibc.malloc.{name}={value}"
+    for name, value in {"mmap_threshold": 1 << 25, "trim_threshold": 1 << 25, "top_pad": 1 << 20, "arena_max": 1}.items()
+)
+
+
 class Ended(NamedTuple):
     """How a call ended: its status, that of a signal negative, and what it said on the standard error."""
 
@@ -29,8 +37,10 @@ class Caller:
     """Calls one program. The working folder of the process is changed for each call, so it is one thread's affair."""
 
     def __init__(self) -> None:
-        self.errors = os.memfd_create("errors")  # in memory: what went wrong is told even where the disk is full
-        self.environment = dict(os.environb)  # as bytes, so that nothing is encoded at each call
+        # Of the call that is under way. In memory: what went wrong is told even where the disk is full.
+        self.errors = os.memfd_create("errors")
+        # As bytes, so that nothing is encoded at each call.
+        self.environment = {b"GLIBC_TUNABLES": MEMORY.encode(), **os.environb}
         self.processor = 0.0  # seconds of processors that all calls took
 
     def close(self) -> None:
@@ -39,8 +49,6 @@ class Caller:
     def call(self, program: str, words: Sequence[str], place: str, output: IO[bytes], seconds: float) -> Ended:
         """Runs the program in the folder `place`, with its output to a file. Raises TooLong, and OSError where it cannot be
         started."""
-        os.ftruncate(self.errors, 0)
-        os.lseek(self.errors, 0, os.SEEK_SET)
         before = os.open(".", os.O_PATH | os.O_DIRECTORY)
         try:
             os.chdir(place)
@@ -59,14 +67,21 @@ class Caller:
             os.fchdir(before)
             os.close(before)
         child = ended(process, seconds)
+        said = self.said()
         self.processor += child.processor
         if child.is_late:
             raise TooLong
-        return Ended(child.status, self.said())
+        return Ended(child.status, said)
 
     def said(self) -> str:
+        """What a call that ended said, which is nothing for most; the file is empty then."""
         size = os.fstat(self.errors).st_size
-        return os.pread(self.errors, size, 0).decode(errors="replace").strip() if size else ""
+        if not size:
+            return ""
+        said = os.pread(self.errors, size, 0)
+        os.ftruncate(self.errors, 0)
+        os.lseek(self.errors, 0, os.SEEK_SET)
+        return said.decode(errors="replace").strip()
 
 
 def ended(process: int, seconds: float) -> Child:

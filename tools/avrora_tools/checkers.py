@@ -1,9 +1,9 @@
 """The version of the code that decides what comes of a run: a hash of all modules of this package that it goes through."""
-import ast
 import functools
 import hashlib
 import importlib.util
 import pkgutil
+import re
 from pathlib import Path
 
 import avrora_tools
@@ -48,12 +48,17 @@ def source_of(name: str) -> bytes | None:
     return pkgutil.get_data(PACKAGE, str(Path(spec.origin).relative_to(Path(avrora_tools.__file__).parent)))
 
 
+# An import of this package: a line, or more in brackets. One within a text is as good as any: it makes the version that of more.
+IMPORT = re.compile(
+    rf"^[ \t]*(?:from[ \t]+({PACKAGE}[\w.]*)[ \t]+import[ \t]+(\([^)]*\)|.*)|import[ \t]+({PACKAGE}.*))$", re.MULTILINE
+)
+
+
 def imported(source: bytes) -> list[str]:
     """The names of this package that a source imports; some of them are no modules."""
     found = []
-    for node in ast.walk(ast.parse(source)):
-        if isinstance(node, ast.Import):
-            found += [alias.name for alias in node.names]
-        elif isinstance(node, ast.ImportFrom) and node.module:
-            found += [node.module] + [f"{node.module}.{alias.name}" for alias in node.names]
+    for module, names, modules in IMPORT.findall(source.decode()):
+        found += re.findall(r"[\w.]+", modules)
+        if module:
+            found += [module] + [f"{module}.{name}" for name in re.findall(r"\w+", names)]
     return [name for name in found if name.split(".")[0] == PACKAGE]

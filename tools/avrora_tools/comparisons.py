@@ -10,36 +10,29 @@ import hashlib
 import io
 import itertools
 from collections.abc import Callable, Iterator, Mapping, Sequence
-from typing import BinaryIO, NamedTuple
+from typing import NamedTuple
 
-from avrora_tools import scenarios, traces
-from avrora_tools.commands import links
+from avrora_tools import hearing, scenarios, traces
 
 BLOCK = 1 << 16  # bytes
 
-# The state between the two halves of a run, and what a call wrote.
-STATE, OUTPUT = "compared.state", "compared.trace"
+STATE = "compared.state"  # between the two halves of a run
 
 MOST_SAID = 4_000  # characters of what `links` finds
 
 
 @dataclasses.dataclass
 class Place:
-    """A folder with a scenario, and the trace of its run. `call` runs the simulator there with these words, its output goes
-    to a file; None where it ended with status 0, else what to tell of its end."""
+    """A folder with a scenario in a file, which has this `text`, and the trace of its run. `call` runs the simulator there with
+    these words, its output goes to a file; None where it ended with status 0, else what to tell of its end. The file `output` is
+    for the output of such calls. Both files are read without buffers, so that what another process writes to them is seen."""
 
     folder: str
     scenario: str
-    trace: str
-    call: Callable[[Sequence[str], BinaryIO], str | None]
-
-    def path(self, name: str) -> str:
-        return f"{self.folder}/{name}"
-
-    @functools.cached_property
-    def text(self) -> str:
-        with open(self.path(self.scenario), encoding="utf-8") as file:
-            return file.read()
+    text: str
+    trace: io.FileIO
+    output: io.FileIO
+    call: Callable[[Sequence[str], io.FileIO], str | None]
 
     @functools.cached_property
     def read(self) -> scenarios.Scenario:
@@ -66,7 +59,7 @@ def resumed(place: Place) -> Found:
     if ends < 1:
         return Found(None, 0)
     epoch = str(1 + int.from_bytes(hashlib.sha256(place.text.encode()).digest()[:8], "big") % ends)
-    with open(place.path(STATE), "wb") as state:
+    with open(f"{place.folder}/{STATE}", "wb", buffering=0) as state:
         said = place.call(["save", place.scenario, epoch], state)
     if said:
         return Found(f"save {epoch}: {said}", 0)
@@ -80,11 +73,16 @@ def resumed(place: Place) -> Found:
 def by_links(place: Place) -> Found:
     """Each sample is what the sends of the trace give, by the rules of docs/AIR.md: what `links` checks."""
     said = io.StringIO()
+    place.trace.seek(0)
     with contextlib.redirect_stdout(said):
-        trace = traces.read(
-            place.path(place.trace), traces.Form.WHOLE, scenario=place.read, least_gap=scenarios.BYTE_TIME.start
+        trace = traces.Trace(
+            traces.blocks_of(place.trace),
+            "the trace",
+            traces.Form.WHOLE,
+            scenario=place.read,
+            least_gap=scenarios.BYTE_TIME.start,
         )
-        reader = links.Samples(place.read, None)
+        reader = hearing.Samples(place.read, None)
         reader.read(trace)
     samples = sum(reader.samples.values())
     return Found(f"links: {said.getvalue()[:MOST_SAID]}" if reader.faults else None, samples)
@@ -103,17 +101,15 @@ TITLES = {
 
 def with_calls(place: Place, name: str, calls: Sequence[Sequence[str]]) -> Found:
     """Compares the trace with what calls write one behind the other."""
-    with open(place.path(OUTPUT), "w+b") as output:
-        for words in calls:
-            said = place.call(words, output)
-            if said:
-                return Found(f"{name}: {said}", 0)
-        output.seek(0)
-        with open(place.path(place.trace), "rb") as trace:
-            return compared(name, trace, output)
+    empty(place.output)
+    for words in calls:
+        said = place.call(words, place.output)
+        if said:
+            return Found(f"{name}: {said}", 0)
+    return compared(name, place.trace, place.output)
 
 
-def compared(name: str, trace: BinaryIO, other: BinaryIO) -> Found:
+def compared(name: str, trace: io.FileIO, other: io.FileIO) -> Found:
     """The first row in which two traces differ, and how many rows are equal before it, or in all."""
     rows = 0
     for ours, theirs in zip(blocks(trace), blocks(other)):
@@ -122,15 +118,26 @@ def compared(name: str, trace: BinaryIO, other: BinaryIO) -> Found:
         if not ours:
             return Found(None, rows)
         rows += ours.count(b"\n")
-    for file in (trace, other):
-        file.seek(0)
-    pairs = itertools.zip_longest(trace, other, fillvalue=b"no row\n")
+    pairs = itertools.zip_longest(lines(trace), lines(other), fillvalue=b"no row\n")
     row, (ours, theirs) = next((row, pair) for row, pair in enumerate(pairs, 1) if pair[0] != pair[1])
     texts = (line.decode(errors="backslashreplace").rstrip("\n") for line in (ours, theirs))
     return Found(f"{name} differs in row {row:,}:\n- {next(texts)}\n+ {next(texts)}", row - 1)
 
 
-def blocks(file: BinaryIO) -> Iterator[bytes]:
+def blocks(file: io.FileIO) -> Iterator[bytes]:
     """A file in blocks; at its end empty ones."""
+    file.seek(0)
     while True:
         yield file.read(BLOCK)
+
+
+def lines(file: io.FileIO) -> Iterator[bytes]:
+    file.seek(0)
+    with open(file.fileno(), "rb", closefd=False) as buffered:
+        yield from buffered
+
+
+def empty(file: io.FileIO) -> None:
+    """Leaves nothing in a file, to be written anew."""
+    file.seek(0)
+    file.truncate()

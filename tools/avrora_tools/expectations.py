@@ -393,7 +393,10 @@ def check(
     gaps: list[Gap] = []
     failures: list[str] = []
     with contextlib.suppress(Unmet), contextlib.ExitStack() as stack:
-        reports = watch(case, whole_trace(trace, blocks, ended), save, stack, looked, gaps)
+        made: Iterable[traces.TraceRow] = trace
+        if ended:
+            made = whole_trace(trace, blocks, ended)
+        reports = watch(case, made, save, stack, looked, gaps)
         extent = extent_of(trace, window)
         refuse_impossible(case, extent)
         if not reports:
@@ -407,7 +410,7 @@ def check(
     return Outcome("\n".join(failures) or None, rows, len(case.statements), status)
 
 
-def whole_trace(trace: traces.Trace, blocks: Iterator[bytes], ended: Ended | None) -> Iterator[traces.TraceRow]:
+def whole_trace(trace: traces.Trace, blocks: Iterator[bytes], ended: Ended) -> Iterator[traces.TraceRow]:
     """The rows of a trace whose maker ended well. How it ended goes before what its rows lack."""
     came = False
     try:
@@ -415,16 +418,15 @@ def whole_trace(trace: traces.Trace, blocks: Iterator[bytes], ended: Ended | Non
             came = True
             yield row
     except BadInput:
-        if ended and next(blocks, None) is None:
+        if next(blocks, None) is None:
             ended(came)
         raise
-    if ended:
-        ended(came)
+    ended(came)
 
 
 def watch(
     case: Case,
-    rows: Iterator[traces.TraceRow],
+    rows: Iterable[traces.TraceRow],
     save: bool,
     stack: contextlib.ExitStack,
     looked: Iterator[int],
@@ -437,12 +439,13 @@ def watch(
     feeds = [watcher.feed for watcher in watchers if not isinstance(watcher, Sequence) or watcher.steps]
     tells_context = any(isinstance(statement, Never) for statement in case.statements)
     nodes, kinds = case.nodes, case.kinds
+    looks_at_all = nodes is None and kinds is None
     for row in rows:
         _, node, event = row
         if writers and isinstance(event, Serial):
             for writer in writers:
                 writer.feed(row)
-        if nodes is not None and node not in nodes or kinds is not None and event.kind not in kinds:
+        if not looks_at_all and (nodes is not None and node not in nodes or kinds is not None and event.kind not in kinds):
             continue
         next(looked)
         for feed in feeds:

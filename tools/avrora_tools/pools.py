@@ -119,10 +119,12 @@ class LocalPool:
         self.folder = tempfile.mkdtemp(prefix=prefix)
         self.workers: dict[Any, LocalWorker] = {}
         self.waiting: list[Event] = []
-        for number in range(count):
-            self.start(f"{socket.gethostname()} process {number}")
+        started = [self.started(f"{socket.gethostname()} process {number}") for number in range(count)]
+        for connection in started:  # once all are on their way, as each takes the shipment only when it has begun
+            self.ship(connection)
 
-    def start(self, name: str) -> None:
+    def started(self, name: str) -> Connection:
+        """Starts a worker, which waits for its shipment."""
         ours, theirs = multiprocessing.Pipe()
         with theirs:
             process = subprocess.Popen(
@@ -133,9 +135,12 @@ class LocalPool:
                 process_group=0,  # so that ^C does not end it, and it ends with the simulator that it runs
             )
         self.workers[ours] = LocalWorker(name, process=process)
+        return ours
+
+    def ship(self, connection: Connection) -> None:
         with contextlib.suppress(OSError):  # it is dead, which is seen when it is waited for
-            ours.send(self.shipment)
-            ours.send(self.folder)
+            connection.send(self.shipment)
+            connection.send(self.folder)
 
     def connection_of(self, worker: Worker) -> Any:
         return next(connection for connection, it in self.workers.items() if it is worker)
@@ -170,7 +175,7 @@ class LocalPool:
         reason = f"the worker ended with status {status}"
         if not worker.is_proved:
             return SetAside(worker, f"{reason} before it had proved itself")
-        self.start(worker.name)
+        self.ship(self.started(worker.name))
         return Lost(worker, list(worker.tickets), reason)
 
     def end(self, connection: Any, worker: LocalWorker) -> int:

@@ -6,7 +6,6 @@ import json
 import operator
 import re
 import sqlite3
-import xml.sax.saxutils
 from collections.abc import Callable, Iterable, Iterator, Sequence
 from typing import IO, Any
 
@@ -154,9 +153,11 @@ class Report:
 
     def write_junit(self, out: IO[str], where: Sequence[str] = runs.OUTCOMES) -> None:
         """A report for a server of builds."""
+        from xml.sax.saxutils import XMLGenerator  # here, as it loads much that no run needs
+
         found = self.outcomes()
         failures = found[runs.FAILED] + found[runs.REFUSED]
-        writer: Any = xml.sax.saxutils.XMLGenerator(out, "utf-8", short_empty_elements=True)  # it has no types
+        writer: Any = XMLGenerator(out, "utf-8", short_empty_elements=True)  # it has no types
         writer.startDocument()
         suite = {"name": self.name, "tests": str(found.total()), "failures": str(failures)}
         suite["errors"] = str(found[runs.BROKEN])

@@ -21,17 +21,16 @@ import shutil
 import tempfile
 import time
 from collections.abc import Iterator, Sequence
-from typing import IO, Any, BinaryIO, cast
+from typing import Any, BinaryIO, cast
 
 from avrora_tools import calling, cases, comparisons, expectations
 from avrora_tools.errors import ToolError
 from avrora_tools.events import CLASH, ONE_BYTE
-from avrora_tools.scenarios import Scenario
 
 PROGRAM = "avrora"  # the simulator's name in a shipment
 
-# The files of a run, and the folder of one with images of its own.
-SCENARIO, TRACE, OWN = "scenario.toml", "trace", "own"
+# The files of a run, and the folder of the scenario and the images of one with images of its own.
+SCENARIO, TRACE, OUTPUT, OWN = "scenario.toml", "trace", "output", "own"
 
 # All expectations are met; one is not; the scenario or an image is refused; the run came to no answer.
 PASSED, FAILED, REFUSED, BROKEN = "passed", "failed", "refused", "broken"
@@ -51,7 +50,7 @@ COUNTS = ("sent", "heard", "clashes", "serial", "stops")
 # What a row of each of them has in it.
 TELLING = (b" sent ", b" heard %d " % ONE_BYTE, b" heard %d " % CLASH, b" serial ", b" stop ")
 
-BLOCK = 1 << 20  # bytes that are looked at together
+BLOCK = 1 << 16  # bytes that are looked at together
 
 Job = tuple[str, int, dict[str, bytes]]
 Answer = dict[str, Any]
@@ -132,17 +131,20 @@ class Bench:
         self.folder = ""
         self.cases: dict[int, list[cases.Case]] = {}
         self.images: dict[str, bytes] = {}  # that are in the folder of a run's own
+        # For the trace of a run and for what it is compared with. They stay open, as many runs are as short as that takes.
+        self.trace: io.FileIO
+        self.output: io.FileIO
+        self.files = contextlib.ExitStack()
         self.caller = calling.Caller()
 
     def prove(self) -> str | None:
         """Unpacks what is not there, and runs a known scenario. None where it came out as it should, else why not."""
         try:
             self.unpack()
-            with open(f"{self.folder}/{TRACE}", "w+b") as trace:
-                self.write_scenario(self.folder, PROOF_SCENARIO)
-                ended = self.call(self.folder, ["run", SCENARIO], trace, PROOF_SECONDS)
-                trace.seek(0)
-                found = hashlib.sha256(trace.read()).digest()
+            self.write_scenario(self.folder, PROOF_SCENARIO)
+            ended = self.call(self.folder, ["run", SCENARIO], self.trace, PROOF_SECONDS)
+            self.trace.seek(0)
+            found = hashlib.sha256(self.trace.read()).digest()
         except OSError as fault:
             return described(fault)
         except calling.TooLong:
@@ -154,9 +156,13 @@ class Bench:
         return None
 
     def unpack(self) -> None:
-        """Writes the files of the shipment that are not there."""
+        """Writes the files of the shipment that are not there, and opens anew those that a run writes to."""
         if not os.path.isdir(self.folder):
             self.folder = tempfile.mkdtemp(prefix="avrora-", dir=self.place)
+        self.files.close()
+        self.trace, self.output = (
+            self.files.enter_context(open(f"{self.folder}/{name}", "w+b", buffering=0)) for name in (TRACE, OUTPUT)
+        )
         self.images.clear()
         os.makedirs(f"{self.folder}/{OWN}", exist_ok=True)
         for name, content in [*self.shipment.files.items(), (PROOF_NAME, PROOF_IMAGE.encode())]:
@@ -180,12 +186,11 @@ class Bench:
         """Runs a job. Raises Sick where it is the worker that cannot."""
         start, used = time.monotonic(), self.caller.processor
         try:
-            place = self.folder_for(job)
-            with open(f"{place}/{TRACE}", "w+b") as trace:
-                found = self.judged(job, place, trace)
-                keeps = self.shipment.traces
-                if keeps == "all" or keeps == "failed" and found["outcome"] in (FAILED, BROKEN):
-                    found["trace"] = packed(trace)
+            comparisons.empty(self.trace)
+            found = self.judged(job, self.folder_for(job))
+            keeps = self.shipment.traces
+            if keeps == "all" or keeps == "failed" and found["outcome"] in (FAILED, BROKEN):
+                found["trace"] = packed(self.trace)
         except OSError as fault:
             found = answer(BROKEN, described(fault), again=True, trouble=True)
         except MemoryError:
@@ -213,14 +218,14 @@ class Bench:
         return place
 
     def write_scenario(self, place: str, text: str) -> None:
-        with open(f"{place}/{SCENARIO}", "w", encoding="utf-8", errors="surrogateescape") as file:
-            file.write(text)
+        with open(f"{place}/{SCENARIO}", "wb") as file:
+            file.write(text.encode(errors="surrogateescape"))
 
-    def call(self, place: str, words: Sequence[str], output: IO[bytes], seconds: float) -> calling.Ended:
+    def call(self, place: str, words: Sequence[str], output: io.FileIO, seconds: float) -> calling.Ended:
         """Runs the simulator in a folder."""
         return self.caller.call(f"{self.folder}/{PROGRAM}", words, place, output, seconds)
 
-    def said_at_end(self, place: str, words: Sequence[str], output: IO[bytes]) -> tuple[int, str]:
+    def said_at_end(self, place: str, words: Sequence[str], output: io.FileIO) -> tuple[int, str]:
         """The status of a call of the simulator, and what it said. Raises NoAnswer where that is nothing of the scenario's:
         where another call may come to something else."""
         try:
@@ -232,46 +237,46 @@ class Bench:
             raise NoAnswer(answer(BROKEN, f"status {status}: {said}", again=True, trouble=trouble))
         return status, said
 
-    def judged(self, job: Job, place: str, trace: IO[bytes]) -> Answer:
+    def judged(self, job: Job, place: str) -> Answer:
         """What came of the simulator and of the checks."""
         scenario, check, _ = job
         self.write_scenario(place, scenario)
         try:
-            status, said = self.said_at_end(place, self.shipment.words, trace)
+            status, said = self.said_at_end(place, self.shipment.words, self.trace)
             if status in REFUSALS:
                 return answer(REFUSED, said)
             if status:
                 return answer(BROKEN, f"status {status}: {said}")
-            return self.checked(check, scenario, place, trace)
+            return self.checked(check, scenario, place)
         except NoAnswer as end:
             return end.answer
 
-    def checked(self, index: int, scenario: str, place: str, trace: IO[bytes]) -> Answer:
+    def checked(self, index: int, scenario: str, place: str) -> Answer:
         """Shows all cases the trace of a scenario, and compares it in all ways; the first failure of each is told."""
         check = self.shipment.checks[index]
-        window: range | None = None
-        with contextlib.suppress(ToolError):  # whether it is a scenario the simulator says
-            window = range(*Scenario.of_text(scenario, "the scenario").window)
+
+        def call(words: Sequence[str], output: io.FileIO) -> str | None:
+            status, said = self.said_at_end(place, words, output)
+            return f"status {status}: {said}" if status else None
+
+        compares = comparisons.Place(place, SCENARIO, scenario, self.trace, self.output, call)
         if index not in self.cases:
             self.cases[index] = [self.case(shipped) for shipped in check.cases]
+        window: range | None = None
+        with contextlib.suppress(ToolError):  # whether it is a scenario the simulator says
+            window = range(*compares.read.window)
         failures = []
         for shipped, case in zip(check.cases, self.cases[index]):
-            trace.seek(0)
+            self.trace.seek(0)
             try:
-                failure = expectations.check(case, cast(BinaryIO, trace), window=window).failure
+                failure = expectations.check(case, cast(BinaryIO, self.trace), window=window).failure
             except ToolError as fault:
                 return answer(BROKEN, f"{shipped.path}: {fault}")
             if failure:
                 for golden in shipped.goldens:
                     failure = failure.replace(f"{self.folder}/{golden.file}", golden.path)
                 failures.append(failure)
-
-        def call(words: Sequence[str], output: BinaryIO) -> str | None:
-            status, said = self.said_at_end(place, words, output)
-            return f"status {status}: {said}" if status else None
-
         compared = {}
-        compares = comparisons.Place(place, SCENARIO, TRACE, call)
         for way in check.ways:
             try:
                 found = comparisons.WAYS[way](compares)
@@ -281,7 +286,7 @@ class Bench:
             if found.difference:
                 failures.append(found.difference)
         judged = answer(FAILED if failures else PASSED, "\n".join(failures))
-        judged["hash"], judged["counts"] = looked_through(trace)
+        judged["hash"], judged["counts"] = looked_through(self.trace)
         judged["compared"] = compared
         return judged
 
@@ -326,7 +331,7 @@ def described(fault: OSError) -> str:
     return f"{fault.filename}: {fault.strerror}" if fault.filename else str(fault.strerror or fault)
 
 
-def packed(trace: IO[bytes]) -> bytes:
+def packed(trace: io.FileIO) -> bytes:
     """A file in gzip's format, without a time in it."""
     trace.seek(0)
     out = io.BytesIO()
@@ -335,7 +340,7 @@ def packed(trace: IO[bytes]) -> bytes:
     return out.getvalue()
 
 
-def looked_through(trace: IO[bytes]) -> tuple[str, list[int]]:
+def looked_through(trace: io.FileIO) -> tuple[str, list[int]]:
     """The hash of a trace, and how many rows of each kind it has, in the order of COUNTS; of those that heard, how many
     heard one byte, and how many a clash."""
     trace.seek(0)

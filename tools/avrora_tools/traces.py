@@ -30,6 +30,9 @@ LAST_LIMIT = max(MAX_CYCLES.values())
 NEVER = 1 << 62
 CARE_BITS = 3  # of the code of an event
 
+# The events of all traces that were read: many runs of one program say the same.
+SEEN = Events()
+
 
 class Form(enum.Enum):
     """Which part of a run's rows a trace is to have."""
@@ -83,7 +86,7 @@ class Trace:
                 self.note_stop(node)
 
     def __iter__(self) -> Iterator[TraceRow]:
-        events, nodes = Events(), self.nodes
+        events, nodes = SEEN, self.nodes
         first, bound = self.first, self.bound
         order, digits, cycle, window_end = -1, "", -1, -1
         for lines in self.lines():
@@ -100,7 +103,7 @@ class Trace:
                     code = event.code
                 if text != digits:
                     cycle, digits = int(text) if text.isdigit() and len(text) < LONGEST_ROW else NEVER, text
-                    if not first <= cycle < bound or str(cycle) != text:
+                    if not first <= cycle < bound or text[0] == "0" and text != "0":
                         self.check_cycle(line, text, cycle)
                 now = cycle << 10 | node << 4 | code
                 if now <= order:

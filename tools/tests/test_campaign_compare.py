@@ -138,7 +138,7 @@ class OneByOne(unittest.TestCase):
             self.rows = file.read().splitlines(keepends=True)
         with open(f"{DATA}/packet.toml", encoding="utf-8") as file:
             self.scenario = file.read()
-        self.write("trace", b"".join(self.rows))
+        self.content = b"".join(self.rows)
 
     def write(self, name, content):
         with open(f"{self.folder.name}/{name}", "wb") as file:
@@ -156,11 +156,15 @@ class OneByOne(unittest.TestCase):
                 with open(f"{self.folder.name}/{words[-1]}", "rb") as file:
                     first = int(file.read()) * EPOCH
             output.write(b"".join(row for row in self.rows if first <= int(row.split()[0]) < end))
-        output.flush()
 
     def found(self, way):
-        self.write("scenario.toml", self.scenario.encode())
-        return comparisons.WAYS[way](comparisons.Place(self.folder.name, "scenario.toml", "trace", self.call))
+        self.write("trace", self.content)
+        with (
+            open(f"{self.folder.name}/trace", "rb", buffering=0) as trace,
+            open(f"{self.folder.name}/output", "w+b", buffering=0) as output,
+        ):
+            place = comparisons.Place(self.folder.name, "scenario.toml", self.scenario, trace, output, self.call)
+            return comparisons.WAYS[way](place)
 
     def test_equal(self):
         heard = sum(b" heard " in row for row in self.rows)
@@ -182,7 +186,7 @@ class OneByOne(unittest.TestCase):
         self.assertEqual(self.found("resumed"), (None, 0))
 
     def test_no_trace_of_the_scenario(self):
-        self.write("trace", b"".join(self.rows[:-1]))
+        self.content = b"".join(self.rows[:-1])
         with self.assertRaises(BadInput):
             self.found("links")
 

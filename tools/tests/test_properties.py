@@ -153,6 +153,24 @@ if given:
                 return
             self.assertIsInstance(found, dict)
 
+        # Lines as programs write them, and others that are nearly so.
+        PARTS = draws.sampled_from(
+            "a b_2 é 3 [[ ]] [[a]] [[b_2]] [ ] = \" \\ # , 0 01 7 -1 1_0 ٣ 999999999999999999 1234567890123456789 true \n \t".split(" ")
+            + [" ", " = ", '"x y"', "[1, 2]", "[[1, 2], [3, 4]]", "[01]", "[1, ]", "a = 1\n", "[[b_2]]\n", 'c = "d"\n']
+        )
+
+        @settings(SETTINGS, max_examples=600)
+        @given(draws.lists(PARTS, max_size=12).map("".join))
+        def test_what_programs_write_is_read_as_all_is(self, text):
+            found = toml.plain(text)
+            if found is not None:
+                self.assertEqual(repr(found), repr(tomllib.loads(text)))
+
+        def test_what_programs_write(self):
+            text = 'version = 3\nopen = [[0, 5], [7, 9]]\nwindow = [1, 2]\n\n[[node]]\nimage = "a b.hex"\n[[node]]\n'
+            document = {"version": 3, "open": [[0, 5], [7, 9]], "window": [1, 2], "node": [{"image": "a b.hex"}, {}]}
+            self.assertEqual(toml.plain(text), document)
+
 else:
 
     class Properties(unittest.TestCase):

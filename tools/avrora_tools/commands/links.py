@@ -5,7 +5,8 @@ from typing import NamedTuple
 
 from avrora_tools import cli, files, maps, scenarios, traces
 from avrora_tools.errors import BadInput, Status
-from avrora_tools.events import CLASH, NOTHING, ONE_BYTE, Event, Heard, Sent, Stop
+from avrora_tools.events import CLASH, NOTHING, ONE_BYTE, Heard, Sent
+from avrora_tools.hearing import Samples, shown
 from avrora_tools.scenarios import OnAir, Scenario
 from avrora_tools.states import State
 
@@ -22,9 +23,6 @@ docs/AIR.md with the scenario's latencies and spans, and that each node sends a 
 whole, with an end row of each node of the scenario; or with --state that of `avrora resume` from that state, which
 knows what was on the air. Status 0: all samples are as they should be; 1: one is not; 2: no scenario, no whole
 trace of it, or one without any sample, of which nothing can be checked."""
-
-MAX_TOLD = 10  # samples at fault that are told, of any number
-
 
 class Flight(NamedTuple):
     """A byte on the air, and by whom it was heard: a dictionary from the hearer to ONE_BYTE or CLASH. A byte that was
@@ -80,72 +78,6 @@ class Fates:
                 self.end(node, flights.popleft())
 
 
-class Samples:
-    """Goes through the rows of a trace, and checks its samples and sends."""
-
-    def __init__(self, scenario: Scenario, state: State | None) -> None:
-        self.scenario = scenario
-        self.air = scenarios.Air(scenario)
-        self.life = self.air.reach + scenario.byte_time  # how long a byte can be heard after it was sent
-        self.free: collections.Counter[int] = collections.Counter()  # the cycle from which on a node may send
-        self.samples: collections.Counter[tuple[int, int]] = collections.Counter()
-        self.sends: collections.Counter[int] = collections.Counter()
-        self.faults = 0
-        self.has_state = state is not None
-        for cycle, node, byte in state.sends if state else ():
-            self.air.send(node, cycle, byte)
-        for node, one in enumerate(state.nodes if state else ()):
-            self.free[node] = one["radio free"]
-
-    def read(self, trace: traces.Trace) -> None:
-        quiet = [0] * len(self.scenario.images)  # samples that hear nothing while nothing can be heard
-        for cycle, node, event in trace:
-            if isinstance(event, Heard):
-                if event.status == NOTHING and cycle >= self.air.silent_from:
-                    quiet[node] += 1
-                else:
-                    self.sample(trace, cycle, node, event)
-            elif isinstance(event, Sent):
-                self.send(cycle, node, event)
-            elif isinstance(event, Stop):
-                print(f"{cycle} node {node} stopped at {event.rest}")
-        for node, count in enumerate(quiet):
-            self.samples[node, NOTHING] += count
-
-    def send(self, cycle: int, node: int, event: Sent) -> None:
-        if cycle < self.free[node]:
-            self.fault(cycle, node, event, f"its byte before is on the air until {self.free[node]}")
-        self.free[node] = cycle + self.scenario.byte_time
-        self.sends[node] += 1
-        self.air.send(node, cycle, event.byte)
-
-    def sample(self, trace: traces.Trace, cycle: int, node: int, event: Heard) -> list[OnAir]:
-        """Checks a sample; the bytes that are on the air at it."""
-        on_air = self.air.heard(node, cycle)
-        status, byte, age = scenarios.answer(on_air, cycle)
-        self.samples[node, event.status] += 1
-        if (status, byte, age) != (event.status, event.byte, event.age):
-            self.refuse_rest(trace, cycle)
-            senders = ", ".join(map(shown, on_air)) or "nothing"
-            self.fault(cycle, node, event, f"on the air is {senders}, so {status} {byte:02X} {age} is to be heard")
-        return on_air
-
-    def refuse_rest(self, trace: traces.Trace, cycle: int) -> None:
-        """Raises BadInput where what a sample heard may have been sent before the trace begins: where it may be that of
-        `resume`, from a state that is not named, of an epoch's end before its first row."""
-        epoch = (trace.first_row or 0) // traces.EPOCH * traces.EPOCH
-        if epoch and not self.has_state and epoch > cycle - self.life:
-            raise BadInput(
-                f"{trace.name}: in cycle {cycle} a sample hears what no row sent, and the first row is of cycle "
-                f"{trace.first_row}: where it is the trace of `avrora resume`, name the state (--state)"
-            )
-
-    def fault(self, cycle: int, node: int, event: Event, text: str) -> None:
-        self.faults += 1
-        if self.faults <= MAX_TOLD:
-            print(f"{cycle} node {node} {event.text}: {text}")
-
-
 class Reader(Samples):
     """The same, and what became of the sends."""
 
@@ -172,11 +104,6 @@ class Reader(Samples):
         if event.status == CLASH and self.tells_clashes:
             print(f"{cycle} clash at node {node}: {', '.join(map(shown, on_air))}")
         return on_air
-
-
-def shown(one: OnAir) -> str:
-    """A byte on the air in words."""
-    return f"{one.byte:02X} of node {one.sender} sent at {one.cycle}"
 
 
 FATES = ("sent", "closed", "clean", "clashed", "unheard")
