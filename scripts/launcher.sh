@@ -26,9 +26,9 @@ Usage: $called [-C DIR] COMMAND
   check FILE          read the scenario FILE and its images, and write how large the network is
   head FILE N         run it for N epochs of 262144 cycles, and write their part of the trace
   save FILE N         run it for N epochs, and write the state of the network
+  head, save FILE N STATE   the same from a state on, for N epochs more
   resume FILE STATE   run it from a state on, and write the rest of the trace
   sweep FILE STATE MOVES  the same again and again, once for each line of MOVES, with the input that it says
-  head, save FILE N STATE   the same for N epochs from a state on
   node FILE CYCLES    run the image FILE (Intel HEX) on one node for CYCLES cycles (1 to 10000000, no _), and write its trace
   disasm FILE         list the instructions of the image FILE
   asm FILE            write the program of FILE, a source in assembly, as an image

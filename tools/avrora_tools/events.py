@@ -46,11 +46,6 @@ class Event:
         self.text = text
 
     @property
-    def code(self) -> int:
-        """Its rank and its care as a number: of two events of a node's cycle that of a higher rank has the higher one."""
-        return self.rank << 2 | self.care
-
-    @property
     def rest(self) -> str:
         """What stands behind the kind."""
         return self.text.partition(" ")[2]
@@ -166,16 +161,16 @@ def event_of(text: str) -> Event | None:
         return None
 
 
-class Events(dict[str, tuple[int, Event]]):
-    """The events with their codes by their texts, as far as they came; a text that says none raises KeyError."""
+class Events(dict[str, Event]):
+    """The events by their texts, as far as they came; a text that says none raises KeyError."""
 
     MOST = 50_000  # beyond which all are forgotten, so that memory does not grow with a trace
 
-    def __missing__(self, text: str) -> tuple[int, Event]:
+    def __missing__(self, text: str) -> Event:
         event = event_of(text)
         if event is None:
             raise KeyError(text)
         if len(self) >= self.MOST:
             self.clear()
-        self[text] = event.code, event
-        return event.code, event
+        self[text] = event
+        return event

@@ -18,6 +18,7 @@ from avrora_tools.traces import Trace
 SEND_CHARGE, BUSY_CHARGE, ASLEEP_CHARGE = 512, 8, 1
 
 NOTHING_TRACED = "no instruction is traced: run the scenario with a window, as the tool window does"
+NOTHING_MONITORED = "a report of no cycles: the scenario has no window. `avrora monitor FILE 0 {}` is of all its cycles"
 
 
 @dataclass
@@ -197,11 +198,11 @@ LONGEST_LINE = 80
 class MonitorReader:
     """Reads what `avrora monitor` wrote: of each node of a scenario, in their order, all its lines.
 
-    The cycles are those of `window`, or without one of the scenario's window.
+    The cycles are those of `window`; without one those of the scenario's window, or all of its cycles, where there are so many.
     """
 
     def __init__(self, name: str, scenario: Scenario, window: tuple[int, int] | None = None) -> None:
-        self.name, self.scenario, self.window = name, scenario, window or scenario.window
+        self.name, self.scenario, self.window = name, scenario, window
         self.spent: list[Spent] = []
         self.line = LINES.index("charge")  # the kind of the last line
         self.word = -1  # of the last line
@@ -254,16 +255,25 @@ class MonitorReader:
         count = len(self.scenario.images)
         if self.line != LINES.index("charge") or len(self.spent) != count:
             raise BadInput(f"{self.name}: it ends with node {len(self.spent) - 1}, and the scenario has {count} nodes")
-        first, end = self.window
+        cycles = self.cycles()
         for node, spent in enumerate(self.spent):
             rest = spent.charge - BUSY_CHARGE * spent.busy() - ASLEEP_CHARGE * spent.asleep
-            if spent.total() != end - first or rest < 0 or rest % SEND_CHARGE:
+            if spent.total() != cycles:
                 raise BadInput(
-                    f"{self.name}: the lines of node {node} do not add up to the {end - first:,} cycles of the window "
-                    "and to their charge"
+                    f"{self.name}: the lines of node {node} do not add up to the {cycles:,} cycles of the window, but to "
+                    f"{spent.total():,}: of `avrora monitor FILE FROM TO` --window FROM..TO says the window"
                 )
-        if first == end:
-            raise BadInput(NOTHING_TRACED)
+            if rest < 0 or rest % SEND_CHARGE:
+                raise BadInput(f"{self.name}: the lines of node {node} do not add up to their charge")
+        if cycles == 0:
+            raise BadInput(f"{self.name}: {NOTHING_MONITORED.format(self.scenario.cycles)}")
+
+    def cycles(self) -> int:
+        """How many cycles each node is to have."""
+        if self.window is None and all(spent.total() == self.scenario.cycles for spent in self.spent):
+            return self.scenario.cycles
+        first, end = self.window or self.scenario.window
+        return end - first
 
 
 def text_lines(blocks: Iterable[bytes], name: str) -> Iterator[str]:

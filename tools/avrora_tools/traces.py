@@ -2,10 +2,8 @@
 
 A trace is read once, in blocks, and its rows are checked as they come, so memory does not grow with it.
 """
-import collections
 import argparse
 import enum
-import io
 import os
 from collections.abc import Iterable, Iterator
 from operator import length_hint
@@ -24,11 +22,15 @@ EPOCH = 262_144
 # A row: its cycle, its node, and what it says.
 TraceRow = tuple[int, int, Event]
 
-BLOCK = 1 << 17  # bytes that are read at once
+# What a row says behind its cycle: its place among the rows of a cycle, whose places rise; the `Care` of its event; its
+# node; its event.
+Said = tuple[int, int, int, Event]
+
+BLOCK = 1 << 15  # bytes that are read at once
 LONGEST_ROW = 256  # more bytes than a row has
 LAST_LIMIT = max(MAX_CYCLES.values())
 NEVER = 1 << 62
-CARE_BITS = 3  # of the code of an event
+RANK_BITS = 2  # of a place, below the node
 
 # The events of all traces that were read: many runs of one program say the same.
 SEEN = Events()
@@ -41,6 +43,31 @@ class Form(enum.Enum):
     ENDED = "a trace with its end rows"  # also of `resume` and of the tool window, which begin later
     HEAD = "the beginning of a trace"  # of `head`: without end rows
     ROWS = "rows of a trace"  # any of them, in their order, as grep and awk leave them
+
+
+class Texts(dict[str, Said]):
+    """What rows say by their texts behind the cycle, as far as they came: one look-up for the node and the event of a row.
+
+    A text raises KeyError that says nothing, or is of a node that is none of `nodes`. Where one leaves them the texts are
+    to be forgotten, too.
+    """
+
+    MOST = 50_000  # beyond which all are forgotten, so that memory does not grow with a trace
+
+    def __init__(self, nodes: dict[str, int]) -> None:
+        self.nodes, self.events = nodes, SEEN
+
+    def __missing__(self, text: str) -> Said:
+        digits, _, event = text.partition(" ")
+        said = said_of(self.nodes[digits], self.events[event])
+        if len(self) >= self.MOST:
+            self.clear()
+        self[text] = said
+        return said
+
+
+def said_of(node: int, event: Event) -> Said:
+    return node << RANK_BITS | event.rank, int(event.care), node, event
 
 
 class Trace:
@@ -79,6 +106,7 @@ class Trace:
         self.most_nodes = len(scenario.images) if scenario else len(state.nodes) if state else MAX_NODES
         # The nodes that may have rows of any kind, by their digits; those that stopped may have an end row alone.
         self.nodes = {str(node): node for node in range(self.most_nodes)}
+        self.texts = Texts(self.nodes)
         self.stopped: set[int] = set()
         self.remaining: Iterator[str] = iter(())  # what is left of the lines of the block
         for node, one in enumerate(state.nodes if state else ()):
@@ -86,31 +114,35 @@ class Trace:
                 self.note_stop(node)
 
     def __iter__(self) -> Iterator[TraceRow]:
-        events, nodes = SEEN, self.nodes
-        first, bound = self.first, self.bound
-        order, digits, cycle, window_end = -1, "", -1, -1
+        texts, bound, traced = self.texts, self.bound, int(Care.TRACED)
+        # Of the row before: its cycle, the digits of that, and how many they are; its place in the cycle.
+        cycle, digits, length, before = -1, " ", 0, -1
+        window_end = -1
         for lines in self.lines():
             self.remaining = iter(lines)
             if self.first_row is None:
                 self.first_row = leading_number(lines[0])
             for line in self.remaining:
+                text, _, rest = line.partition(" ")
                 try:
-                    text, node_text, rest = line.split(" ", 2)
-                    code, event = events[rest]
-                    node = nodes[node_text]
-                except (KeyError, ValueError):
-                    text, node, event = self.unusual(line)
-                    code = event.code
+                    place, care, node, event = texts[rest]
+                except KeyError:
+                    place, care, node, event = self.unusual(line)
                 if text != digits:
-                    cycle, digits = int(text) if text.isdigit() and len(text) < LONGEST_ROW else NEVER, text
-                    if not first <= cycle < bound or text[0] == "0" and text != "0":
-                        self.check_cycle(line, text, cycle)
-                now = cycle << 10 | node << 4 | code
-                if now <= order:
-                    raise self.fault(out_of_order(order, cycle, node), line)
-                order = now | CARE_BITS  # two rows of one rank are too many, whatever care they want
-                if code & CARE_BITS:
-                    if code & CARE_BITS != Care.TRACED:
+                    try:
+                        now = int(text)
+                    except ValueError:
+                        now = NEVER
+                    # A higher number than the one before in as many characters has no others than its digits.
+                    if now <= cycle or now >= bound or len(text) != length:
+                        self.check_cycle(line, text, now, cycle)
+                        length = len(text)
+                    cycle, digits = now, text
+                elif place <= before:
+                    raise self.fault(out_of_order(cycle, node, before), line)
+                before = place
+                if care:
+                    if care != traced:
                         self.note(line, cycle, node, event)
                     elif cycle < window_end:
                         self.last_traced = cycle
@@ -156,15 +188,13 @@ class Trace:
                 return self.fault(f"no row has the kind {parts[2]}", line)
         return self.fault("no row of a trace", line)
 
-    def unusual(self, line: str) -> tuple[str, int, Event]:
-        """The parts of a row that a node may have no more, or BadInput that says what is wrong with it."""
+    def unusual(self, line: str) -> Said:
+        """What a row says that a node may have no more, or BadInput that says what is wrong with it."""
         parts = line.split(" ", 2)
         event = event_of(parts[2]) if len(parts) == 3 else None
         if event is None:
             raise self.no_row(line)
-        text, digits, _ = parts
-        if digits in self.nodes:
-            return text, self.nodes[digits], event
+        digits = parts[1]
         if not digits.isdigit() or str(int(digits[:9])) != digits or int(digits) >= MAX_NODES:
             raise self.no_row(line)
         node = int(digits)
@@ -177,11 +207,20 @@ class Trace:
             raise self.fault(f"{what} has {self.most_nodes} nodes, so it is not its trace", line)
         if not isinstance(event, End):
             raise self.fault("a row behind an end row", line)
-        return text, node, event
+        return said_of(node, event)
 
-    def check_cycle(self, line: str, text: str, cycle: int) -> None:
+    def check_cycle(self, line: str, text: str, cycle: int, before: int) -> None:
+        """A cycle that is another than `before`, that of the row before: how it is spelled, its bounds, its order."""
+        if str(cycle) != text:
+            raise self.no_row(line)
+        if not self.first <= cycle < self.bound:
+            self.check_bounds(line, cycle)
+        if cycle < before:
+            raise self.fault(f"cycle {cycle} stands behind cycle {before}", line)
+
+    def check_bounds(self, line: str, cycle: int) -> None:
         """A cycle that is not within the bounds of the rows: only an end row may have it."""
-        if str(cycle) != text or not 0 <= cycle <= LAST_LIMIT:
+        if not 0 <= cycle <= LAST_LIMIT:
             raise self.no_row(line)
         if cycle < self.first:
             raise self.fault(f"a row before cycle {self.first:,}, of which the state is", line)
@@ -213,6 +252,7 @@ class Trace:
 
     def note_stop(self, node: int) -> None:
         del self.nodes[str(node)]
+        self.texts.clear()
         self.stopped.add(node)
 
     def note_end(self, line: str, cycle: int, node: int, event: End) -> None:
@@ -231,6 +271,7 @@ class Trace:
             raise self.fault("more instructions than cycles", line)
         self.ended[node] = event
         self.nodes.clear()
+        self.texts.clear()
 
     def is_from_reset(self) -> bool:
         """Whether the trace has all stops of the run."""
@@ -282,13 +323,10 @@ def form_of(arguments: argparse.Namespace) -> Form:
     return Form.HEAD if arguments.head else Form.ENDED
 
 
-def out_of_order(order: int, cycle: int, node: int) -> str:
-    """What is wrong with a row that does not come behind the one of the place `order`."""
-    before, node_before = order >> 10, order >> 4 & 0x3F
-    if cycle < before:
-        return f"cycle {cycle} stands behind cycle {before}"
-    if node < node_before:
-        return f"node {node} stands behind node {node_before} in cycle {cycle}"
+def out_of_order(cycle: int, node: int, before: int) -> str:
+    """What is wrong with a row that does not come behind the one of the place `before` in its cycle."""
+    if node < before >> RANK_BITS:
+        return f"node {node} stands behind node {before >> RANK_BITS} in cycle {cycle}"
     return f"a node's rows of cycle {cycle} are out of order"
 
 

@@ -8,7 +8,7 @@ from avrora_tools.budgets import Currents, account, duty_cycle, milliampere_hour
 from avrora_tools.errors import BadInput
 from avrora_tools.profiles import MonitorReader
 from avrora_tools.scenarios import Scenario
-from support import run_tool
+from support import TOP, run_tool
 
 # 1,000 cycles: node 0 awake for 300 of them (290 by two instructions, 10 by a vector), 200 without an owner, 2 bytes sent;
 # node 1 sleeps from the first cycle on and stops in cycle 400.
@@ -129,9 +129,37 @@ def test_the_report_comes_from_the_standard_input_too(inputs):
 
 
 def test_the_report_of_a_span_is_whole_by_the_window_that_is_named(inputs, tmp_path):
-    """The report has 1,000 cycles a node, and the scenario's window 400."""
-    (tmp_path / "s.toml").write_text(SCENARIO.replace("[0, 1_000]", "[600, 1_000]"))
+    """The report has 1,000 cycles a node; the scenario has 2,000, and its window 400."""
+    (tmp_path / "s.toml").write_text(SCENARIO.replace("= 1_000", "= 2_000", 1).replace("[0, 1_000]", "[600, 1_000]"))
     assert run_tool("energy", *inputs, "--window", "0..1_000")[0] == 0
-    for words in ((), ("--window", "0..999")):
+    for words, cycles in (((), "400"), (("--window", "0..999"), "999")):
         status, out, err = run_tool("energy", *inputs, *words)
-        assert (status, out) == (2, "") and "node 0 do not add up" in err
+        assert (status, out) == (2, "")
+        assert f"node 0 do not add up to the {cycles} cycles of the window, but to 1,000" in err and "--window FROM..TO" in err
+
+
+def test_the_report_of_the_whole_run_needs_no_window(inputs, tmp_path):
+    for window in ("", "window = [600, 1_000]"):
+        (tmp_path / "s.toml").write_text(SCENARIO.replace("window = [0, 1_000]", window))
+        assert run_tool("energy", *inputs)[0] == 0
+        assert run_tool("profile", "-s", *inputs[1:])[0] == 0
+
+
+def test_a_report_of_no_cycles_says_how_one_of_the_whole_run_is_made(inputs, tmp_path):
+    (tmp_path / "s.toml").write_text(SCENARIO.replace("window = [0, 1_000]", ""))
+    (tmp_path / "r.profile").write_text("".join(f"{k} {kind} 0\n" for k in (0, 1) for kind in ("lead", "asleep", "stopped", "charge")))
+    for words in (("energy", *inputs), ("profile", "-s", *inputs[1:])):
+        status, out, err = run_tool(*words)
+        assert (status, out) == (2, "") and "`avrora monitor FILE 0 1000` is of all its cycles" in err
+
+
+def test_a_charge_that_does_not_add_up_is_refused(inputs, tmp_path):
+    (tmp_path / "r.profile").write_text(REPORT.replace("charge 3924", "charge 3925"))
+    status, out, err = run_tool("energy", *inputs)
+    assert (status, out) == (2, "") and "the lines of node 0 do not add up to their charge" in err
+
+
+def test_the_table_to_begin_with():
+    with open(f"{TOP}/examples/currents.toml", encoding="utf-8") as file:
+        table = table_of(file.read(), "currents.toml")
+    assert table.common == Currents(8, 3.2, 12, 7) and table.of(0).listening == 5.5 and table.battery == 2_500

@@ -12,4 +12,4 @@ def test_what_a_mutant_changes_stands_there_once(mutant):
 
 
 def test_each_has_a_name_of_its_own():
-    assert len({mutant.name for mutant in MUTANTS}) == len(MUTANTS) == 68
+    assert len({mutant.name for mutant in MUTANTS}) == len(MUTANTS) == 73

@@ -352,7 +352,7 @@ class Profile(unittest.TestCase):
         self.refused("no instruction is traced: run the scenario with a window", trace="5 0 sent 41\n9 0 end 1 running\n")
         with scratch("net.toml", self.SCENARIO.format(0, 0)) as scenario:
             monitor = "0 lead 0\n0 asleep 0\n0 stopped 0\n0 charge 0\n"
-            self.refused("no instruction is traced: run the scenario with a window", "-s", scenario, trace=monitor)
+            self.refused("a report of no cycles: the scenario has no window. `avrora monitor", "-s", scenario, trace=monitor)
 
     @pyelftools
     def test_relay(self):

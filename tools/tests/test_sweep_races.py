@@ -124,9 +124,31 @@ def test_the_earliest_failure_is_written_as_a_scenario_that_fails(races, tmp_pat
     words = ["--input", "2:1=443_340..443_350", "--until", "660_000", "--compare", "lines", "--out", str(tmp_path / "failed.toml")]
     status, out, _ = sweep(races, "alarm.toml", *words)
     assert status == 1
-    command = re.search(r"earliest: avrora -C (\S+) (resume .*)", out)
-    rows = subprocess.run([PROGRAM, *command[2].split()], cwd=races, capture_output=True, text=True, check=True).stdout
-    assert re.search(r"^4433\d\d 2 enter 0024 0084$", rows, re.M)  # between the two reads, in the window
+    assert re.search(r"^4433\d\d 2 enter 0024 0084$", rows_of_earliest(out, races), re.M)  # between the two reads, in the window
+    notes = (tmp_path / "failed.toml").read_text().splitlines()[:2]
+    assert re.fullmatch(r"# The run of a sweep with byte 1 of node 2's input at 443,34\d\.", notes[0])
+    assert notes[1] == "# It begins in the state beside it: avrora resume failed.toml failed.toml.state"
+
+
+def rows_of_earliest(out, folder):
+    """What the command writes that a sweep tells last, run by a shell where the sweep was."""
+    command = re.search(r"^earliest: (.*)", out, re.M)[1]
+    return subprocess.run(command, shell=True, cwd=folder, capture_output=True, text=True, check=True).stdout
+
+
+@pytest.mark.parametrize("is_beside", [True, False])
+def test_the_earliest_failure_of_a_byte_alone_names_its_moves(races, tmp_path, is_beside):
+    folder = races if is_beside else tmp_path
+    words = [str(races / "alarm.toml"), "--input", "2:1=443_340..443_350", "--alone", "--until", "660_000", "--compare", "lines"]
+    status, out, _ = sweep(folder, *words, "--out", str(tmp_path / "it is alone.toml"))
+    assert status == 1
+    assert ("earliest: (cd " in out) != is_beside
+    assert re.search(r"^4433\d\d 2 enter 0024 0084$", rows_of_earliest(out, folder), re.M)
+    notes = (tmp_path / "it is alone.toml").read_text().splitlines()[1:3]
+    assert notes == [
+        "# What arrives at node 2 is said by the moves beside it, and not here; it begins in the state beside it:",
+        "# avrora sweep 'it is alone.toml' 'it is alone.toml.state' 'it is alone.toml.moves'",
+    ]
 
 
 def test_late_is_told_apart_from_lost(races):

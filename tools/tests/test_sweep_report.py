@@ -9,7 +9,7 @@ from avrora_tools.sweeping.findings import Spots, findings, joined, lines_of, sp
 from avrora_tools.sweeping.ordering import Clock, Enter, Use, first_difference, steps
 from avrora_tools.sweeping.plans import Cell, FirstLook, in_rounds, spread
 from avrora_tools.sweeping.sharing import DataObject, Sharing, data_address, target
-from avrora_tools.sweeping.verdicts import Compare, PredicateCheck, SerialCheck
+from avrora_tools.sweeping.verdicts import Compare, Late, PredicateCheck, SerialCheck
 from avrora_tools.traces import Row
 
 
@@ -223,9 +223,17 @@ def test_serial_output_in_any_order():
 def test_what_is_late():
     check = SerialCheck(b"", GOOD, [0], Compare.BYTES)
     late = serial((10, 97), (20, 98), (30, 10), (40, 99), (50, 100), (77, 10), (80, 120))
-    assert check.late(late) == (0, 77)
+    assert check.late(late) == Late(0, 77, None)
     assert check.late(serial((10, 97), (20, 120))) is None
-    assert SerialCheck(b"", {0: b"aab"}, [0], Compare.ANY_ORDER).late(serial((5, 98), (6, 97), (7, 99), (9, 97))) == (0, 9)
+    assert SerialCheck(b"", {0: b"aab"}, [0], Compare.ANY_ORDER).late(serial((5, 98), (6, 97), (7, 99), (9, 97))) == Late(0, 9, None)
+
+
+def test_what_is_late_at_each_deadline():
+    """A node that writes `a` over and over, and begins later: at the end it has written two of them where four are due."""
+    runs = serial((700, 97), (800, 97))
+    for good_at_last, wrong in ((b"aaaa", "node 0 did not write 'aa'"), (b"aa", None)):
+        check = SerialCheck(b"", {0: b"a"}, [0], good_at_last=lambda: {0: good_at_last})
+        assert check.late(runs) == Late(0, 700, wrong)
 
 
 def test_a_predicate_has_the_moved_values_in_the_order_of_the_words():

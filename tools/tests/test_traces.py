@@ -118,6 +118,9 @@ class Rows(Refusals):
             with self.subTest(line):
                 self.refused(f"1 0 serial 7F\n{line}\n", "^t, line 2: no row of a trace: ", Form.ROWS)
 
+    def test_a_first_line_without_a_cycle(self):
+        self.refused(" 0 sent 7F\n", "^t, line 1: no row of a trace: ", Form.ROWS)
+
     def test_a_later_kind_is_named(self):
         self.refused("1 0 slept 7F\n", "^t, line 1: no row has the kind slept: ")
 
@@ -176,6 +179,7 @@ class Order(Refusals):
     def test_behind_a_stop(self):
         self.refused("5 0 stop 0000 break\n5 0 serial 41\n", "t, line 2: node 0 stopped before", Form.ROWS)
         self.refused("5 0 stop 0000 break\n6 0 stop 0000 break\n", "t, line 2: node 0 stopped before", Form.ROWS)
+        self.refused("4 0 serial 41\n5 0 stop 0000 break\n6 0 serial 41\n", "t, line 3: node 0 stopped before", Form.ROWS)
         self.assertEqual(len(lines("5 0 stop 0000 break\n6 1 sent 41\n", Form.ROWS)), 2)
 
 
@@ -203,6 +207,7 @@ class Ends(Refusals):
 
     def test_nothing_stands_behind(self):
         self.refused("9 0 end 1 running\n9 1 sent 41\n", "t, line 2: a row behind an end row")
+        self.refused("8 1 sent 41\n9 0 end 1 running\n9 1 sent 41\n", "t, line 3: a row behind an end row")
         self.refused("9 0 end 1 running\n10 1 end 1 running\n", "t, line 2: an end row of another cycle than 9")
         self.refused("9 0 end 1 running\n10 0 sent 41\n", "t, line 2: the end row of node 0 stands before")
         self.refused("9 0 sent 41\n9 0 end 1 running\n", "out of order")
@@ -242,6 +247,8 @@ class AgainstAScenario(Refusals):
         self.refused(f"5 0 sent 41\n{far}", "it ends in cycle 30,000", Form.ENDED, scenario=scenario)
         self.assertEqual(len(lines(self.END, Form.ENDED, scenario=scenario)), 2)  # as of a window
         self.refused("100 0 sent 41\n", "a row behind the limit of 100 cycles", Form.ROWS, scenario=scenario_of())
+        rows = "499 0 serial 41\n500 0 serial 42\n"  # both cycles have as many digits
+        self.refused(rows, "line 2: a row behind the limit of 500 cycles", Form.ROWS, scenario=scenario_of(cycles=500))
 
     def test_the_window(self):
         scenario = scenario_of(cycles=90_000, window=[10, 20])

@@ -22,7 +22,8 @@ a TOML file of currents in mA:
   [node.'1-4']       # other currents of some nodes
   listening = 0.5
 
-`avrora monitor FILE 0 END`, where END are the `cycles` of the scenario, writes of the whole run (--window 0..END). Cycles
+`avrora monitor FILE 0 END`, where END are the `cycles` of the scenario in digits alone (no _), writes of the whole run; of
+other cycles than these and the scenario's window --window says which. examples/currents.toml is a table to begin with. Cycles
 without an owner (`lead`: the window began within a sleep or an instruction) may be awake or asleep, so what depends on them
 is told as a span. A byte that is sent counts for a whole byte time. From its stop on a node draws nothing. Means and
 days are those of the window of the report."""
@@ -105,7 +106,7 @@ def picture(accounts: list[Account], seconds: float, width: int = 900) -> str:
 def configure(parser: argparse.ArgumentParser) -> None:
     cli.describe(parser, DESCRIPTION, "energy currents.toml packet.toml packet.profile")
     parser.add_argument("--svg", metavar="FILE", help="a picture too: a bar for each node")
-    parser.add_argument("--window", type=cli.window, metavar="A..B", help="the FROM and TO of the report, where it is not of the scenario's window")
+    parser.add_argument("--window", type=cli.window, metavar="A..B", help="the FROM and TO of the report, where it is neither of the whole run nor of the scenario's window; digits may be grouped by _")
     parser.add_argument("currents", metavar="CURRENTS", help="the currents, a TOML file")
     parser.add_argument("scenario", metavar="SCENARIO", help="whose report it is: its byte time says how long a byte is sent")
     parser.add_argument("report", nargs="?", default="-", metavar="REPORT", help="what `avrora monitor` wrote; - or none: the standard input")

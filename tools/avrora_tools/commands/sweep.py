@@ -2,7 +2,8 @@
 import argparse
 import os
 import re
-from collections.abc import Iterator
+import shlex
+from collections.abc import Iterator, Sequence
 from contextlib import contextmanager
 from dataclasses import replace
 
@@ -55,7 +56,8 @@ def run(arguments: argparse.Namespace) -> int:
         for number, finding in enumerate(found, 1):
             print_finding(sweep, number, finding)
         if found and arguments.out:
-            write_earliest(arguments.out, sweep, found[0].first(), folder_of(arguments.scenario))
+            command = write_earliest(arguments.out, sweep, found[0].first())
+            print(f"earliest: {shown_command(sweep.tails.simulator, command)}")
     return Status.NOT_MET if results.failures else Status.GOOD
 
 
@@ -143,16 +145,25 @@ def check_of(arguments: argparse.Namespace, tails: ProcessTails, scenario: Moved
     if arguments.expect:
         return CaseCheck(tails.head, cases.read_case(arguments.expect))
     nodes = nodes_of(len(scenario.document["node"]), arguments.nodes)
-    good = written(reference(arguments, tails, scenario))
+    good = written(reference(arguments, tails, scenario, scenario.until))
     try:
         re.compile(arguments.drop)
     except re.error as fault:
         raise BadWords(f"--drop: {fault}") from None
-    return SerialCheck(tails.head, good, nodes, Compare(arguments.compare), os.fsencode(arguments.drop))
+    return SerialCheck(
+        tails.head,
+        good,
+        nodes,
+        Compare(arguments.compare),
+        os.fsencode(arguments.drop),
+        lambda: written(reference(arguments, tails, scenario, scenario.document["cycles"])),
+    )
 
 
-def reference(arguments: argparse.Namespace, tails: ProcessTails, scenario: MovedScenario) -> tuple[bytes, ...]:
-    """The rows of the run that is not moved, in pieces."""
+def reference(
+    arguments: argparse.Namespace, tails: ProcessTails, scenario: MovedScenario, until: int
+) -> tuple[bytes, ...]:
+    """The rows of the run that is not moved, up to a cycle, in pieces."""
     unmoved = scenario.unmoved() if not arguments.base else base_move(arguments.base, scenario)
     if any(v >= scenario.until for v, m in zip(unmoved, scenario.moved) if isinstance(m.event, InputByte)):
         raise BadInput(
@@ -163,13 +174,13 @@ def reference(arguments: argparse.Namespace, tails: ProcessTails, scenario: Move
         value >= scenario.begins for value, m in zip(unmoved, scenario.moved) if isinstance(m.event, InputByte)
     )
     if comes_later:
-        return tails.head, tails.output(unmoved)
+        return tails.head, tails.output(unmoved, until=until)
     if arguments.state or arguments.base:
         raise BadInput(
             f"the run that is not moved has its event before cycle {scenario.begins:,}, in which the runs begin: --base names "
             "a value for another run to compare with"
         )
-    path = tails.written({**scenario.document, "cycles": scenario.until, "window": [0, 0]})
+    path = tails.written({**scenario.document, "cycles": until, "window": [0, 0]})
     return (tails.simulator.call("run", "--plain", path),)
 
 
@@ -235,7 +246,10 @@ def print_finding(sweep: Sweep, number: int, finding: Finding) -> None:
     more = len(stretches) - MOST_SPANS
     print(f"   moves: {told}" + (f" and {more:,} more stretches" if more > 0 else ""))
     if late := sweep.late(finding):
-        print(f"   late: node {late[0]} writes it in cycle {late[1]:,}, {late[1] - sweep.scenario.until:,} behind the end of the run")
+        behind = late.cycle - sweep.scenario.until
+        print(f"   late: node {late.node} writes it in cycle {late.cycle:,}, {behind:,} behind the end of the run")
+        if late.wrong_at_last:
+            print(f"   a longer --until is no help: at {sweep.scenario.document['cycles']:,} {late.wrong_at_last}")
     if parting := sweep.parting(finding):
         print(f"   in run {shown_move(finding.first().move())} {parting}")
 
@@ -244,23 +258,36 @@ def shown_move(move: Move) -> str:
     return ", ".join(f"{value:,}" for value in move)
 
 
-def write_earliest(path: str, sweep: Sweep, cell: Cell, folder: str) -> None:
-    """Writes the scenario of a failing run with a window about where its byte is noticed; a state too where it needs one."""
+def write_earliest(path: str, sweep: Sweep, cell: Cell) -> list[str]:
+    """Writes the scenario of a failing run with a window about where its byte is noticed; a state and moves too where it needs
+    them. Returns the words by which the simulator runs it."""
     move, point, scenario = cell.move(), cell.arrivals.point, sweep.scenario
     at = point.cycle if point else move[-1] if isinstance(scenario.moved[-1].event, InputByte) else 0
     window = max(scenario.begins, at - BEFORE), min(scenario.until, at + BEHIND)
     whole = None if sweep.tails.begins_in_given_state or is_alone(scenario.moved[-1].event) else scenario.whole_scenario(move, window)
     told = (*move[:-1], None) if is_alone(scenario.moved[-1].event) else move
     document = whole or scenario.scenario(told, window)
-    files.write_whole(path, scenario_text(document))
-    words = ["run", os.path.abspath(path)]
+    words, note = ["run", path], ""
     if whole is None:
         files.write_whole(f"{path}.state", sweep.tails.state or b"")
-        words = ["resume", os.path.abspath(path), os.path.abspath(f"{path}.state")]
+        words = ["resume", path, f"{path}.state"]
+        note = "It begins in the state beside it: "
     if is_alone(scenario.moved[-1].event):
         files.write_whole(f"{path}.moves", scenario.line(move[-1]))
-        words = ["sweep", *words[1:], os.path.abspath(f"{path}.moves")]
-    print(f"earliest: avrora -C {os.path.relpath(folder)} {' '.join(words)}")
+        words = ["sweep", path, f"{path}.state", f"{path}.moves"]
+        note = f"What arrives at node {sweep.node} is said by the moves beside it, and not here; it begins in the state beside it:\n# "
+    events = " and ".join(f"{m.event} at {value:,}" for m, value in zip(scenario.moved, move))
+    command = shlex.join(["avrora", words[0], *(os.path.basename(word) for word in words[1:])])
+    notes = f"# The run of a sweep with {events}.\n# {note}{files.printable(command)}\n"
+    files.write_whole(path, notes + scenario_text(document))
+    return [words[0], *(os.path.abspath(word) for word in words[1:])]
+
+
+def shown_command(simulator: Simulator, words: Sequence[str]) -> str:
+    """A line for a shell, from where this tool is called, that runs the simulator where the images are."""
+    command = shlex.join([simulator.program, *words])
+    here = os.path.relpath(simulator.folder)
+    return command if here == os.curdir else f"(cd {shlex.quote(here)} && {command})"
 
 
 # ---- the command line
@@ -278,7 +305,7 @@ def configure(parser: argparse.ArgumentParser) -> None:
     parser.set_defaults(moved=None)
     for option, form in (("--input", "N:I=A..B"), ("--start", "N=A..B"), ("--latency", "F-T=A..B")):
         parser.add_argument(option, action=AddMoved, metavar=form, help="what moves, and its span")
-    parser.add_argument("--alone", action="store_true", help="the bytes behind the one that moves stay where they are")
+    parser.add_argument("--alone", action="store_true", help="the bytes behind the one that moves stay where they are, so it moves between its neighbours")
     parser.add_argument("--until", type=cli.positive, metavar="CYCLE", help="where each run ends: the deadline of all that is checked")
     parser.add_argument("--state", metavar="STATE", help="go on from this state of the scenario")
     parser.add_argument("--expect", metavar="CASE", help="check each run by this case of `expect`")
@@ -294,7 +321,7 @@ def configure(parser: argparse.ArgumentParser) -> None:
     parser.add_argument("--base", type=cli.natural, action="append", metavar="VALUE", help="compare with the run of this move")
     parser.add_argument("-e", "--elf", metavar="ELF", help="the program of the node whose byte moves")
     parser.add_argument("--force", action="store_true", help="take an ELF file that is not that of the node's image")
-    parser.add_argument("--out", metavar="FILE", help="write the earliest failing scenario, with a window about the arrival")
+    parser.add_argument("--out", metavar="FILE", help="write the earliest failing scenario, with a window about the arrival, and FILE.state and FILE.moves where it needs them")
     parser.add_argument("--all", action="store_true", help="run each move, and not one of each class")
     parser.add_argument("--quick", action="store_true", help="a first look: not all classes are run")
     parser.add_argument("--grid", type=cli.positive, default=64, metavar="N", help="--quick runs each N-th class at least (%(default)s)")

@@ -106,17 +106,33 @@ class Script:
             raise BadInput(f"no input says that byte {self.index} of node {self.node} moves alone")
         if value is None:
             return here | {"hex": self.bytes_[first : self.index].hex()}
+        if value == self.nominal(self.index):
+            return here | {"hex": self.bytes_[first:].hex()}
         if first == self.index:
             return here | {"at": value, "hex": self.bytes_[first:].hex()}
         apart = value - self.nominal(first)
         if first == self.index - 1 and self.index == len(self.bytes_) - 1 and apart in EVERY:
             return here | {"every": apart, "hex": self.bytes_[first:].hex()}
-        raise BadInput(
-            f"byte {self.index} of node {self.node}'s input cannot come in cycle {value:,} while byte {self.index - 1} stays in "
-            f"cycle {self.nominal(self.index - 1):,}: an input has one distance between all its bytes, of at most "
-            f"{EVERY.stop - 1:,} cycles. Move the first byte, or let the bytes before come in an epoch of {EPOCH:,} cycles "
-            "before the span's"
+        raise BadInput(f"byte {self.index} of node {self.node}'s input cannot come in cycle {value:,}: {self.hindrance(value)}")
+
+    def hindrance(self, value: int) -> str:
+        """Why no input has the byte at `value` behind those that stay, and those behind it as far behind it as they are."""
+        before, at = self.index - 1, self.nominal(self.index - 1)
+        apart = value - at
+        if apart < 1:
+            return f"byte {before} stays in cycle {at:,}, and it does not pass that"
+        way_out = (
+            f"Move it alone (--alone, from cycle {EPOCH:,} on), or the first byte, or let the bytes before come in an epoch of "
+            f"{EPOCH:,} cycles before the span's"
         )
+        if apart not in EVERY:
+            most = f"an input has at most {EVERY.stop - 1:,} cycles between two bytes"
+            return f"byte {before} stays in cycle {at:,}, and {most}. {way_out}"
+        one = "an input has one distance between all its bytes"
+        if self.index < len(self.bytes_) - 1:
+            behind = f"byte {self.index + 1} moves with it, {self.every:,} behind"
+            return f"{behind}, and byte {before} stays, {apart:,} before: {one}. {way_out}"
+        return f"byte {before} stays, {apart:,} before, and byte {before - 1}, {self.every:,} before that: {one}. {way_out}"
 
 
 def stretches(coming: Sequence[tuple[int, int]]) -> list[str]:
@@ -224,7 +240,7 @@ def moved_scenario(
     scripts = {place: script_of(document, m.event) for place, m in enumerate(moved) if isinstance(m.event, InputByte)}
     nodes = [script.node for script in scripts.values()]
     if len(set(nodes)) < len(nodes):
-        raise BadWords("two bytes of one node cannot both move: an input has one distance between all its bytes")
+        raise BadWords("two bytes of one node cannot both move: one of a node does, with those behind it or alone")
     for m in moved:
         check_span(document, m, until)
     begins = state_cycle if state_cycle is not None else first_epoch(moved, scripts)
@@ -232,11 +248,10 @@ def moved_scenario(
     for place, m in enumerate(moved):
         if isinstance(m.event, InputByte) and m.span.first < begins:
             raise BadInput(f"the state is of cycle {begins:,}, and the span begins before, in {m.span.first:,}")
+    for ends_of_spans in ([m.span.first for m in moved], [m.span.last for m in moved]):
+        result.scenario([None if is_alone(m.event) else value for m, value in zip(moved, ends_of_spans)])
     if is_alone(moved[-1].event):
         check_alone(scripts[len(moved) - 1], moved[-1].span, begins)
-    else:
-        for move in (tuple(m.span.first for m in moved), tuple(m.span.last for m in moved)):
-            result.scenario(move)
     return result
 
 
@@ -275,14 +290,14 @@ def first_epoch(moved: Sequence[Moved], scripts: Mapping[int, Script]) -> int:
     if any(isinstance(m.event, LinkLatency) for m in moved):
         return 0  # a latency counts from the first byte on
     begins = min(m.span.first for m in moved) // EPOCH * EPOCH
-    if is_alone(moved[-1].event):
-        return begins
     while begins > 0 and not all(is_sayable(scripts[place], begins, m.span) for place, m in enumerate(moved)):
         begins -= EPOCH
     return begins
 
 
 def is_sayable(script: Script, begins: int, span: Span) -> bool:
+    if script.is_alone:  # by a line of moves
+        return True
     try:
         script.table(script.before(begins), span.first)
         script.table(script.before(begins), span.last)

@@ -14,7 +14,7 @@ from avrora_tools.sweeping.plans import Cell, FirstLook, in_rounds
 from avrora_tools.sweeping.rows import processor_rows
 from avrora_tools.sweeping.sharing import Sharing
 from avrora_tools.sweeping.simulation import NO_WINDOW, ProcessTails, Window
-from avrora_tools.sweeping.verdicts import Check, SerialCheck
+from avrora_tools.sweeping.verdicts import Check, Late, SerialCheck
 
 
 @dataclass(frozen=True)
@@ -122,8 +122,8 @@ class Sweep:
     def classes_not_run(self) -> int:
         return len(self.cells) - len(self.results.ran)
 
-    def late(self, finding: Finding) -> tuple[int, int] | None:
-        """Where what the earliest run lacks does come, behind the end of the runs: the node and the cycle."""
+    def late(self, finding: Finding) -> Late | None:
+        """Where what the earliest run lacks does come, behind the end of the runs."""
         cycles = self.scenario.document["cycles"]
         if not isinstance(self.check, SerialCheck) or self.scenario.until >= cycles:
             return None

@@ -2,7 +2,7 @@
 import importlib.util
 import re
 from collections import Counter
-from collections.abc import Callable, Collection, Iterable, Sequence
+from collections.abc import Callable, Collection, Iterable, Mapping, Sequence
 from dataclasses import dataclass, field
 from enum import Enum
 from typing import Protocol
@@ -30,6 +30,16 @@ class Compare(Enum):
 
 
 @dataclass(frozen=True)
+class Late:
+    """What a run lacks at its end and writes later: the node that writes the last of it, and in which cycle; and what is wrong
+    beside the unmoved run where both go on to the scenario's end."""
+
+    node: int
+    cycle: int
+    wrong_at_last: str | None
+
+
+@dataclass(frozen=True)
 class SerialCheck:
     """Each node writes to USART0 what it writes in the unmoved run, whenever that is."""
 
@@ -38,11 +48,15 @@ class SerialCheck:
     nodes: Collection[int]
     compare: Compare = Compare.BYTES
     drop: bytes = b""  # a pattern of what may differ
+    good_at_last: Callable[[], Mapping[int, bytes]] | None = None  # what the unmoved run writes up to the scenario's end
 
     def failure(self, move: Move, output: bytes) -> str | None:
+        return self.failure_beside(self.good, output)
+
+    def failure_beside(self, good: Mapping[int, bytes], output: bytes) -> str | None:
         texts = written((self.head, output))
         for node in self.nodes:
-            if wrong := self.difference(self.good.get(node, b""), texts.get(node, b"")):
+            if wrong := self.difference(good.get(node, b""), texts.get(node, b"")):
                 return f"node {node} {wrong}"
         return None
 
@@ -52,9 +66,8 @@ class SerialCheck:
             return None if got == good else different_bytes(good, got)
         return different_parts(parts(self.compare, good), parts(self.compare, got))
 
-    def late(self, output: bytes) -> tuple[int, int] | None:
-        """Of a run that went on for longer: the node that wrote the last of what was missing, and in which cycle; None where
-        something still is."""
+    def late(self, output: bytes) -> Late | None:
+        """Of a run that went on to the scenario's end: how what was missing came; None where something still is."""
         texts = {node: bytearray(text) for node, text in written((self.head,)).items()}
         waiting = {node for node in self.nodes if not self.has_all(node, bytes(texts.get(node, b"")))}
         for cycle, node, byte in writes(output):
@@ -62,7 +75,7 @@ class SerialCheck:
             if node in waiting and self.has_all(node, bytes(texts[node])):
                 waiting.remove(node)
                 if not waiting:
-                    return node, cycle
+                    return Late(node, cycle, self.failure_beside(self.good_at_last(), output) if self.good_at_last else None)
         return None
 
     def has_all(self, node: int, got: bytes) -> bool:
