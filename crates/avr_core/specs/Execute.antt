@@ -14,7 +14,7 @@ use Rattle.data_space.specs.Sequence.{Outcome}
 use Rattle.avr_core.specs.ArithTable.{arith_cpu, arith_cycles, arith_done}
 use Rattle.avr_core.specs.FlowShapes.{bit_is}
 use Rattle.avr_core.specs.FlowTable.{flow_effect}
-use Rattle.avr_core.specs.MemoryShapes.{displaced}
+use Rattle.avr_core.specs.MemoryShapes.{decremented, displaced}
 use Rattle.avr_core.specs.MemoryTable.{memory_effect, x, y, z}
 use Rattle.avr_core.specs.declared.instructions.After.{After}
 use Rattle.avr_core.specs.declared.instructions.After.TheVariants as after
@@ -136,6 +136,9 @@ accesses_sram (op.Lds d k) cpu = in_sram k
 accesses_sram (op.LdXInc d) cpu = in_sram (pair_at x cpu)
 accesses_sram (op.LdYInc d) cpu = in_sram (pair_at y cpu)
 accesses_sram (op.LdZInc d) cpu = in_sram (pair_at z cpu)
+accesses_sram (op.LdXDec d) cpu = in_sram (decremented x cpu)
+accesses_sram (op.LdYDec d) cpu = in_sram (decremented y cpu)
+accesses_sram (op.LdZDec d) cpu = in_sram (decremented z cpu)
 accesses_sram (op.StX r) cpu = in_sram (pair_at x cpu)
 accesses_sram (op.StdY q r) cpu = in_sram (displaced y q cpu)
 accesses_sram (op.StdZ q r) cpu = in_sram (displaced z q cpu)
@@ -143,6 +146,9 @@ accesses_sram (op.Sts k r) cpu = in_sram k
 accesses_sram (op.StXInc r) cpu = in_sram (pair_at x cpu)
 accesses_sram (op.StYInc r) cpu = in_sram (pair_at y cpu)
 accesses_sram (op.StZInc r) cpu = in_sram (pair_at z cpu)
+accesses_sram (op.StXDec r) cpu = in_sram (decremented x cpu)
+accesses_sram (op.StYDec r) cpu = in_sram (decremented y cpu)
+accesses_sram (op.StZDec r) cpu = in_sram (decremented z cpu)
 accesses_sram (op.Push r) cpu = in_sram cpu.sp
 accesses_sram (op.Pop d) cpu = in_sram ((cpu.sp + 1) % 65536)
 accesses_sram _ cpu = false

@@ -39,9 +39,9 @@ pub fn displaced(p: Reg, q: u8, regs: &Registers) -> u16
     pair(regs, p).wrapping_add(u16::from(q))
 }
 
-// The data address before a pointer.
+/// The data address before the pointer `p`, modulo 65,536.
 #[inline]
-fn decremented(p: Reg, regs: &Registers) -> u16
+pub fn decremented(p: Reg, regs: &Registers) -> u16
     ensures { result ≡ decremented p (general regs.now) }
 {
     pair(regs, p).wrapping_sub(1)

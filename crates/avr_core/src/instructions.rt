@@ -7,10 +7,7 @@ ghost use Rattle.avr_core.specs.declared.instructions.After.TheVariants as after
 ghost use Rattle.avr_core.specs.FlowShapes.{branched};
 ghost use Rattle.avr_core.specs.Execute.{after_at, after_branch, after_cycles, after_jump, after_of, executed_over, is_plain, is_short_back, left_by};
 
-use crate::accesses::{
-    displaced, io_address, load_at, load_pre_decrement, retire, set_bit, store_at,
-    store_pre_decrement,
-};
+use crate::accesses::{displaced, io_address, load_at, retire, set_bit, store_at};
 use crate::calls::{reti, z_pointer};
 use crate::flash::{
     load_extended, load_extended_post_increment, load_program, load_program_post_increment,
@@ -21,7 +18,8 @@ use crate::shapes::{
     put_word, set_flag, store_bit, subtract, subtract_with_carry, swap,
 };
 use crate::sram_accesses::{
-    Accessed, called, called_at_z, called_near, load, load_on, pop, push, returned, store, store_on,
+    Accessed, called, called_at_z, called_near, load, load_before, load_on, pop, push, returned,
+    store, store_before, store_on,
 };
 use arith_step::{MulKind, adiw, asr, com, dec, inc, lsr, neg, ror, sbiw};
 use avr_base::{Reg, Sreg, StopCause};
@@ -282,9 +280,9 @@ pub fn execute_plain<P: ProgramMemory, B: Bus>(
         Op::LdXInc { d } => accessed(load_on(d, x, regs, core, bus)),
         Op::LdYInc { d } => accessed(load_on(d, y, regs, core, bus)),
         Op::LdZInc { d } => accessed(load_on(d, z, regs, core, bus)),
-        Op::LdXDec { d } => loaded(load_pre_decrement(d, x, regs, core, bus)),
-        Op::LdYDec { d } => loaded(load_pre_decrement(d, y, regs, core, bus)),
-        Op::LdZDec { d } => loaded(load_pre_decrement(d, z, regs, core, bus)),
+        Op::LdXDec { d } => accessed(load_before(d, x, regs, core, bus)),
+        Op::LdYDec { d } => accessed(load_before(d, y, regs, core, bus)),
+        Op::LdZDec { d } => accessed(load_before(d, z, regs, core, bus)),
         Op::StX { r } => accessed(store(pair(regs, x), reg(regs, r), 1, 2, regs, core, bus)),
         Op::StdY { q, r } => accessed(store(
             displaced(y, q, regs),
@@ -309,9 +307,9 @@ pub fn execute_plain<P: ProgramMemory, B: Bus>(
         Op::StXInc { r } => accessed(store_on(x, r, regs, core, bus)),
         Op::StYInc { r } => accessed(store_on(y, r, regs, core, bus)),
         Op::StZInc { r } => accessed(store_on(z, r, regs, core, bus)),
-        Op::StXDec { r } => stored(store_pre_decrement(x, r, regs, core, bus)),
-        Op::StYDec { r } => stored(store_pre_decrement(y, r, regs, core, bus)),
-        Op::StZDec { r } => stored(store_pre_decrement(z, r, regs, core, bus)),
+        Op::StXDec { r } => accessed(store_before(x, r, regs, core, bus)),
+        Op::StYDec { r } => accessed(store_before(y, r, regs, core, bus)),
+        Op::StZDec { r } => accessed(store_before(z, r, regs, core, bus)),
         Op::Push { r } => accessed(push(r, regs, core, bus)),
         Op::Pop { d } => accessed(pop(d, regs, core, bus)),
         Op::Sbi { a, b } => stored(set_bit(a, b % 8, true, regs, core, bus)),

@@ -5,12 +5,13 @@ ghost use Rattle.std.specs.Prelude.{◌≡◌, ◌+◌, ◌%◌, if◌then◌els
 ghost use Rattle.data_space.specs.Core.{general, pair_at, whole};
 ghost use Rattle.data_space.specs.Sequence.{pushed_word};
 ghost use Rattle.avr_core.specs.FlowShapes.{calls, relative, returns};
-ghost use Rattle.avr_core.specs.MemoryShapes.{loads, loads_post_increment, pops, pushes, stores, stores_post_increment};
+ghost use Rattle.avr_core.specs.MemoryShapes.{decremented, loads, loads_post_increment, loads_pre_decrement, pops, pushes, stores, stores_post_increment, stores_pre_decrement};
 ghost use Rattle.avr_core.specs.declared.instructions.After.TheVariants as after;
 ghost use Rattle.avr_core.specs.Execute.{after_access, calls_by_sram, pushed_as, returns_by_sram};
 
 use crate::accesses::{
-    load_at, load_post_increment, pop_reg, push_reg, store_at, store_post_increment,
+    decremented, load_at, load_post_increment, load_pre_decrement, pop_reg, push_reg, store_at,
+    store_post_increment, store_pre_decrement,
 };
 use crate::calls::{call, call_at_z, call_near, ret, z_pointer};
 use crate::instructions::After;
@@ -108,6 +109,42 @@ pub fn store_on<B: Bus>(
         return (After::Nothing, store_post_increment(p, r, regs, core, bus));
     }
     (After::Store, store_post_increment(p, r, regs, core, bus))
+}
+
+/// LD rD, -P, as [`load_pre_decrement`].
+#[inline]
+pub fn load_before<B: Bus>(
+    d: Reg,
+    p: Reg,
+    regs: &mut Registers,
+    core: &mut Core,
+    bus: &mut B,
+) -> Accessed
+    ensures after { result.0 ≡ after_access after.Loaded (decremented p (general regs.old)) }
+    ensures outcome { record { result = result.1; cpu = whole regs.new core.new; bus = bus.new } ≡ loads_pre_decrement B.get_gives d p (whole regs.old core.old) bus.old }
+{
+    if is_in_sram(decremented(p, regs)) {
+        return (After::Nothing, load_pre_decrement(d, p, regs, core, bus));
+    }
+    (After::Loaded, load_pre_decrement(d, p, regs, core, bus))
+}
+
+/// ST -P, rR, as [`store_pre_decrement`].
+#[inline]
+pub fn store_before<B: Bus>(
+    p: Reg,
+    r: Reg,
+    regs: &mut Registers,
+    core: &mut Core,
+    bus: &mut B,
+) -> Accessed
+    ensures after { result.0 ≡ after_access after.Store (decremented p (general regs.old)) }
+    ensures outcome { record { result = result.1; cpu = whole regs.new core.new; bus = bus.new } ≡ stores_pre_decrement B.put_gives p r (whole regs.old core.old) bus.old }
+{
+    if is_in_sram(decremented(p, regs)) {
+        return (After::Nothing, store_pre_decrement(p, r, regs, core, bus));
+    }
+    (After::Store, store_pre_decrement(p, r, regs, core, bus))
 }
 
 /// PUSH rR.

@@ -12,7 +12,7 @@ use Rattle.avr_decoder.specs.declared.op.Op.TheVariants as op
 use Rattle.avr_core.specs.FlowShapes.{bit_is, branched, calls, jumped, relative, returns}
 use Rattle.avr_core.specs.FlowShapes.{ends as flow_ends}
 use Rattle.avr_core.specs.FlowTable.{flow_effect}
-use Rattle.avr_core.specs.MemoryShapes.{displaced, ends, loads, loads_post_increment, pops, pushes, stores, stores_post_increment}
+use Rattle.avr_core.specs.MemoryShapes.{decremented, displaced, ends, loads, loads_post_increment, loads_pre_decrement, pops, pushes, stores, stores_post_increment, stores_pre_decrement}
 use Rattle.avr_core.specs.MemoryTable.{memory_effect, x, y, z}
 use Rattle.data_space.specs.declared.bus.Done.{Done}
 use Rattle.data_space.specs.declared.cpu.Cpu.{Cpu}
@@ -68,6 +68,19 @@ store_on_leaves : (p r : ℕ) (cpu : Cpu) (bus : NodeBus) → in_sram (pair_at p
 unfolding stores_post_increment
 store_on_leaves p r cpu bus h =
     subst (λ (a : Access (Unit {0}) NodeBus). Leaves cpu bus (then_do a a.result (λ _ c n. ends 1 2 (with_pair p (displaced p 1 cpu) c) n))) (sym (store_is (pair_at p cpu) (slice_index cpu.r r) cpu bus h)) (refl, refl)
+
+load_before_leaves : (d p : ℕ) (cpu : Cpu) (bus : NodeBus) → in_sram (decremented p cpu) ≡ true → Leaves cpu bus (loads_pre_decrement bus_get d p cpu bus)
+unfolding loads_pre_decrement
+load_before_leaves d p cpu bus h =
+    let at : ℕ = decremented p cpu in
+    subst (λ (a : Access ℕ NodeBus). Leaves cpu bus (then_do (unless_stopped cpu a a.result) (unless_stopped cpu a a.result).result (λ byte c b. ends 1 2 (with_reg d byte c) b))) (sym (load_is at (with_pair p at cpu) bus h)) (refl, refl)
+
+store_before_leaves : (p r : ℕ) (cpu : Cpu) (bus : NodeBus) → in_sram (decremented p cpu) ≡ true → Leaves cpu bus (stores_pre_decrement bus_put p r cpu bus)
+unfolding stores_pre_decrement
+store_before_leaves p r cpu bus h =
+    let at : ℕ = decremented p cpu in
+    let lower : Cpu = with_pair p at cpu in
+    subst (λ (a : Access (Unit {0}) NodeBus). Leaves cpu bus (then_do (unless_stopped cpu a a.result) (unless_stopped cpu a a.result).result (λ _ c n. ends 1 2 c n))) (sym (store_is at (slice_index lower.r r) lower bus h)) (refl, refl)
 
 push_leaves : (r : ℕ) (cpu : Cpu) (bus : NodeBus) → in_sram cpu.sp ≡ true → Leaves cpu bus (pushes bus_put r cpu bus)
 unfolding pushes pushed
@@ -151,6 +164,9 @@ module _ (flash : List ℕ) (cpu : Cpu) (bus : NodeBus) where
   sram_leaves (op.LdXInc d) h = load_on_leaves d x cpu bus h
   sram_leaves (op.LdYInc d) h = load_on_leaves d y cpu bus h
   sram_leaves (op.LdZInc d) h = load_on_leaves d z cpu bus h
+  sram_leaves (op.LdXDec d) h = load_before_leaves d x cpu bus h
+  sram_leaves (op.LdYDec d) h = load_before_leaves d y cpu bus h
+  sram_leaves (op.LdZDec d) h = load_before_leaves d z cpu bus h
   sram_leaves (op.StX r) h = store_leaves (pair_at x cpu) (slice_index cpu.r r) 1 2 cpu bus h
   sram_leaves (op.StdY q r) h = store_leaves (displaced y q cpu) (slice_index cpu.r r) 1 2 cpu bus h
   sram_leaves (op.StdZ q r) h = store_leaves (displaced z q cpu) (slice_index cpu.r r) 1 2 cpu bus h
@@ -158,6 +174,9 @@ module _ (flash : List ℕ) (cpu : Cpu) (bus : NodeBus) where
   sram_leaves (op.StXInc r) h = store_on_leaves x r cpu bus h
   sram_leaves (op.StYInc r) h = store_on_leaves y r cpu bus h
   sram_leaves (op.StZInc r) h = store_on_leaves z r cpu bus h
+  sram_leaves (op.StXDec r) h = store_before_leaves x r cpu bus h
+  sram_leaves (op.StYDec r) h = store_before_leaves y r cpu bus h
+  sram_leaves (op.StZDec r) h = store_before_leaves z r cpu bus h
   sram_leaves (op.Push r) h = push_leaves r cpu bus h
   sram_leaves (op.Pop d) h = pop_leaves d cpu bus h
   sram_leaves _ h = absurd (false≢true h)
