@@ -5,7 +5,6 @@ A trace is read once, row by row, to its end; what is kept of it is a few rows f
 import collections
 import contextlib
 import difflib
-import itertools
 import os
 import subprocess
 import tempfile
@@ -389,14 +388,14 @@ def check(
     blocks = traces.blocks_of(cast(BinaryIO, source)) if hasattr(source, "read") else iter(source)
     # A case may expect what a scenario's byte time allows and another's does not.
     trace = traces.Trace(blocks, name, traces.Form.WHOLE, least_gap=BYTE_TIME.start)
-    looked = itertools.count()
+    looked = 0
     gaps: list[Gap] = []
     failures: list[str] = []
     with contextlib.suppress(Unmet), contextlib.ExitStack() as stack:
         made: Iterable[traces.TraceRow] = trace
         if ended:
             made = whole_trace(trace, blocks, ended)
-        reports = watch(case, made, save, stack, looked, gaps)
+        reports, looked = watch(case, made, save, stack, gaps)
         extent = extent_of(trace, window)
         refuse_impossible(case, extent)
         if not reports:
@@ -405,9 +404,8 @@ def check(
         failures = [report.text(files.shown(case.path)) for report in reports]
         if failures:
             raise Unmet
-    rows = next(looked)
     status = Status.NOT_MET if failures else Status.GOOD
-    return Outcome("\n".join(failures) or None, rows, len(case.statements), status)
+    return Outcome("\n".join(failures) or None, looked, len(case.statements), status)
 
 
 def whole_trace(trace: traces.Trace, blocks: Iterator[bytes], ended: Ended) -> Iterator[traces.TraceRow]:
@@ -425,14 +423,9 @@ def whole_trace(trace: traces.Trace, blocks: Iterator[bytes], ended: Ended) -> I
 
 
 def watch(
-    case: Case,
-    rows: Iterable[traces.TraceRow],
-    save: bool,
-    stack: contextlib.ExitStack,
-    looked: Iterator[int],
-    gaps: list[Gap],
-) -> list[Report]:
-    """Shows the watchers of a case all rows; what they report."""
+    case: Case, rows: Iterable[traces.TraceRow], save: bool, stack: contextlib.ExitStack, gaps: list[Gap]
+) -> tuple[list[Report], int]:
+    """Shows the watchers of a case all rows; what they report, and how many rows were looked at."""
     before: collections.deque[traces.TraceRow] = collections.deque(maxlen=CONTEXT)
     told: list[Report] = []  # reports of rows, which tell what came behind
     watchers, writers = watchers_of(case, save, stack, Near(before, told), gaps)
@@ -440,21 +433,21 @@ def watch(
     tells_context = any(isinstance(statement, Never) for statement in case.statements)
     nodes, kinds = case.nodes, case.kinds
     looks_at_all = nodes is None and kinds is None
+    looked = 0
     for row in rows:
         _, node, event = row
         if writers and isinstance(event, Serial):
             for writer in writers:
                 writer.feed(row)
-        if not looks_at_all and (nodes is not None and node not in nodes or kinds is not None and event.kind not in kinds):
-            continue
-        next(looked)
-        for feed in feeds:
-            feed(row)
-        if tells_context:
-            before.append(row)
-            for report in told:
-                report.show_after(row)
-    return [report for watcher in watchers + writers for report in watcher.finish()]
+        if looks_at_all or (nodes is None or node in nodes) and (kinds is None or event.kind in kinds):
+            looked += 1
+            for feed in feeds:
+                feed(row)
+            if tells_context:
+                before.append(row)
+                for report in told:
+                    report.show_after(row)
+    return [report for watcher in watchers + writers for report in watcher.finish()], looked
 
 
 def watchers_of(

@@ -1,6 +1,7 @@
 """campaign: ended in each way, and what keeps a result of before."""
 import contextlib
 import os
+import shutil
 import signal
 import sqlite3
 import subprocess
@@ -177,6 +178,19 @@ class Kept(unittest.TestCase):
             _, _, errors, _ = run_campaign(path)
             self.assertNotIn("already", errors)
             self.assertEqual(starts(path), ["30", "30"])
+
+    def test_another_place(self):
+        """A folder that is moved, with all that is run and the results, keeps these."""
+        with folder(self.GOLDEN.replace('"net.expect"', '["net.expect", "other.expect"]'), "* 0 sent AA\n") as path:
+            Path(f"{path}/one.rows").write_text("30 0 sent AA\n", encoding="utf-8")
+            Path(f"{path}/other.expect").write_text("only sent\ngolden one.rows\n", encoding="utf-8")
+            self.assertEqual(run_campaign(path)[0], 0)
+            with tempfile.TemporaryDirectory() as other:
+                shutil.move(path, f"{other}/moved")
+                _, _, errors, rows = run_campaign(f"{other}/moved")
+                self.assertIn("1 of 1 results are there already", errors)
+                self.assertEqual(rows["net latency=30"]["outcome"], "passed")
+                shutil.move(f"{other}/moved", path)
 
     def test_another_checker(self):
         """A package whose checker differs runs all again; one whose words differ does not."""
