@@ -46,7 +46,7 @@ poll_udre_flag_each_cycle  0.20 none: ldi r16, 0 | out 0x31, r16 | ldi r16, 9 | 
 poll_udre_by_pointer         58 none: ldi r30, 0x2B | ldi r31, 0 | ldi r17, 8 | out 0x0A, r17 | ldi r17, 255 | out 0x09, r17 | again: | sts 0x2C, r16 | wait: | ld r16, Z | sbrs r16, 5 | rjmp wait | rjmp again
 poll_udre_by_call            53 none: ldi r16, 0x10 | out 0x3E, r16 | ldi r16, 0xFF | out 0x3D, r16 | ldi r17, 8 | out 0x0A, r17 | ldi r17, 255 | out 0x09, r17 | again: | sts 0x2C, r16 | wait: | rcall state | tst r24 | breq wait | rjmp again | state: | lds r24, 0x2B | andi r24, 0x20 | ret
 poll_udre_long               30 none: ldi r17, 8 | out 0x0A, r17 | ldi r17, 255 | out 0x09, r17 | again: | sts 0x2C, r16 | wait: | nop | nop | nop | nop | nop | nop | lds r16, 0x2B | sbrs r16, 5 | rjmp wait | rjmp again
-poll_spif                  2.51 none: ldi r16, 0x53 | out 0x0D, r16 | again: | out 0x0F, r16 | wait: | sbis 0x0E, 7 | rjmp wait | rjmp again
+poll_spif                  2.36 none: ldi r16, 0x53 | out 0x0D, r16 | again: | out 0x0F, r16 | wait: | sbis 0x0E, 7 | rjmp wait | rjmp again
 poll_tifr                    60 none: ldi r16, 5 | out 0x33, r16 | ldi r17, 1 | again: | out 0x36, r17 | wait: | in r16, 0x36 | sbrs r16, 0 | rjmp wait | rjmp again
 call                         44 none: ldi r16, 0x10 | out 0x3E, r16 | ldi r16, 0xFF | out 0x3D, r16 | again: | call sub | rjmp again | sub: | ret
 rcall                        46 none: ldi r16, 0x10 | out 0x3E, r16 | ldi r16, 0xFF | out 0x3D, r16 | again: | rcall sub | rjmp again | sub: | ret

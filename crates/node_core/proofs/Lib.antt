@@ -18,6 +18,7 @@ pub mod Sprints
 pub mod Cores
 pub mod Stills
 pub mod Stops
+pub mod Polls
 pub mod Rounds
 pub mod Counting
 pub mod Borrows

@@ -146,15 +146,15 @@ load_still (op.Lds d k) bus at e h = record {
 load_still _ bus at e h = absurd e
 
 -- ---- what such an instruction did
+pub none_later : (bus : NodeBus) → bus_later bus.board.clock 0 0 bus ≡ bus
+none_later bus = ap (λ (b : Board). with_board bus (clock_at bus.board.clock b)) (leap_zero 0 bus.board)
+
 module _ (o : Op) (bus : NodeBus) (h : IsStill o bus) (flash : List ℕ) (cpu : Cpu) where
   abbrev reaches : NodeBus → Outcome NodeBus
   reaches b = record { result = Ok (h.reached flash cpu).0; cpu = (h.reached flash cpu).1; bus = b }
 
-  none_later : bus_later bus.board.clock 0 0 bus ≡ bus
-  none_later = ap (λ (b : Board). with_board bus (clock_at bus.board.clock b)) (leap_zero 0 bus.board)
-
   here : executed flash o cpu bus ≡ reaches bus
-  here = subst (λ (b : NodeBus). executed flash o cpu b ≡ reaches b) none_later (h.does flash cpu bus.board.clock 0 0)
+  here = subst (λ (b : NodeBus). executed flash o cpu b ≡ reaches b) (none_later bus) (h.does flash cpu bus.board.clock 0 0)
 
   pub leaves : (a : Outcome NodeBus) → a ≡ executed flash o cpu bus → a.bus ≡ bus
   leaves a e = ap (λ (x : Outcome NodeBus). x.bus) (e ∙ here)

@@ -9,7 +9,7 @@ use Rattle.board_io.specs.Cycle.{timers_leap}
 use Rattle.board_io.specs.Lines.{lines_of}
 use Rattle.data_space.specs.declared.bus.Done.{Done}
 use Rattle.data_space.specs.declared.cpu.Cpu.{Cpu}
-use Rattle.data_space.specs.Core.{with_reg}
+use Rattle.data_space.specs.Core.{advanced, with_reg}
 use Rattle.data_space.specs.Sequence.{Outcome, done}
 use Rattle.node_core.specs.declared.bus.NodeBus.{NodeBus}
 use Rattle.node_core.specs.declared.pace.countdowns.Countdown.{Countdown}
@@ -18,7 +18,7 @@ use Rattle.node_core.specs.declared.pace.leaps.Round.{Round}
 use Rattle.node_core.specs.declared.machine.Machine.{Machine}
 use Rattle.node_core.specs.Bus.{bus_get, with_board}
 use Rattle.avr_core.specs.Execute.{is_sleep}
-use Rattle.node_core.specs.Cycle.{op_now, owes}
+use Rattle.node_core.specs.Cycle.{is_sei, op_now, owes}
 use Rattle.node_core.specs.Execute.{executed}
 use Rattle.node_core.specs.Shown.{shown}
 
@@ -55,6 +55,13 @@ pub record IsStill (o : Op) (bus : NodeBus) : Type 0 where
   pub reached : List ℕ → Cpu → Done × Cpu
   pub does : (flash : List ℕ) (cpu : Cpu) (u t n : ℕ)
       → executed flash o cpu (bus_later u t n bus) ≡ (let a : Outcome NodeBus = record { result = Ok (reached flash cpu).0; cpu = (reached flash cpu).1; bus = bus_later u t n bus } in a)
+
+-- SBIS or SBIC goes on with the next word where the byte that it loads, of a device's register, is x
+pub record GoesOnBy (o : Op) (x : ℕ) : Type 0 where
+  pub wakes : is_sleep o ≡ false
+  pub settled : is_sei o ≡ false
+  pub goes : (flash : List ℕ) (cpu : Cpu) (bus : NodeBus) (at : ℕ) → IsLoad o at → bus_get bus at ≡ Ok (x, bus)
+      → (let a : Outcome NodeBus = record { result = Ok (done 1); cpu = advanced 1 cpu; bus = bus } in a) ≡ executed flash o cpu bus
 
 -- one such instruction of n cycles, where nothing is due, takes the core of a node from one to another, and owes none
 pub record IsStillStep (n : ℕ) (m : Machine) (from to : Cpu) : Type 0 where

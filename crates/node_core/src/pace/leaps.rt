@@ -1,17 +1,19 @@
 // Loops that wait, leapt over in whole rounds up to the next event.
 ghost use Rattle.std.specs.Prelude.{◌≡◌, ◌≤◌, ◌<◌, ◌+◌, ◌^◌, ℕ, None, false, true, IfSome};
+ghost use Rattle.avr_decoder.specs.declared.op.Op.TheVariants as variant;
 ghost use Rattle.board_io.specs.Lines.{lines_of};
 ghost use Rattle.node_core.specs.Inside.{MayAct, is_told};
-ghost use Rattle.node_core.specs.Pace.Leaps.{IsLoad, IsRound, IsStill, IsStillStep, is_steering};
+ghost use Rattle.node_core.specs.Pace.Leaps.{GoesOnBy, IsLoad, IsRound, IsStill, IsStillStep, is_steering};
 ghost use Rattle.node_core.specs.Pace.Midway.{IsSprinted};
 ghost use Rattle.serial_ports.specs.Script.{script_byte};
 
 use crate::NodeBus;
 use crate::machine::Machine;
 use crate::processor::{due, owes};
+use avr_base::ByteBits;
 use avr_core::execute_waiting;
 use avr_decoder::{Class, Op};
-use data_space::Cpu;
+use data_space::{Bus, Cpu};
 
 // How many instructions a round has at most that is looked for.
 pub const LONGEST: u64 = 8;
@@ -50,6 +52,28 @@ fn load_of(op: &Op) -> Option<u16>
         Op::InIo { a, .. } => Some(u16::from(a) + 0x20),
         Op::Lds { k, .. } => Some(k),
         _ => None,
+    }
+}
+
+// Whether an instruction is SBIS or SBIC of a device's register that goes on with the next word where that has this byte.
+fn goes_on_by(op: &Op, byte: u8) -> bool
+    ensures { result ≡ true → GoesOnBy op.now byte }
+{
+    let bits = ByteBits { byte };
+    match *op {
+        Op::Sbis { a, b } => a < 0x20 && !bits.has(b % 8),
+        Op::Sbic { a, b } => a < 0x20 && bits.has(b % 8),
+        _ => false,
+    }
+}
+
+// Whether an instruction is RJMP by so many words.
+fn is_jump_by(op: &Op, words: i16) -> bool
+    ensures { result ≡ true → op.now ≡ variant.Rjmp words }
+{
+    match *op {
+        Op::Rjmp { k } => k == words,
+        _ => false,
     }
 }
 
@@ -114,6 +138,48 @@ impl Machine {
         None
     }
 
+    // The round of SBIS or SBIC that begins at the program counter and goes on to RJMP back to it, as most polls do: found
+    // for half of what `round` takes.
+    fn bit_round(&mut self) -> Option<Round>
+        ensures same { self.new ≡ self.old }
+        ensures round { IfSome result (λ r. IsRound self.old r) }
+    {
+        let pc = self.cpu.pc;
+        if !is_jump_by(&self.program.op(pc.wrapping_add(1)), -2) {
+            return None;
+        }
+        let op = self.program.op(pc);
+        let Some(at) = load_of(&op) else {
+            return None;
+        };
+        if !self.bus.reads_still(at) || due(self.cpu.sreg, &self.bus.board).is_some() {
+            return None;
+        }
+        let Ok(byte) = self.bus.get(at) else {
+            return None;
+        };
+        if goes_on_by(&op, byte) {
+            Some(Round {
+                length: 3,
+                count: 2,
+            })
+        } else {
+            None
+        }
+    }
+
+    // A round that begins at the program counter and leaves all as it was but for the cycle and the count.
+    fn any_round(&mut self) -> Option<Round>
+        ensures same { self.new ≡ self.old }
+        ensures round { IfSome result (λ r. IsRound self.old r) }
+    {
+        let short = self.bit_round();
+        if short.is_some() {
+            return short;
+        }
+        self.round()
+    }
+
     // Where a loop begins at the program counter that leaves all as it is but for the cycle and the count of
     // instructions, as a poll does, its rounds from `cycle` on that end by `end` and before the next event are taken at
     // once. How many cycles it were, 0 where there is no such loop.
@@ -132,7 +198,9 @@ impl Machine {
         if self.owed {
             return 0;
         }
-        let Some(round) = self.round() else { return 0 };
+        let Some(round) = self.any_round() else {
+            return 0;
+        };
         let rounds = self.bus.board.leap_rounds(end - cycle, round.length);
         self.count += rounds * round.count;
         rounds * round.length

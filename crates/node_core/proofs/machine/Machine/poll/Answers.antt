@@ -9,14 +9,14 @@ pub returns-then-self-clause-sprinted : goal.returns-then-self-clause-sprinted
 returns-then-self-clause-sprinted c = none_at_all c.args.cycle c.args.self.now c.args.self.now c.requires.may refl
 
 pub returns-in_default-clause-sprinted : goal.returns-in_default-clause-sprinted
-returns-in_default-clause-sprinted c = none_at_all c.args.cycle c.args.self.now c.round.new.self c.requires.may c.round.ensures.same
+returns-in_default-clause-sprinted c = none_at_all c.args.cycle c.args.self.now c.any_round.new.self c.requires.may c.any_round.ensures.same
 
 pub returns-clause-sprinted : goal.returns-clause-sprinted
 returns-clause-sprinted c =
     let r = c.requires in
     let m : Machine = c.args.self.now in
-    let x : Machine = c.round.new.self in
-    let same : x ≡ m = c.round.ensures.same in
+    let x : Machine = c.any_round.new.self in
+    let same : x ≡ m = c.any_round.ensures.same in
     let round = c.in-Some.ensures.round in
     let p = c.leap_rounds-rounds.ensures in
     let within = p.within in
