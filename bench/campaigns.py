@@ -209,7 +209,7 @@ def main():
     runs = int(sys.argv[2]) if len(sys.argv) == 3 else 1_600
     load = os.getloadavg()[0]
     print(f"{os.cpu_count()} processors; {load:.1f} others want to run on them", flush=True)
-    pools = {"processes": local_costs}
+    pools = {"of this machine": local_costs}
     if importlib.util.find_spec("distributed"):
         pools["of dask"] = dask_costs
     else:
@@ -221,7 +221,7 @@ def main():
         print("|---" * (4 + len(PARTS)) + "|")
         tell_costs(pools, folder, "radio", runs)
         tell_costs(pools, folder, "alone", runs)
-        tell_costs({"processes": local_costs}, folder, "drawn", 2 * runs)
+        tell_costs({"of this machine": local_costs}, folder, "drawn", 2 * runs)
 
 
 if __name__ == "__main__":
