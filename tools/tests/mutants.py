@@ -44,7 +44,7 @@ MUTANTS = [
     Mutant("odd vectors", "events", "word % 2 == 0", "word % 2 < 2"),
     Mutant("one instruction less than may be", "events", "MAX_INSTRUCTIONS = 2**40", "MAX_INSTRUCTIONS = 2**40 - 1"),
     Mutant("one instruction more than may be", "events", "MAX_INSTRUCTIONS = 2**40", "MAX_INSTRUCTIONS = 2**40 + 1"),
-    Mutant("cycles have leading zeros", "traces", "cycle < bound or str(cycle) != text", "cycle < bound"),
+    Mutant("cycles have leading zeros", "traces", 'cycle < bound or text[0] == "0" and text != "0"', "cycle < bound"),
     Mutant("nodes have leading zeros", "traces", "str(int(digits[:9])) != digits", "False"),
     Mutant("there is a node 64", "traces", "int(digits) >= MAX_NODES", "int(digits) > MAX_NODES"),
     # the order of rows
@@ -101,8 +101,8 @@ MUTANTS = [
     Mutant("a clash has the byte of one", "scenarios", "byte |= one.byte", "byte = one.byte"),
     Mutant("a send is forgotten too early", "scenarios", "+ self.reach + self.byte_time <= cycle", "+ self.byte_time <= cycle"),
     Mutant("the air is silent too early", "scenarios", "cycle + self.reach + self.byte_time)", "cycle + self.byte_time)"),
-    Mutant("a node sends while it sends", "commands/links", "if cycle < self.free[node]:", "if cycle < self.free[node] - 1:"),
-    Mutant("a node may not send behind its byte", "commands/links", "if cycle < self.free[node]:", "if cycle <= self.free[node]:"),
+    Mutant("a node sends while it sends", "hearing", "if cycle < self.free[node]:", "if cycle < self.free[node] - 1:"),
+    Mutant("a node may not send behind its byte", "hearing", "if cycle < self.free[node]:", "if cycle <= self.free[node]:"),
 ]
 
 
