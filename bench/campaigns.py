@@ -5,7 +5,7 @@
 
 `radio` and `alone` are runs of 5,000,000 cycles of nodes, each checked by a case: three nodes of examples/packet.hex that send and
 listen, and one of bench/mixed.hex that computes. `drawn` are those of bench/network/drawn.campaign. Of each part the processor time
-of a campaign of RUNS runs (400) less that of one of a quarter of them, by the runs that it has more: so what it takes to start is
+of a campaign of RUNS runs (1,600) less that of one of a quarter of them, by the runs that it has more: so what it takes to start is
 not in it. Of the program that of the same runs, as their results have it. Workers are processes of this machine, or, where
 dask.distributed is installed, those of dask beside a scheduler, started as CAMPAIGNS.md says. What a run takes of all processors
 with one worker and with four tells how many times as fast four are as one, where each has a processor. First, how a campaign of a
@@ -206,10 +206,10 @@ def memory(pid):
 def main():
     if len(sys.argv) not in (2, 3):
         sys.exit(__doc__)
-    runs = int(sys.argv[2]) if len(sys.argv) == 3 else 400
+    runs = int(sys.argv[2]) if len(sys.argv) == 3 else 1_600
     load = os.getloadavg()[0]
     print(f"{os.cpu_count()} processors; {load:.1f} others want to run on them", flush=True)
-    pools = {"processes": local_costs}
+    pools = {"of this machine": local_costs}
     if importlib.util.find_spec("distributed"):
         pools["of dask"] = dask_costs
     else:
@@ -221,7 +221,7 @@ def main():
         print("|---" * (4 + len(PARTS)) + "|")
         tell_costs(pools, folder, "radio", runs)
         tell_costs(pools, folder, "alone", runs)
-        tell_costs({"processes": local_costs}, folder, "drawn", 4 * runs)
+        tell_costs({"of this machine": local_costs}, folder, "drawn", 2 * runs)
 
 
 if __name__ == "__main__":

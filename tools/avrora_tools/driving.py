@@ -14,7 +14,7 @@ from avrora_tools.files import printable
 from avrora_tools.pools import Pool, Worker
 from avrora_tools.variants import Run
 
-BATCH_SECONDS = 1.0  # that a worker is to take for a batch
+BATCH_SECONDS = 2.0  # that a worker is to take for a batch
 MOST_IN_BATCH = 200
 BATCHES_A_WORKER = 2  # one under way, one that waits for it
 MOST_TROUBLES = 3  # one after another, of a worker that proves itself between them

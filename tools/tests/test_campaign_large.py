@@ -137,9 +137,9 @@ class Sharing(unittest.TestCase):
         driver.drive(wanted(), lambda: None)
         return saved
 
-    def test_a_batch_takes_a_second(self):
-        """Of runs of a hundredth of a second a hundred go together, and never more than a few batches are made."""
-        pool = FakePool({"a": 0.01, "b": 0.01})
+    def test_a_batch_takes_two_seconds(self):
+        """Of runs of a fiftieth of a second a hundred go together, and never more than a few batches are made."""
+        pool = FakePool({"a": 0.02, "b": 0.02})
         saved = self.drive(pool, 5_000)
         self.assertEqual(set(saved.values()), {("passed", 1, "a"), ("passed", 1, "b")})
         self.assertEqual(len(saved), 5_000)
