@@ -12,7 +12,7 @@ import threading
 from collections.abc import Callable, Iterable, Iterator
 from typing import IO, BinaryIO, NamedTuple, Protocol, cast
 
-from avrora_tools import files, traces
+from avrora_tools import files, groups, traces
 from avrora_tools.cases import (
     COMPARISONS,
     Case,
@@ -30,7 +30,9 @@ from avrora_tools.events import TRACED, Serial, event_of
 from avrora_tools.patterns import EVERY, Extent, Span
 from avrora_tools.scenarios import BYTE_TIME, MAX_WINDOW, Scenario
 
-__all__ = ["Case", "Golden", "Outcome", "check", "read_case", "run_case"]
+__all__ = ["Case", "Golden", "Outcome", "RUNS", "check", "read_case", "run_case"]
+
+RUNS = groups.Groups()  # of the simulator, of all cases that are checked at a time
 
 CONTEXT = 3  # rows before and behind the row at fault
 MOST_ROWS = 10  # that a report of a count tells
@@ -536,24 +538,11 @@ def run_case(case: Case, avrora: str, save: bool = False, timeout: float | None 
     if case.source[0] == "trace":
         path = os.path.join(case.folder, case.source[1])
         return check(case, traces.file_blocks(path), save, files.shown(path))
+    words = [avrora, *case.source]
     with tempfile.TemporaryFile() as errors:
-        try:
-            process = subprocess.Popen(
-                [avrora, *case.source],
-                cwd=case.folder,
-                stdin=subprocess.DEVNULL,
-                stdout=subprocess.PIPE,
-                stderr=errors,
-            )
-        except OSError as fault:
-            raise CannotWork(f"cannot run {files.shown(avrora)}: {fault.strerror}") from None
-        assert process.stdout
-        try:
+        streams = {"stdin": subprocess.DEVNULL, "stdout": subprocess.PIPE, "stderr": errors}
+        with RUNS.started(words, cwd=case.folder, **streams) as process:
             return checked_run(case, process, errors, save, timeout)
-        finally:
-            process.kill()  # where the trace is not read to its end
-            process.wait()
-            process.stdout.close()
 
 
 def checked_run(
@@ -564,7 +553,7 @@ def checked_run(
 
     def end_late() -> None:
         late.set()
-        process.kill()
+        groups.end(process)
 
     def ended(came: bool) -> None:
         """Raises what is due where the run ended otherwise than well."""

@@ -197,7 +197,7 @@ class Programs:
             nodes = {node for node, image in enumerate(scenario.images) if stem(image) == stem(program.path)}
             if not nodes:
                 raise BadInput(
-                    f"{program.name}: no node has the image {stem(program.path)}.hex; say which: -e NODES={word}"
+                    f"{program.name}: no node has the image {stem(program.name)}.hex; say which: -e NODES={program.name}"
                 )
         if nodes is None:
             self.others = program

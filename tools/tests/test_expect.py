@@ -1,9 +1,11 @@
 """Expectations of a trace, met and not met, each by hand."""
 import os
+import signal
+import subprocess
 import sys
 import unittest
 
-from support import DATA, TOP, data, needs_module, run_tool, scratch
+from support import DATA, LONG, TOOL, TOP, data, needs_module, run_tool, scratch, wait_for
 from avrora_tools import expectations
 from avrora_tools.errors import BadInput
 
@@ -19,6 +21,19 @@ TRACE = """\
 99 0 end 12 running
 99 1 end 7 stopped
 """
+
+
+def content(path):
+    with open(path, encoding="utf-8") as file:
+        return file.read().strip()
+
+
+def is_gone(process):
+    """Whether a process ended, also where nobody waits for it."""
+    try:
+        return ") Z " in content(f"/proc/{process}/stat")
+    except FileNotFoundError:
+        return True
 
 
 def outcome(text, trace=TRACE, save=False):
@@ -481,12 +496,28 @@ class Command(unittest.TestCase):
 
     def test_a_run_that_goes_on(self):
         """It is ended where it takes too long, which is no answer of the check."""
-        endless = f"#!/bin/sh\nhead -n 100 {DATA}/relay.trace\nexec sleep 1000\n"
-        with scratch("avrora", endless) as avrora, scratch("a.expect", "run net\nnever * * enter *\n") as case:
-            os.chmod(avrora, 0o755)
-            status, out, _ = run_tool("expect", "--timeout", "1", "--avrora", avrora, case)
-        self.assertEqual(status, 3)
-        self.assertIn("avrora run net: it took more than 1 seconds", out)
+        for goes_on in ("exec sleep 1000", "sleep 1000", "sleep 1000 & wait"):  # itself, or what it starts
+            endless = f"#!/bin/sh\nhead -n 100 {DATA}/relay.trace\n{goes_on}\n"
+            with scratch("avrora", endless) as avrora, scratch("a.expect", "run net\nnever * * enter *\n") as case:
+                os.chmod(avrora, 0o755)
+                for jobs in ("1", "2"):
+                    status, out, _ = run_tool("expect", "--timeout", "1", "--jobs", jobs, "--avrora", avrora, case)
+                    self.assertEqual(status, 3)
+                    self.assertIn("avrora run net: it took more than 1 seconds", out)
+
+    def test_an_interrupt_ends_what_runs(self):
+        """SIGINT to the tool alone, once it reads: the run, which tells its number then, is not of the terminal's group."""
+        rows = "seq 20000 | sed 's/$/ 0 serial 41/'"  # more than a pipe holds
+        with scratch("pid") as number, scratch("a.expect", "run net\nnever * * enter *\n") as case:
+            with scratch("avrora", f"#!/bin/sh\n{rows}\nsleep 1000 &\necho $! >{number}\nwait\n") as avrora:
+                os.chmod(avrora, 0o755)
+                for jobs in ("1", "2"):
+                    open(number, "w").close()
+                    tool = subprocess.Popen([*TOOL, "expect", "--jobs", jobs, "--avrora", avrora, case], stdout=subprocess.DEVNULL)
+                    run = int(wait_for(lambda: content(number)))
+                    tool.send_signal(signal.SIGINT)
+                    self.assertEqual(tool.wait(LONG), 128 + signal.SIGINT)
+                    wait_for(lambda: is_gone(run))
 
     def test_what_is_no_trace(self):
         with scratch("a.expect", "text 4 'relay'\n") as case:

@@ -85,6 +85,10 @@ class Programs(unittest.TestCase):
         Scenario.images = ["other.hex"]
         with self.assertRaisesRegex(BadInput, "no node has the image relay.hex"):
             of([ELF], Scenario)
+        with open(ELF, "rb") as file, scratch(os.fsdecode(b"e\xff.elf"), file.read()) as path:
+            says = r"e\\xff.elf: no node has the image e\\xff.hex; say which: -e NODES=.*e\\xff.elf$"
+            with self.assertRaisesRegex(BadInput, says):
+                of([path], Scenario)
 
 
 class AnotherProgram(unittest.TestCase):

@@ -1,8 +1,10 @@
 """Which runs one process makes, and what it wrote of each."""
+import time
+
 import pytest
 
 from avrora_tools.errors import CannotWork
-from avrora_tools.sweeping.simulation import NO_WINDOW, batches, pieces
+from avrora_tools.sweeping.simulation import NO_WINDOW, Simulator, batches, pieces
 
 
 def jobs(*moves, window=NO_WINDOW):
@@ -39,3 +41,14 @@ def test_a_run_ends_with_the_end_row_of_its_last_node():
         pieces(one + two[:-5], 2, 2)
     with pytest.raises(CannotWork):
         pieces(one, 2, 2)
+
+
+def test_a_run_that_takes_too_long_ends_with_what_it_started(tmp_path):
+    script = tmp_path / "avrora"
+    script.write_text("#!/bin/sh\nsleep 1000\n")
+    script.chmod(0o755)
+    simulator = Simulator(str(script), str(tmp_path), 0.5)
+    begun = time.monotonic()
+    with pytest.raises(CannotWork, match="more than 0.5 seconds"):
+        simulator.call("run", "--plain", "a.toml")
+    assert time.monotonic() - begun < 500 and not simulator.groups.running

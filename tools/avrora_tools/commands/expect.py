@@ -75,6 +75,7 @@ def results_of(cases: list[Case], arguments: argparse.Namespace, avrora: str | N
         yield from executor.map(lambda case: checked(case, arguments, avrora), cases)
     finally:
         executor.shutdown(wait=False, cancel_futures=True)
+        expectations.RUNS.end_all()
 
 
 def checked(case: Case, arguments: argparse.Namespace, avrora: str | None) -> Result:

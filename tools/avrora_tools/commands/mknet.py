@@ -70,7 +70,7 @@ def run(arguments: argparse.Namespace) -> int:
 
 
 def configure(parser: argparse.ArgumentParser) -> None:
-    cli.describe(parser, DESCRIPTION, "mknet --cycles 500000 --input 0=0102 grid:8 flood.hex*64 > network.toml")
+    cli.describe(parser, DESCRIPTION, "mknet --cycles 500000 --input 0=0102 grid:8 'flood.hex*64' > network.toml")
     parser.add_argument("--cycles", type=cli.positive, default=networks.CYCLES, help="of the run (%(default)s)")
     parser.add_argument(
         "--latency", type=cli.positive, default=networks.LATENCY, help="of all links, in cycles (%(default)s)"

@@ -14,6 +14,7 @@ from types import TracebackType
 from typing import Protocol
 
 from avrora_tools.errors import BadInput, CannotWork
+from avrora_tools.groups import Groups
 from avrora_tools.sweeping.events import EPOCH, Document, InputByte, Move, MovedScenario
 
 Window = tuple[int, int]
@@ -37,22 +38,20 @@ class Simulator:
 
     def __init__(self, program: str, folder: str, timeout: float) -> None:
         self.program, self.folder, self.timeout = program, folder, timeout
+        self.groups = Groups()
 
     def call(self, *words: str, runs: int = 1) -> bytes:
         """What the program writes, which makes so many runs. Raises BadInput with what it says where it refuses its input."""
-        seconds = self.timeout * runs
+        streams = {"stdin": subprocess.DEVNULL, "stdout": subprocess.PIPE, "stderr": subprocess.PIPE}
         try:
-            done = subprocess.run(
-                [self.program, *words], cwd=self.folder, stdin=subprocess.DEVNULL, capture_output=True, timeout=seconds
-            )
+            with self.groups.started([self.program, *words], cwd=self.folder, **streams) as process:
+                output, errors = process.communicate(timeout=self.timeout * runs)
         except subprocess.TimeoutExpired:
             raise CannotWork(f"a run took more than {self.timeout:g} seconds (--timeout)") from None
-        except OSError as fault:
-            raise CannotWork(f"cannot run {self.program}: {fault.strerror}") from None
-        if done.returncode:
-            said = done.stderr.decode(errors="replace").strip() or f"status {done.returncode}"
+        if process.returncode:
+            said = errors.decode(errors="replace").strip() or f"status {process.returncode}"
             raise BadInput(f"{' '.join(words[:1])}: {said}")
-        return done.stdout
+        return output
 
 
 class ProcessTails:
@@ -132,7 +131,8 @@ class ProcessTails:
                 while waiting:
                     yield from waiting.popleft().result()
             finally:
-                pool.shutdown(cancel_futures=True)
+                pool.shutdown(wait=False, cancel_futures=True)
+                self.simulator.groups.end_all()  # of runs that nobody asks for any more
 
     def batch(self, before: Move, window: Window, values: list[int]) -> list[bytes]:
         if self.sweeps:

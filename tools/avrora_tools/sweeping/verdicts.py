@@ -7,7 +7,7 @@ from dataclasses import dataclass, field
 from enum import Enum
 from typing import Protocol
 
-from avrora_tools import cases, expectations
+from avrora_tools import cases, expectations, files
 from avrora_tools.errors import BadInput
 from avrora_tools.sweeping.events import Move
 from avrora_tools.sweeping.rows import all_rows, writes, written
@@ -174,14 +174,14 @@ def predicate_of(path: str) -> Callable[[Run], str | None]:
     """The function `check` of a Python file. Raises BadInput where there is none."""
     spec = importlib.util.spec_from_file_location("predicate", path)
     if spec is None or spec.loader is None:
-        raise BadInput(f"{path}: no Python file")
+        raise BadInput(f"{files.shown(path)}: no Python file")
     module = importlib.util.module_from_spec(spec)
     try:
         spec.loader.exec_module(module)
     except Exception as fault:  # whatever the user's file does
-        raise BadInput(f"{path}: {type(fault).__name__}: {fault}") from None
+        raise BadInput(f"{files.shown(path)}: {type(fault).__name__}: {fault}") from None
     if not callable(getattr(module, "check", None)):
-        raise BadInput(f"{path}: no function check(run)")
+        raise BadInput(f"{files.shown(path)}: no function check(run)")
     predicate: Callable[[Run], str | None] = module.check
     return predicate
 
