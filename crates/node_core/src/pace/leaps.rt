@@ -1,6 +1,7 @@
 // Loops that wait, leapt over in whole rounds up to the next event.
-ghost use Rattle.std.specs.Prelude.{◌≡◌, ◌≤◌, ◌<◌, ◌+◌, ◌^◌, ℕ, None, false, true, IfSome};
+ghost use Rattle.std.specs.Prelude.{◌≡◌, ◌≤◌, ◌<◌, ◌+◌, ℕ, None, false, true, IfSome};
 ghost use Rattle.avr_decoder.specs.declared.op.Op.TheVariants as variant;
+ghost use Rattle.device_base.specs.Bounds.{LAST_CYCLE};
 ghost use Rattle.board_io.specs.Lines.{lines_of};
 ghost use Rattle.node_core.specs.Inside.{MayAct, is_told};
 ghost use Rattle.node_core.specs.Pace.Leaps.{GoesOnBy, IsLoad, IsRound, IsStill, IsStillStep, is_steering};
@@ -10,7 +11,7 @@ ghost use Rattle.serial_ports.specs.Script.{script_byte};
 use crate::NodeBus;
 use crate::machine::Machine;
 use crate::processor::{due, owes};
-use avr_base::ByteBits;
+use avr_base::{ByteBits, IO_START};
 use avr_core::execute_waiting;
 use avr_decoder::{Class, Op};
 use data_space::{Bus, Cpu};
@@ -47,9 +48,9 @@ fn load_of(op: &Op) -> Option<u16>
     ensures { IfSome result (λ at. IsLoad op.now at) }
 {
     match *op {
-        Op::Sbis { a, .. } => Some(u16::from(a) + 0x20),
-        Op::Sbic { a, .. } => Some(u16::from(a) + 0x20),
-        Op::InIo { a, .. } => Some(u16::from(a) + 0x20),
+        Op::Sbis { a, .. } => Some(u16::from(a) + IO_START),
+        Op::Sbic { a, .. } => Some(u16::from(a) + IO_START),
+        Op::InIo { a, .. } => Some(u16::from(a) + IO_START),
         Op::Lds { k, .. } => Some(k),
         _ => None,
     }
@@ -188,7 +189,7 @@ impl Machine {
         requires may { MayAct cycle self.old }
         requires untold { (i : ℕ) → cycle + i < end → is_told self.old.from self.old.to (cycle + i) ≡ false }
         requires within { cycle ≤ end }
-        requires early { end ≤ 2 ^ 40 }
+        requires early { end ≤ LAST_CYCLE }
         requires none { (i : ℕ) → cycle + i < end → script_byte self.old.script (cycle + i) ≡ None }
         ensures sprinted { IsSprinted cycle (cycle + result) false self.old self.new }
         ensures others { self.new ≡ record self.old { bus = self.new.bus; count = self.new.count } }
@@ -213,7 +214,7 @@ impl Machine {
         requires may { MayAct cycle self.old }
         requires untold { (i : ℕ) → cycle + i < end → is_told self.old.from self.old.to (cycle + i) ≡ false }
         requires within { cycle ≤ end }
-        requires early { end ≤ 2 ^ 40 }
+        requires early { end ≤ LAST_CYCLE }
         requires none { (i : ℕ) → cycle + i < end → script_byte self.old.script (cycle + i) ≡ None }
         ensures sprinted { IsSprinted cycle (cycle + result) false self.old self.new }
         ensures others { self.new ≡ record self.old { cpu = self.new.cpu; bus = self.new.bus; count = self.new.count } }
