@@ -1,5 +1,6 @@
 // The registers of a timer.
-ghost use Rattle.std.specs.Prelude.{◌≡◌, ◌≤◌, ◌+◌, ◌/◌, ◌%◌, ◌^◌, ◌<◌, ℕ, false, Ok, Err, OnOk, OnErr, IfErr};
+ghost use Rattle.std.specs.Prelude.{◌≡◌, ◌≤◌, ◌+◌, ◌/◌, ◌%◌, ◌<◌, ℕ, false, Ok, Err, OnOk, OnErr, IfErr};
+ghost use Rattle.device_base.specs.Bounds.{LAST_END};
 
 use crate::{Mode16, Prescaler, Timer16};
 use avr_base::StopCause;
@@ -113,7 +114,7 @@ impl Timer16 {
     /// of which sets a flag: a read that does not move it, but for TEMP.
     #[inline(always)]
     pub fn get_calm(&mut self, cycle: u64, n: u64, reg: Reg16) -> u8
-        requires early { cycle + n ≤ 2 ^ 41 }
+        requires early { cycle + n ≤ LAST_END }
         requires calm { (i : ℕ) → i < n → sets_flag_at cycle self.old i ≡ false }
         ensures got { get_of (cycles timer_cycle cycle n self.old) reg ≡ (result, cycles timer_cycle cycle n self.new) }
         ensures others { self.new ≡ record self.old { temp = self.new.temp } }

@@ -3,7 +3,8 @@
 -- timers. Until `steady` no timer sets a flag, be it set already or not: so none passes its top, and a flag can be cleared
 -- before the cycles that are made up for. Its clock may be past `next`: whoever moved it there knew that no flag changes
 -- before.
-use Rattle.std.specs.Prelude.{◌≡◌, ℕ, ◌+◌, ◌-◌, ◌^◌, ◌<◌, ◌≤◌, ◌==◌, ◌&&◌, not, Bool, true, false, Ok}
+use Rattle.std.specs.Prelude.{◌≡◌, ℕ, ◌+◌, ◌-◌, ◌<◌, ◌≤◌, ◌==◌, ◌&&◌, not, Bool, true, false, Ok}
+use Rattle.device_base.specs.Bounds.{LAST_CYCLE}
 use Rattle.board_io.specs.declared.board.Board.{Board}
 use Rattle.board_io.specs.declared.ahead.Forecast.{Forecast}
 use Rattle.board_io.specs.Board.{clock_at}
@@ -27,8 +28,8 @@ caught_up settled b = timers_leap settled (b.clock - settled) b
 -- what is kept of a board that lags is true of it
 pub record IsAhead (a : Forecast) (b : Board) : Type 0 where
   pub settled : a.settled ≤ b.clock
-  pub now : b.clock ≤ 2 ^ 40
-  pub early : a.next ≤ 2 ^ 40
+  pub now : b.clock ≤ LAST_CYCLE
+  pub early : a.next ≤ LAST_CYCLE
   pub quiet : (t : ℕ) → b.clock ≤ t → t < a.next → board_quiet t b ≡ true
   pub calm : (i : ℕ) → a.settled + i < a.next → changes_flag_at a.settled b i ≡ false
   pub past : (i : ℕ) → a.settled + i < b.clock → changes_flag_at a.settled b i ≡ false

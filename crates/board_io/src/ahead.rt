@@ -1,5 +1,6 @@
 // What is known of a board's next cycles.
-ghost use Rattle.std.specs.Prelude.{◌≡◌, ◌≤◌, ◌<◌, ◌+◌, ◌^◌, ℕ, false};
+ghost use Rattle.std.specs.Prelude.{◌≡◌, ◌≤◌, ◌<◌, ◌+◌, ℕ, false};
+ghost use Rattle.device_base.specs.Bounds.{LAST_CYCLE};
 ghost use Rattle.board_io.specs.Passing.{changes_flag_at, sets_flag_at};
 ghost use Rattle.board_io.specs.Lagging.{IsAhead};
 
@@ -43,7 +44,7 @@ impl Board {
     /// What is known of it from the cycle of its clock on, which its timers have come to.
     #[inline(always)]
     pub fn ahead(&self) -> Forecast
-        requires { self.now.clock ≤ 2 ^ 40 }
+        requires { self.now.clock ≤ LAST_CYCLE }
         ensures settled { result.settled ≡ self.now.clock }
         ensures ahead { IsAhead result self.now }
     {
@@ -66,7 +67,7 @@ impl Board {
     // Most timers set one that is not set; of those that set one again and again, the first that is not is looked for.
     #[inline(always)]
     fn same_until(&self, settled: u64, calm: u64, steady: u64) -> u64
-        requires early { settled + calm ≤ 2 ^ 40 }
+        requires early { settled + calm ≤ LAST_CYCLE }
         requires within { steady ≤ settled + calm }
         requires steady { (i : ℕ) → settled + i < steady → sets_flag_at settled self.now i ≡ false }
         ensures within { result ≤ settled + calm }
@@ -81,7 +82,7 @@ impl Board {
     // Up to which cycle, of at most `calm` cycles from `settled` on, no flag changes.
     #[inline(never)]
     fn flags_until(&self, settled: u64, calm: u64) -> u64
-        requires early { settled + calm ≤ 2 ^ 40 }
+        requires early { settled + calm ≤ LAST_CYCLE }
         ensures within { result ≤ settled + calm }
         ensures calm { (i : ℕ) → settled + i < result → changes_flag_at settled self.now i ≡ false }
     {
@@ -91,8 +92,8 @@ impl Board {
     /// What is known of it, where of its timers what `before` tells is known still.
     pub fn ahead_beside(&self, before: Forecast) -> Forecast
         requires settled { before.settled ≤ self.now.clock }
-        requires now { self.now.clock ≤ 2 ^ 40 }
-        requires early { before.next ≤ 2 ^ 40 }
+        requires now { self.now.clock ≤ LAST_CYCLE }
+        requires early { before.next ≤ LAST_CYCLE }
         requires calm { (i : ℕ) → before.settled + i < before.next → changes_flag_at before.settled self.now i ≡ false }
         requires past { (i : ℕ) → before.settled + i < self.now.clock → changes_flag_at before.settled self.now i ≡ false }
         requires steady { (i : ℕ) → before.settled + i < before.steady → sets_flag_at before.settled self.now i ≡ false }

@@ -1,5 +1,6 @@
 // A board that does its timers' cycles once somebody looks at them.
-ghost use Rattle.std.specs.Prelude.{◌≡◌, ◌≤◌, ◌<◌, ◌+◌, ◌-◌, ◌*◌, ◌^◌, true, false, is_some};
+ghost use Rattle.std.specs.Prelude.{◌≡◌, ◌≤◌, ◌<◌, ◌+◌, ◌-◌, ◌*◌, true, false, is_some};
+ghost use Rattle.device_base.specs.Bounds.{LAST_CYCLE};
 ghost use Rattle.board_io.specs.Lagging.{IsClear, IsIdle};
 
 use crate::ahead::{Forecast, clear_until};
@@ -68,7 +69,7 @@ impl LaggingBoard {
     #[inline]
     pub fn horizon(&self) -> u64
         ensures from { self.now.clock ≤ result }
-        ensures early { result ≤ 2 ^ 40 }
+        ensures early { result ≤ LAST_CYCLE }
         ensures idle { IsIdle self.now.clock (result - self.now.clock) (unclocked self.now) }
     {
         self.ahead.next.max(self.board.clock.get())
@@ -131,7 +132,7 @@ impl LaggingBoard {
     #[inline(always)]
     pub fn now(&self) -> u64
         ensures value { result ≡ self.now.clock }
-        ensures early { result ≤ 2 ^ 40 }
+        ensures early { result ≤ LAST_CYCLE }
     {
         self.board.clock.get()
     }
@@ -140,7 +141,7 @@ impl LaggingBoard {
     /// timer sets a flag, as far as what runs now tells; 0 where a line is up.
     #[inline(always)]
     pub fn clear(&self) -> u64
-        ensures early { result ≤ 2 ^ 40 }
+        ensures early { result ≤ LAST_CYCLE }
         ensures clear { IsClear result self.now }
     {
         self.ahead.clear
@@ -151,7 +152,7 @@ impl LaggingBoard {
     #[inline(always)]
     pub fn leap_within(&mut self, bound: u64, n: u8) -> bool
         requires some { 0 < n }
-        requires early { bound ≤ 2 ^ 40 }
+        requires early { bound ≤ LAST_CYCLE }
         requires clear { IsClear bound self.old }
         ensures within { result ≡ true → self.old.clock + n ≤ bound }
         ensures idle { result ≡ true → IsIdle self.old.clock n (unclocked self.old) }
@@ -173,7 +174,7 @@ impl LaggingBoard {
     #[inline(never)]
     fn begin_caught_up(&mut self, cycle: u64, arrival: Option<u8>) -> CycleOutput
         requires now { self.old.clock ≡ cycle }
-        requires early { cycle < 2 ^ 40 }
+        requires early { cycle < LAST_CYCLE }
         ensures state { unclocked self.new ≡ board_begun cycle arrival (unclocked self.old) }
         ensures clock { self.new.clock ≡ cycle + 1 }
         ensures serial { result.serial ≡ board_serial cycle (unclocked self.old) }
@@ -194,7 +195,7 @@ impl LaggingBoard {
     #[inline]
     pub fn begin(&mut self, cycle: u64, arrival: Option<u8>) -> CycleOutput
         requires now { self.old.clock ≡ cycle }
-        requires early { cycle < 2 ^ 40 }
+        requires early { cycle < LAST_CYCLE }
         ensures state { unclocked self.new ≡ board_begun cycle arrival (unclocked self.old) }
         ensures clock { self.new.clock ≡ cycle + 1 }
         ensures serial { result.serial ≡ board_serial cycle (unclocked self.old) }

@@ -1,5 +1,6 @@
 // Many cycles of the devices at once.
-ghost use Rattle.std.specs.Prelude.{◌≡◌, ◌≤◌, ◌<◌, ◌+◌, ◌-◌, ◌^◌, ℕ, true, false};
+ghost use Rattle.std.specs.Prelude.{◌≡◌, ◌≤◌, ◌<◌, ◌+◌, ◌-◌, ℕ, true, false};
+ghost use Rattle.device_base.specs.Bounds.{LAST_CYCLE, LAST_END};
 ghost use Rattle.avr_timers.specs.Clock.{cycles};
 ghost use Rattle.avr_timers.specs.Timer8 as timer8;
 ghost use Rattle.avr_timers.specs.Timer16 as timer16;
@@ -10,7 +11,7 @@ use avr_timers::{Timer8, Timer16};
 
 // For how many cycles from `cycle` on, of at most `most`, the end of something does not come.
 pub(crate) fn cycles_before(end: Option<u64>, cycle: u64, most: u64) -> u64
-    requires { cycle + most ≤ 2 ^ 41 }
+    requires { cycle + most ≤ LAST_END }
     ensures within { result ≤ most }
     ensures none { (i : ℕ) → i < result → is_at end (cycle + i) ≡ false }
     ensures goes_on { 0 < most → is_at end cycle ≡ false → 0 < result }
@@ -32,7 +33,7 @@ pub(crate) fn cycles_before(end: Option<u64>, cycle: u64, most: u64) -> u64
 #[inline(always)]
 #[tactic(auto, using(crate::proofs::Steady::stopped_8))]
 fn leap_8(timer: &mut Timer8, cycle: u64, n: u64)
-    requires { cycle + n ≤ 2 ^ 41 }
+    requires { cycle + n ≤ LAST_END }
     ensures { timer.new ≡ cycles timer8.timer_cycle cycle n timer.old }
 {
     if timer.select != 0 {
@@ -44,7 +45,7 @@ fn leap_8(timer: &mut Timer8, cycle: u64, n: u64)
 #[inline(always)]
 #[tactic(auto, using(crate::proofs::Steady::stopped_16))]
 fn leap_16(timer: &mut Timer16, cycle: u64, n: u64)
-    requires { cycle + n ≤ 2 ^ 41 }
+    requires { cycle + n ≤ LAST_END }
     ensures { timer.new ≡ cycles timer16.timer_cycle cycle n timer.old }
 {
     if timer.select != 0 {
@@ -56,7 +57,7 @@ fn leap_16(timer: &mut Timer16, cycle: u64, n: u64)
 #[inline(always)]
 #[tactic(auto, using(crate::proofs::Steady::halted_8, crate::proofs::Steady::calm_8))]
 fn same_flags_8(timer: &Timer8, cycle: u64, most: u64) -> u64
-    requires { cycle ≤ 2 ^ 40 }
+    requires { cycle ≤ LAST_CYCLE }
     ensures within { result ≤ most }
     ensures same { (i : ℕ) → i < result → timer8.flags_of (cycles timer8.timer_cycle cycle i timer.now) ≡ timer8.flags_of timer.now }
     ensures calm { (i : ℕ) → i + 1 < result → timer8.sets_flag_at cycle timer.now i ≡ false }
@@ -77,7 +78,7 @@ fn same_flags_8(timer: &Timer8, cycle: u64, most: u64) -> u64
 #[inline(always)]
 #[tactic(auto, using(crate::proofs::Steady::halted_16, crate::proofs::Steady::calm_16))]
 fn same_flags_16(timer: &Timer16, cycle: u64, most: u64) -> u64
-    requires { cycle ≤ 2 ^ 40 }
+    requires { cycle ≤ LAST_CYCLE }
     ensures within { result ≤ most }
     ensures same { (i : ℕ) → i < result → (cycles timer16.timer_cycle cycle i timer.now).flags ≡ timer.now.flags }
     ensures calm { (i : ℕ) → i + 1 < result → timer16.sets_flag_at cycle timer.now i ≡ false }
@@ -97,7 +98,7 @@ fn same_flags_16(timer: &Timer16, cycle: u64, most: u64) -> u64
 #[inline(always)]
 #[tactic(auto, using(crate::proofs::Steady::kept_8))]
 fn unchanged_8(timer: &Timer8, cycle: u64, most: u64) -> u64
-    requires { cycle ≤ 2 ^ 40 }
+    requires { cycle ≤ LAST_CYCLE }
     ensures within { result ≤ most }
     ensures calm { (i : ℕ) → i < result → timer8.changes_flag_at cycle timer.now i ≡ false }
     ensures first { result < most → timer8.changes_flag_at cycle timer.now result ≡ true }
@@ -115,7 +116,7 @@ fn unchanged_8(timer: &Timer8, cycle: u64, most: u64) -> u64
 #[inline(always)]
 #[tactic(auto, using(crate::proofs::Steady::kept_16))]
 fn unchanged_16(timer: &Timer16, cycle: u64, most: u64) -> u64
-    requires { cycle ≤ 2 ^ 40 }
+    requires { cycle ≤ LAST_CYCLE }
     ensures within { result ≤ most }
     ensures calm { (i : ℕ) → i < result → timer16.changes_flag_at cycle timer.now i ≡ false }
     ensures first { result < most → timer16.changes_flag_at cycle timer.now result ≡ true }
@@ -138,7 +139,7 @@ impl Board {
     /// tells: up to the first end.
     #[tactic(auto, unfolding(crate::specs::Cycle::board_quiet))]
     pub fn quiet(&self, cycle: u64, most: u64) -> u64
-        requires { cycle + most ≤ 2 ^ 41 }
+        requires { cycle + most ≤ LAST_END }
         ensures within { result ≤ most }
         ensures none { (i : ℕ) → i < result → board_quiet (cycle + i) self.now ≡ true }
         ensures first { result < most → board_quiet (cycle + result) self.now ≡ false }
@@ -152,7 +153,7 @@ impl Board {
     /// no byte arrives that is all that the devices do.
     #[tactic(auto, unfolding(crate::specs::Cycle::timers_leap))]
     pub fn leap(&mut self, cycle: u64, n: u64)
-        requires { cycle + n ≤ 2 ^ 41 }
+        requires { cycle + n ≤ LAST_END }
         ensures { self.new ≡ timers_leap cycle n self.old }
     {
         leap_8(&mut self.t0, cycle, n);
@@ -164,7 +165,7 @@ impl Board {
     /// For how many cycles from `cycle` on, of at most `most`, each begins with the lines of now, where the timers
     /// alone move: up to the first cycle in which a timer sets a flag, and with it. At least one.
     pub fn same_lines(&self, cycle: u64, most: u64) -> u64
-        requires { cycle ≤ 2 ^ 40 }
+        requires { cycle ≤ LAST_CYCLE }
         ensures within { result ≤ most }
         ensures same { (i : ℕ) → i < result → lines_of (timers_leap cycle i self.now) ≡ lines_of self.now }
         ensures calm { (i : ℕ) → i + 1 < result → sets_flag_at cycle self.now i ≡ false }
@@ -179,7 +180,7 @@ impl Board {
 
     /// For how many cycles from `cycle` on, of at most `most`, no flag of a timer changes.
     pub fn same_flags(&self, cycle: u64, most: u64) -> u64
-        requires { cycle ≤ 2 ^ 40 }
+        requires { cycle ≤ LAST_CYCLE }
         ensures within { result ≤ most }
         ensures calm { (i : ℕ) → i < result → changes_flag_at cycle self.now i ≡ false }
         ensures first { result < most → changes_flag_at cycle self.now result ≡ true }

@@ -1,5 +1,6 @@
 // What is done to the radio.
-ghost use Rattle.std.specs.Prelude.{◌≤◌, ◌^◌};
+ghost use Rattle.std.specs.Prelude.{◌≤◌};
+ghost use Rattle.device_base.specs.Bounds.{LAST_END};
 
 use crate::answers::Answer;
 use crate::numbers::{byte, cycle, short};
@@ -16,7 +17,7 @@ const HEARD: Heard = Heard {
 
 // A transfer that ends in a cycle; where the radio asks the air, it hears this.
 fn moved(radio: &mut Radio, at: u64, selected: bool, mosi: u8, heard: Heard) -> Answer
-    requires { at ≤ 2 ^ 41 }
+    requires { at ≤ LAST_END }
 {
     match radio.transfer(at, selected, mosi) {
         TransferOutcome::Answer(b) => Answer::Byte(b),

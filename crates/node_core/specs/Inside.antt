@@ -1,7 +1,8 @@
 -- What holds of the inside of a node between two calls: an instruction takes at least a cycle, so its count cannot
 -- wrap; the clock of its board shows the next cycle of the devices; in the middle of a sample there is room for the row
 -- of what is heard, and the transfer that samples runs.
-use Rattle.std.specs.Prelude.{◌≡◌, ℕ, ◌+◌, ◌^◌, ◌≤◌, ◌<◌, ◌&&◌, nat_le, nat_lt, Bool, true, false, None, is_some, if◌then◌else◌, vec_len, vec_capacity}
+use Rattle.std.specs.Prelude.{◌≡◌, ℕ, ◌+◌, ◌≤◌, ◌<◌, ◌&&◌, nat_le, nat_lt, Bool, true, false, None, is_some, if◌then◌else◌, vec_len, vec_capacity}
+use Rattle.device_base.specs.Bounds.{LAST_CYCLE}
 use Rattle.node_core.specs.declared.machine.Machine.{Machine}
 use Rattle.node_core.specs.Bus.{with_board}
 use Rattle.node_core.specs.State.{NodeState}
@@ -9,9 +10,9 @@ use Rattle.board_io.specs.Cycle.{board_quiet, timers_leap}
 use Rattle.serial_ports.specs.Script.{script_byte}
 
 pub record IsWhole (cycle : ℕ) (asking : Bool) (m : Machine) : Type 0 where
-  pub few : m.count ≤ 2 ^ 40 + cycle + (if asking then 1 else 0)
+  pub few : m.count ≤ LAST_CYCLE + cycle + (if asking then 1 else 0)
   pub clock : m.stop ≡ None → m.bus.board.clock ≡ cycle + (if asking then 1 else 0)
-  pub early : asking ≡ true → cycle < 2 ^ 40
+  pub early : asking ≡ true → cycle < LAST_CYCLE
   pub room : asking ≡ true → vec_len m.rows < vec_capacity m.rows
   pub waits : asking ≡ true → is_some m.bus.board.spi.shift_register ≡ true
 
@@ -22,8 +23,8 @@ pub record MayAct (t : ℕ) (m : Machine) : Type 0 where
   pub free : m.wait ≡ 0
   pub awake : m.asleep ≡ false
   pub now : m.bus.board.clock ≡ t
-  pub few : m.count ≤ 2 ^ 40 + t
-  pub early : t ≤ 2 ^ 40
+  pub few : m.count ≤ LAST_CYCLE + t
+  pub early : t ≤ LAST_CYCLE
   pub room : vec_len m.rows < vec_capacity m.rows
 
 -- whether an instruction that begins in cycle t has a row, by the window from `from` on and below `to`

@@ -1,5 +1,6 @@
 -- A node that is restored from its numbers, the I/O bytes that its board keeps and its SRAM, and when it is refused.
-use Rattle.std.specs.Prelude.{◌≡◌, ◌⊎◌, ℕ, ◌+◌, ◌^◌, ◌≤◌, ◌<◌, List, length, Option, None, Some, take, slice_index, ◌==◌}
+use Rattle.std.specs.Prelude.{◌≡◌, ◌⊎◌, ℕ, ◌+◌, ◌≤◌, ◌<◌, List, length, Option, None, Some, take, slice_index, ◌==◌}
+use Rattle.device_base.specs.Bounds.{LAST_CYCLE}
 use Rattle.board_io.specs.Kept.{first_refused}
 use Rattle.board_io.specs.Saved as board
 use Rattle.data_space.specs.declared.cpu.Cpu.{Cpu}
@@ -20,7 +21,7 @@ pub record IsCore (n : List ℕ) : Type 0 where
   pub owed : slice_index n 37 ≤ 1
   pub asleep : slice_index n 38 ≤ 1
   pub stop : slice_index n 39 ≤ 26
-  pub count : slice_index n 40 ≤ 2 ^ 40
+  pub count : slice_index n 40 ≤ LAST_CYCLE
 
 -- the registers of the core by their numbers
 abbrev pub cpu_of : List ℕ → Cpu

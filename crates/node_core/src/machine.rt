@@ -1,5 +1,6 @@
 // The inside of a node, and the devices' part of a cycle.
-ghost use Rattle.std.specs.Prelude.{◌≡◌, ◌<◌, ◌≤◌, ◌+◌, ◌^◌, ◌++◌, None, true, is_some, vec_len, vec_capacity};
+ghost use Rattle.std.specs.Prelude.{◌≡◌, ◌<◌, ◌≤◌, ◌+◌, ◌++◌, None, true, is_some, vec_len, vec_capacity};
+ghost use Rattle.device_base.specs.Bounds.{LAST_CYCLE};
 ghost use Rattle.node_core.specs.Cycle.{air_after, asks_after, begun_in, begun_rows, device_rows, devices_cycle, finished_in, finished_rows, sent_rows, serial_rows};
 ghost use Rattle.board_io.specs.Cycle.{sent_by};
 ghost use Rattle.node_core.specs.Shown.{shown};
@@ -39,7 +40,7 @@ pub struct Machine {
 impl Machine {
     // The byte that arrives in a cycle. `quiet` only compares where none comes any more, `byte_at` divides.
     fn arrival(&self, cycle: u64) -> Option<u8>
-        requires early { cycle ≤ 2 ^ 40 }
+        requires early { cycle ≤ LAST_CYCLE }
         ensures { result ≡ script_byte self.now.script cycle }
     {
         if self.script.quiet(cycle, 1) > 0 {
@@ -86,7 +87,7 @@ impl Machine {
     fn move_devices(&mut self, cycle: u64) -> OnAir
         requires going { self.old.stop ≡ None }
         requires now { self.old.bus.board.clock ≡ cycle }
-        requires early { cycle < 2 ^ 40 }
+        requires early { cycle < LAST_CYCLE }
         requires room { vec_len self.old.rows + 2 ≤ vec_capacity self.old.rows }
         ensures state { shown self.new ≡ devices_cycle cycle (shown self.old) }
         ensures rows { self.new.rows.items ≡ self.old.rows.items ++ device_rows cycle (shown self.old) }
@@ -109,7 +110,7 @@ impl Machine {
     #[tactic(auto, unfolding(crate::specs::Cycle::devices_cycle, crate::specs::Cycle::device_rows, crate::specs::Cycle::air_after, crate::specs::Cycle::asks_after))]
     pub fn conclude(&mut self, cycle: u64) -> OnAir
         requires now { self.old.bus.board.clock ≡ cycle }
-        requires early { cycle < 2 ^ 40 }
+        requires early { cycle < LAST_CYCLE }
         requires room { vec_len self.old.rows + 3 ≤ vec_capacity self.old.rows }
         ensures state { shown self.new ≡ devices_cycle cycle (shown self.old) }
         ensures rows { self.new.rows.items ≡ self.old.rows.items ++ device_rows cycle (shown self.old) }

@@ -1,5 +1,6 @@
 // A node.
-ghost use Rattle.std.specs.Prelude.{◌≡◌, ◌<◌, ◌≤◌, ◌+◌, ◌-◌, ◌^◌, [], true, false, IfOk, slice_index};
+ghost use Rattle.std.specs.Prelude.{◌≡◌, ◌<◌, ◌≤◌, ◌+◌, ◌-◌, [], true, false, IfOk, slice_index};
+ghost use Rattle.device_base.specs.Bounds.{LAST_CYCLE};
 ghost use Rattle.air_base.specs.NodeRun.{answered};
 ghost use Rattle.node_core.specs.State.{reset};
 ghost use Rattle.node_core.specs.Cycle.{node_kind, end_row};
@@ -110,7 +111,7 @@ impl Node {
     /// in leaps.
     pub fn run_until(&mut self, cycle: u64) -> Reached
         requires ahead { self.old.cycle ≤ cycle }
-        requires early { cycle ≤ 2 ^ 40 }
+        requires early { cycle ≤ LAST_CYCLE }
         requires calm { self.old.asking ≡ false }
         ensures { IsReached self.old cycle result self.new }
     {

@@ -1,5 +1,6 @@
 // A node of its numbers, its kept I/O bytes and its SRAM.
-ghost use Rattle.std.specs.Prelude.{◌≡◌, ◌≤◌, ◌^◌, [], false, None, IfOk, IfErr, OnOk, length, take};
+ghost use Rattle.std.specs.Prelude.{◌≡◌, ◌≤◌, [], false, None, IfOk, IfErr, OnOk, length, take};
+ghost use Rattle.device_base.specs.Bounds.{LAST_CYCLE};
 ghost use Rattle.board_io.specs.Saved as board;
 ghost use Rattle.device_base.specs.Numbers.{part};
 ghost use Rattle.node_core.specs.Restored.{cpu_of, fault_of, IsCore, IsRefused, IsRestored};
@@ -108,7 +109,7 @@ impl Node {
         requires window { window.0 ≤ window.1 }
         requires least { 256 ≤ byte_time }
         requires most { byte_time ≤ 4096 }
-        requires cycle { cycle ≤ 2 ^ 40 }
+        requires cycle { cycle ≤ LAST_CYCLE }
         requires io { length io.now ≡ 224 }
         requires sram { length sram.now ≡ 4096 }
         ensures refused { IfErr result (λ fault. IsRefused cycle numbers.now io.now fault) }

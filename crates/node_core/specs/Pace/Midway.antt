@@ -1,6 +1,7 @@
 -- A run of a node that stands in the middle of a cycle: of that cycle the processor's part is done, the devices' is
 -- not. What that part did, and what the cycles did in which the node only rested.
-use Rattle.std.specs.Prelude.{◌≡◌, ◌<◌, ◌≤◌, ◌+◌, ◌-◌, ◌^◌, ◌&&◌, nat_le, nat_lt, ℕ, Bool, Option, None, Some, Result, Ok, Err, true, false, is_some, List, [], ◌++◌, vec_len, vec_capacity}
+use Rattle.std.specs.Prelude.{◌≡◌, ◌<◌, ◌≤◌, ◌+◌, ◌-◌, ◌&&◌, nat_le, nat_lt, ℕ, Bool, Option, None, Some, Result, Ok, Err, true, false, is_some, List, [], ◌++◌, vec_len, vec_capacity}
+use Rattle.device_base.specs.Bounds.{LAST_CYCLE}
 use Rattle.avr_base.specs.declared.stop.StopCause.{StopCause}
 use Rattle.node_core.specs.declared.row.Row.{Row}
 use Rattle.node_core.specs.declared.row.Kind.TheVariants as kind
@@ -141,14 +142,14 @@ pub record IsSprinting (t at : ℕ) (old m : Machine) : Type 0 where
   pub closes : m.to ≡ old.to
   pub clock : m.bus.board.clock ≡ at
   pub script : m.script ≡ old.script
-  pub count : m.count ≤ 2 ^ 40 + at
+  pub count : m.count ≤ LAST_CYCLE + at
   pub rows : m.rows ≡ old.rows
 
 -- a machine of which a sprint up to `end`, below which no byte arrives, executed an instruction of n cycles: this is the
 -- first of them
 pub record MayEnd (end n : ℕ) (m : Machine) : Type 0 where
   pub some : 0 < n
-  pub early : m.bus.board.clock ≤ 2 ^ 40
+  pub early : m.bus.board.clock ≤ LAST_CYCLE
   pub within : m.bus.board.clock ≤ end
   pub none : (i : ℕ) → m.bus.board.clock + i < end → script_byte m.script (m.bus.board.clock + i) ≡ None
 
@@ -174,6 +175,6 @@ pub record IsSprinted (t c : ℕ) (inside : Bool) (old new : Machine) : Type 0 w
   pub awake : inside ≡ false → new.asleep ≡ false
   pub free : inside ≡ false → new.wait ≡ 0
   pub clock : new.bus.board.clock ≡ c
-  pub few : inside ≡ false → new.count ≤ 2 ^ 40 + c
-  pub one_more : new.count ≤ 2 ^ 40 + c + 1
+  pub few : inside ≡ false → new.count ≤ LAST_CYCLE + c
+  pub one_more : new.count ≤ LAST_CYCLE + c + 1
   pub from : t ≤ c

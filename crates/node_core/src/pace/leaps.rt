@@ -1,5 +1,6 @@
 // Loops that wait, leapt over in whole rounds up to the next event.
-ghost use Rattle.std.specs.Prelude.{◌≡◌, ◌≤◌, ◌<◌, ◌+◌, ◌^◌, ℕ, None, false, true, IfSome};
+ghost use Rattle.std.specs.Prelude.{◌≡◌, ◌≤◌, ◌<◌, ◌+◌, ℕ, None, false, true, IfSome};
+ghost use Rattle.device_base.specs.Bounds.{LAST_CYCLE};
 ghost use Rattle.board_io.specs.Lines.{lines_of};
 ghost use Rattle.node_core.specs.Inside.{MayAct, is_told};
 ghost use Rattle.node_core.specs.Pace.Leaps.{IsLoad, IsRound, IsStill, IsStillStep, is_steering};
@@ -122,7 +123,7 @@ impl Machine {
         requires may { MayAct cycle self.old }
         requires untold { (i : ℕ) → cycle + i < end → is_told self.old.from self.old.to (cycle + i) ≡ false }
         requires within { cycle ≤ end }
-        requires early { end ≤ 2 ^ 40 }
+        requires early { end ≤ LAST_CYCLE }
         requires none { (i : ℕ) → cycle + i < end → script_byte self.old.script (cycle + i) ≡ None }
         ensures sprinted { IsSprinted cycle (cycle + result) false self.old self.new }
         ensures others { self.new ≡ record self.old { bus = self.new.bus; count = self.new.count } }
@@ -145,7 +146,7 @@ impl Machine {
         requires may { MayAct cycle self.old }
         requires untold { (i : ℕ) → cycle + i < end → is_told self.old.from self.old.to (cycle + i) ≡ false }
         requires within { cycle ≤ end }
-        requires early { end ≤ 2 ^ 40 }
+        requires early { end ≤ LAST_CYCLE }
         requires none { (i : ℕ) → cycle + i < end → script_byte self.old.script (cycle + i) ≡ None }
         ensures sprinted { IsSprinted cycle (cycle + result) false self.old self.new }
         ensures others { self.new ≡ record self.old { cpu = self.new.cpu; bus = self.new.bus; count = self.new.count } }

@@ -1,5 +1,6 @@
 // Cycles in which a node only waits or sleeps, many at once.
-ghost use Rattle.std.specs.Prelude.{◌≡◌, ◌≤◌, ◌<◌, ◌+◌, ◌^◌, None, true};
+ghost use Rattle.std.specs.Prelude.{◌≡◌, ◌≤◌, ◌<◌, ◌+◌, None, true};
+ghost use Rattle.device_base.specs.Bounds.{LAST_CYCLE};
 ghost use Rattle.node_core.specs.Interrupts.{due};
 ghost use Rattle.node_core.specs.Pace.Midway.{IsRested};
 ghost use Rattle.node_core.specs.Shown.{shown};
@@ -11,7 +12,7 @@ impl Machine {
     fn wait_out(&mut self, cycle: u64, most: u64) -> u64
         requires going { self.old.stop ≡ None }
         requires now { self.old.bus.board.clock ≡ cycle }
-        requires early { cycle + most ≤ 2 ^ 40 }
+        requires early { cycle + most ≤ LAST_CYCLE }
         ensures rested { IsRested cycle result self.old self.new }
         ensures within { result ≤ most }
     {
@@ -26,7 +27,7 @@ impl Machine {
     fn sleep_on(&mut self, cycle: u64, most: u64) -> u64
         requires going { self.old.stop ≡ None }
         requires now { self.old.bus.board.clock ≡ cycle }
-        requires early { cycle + most ≤ 2 ^ 40 }
+        requires early { cycle + most ≤ LAST_CYCLE }
         requires free { self.old.wait ≡ 0 }
         requires asleep { self.old.asleep ≡ true }
         requires none { due (shown self.old) ≡ None }
@@ -42,7 +43,7 @@ impl Machine {
     pub fn rest(&mut self, cycle: u64, most: u64) -> u64
         requires going { self.old.stop ≡ None }
         requires now { self.old.bus.board.clock ≡ cycle }
-        requires early { cycle + most ≤ 2 ^ 40 }
+        requires early { cycle + most ≤ LAST_CYCLE }
         ensures rested { IsRested cycle result self.old self.new }
         ensures within { result ≤ most }
     {

@@ -1,5 +1,6 @@
 // Instructions of a node, one behind another, while nothing is due.
 ghost use Rattle.std.specs.Prelude.{◌≡◌, ◌≤◌, ◌<◌, ◌+◌, ◌^◌, nat_le, nat_lt, ℕ, None, true, false, IfSome};
+ghost use Rattle.device_base.specs.Bounds.{LAST_CYCLE};
 ghost use Rattle.board_io.specs.Lagging.{IsClear};
 ghost use Rattle.node_core.specs.Inside.{MayAct, is_told};
 ghost use Rattle.node_core.specs.Interrupts.{due};
@@ -154,7 +155,7 @@ impl Machine {
     fn gather(&mut self, regs: &Registers, core: Core, owed_to: u64) -> u64
         ensures state { self.new ≡ owing (nat_lt self.old.count owed_to) (beside regs.now core self.old) }
         ensures value { result ≡ self.old.bus.board.clock }
-        ensures early { result ≤ 2 ^ 40 }
+        ensures early { result ≤ LAST_CYCLE }
     {
         self.cpu = Cpu::of_parts(regs, core);
         self.owed = self.count < owed_to;
@@ -185,7 +186,7 @@ impl Machine {
     pub fn sprint(&mut self, cycle: u64, end: u64, back: bool) -> Sprinted
         requires may { MayAct cycle self.old }
         requires within { cycle ≤ end }
-        requires early { end ≤ 2 ^ 40 }
+        requires early { end ≤ LAST_CYCLE }
         requires none { (i : ℕ) → cycle + i < end → script_byte self.old.script (cycle + i) ≡ None }
         ensures sprinted { IsSprinted cycle result.at result.inside self.old self.new }
         ensures within { result.at ≤ end }
@@ -211,7 +212,7 @@ impl Machine {
     fn sprint_untold(&mut self, cycle: u64, end: u64) -> Sprinted
         requires may { MayAct cycle self.old }
         requires within { cycle ≤ end }
-        requires early { end ≤ 2 ^ 40 }
+        requires early { end ≤ LAST_CYCLE }
         requires none { (i : ℕ) → cycle + i < end → script_byte self.old.script (cycle + i) ≡ None }
         requires untold { (i : ℕ) → cycle + i ≤ end → is_told self.old.from self.old.to (cycle + i) ≡ false }
         ensures sprinted { IsSprinted cycle result.at result.inside self.old self.new }

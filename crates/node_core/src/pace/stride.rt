@@ -1,5 +1,6 @@
 // Whole instructions of a node up to the next event of its devices.
-ghost use Rattle.std.specs.Prelude.{◌≡◌, ◌≤◌, ◌<◌, ◌+◌, ◌-◌, ◌^◌, ℕ, None, true, false, vec_len, vec_capacity};
+ghost use Rattle.std.specs.Prelude.{◌≡◌, ◌≤◌, ◌<◌, ◌+◌, ◌-◌, ℕ, None, true, false, vec_len, vec_capacity};
+ghost use Rattle.device_base.specs.Bounds.{LAST_CYCLE};
 ghost use Rattle.node_core.specs.Inside.{IsCalm, IsGoing, IsPassed};
 ghost use Rattle.node_core.specs.Pace.Midway.{IsMidway};
 ghost use Rattle.board_io.specs.Cycle.{timers_leap};
@@ -16,7 +17,7 @@ impl Machine {
     #[inline(always)]
     pub fn passes_whole(&mut self, cycle: u64, end: u64, taken: u8) -> bool
         requires now { self.old.bus.board.clock ≡ cycle }
-        requires early { cycle ≤ 2 ^ 40 }
+        requires early { cycle ≤ LAST_CYCLE }
         requires none { (i : ℕ) → cycle + i < end → script_byte self.old.script (cycle + i) ≡ None }
         ensures calm { result ≡ true → IsCalm cycle taken (shown self.old) }
         ensures state { result ≡ true → shown self.new ≡ record (shown self.old) { bus = with_board (shown self.old).bus (timers_leap cycle taken (shown self.old).bus.board) } }
@@ -38,7 +39,7 @@ impl Machine {
     fn finish_instruction(&mut self, cycle: u64, end: u64, taken: u8) -> bool
         requires going { 0 < taken → IsGoing taken (shown self.old) }
         requires now { self.old.bus.board.clock ≡ cycle }
-        requires early { cycle ≤ 2 ^ 40 }
+        requires early { cycle ≤ LAST_CYCLE }
         requires none { (i : ℕ) → cycle + i < end → script_byte self.old.script (cycle + i) ≡ None }
         ensures passed { result ≡ true → IsPassed cycle taken (shown self.old) (shown self.new) }
         ensures same { result ≡ false → self.new ≡ self.old }
@@ -65,13 +66,13 @@ impl Machine {
     pub fn stride(&mut self, cycle: u64, most: u64) -> u64
         requires going { self.old.stop ≡ None }
         requires now { self.old.bus.board.clock ≡ cycle }
-        requires few { self.old.count ≤ 2 ^ 40 + cycle }
-        requires early { cycle + most ≤ 2 ^ 40 }
+        requires few { self.old.count ≤ LAST_CYCLE + cycle }
+        requires early { cycle + most ≤ LAST_CYCLE }
         requires some { 0 < most }
         requires room { vec_len self.old.rows + 4 ≤ vec_capacity self.old.rows }
         ensures midway { IsMidway (record { cycle = cycle; asking = false; state = shown self.old; rows = self.old.rows.items }) (cycle + result) (shown self.new) self.new.rows.items }
         ensures room { vec_len self.new.rows + 3 ≤ vec_capacity self.new.rows }
-        ensures count { self.new.count ≤ 2 ^ 40 + cycle + result + 1 }
+        ensures count { self.new.count ≤ LAST_CYCLE + cycle + result + 1 }
         ensures clock { self.new.bus.board.clock ≡ cycle + result }
         ensures within { result < most }
     {
