@@ -64,17 +64,6 @@ impl LaggingBoard {
         self.board.sleep_mode()
     }
 
-    /// A cycle, of 2^40 at most, up to which no frame and no transfer ends and the lines stay, as far as what runs now
-    /// tells.
-    #[inline]
-    pub fn horizon(&self) -> u64
-        ensures from { self.now.clock ≤ result }
-        ensures early { result ≤ LAST_CYCLE }
-        ensures idle { IsIdle self.now.clock (result - self.now.clock) (unclocked self.now) }
-    {
-        self.ahead.next.max(self.board.clock.get())
-    }
-
     /// Passes cycles, of at most `most`, in which no frame and no transfer ends and each of which begins with the lines
     /// of now, as far as what runs now tells: how many it were.
     #[inline]
