@@ -247,7 +247,7 @@ impl Node {
         }
     }
 
-    /// Its rows, for good.
+    /// Its rows, for good. For stored cases: a run takes them as it goes.
     pub fn into_rows(self) -> Vec<Row>
         ensures { result.items ≡ self.rows }
     {
