@@ -43,7 +43,6 @@ pub enum Reg16 {
 
 impl Timer16 {
     ghost use Rattle.avr_timers.specs.Clock.{cycles};
-    ghost use Rattle.avr_timers.specs.Mode.{mode_of, number_of};
     ghost use Rattle.avr_timers.specs.Timer16.{sets_flag_at, timer_cycle};
     ghost use Rattle.avr_timers.specs.Registers16.{compare_of, control_b, get_of, put_of, with_compare, word_with};
 

@@ -1,7 +1,7 @@
 // What a board is saved and restored by.
-ghost use Rattle.std.specs.Prelude.{◌≡◌, ◌≤◌, ◌+◌, None, Some, IfSome, is_some, length, option_map};
+ghost use Rattle.std.specs.Prelude.{◌≡◌, ◌≤◌, ◌+◌, None, Some, IfSome, is_some, length};
 ghost use Rattle.device_base.specs.Bounds.{LAST_CYCLE, LAST_END};
-ghost use Rattle.std.specs.List.{list_all, position};
+ghost use Rattle.std.specs.List.{list_all};
 ghost use Rattle.board_io.specs.Kept.{first_refused, is_io, is_kept, kept_bits, kept_of};
 
 use crate::names::{JTD, PORF};

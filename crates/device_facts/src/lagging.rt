@@ -1,5 +1,5 @@
 // What is done to the board as a node runs it, whose timers do their cycles once somebody looks at them.
-ghost use Rattle.std.specs.Prelude.{◌≡◌, ◌<◌, ◌≤◌, ◌+◌, ◌^◌};
+ghost use Rattle.std.specs.Prelude.{◌≡◌, ◌<◌, ◌+◌, ◌^◌};
 ghost use Rattle.device_base.specs.Bounds.{LAST_CYCLE};
 
 use crate::answers::Answer;

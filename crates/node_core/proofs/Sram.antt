@@ -3,7 +3,7 @@
 use Rattle.std.proofs.Common.{◌≡◌, ℕ, ℤ, ◌+◌, ◌-◌, ◌*◌, ◌/◌, ◌%◌, if◌then◌else◌, not, nat_lt, Bool, true, false, List, refl, ap, sym, subst, ◌∙◌, arith}
 use Rattle.std.proofs.lemmas.Bool.{and_parts, false≢true}
 use Rattle.std.proofs.lemmas.Bool.Decides.{nat_tests}
-use Rattle.std.specs.Prelude.{Result, Ok, Err, IfOk, slice_index, slice_set}
+use Rattle.std.specs.Prelude.{Result, Ok, IfOk, slice_index, slice_set}
 use Rattle.avr_base.specs.declared.stop.StopCause.{StopCause}
 use Rattle.avr_base.specs.declared.sreg.Sreg.{Sreg}
 use Rattle.avr_decoder.specs.Words.{words_of}
@@ -16,7 +16,7 @@ use Rattle.avr_core.specs.MemoryShapes.{displaced, ends, loads, loads_post_incre
 use Rattle.avr_core.specs.MemoryTable.{memory_effect, x, y, z}
 use Rattle.data_space.specs.declared.bus.Done.{Done}
 use Rattle.data_space.specs.declared.cpu.Cpu.{Cpu}
-use Rattle.data_space.specs.Core.{advanced, core_of, pair_at, with_pair, with_reg}
+use Rattle.data_space.specs.Core.{advanced, pair_at, with_pair, with_reg}
 use Rattle.data_space.specs.Sequence.{Outcome, done, popped_word, pushed_word, then_do}
 use Rattle.data_space.specs.Space.{Access, answered, answers, loaded, lowered, popped, pushed, stored, taken, takes, unless_stopped}
 use Rattle.node_core.specs.declared.bus.NodeBus.{NodeBus}

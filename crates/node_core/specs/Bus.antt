@@ -1,6 +1,6 @@
 -- The data space of a node beside the core (ATmega128 datasheet, "SRAM Data Memory"): the I/O registers below 0x0100,
 -- the internal SRAM at 0x0100 to 0x10FF, and nothing above it.
-use Rattle.std.specs.Prelude.{ℕ, ◌-◌, ◌&&◌, nat_le, nat_lt, Bool, if◌then◌else◌, Result, Ok, Err, slice_index, slice_set}
+use Rattle.std.specs.Prelude.{ℕ, ◌-◌, nat_lt, if◌then◌else◌, Result, Ok, Err, slice_index, slice_set}
 use Rattle.avr_base.specs.declared.stop.StopCause.{StopCause}
 use Rattle.avr_base.specs.declared.stop.StopCause.TheVariants as stop
 use Rattle.board_io.specs.declared.board.Board.{Board}

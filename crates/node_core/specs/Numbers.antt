@@ -2,7 +2,7 @@
 -- 41 of the core, then the board's. The core's are r0 to r31, SREG, SP, PC, RAMPZ, the cycles left of the last
 -- instruction, whether an instruction is owed, whether it sleeps, the number of the cause that stopped it (0 for none)
 -- and how many instructions it executed.
-use Rattle.std.specs.Prelude.{ℕ, ◌==◌, nat_le, not, if◌then◌else◌, Bool, List, [], ◌∷◌, ◌++◌, Option, None, Some, map, take, slice_index}
+use Rattle.std.specs.Prelude.{ℕ, ◌==◌, nat_le, not, if◌then◌else◌, Bool, List, [], ◌∷◌, ◌++◌, Option, map, take, slice_index}
 use Rattle.device_base.specs.Bounds.{LAST_CYCLE}
 use Rattle.std.specs.List.{position}
 use Rattle.avr_base.specs.Causes.{stop_number}

@@ -1,9 +1,7 @@
 // The processor's part of a cycle: an instruction, or the entry of an interrupt.
-ghost use Rattle.std.specs.Prelude.{◌≡◌, ◌==◌, ◌<◌, ◌≤◌, ◌+◌, ◌-◌, ◌^◌, ◌%◌, ◌++◌, ◌&&◌, ◌||◌, nat_le, nat_lt, None, Some, true, false, vec_len, vec_capacity};
+ghost use Rattle.std.specs.Prelude.{◌≡◌, ◌==◌, ◌<◌, ◌≤◌, ◌+◌, ◌-◌, ◌^◌, ◌%◌, ◌++◌, ◌&&◌, ◌||◌, None, Some, true, false, vec_len, vec_capacity};
 ghost use Rattle.avr_core.specs.Execute.{is_sleep};
-ghost use Rattle.node_core.specs.Cycle.{acted, acted_rows, cpu_cycle, cpu_rows, entered, entered_rows, instructed, instructed_rows, is_idle, is_other, is_refused, is_sei, op_now, owes, row, row_within};
-ghost use Rattle.avr_decoder.specs.Class.{class_of};
-ghost use Rattle.avr_decoder.specs.declared.op.Class.TheVariants as class;
+ghost use Rattle.node_core.specs.Cycle.{cpu_cycle, cpu_rows, entered, entered_rows, instructed, instructed_rows, is_idle, is_other, is_refused, is_sei, owes, row, row_within};
 ghost use Rattle.node_core.specs.declared.row.Kind.TheVariants as kind;
 ghost use Rattle.node_core.specs.Inside.{IsGoing, MayAct};
 ghost use Rattle.node_core.specs.Interrupts.{due};

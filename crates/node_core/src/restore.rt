@@ -4,7 +4,6 @@ ghost use Rattle.device_base.specs.Bounds.{LAST_CYCLE};
 ghost use Rattle.board_io.specs.Saved as board;
 ghost use Rattle.device_base.specs.Numbers.{part};
 ghost use Rattle.node_core.specs.Restored.{cpu_of, fault_of, IsCore, IsRefused, IsRestored};
-ghost use Rattle.node_core.specs.Shown.{shown};
 ghost use Rattle.node_core.specs.State.{NodeState};
 
 use crate::machine::Machine;

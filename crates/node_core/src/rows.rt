@@ -1,5 +1,5 @@
 // Rows, where there is room for them.
-ghost use Rattle.std.specs.Prelude.{◌≡◌, ◌<◌, ◌≤◌, ◌+◌, ◌%◌, ◌++◌, ◌&&◌, nat_le, nat_lt, if◌then◌else◌, [], ◌∷◌, false, vec_len, vec_capacity};
+ghost use Rattle.std.specs.Prelude.{◌≡◌, ◌<◌, ◌≤◌, ◌+◌, ◌%◌, ◌++◌, ◌&&◌, nat_le, nat_lt, if◌then◌else◌, [], ◌∷◌, vec_len, vec_capacity};
 ghost use Rattle.ihex_loader.specs.Flash.{word_at};
 ghost use Rattle.node_core.specs.declared.row.Kind.TheVariants as kind;
 
