@@ -12,7 +12,7 @@ use air_base::Heard;
 use avr_base::{NoMemory, StopCause};
 use avr_program::Program;
 use board_io::OnAir;
-use data_space::Cpu;
+use data_space::{Cpu, SRAM_LAST, SRAM_START};
 use serial_ports::Script;
 use std::alloc::Global;
 use std::marker::Model;
@@ -195,9 +195,9 @@ impl Node {
 
     /// The byte of its SRAM at the data address `at`, 0x0100 to 0x10FF.
     pub fn sram(&self, at: u16) -> u8
-        requires low { 0x0100 ≤ at }
-        requires high { at ≤ 0x10FF }
-        ensures { result ≡ slice_index self.now.state.bus.sram (at - 0x0100) }
+        requires low { SRAM_START ≤ at }
+        requires high { at ≤ SRAM_LAST }
+        ensures { result ≡ slice_index self.now.state.bus.sram (at - SRAM_START) }
     {
         self.machine.bus.sram.get(at)
     }

@@ -10,6 +10,7 @@ ghost use Rattle.serial_ports.specs.Script.{script_byte};
 use crate::NodeBus;
 use crate::machine::Machine;
 use crate::processor::{due, owes};
+use avr_base::IO_START;
 use avr_core::execute_waiting;
 use avr_decoder::{Class, Op};
 use data_space::Cpu;
@@ -46,9 +47,9 @@ fn load_of(op: &Op) -> Option<u16>
     ensures { IfSome result (λ at. IsLoad op.now at) }
 {
     match *op {
-        Op::Sbis { a, .. } => Some(u16::from(a) + 0x20),
-        Op::Sbic { a, .. } => Some(u16::from(a) + 0x20),
-        Op::InIo { a, .. } => Some(u16::from(a) + 0x20),
+        Op::Sbis { a, .. } => Some(u16::from(a) + IO_START),
+        Op::Sbic { a, .. } => Some(u16::from(a) + IO_START),
+        Op::InIo { a, .. } => Some(u16::from(a) + IO_START),
         Op::Lds { k, .. } => Some(k),
         _ => None,
     }
