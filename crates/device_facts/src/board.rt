@@ -1,6 +1,5 @@
 // What is done to the board: its I/O registers, as the data space has them, its cycles and its interrupt lines.
-ghost use Rattle.std.specs.Prelude.{◌≤◌};
-ghost use Rattle.device_base.specs.Bounds.{LAST_END};
+ghost use Rattle.std.specs.Prelude.{◌≤◌, ◌^◌};
 
 use crate::answers::Answer;
 use crate::numbers::{address, byte, cycle};
@@ -72,7 +71,7 @@ impl CoreAndBoard {
 
     // One cycle of the devices, in which nothing arrives; where the radio asks the air, it is answered.
     fn cycle(&mut self, at: u64) -> Answer
-        requires { at ≤ LAST_END }
+        requires { at ≤ 2 ^ 41 }
     {
         let begun = self.board.begin(at, None);
         match begun.air {

@@ -1,6 +1,5 @@
 // What is done to the board as a node runs it, whose timers do their cycles once somebody looks at them.
-ghost use Rattle.std.specs.Prelude.{◌≡◌, ◌<◌, ◌+◌, ◌^◌};
-ghost use Rattle.device_base.specs.Bounds.{LAST_CYCLE};
+ghost use Rattle.std.specs.Prelude.{◌≡◌, ◌<◌, ◌≤◌, ◌+◌, ◌^◌};
 
 use crate::answers::Answer;
 use crate::board::HEARD;
@@ -49,7 +48,7 @@ impl NodeBoard {
 
     // One cycle; where the radio asks the air, it is answered.
     fn step(&mut self, arrival: Option<u8>) -> Answer
-        requires { self.old.clock < LAST_CYCLE }
+        requires { self.old.clock < 2 ^ 40 }
     {
         let at = self.cycle;
         let begun = self.board.begin(at, arrival);

@@ -1,6 +1,5 @@
 // What is done to the radio.
-ghost use Rattle.std.specs.Prelude.{◌≤◌};
-ghost use Rattle.device_base.specs.Bounds.{LAST_END};
+ghost use Rattle.std.specs.Prelude.{◌≤◌, ◌^◌};
 
 use crate::answers::Answer;
 use crate::numbers::{byte, cycle, short};
@@ -17,7 +16,7 @@ const HEARD: Heard = Heard {
 
 // A transfer that ends in a cycle; where the radio asks the air, it hears this.
 fn moved(radio: &mut Radio, at: u64, selected: bool, mosi: u8, heard: Heard) -> Answer
-    requires { at ≤ LAST_END }
+    requires { at ≤ 2 ^ 41 }
 {
     match radio.transfer(at, selected, mosi) {
         TransferOutcome::Answer(b) => Answer::Byte(b),
