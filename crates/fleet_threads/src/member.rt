@@ -191,7 +191,7 @@ impl Member {
                 self.look_ahead(shared, scenario, end, sent);
             }
             Event::NoMemory => self.halt(shared, scenario, end),
-            Event::Ask { .. } => {}
+            Event::Ask => {}
             Event::Turn { .. } => {}
             Event::Ended => {}
         }
