@@ -1,8 +1,9 @@
 // The internal SRAM.
 ghost use Rattle.std.specs.Prelude.{◌≡◌, ◌-◌, ◌≤◌, ℕ, List, length, IfOk, slice_index, slice_set};
 ghost use Rattle.data_space.specs.Memory.{zeros};
+ghost use Rattle.data_space.specs.declared.regions.TheConstants.{SRAM_LAST};
 
-use crate::regions::{SRAM_LAST, SRAM_LEN, SRAM_START};
+use crate::regions::{SRAM_LEN, SRAM_START};
 use avr_base::NoMemory;
 use std::alloc::{AllocError, Global};
 use std::marker::Model;

@@ -1,6 +1,7 @@
 // A node.
 ghost use Rattle.std.specs.Prelude.{◌≡◌, ◌<◌, ◌≤◌, ◌+◌, ◌-◌, [], true, false, IfOk, slice_index};
 ghost use Rattle.device_base.specs.Bounds.{LAST_CYCLE};
+ghost use Rattle.data_space.specs.declared.regions.TheConstants.{SRAM_LAST, SRAM_START};
 ghost use Rattle.air_base.specs.NodeRun.{answered};
 ghost use Rattle.node_core.specs.State.{reset};
 ghost use Rattle.node_core.specs.Cycle.{node_kind, end_row};
@@ -12,7 +13,7 @@ use air_base::Heard;
 use avr_base::{NoMemory, StopCause};
 use avr_program::Program;
 use board_io::OnAir;
-use data_space::{Cpu, SRAM_LAST, SRAM_START};
+use data_space::Cpu;
 use serial_ports::Script;
 use std::alloc::Global;
 use std::marker::Model;

@@ -1,6 +1,7 @@
 // A node of its numbers, its kept I/O bytes and its SRAM.
 ghost use Rattle.std.specs.Prelude.{◌≡◌, ◌≤◌, [], false, None, IfOk, IfErr, OnOk, length, take};
 ghost use Rattle.device_base.specs.Bounds.{LAST_CYCLE};
+ghost use Rattle.data_space.specs.declared.regions.TheConstants.{IO_COUNT};
 ghost use Rattle.board_io.specs.Saved as board;
 ghost use Rattle.device_base.specs.Numbers.{part};
 ghost use Rattle.node_core.specs.Restored.{cpu_of, fault_of, IsCore, IsRefused, IsRestored};
@@ -12,7 +13,7 @@ use crate::{Node, NodeBus};
 use avr_base::{IO_START, NoMemory, Sreg, StopCause};
 use avr_program::Program;
 use board_io::{Board, LaggingBoard, first_refused};
-use data_space::{Cpu, IO_COUNT, SRAM_LEN, SRAM_START, Sram};
+use data_space::{Cpu, SRAM_LEN, SRAM_START, Sram};
 use device_base::part;
 use serial_ports::Script;
 use std::alloc::Global;

@@ -1,5 +1,6 @@
 // A node of a scenario, at reset and restored.
-ghost use Rattle.std.specs.Prelude.{◌≡◌, ◌<◌, ◌≤◌, ◌^◌, [], false, None, IfOk, IfErr, OnOk, length};
+ghost use Rattle.std.specs.Prelude.{◌≡◌, ◌<◌, ◌≤◌, [], false, None, IfOk, IfErr, OnOk, length};
+ghost use Rattle.device_base.specs.Bounds.{LAST_CYCLE};
 ghost use Rattle.data_space.specs.declared.regions.TheConstants.{IO_COUNT, SRAM_LEN};
 ghost use Rattle.node_core.specs.Restored.{IsRefused, fault_of};
 ghost use Rattle.node_core.specs.State.{NodeState};
@@ -36,7 +37,7 @@ impl Scenario {
         sram: &[u8],
     ) -> Result<Node, RestoreFault>
         requires node { node < self.now.topo.nodes }
-        requires cycle { cycle ≤ 2 ^ 40 }
+        requires cycle { cycle ≤ LAST_CYCLE }
         requires io { length io.now ≡ IO_COUNT }
         requires sram { length sram.now ≡ SRAM_LEN }
         ensures refused { IfErr result (λ fault. IsRefused cycle numbers.now io.now fault) }
