@@ -1,5 +1,5 @@
 // The internal SRAM.
-ghost use Rattle.std.specs.Prelude.{◌≡◌, ◌-◌, ◌≤◌, ℕ, List, length, IfOk, slice_index, slice_set};
+ghost use Rattle.std.specs.Prelude.{◌≡◌, ◌-◌, ◌≤◌, length, IfOk, slice_index, slice_set};
 ghost use Rattle.data_space.specs.Memory.{zeros};
 ghost use Rattle.data_space.specs.declared.regions.TheConstants.{SRAM_LAST};
 
@@ -16,6 +16,7 @@ pub struct Sram {
 }
 
 impl Model for Sram {
+    ghost use Rattle.std.specs.Prelude.{◌≡◌, ℕ, List, length};
     ghost use Rattle.data_space.specs.declared.regions.TheConstants.{SRAM_LEN};
 
     ghost Value = { List ℕ };
