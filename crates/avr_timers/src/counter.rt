@@ -1,5 +1,5 @@
 // The path of a counter in closed form.
-ghost use Rattle.std.specs.Prelude.{◌≡◌, ◌≤◌, ◌==◌, ℕ, IsSome, IfSome};
+ghost use Rattle.std.specs.Prelude.{◌≡◌, ◌≤◌, ◌==◌, IsSome, IfSome};
 ghost use Rattle.avr_timers.specs.Counter.{path, stepped, wraps_at};
 ghost use Rattle.avr_timers.specs.First.{First};
 

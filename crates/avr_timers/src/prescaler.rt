@@ -1,5 +1,6 @@
 // The prescalers of the timers.
-ghost use Rattle.std.specs.Prelude.{◌≡◌, ◌≤◌, ◌+◌, ◌^◌, ◌↔◌};
+ghost use Rattle.std.specs.Prelude.{◌≡◌, ◌≤◌, ◌+◌, ◌↔◌};
+ghost use Rattle.device_base.specs.Bounds.{LAST_END};
 ghost use Rattle.avr_timers.specs.Clock.{clocks_of};
 
 use crate::clocks_in;
@@ -40,7 +41,7 @@ impl Prescaler {
     /// How many clocks a timer of this clock select has in the `n` cycles from `cycle` on.
     #[inline(always)]
     pub fn clocks(self, select: u8, cycle: u64, n: u64) -> u64
-        requires { cycle + n ≤ 2 ^ 41 }
+        requires { cycle + n ≤ LAST_END }
         ensures { result ≡ clocks_of (divider_of self select) cycle n }
     {
         let divider = self.divider(select);

@@ -1,5 +1,6 @@
 // The registers of a timer.
-ghost use Rattle.std.specs.Prelude.{◌≡◌, ◌≤◌, ◌+◌, ◌/◌, ◌%◌, ◌^◌, ◌<◌, ℕ, false, Ok, Err, OnOk, OnErr, IfErr};
+ghost use Rattle.std.specs.Prelude.{◌≡◌, ◌≤◌, ◌+◌, ◌/◌, ◌%◌, ◌<◌, ℕ, false, Ok, Err, OnOk, OnErr, IfErr};
+ghost use Rattle.device_base.specs.Bounds.{LAST_END};
 
 use crate::{Mode16, Prescaler, Timer16};
 use avr_base::StopCause;
@@ -42,7 +43,6 @@ pub enum Reg16 {
 
 impl Timer16 {
     ghost use Rattle.avr_timers.specs.Clock.{cycles};
-    ghost use Rattle.avr_timers.specs.Mode.{mode_of, number_of};
     ghost use Rattle.avr_timers.specs.Timer16.{sets_flag_at, timer_cycle};
     ghost use Rattle.avr_timers.specs.Registers16.{compare_of, control_b, get_of, put_of, with_compare, word_with};
 
@@ -113,7 +113,7 @@ impl Timer16 {
     /// of which sets a flag: a read that does not move it, but for TEMP.
     #[inline(always)]
     pub fn get_calm(&mut self, cycle: u64, n: u64, reg: Reg16) -> u8
-        requires early { cycle + n ≤ 2 ^ 41 }
+        requires early { cycle + n ≤ LAST_END }
         requires calm { (i : ℕ) → i < n → sets_flag_at cycle self.old i ≡ false }
         ensures got { get_of (cycles timer_cycle cycle n self.old) reg ≡ (result, cycles timer_cycle cycle n self.new) }
         ensures others { self.new ≡ record self.old { temp = self.new.temp } }

@@ -1,5 +1,6 @@
 // The registers of a timer.
-ghost use Rattle.std.specs.Prelude.{◌≡◌, ◌≤◌, ◌+◌, ◌^◌, ◌<◌, ℕ, false, Ok, Err, OnOk, OnErr, IfErr};
+ghost use Rattle.std.specs.Prelude.{◌≡◌, ◌≤◌, ◌+◌, ◌<◌, ℕ, false, Ok, Err, OnOk, OnErr, IfErr};
+ghost use Rattle.device_base.specs.Bounds.{LAST_END};
 
 use crate::Timer8;
 use avr_base::StopCause;
@@ -38,7 +39,7 @@ impl Timer8 {
     #[inline(always)]
     #[tactic(auto, using(crate::proofs::Later8::get_control, crate::proofs::Later8::get_compare))]
     pub fn get_calm(&self, cycle: u64, n: u64, reg: Reg8) -> u8
-        requires early { cycle + n ≤ 2 ^ 41 }
+        requires early { cycle + n ≤ LAST_END }
         requires calm { (i : ℕ) → i < n → sets_flag_at cycle self.now i ≡ false }
         ensures { result ≡ get_of (cycles timer_cycle cycle n self.now) reg }
     {

@@ -1,5 +1,6 @@
 // The timer, cycle by cycle and in leaps.
 ghost use Rattle.std.specs.Prelude.{◌≡◌, ◌≤◌, ◌<◌, ◌+◌, ◌-◌, ◌^◌, ◌↔◌, ℕ, false, None, Some, IfNone, IfSome};
+ghost use Rattle.device_base.specs.Bounds.{LAST_CYCLE, LAST_END};
 ghost use Rattle.avr_timers.specs.Clock.{cycles, many};
 ghost use Rattle.avr_timers.specs.First.{First};
 ghost use Rattle.avr_timers.specs.Timer as counter;
@@ -128,7 +129,7 @@ impl Timer16 {
 
     /// One cycle, with the number `cycle`: a clock where the prescaler has one.
     pub fn tick(&mut self, cycle: u64)
-        requires { cycle ≤ 2 ^ 41 }
+        requires { cycle ≤ LAST_END }
         ensures { self.new ≡ timer_cycle cycle self.old }
     {
         let mut counter = self.counter();
@@ -158,7 +159,7 @@ impl Timer16 {
     /// counter that a program reads again and again has no clock or one between two reads.
     #[tactic(auto, using(crate::proofs::Clocks16::leap_many, crate::proofs::Clocks16::leap_none))]
     pub fn leap(&mut self, cycle: u64, n: u64)
-        requires { cycle + n ≤ 2 ^ 41 }
+        requires { cycle + n ≤ LAST_END }
         ensures { self.new ≡ cycles timer_cycle cycle n self.old }
     {
         match Prescaler::Shared.clocks(self.select, cycle, n) {
@@ -171,7 +172,7 @@ impl Timer16 {
     // TCNT after the `n` cycles from `cycle` on, none of which sets a flag.
     #[inline(always)]
     pub(crate) fn count_calm(&self, cycle: u64, n: u64) -> u16
-        requires early { cycle + n ≤ 2 ^ 41 }
+        requires early { cycle + n ≤ LAST_END }
         requires calm { (i : ℕ) → i < n → sets_flag_at cycle self.now i ≡ false }
         ensures { result ≡ (cycles timer_cycle cycle n self.now).count }
     {
@@ -182,7 +183,7 @@ impl Timer16 {
     /// The first cycle from `cycle` on whose tick sets a flag, be it set already or not: less than 2^28 cycles on.
     /// `None` exactly where the timer is halted.
     pub fn next_event(&self, cycle: u64) -> Option<u64>
-        requires { cycle ≤ 2 ^ 40 }
+        requires { cycle ≤ LAST_CYCLE }
         ensures none { (result ≡ None) ↔ (self.now.select ≡ 0) }
         ensures later { IfSome result (λ e. cycle ≤ e) }
         ensures near { IfSome result (λ e. e < cycle + 2 ^ 28) }
@@ -194,7 +195,7 @@ impl Timer16 {
     /// The first cycle from `cycle` on whose tick sets a flag that is not set. `None` exactly where none does, as of a
     /// timer that is halted.
     pub fn next_change(&self, cycle: u64) -> Option<u64>
-        requires { cycle ≤ 2 ^ 40 }
+        requires { cycle ≤ LAST_CYCLE }
         ensures never { IfNone result ((i : ℕ) → changes_flag_at cycle self.now i ≡ false) }
         ensures later { IfSome result (λ e. cycle ≤ e) }
         ensures first { IfSome result (λ e. First (changes_flag_at cycle self.now) (Some (e - cycle))) }

@@ -1,5 +1,6 @@
 // The counter of a timer, cycle by cycle and in leaps.
 ghost use Rattle.std.specs.Prelude.{◌≡◌, ◌≤◌, ◌<◌, ◌+◌, ◌-◌, ◌^◌, ◌↔◌, ◌==◌, ℕ, true, false, is_some, None, Some, IsSome, IfSome, IfNone};
+ghost use Rattle.device_base.specs.Bounds.{LAST_CYCLE, LAST_END};
 ghost use Rattle.avr_timers.specs.Clock.{many};
 ghost use Rattle.avr_timers.specs.First.{First};
 ghost use Rattle.avr_timers.specs.Timer.{meets};
@@ -112,7 +113,7 @@ impl TimerCounter {
     /// One cycle, with the number `cycle`: a clock where the prescaler has one.
     #[inline(always)]
     pub fn tick(&mut self, cycle: u64)
-        requires early { cycle ≤ 2 ^ 41 }
+        requires early { cycle ≤ LAST_END }
         requires count { self.old.count ≤ self.old.maximum }
         ensures state { self.new ≡ counter_cycle cycle self.old }
         ensures count { self.new.count ≤ self.old.maximum }
@@ -240,7 +241,7 @@ impl TimerCounter {
     /// `None` exactly where it is halted.
     #[inline(always)]
     pub fn next_event(&self, cycle: u64) -> Option<u64>
-        requires early { cycle ≤ 2 ^ 40 }
+        requires early { cycle ≤ LAST_CYCLE }
         requires count { self.now.count ≤ self.now.maximum }
         requires top { top self.now ≤ self.now.maximum }
         ensures none { (result ≡ None) ↔ (self.now.select ≡ 0) }
@@ -309,7 +310,7 @@ impl TimerCounter {
     /// that is halted.
     #[inline(always)]
     pub fn next_change(&self, cycle: u64) -> Option<u64>
-        requires early { cycle ≤ 2 ^ 40 }
+        requires early { cycle ≤ LAST_CYCLE }
         requires count { self.now.count ≤ self.now.maximum }
         requires top { top self.now ≤ self.now.maximum }
         ensures never { IfNone result ((i : ℕ) → changes_flag_at cycle self.now i ≡ false) }

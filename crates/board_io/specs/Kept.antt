@@ -3,6 +3,7 @@
 -- that stops a write of 1, or that is never kept, reads 0 for good.
 use Rattle.std.specs.Prelude.{ℕ, ◌+◌, ◌-◌, ◌==◌, not, Bool, true, false, List, ◌++◌, Option, map, replicate, bit_and, if◌then◌else◌, slice_index}
 use Rattle.std.specs.List.{position, range_with_len}
+use Rattle.data_space.specs.declared.regions.TheConstants.{IO_COUNT}
 use Rattle.board_io.specs.declared.board.Board.{Board}
 use Rattle.board_io.specs.declared.rules.Rule.{Rule}
 use Rattle.board_io.specs.declared.rules.Rule.TheVariants.{Reserved, Pin, Kept, Guarded, WatchdogControl, ResetFlags, CpuControl, TimerFlags, ExtendedTimerFlags, Timer0, Timer1, Timer2, Timer3, Usart0, Spi}
@@ -53,19 +54,19 @@ io_at at b = if is_kept (rule_of at) then kept_at at b else 0
 
 -- all of them, at 0x20 to 0xFF
 abbrev pub io_of : Board → List ℕ
-io_of b = map (λ k. io_at (0x20 + k) b) (range_with_len 0 224)
+io_of b = map (λ k. io_at (0x20 + k) b) (range_with_len 0 IO_COUNT)
 
 -- whether a byte can be the one at a data address: each bit that it has is one that the register can have
 unfoldable pub is_io : ℕ → ℕ → Bool
 is_io at x = bit_and x (kept_bits (rule_of at)) == x
 
--- whether the byte at a place of 224 can be the one at its address, place 0 being 0x20
+-- whether the byte at a place of these can be the one at its address, place 0 being 0x20
 abbrev pub io_fits : List ℕ → ℕ → Bool
 io_fits io k = is_io (0x20 + k) (slice_index io k)
 
 -- the place of the first that cannot
 abbrev pub first_refused : List ℕ → Option ℕ
-first_refused io = position (λ k. not (io_fits io k)) (range_with_len 0 224)
+first_refused io = position (λ k. not (io_fits io k)) (range_with_len 0 IO_COUNT)
 
 -- what a board keeps whose bytes these are: nothing below 0x20
 abbrev pub kept_of : List ℕ → List ℕ

@@ -10,6 +10,7 @@ use crate::rules::{Rule, rule_at};
 use crate::{Board, Clock, LaggingBoard};
 use avr_base::IO_START;
 use avr_timers::{Prescaler, Timer8, Timer16};
+use data_space::IO_COUNT;
 use device_base::{first_outside, part, put_part};
 use serial_ports::{Radio, Spi, Usart};
 
@@ -70,10 +71,10 @@ fn is_io(at: u8, byte: u8) -> bool
 /// data address 0x20. A bit is to be 0 where no register is kept, where a write of 1 is refused, and where it is never
 /// kept.
 pub fn first_refused(io: &[u8]) -> Option<usize>
-    requires { length io.now ≡ 224 }
+    requires { length io.now ≡ IO_COUNT }
     ensures { result ≡ first_refused io.now }
 {
-    for place in 0..224 {
+    for place in 0..IO_COUNT {
         if !is_io(IO_START as u8 + place as u8, io[place]) {
             return Some(place);
         }
@@ -83,7 +84,7 @@ pub fn first_refused(io: &[u8]) -> Option<usize>
 
 // What a board keeps whose bytes from data address 0x20 on these are.
 fn kept_of(io: &[u8]) -> [u8; 256]
-    requires { length io.now ≡ 224 }
+    requires { length io.now ≡ IO_COUNT }
     ensures { result ≡ kept_of io.now }
 {
     let mut kept = [0; 256];
@@ -159,7 +160,7 @@ impl Board {
     ) -> Option<Board>
         requires byte_time { byte_time ≤ 4096 }
         requires cycle { cycle ≤ LAST_END }
-        requires io { length io.now ≡ 224 }
+        requires io { length io.now ≡ IO_COUNT }
         ensures none { is_some result ≡ list_all (λ fit. fit) (fits ends_from numbers.now) }
         ensures some { IfSome result (λ b. IsRestored byte_time numbers.now io.now b) }
         ensures clock { IfSome result (λ b. b.clock ≡ cycle) }

@@ -4,6 +4,8 @@ use Rattle.std.specs.Prelude.{◌≡◌, ℕ, ◌<◌, Bool, true, [], length, N
 use Rattle.std.specs.List.{All}
 use Rattle.world_core.specs.Chain.{Rises}
 use Rattle.world_core.specs.Order.{Fleet}
+use Rattle.data_space.specs.declared.regions.TheConstants.{IO_COUNT, SRAM_LEN}
+use Rattle.node_core.specs.declared.numbers.TheConstants.{NUMBERS}
 use Rattle.node_core.specs.declared.row.Row.{Row}
 use Rattle.node_core.specs.Restored.{fault_of}
 use Rattle.node_core.specs.State.{NodeState}
@@ -30,9 +32,9 @@ origin_of sc st = record { topo = sc.topo; cycle = st.cycle; states = (onward sc
 
 -- what is saved of a node is that of one that has reached a cycle
 pub record IsFit (cycle : ℕ) (n : NodeOf) : Type 0 where
-  pub count : length n.numbers ≡ 108
-  pub io_count : length n.io ≡ 224
-  pub sram_count : length n.sram ≡ 4096
+  pub count : length n.numbers ≡ NUMBERS
+  pub io_count : length n.io ≡ IO_COUNT
+  pub sram_count : length n.sram ≡ SRAM_LEN
   pub fault : fault_of cycle n.numbers n.io ≡ None
 
 -- a state from which the scenario can go on, be it one that a run comes to or not

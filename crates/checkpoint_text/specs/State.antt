@@ -7,6 +7,8 @@ use Rattle.air_base.specs.declared.air.Send.{Send}
 use Rattle.air_base.specs.NodeRun.{Timed}
 use Rattle.board_io.specs.Kept.{first_refused, io_of}
 use Rattle.node_core.specs.Numbers.{first_outside, numbers_of}
+use Rattle.data_space.specs.declared.regions.TheConstants.{IO_COUNT, SRAM_LEN}
+use Rattle.node_core.specs.declared.numbers.TheConstants.{NUMBERS}
 use Rattle.node_core.specs.declared.row.Row.{Row}
 use Rattle.node_core.specs.State.{NodeState}
 use Rattle.node_runner.specs.Scenario.{ScenarioOf, fleet_of}
@@ -18,9 +20,9 @@ use Rattle.checkpoint_text.specs.Onward.{onward}
 
 -- ---- what is read
 
--- a node's first numbers, and 0 for each of the 108 that is not there
+-- a node's first numbers, and 0 for each that is not there
 abbrev pub padded : List ℕ → List ℕ
-padded n = map (λ place. slice_index n place) (range_with_len 0 108)
+padded n = map (λ place. slice_index n place) (range_with_len 0 NUMBERS)
 
 abbrev pub is_behind : ℕ → Option ℕ → Bool
 is_behind count None = true
@@ -31,7 +33,7 @@ abbrev pub within : ℕ → List ℕ → Bool
 within cycle n = is_behind (length n) (first_outside cycle (padded n))
 
 abbrev pub readable : List ℕ → Bool
-readable io = length io == 224 && is_none (first_refused io)
+readable io = length io == IO_COUNT && is_none (first_refused io)
 
 abbrev pub rules_of : ScenarioOf → Rules
 rules_of sc = rules sc.topo within readable
@@ -53,7 +55,7 @@ abbrev pub parts_of : NodeState → NodeOf
 parts_of s = record {
   numbers = numbers_of s;
   io = io_of s.bus.board;
-  sram = map (λ k. slice_index s.bus.sram k) (range_with_len 0 4096);
+  sram = map (λ k. slice_index s.bus.sram k) (range_with_len 0 SRAM_LEN);
 }
 
 -- the sends of a run that may still be heard at cycle c, in order of cycle, then node

@@ -7,7 +7,8 @@ ghost use Rattle.checkpoint_text.specs.State.{padded, readable, state_in, within
 
 use crate::saved::Saved;
 use board_io::first_refused;
-use node_core::Node;
+use data_space::IO_COUNT;
+use node_core::{NUMBERS, Node};
 use node_runner::Scenario;
 use state_text::{Bounds, StateFault, StateParts, read};
 use std::alloc::Global;
@@ -22,12 +23,12 @@ fn number_at(numbers: &[u64], place: usize) -> u64
     0
 }
 
-// The first numbers of a node, and 0 for each of the 108 that is not there.
-fn padded(numbers: &[u64]) -> [u64; 108]
+// The first numbers of a node, and 0 for each that is not there.
+fn padded(numbers: &[u64]) -> [u64; NUMBERS]
     ensures { result ≡ padded numbers.now }
 {
-    let mut all = [0; 108];
-    for place in 0..108 {
+    let mut all = [0; NUMBERS];
+    for place in 0..NUMBERS {
         all[place] = number_at(numbers, place);
     }
     all
@@ -49,7 +50,7 @@ impl Bounds for NodeBounds {
     }
 
     fn are_readable(&self, io: &[u8]) -> bool {
-        if io.len() != 224 {
+        if io.len() != IO_COUNT {
             return false;
         }
         first_refused(io).is_none()

@@ -17,7 +17,7 @@ use crate::onward::InState;
 use air_base::Send;
 use avr_base::NoMemory;
 use fleet_flight::{kept_sends, pass_to, record_of, rows_to};
-use node_core::{Node, RestoreFault, Row};
+use node_core::{NUMBERS, Node, RestoreFault, Row};
 use node_runner::Scenario;
 use state_text::{NodeParts, StateParts};
 use std::alloc::Global;
@@ -26,11 +26,11 @@ use std::snapshot::Snapshot;
 use world_core::{EPOCH, SendLog};
 
 // The numbers of a node.
-fn numbers_of(numbers: &[u64]) -> [u64; 108]
-    requires { length numbers.now ≡ 108 }
+fn numbers_of(numbers: &[u64]) -> [u64; NUMBERS]
+    requires { length numbers.now ≡ NUMBERS }
     ensures { result ≡ numbers.now }
 {
-    let mut all = [0; 108];
+    let mut all = [0; NUMBERS];
     all.copy_from_slice(numbers);
     all
 }

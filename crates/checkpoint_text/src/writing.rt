@@ -13,7 +13,9 @@ ghost use Rattle.checkpoint_text.specs.State.{parts_of, saved_with, state_with, 
 
 use crate::saved::Saved;
 use air_base::Send;
-use node_core::Node;
+use avr_base::IO_START;
+use data_space::SRAM_START;
+use node_core::{NUMBERS, Node};
 use node_runner::Scenario;
 use sim_io::{Sink, SinkFault};
 use state_text::{Nodes, write};
@@ -51,16 +53,16 @@ impl<'a> Nodes for Stood<'a> {
         self.nodes.len()
     }
 
-    fn numbers(&self, node: usize) -> [u64; 108] {
+    fn numbers(&self, node: usize) -> [u64; NUMBERS] {
         stood_at(self.nodes, node).numbers()
     }
 
     fn io(&self, node: usize, place: usize) -> u8 {
-        stood_at(self.nodes, node).io(0x20 + place as u16)
+        stood_at(self.nodes, node).io(IO_START + place as u16)
     }
 
     fn sram(&self, node: usize, place: usize) -> u8 {
-        stood_at(self.nodes, node).sram(0x0100 + place as u16)
+        stood_at(self.nodes, node).sram(SRAM_START + place as u16)
     }
 }
 

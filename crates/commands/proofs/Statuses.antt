@@ -12,7 +12,7 @@ use Rattle.state_text.specs.Text.{StateOf}
 use Rattle.state_text.specs.declared.fault.StateFault.{StateFault}
 use Rattle.state_text.specs.declared.fault.StateFault.TheVariants.{PastEnd}
 use Rattle.command_plans.specs.Plan.{Plan, Give, Refuse, Refusal, BadWords, BadScenario, BadImage, BadSource, BadState, BadMoves, and_then, image_plan, images_plan, moves_plan, scenario_plan, source_plan}
-use Rattle.command_plans.specs.Reading.{Files, Reached, Here, Refuses, Verdict, Untold, Refused as RefusedVerdict, Accepted, Says, verdict}
+use Rattle.command_plans.specs.Reading.{Files, Reached, Here, Verdict, Untold, Refused as RefusedVerdict, Accepted, Says, verdict}
 use Rattle.command_plans.specs.Ends.{Ends, End, Done, OutFailed, NoMemory, ReadFailed, Refused, Reads, Stream, status_due, EndedSaying, EndedUnsaid, HasStatus}
 use Rattle.command_plans.specs.Parts.{Told, Said, Unsaid, Reported, Stopped, Written, end_of}
 use Rattle.command_plans.specs.declared.trouble.Trouble.{Trouble}
@@ -25,7 +25,7 @@ use Rattle.command_plans.specs.declared.trouble.MovesCause.{MovesCause}
 use Rattle.command_plans.specs.declared.trouble.StateCause.TheVariants as cause
 use Rattle.command_plans.specs.declared.status.Status.{Status}
 use Rattle.command_plans.specs.declared.status.Status.TheVariants as case
-use Rattle.command_plans.proofs.Endings.{KeepsWords, ends_job, ends_stopped, keeps_both, keeps_image, keeps_images, keeps_moves, keeps_reached, keeps_scenario, keeps_source, refuses, reported_stop, state_is_no_words}
+use Rattle.command_plans.proofs.Endings.{KeepsWords, ends_job, ends_stopped, keeps_both, keeps_image, keeps_images, keeps_moves, keeps_reached, keeps_scenario, keeps_source, reported_stop, state_is_no_words}
 use Rattle.commands.specs.Job.{Job, output}
 use Rattle.commands.specs.Plan.{begun_plan, cut_on_or, cut_on_plan, cut_plan, images_for, network_plan, plan, plan_for, plan_of, span_or, span_plan, state_or, state_plan, sweep_plan}
 use Rattle.commands.specs.TopClause.{TopClause}

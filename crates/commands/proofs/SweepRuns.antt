@@ -1,7 +1,7 @@
 -- What is read for a sweep, and the runs that it writes one behind another.
-use Rattle.std.proofs.Common.{◌≡◌, ℕ, false, zero, suc, ◌+◌, ◌<◌, ◌≤◌, List, [], ◌∷◌, ◌++◌, length, get_or, set, drop, flat_map, Option, Result, Err, add-one, refl, sym, ap, ◌∙◌, append-nil, subst, arith}
+use Rattle.std.proofs.Common.{◌≡◌, ℕ, false, zero, suc, ◌+◌, ◌<◌, List, [], ◌∷◌, ◌++◌, length, get_or, set, drop, flat_map, Option, Err, add-one, refl, sym, ap, ◌∙◌, append-nil, subst}
 use Rattle.std.proofs.Math.Seq.{drop-cons, drop-length}
-use Rattle.sim_io.specs.Outside.{extended, Rose, TookFront}
+use Rattle.sim_io.specs.Outside.{extended, Rose}
 use Rattle.sim_io.proofs.Pages.{Stands, stands_front, stands_more, stands_moved}
 use Rattle.serial_ports.specs.Script.{ScriptBytes}
 use Rattle.node_runner.specs.Scenario.{ScenarioOf, script_at, with_script}

@@ -1,5 +1,5 @@
 // From the words to a status, on one thread.
-ghost use Rattle.std.specs.Prelude.{◌≡◌, map};
+ghost use Rattle.std.specs.Prelude.{map};
 ghost use Rattle.command_plans.specs.Ends.{reads, stream};
 ghost use Rattle.commands.specs.TopClause.{TopClause};
 

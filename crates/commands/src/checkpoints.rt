@@ -1,5 +1,5 @@
 // Saved states: one is read from its text, written as text, and gone on from.
-ghost use Rattle.std.specs.Prelude.{◌≡◌, ◌<◌, ◌≤◌, ◌+◌, ◌*◌, min, false, IfOk, OnOk};
+ghost use Rattle.std.specs.Prelude.{◌≡◌, ◌<◌, ◌+◌, ◌*◌, false, IfOk, OnOk};
 ghost use Rattle.checkpoint_text.specs.Onward.{CanResume, onward};
 ghost use Rattle.checkpoint_text.specs.State.{saved_at, saved_from};
 ghost use Rattle.command_plans.specs.Ends.{reads, stream};
@@ -8,7 +8,6 @@ ghost use Rattle.commands.specs.Parts.{EndsEpoch, EndsFrom, IsCutOn, IsFresh};
 ghost use Rattle.commands.specs.Plan.{state_plan};
 ghost use Rattle.world_core.specs.Kept.{epoch};
 ghost use Rattle.fleet_flight.specs.Rows.{rows_upto};
-ghost use Rattle.node_runner.specs.Scenario.{IsScenario};
 ghost use Rattle.state_text.specs.Text.{state_text};
 ghost use Rattle.trace_writer.specs.Line.{rows_text};
 ghost use Rattle.world_core.specs.Order.{run_rows, world_at};

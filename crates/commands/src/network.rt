@@ -1,5 +1,5 @@
 // The network of one node, and how large a network is.
-ghost use Rattle.std.specs.Prelude.{◌≡◌, ◌≤◌, ◌++◌, IfOk};
+ghost use Rattle.std.specs.Prelude.{◌≡◌, ◌≤◌, IfOk};
 ghost use Rattle.commands.specs.Network.{lone_node, size_line};
 ghost use Rattle.command_plans.specs.Ends.{stream};
 ghost use Rattle.command_plans.specs.Parts.{Written};

@@ -1,5 +1,5 @@
 // Samples, and what is written of them.
-ghost use Rattle.std.specs.Prelude.{◌≡◌, ◌++◌};
+ghost use Rattle.std.specs.Prelude.{◌≡◌};
 ghost use Rattle.world_core.specs.Order.{run_rows};
 ghost use Rattle.node_runner.specs.Scenario.{fleet_of};
 ghost use Rattle.sample_maker.specs.Sample.{sample};

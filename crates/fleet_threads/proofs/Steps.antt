@@ -241,8 +241,8 @@ module _ (t : TableId) (w : WorldFacts) (sc : ScenarioOf) (floor end : ℕ) (m :
       pub turned : (n : Member) (c : ℕ) → IsEvent m.runner q (Turn c) n.runner → noted_of n.runner ≡ noted_of m.runner → n.air ≡ m.air → n.gap ≡ m.gap → IsUnderWay t w sc floor end n × (n.runner.number ≡ m.runner.number)
       turned n c ev count air gap = went n [] [] (adv_turn end q m.runner [] lim own live 1024 some calm q_is c n.runner ev count) count air gap
 
-      pub asks : (n : Member) (c : ℕ) → IsEvent m.runner q (Ask c) n.runner → noted_of n.runner ≡ noted_of m.runner → n.air ≡ m.air → n.gap ≡ m.gap → IsUnderWay t w sc floor end n × (n.runner.number ≡ m.runner.number)
-      asks n c ev count air gap = went n [] [] (adv_ask end q m.runner [] lim own live 1024 some calm q_is c n.runner ev count) count air gap
+      pub asks : (n : Member) → IsEvent m.runner q Ask n.runner → noted_of n.runner ≡ noted_of m.runner → n.air ≡ m.air → n.gap ≡ m.gap → IsUnderWay t w sc floor end n × (n.runner.number ≡ m.runner.number)
+      asks n ev count air gap = went n [] [] (adv_ask end q m.runner [] lim own live 1024 some calm q_is n.runner ev count) count air gap
 
       pub ended : (n : Member) → IsEvent m.runner q Ended n.runner → noted_of n.runner ≡ noted_of m.runner → n.air ≡ m.air → n.gap ≡ m.gap → IsUnderWay t w sc floor end n × (n.runner.number ≡ m.runner.number)
       ended n ev count air gap = went n [] [] (adv_ended end q m.runner [] lim own live 1024 some calm q_is n.runner ev count) count air gap

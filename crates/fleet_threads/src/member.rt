@@ -68,7 +68,7 @@ fn ask<N: Session, R: Wait>(
 impl Member {
     ghost use Rattle.std.specs.Prelude.{◌≡◌, ◌≤◌, ◌+◌, true, false};
     ghost use Rattle.world_core.specs.Sends.{sends_below};
-    ghost use Rattle.node_runner.specs.Place.{Place, is_live, sends_passed};
+    ghost use Rattle.node_runner.specs.Place.{is_live, sends_passed};
     ghost use Rattle.fleet_threads.specs.declared.member.Sampling.TheVariants.{Tries};
     ghost use Rattle.fleet_threads.specs.Answers.{LooksOnce};
     ghost use Rattle.fleet_threads.specs.Member.{IsUnderWay, GoesOn, IsOver};
@@ -191,7 +191,7 @@ impl Member {
                 self.look_ahead(shared, scenario, end, sent);
             }
             Event::NoMemory => self.halt(shared, scenario, end),
-            Event::Ask { .. } => {}
+            Event::Ask => {}
             Event::Turn { .. } => {}
             Event::Ended => {}
         }

@@ -1,5 +1,5 @@
 // A run in epochs, and the whole run.
-ghost use Rattle.std.specs.Prelude.{◌≡◌, ◌<◌, ◌≤◌, ◌+◌, ◌++◌, ◌==◌, min, map, true, false, [], IfOk, OnOk, vec_len, vec_capacity};
+ghost use Rattle.std.specs.Prelude.{◌≡◌, ◌<◌, ◌≤◌, ◌+◌, ◌++◌, ◌==◌, min, map, false, [], IfOk, OnOk};
 ghost use Rattle.std.specs.List.{All};
 ghost use Rattle.world_core.specs.Order.{facts_of, run_rows};
 ghost use Rattle.node_runner.specs.Scenario.{fleet_of, IsScenario};
@@ -130,7 +130,7 @@ impl Model for ThreadRun {
 }
 
 impl ThreadRun {
-    ghost use Rattle.std.specs.Prelude.{◌≡◌, ◌<◌, ◌≤◌, ◌+◌, ◌++◌, ◌==◌, min, true, false, replicate, IfOk, OnOk};
+    ghost use Rattle.std.specs.Prelude.{◌≡◌, ◌<◌, ◌≤◌, ◌+◌, ◌++◌, ◌==◌, min, false, replicate, IfOk, OnOk};
     ghost use Rattle.world_core.specs.Kept.{epoch, IsPostedTo};
     ghost use Rattle.world_core.specs.Order.{facts_of};
     ghost use Rattle.node_runner.specs.Scenario.{fleet_of, IsScenario};

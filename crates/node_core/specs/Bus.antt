@@ -7,11 +7,12 @@ use Rattle.board_io.specs.declared.board.Board.{Board}
 use Rattle.board_io.specs.Board.{clock_at, reset_board}
 use Rattle.board_io.specs.Registers.{io_get, io_put}
 use Rattle.data_space.specs.Memory.{zeros}
+use Rattle.data_space.specs.declared.regions.TheConstants.{SRAM_LAST, SRAM_LEN, SRAM_START}
 use Rattle.node_core.specs.declared.bus.NodeBus.{NodeBus}
 
 -- after reset, with a radio of this byte time
 abbrev pub reset_bus : ℕ → NodeBus
-reset_bus byte_time = record { sram = zeros 4096; board = reset_board byte_time }
+reset_bus byte_time = record { sram = zeros SRAM_LEN; board = reset_board byte_time }
 
 abbrev pub with_board : NodeBus → Board → NodeBus
 with_board bus board = record bus { board = board }
@@ -28,15 +29,15 @@ board_put bus (Err cause) = Err cause
 -- a load
 unfoldable pub bus_get : NodeBus → ℕ → Result (ℕ × NodeBus) StopCause
 bus_get bus at =
-    if nat_lt 0x10FF at then Err stop.PastMemory
-    else if nat_lt 0xFF at then Ok (slice_index bus.sram (at - 0x100), bus)
+    if nat_lt SRAM_LAST at then Err stop.PastMemory
+    else if nat_lt 0xFF at then Ok (slice_index bus.sram (at - SRAM_START), bus)
     else board_got bus (io_get bus.board at)
 
 -- a store
 unfoldable pub bus_put : NodeBus → ℕ → ℕ → Result NodeBus StopCause
 bus_put bus at x =
-    if nat_lt 0x10FF at then Err stop.PastMemory
-    else if nat_lt 0xFF at then Ok (record bus { sram = slice_set bus.sram (at - 0x100) x })
+    if nat_lt SRAM_LAST at then Err stop.PastMemory
+    else if nat_lt 0xFF at then Ok (record bus { sram = slice_set bus.sram (at - SRAM_START) x })
     else board_put bus (io_put bus.board at x)
 
 -- its registers accessed in cycle t

@@ -6,7 +6,7 @@ ghost use Rattle.node_core.specs.Pace.Leaps.{LoadsStill};
 use avr_base::{NoMemory, StopCause};
 use avr_core::is_in_sram;
 use board_io::LaggingBoard;
-use data_space::{Bus, Sram};
+use data_space::{Bus, SRAM_LAST, SRAM_START, Sram};
 use std::alloc::Global;
 
 /// What a node holds beside the core (ATmega128 datasheet, "SRAM Data Memory"): the internal SRAM at data addresses
@@ -33,7 +33,7 @@ impl NodeBus {
         ensures err { IfErr result (λ cause. bus_get self.old at ≡ Err cause) }
         ensures same { OnErr result (self.new ≡ self.old) }
     {
-        if at > 0x10FF {
+        if at > SRAM_LAST {
             return Err(StopCause::PastMemory);
         }
         self.board.get(at)
@@ -48,7 +48,7 @@ impl NodeBus {
         ensures err { IfErr result (λ cause. bus_put self.old at b ≡ Err cause) }
         ensures same { OnErr result (self.new ≡ self.old) }
     {
-        if at > 0x10FF {
+        if at > SRAM_LAST {
             return Err(StopCause::PastMemory);
         }
         self.board.put(at, b)
@@ -72,10 +72,10 @@ impl NodeBus {
     pub fn reads_still(&self, at: u16) -> bool
         ensures { result ≡ true → LoadsStill self.now at }
     {
-        if at > 0x10FF {
+        if at > SRAM_LAST {
             return false;
         }
-        at >= 0x0100 || self.board.reads_still(at)
+        at >= SRAM_START || self.board.reads_still(at)
     }
 }
 

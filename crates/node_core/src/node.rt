@@ -1,6 +1,7 @@
 // A node.
 ghost use Rattle.std.specs.Prelude.{◌≡◌, ◌<◌, ◌≤◌, ◌+◌, ◌-◌, [], true, false, IfOk, slice_index};
 ghost use Rattle.device_base.specs.Bounds.{LAST_CYCLE};
+ghost use Rattle.data_space.specs.declared.regions.TheConstants.{SRAM_LAST, SRAM_START};
 ghost use Rattle.air_base.specs.NodeRun.{answered};
 ghost use Rattle.node_core.specs.State.{reset};
 ghost use Rattle.node_core.specs.Cycle.{node_kind, end_row};
@@ -195,9 +196,9 @@ impl Node {
 
     /// The byte of its SRAM at the data address `at`, 0x0100 to 0x10FF.
     pub fn sram(&self, at: u16) -> u8
-        requires low { 0x0100 ≤ at }
-        requires high { at ≤ 0x10FF }
-        ensures { result ≡ slice_index self.now.state.bus.sram (at - 0x0100) }
+        requires low { SRAM_START ≤ at }
+        requires high { at ≤ SRAM_LAST }
+        ensures { result ≡ slice_index self.now.state.bus.sram (at - SRAM_START) }
     {
         self.machine.bus.sram.get(at)
     }

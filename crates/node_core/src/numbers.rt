@@ -10,6 +10,9 @@ use avr_base::StopCause;
 use board_io::Board;
 use device_base::{first_outside, part, put_part};
 
+/// How many numbers a node is saved by.
+pub const NUMBERS: usize = 108;
+
 // The place of the stop cause's number.
 const STOP: usize = 39;
 
@@ -24,7 +27,7 @@ fn stop_number(stop: Option<StopCause>) -> u64
 }
 
 /// The cycle before which no frame and no transfer ends, of a node with these numbers that has reached `cycle`.
-pub fn ends_from(cycle: u64, numbers: &[u64; 108]) -> u64
+pub fn ends_from(cycle: u64, numbers: &[u64; NUMBERS]) -> u64
     ensures { result ≡ ends_from cycle numbers.now }
 {
     if numbers[STOP] == 0 { cycle } else { 0 }
@@ -73,7 +76,7 @@ fn register_fits(numbers: &[u64; 33]) -> [bool; 33]
 
 // A test for each number of the core, whether it is within its bound.
 #[tactic(auto, unfolding(crate::specs::Numbers::core_fits))]
-fn core_fits(numbers: &[u64; 108]) -> [bool; 41]
+fn core_fits(numbers: &[u64; NUMBERS]) -> [bool; 41]
     ensures { result ≡ core_fits numbers.now }
 {
     let mut fits = [false; 41];
@@ -100,10 +103,10 @@ impl Node {
     /// instruction is owed and whether it sleeps, the number of the cause that stopped it (0 for none), and how many
     /// instructions it executed; then those of timers 0, 2, 1 and 3, of USART0, of the serial peripheral interface and
     /// of the radio, each in the order of its `numbers`.
-    pub fn numbers(&self) -> [u64; 108]
+    pub fn numbers(&self) -> [u64; NUMBERS]
         ensures { result ≡ numbers_of self.now.state }
     {
-        let mut all = [0; 108];
+        let mut all = [0; NUMBERS];
         put_part(&mut all, 0, &register_numbers(&self.machine.cpu.r));
         put_part(&mut all, 32, &self.machine.core_tail());
         put_part(&mut all, 41, &self.machine.bus.board.numbers());
@@ -122,7 +125,7 @@ impl Node {
     /// The place of the first of these `numbers`, 0 to 107, that is outside its bound, of a node that has reached the
     /// cycle `cycle`. The bound of a number hangs on no number behind it, and of other devices' numbers on that of the
     /// stop alone.
-    pub fn first_outside(cycle: u64, numbers: &[u64; 108]) -> Option<u8>
+    pub fn first_outside(cycle: u64, numbers: &[u64; NUMBERS]) -> Option<u8>
         ensures { result ≡ first_outside cycle numbers.now }
     {
         match first_outside(&fits(cycle, numbers)) {
@@ -134,10 +137,10 @@ impl Node {
 
 // A test for each number, whether it is within its bound.
 #[tactic(auto, unfolding(crate::specs::Numbers::fits))]
-fn fits(cycle: u64, numbers: &[u64; 108]) -> [bool; 108]
+fn fits(cycle: u64, numbers: &[u64; NUMBERS]) -> [bool; NUMBERS]
     ensures { result ≡ fits cycle numbers.now }
 {
-    let mut all = [false; 108];
+    let mut all = [false; NUMBERS];
     put_part(&mut all, 0, &core_fits(numbers));
     put_part(
         &mut all,

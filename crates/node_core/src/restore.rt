@@ -1,18 +1,19 @@
 // A node of its numbers, its kept I/O bytes and its SRAM.
 ghost use Rattle.std.specs.Prelude.{◌≡◌, ◌≤◌, [], false, None, IfOk, IfErr, OnOk, length, take};
 ghost use Rattle.device_base.specs.Bounds.{LAST_CYCLE};
+ghost use Rattle.data_space.specs.declared.regions.TheConstants.{IO_COUNT};
 ghost use Rattle.board_io.specs.Saved as board;
 ghost use Rattle.device_base.specs.Numbers.{part};
 ghost use Rattle.node_core.specs.Restored.{cpu_of, fault_of, IsCore, IsRefused, IsRestored};
 ghost use Rattle.node_core.specs.State.{NodeState};
 
 use crate::machine::Machine;
-use crate::numbers::ends_from;
+use crate::numbers::{NUMBERS, ends_from};
 use crate::{Node, NodeBus};
-use avr_base::{NoMemory, Sreg, StopCause};
+use avr_base::{IO_START, NoMemory, Sreg, StopCause};
 use avr_program::Program;
 use board_io::{Board, LaggingBoard, first_refused};
-use data_space::{Cpu, Sram};
+use data_space::{Cpu, SRAM_LEN, SRAM_START, Sram};
 use device_base::part;
 use serial_ports::Script;
 use std::alloc::Global;
@@ -35,7 +36,7 @@ pub enum RestoreFault {
 }
 
 // The general registers of their numbers.
-fn registers_of(numbers: &[u64; 108]) -> [u8; 32]
+fn registers_of(numbers: &[u64; NUMBERS]) -> [u8; 32]
     requires { IsCore numbers.now }
     ensures { result ≡ take 32 numbers.now }
 {
@@ -48,18 +49,18 @@ fn registers_of(numbers: &[u64; 108]) -> [u8; 32]
 
 // An SRAM of 4,096 bytes.
 fn filled(alloc: Global, bytes: &[u8]) -> Result<Sram, NoMemory>
-    requires { length bytes.now ≡ 4096 }
+    requires { length bytes.now ≡ SRAM_LEN }
     ensures { IfOk result (λ sram. sram ≡ bytes.now) }
 {
     let mut sram = Sram::new(alloc)?;
-    for k in 0..4096 {
-        sram.put(0x0100 + k as u16, bytes[k]);
+    for k in 0..SRAM_LEN {
+        sram.put(SRAM_START + k as u16, bytes[k]);
     }
     Ok(sram)
 }
 
 // The core of its numbers.
-fn cpu_of(numbers: &[u64; 108]) -> Cpu
+fn cpu_of(numbers: &[u64; NUMBERS]) -> Cpu
     requires { IsCore numbers.now }
     ensures { result ≡ cpu_of numbers.now }
 {
@@ -76,8 +77,8 @@ fn cpu_of(numbers: &[u64; 108]) -> Cpu
 
 impl Node {
     /// Why [`Node::restore`] refuses these `numbers` and 224 bytes `io` at the cycle `cycle`, whatever memory there is.
-    pub fn fault(cycle: u64, numbers: &[u64; 108], io: &[u8]) -> Option<RestoreFault>
-        requires { length io.now ≡ 224 }
+    pub fn fault(cycle: u64, numbers: &[u64; NUMBERS], io: &[u8]) -> Option<RestoreFault>
+        requires { length io.now ≡ IO_COUNT }
         ensures { result ≡ fault_of cycle numbers.now io.now }
     {
         if let Some(place) = Node::first_outside(cycle, numbers) {
@@ -85,7 +86,7 @@ impl Node {
         }
         let place = first_refused(io)?;
         Some(RestoreFault::Io {
-            at: 0x20 + place as u16,
+            at: IO_START + place as u16,
         })
     }
 
@@ -101,7 +102,7 @@ impl Node {
         window: (u64, u64),
         byte_time: u64,
         cycle: u64,
-        numbers: &[u64; 108],
+        numbers: &[u64; NUMBERS],
         io: &[u8],
         sram: &[u8],
     ) -> Result<Node, RestoreFault>
@@ -109,8 +110,8 @@ impl Node {
         requires least { 256 ≤ byte_time }
         requires most { byte_time ≤ 4096 }
         requires cycle { cycle ≤ LAST_CYCLE }
-        requires io { length io.now ≡ 224 }
-        requires sram { length sram.now ≡ 4096 }
+        requires io { length io.now ≡ IO_COUNT }
+        requires sram { length sram.now ≡ SRAM_LEN }
         ensures refused { IfErr result (λ fault. IsRefused cycle numbers.now io.now fault) }
         ensures sound { OnOk result (fault_of cycle numbers.now io.now ≡ None) }
         ensures node { IfOk result (λ node. node ≡ record { cycle = cycle; asking = false; state = node.state; rows = [] }) }

@@ -1,6 +1,7 @@
 -- Within which bounds a node stays from reset on: registers, memory and counts beside its board.
 use Rattle.std.specs.Prelude.{◌≡◌, ℕ, ◌≤◌, if◌then◌else◌, List, length, slice_index, is_some}
 use Rattle.data_space.specs.declared.cpu.Cpu.{Cpu}
+use Rattle.data_space.specs.declared.regions.TheConstants.{SRAM_LEN}
 use Rattle.device_laws.specs.States.{IsBoard}
 use Rattle.node_core.specs.declared.bus.NodeBus.{NodeBus}
 use Rattle.node_core.specs.State.{NodeState}
@@ -19,7 +20,7 @@ pub record CoreWithin (cpu : Cpu) : Type 0 where
 
 -- the data space before cycle t, where the clock of its board shows this
 pub record BusWithin (t shown : ℕ) (bus : NodeBus) : Type 0 where
-  pub count : length bus.sram ≡ 4096
+  pub count : length bus.sram ≡ SRAM_LEN
   pub sram : AreBytes bus.sram
   pub states : IsBoard bus.board
   pub board : BoardWithin t bus.board

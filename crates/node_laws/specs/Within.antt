@@ -1,6 +1,7 @@
 -- Within which bounds the numbers of a board's devices stay from reset on, beyond what `device_laws` says of its
 -- devices: the bounds by which a saved node is refused (ATmega128 datasheet, the register descriptions).
-use Rattle.std.specs.Prelude.{◌≡◌, ℕ, ◌^◌, ◌<◌, ◌≤◌, Option, Some, None, Result, Ok, Err, bit_and}
+use Rattle.std.specs.Prelude.{◌≡◌, ℕ, ◌<◌, ◌≤◌, Option, Some, None, Result, Ok, Err, bit_and}
+use Rattle.device_base.specs.Bounds.{LAST_END}
 use Rattle.avr_base.specs.declared.stop.StopCause.{StopCause}
 use Rattle.board_io.specs.declared.board.Board.{Board}
 use Rattle.board_io.specs.Board.{kept_at}
@@ -43,7 +44,7 @@ InboxWithin (Two a b) = (a ≤ 255) × (b ≤ 255)
 -- what is shifted out, where anything is, ends in cycle t or later, and by 2^41
 abbrev pub ShiftWithin : ℕ → Option Transmission → Type 0
 ShiftWithin t None = Unit {0}
-ShiftWithin t (Some f) = (t ≤ f.ends) × (f.ends ≤ 2 ^ 41) × (f.byte ≤ 255)
+ShiftWithin t (Some f) = (t ≤ f.ends) × (f.ends ≤ LAST_END) × (f.byte ≤ 255)
 
 pub record UsartWithin (t : ℕ) (u : Usart) : Type 0 where
   pub receive_buffer : InboxWithin u.receive_buffer
@@ -72,7 +73,7 @@ StateWithin (Age h) = HeardWithin h
 
 pub record RadioWithin (r : Radio) : Type 0 where
   pub state : StateWithin r.state
-  pub free : r.free ≤ 2 ^ 41
+  pub free : r.free ≤ LAST_END
 
 -- a board before cycle t
 pub record BoardWithin (t : ℕ) (b : Board) : Type 0 where

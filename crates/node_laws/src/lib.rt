@@ -3,7 +3,8 @@
 //! to compute.
 #![tactic(auto)]
 
-ghost use Rattle.std.specs.Prelude.{◌≡◌, ℕ, ◌+◌, ◌^◌, ◌<◌, ◌≤◌, List, Option, if◌then◌else◌};
+ghost use Rattle.std.specs.Prelude.{◌≡◌, ℕ, ◌+◌, ◌<◌, ◌≤◌, List, Option, if◌then◌else◌};
+ghost use Rattle.device_base.specs.Bounds.{LAST_CYCLE};
 ghost use Rattle.board_io.specs.declared.board.Board.{Board};
 ghost use Rattle.board_io.specs.Board.{reset_board};
 ghost use Rattle.board_io.specs.Cycle.{board_answered, board_asks, board_begun, board_sends};
@@ -28,12 +29,12 @@ ghost use Rattle.air_base.specs.declared.air.Heard.{Heard};
 pub fn board_law()
     ensures reset { (byte_time : ℕ) → BoardWithin 0 (reset_board byte_time) }
     ensures read { (t : ℕ) (b : Board) (at : ℕ) → b.clock ≡ t → IsBoard b → BoardWithin t b → ReadWithin t (io_get b at) }
-    ensures write { (t : ℕ) (b : Board) (at x : ℕ) → at < 256 → x ≤ 255 → t < 2 ^ 40 → b.clock ≡ t → IsBoard b → BoardWithin t b
+    ensures write { (t : ℕ) (b : Board) (at x : ℕ) → at < 256 → x ≤ 255 → t < LAST_CYCLE → b.clock ≡ t → IsBoard b → BoardWithin t b
         → WrittenWithin t (io_put b at x) }
     ensures entry { (t word : ℕ) (b : Board) → BoardWithin t b → BoardWithin t (entered_of word b) }
-    ensures cycle { (t : ℕ) (arrival : Option ℕ) (h : Heard) (b : Board) → t < 2 ^ 40 → HeardWithin h → IsBoard b → BoardWithin t b
+    ensures cycle { (t : ℕ) (arrival : Option ℕ) (h : Heard) (b : Board) → t < LAST_CYCLE → HeardWithin h → IsBoard b → BoardWithin t b
         → BoardWithin (t + 1) (if board_asks t b then board_answered h (board_begun t arrival b) else board_begun t arrival b) }
-    ensures sends { (t : ℕ) (b : Board) → t < 2 ^ 40 → IsBoard b → BoardWithin t b → ByteWithin (board_sends t b) }
+    ensures sends { (t : ℕ) (b : Board) → t < LAST_CYCLE → IsBoard b → BoardWithin t b → ByteWithin (board_sends t b) }
 {}
 
 /// A node is within its bounds after reset, and after each cycle of it, whatever it executes and whatever it hears.
@@ -41,9 +42,9 @@ pub fn board_law()
 pub fn node_law()
     ensures reset { (k : ℕ) (flash : List ℕ) (script : ScriptBytes) (first last byte_time : ℕ) → AreBytes flash → byte_time ≤ 4096
         → NodeWithin 0 (reset k flash script first last byte_time) }
-    ensures cycle { (t : ℕ) (s : NodeState) (h : Heard) → t < 2 ^ 40 → HeardWithin h → NodeWithin t s
+    ensures cycle { (t : ℕ) (s : NodeState) (h : Heard) → t < LAST_CYCLE → HeardWithin h → NodeWithin t s
         → NodeWithin (t + 1) (ticked node_kind t s h) }
-    ensures sends { (t : ℕ) (s : NodeState) → t < 2 ^ 40 → NodeWithin t s → ByteWithin (sends_in t s) }
+    ensures sends { (t : ℕ) (s : NodeState) → t < LAST_CYCLE → NodeWithin t s → ByteWithin (sends_in t s) }
 {}
 
 /// What is saved of a node of a run of accepted texts, at the beginning of any cycle, is accepted, and the node that is

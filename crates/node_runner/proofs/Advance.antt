@@ -94,9 +94,9 @@ module _ (end q : ℕ) (old : Place) (before : List Send) (limit : end ≤ old.s
           less = omega arith;
         })
 
-    pub adv_ask : (c : ℕ) (new : Place) → IsEvent old q (Ask c) new → noted_of new ≡ noted_of old → Advanced end old before new before
-    adv_ask c new ev same =
-        let n : Place = record old { cycle = c; asking = true } in
+    pub adv_ask : (new : Place) → IsEvent old q Ask new → noted_of new ≡ noted_of old → Advanced end old before new before
+    adv_ask new ev same =
+        let n : Place = record old { cycle = new.cycle; asking = true } in
         let d = bit (is_live end n) in
         let w = was in
         let h = here in

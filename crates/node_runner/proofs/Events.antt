@@ -154,36 +154,33 @@ module _ (sc : ScenarioOf) (num since : ℕ) (v new : Timed NodeState Row) (u : 
     )
 
   -- a sample
-  module _ (c : ℕ) (lt : c < to) (r : Asks node_kind v c new) where
-    asks_quiet : QuietBetween f num v.cycle c
-    asks_quiet = come_quiet f ok num since v inv.stands calm c r.state r.rows r.comes
+  module _ (lt : new.cycle < to) (r : Asks node_kind v new.cycle new) where
+    asks_quiet : QuietBetween f num v.cycle new.cycle
+    asks_quiet = come_quiet f ok num since v inv.stands calm new.cycle r.state r.rows r.comes
 
-    ask_below : c < sc.topo.limit
+    ask_below : new.cycle < sc.topo.limit
     ask_below = let t = to_le in omega arith
 
-    ask_cycle : new.cycle ≡ c
-    ask_cycle = ap (λ (x : Timed NodeState Row). x.cycle) r.after
-
-    ask_now : node_kind.asks c (node_at f num c) ≡ true
-    ask_now = ap (node_kind.asks c) (sym (come_state f ok num since v inv.stands calm c r.state r.rows r.comes)) ∙ r.asks
+    ask_now : node_kind.asks new.cycle (node_at f num new.cycle) ≡ true
+    ask_now = ap (node_kind.asks new.cycle) (sym (come_state f ok num since v inv.stands calm new.cycle r.state r.rows r.comes)) ∙ r.asks
 
     pub asks_keeps : IsRunner (place sc num since new u) new n lim
     asks_keeps = record {
       scenario = inv.scenario;
       number = inv.number;
       limit = inv.limit;
-      stands = asks_stands f ok num since c v new inv.stands calm r ask_below;
-      count = inv.count ∙ sym (ap (sends_below (facts_of f).sends num) ask_cycle ∙ same_count c r.comes.later (omega arith) asks_quiet ∙ count_here);
+      stands = asks_stands f ok num since new.cycle v new inv.stands calm r ask_below;
+      count = inv.count ∙ sym (same_count new.cycle r.comes.later (omega arith) asks_quiet ∙ count_here);
     }
 
-    pub event_ask : IsEvent (place sc num since v u) q (Ask c) (place sc num since new u)
+    pub event_ask : IsEvent (place sc num since v u) q Ask (place sc num since new u)
     event_ask = (
-      (λ i. record { scenario = sc; number = num; since = since; cycle = ask_cycle i; asking = ap (λ (x : Timed NodeState Row). x.asking) r.after i; unnoted = u }),
+      (λ i. record { scenario = sc; number = num; since = since; cycle = new.cycle; asking = ap (λ (x : Timed NodeState Row). x.asking) r.after i; unnoted = u }),
       (let t = to_q in omega arith),
-      record { later = r.comes.later; within = (let e = ask_cycle in let l = ask_below in omega arith); quiet = asks_quiet },
+      record { later = r.comes.later; within = (let l = ask_below in omega arith); quiet = asks_quiet },
       ask_below,
       ask_now,
-      asked f ok num c (omega arith) inv.number ask_below ask_now,
+      asked f ok num new.cycle (omega arith) inv.number ask_below ask_now,
     )
 
 -- a node that is not over

@@ -17,9 +17,10 @@ pub record GoesOn (old new : Place) (c : ℕ) : Type 0 where
   pub quiet : QuietBetween (fleet_of old.scenario) old.number old.cycle c
 
 abbrev pub IsEvent : Place → ℕ → Event → Place → Type 0
-IsEvent old quantum (Ask c) new =
-    (new ≡ record old { cycle = c; asking = true }) × (c < old.cycle + quantum) × GoesOn old new c × (c < old.scenario.topo.limit)
-    × (node_kind.asks c (node_at (fleet_of old.scenario) old.number c) ≡ true) × Contains (facts_of (fleet_of old.scenario)).asks (record { node = old.number; cycle = c })
+IsEvent old quantum Ask new =
+    (new ≡ record old { cycle = new.cycle; asking = true }) × (new.cycle < old.cycle + quantum) × GoesOn old new new.cycle × (new.cycle < old.scenario.topo.limit)
+    × (node_kind.asks new.cycle (node_at (fleet_of old.scenario) old.number new.cycle) ≡ true)
+    × Contains (facts_of (fleet_of old.scenario)).asks (record { node = old.number; cycle = new.cycle })
 IsEvent old quantum (Sent x) new =
     (new ≡ record old { cycle = x.cycle + 1; unnoted = true }) × (x.cycle < old.cycle + quantum) × GoesOn old new x.cycle × (x.cycle < old.scenario.topo.limit)
     × (x.node ≡ old.number) × IsSendNumber (facts_of (fleet_of old.scenario)) (noted_of old) x

@@ -1,12 +1,14 @@
 // A node of a scenario, at reset and restored.
-ghost use Rattle.std.specs.Prelude.{◌≡◌, ◌<◌, ◌≤◌, ◌^◌, [], false, None, IfOk, IfErr, OnOk, length};
+ghost use Rattle.std.specs.Prelude.{◌≡◌, ◌<◌, ◌≤◌, [], false, None, IfOk, IfErr, OnOk, length};
+ghost use Rattle.device_base.specs.Bounds.{LAST_CYCLE};
+ghost use Rattle.data_space.specs.declared.regions.TheConstants.{IO_COUNT, SRAM_LEN};
 ghost use Rattle.node_core.specs.Restored.{IsRefused, fault_of};
 ghost use Rattle.node_core.specs.State.{NodeState};
 ghost use Rattle.node_runner.specs.Scenario.{IsRestoredIn, fleet_of};
 
 use crate::Scenario;
 use avr_base::NoMemory;
-use node_core::{Node, RestoreFault};
+use node_core::{NUMBERS, Node, RestoreFault};
 use std::alloc::Global;
 
 impl Scenario {
@@ -30,14 +32,14 @@ impl Scenario {
         alloc: Global,
         node: u8,
         cycle: u64,
-        numbers: &[u64; 108],
+        numbers: &[u64; NUMBERS],
         io: &[u8],
         sram: &[u8],
     ) -> Result<Node, RestoreFault>
         requires node { node < self.now.topo.nodes }
-        requires cycle { cycle ≤ 2 ^ 40 }
-        requires io { length io.now ≡ 224 }
-        requires sram { length sram.now ≡ 4096 }
+        requires cycle { cycle ≤ LAST_CYCLE }
+        requires io { length io.now ≡ IO_COUNT }
+        requires sram { length sram.now ≡ SRAM_LEN }
         ensures refused { IfErr result (λ fault. IsRefused cycle numbers.now io.now fault) }
         ensures sound { OnOk result (fault_of cycle numbers.now io.now ≡ None) }
         ensures node { IfOk result (λ n. n ≡ record { cycle = cycle; asking = false; state = n.state; rows = [] }) }

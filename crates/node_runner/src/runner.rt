@@ -18,8 +18,8 @@ use std::snapshot::Snapshot;
 /// What a node did.
 #[derive(Drop, Clone, Copy)]
 pub enum Event {
-    /// It samples the air in this cycle, and waits for [`Runner::answer`].
-    Ask { cycle: u64 },
+    /// It samples the air in the cycle that it has come to, and waits for [`Runner::answer`].
+    Ask,
     /// It sent a byte, and waits for [`Runner::note_posted`].
     Sent { send: Send },
     /// All cycles of the call passed, and none sent or sampled; the limit is not reached.
@@ -111,7 +111,7 @@ impl Runner {
                     send: Send { node, cycle, byte },
                 }
             }
-            Reached::Ask { cycle } => Event::Ask { cycle },
+            Reached::Ask { .. } => Event::Ask,
             Reached::Stopped => Event::Ended,
             Reached::NoMemory => Event::NoMemory,
         }

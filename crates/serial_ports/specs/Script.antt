@@ -1,6 +1,7 @@
 -- A script: the bytes that arrive at a USART from outside, in stretches: bytes one after another at equal distances. Own
 -- to this simulator.
-use Rattle.std.specs.Prelude.{◌≡◌, ℕ, ◌+◌, ◌-◌, ◌*◌, ◌/◌, ◌%◌, ◌<◌, ◌≤◌, ◌^◌, ◌==◌, ◌&&◌, nat_le, if◌then◌else◌, List, [], ◌∷◌, length, Option, Some, None, slice_get, is_some, true}
+use Rattle.std.specs.Prelude.{◌≡◌, ℕ, ◌+◌, ◌-◌, ◌*◌, ◌/◌, ◌%◌, ◌<◌, ◌≤◌, ◌==◌, ◌&&◌, nat_le, if◌then◌else◌, List, [], ◌∷◌, length, Option, Some, None, slice_get, is_some, true}
+use Rattle.device_base.specs.Bounds.{LAST_CYCLE}
 use Rattle.std.specs.Option.{option_or}
 
 -- ---- a stretch: byte i arrives in cycle at + i * every
@@ -10,7 +11,7 @@ pub record StretchBytes : Type 0 where
   pub bytes : List ℕ
 
 pub record IsStretch (s : StretchBytes) : Type 0 where
-  pub at : s.at ≤ 2 ^ 40
+  pub at : s.at ≤ LAST_CYCLE
   pub some : 1 ≤ s.every
   pub every : s.every ≤ 65535
   pub few : length s.bytes ≤ 65536

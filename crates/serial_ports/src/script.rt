@@ -1,5 +1,6 @@
 // Scripts of arriving bytes.
-ghost use Rattle.std.specs.Prelude.{◌≡◌, ℕ, ◌+◌, ◌<◌, ◌≤◌, ◌^◌, true, None, [], ◌∷◌, length, is_some, IfOk};
+ghost use Rattle.std.specs.Prelude.{◌≡◌, ℕ, ◌+◌, ◌<◌, ◌≤◌, true, None, [], ◌∷◌, length, is_some, IfOk};
+ghost use Rattle.device_base.specs.Bounds.{LAST_CYCLE, LAST_END};
 ghost use Rattle.serial_ports.specs.Script.{Arrives, first_byte, script_byte};
 
 use crate::Stretch;
@@ -52,7 +53,7 @@ fn first_byte(stretches: &[Stretch], cycle: u64) -> Option<u8>
 
 // In how many of the cycles from one on, of at most `most`, none of the stretches has a byte.
 fn quiet(stretches: &[Stretch], cycle: u64, most: u64) -> u64
-    requires { cycle + most ≤ 2 ^ 41 }
+    requires { cycle + most ≤ LAST_END }
     ensures within { result ≤ most }
     ensures none { (i : ℕ) → i < result → first_byte stretches.now (cycle + i) ≡ None }
     ensures first { result < most → is_some (first_byte stretches.now (cycle + result)) ≡ true }
@@ -81,7 +82,7 @@ impl Script {
     /// The script of one stretch of `bytes`, at most 65,536 of them: the first arrives in cycle `at`, at most 2^40, and
     /// the others `every` cycles, 1 to 65,535, one after another.
     pub fn new(at: u64, every: u64, bytes: Vec<u8>) -> Script
-        requires at { at ≤ 2 ^ 40 }
+        requires at { at ≤ LAST_CYCLE }
         requires some { 1 ≤ every }
         requires every { every ≤ 65535 }
         requires few { length bytes.items ≤ 65536 }
@@ -118,7 +119,7 @@ impl Script {
 
     /// In how many of the cycles from `cycle` on, of at most `most`, no byte arrives. With no bytes it only compares.
     pub fn quiet(&self, cycle: u64, most: u64) -> u64
-        requires { cycle + most ≤ 2 ^ 41 }
+        requires { cycle + most ≤ LAST_END }
         ensures within { result ≤ most }
         ensures none { (i : ℕ) → i < result → script_byte self.now (cycle + i) ≡ None }
         ensures first { result < most → is_some (script_byte self.now (cycle + result)) ≡ true }

@@ -76,7 +76,7 @@ impl Spi {
         end_of(self.shift_register)
     }
 
-    /// The byte that the transfer that runs brings out; `None` exactly where none runs.
+    /// The byte that the transfer that runs brings out; `None` exactly where none runs. For stored cases.
     pub fn sending(&self) -> Option<u8>
         ensures { result ≡ byte_of self.now.shift_register }
     {

@@ -1,5 +1,6 @@
 // Stretches of arriving bytes.
-ghost use Rattle.std.specs.Prelude.{◌≡◌, ℕ, ◌+◌, ◌-◌, ◌*◌, ◌<◌, ◌≤◌, ◌^◌, true, None, length, slice_get, is_some, IfOk, IfSome};
+ghost use Rattle.std.specs.Prelude.{◌≡◌, ℕ, ◌+◌, ◌-◌, ◌*◌, ◌<◌, ◌≤◌, true, None, length, slice_get, is_some, IfOk, IfSome};
+ghost use Rattle.device_base.specs.Bounds.{LAST_CYCLE, LAST_END};
 ghost use Rattle.serial_ports.specs.Script.{IsByteOf, IsQuiet, stretch_byte};
 
 use avr_base::NoMemory;
@@ -38,7 +39,7 @@ impl Stretch {
     /// The stretch of `bytes`, at most 65,536 of them: the first arrives in cycle `at`, at most 2^40, and the others
     /// `every` cycles, 1 to 65,535, one after another.
     pub fn new(at: u64, every: u64, bytes: Vec<u8>) -> Stretch
-        requires at { at ≤ 2 ^ 40 }
+        requires at { at ≤ LAST_CYCLE }
         requires some { 1 ≤ every }
         requires every { every ≤ 65535 }
         requires few { length bytes.items ≤ 65536 }
@@ -107,7 +108,7 @@ impl Stretch {
 
     /// In how many of the cycles from `cycle` on, of at most `most`, no byte arrives. With no bytes it only compares.
     pub fn quiet(&self, cycle: u64, most: u64) -> u64
-        requires { cycle + most ≤ 2 ^ 41 }
+        requires { cycle + most ≤ LAST_END }
         ensures within { result ≤ most }
         ensures none { (i : ℕ) → i < result → stretch_byte self.now (cycle + i) ≡ None }
         ensures first { result < most → is_some (stretch_byte self.now (cycle + result)) ≡ true }

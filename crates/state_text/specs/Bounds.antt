@@ -4,6 +4,7 @@ use Rattle.std.specs.List.{AllByRecursion}
 use Rattle.world_core.specs.Topology.{Topology, reach}
 use Rattle.world_core.specs.Kept.{epoch}
 use Rattle.air_base.specs.declared.air.Send.{Send}
+use Rattle.data_space.specs.declared.regions.TheConstants.{IO_COUNT, SRAM_LEN}
 use Rattle.state_text.specs.Text.{NodeOf, StateOf}
 
 pub record Rules : Type 0 where
@@ -44,10 +45,10 @@ pub record HasNode (r : Rules) (cycle : ℕ) (n : NodeOf) : Type 0 where
   pub core : r.within cycle (take 41 n.numbers) ≡ true
   pub timers : r.within cycle (take 79 n.numbers) ≡ true
   pub ports : r.within cycle n.numbers ≡ true
-  pub io_count : length n.io ≡ 224
+  pub io_count : length n.io ≡ IO_COUNT
   pub io_bytes : AllByRecursion (λ x. x < 256) n.io
   pub io : r.readable n.io ≡ true
-  pub sram_count : length n.sram ≡ 4096
+  pub sram_count : length n.sram ≡ SRAM_LEN
   pub sram_bytes : AllByRecursion (λ x. x < 256) n.sram
 
 pub record IsState (r : Rules) (st : StateOf) : Type 0 where

@@ -5,6 +5,7 @@ use Rattle.std.specs.List.{list_all, list_any}
 use Rattle.std.specs.Str.{bytes_eq}
 use Rattle.hex.specs.Hex.{decode_sized}
 use Rattle.hex.specs.declared.error.FromHexError.{FromHexError}
+use Rattle.data_space.specs.declared.regions.TheConstants.{IO_COUNT, SRAM_LEN}
 use Rattle.world_core.specs.Topology.{Topology}
 use Rattle.air_base.specs.declared.air.Send.{Send}
 use Rattle.state_text.specs.declared.fault.StateFault.{StateFault}
@@ -134,8 +135,8 @@ node_at r cycle k at = do
   core ← numbers_at (r.within cycle) (codes "core") k 41 [] at
   timers ← numbers_at (r.within cycle) (codes "timers") k 38 core.0 core.1
   ports ← numbers_at (r.within cycle) (codes "ports") k 29 timers.0 timers.1
-  io ← bytes_at r.readable (codes "io") k 224 ports.1
-  sram ← bytes_at (λ bytes. true) (codes "sram") k 4096 io.1
+  io ← bytes_at r.readable (codes "io") k IO_COUNT ports.1
+  sram ← bytes_at (λ bytes. true) (codes "sram") k SRAM_LEN io.1
   Ok (record { numbers = ports.0; io = io.0; sram = sram.0 }, sram.1)
 
 -- so many nodes, from node k on

@@ -1,14 +1,15 @@
 -- Words of the writer's contracts, and no part of what a state is: how a page of text in front of a sink stands after a
 -- text was appended to it.
 use Rattle.std.specs.Prelude.{◌≡◌, ℕ, ◌≤◌, Bool, true, false, List, [], ◌∷◌, ◌++◌, length, take, drop, codes, decimal, slice_index_or, Option}
+use Rattle.data_space.specs.declared.regions.TheConstants.{IO_COUNT, SRAM_LEN}
 use Rattle.sim_io.specs.Outside.{Rose, TookFront, Moved}
 use Rattle.state_text.specs.Parts.{ended}
 use Rattle.state_text.specs.Text.{NodeOf, numbers_line}
 
 -- as many bytes as a node has
 pub record IsSized (n : NodeOf) : Type 0 where
-  pub io : length n.io ≡ 224
-  pub sram : length n.sram ≡ 4096
+  pub io : length n.io ≡ IO_COUNT
+  pub sram : length n.sram ≡ SRAM_LEN
 
 abbrev no_node : NodeOf
 no_node = record { numbers = []; io = []; sram = [] }

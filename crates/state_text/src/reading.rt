@@ -1,5 +1,6 @@
 // The reading of a state's text.
 ghost use Rattle.std.specs.Prelude.{◌≡◌, ◌<◌, ◌^◌, ◌∷◌, [], ℕ, true, None, codes, IfOk, Ok};
+ghost use Rattle.device_base.specs.Bounds.{LAST_CYCLE};
 ghost use Rattle.state_text.specs.Parts.{is_decimal, value};
 ghost use Rattle.state_text.specs.Text.{StateOf, state_text};
 ghost use Rattle.state_text.specs.Bounds.{Rules, IsState, rules, is_cut, is_kept, follows};
@@ -13,6 +14,7 @@ use crate::numbers::{bytes_in, is_decimal, numbers_in, only_bytes, value};
 use crate::parts::{Parts, behind_node};
 use crate::state::{NodeParts, StateParts};
 use air_base::Send;
+use data_space::{IO_COUNT, SRAM_LEN};
 use std::alloc::Global;
 use world_core::{EPOCH, Topo};
 
@@ -30,7 +32,7 @@ fn title(lines: &mut Lines<'_>) -> Result<(), StateFault>
 // Whether a cycle is the end of an epoch below the limit.
 fn is_cut(topo: &Topo, cycle: u64) -> bool
     ensures value { result ≡ is_cut topo.now cycle }
-    ensures early { result ≡ true → cycle < 2 ^ 40 }
+    ensures early { result ≡ true → cycle < LAST_CYCLE }
 {
     cycle % EPOCH == 0 && cycle >= EPOCH && cycle < topo.limit()
 }
@@ -38,7 +40,7 @@ fn is_cut(topo: &Topo, cycle: u64) -> bool
 #[tactic(auto, unfolding(crate::specs::Reading::cycle_at))]
 fn cycle(alloc: Global, topo: &Topo, lines: &mut Lines<'_>) -> Result<u64, StateFault>
     ensures exact { Gives (λ cycle. (cycle, lines.new)) result (cycle_at topo.now lines.old) }
-    ensures early { IfOk result (λ cycle. cycle < 2 ^ 40) }
+    ensures early { IfOk result (λ cycle. cycle < LAST_CYCLE) }
 {
     let number = lines.number();
     let mut parts = Parts::of(lines.next_line()?);
@@ -77,11 +79,11 @@ fn numbers<B: Bounds>(
 // A line of so many bytes of a node.
 #[tactic(auto, unfolding(crate::specs::Reading::bytes_at))]
 fn sram(alloc: Global, node: u8, lines: &mut Lines<'_>) -> Result<Vec<u8>, StateFault>
-    ensures { Gives (λ bytes. (bytes.items, lines.new)) result (bytes_at (λ bytes. true) (codes "sram") node 4096 lines.old) }
+    ensures { Gives (λ bytes. (bytes.items, lines.new)) result (bytes_at (λ bytes. true) (codes "sram") node SRAM_LEN lines.old) }
 {
     let number = lines.number();
     let parts = behind_node(number, b"sram", node, lines.next_line()?)?;
-    only_bytes(alloc, number, 4096, parts)
+    only_bytes(alloc, number, SRAM_LEN, parts)
 }
 
 #[tactic(auto, unfolding(crate::specs::Reading::bytes_at))]
@@ -91,11 +93,11 @@ fn io<B: Bounds>(
     node: u8,
     lines: &mut Lines<'_>,
 ) -> Result<Vec<u8>, StateFault>
-    ensures { Gives (λ bytes. (bytes.items, lines.new)) result (bytes_at (B.readable bounds.now) (codes "io") node 224 lines.old) }
+    ensures { Gives (λ bytes. (bytes.items, lines.new)) result (bytes_at (B.readable bounds.now) (codes "io") node IO_COUNT lines.old) }
 {
     let number = lines.number();
     let parts = behind_node(number, b"io", node, lines.next_line()?)?;
-    let bytes = only_bytes(alloc, number, 224, parts)?;
+    let bytes = only_bytes(alloc, number, IO_COUNT, parts)?;
     if !bounds.are_readable(&bytes) {
         return Err(StateFault::out_of_bounds(number));
     }
@@ -147,7 +149,7 @@ fn nodes<B: Bounds>(
 
 // Whether a send of one of the nodes, before the state's cycle, may still be heard in it.
 fn is_kept(topo: &Topo, cycle: u64, send: &Send) -> bool
-    requires early { cycle < 2 ^ 40 }
+    requires early { cycle < LAST_CYCLE }
     ensures { result ≡ is_kept topo.now cycle send.now }
 {
     send.node < topo.nodes()
@@ -176,7 +178,7 @@ fn send_at(
     at: u64,
     byte: u8,
 ) -> Option<Send>
-    requires early { cycle < 2 ^ 40 }
+    requires early { cycle < LAST_CYCLE }
     ensures { result ≡ if_kept topo.now cycle before (send node at (byte ∷ [])) }
 {
     if node >= u64::from(topo.nodes()) {
@@ -205,7 +207,7 @@ fn kept_send(
     at: &[u8],
     byte: u8,
 ) -> Option<Send>
-    requires early { cycle < 2 ^ 40 }
+    requires early { cycle < LAST_CYCLE }
     requires node { is_decimal node.now ≡ true }
     requires at { is_decimal at.now ≡ true }
     ensures { result ≡ if_kept topo.now cycle before (send (value node.now) (value at.now) (byte ∷ [])) }
@@ -231,7 +233,7 @@ fn send_in(
     number: usize,
     parts: Parts<'_>,
 ) -> Result<Send, StateFault>
-    requires early { cycle < 2 ^ 40 }
+    requires early { cycle < LAST_CYCLE }
     ensures { Gives (λ send. send) result (send_in topo.now cycle before number (three_of parts.entry)) }
 {
     let Some((node, at, byte)) = parts.three() else {
@@ -257,7 +259,7 @@ fn send_of(
     number: usize,
     line: &[u8],
 ) -> Result<Send, StateFault>
-    requires early { cycle < 2 ^ 40 }
+    requires early { cycle < LAST_CYCLE }
     ensures { Gives (λ send. send) result (send_of topo.now cycle before number line.now) }
 {
     let mut parts = Parts::of(line);
@@ -284,7 +286,7 @@ fn sends(
     cycle: u64,
     lines: &mut Lines<'_>,
 ) -> Result<Vec<Send>, StateFault>
-    requires early { cycle < 2 ^ 40 }
+    requires early { cycle < LAST_CYCLE }
     ensures { Gives (λ sends. sends.items) result (sends_in topo.now cycle None lines.old.number lines.old.pieces) }
 {
     let mut sends = Vec::new(alloc);

@@ -10,6 +10,7 @@ ghost use Rattle.state_text.specs.Writing.{IsPut, IsSized, head, node_of, number
 use crate::nodes::Nodes;
 use crate::page::Page;
 use air_base::Send;
+use data_space::{IO_COUNT, SRAM_LEN};
 use sim_io::{Sink, SinkFault, write_all};
 
 // Appends numbers, each behind a space.
@@ -64,7 +65,7 @@ fn put_io<N: Nodes, O: Sink>(nodes: &N, node: usize, page: &mut Page, sink: &mut
     requires sized { IsSized (node_of (N.nodes nodes.now) node) }
     ensures { IsPut (encode_upper (node_of (N.nodes nodes.now) node).io) (out (O.taken sink.old) page.old.text.bytes page.old.failed (O.faults sink.old)) (out (O.taken sink.new) page.new.text.bytes page.new.failed (O.faults sink.new)) }
 {
-    for place in 0..224 {
+    for place in 0..IO_COUNT {
         page.put_byte(nodes.io(node, place), sink);
     }
 }
@@ -75,7 +76,7 @@ fn put_sram<N: Nodes, O: Sink>(nodes: &N, node: usize, page: &mut Page, sink: &m
     requires sized { IsSized (node_of (N.nodes nodes.now) node) }
     ensures { IsPut (encode_upper (node_of (N.nodes nodes.now) node).sram) (out (O.taken sink.old) page.old.text.bytes page.old.failed (O.faults sink.old)) (out (O.taken sink.new) page.new.text.bytes page.new.failed (O.faults sink.new)) }
 {
-    for place in 0..4096 {
+    for place in 0..SRAM_LEN {
         page.put_byte(nodes.sram(node, place), sink);
     }
 }

@@ -1,9 +1,9 @@
-use Rattle.std.proofs.Common.{◌≡◌, ℕ, ◌+◌, ◌<◌, ◌≤◌, min, refl, ap, ◌∙◌, sym, subst, arith}
+use Rattle.std.proofs.Common.{◌≡◌, ◌+◌, ◌≤◌, min, refl, ap, ◌∙◌, subst, arith}
 use Rattle.world_core.specs.Kept.{epoch}
 use Rattle.node_runner.specs.Scenario.{ScenarioOf}
 use Rattle.state_text.specs.Text.{StateOf}
 use Rattle.checkpoint_text.specs.Onward.{SavedAt}
-use Rattle.commands.proofs.Epochs.{from_begun, from_last, from_next, from_within, from_zero}
+use Rattle.commands.proofs.Epochs.{from_begun, from_next, from_within, from_zero}
 use Rattle.commands.proofs.checkpoints.go_on.Goals as goal
 
 pub loop-saved-init : goal.loop-saved-init

@@ -1,4 +1,4 @@
-use Rattle.std.proofs.Common.{◌≡◌, ◌≢◌, Ok, Err, rules}
+use Rattle.std.proofs.Common.{◌≡◌, ◌≢◌, Err, rules}
 use Rattle.checkpoint_text.specs.State.{state_in}
 use Rattle.state_text.specs.declared.fault.StateFault.TheVariants.{NoMemory}
 use Rattle.command_plans.specs.Parts.{end_at}

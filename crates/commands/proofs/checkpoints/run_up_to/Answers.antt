@@ -1,8 +1,8 @@
-use Rattle.std.proofs.Common.{◌≡◌, ℕ, ◌+◌, ◌<◌, ◌≤◌, min, ap, ◌∙◌, sym, subst, arith}
+use Rattle.std.proofs.Common.{◌≡◌, ◌+◌, min, ap, ◌∙◌, subst, arith}
 use Rattle.world_core.specs.Kept.{epoch}
 use Rattle.node_runner.specs.Scenario.{ScenarioOf}
 use Rattle.node_runner.specs.Run.{RunAt}
-use Rattle.commands.proofs.Epochs.{epoch_last, epoch_next, epoch_within, epoch_zero}
+use Rattle.commands.proofs.Epochs.{epoch_next, epoch_within, epoch_zero}
 use Rattle.commands.proofs.checkpoints.run_up_to.Goals as goal
 
 pub loop-run-init : goal.loop-run-init

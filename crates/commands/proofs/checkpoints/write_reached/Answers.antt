@@ -1,7 +1,5 @@
 use Rattle.std.proofs.Common.{◌≡◌, sym, ap, ◌∙◌, subst}
-use Rattle.std.specs.Prelude.{List}
 use Rattle.sim_io.specs.Outside.{TookFront, extended}
-use Rattle.air_base.specs.declared.air.Send.{Send}
 use Rattle.checkpoint_text.specs.Onward.{onward}
 use Rattle.checkpoint_text.specs.State.{saved_from, state_with}
 use Rattle.state_text.specs.Text.{StateOf, state_text}

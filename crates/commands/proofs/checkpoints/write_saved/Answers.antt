@@ -1,4 +1,4 @@
-use Rattle.std.proofs.Common.{◌≡◌, ℕ, ◌*◌, ◌<◌, false, List, length, refl, ap, ◌∙◌, sym, subst}
+use Rattle.std.proofs.Common.{◌≡◌, ℕ, ◌*◌, ◌<◌, false, List, refl, subst}
 use Rattle.std.specs.Prelude.{slice_index_or}
 use Rattle.air_base.specs.NodeRun.{Timed}
 use Rattle.world_core.specs.Kept.{epoch}

@@ -1,4 +1,4 @@
-use Rattle.std.proofs.Common.{◌≡◌, ℕ, ◌+◌, ◌*◌, ◌<◌, false, ap, ◌∙◌, subst}
+use Rattle.std.proofs.Common.{◌≡◌, ℕ, ◌+◌, ◌*◌, false, ap, ◌∙◌, subst}
 use Rattle.world_core.specs.Kept.{epoch}
 use Rattle.checkpoint_text.specs.Onward.{SavedAt}
 use Rattle.checkpoint_text.specs.State.{saved_from}

@@ -1,6 +1,6 @@
-use Rattle.std.proofs.Common.{◌≡◌, ◌≤◌, ◌+◌, ◌<◌, ◌++◌, ℕ, List, ap, sym, ◌∙◌, arith}
+use Rattle.std.proofs.Common.{◌≡◌, ◌+◌, ◌++◌, ℕ, List, ap, sym, ◌∙◌, arith}
 use Rattle.node_core.specs.declared.row.Row.{Row}
-use Rattle.node_runner.specs.Scenario.{ScenarioOf, fleet_of}
+use Rattle.node_runner.specs.Scenario.{fleet_of}
 use Rattle.node_runner.specs.Run.{RunAt}
 use Rattle.fleet_flight.specs.Rows.{rows_upto}
 use Rattle.run_reports.specs.Profiles.{window_of}

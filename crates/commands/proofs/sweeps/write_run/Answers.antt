@@ -1,6 +1,5 @@
-use Rattle.std.proofs.Common.{◌≡◌, ◌<◌, sym, ap, ◌∙◌, subst}
-use Rattle.serial_ports.specs.Script.{ScriptBytes}
-use Rattle.node_runner.specs.Scenario.{ScenarioOf, script_at, with_script}
+use Rattle.std.proofs.Common.{◌≡◌, sym, ◌∙◌, subst}
+use Rattle.node_runner.specs.Scenario.{ScenarioOf, with_script}
 use Rattle.checkpoint_text.specs.Onward.{CanResume, onward}
 use Rattle.trace_writer.specs.Line.{rows_text}
 use Rattle.world_core.specs.Order.{run_rows}

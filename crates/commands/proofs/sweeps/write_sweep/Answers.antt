@@ -1,4 +1,4 @@
-use Rattle.std.proofs.Common.{◌≡◌, ◌<◌, ℕ, List, length, get_or, refl, sym, ap, ◌∙◌, subst, arith}
+use Rattle.std.proofs.Common.{◌<◌, ℕ, List, get_or, refl, sym, ap, ◌∙◌, subst, arith}
 use Rattle.sim_io.proofs.Pages.{stands_first}
 use Rattle.node_runner.specs.Scenario.{ScenarioOf}
 use Rattle.moves_text.specs.Moves.{MoveOf}

@@ -1,4 +1,4 @@
-use Rattle.std.proofs.Common.{List, refl, ap, ◌∙◌, subst}
+use Rattle.std.proofs.Common.{List, ap, ◌∙◌, subst}
 use Rattle.node_core.specs.declared.row.Row.{Row}
 use Rattle.trace_writer.specs.Line.{rows_text}
 use Rattle.world_core.specs.Topology.{Topology}

@@ -1,4 +1,4 @@
-use Rattle.std.proofs.Common.{◌<◌, sym, ap, ◌∙◌, arith}
+use Rattle.std.proofs.Common.{sym, ap, ◌∙◌, arith}
 use Rattle.node_runner.specs.Scenario.{fleet_of}
 use Rattle.node_runner.specs.Run.{RunAt}
 use Rattle.fleet_flight.specs.Rows.{rows_upto}

@@ -31,7 +31,7 @@ returns-in-Ask-clause-on g c =
     let old : Member = c.args.self.now in
     let new : Member = record { runner = c.event.new.self; air = old.air; turn = c.saturating_add-self.result; gap = old.gap; halted = old.halted } in
     let few : c.min-quantum.result ≡ min (c.args.end - old.runner.cycle) 1024 = turn_of c.args.end old.runner.cycle c.cycle.result c.min-quantum.result c.cycle.ensures.value c.min-quantum.ensures in
-    asks _ _ _ _ _ old c.requires.member c.requires.live _ c.requires.calm few new _ c.in-Ask.ensures.event c.in-Ask.ensures.count refl refl
+    asks _ _ _ _ _ old c.requires.member c.requires.live _ c.requires.calm few new c.in-Ask.ensures.event c.in-Ask.ensures.count refl refl
 
 pub returns-in-Turn-clause-on : goal.returns-in-Turn-clause-on
 returns-in-Turn-clause-on g c =

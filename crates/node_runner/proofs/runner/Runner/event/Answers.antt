@@ -1,5 +1,9 @@
-use Rattle.std.proofs.Common.{ℕ, ◌+◌, min, true, refl, sym, subst, ◌∙◌, ap, arith}
+use Rattle.std.proofs.Common.{◌≡◌, ◌<◌, ℕ, ◌+◌, min, true, refl, sym, subst, ◌∙◌, ap, arith}
+use Rattle.air_base.specs.NodeRun.{Asks, Timed}
+use Rattle.node_core.specs.Cycle.{node_kind}
 use Rattle.node_core.specs.Reached.{IsReached}
+use Rattle.node_core.specs.State.{NodeState}
+use Rattle.node_core.specs.declared.row.Row.{Row}
 use Rattle.node_core.specs.declared.node.Reached.{Reached}
 use Rattle.node_runner.specs.declared.runner.Event.{Event}
 use Rattle.node_runner.specs.declared.runner.Event.TheVariants as event
@@ -31,9 +35,10 @@ pub invariant_of-self-in-Ask : goal.invariant_of-self-in-Ask
 invariant_of-self-in-Ask c =
     let i = c.self.inside in
     let r = subst (λ (r : Reached). IsReached i.node c.min-to.result r c.run_until.new.self) c.in-Ask.is c.run_until.ensures in
+    let here : c.in-Ask.cycle ≡ c.run_until.new.self.cycle = ap (λ (x : Timed NodeState Row). x.cycle) (sym r.1.after) in
     asks_keeps i.scenario.value i.number i.since i.node c.run_until.new.self i.unnoted i.count i.limit c.args.quantum c.min-to.result c.self.invariant
     (ap (λ (p : Place). p.asking) c.self.view_is ∙ c.requires.calm) (ap (λ (p : Place). p.unnoted) c.self.view_is ∙ c.requires.noted) (c.min-to.ensures ∙ ap (λ (n : ℕ). min (n + c.args.quantum) i.limit) c.cycle.ensures)
-    c.in-Ask.cycle r.0 r.1
+    (subst (λ (t : ℕ). t < c.min-to.result) here r.0) (subst (λ (t : ℕ). Asks node_kind i.node t c.run_until.new.self) here r.1)
 
 pub invariant_of-self-in-Stopped : goal.invariant_of-self-in-Stopped
 invariant_of-self-in-Stopped c =
@@ -64,10 +69,11 @@ pub returns-in-Ask-clause-event : goal.returns-in-Ask-clause-event
 returns-in-Ask-clause-event c =
     let i = c.self.inside in
     let r = subst (λ (r : Reached). IsReached i.node c.min-to.result r c.run_until.new.self) c.in-Ask.is c.run_until.ensures in
-    subst (λ (old : Place). IsEvent old c.args.quantum (event.Ask c.in-Ask.cycle) (place i.scenario.value i.number i.since c.run_until.new.self i.unnoted)) c.self.view_is
+    let here : c.in-Ask.cycle ≡ c.run_until.new.self.cycle = ap (λ (x : Timed NodeState Row). x.cycle) (sym r.1.after) in
+    subst (λ (old : Place). IsEvent old c.args.quantum event.Ask (place i.scenario.value i.number i.since c.run_until.new.self i.unnoted)) c.self.view_is
     (event_ask i.scenario.value i.number i.since i.node c.run_until.new.self i.unnoted i.count i.limit c.args.quantum c.min-to.result c.self.invariant
     (ap (λ (p : Place). p.asking) c.self.view_is ∙ c.requires.calm) (ap (λ (p : Place). p.unnoted) c.self.view_is ∙ c.requires.noted) (c.min-to.ensures ∙ ap (λ (n : ℕ). min (n + c.args.quantum) i.limit) c.cycle.ensures)
-    c.in-Ask.cycle r.0 r.1)
+    (subst (λ (t : ℕ). t < c.min-to.result) here r.0) (subst (λ (t : ℕ). Asks node_kind i.node t c.run_until.new.self) here r.1))
 
 pub returns-in-Stopped-clause-event : goal.returns-in-Stopped-clause-event
 returns-in-Stopped-clause-event c =

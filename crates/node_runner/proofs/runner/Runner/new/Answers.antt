@@ -1,4 +1,4 @@
-use Rattle.std.proofs.Common.{◌≡◌, ℕ, false, [], sym, subst, ◌∙◌, ap}
+use Rattle.std.proofs.Common.{ℕ, false, sym, subst, ◌∙◌, ap}
 use Rattle.node_core.specs.declared.row.Row.{Row}
 use Rattle.world_core.specs.Topology.{Topology}
 use Rattle.air_base.specs.NodeRun.{Timed}
