@@ -13,6 +13,7 @@ use Rattle.scenario_file.specs.declared.keys.Keys.{Keys}
 use Rattle.scenario_file.specs.declared.keys.Keys.TheVariants.{Top, OfNode, OfLink, OfInput}
 use Rattle.scenario_file.specs.declared.keys.Version.{Version}
 use Rattle.scenario_file.specs.declared.keys.Version.TheVariants.{First, Second, Third}
+use Rattle.scenario_file.specs.declared.ranges.TheConstants.{MOST_CYCLE}
 
 -- ---- the version: the whole numbers 2 and 3 name theirs, and all else has the rules of version 1
 abbrev pub version_numbered : ℕ → Version
@@ -32,7 +33,7 @@ version_of ms = version_in (get_member (codes "version") ms)
 abbrev pub most_cycles : Version → ℕ
 most_cycles First = 10000000
 most_cycles Second = 10000000
-most_cycles Third = 1099511627776
+most_cycles Third = MOST_CYCLE
 
 -- ---- the keys that a table may have
 abbrev pub is_one_of : List (List ℕ) → List ℕ → Bool
@@ -115,7 +116,7 @@ has_window ms = at_key (is_window (number_at (codes "cycles") 0 ms)) (codes "win
 
 -- a span that does not begin below cycle `last`, is not empty and ends by cycle 2^40
 abbrev pub is_span_behind : ℕ → Option (ℕ × ℕ) → Bool
-is_span_behind last (Some p) = nat_le last p.0 && nat_lt p.0 p.1 && nat_le p.1 1099511627776
+is_span_behind last (Some p) = nat_le last p.0 && nat_lt p.0 p.1 && nat_le p.1 MOST_CYCLE
 is_span_behind last None = false
 
 abbrev pub end_of : Option (ℕ × ℕ) → ℕ
@@ -157,7 +158,7 @@ abbrev pub has_ranges : Version → ℕ → Keys → Members → Bool
 has_ranges version count Top ms = has_top_ranges version ms
 has_ranges version count OfNode ms = at_key is_name (codes "image") ms
 has_ranges version count OfLink ms = at_key (is_node count) (codes "from") ms && at_key (is_node count) (codes "to") ms && at_key (fits 1 65535) (codes "latency") ms && at_key (on_array are_spans) (codes "open") ms
-has_ranges version count OfInput ms = at_key (is_node count) (codes "node") ms && at_key (fits 0 1099511627776) (codes "at") ms && at_key (fits 1 65535) (codes "every") ms && at_key is_hex (codes "hex") ms
+has_ranges version count OfInput ms = at_key (is_node count) (codes "node") ms && at_key (fits 0 MOST_CYCLE) (codes "at") ms && at_key (fits 1 65535) (codes "every") ms && at_key is_hex (codes "hex") ms
 
 -- ---- what is bounded over all tables of a kind together: the spans of links, and the bytes of scripts
 abbrev pub amount : Keys → Members → ℕ

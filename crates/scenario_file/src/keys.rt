@@ -4,6 +4,7 @@ ghost use Rattle.toml.specs.View.{table_view};
 ghost use Rattle.scenario_file.specs.Rules.{version_of, most_cycles, is_known};
 
 use crate::document::number_at;
+use crate::ranges::MOST_CYCLE;
 use toml::Table;
 
 /// The kind of a table.
@@ -41,7 +42,7 @@ pub fn most_cycles(version: Version) -> u64
 {
     match version {
         Version::First | Version::Second => 10_000_000,
-        Version::Third => 1_099_511_627_776,
+        Version::Third => MOST_CYCLE,
     }
 }
 
