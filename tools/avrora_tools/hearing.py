@@ -1,7 +1,11 @@
 """Whether a trace is that of a scenario: what its samples of the air heard is what its sends give."""
+from collections.abc import Sequence
+
 from avrora_tools.errors import BadInput
-from avrora_tools.events import Event, Heard, Sent
+from avrora_tools.events import NOTHING, Event, Heard, Sent
 from avrora_tools.scenarios import Air, OnAir, Scenario, answer
+
+NOTHING_ON_AIR: tuple[OnAir, ...] = ()
 
 
 class Hearing:
@@ -14,14 +18,16 @@ class Hearing:
         self.life = self.air.reach + self.air.byte_time
         self.known_from: int | None = None
 
-    def row(self, cycle: int, node: int, event: Event) -> list[OnAir]:
+    def row(self, cycle: int, node: int, event: Event) -> Sequence[OnAir]:
         """What is on the air at a sample; nothing for other rows. Raises BadInput where the sample is another one."""
         if self.known_from is None:
             self.known_from = cycle + self.life
-        if isinstance(event, Sent):
-            self.air.send(node, cycle, event.byte)
         if not isinstance(event, Heard):
-            return []
+            if isinstance(event, Sent):
+                self.air.send(node, cycle, event.byte)
+            return NOTHING_ON_AIR
+        if event.status == NOTHING and cycle >= self.air.silent_from[node]:
+            return NOTHING_ON_AIR
         on_air = self.air.heard(node, cycle)
         if cycle >= self.known_from and answer(on_air, cycle) != (event.status, event.byte, event.age):
             status, byte, age = answer(on_air, cycle)

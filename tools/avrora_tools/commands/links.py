@@ -99,9 +99,10 @@ class Samples:
 
     def read(self, trace: traces.Trace) -> None:
         quiet = [0] * len(self.scenario.images)  # samples that hear nothing while nothing can be heard
+        silent_from = self.air.silent_from
         for cycle, node, event in trace:
             if isinstance(event, Heard):
-                if event.status == NOTHING and cycle >= self.air.silent_from:
+                if event.status == NOTHING and cycle >= silent_from[node]:
                     quiet[node] += 1
                 else:
                     self.sample(trace, cycle, node, event)
