@@ -3,7 +3,7 @@ what is the same but at another time, what is gone and what is new.
 
 Both traces are read once, side by side. What is kept of them is what one is ahead of the other.
 """
-from collections import deque
+from collections import defaultdict, deque
 from collections.abc import Iterable, Iterator
 from dataclasses import dataclass, field
 
@@ -120,7 +120,7 @@ class NodeDifference:
     behind: tuple[list[Row], list[Row]] = field(default_factory=lists)  # from the first difference on
     has_parted: bool = False
     waiting: Queues = field(default_factory=queues)
-    rest: dict[str, Alignment] = field(default_factory=dict)  # by kind
+    rest: dict[str, Alignment] = field(default_factory=lambda: defaultdict(Alignment))  # by kind
 
     def feed(self, side: int, row: Row, with_cycles: bool) -> None:
         if self.has_parted:
@@ -147,7 +147,7 @@ class NodeDifference:
     def feed_rest(self, side: int, row: Row) -> None:
         if len(self.behind[side]) < CONTEXT:
             self.behind[side].append(row)
-        self.rest.setdefault(row.kind, Alignment()).feed(side, row)
+        self.rest[row.kind].feed(side, row)
 
     def finish(self) -> None:
         if any(self.waiting):  # one trace has rows of the node that the other has not
@@ -165,9 +165,9 @@ def is_same(one: Row, two: Row, with_cycles: bool) -> bool:
 def differences(first: Iterable[Row], second: Iterable[Row], with_cycles: bool = True) -> dict[int, NodeDifference]:
     """What differs between two traces, by node; a node whose rows are the same is there too. Without cycles rows that only
     come in other cycles are the same, as long as their order within the node is."""
-    nodes: dict[int, NodeDifference] = {}
+    nodes: dict[int, NodeDifference] = defaultdict(NodeDifference)
     for side, row in side_by_side(first, second):
-        nodes.setdefault(row.node, NodeDifference()).feed(side, row, with_cycles)
+        nodes[row.node].feed(side, row, with_cycles)
     for node in nodes.values():
         node.finish()
     return dict(sorted(nodes.items()))
@@ -175,19 +175,12 @@ def differences(first: Iterable[Row], second: Iterable[Row], with_cycles: bool =
 
 def side_by_side(first: Iterable[Row], second: Iterable[Row]) -> Iterator[tuple[int, Row]]:
     """The rows of both, each time one of that which is behind in its cycles."""
-    readers = iter(first), iter(second)
-    heads = [next(reader, None) for reader in readers]
-    while True:
-        left = [side for side in (FIRST, SECOND) if heads[side] is not None]
-        if not left:
-            return
-        side = min(left, key=lambda it: cycle_of(heads[it]))
-        row = heads[side]
-        assert row is not None
-        yield side, row
-        heads[side] = next(readers[side], None)
-
-
-def cycle_of(row: Row | None) -> int:
-    assert row is not None
-    return int(row.cycle)
+    ones, twos = iter(first), iter(second)
+    one, two = next(ones, None), next(twos, None)
+    while one or two:
+        if one and (two is None or one.cycle <= two.cycle):
+            yield FIRST, one
+            one = next(ones, None)
+        elif two:
+            yield SECOND, two
+            two = next(twos, None)

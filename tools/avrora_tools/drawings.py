@@ -98,12 +98,14 @@ class Drawing:
         self.byte_time = trace.scenario.byte_time if trace.scenario else gap
 
     def read(self, cycle: int, node: int, event: Event) -> None:
-        on_air = self.hearing.row(cycle, node, event) if self.hearing else []
+        on_air = self.hearing.row(cycle, node, event) if self.hearing else ()
         if isinstance(event, Sent):
             self.note_send(cycle, node)
         if self.nodes is not None and node not in self.nodes:
             return
-        lane = self.lanes.setdefault(node, Lane())
+        lane = self.lanes.get(node)
+        if lane is None:
+            lane = self.lanes[node] = Lane()
         if isinstance(event, End):
             self.last = max(self.last, cycle - 1)
             lane.state = event.state

@@ -29,9 +29,9 @@ class Care(enum.IntEnum):
 
 
 class Event:
-    """What a row says. `text` is the row's, from its kind on."""
+    """What a row says. `text` is the row's, from its kind on, and `rest` what stands behind the kind."""
 
-    __slots__ = ("text",)
+    __slots__ = ("text", "rest")
 
     kind: ClassVar[str]
     # Where it stands among the events of a node's cycle, which are of one processor, USART0, and the radio.
@@ -43,12 +43,7 @@ class Event:
 
     def __init__(self, text: str, match: re.Match[str]) -> None:
         """`match` is that of `FORM`. Raises ValueError where the row says what no row says."""
-        self.text = text
-
-    @property
-    def rest(self) -> str:
-        """What stands behind the kind."""
-        return self.text.partition(" ")[2]
+        self.text, self.rest = text, text.partition(" ")[2]
 
     def __repr__(self) -> str:
         return f"<{self.text}>"

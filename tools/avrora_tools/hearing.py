@@ -1,5 +1,6 @@
 """Whether a trace is that of a scenario: what its samples of the air heard is what its sends give."""
 import collections
+from collections.abc import Sequence
 
 from avrora_tools import traces
 from avrora_tools.errors import BadInput
@@ -8,6 +9,8 @@ from avrora_tools.scenarios import Air, OnAir, Scenario, answer
 from avrora_tools.states import State
 
 MAX_TOLD = 10  # samples at fault that are told, of any number
+
+NOTHING_ON_AIR: tuple[OnAir, ...] = ()
 
 
 class Hearing:
@@ -20,14 +23,16 @@ class Hearing:
         self.life = self.air.reach + self.air.byte_time
         self.known_from: int | None = None
 
-    def row(self, cycle: int, node: int, event: Event) -> list[OnAir]:
+    def row(self, cycle: int, node: int, event: Event) -> Sequence[OnAir]:
         """What is on the air at a sample; nothing for other rows. Raises BadInput where the sample is another one."""
         if self.known_from is None:
             self.known_from = cycle + self.life
-        if isinstance(event, Sent):
-            self.air.send(node, cycle, event.byte)
         if not isinstance(event, Heard):
-            return []
+            if isinstance(event, Sent):
+                self.air.send(node, cycle, event.byte)
+            return NOTHING_ON_AIR
+        if event.status == NOTHING and cycle >= self.air.silent_from[node]:
+            return NOTHING_ON_AIR
         on_air = self.air.heard(node, cycle)
         if cycle >= self.known_from and answer(on_air, cycle) != (event.status, event.byte, event.age):
             status, byte, age = answer(on_air, cycle)
@@ -57,9 +62,10 @@ class Samples:
 
     def read(self, trace: traces.Trace) -> None:
         quiet = [0] * len(self.scenario.images)  # samples that hear nothing while nothing can be heard
+        silent_from = self.air.silent_from
         for cycle, node, event in trace:
             if isinstance(event, Heard):
-                if event.status == NOTHING and cycle >= self.air.silent_from:
+                if event.status == NOTHING and cycle >= silent_from[node]:
                     quiet[node] += 1
                 else:
                     self.sample(trace, cycle, node, event)

@@ -358,15 +358,18 @@ class Air:
     def __init__(self, scenario: Scenario) -> None:
         self.byte_time = scenario.byte_time
         self.into: dict[int, list[Link]] = collections.defaultdict(list)
+        self.out_of: dict[int, list[Link]] = collections.defaultdict(list)
         for link in scenario.links:
             self.into[link.hearer].append(link)
+            self.out_of[link.sender].append(link)
         self.reach = max([scenario.latency, *(link.latency for link in scenario.links)])
         self.sends: dict[int, collections.deque[tuple[int, int]]] = collections.defaultdict(collections.deque)
-        self.silent_from = 0  # from this cycle on nobody hears any of them
+        self.silent_from = [0] * len(scenario.images)  # by node: from this cycle on it hears none of them
 
     def send(self, node: int, cycle: int, byte: int) -> None:
         """Records a send, and forgets those of the node that nobody hears any more."""
-        self.silent_from = max(self.silent_from, cycle + self.reach + self.byte_time)
+        for link in self.out_of[node]:
+            self.silent_from[link.hearer] = max(self.silent_from[link.hearer], cycle + link.latency + self.byte_time)
         sends = self.sends[node]
         while sends and sends[0][0] + self.reach + self.byte_time <= cycle:
             sends.popleft()
@@ -375,7 +378,7 @@ class Air:
     def heard(self, hearer: int, cycle: int) -> list[OnAir]:
         """The bytes that a sample of the node `hearer` in `cycle` hears, by sender. Sends of its cycle and of later
         ones change nothing, so they may be recorded or not."""
-        if cycle >= self.silent_from:
+        if cycle >= self.silent_from[hearer]:
             return []
         found = []
         for link in self.into[hearer]:

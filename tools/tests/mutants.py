@@ -105,7 +105,7 @@ MUTANTS = [
     Mutant("an age is not that of the link", "scenarios", "- on_air[0].latency) // 16", ") // 16"),
     Mutant("a clash has the byte of one", "scenarios", "byte |= one.byte", "byte = one.byte"),
     Mutant("a send is forgotten too early", "scenarios", "+ self.reach + self.byte_time <= cycle", "+ self.byte_time <= cycle"),
-    Mutant("the air is silent too early", "scenarios", "cycle + self.reach + self.byte_time)", "cycle + self.byte_time)"),
+    Mutant("the air is silent too early", "scenarios", "cycle + link.latency + self.byte_time)", "cycle + self.byte_time)"),
     Mutant("a node sends while it sends", "hearing", "if cycle < self.free[node]:", "if cycle < self.free[node] - 1:"),
     Mutant("a node may not send behind its byte", "hearing", "if cycle < self.free[node]:", "if cycle <= self.free[node]:"),
 ]
