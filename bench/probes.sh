@@ -18,45 +18,45 @@ program=$(realpath "$program")
 # the run, before which no instruction has a row. Lines of the source are parted by `|`; the stack ends at 0x10FF.
 probes() {
     cat <<'TABLE'
-straight                     26 none: again: | ldi r20, 1 | dec r20 | ldi r20, 1 | dec r20 | ldi r20, 1 | dec r20 | ldi r20, 1 | dec r20 | ldi r20, 1 | dec r20 | ldi r20, 1 | dec r20 | rjmp again
+straight                     25 none: again: | ldi r20, 1 | dec r20 | ldi r20, 1 | dec r20 | ldi r20, 1 | dec r20 | ldi r20, 1 | dec r20 | ldi r20, 1 | dec r20 | ldi r20, 1 | dec r20 | rjmp again
 straight_flag_each_cycle     25 none: ldi r16, 0 | out 0x31, r16 | ldi r16, 9 | out 0x33, r16 | again: | ldi r20, 1 | dec r20 | ldi r20, 1 | dec r20 | ldi r20, 1 | dec r20 | ldi r20, 1 | dec r20 | ldi r20, 1 | dec r20 | rjmp again
-straight_late                26 late: again: | ldi r20, 1 | dec r20 | ldi r20, 1 | dec r20 | ldi r20, 1 | dec r20 | ldi r20, 1 | dec r20 | ldi r20, 1 | dec r20 | ldi r20, 1 | dec r20 | rjmp again
-dec2                         41 none: again: | ldi r20, 2 | loop: | dec r20 | brne loop | rjmp again
-dec3                         36 none: again: | ldi r20, 3 | loop: | dec r20 | brne loop | rjmp again
-dec4                         45 none: again: | ldi r20, 4 | loop: | dec r20 | brne loop | rjmp again
-dec5                         36 none: again: | ldi r20, 5 | loop: | dec r20 | brne loop | rjmp again
-dec8                         48 none: again: | ldi r20, 8 | loop: | dec r20 | brne loop | rjmp again
-dec255                     5.11 none: again: | ldi r20, 255 | loop: | dec r20 | brne loop | rjmp again
-delay                      0.03 none: again: | ldi r24, 255 | ldi r25, 255 | loop: | sbiw r24, 1 | brne loop | rjmp again
-delay_late                 0.03 late: again: | ldi r24, 255 | ldi r25, 255 | loop: | sbiw r24, 1 | brne loop | rjmp again
-delay_line_up                19 none: ldi r16, 1 | out 0x33, r16 | out 0x37, r16 | again: | ldi r24, 255 | ldi r25, 255 | loop: | sbiw r24, 1 | brne loop | rjmp again
-delay_subi_sbci            0.21 none: again: | ldi r24, 255 | ldi r25, 255 | loop: | subi r24, 1 | sbci r25, 0 | brne loop | rjmp again
-delay_sbiw_cp_cpc            44 none: ldi r22, 0 | again: | ldi r24, 255 | ldi r25, 255 | loop: | sbiw r24, 1 | cp r24, r22 | cpc r25, r22 | brne loop | rjmp again
-delay_adiw                   42 none: again: | ldi r24, 0 | ldi r25, 0 | loop: | adiw r24, 1 | brne loop | rjmp again
-delay_volatile               38 none: again: | ldi r24, 255 | sts 0x100, r24 | loop: | lds r24, 0x100 | subi r24, 1 | sts 0x100, r24 | tst r24 | brne loop | rjmp again
+straight_late                25 late: again: | ldi r20, 1 | dec r20 | ldi r20, 1 | dec r20 | ldi r20, 1 | dec r20 | ldi r20, 1 | dec r20 | ldi r20, 1 | dec r20 | ldi r20, 1 | dec r20 | rjmp again
+dec2                         39 none: again: | ldi r20, 2 | loop: | dec r20 | brne loop | rjmp again
+dec3                         34 none: again: | ldi r20, 3 | loop: | dec r20 | brne loop | rjmp again
+dec4                         44 none: again: | ldi r20, 4 | loop: | dec r20 | brne loop | rjmp again
+dec5                         34 none: again: | ldi r20, 5 | loop: | dec r20 | brne loop | rjmp again
+dec8                         46 none: again: | ldi r20, 8 | loop: | dec r20 | brne loop | rjmp again
+dec255                     4.96 none: again: | ldi r20, 255 | loop: | dec r20 | brne loop | rjmp again
+delay                      0.02 none: again: | ldi r24, 255 | ldi r25, 255 | loop: | sbiw r24, 1 | brne loop | rjmp again
+delay_late                 0.02 late: again: | ldi r24, 255 | ldi r25, 255 | loop: | sbiw r24, 1 | brne loop | rjmp again
+delay_line_up              0.02 none: ldi r16, 1 | out 0x33, r16 | out 0x37, r16 | again: | ldi r24, 255 | ldi r25, 255 | loop: | sbiw r24, 1 | brne loop | rjmp again
+delay_subi_sbci            0.19 none: again: | ldi r24, 255 | ldi r25, 255 | loop: | subi r24, 1 | sbci r25, 0 | brne loop | rjmp again
+delay_sbiw_cp_cpc            43 none: ldi r22, 0 | again: | ldi r24, 255 | ldi r25, 255 | loop: | sbiw r24, 1 | cp r24, r22 | cpc r25, r22 | brne loop | rjmp again
+delay_adiw                   41 none: again: | ldi r24, 0 | ldi r25, 0 | loop: | adiw r24, 1 | brne loop | rjmp again
+delay_volatile               37 none: again: | ldi r24, 255 | sts 0x100, r24 | loop: | lds r24, 0x100 | subi r24, 1 | sts 0x100, r24 | tst r24 | brne loop | rjmp again
 spin                       0.02 none: again: | rjmp again
 spin_late                  0.02 late: again: | rjmp again
-spin_line_up                 14 none: ldi r16, 1 | out 0x33, r16 | out 0x37, r16 | again: | rjmp again
-spin_flag_each_cycle        793 none: ldi r16, 0 | out 0x31, r16 | ldi r16, 9 | out 0x33, r16 | again: | rjmp again
-poll_udre                  0.17 none: ldi r17, 8 | out 0x0A, r17 | ldi r17, 255 | out 0x09, r17 | again: | sts 0x2C, r16 | wait: | lds r16, 0x2B | sbrs r16, 5 | rjmp wait | rjmp again
-poll_udre_late             0.17 late: ldi r17, 8 | out 0x0A, r17 | ldi r17, 255 | out 0x09, r17 | again: | sts 0x2C, r16 | wait: | lds r16, 0x2B | sbrs r16, 5 | rjmp wait | rjmp again
-poll_udre_line_up            18 none: ldi r16, 1 | out 0x33, r16 | out 0x37, r16 | ldi r17, 8 | out 0x0A, r17 | ldi r17, 255 | out 0x09, r17 | again: | sts 0x2C, r16 | wait: | lds r16, 0x2B | sbrs r16, 5 | rjmp wait | rjmp again
-poll_udre_timer              13 none: ldi r16, 1 | out 0x33, r16 | ldi r17, 8 | out 0x0A, r17 | ldi r17, 255 | out 0x09, r17 | again: | sts 0x2C, r16 | wait: | lds r16, 0x2B | sbrs r16, 5 | rjmp wait | rjmp again
-poll_udre_flag_each_cycle  0.20 none: ldi r16, 0 | out 0x31, r16 | ldi r16, 9 | out 0x33, r16 | ldi r17, 8 | out 0x0A, r17 | ldi r17, 255 | out 0x09, r17 | again: | sts 0x2C, r16 | wait: | lds r16, 0x2B | sbrs r16, 5 | rjmp wait | rjmp again
-poll_udre_by_pointer         58 none: ldi r30, 0x2B | ldi r31, 0 | ldi r17, 8 | out 0x0A, r17 | ldi r17, 255 | out 0x09, r17 | again: | sts 0x2C, r16 | wait: | ld r16, Z | sbrs r16, 5 | rjmp wait | rjmp again
-poll_udre_by_call            53 none: ldi r16, 0x10 | out 0x3E, r16 | ldi r16, 0xFF | out 0x3D, r16 | ldi r17, 8 | out 0x0A, r17 | ldi r17, 255 | out 0x09, r17 | again: | sts 0x2C, r16 | wait: | rcall state | tst r24 | breq wait | rjmp again | state: | lds r24, 0x2B | andi r24, 0x20 | ret
-poll_udre_long               30 none: ldi r17, 8 | out 0x0A, r17 | ldi r17, 255 | out 0x09, r17 | again: | sts 0x2C, r16 | wait: | nop | nop | nop | nop | nop | nop | lds r16, 0x2B | sbrs r16, 5 | rjmp wait | rjmp again
-poll_spif                  2.36 none: ldi r16, 0x53 | out 0x0D, r16 | again: | out 0x0F, r16 | wait: | sbis 0x0E, 7 | rjmp wait | rjmp again
-poll_tifr                    60 none: ldi r16, 5 | out 0x33, r16 | ldi r17, 1 | again: | out 0x36, r17 | wait: | in r16, 0x36 | sbrs r16, 0 | rjmp wait | rjmp again
-call                         44 none: ldi r16, 0x10 | out 0x3E, r16 | ldi r16, 0xFF | out 0x3D, r16 | again: | call sub | rjmp again | sub: | ret
+spin_line_up               0.02 none: ldi r16, 1 | out 0x33, r16 | out 0x37, r16 | again: | rjmp again
+spin_flag_each_cycle       0.02 none: ldi r16, 0 | out 0x31, r16 | ldi r16, 9 | out 0x33, r16 | again: | rjmp again
+poll_udre                  0.14 none: ldi r17, 8 | out 0x0A, r17 | ldi r17, 255 | out 0x09, r17 | again: | sts 0x2C, r16 | wait: | lds r16, 0x2B | sbrs r16, 5 | rjmp wait | rjmp again
+poll_udre_late             0.13 late: ldi r17, 8 | out 0x0A, r17 | ldi r17, 255 | out 0x09, r17 | again: | sts 0x2C, r16 | wait: | lds r16, 0x2B | sbrs r16, 5 | rjmp wait | rjmp again
+poll_udre_line_up          0.30 none: ldi r16, 1 | out 0x33, r16 | out 0x37, r16 | ldi r17, 8 | out 0x0A, r17 | ldi r17, 255 | out 0x09, r17 | again: | sts 0x2C, r16 | wait: | lds r16, 0x2B | sbrs r16, 5 | rjmp wait | rjmp again
+poll_udre_timer            0.21 none: ldi r16, 1 | out 0x33, r16 | ldi r17, 8 | out 0x0A, r17 | ldi r17, 255 | out 0x09, r17 | again: | sts 0x2C, r16 | wait: | lds r16, 0x2B | sbrs r16, 5 | rjmp wait | rjmp again
+poll_udre_flag_each_cycle  0.14 none: ldi r16, 0 | out 0x31, r16 | ldi r16, 9 | out 0x33, r16 | ldi r17, 8 | out 0x0A, r17 | ldi r17, 255 | out 0x09, r17 | again: | sts 0x2C, r16 | wait: | lds r16, 0x2B | sbrs r16, 5 | rjmp wait | rjmp again
+poll_udre_by_pointer         57 none: ldi r30, 0x2B | ldi r31, 0 | ldi r17, 8 | out 0x0A, r17 | ldi r17, 255 | out 0x09, r17 | again: | sts 0x2C, r16 | wait: | ld r16, Z | sbrs r16, 5 | rjmp wait | rjmp again
+poll_udre_by_call            52 none: ldi r16, 0x10 | out 0x3E, r16 | ldi r16, 0xFF | out 0x3D, r16 | ldi r17, 8 | out 0x0A, r17 | ldi r17, 255 | out 0x09, r17 | again: | sts 0x2C, r16 | wait: | rcall state | tst r24 | breq wait | rjmp again | state: | lds r24, 0x2B | andi r24, 0x20 | ret
+poll_udre_long               29 none: ldi r17, 8 | out 0x0A, r17 | ldi r17, 255 | out 0x09, r17 | again: | sts 0x2C, r16 | wait: | nop | nop | nop | nop | nop | nop | lds r16, 0x2B | sbrs r16, 5 | rjmp wait | rjmp again
+poll_spif                  2.33 none: ldi r16, 0x53 | out 0x0D, r16 | again: | out 0x0F, r16 | wait: | sbis 0x0E, 7 | rjmp wait | rjmp again
+poll_tifr                    59 none: ldi r16, 5 | out 0x33, r16 | ldi r17, 1 | again: | out 0x36, r17 | wait: | in r16, 0x36 | sbrs r16, 0 | rjmp wait | rjmp again
+call                         42 none: ldi r16, 0x10 | out 0x3E, r16 | ldi r16, 0xFF | out 0x3D, r16 | again: | call sub | rjmp again | sub: | ret
 rcall                        46 none: ldi r16, 0x10 | out 0x3E, r16 | ldi r16, 0xFF | out 0x3D, r16 | again: | rcall sub | rjmp again | sub: | ret
-icall                        46 none: ldi r16, 0x10 | out 0x3E, r16 | ldi r16, 0xFF | out 0x3D, r16 | ldi r30, 8 | ldi r31, 0 | again: | icall | rjmp again | sub: | ret
-load_post_increment          30 none: again: | ldi r26, 0 | ldi r27, 2 | ldi r28, 0 | ldi r29, 3 | ld r20, X+ | ld r20, X+ | ld r20, X+ | ld r20, X+ | ld r20, X+ | ld r20, X+ | ld r20, X+ | ld r20, X+ | ld r20, X+ | ld r20, X+ | ld r20, X+ | ld r20, X+ | rjmp again
+icall                        45 none: ldi r16, 0x10 | out 0x3E, r16 | ldi r16, 0xFF | out 0x3D, r16 | ldi r30, 8 | ldi r31, 0 | again: | icall | rjmp again | sub: | ret
+load_post_increment          27 none: again: | ldi r26, 0 | ldi r27, 2 | ldi r28, 0 | ldi r29, 3 | ld r20, X+ | ld r20, X+ | ld r20, X+ | ld r20, X+ | ld r20, X+ | ld r20, X+ | ld r20, X+ | ld r20, X+ | ld r20, X+ | ld r20, X+ | ld r20, X+ | ld r20, X+ | rjmp again
 load_pre_decrement           28 none: again: | ldi r26, 0 | ldi r27, 2 | ldi r28, 0 | ldi r29, 3 | ld r20, -Y | ld r20, -Y | ld r20, -Y | ld r20, -Y | ld r20, -Y | ld r20, -Y | ld r20, -Y | ld r20, -Y | ld r20, -Y | ld r20, -Y | ld r20, -Y | ld r20, -Y | rjmp again
-store_pre_decrement          28 none: again: | ldi r26, 0 | ldi r27, 2 | ldi r28, 0 | ldi r29, 3 | st -Y, r20 | st -Y, r20 | st -Y, r20 | st -Y, r20 | st -Y, r20 | st -Y, r20 | st -Y, r20 | st -Y, r20 | st -Y, r20 | st -Y, r20 | st -Y, r20 | st -Y, r20 | rjmp again
-load_displaced               29 none: again: | ldi r26, 0 | ldi r27, 2 | ldi r28, 0 | ldi r29, 3 | ldd r20, Y+5 | ldd r20, Y+5 | ldd r20, Y+5 | ldd r20, Y+5 | ldd r20, Y+5 | ldd r20, Y+5 | ldd r20, Y+5 | ldd r20, Y+5 | ldd r20, Y+5 | ldd r20, Y+5 | ldd r20, Y+5 | ldd r20, Y+5 | rjmp again
-load_flash                   27 none: again: | ldi r30, 0 | ldi r31, 0 | lpm r20, Z+ | lpm r20, Z+ | lpm r20, Z+ | lpm r20, Z+ | lpm r20, Z+ | lpm r20, Z+ | lpm r20, Z+ | lpm r20, Z+ | lpm r20, Z+ | lpm r20, Z+ | lpm r20, Z+ | lpm r20, Z+ | rjmp again
-push_pop                     32 none: ldi r16, 0x10 | out 0x3E, r16 | ldi r16, 0xFF | out 0x3D, r16 | again: | push r20 | pop r20 | push r20 | pop r20 | push r20 | pop r20 | push r20 | pop r20 | push r20 | pop r20 | push r20 | pop r20 | rjmp again
+store_pre_decrement          27 none: again: | ldi r26, 0 | ldi r27, 2 | ldi r28, 0 | ldi r29, 3 | st -Y, r20 | st -Y, r20 | st -Y, r20 | st -Y, r20 | st -Y, r20 | st -Y, r20 | st -Y, r20 | st -Y, r20 | st -Y, r20 | st -Y, r20 | st -Y, r20 | st -Y, r20 | rjmp again
+load_displaced               27 none: again: | ldi r26, 0 | ldi r27, 2 | ldi r28, 0 | ldi r29, 3 | ldd r20, Y+5 | ldd r20, Y+5 | ldd r20, Y+5 | ldd r20, Y+5 | ldd r20, Y+5 | ldd r20, Y+5 | ldd r20, Y+5 | ldd r20, Y+5 | ldd r20, Y+5 | ldd r20, Y+5 | ldd r20, Y+5 | ldd r20, Y+5 | rjmp again
+load_flash                   26 none: again: | ldi r30, 0 | ldi r31, 0 | lpm r20, Z+ | lpm r20, Z+ | lpm r20, Z+ | lpm r20, Z+ | lpm r20, Z+ | lpm r20, Z+ | lpm r20, Z+ | lpm r20, Z+ | lpm r20, Z+ | lpm r20, Z+ | lpm r20, Z+ | lpm r20, Z+ | rjmp again
+push_pop                     30 none: ldi r16, 0x10 | out 0x3E, r16 | ldi r16, 0xFF | out 0x3D, r16 | again: | push r20 | pop r20 | push r20 | pop r20 | push r20 | pop r20 | push r20 | pop r20 | push r20 | pop r20 | push r20 | pop r20 | rjmp again
 TABLE
 }
 
