@@ -132,26 +132,11 @@ fn read_job<'w, S: Store, E: Sink>(
         (stream (E.taken err.old) (E.faults err.old)) (stream (E.taken err.new) (E.faults err.new)) result }
 {
     match command {
-        Command::Run { file } => match read_network(alloc, file, store, err) {
-            Ok(network) => Ok(Job::Trace(network)),
-            Err(status) => Err(status),
-        },
-        Command::RunPlain { file } => match read_network(alloc, file, store, err) {
-            Ok(network) => Ok(Job::PlainTrace(network)),
-            Err(status) => Err(status),
-        },
-        Command::Monitor { file } => match read_network(alloc, file, store, err) {
-            Ok(network) => Ok(Job::Profiles(network)),
-            Err(status) => Err(status),
-        },
-        Command::Sniff { file } => match read_network(alloc, file, store, err) {
-            Ok(network) => Ok(Job::Frames(network)),
-            Err(status) => Err(status),
-        },
-        Command::Check { file } => match read_network(alloc, file, store, err) {
-            Ok(network) => Ok(Job::Size(network)),
-            Err(status) => Err(status),
-        },
+        Command::Run { file } => Ok(Job::Trace(read_network(alloc, file, store, err)?)),
+        Command::RunPlain { file } => Ok(Job::PlainTrace(read_network(alloc, file, store, err)?)),
+        Command::Monitor { file } => Ok(Job::Profiles(read_network(alloc, file, store, err)?)),
+        Command::Sniff { file } => Ok(Job::Frames(read_network(alloc, file, store, err)?)),
+        Command::Check { file } => Ok(Job::Size(read_network(alloc, file, store, err)?)),
         Command::Node { file, cycles } => match read_image(alloc, file, store) {
             Ok(flash) => match lone_node(alloc, flash, cycles) {
                 Ok(network) => Ok(Job::PlainTrace(network)),
@@ -168,48 +153,44 @@ fn read_job<'w, S: Store, E: Sink>(
             Err(trouble) => Err(tell(err, trouble)),
         },
         Command::Make { number } => Ok(Job::Sample(number)),
-        Command::Head { file, epochs } => match read_cut(alloc, file, epochs, store, err) {
-            Ok(network) => Ok(Job::Head(network, epochs)),
-            Err(status) => Err(status),
-        },
-        Command::Save { file, epochs } => match read_cut(alloc, file, epochs, store, err) {
-            Ok(network) => Ok(Job::Save(network, epochs)),
-            Err(status) => Err(status),
-        },
-        Command::Resume { file, state } => match read_network(alloc, file, store, err) {
-            Ok(network) => match read_saved(alloc, &network, state, store) {
+        Command::Head { file, epochs } => {
+            let network = read_cut(alloc, file, epochs, store, err)?;
+            Ok(Job::Head(network, epochs))
+        }
+        Command::Save { file, epochs } => {
+            let network = read_cut(alloc, file, epochs, store, err)?;
+            Ok(Job::Save(network, epochs))
+        }
+        Command::Resume { file, state } => {
+            let network = read_network(alloc, file, store, err)?;
+            match read_saved(alloc, &network, state, store) {
                 Ok(saved) => Ok(Job::Resume(network, saved)),
                 Err(trouble) => Err(tell(err, trouble)),
-            },
-            Err(status) => Err(status),
-        },
+            }
+        }
         Command::HeadOn {
             file,
             epochs,
             state,
-        } => match read_cut_on(alloc, file, epochs, state, store, err) {
-            Ok((network, saved)) => Ok(Job::HeadOn(network, saved, epochs)),
-            Err(status) => Err(status),
-        },
+        } => {
+            let (network, saved) = read_cut_on(alloc, file, epochs, state, store, err)?;
+            Ok(Job::HeadOn(network, saved, epochs))
+        }
         Command::SaveOn {
             file,
             epochs,
             state,
-        } => match read_cut_on(alloc, file, epochs, state, store, err) {
-            Ok((network, saved)) => Ok(Job::SaveOn(network, saved, epochs)),
-            Err(status) => Err(status),
-        },
+        } => {
+            let (network, saved) = read_cut_on(alloc, file, epochs, state, store, err)?;
+            Ok(Job::SaveOn(network, saved, epochs))
+        }
         Command::MonitorSpan { file, from, to } => {
-            match read_span(alloc, file, from, to, store, err) {
-                Ok(network) => Ok(Job::Profiles(network)),
-                Err(status) => Err(status),
-            }
+            let network = read_span(alloc, file, from, to, store, err)?;
+            Ok(Job::Profiles(network))
         }
         Command::Sweep { file, state, moves } => {
-            match read_sweep(alloc, file, state, moves, store, err) {
-                Ok(((network, state), moves)) => Ok(Job::Sweep(network, state, moves)),
-                Err(status) => Err(status),
-            }
+            let ((network, state), moves) = read_sweep(alloc, file, state, moves, store, err)?;
+            Ok(Job::Sweep(network, state, moves))
         }
     }
 }
