@@ -17,7 +17,7 @@ use Rattle.node_runner.specs.Flight.{place_at, IsAt, IsTaken}
 use Rattle.node_runner.specs.Gather.{start_of, end_row_of}
 use Rattle.fleet_flight.specs.Rows.{rows_upto}
 use Rattle.node_runner.proofs.Places.{still_calm, still_over}
-use Rattle.fleet_threads.proofs.Epoch.{next_rows as place_rows}
+use Rattle.fleet_threads.proofs.NextRows.{next_rows as place_rows}
 use Rattle.fleet_threads.specs.declared.member.Member.{Member}
 use Rattle.fleet_threads.specs.Member.{IsPlaced, AreAtEnd}
 use Rattle.fleet_threads.specs.Ending.{rows_at, end_row_at, taken_at, HasEndedAt, IsCalm}

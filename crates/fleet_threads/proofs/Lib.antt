@@ -3,7 +3,7 @@ pub mod Steps
 pub mod Lists
 pub mod Nodes
 pub mod Gathered
-pub mod Epoch
+pub mod NextRows
 pub mod Ends
 pub mod Epochs
 pub mod Crossing

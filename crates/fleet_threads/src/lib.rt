@@ -4,6 +4,7 @@
 #![tactic(auto)]
 
 mod ending;
+mod epoch;
 mod gate;
 mod member;
 mod parts;

@@ -4,6 +4,7 @@ ghost use Rattle.std.specs.List.{Contains};
 ghost use Rattle.fleet_threads.specs.declared.member.Sampling.TheVariants.{Tries};
 ghost use Rattle.fleet_threads.specs.Answers.{IsAnswered, LooksOnce};
 
+use crate::epoch::Epoch;
 use crate::gate::Gate;
 use neighbour_sync::{Behind, NodeAir, SampleOutcome, Session, Shared};
 use node_runner::{Event, Runner, Scenario};
@@ -88,34 +89,31 @@ impl Member {
     }
 
     // Tells all nodes to halt, and halts.
-    fn halt<N: Session>(&mut self, shared: &Shared<Scenario, N>, scenario: &Scenario, end: u64)
-        requires { IsUnderWay N.table N.world scenario.now N.floor end self.old }
-        ensures on { IsUnderWay N.table N.world scenario.now N.floor end self.new × (self.new.runner ≡ self.old.runner) }
+    fn halt<N: Session, R, G>(&mut self, shared: &Shared<Scenario, N>, epoch: &Epoch<'_, R, G>)
+        requires { IsUnderWay N.table N.world epoch.now.scenario.now N.floor epoch.now.end self.old }
+        ensures on { IsUnderWay N.table N.world epoch.now.scenario.now N.floor epoch.now.end self.new × (self.new.runner ≡ self.old.runner) }
         ensures looks { self.new.air.halts ≡ self.old.air.halts }
     {
-        // Only the contract names them.
-        let _ = scenario;
-        let _ = end;
+        // Only the contract names it.
+        let _ = epoch;
         self.air.halt(shared);
         self.halted = true;
     }
 
     // Raises the node's clock word to the runner's cycle, and to the end of the epoch where the node goes on no more
     // before that. It may stand higher already, where the node has looked ahead.
-    fn raise<N: Session>(&mut self, shared: &Shared<Scenario, N>, scenario: &Scenario, end: u64)
-        requires { IsUnderWay N.table N.world scenario.now N.floor end self.old }
-        ensures member { IsUnderWay N.table N.world scenario.now N.floor end self.new }
+    fn raise<N: Session, R, G>(&mut self, shared: &Shared<Scenario, N>, epoch: &Epoch<'_, R, G>)
+        requires { IsUnderWay N.table N.world epoch.now.scenario.now N.floor epoch.now.end self.old }
+        ensures member { IsUnderWay N.table N.world epoch.now.scenario.now N.floor epoch.now.end self.new }
         ensures runner { self.new.runner ≡ self.old.runner }
         ensures halted { self.new.halted ≡ self.old.halted }
         ensures looks { self.new.air.halts ≡ self.old.air.halts }
-        ensures over { is_live end self.old.runner ≡ false → self.new.air.clock ≡ end }
+        ensures over { is_live epoch.now.end self.old.runner ≡ false → self.new.air.clock ≡ epoch.now.end }
     {
-        // Only the contract names it.
-        let _ = scenario;
-        let reached = if self.runner.is_live(end) {
+        let reached = if self.runner.is_live(epoch.end) {
             self.runner.cycle()
         } else {
-            end
+            epoch.end
         };
         let clock = reached.max(self.air.clock());
         self.air.raise(shared, clock);
@@ -123,43 +121,38 @@ impl Member {
 
     // Raises the node's clock word past its last send, which is posted: for a byte time from that send's cycle on it
     // sends nothing more, so those that hear it need not wait until it gets there.
-    fn look_ahead<N: Session>(
+    fn look_ahead<N: Session, R, G>(
         &mut self,
         shared: &Shared<Scenario, N>,
-        scenario: &Scenario,
-        end: u64,
+        epoch: &Epoch<'_, R, G>,
         sent: u64,
     )
-        requires member { IsUnderWay N.table N.world scenario.now N.floor end self.old }
+        requires member { IsUnderWay N.table N.world epoch.now.scenario.now N.floor epoch.now.end self.old }
         requires none { sends_below N.world.sends self.old.air.number (sent + self.old.gap) ≤ sends_passed self.old.runner }
-        ensures on { GoesOn N.table N.world scenario.now N.floor end self.old self.new }
+        ensures on { GoesOn N.table N.world epoch.now.scenario.now N.floor epoch.now.end self.old self.new }
         ensures looks { self.new.air.halts ≡ self.old.air.halts }
     {
-        // Only the contract names it.
-        let _ = scenario;
-        let free = sent.saturating_add(self.gap).min(end);
+        let free = sent.saturating_add(self.gap).min(epoch.end);
         let clock = free.max(self.air.clock());
         self.air.raise(shared, clock);
     }
 
     // Finishes the cycle in which the node samples, if it may be told what it hears.
-    fn sample<N: Session, R: Wait>(
+    fn sample<N: Session, R: Wait, G>(
         &mut self,
-        rt: &R,
         shared: &Shared<Scenario, N>,
-        scenario: &Scenario,
-        end: u64,
+        epoch: &Epoch<'_, R, G>,
         sampling: Sampling,
     )
-        requires member { IsUnderWay N.table N.world scenario.now N.floor end self.old }
+        requires member { IsUnderWay N.table N.world epoch.now.scenario.now N.floor epoch.now.end self.old }
         requires asking { self.old.runner.asking ≡ true }
-        ensures on { GoesOn N.table N.world scenario.now N.floor end self.old self.new }
+        ensures on { GoesOn N.table N.world epoch.now.scenario.now N.floor epoch.now.end self.old self.new }
         ensures once { sampling ≡ Tries → LooksOnce self.old.air self.new.air }
     {
         let cycle = self.runner.cycle();
-        match ask(rt, shared, sampling, &mut self.air, cycle) {
+        match ask(epoch.rt, shared, sampling, &mut self.air, cycle) {
             Ok(SampleOutcome::Heard(heard)) => self.runner.answer(heard),
-            Ok(SampleOutcome::Halted | SampleOutcome::NoMemory) => self.halt(shared, scenario, end),
+            Ok(SampleOutcome::Halted | SampleOutcome::NoMemory) => self.halt(shared, epoch),
             Err(_) => {}
         }
     }
@@ -167,30 +160,29 @@ impl Member {
     // One turn: the node runs up to its next event. What it sends is posted at once.
     fn run<N: Session, R: Wait, G: Gate>(
         &mut self,
-        rt: &R,
         shared: &Shared<Scenario, N>,
-        gate: &G,
-        scenario: &Scenario,
-        end: u64,
+        epoch: &Epoch<'_, R, G>,
     )
-        requires member { IsUnderWay N.table N.world scenario.now N.floor end self.old }
+        requires member { IsUnderWay N.table N.world epoch.now.scenario.now N.floor epoch.now.end self.old }
         requires calm { self.old.runner.asking ≡ false }
-        requires live { is_live end self.old.runner ≡ true }
-        ensures on { GoesOn N.table N.world scenario.now N.floor end self.old self.new }
+        requires live { is_live epoch.now.end self.old.runner ≡ true }
+        ensures on { GoesOn N.table N.world epoch.now.scenario.now N.floor epoch.now.end self.old self.new }
         ensures looks { self.new.air.halts ≡ self.old.air.halts }
     {
-        gate.reached(rt, self.runner.number(), self.turn);
+        epoch
+            .gate
+            .reached(epoch.rt, self.runner.number(), self.turn);
         self.turn = self.turn.saturating_add(1);
-        let quantum = (end - self.runner.cycle()).min(QUANTUM);
+        let quantum = (epoch.end - self.runner.cycle()).min(QUANTUM);
         match self.runner.event(quantum) {
             Event::Sent { send } => {
                 let number = self.runner.count();
                 let sent = send.cycle;
-                self.air.post(rt, shared, send, number);
+                self.air.post(epoch.rt, shared, send, number);
                 self.runner.note_posted();
-                self.look_ahead(shared, scenario, end, sent);
+                self.look_ahead(shared, epoch, sent);
             }
-            Event::NoMemory => self.halt(shared, scenario, end),
+            Event::NoMemory => self.halt(shared, epoch),
             Event::Ask => {}
             Event::Turn { .. } => {}
             Event::Ended => {}
@@ -201,29 +193,26 @@ impl Member {
     /// looks once at most. Whether it is over for this epoch: the node has come to the end or stopped, or it has halted.
     pub fn step<N: Session, R: Wait, G: Gate>(
         &mut self,
-        rt: &R,
         shared: &Shared<Scenario, N>,
-        gate: &G,
-        scenario: &Scenario,
-        end: u64,
+        epoch: &Epoch<'_, R, G>,
         sampling: Sampling,
     ) -> bool
-        requires { IsUnderWay N.table N.world scenario.now N.floor end self.old }
-        ensures on { GoesOn N.table N.world scenario.now N.floor end self.old self.new }
+        requires { IsUnderWay N.table N.world epoch.now.scenario.now N.floor epoch.now.end self.old }
+        ensures on { GoesOn N.table N.world epoch.now.scenario.now N.floor epoch.now.end self.old self.new }
         ensures once { sampling ≡ Tries → LooksOnce self.old.air self.new.air }
-        ensures over { result ≡ true → IsOver end self.new }
+        ensures over { result ≡ true → IsOver epoch.now.end self.new }
     {
         if self.halted {
             return true;
         }
-        self.raise(shared, scenario, end);
-        if !self.runner.is_live(end) {
+        self.raise(shared, epoch);
+        if !self.runner.is_live(epoch.end) {
             return true;
         }
         if self.runner.asking() {
-            self.sample(rt, shared, scenario, end, sampling);
+            self.sample(shared, epoch, sampling);
         } else {
-            self.run(rt, shared, gate, scenario, end);
+            self.run(shared, epoch);
         }
         false
     }

@@ -1,4 +1,5 @@
 // A run between two epochs.
+use crate::epoch::Epoch;
 use crate::gate::Gate;
 use crate::member::Member;
 use crate::threads::run_all;
@@ -36,16 +37,13 @@ impl Parts {
     /// thread is found.
     pub fn in_session<N: Session + Send + Sync, R: Threads + Wait + Sync, G: Gate + Sync>(
         self,
-        rt: &R,
-        gate: &G,
-        scenario: &Scenario,
-        end: u64,
+        epoch: &Epoch<'_, R, G>,
         waiting: Vec<Member>,
     ) -> Parts
         requires parts { AreParts N.table N.world N.floor self.clocks self.air }
-        requires begun { AreBegun N.table N.world scenario.now N.floor end self.members waiting }
+        requires begun { AreBegun N.table N.world epoch.now.scenario.now N.floor epoch.now.end self.members waiting }
         ensures parts { AreParts N.table N.world N.floor result.clocks result.air }
-        ensures members { All (IsBack N.table N.world scenario.now N.floor end) result.members.items }
+        ensures members { All (IsBack N.table N.world epoch.now.scenario.now N.floor epoch.now.end) result.members.items }
         ensures numbers { numbers result.members.items ≡ numbers self.members.items }
     {
         let Parts {
@@ -54,7 +52,7 @@ impl Parts {
             members,
         } = self;
         let shared: Shared<Scenario, N> = Shared::new(clocks, air);
-        let members = run_all(rt, &shared, gate, scenario, end, members, waiting);
+        let members = run_all(&shared, epoch, members, waiting);
         let (clocks, air) = shared.into_parts();
         Parts {
             clocks,

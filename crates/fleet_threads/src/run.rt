@@ -9,6 +9,7 @@ ghost use Rattle.fleet_threads.specs.Member.{IsEpoch};
 ghost use Rattle.fleet_threads.specs.Run.{IsTied, IsFirst, air_of};
 
 use crate::ending::{any_halted, epoch_rows};
+use crate::epoch::{Epoch, NOBODY};
 use crate::gate::Gate;
 use crate::member::Member;
 use crate::parts::Parts;
@@ -20,6 +21,7 @@ use std::alloc::Global;
 use std::marker::{Brand, Model};
 use std::snapshot::Snapshot;
 use std::sync::Wait;
+use std::sync::atomic::AtomicU64;
 use std::thread::Threads;
 use world_core::EPOCH;
 
@@ -41,7 +43,7 @@ fn first_member(alloc: Global, scenario: &Scenario, air: NodeAir) -> Result<Memb
 
 // What an epoch leaves: the parts, for the next one, and its rows.
 #[derive(Drop)]
-struct Epoch {
+struct Passed {
     parts: Parts,
     rows: Vec<Row>,
 }
@@ -67,31 +69,33 @@ fn add_members(
     Ok(())
 }
 
-// One epoch up to the cycle `end`, with the cut of the record when all threads are joined, and with its rows, which are
+// One epoch, with the cut of the record when all threads are joined, and with its rows, which are
 // taken from the nodes.
 fn through<R: Threads + Wait + Sync, G: Gate + Sync>(
-    rt: &R,
     alloc: Global,
-    gate: &G,
-    scenario: &Scenario,
-    floor: u64,
-    end: u64,
+    epoch: &Epoch<'_, R, G>,
     parts: Parts,
-) -> Result<Epoch, NoMemory>
-    requires tied { IsTied scenario.now floor floor parts }
-    requires epoch { IsEpoch (facts_of (fleet_of scenario.now)) scenario.now floor end }
-    requires more { floor < end }
-    ensures rows { IfOk result (λ e. rows_upto (fleet_of scenario.now) end ≡ rows_upto (fleet_of scenario.now) floor ++ e.rows.items) }
-    ensures tied { IfOk result (λ e. IsTied scenario.now end end e.parts) }
+) -> Result<Passed, NoMemory>
+    requires tied { IsTied epoch.now.scenario.now epoch.now.floor epoch.now.floor parts }
+    requires epoch { IsEpoch (facts_of (fleet_of epoch.now.scenario.now)) epoch.now.scenario.now epoch.now.floor epoch.now.end }
+    requires more { epoch.now.floor < epoch.now.end }
+    ensures rows { IfOk result (λ e. rows_upto (fleet_of epoch.now.scenario.now) epoch.now.end ≡ rows_upto (fleet_of epoch.now.scenario.now) epoch.now.floor ++ e.rows.items) }
+    ensures tied { IfOk result (λ e. IsTied epoch.now.scenario.now epoch.now.end epoch.now.end e.parts) }
 {
     let waiting = Vec::with_capacity(alloc, parts.members.len())?;
-    let mut parts = parts.in_session::<Brand, R, G>(rt, gate, scenario, end, waiting);
+    let mut parts = parts.in_session::<Brand, R, G>(epoch, waiting);
     if any_halted(&parts.members) {
         return Err(NoMemory);
     }
-    cut_when_passed(rt, &parts.clocks, &mut parts.air, end);
-    let rows = epoch_rows(alloc, scenario, floor, end, &mut parts.members)?;
-    Ok(Epoch { parts, rows })
+    cut_when_passed(epoch.rt, &parts.clocks, &mut parts.air, epoch.end);
+    let rows = epoch_rows(
+        alloc,
+        epoch.scenario,
+        epoch.floor,
+        epoch.end,
+        &mut parts.members,
+    )?;
+    Ok(Passed { parts, rows })
 }
 
 /// A run of all nodes of a scenario on threads of their own, epoch by epoch. It has a record of bounded room; the rows
@@ -221,10 +225,19 @@ impl ThreadRun {
         let _lawful = scenario.lawful_topo();
         let floor = self.floor;
         let end = (floor + EPOCH).min(self.limit);
-        let epoch = through(rt, self.alloc, gate, scenario, floor, end, parts)?;
+        let refused = AtomicU64::new(NOBODY);
+        let epoch = Epoch {
+            rt,
+            gate,
+            scenario,
+            refused: &refused,
+            floor,
+            end,
+        };
+        let passed = through(self.alloc, &epoch, parts)?;
         self.floor = end;
-        self.parts = Some(epoch.parts);
-        Ok(epoch.rows)
+        self.parts = Some(passed.parts);
+        Ok(passed.rows)
     }
 }
 

@@ -5,6 +5,7 @@ ghost use Rattle.std.specs.Thread.{IsSync};
 ghost use Rattle.fleet_threads.specs.Member.{IsUnderWay, IsBack, IsOver, numbers, all_looks};
 ghost use Rattle.fleet_threads.specs.Nodes.{IsHanded, AreBegun, AreBack};
 
+use crate::epoch::Epoch;
 use crate::gate::Gate;
 use crate::member::{Member, Sampling};
 use crossbeam_utils::Backoff;
@@ -12,12 +13,9 @@ use neighbour_sync::{Session, Shared};
 use node_runner::Scenario;
 use std::marker::PhantomData;
 use std::sync::Wait;
-use std::sync::atomic::{AtomicU64, Ordering};
+use std::sync::atomic::Ordering;
 use std::thread;
 use std::thread::{Promise, PromisedHandle, Scope, SpawnError, Threads};
-
-/// The number of no node: none was refused yet.
-const NOBODY: u64 = u64::MAX;
 
 /// That a thread hands back the node of this number, under way in this epoch of the scenario or at its end.
 #[derive(Drop)]
@@ -34,19 +32,16 @@ impl<'s, N: Session> Promise<Member> for HandsBack<'s, N> {
 
 // Takes a node to the end of the epoch; at a sample it waits.
 fn work<N: Session, R: Wait, G: Gate>(
-    rt: &R,
     shared: &Shared<Scenario, N>,
-    gate: &G,
-    scenario: &Scenario,
-    end: u64,
+    epoch: &Epoch<'_, R, G>,
     mut member: Member,
 ) -> Member
-    requires { IsUnderWay N.table N.world scenario.now N.floor end member }
-    ensures back { IsBack N.table N.world scenario.now N.floor end result }
+    requires { IsUnderWay N.table N.world epoch.now.scenario.now N.floor epoch.now.end member }
+    ensures back { IsBack N.table N.world epoch.now.scenario.now N.floor epoch.now.end result }
     ensures number { result.runner.number ≡ member.runner.number }
 {
-    for _ in rt.forever() {
-        if member.step(rt, shared, gate, scenario, end, Sampling::Waits) {
+    for _ in epoch.rt.forever() {
+        if member.step(shared, epoch, Sampling::Waits) {
             return member;
         }
     }
@@ -57,21 +52,17 @@ fn work<N: Session, R: Wait, G: Gate>(
 // that was refused last is the one for which this is called where a thread was to be begun; those that have threads
 // were never refused. No clause rests on it.
 fn work_unless_refused<N: Session, R: Wait, G: Gate>(
-    rt: &R,
     shared: &Shared<Scenario, N>,
-    gate: &G,
-    scenario: &Scenario,
-    refused: &AtomicU64,
-    end: u64,
+    epoch: &Epoch<'_, R, G>,
     member: Member,
 ) -> Member
-    requires { IsUnderWay N.table N.world scenario.now N.floor end member }
-    ensures { IsHanded N.table N.world scenario.now N.floor end member.runner.number result }
+    requires { IsUnderWay N.table N.world epoch.now.scenario.now N.floor epoch.now.end member }
+    ensures { IsHanded N.table N.world epoch.now.scenario.now N.floor epoch.now.end member.runner.number result }
 {
-    if refused.load(Ordering::SeqCst) == u64::from(member.number()) {
+    if epoch.refused.load(Ordering::SeqCst) == u64::from(member.number()) {
         return member;
     }
-    work(rt, shared, gate, scenario, end, member)
+    work(shared, epoch, member)
 }
 
 // What one step of each node for which no thread was found came to.
@@ -86,24 +77,21 @@ struct Progress {
 // One step of each node for which no thread was found. None of them waits: all together look at the halt once each, at
 // most.
 fn round<N: Session, R: Wait, G: Gate>(
-    rt: &R,
     shared: &Shared<Scenario, N>,
-    gate: &G,
-    scenario: &Scenario,
-    end: u64,
+    epoch: &Epoch<'_, R, G>,
     waiting: &mut Vec<Member>,
 ) -> Progress
-    requires { All (IsUnderWay N.table N.world scenario.now N.floor end) waiting.old.items }
-    ensures all { All (IsUnderWay N.table N.world scenario.now N.floor end) waiting.new.items }
+    requires { All (IsUnderWay N.table N.world epoch.now.scenario.now N.floor epoch.now.end) waiting.old.items }
+    ensures all { All (IsUnderWay N.table N.world epoch.now.scenario.now N.floor epoch.now.end) waiting.new.items }
     ensures numbers { numbers waiting.new.items ≡ numbers waiting.old.items }
     ensures once { all_looks waiting.new.items ≤ all_looks waiting.old.items + length waiting.old.items }
-    ensures over { result.over ≡ true → All (IsOver end) waiting.new.items }
+    ensures over { result.over ≡ true → All (IsOver epoch.now.end) waiting.new.items }
 {
     let mut over = true;
     let mut moved = false;
     for k in 0..waiting.len() {
         let stood = waiting[k].stands();
-        if !waiting[k].step(rt, shared, gate, scenario, end, Sampling::Tries) {
+        if !waiting[k].step(shared, epoch, Sampling::Tries) {
             over = false;
         }
         moved |= waiting[k].stands() != stood;
@@ -124,20 +112,17 @@ fn back_off(backoff: &Backoff, moved: bool) {
 // them waits at a sample, since it may be one of the others for which it would wait. Where none of them got on, they
 // wait for a node that has a thread.
 fn rotate<N: Session, R: Wait, G: Gate>(
-    rt: &R,
     shared: &Shared<Scenario, N>,
-    gate: &G,
-    scenario: &Scenario,
-    end: u64,
+    epoch: &Epoch<'_, R, G>,
     waiting: &mut Vec<Member>,
 )
-    requires { All (IsUnderWay N.table N.world scenario.now N.floor end) waiting.old.items }
-    ensures all { All (IsBack N.table N.world scenario.now N.floor end) waiting.new.items }
+    requires { All (IsUnderWay N.table N.world epoch.now.scenario.now N.floor epoch.now.end) waiting.old.items }
+    ensures all { All (IsBack N.table N.world epoch.now.scenario.now N.floor epoch.now.end) waiting.new.items }
     ensures numbers { numbers waiting.new.items ≡ numbers waiting.old.items }
 {
     let backoff = Backoff::new();
-    for _ in rt.forever() {
-        let made = round(rt, shared, gate, scenario, end, waiting);
+    for _ in epoch.rt.forever() {
+        let made = round(shared, epoch, waiting);
         if made.over {
             return;
         }
@@ -169,34 +154,50 @@ fn spawn<'s, E, G: Gate, P: Promise<T> + Drop, F: FnOnce() -> T + Send + 's, T: 
 // this epoch, so that a thread would only cost, and where none was found for it.
 fn begin<'s, E, N: Session + Send + Sync, R: Threads + Wait + Sync, G: Gate + Sync>(
     scope: &Scope<'s, E>,
-    rt: &'s R,
     shared: &'s Shared<Scenario, N>,
-    gate: &'s G,
-    scenario: &'s Scenario,
-    refused: &'s AtomicU64,
-    end: u64,
+    epoch: &Epoch<'s, R, G>,
     member: Member,
 ) -> Result<PromisedHandle<Member, HandsBack<'s, N>>, Member>
-    requires { IsUnderWay N.table N.world scenario.now N.floor end member }
-    ensures thread { IfOk result (λ h. (h.promise.scenario.now ≡ scenario.now) × (h.promise.number ≡ member.runner.number) × (h.promise.end ≡ end)) }
-    ensures node { IfErr result (IsHanded N.table N.world scenario.now N.floor end member.runner.number) }
+    requires { IsUnderWay N.table N.world epoch.now.scenario.now N.floor epoch.now.end member }
+    ensures thread { IfOk result (λ h. (h.promise.scenario.now ≡ epoch.now.scenario.now) × (h.promise.number ≡ member.runner.number) × (h.promise.end ≡ epoch.now.end)) }
+    ensures node { IfErr result (IsHanded N.table N.world epoch.now.scenario.now N.floor epoch.now.end member.runner.number) }
 {
-    if !member.runner.is_live(end) {
+    if !member.runner.is_live(epoch.end) {
         return Err(member);
     }
     let number = member.number();
     let promise: HandsBack<'s, N> = HandsBack {
-        scenario,
+        scenario: epoch.scenario,
         number,
-        end,
+        end: epoch.end,
         of: PhantomData,
     };
-    match spawn(scope, gate, number, promise, move || {
-        work_unless_refused(rt, shared, gate, scenario, refused, end, member)
-    }) {
+    // A closure that holds an `Epoch` has no clause that can be used here, so this one holds its parts.
+    let (rt, gate, scenario, refused) = (epoch.rt, epoch.gate, epoch.scenario, epoch.refused);
+    let (floor, end) = (epoch.floor, epoch.end);
+    match spawn(
+        scope,
+        gate,
+        number,
+        promise,
+        move || -> Member
+            requires { IsUnderWay N.table N.world scenario.now N.floor end member }
+            ensures { IsHanded N.table N.world scenario.entry.now N.floor end member.runner.number result }
+        {
+            let epoch = Epoch {
+                rt,
+                gate,
+                scenario,
+                refused,
+                floor,
+                end,
+            };
+            work_unless_refused(shared, &epoch, member)
+        },
+    ) {
         Ok(child) => Ok(child),
         Err(unstarted) => {
-            refused.store(u64::from(number), Ordering::SeqCst);
+            epoch.refused.store(u64::from(number), Ordering::SeqCst);
             Err((unstarted.value)())
         }
     }
@@ -215,40 +216,32 @@ fn is_alone(left: &[Member], waiting: &[Member]) -> bool
 // condition, since the bounds of a function that calls itself are not told to its proof.)
 fn run_from<'s, E, N: Session + Send + Sync, R: Threads + Wait + Sync, G: Gate + Sync>(
     scope: &Scope<'s, E>,
-    rt: &'s R,
     shared: &'s Shared<Scenario, N>,
-    gate: &'s G,
-    scenario: &'s Scenario,
-    refused: &'s AtomicU64,
-    end: u64,
+    epoch: &Epoch<'s, R, G>,
     members: &mut Vec<Member>,
     waiting: &mut Vec<Member>,
 )
     requires shared { IsSync R.row × IsSync G.row }
-    requires begun { AreBegun N.table N.world scenario.now N.floor end members.old waiting.old }
-    ensures { AreBack N.table N.world scenario.now N.floor end members.old waiting.old members.new waiting.new }
+    requires begun { AreBegun N.table N.world epoch.now.scenario.now N.floor epoch.now.end members.old waiting.old }
+    ensures { AreBack N.table N.world epoch.now.scenario.now N.floor epoch.now.end members.old waiting.old members.new waiting.new }
 {
     let Some(member) = members.pop() else {
-        rotate(rt, shared, gate, scenario, end, waiting);
+        rotate(shared, epoch, waiting);
         return;
     };
     if is_alone(members, waiting) {
-        members.push_reserved(work(rt, shared, gate, scenario, end, member));
+        members.push_reserved(work(shared, epoch, member));
         return;
     }
-    match begin(scope, rt, shared, gate, scenario, refused, end, member) {
+    match begin(scope, shared, epoch, member) {
         Ok(child) => {
-            run_from(
-                scope, rt, shared, gate, scenario, refused, end, members, waiting,
-            );
-            let handed = child.join(rt);
-            members.push_reserved(work(rt, shared, gate, scenario, end, handed));
+            run_from(scope, shared, epoch, members, waiting);
+            let handed = child.join(epoch.rt);
+            members.push_reserved(work(shared, epoch, handed));
         }
         Err(member) => {
             waiting.push_reserved(member);
-            run_from(
-                scope, rt, shared, gate, scenario, refused, end, members, waiting,
-            );
+            run_from(scope, shared, epoch, members, waiting);
             let Some(last) = waiting.pop() else {
                 unreachable!();
             };
@@ -259,20 +252,18 @@ fn run_from<'s, E, N: Session + Send + Sync, R: Threads + Wait + Sync, G: Gate +
 
 /// Takes all nodes to the end of the epoch, each on a thread of its own. They come back in their order.
 pub fn run_all<N: Session + Send + Sync, R: Threads + Wait + Sync, G: Gate + Sync>(
-    rt: &R,
     shared: &Shared<Scenario, N>,
-    gate: &G,
-    scenario: &Scenario,
-    end: u64,
+    epoch: &Epoch<'_, R, G>,
     members: Vec<Member>,
     waiting: Vec<Member>,
 ) -> Vec<Member>
-    requires { AreBegun N.table N.world scenario.now N.floor end members waiting }
-    ensures all { All (IsBack N.table N.world scenario.now N.floor end) result.items }
+    requires { AreBegun N.table N.world epoch.now.scenario.now N.floor epoch.now.end members waiting }
+    ensures all { All (IsBack N.table N.world epoch.now.scenario.now N.floor epoch.now.end) result.items }
     ensures numbers { numbers result.items ≡ numbers members.items }
 {
-    let refused = AtomicU64::new(NOBODY);
-    let refused = &refused;
+    let (rt, gate, scenario, refused) = (epoch.rt, epoch.gate, epoch.scenario, epoch.refused);
+    let (floor, end) = (epoch.floor, epoch.end);
+    // This closure too holds the parts, for the same cause as that of `begin`.
     thread::scope(
         thread::scope_env(),
         rt,
@@ -282,19 +273,17 @@ pub fn run_all<N: Session + Send + Sync, R: Threads + Wait + Sync, G: Gate + Syn
             ensures all { All (IsBack N.table N.world scenario.entry.now N.floor end) result.items }
             ensures numbers { numbers result.items ≡ numbers members.items }
         {
-            let mut members = members;
-            let mut waiting = waiting;
-            run_from(
-                scope,
+            let epoch = Epoch {
                 rt,
-                shared,
                 gate,
                 scenario,
                 refused,
+                floor,
                 end,
-                &mut members,
-                &mut waiting,
-            );
+            };
+            let mut members = members;
+            let mut waiting = waiting;
+            run_from(scope, shared, &epoch, &mut members, &mut waiting);
             members
         },
     )

@@ -28,8 +28,8 @@ epoch_rows-requires-clause-members g c =
     let now : Parts = record { clocks = back.clocks; air = c.cut_when_passed.new.air; members = back.members } in
     let cut = c.cut_when_passed.ensures.cut in
     let goes : All (λ m. m.halted ≡ false) back.members.items = subst (λ (l : List Member). All (λ m. m.halted ≡ false) l) c.deref.ensures.value (c.if-any_halted.ensures refl) in
-    at_end c.args.scenario.now c.args.floor c.args.end now
-    (tied c.args.scenario.now c.args.floor c.args.end c.args.parts now back.air (cut.0 ++ cut.1) c.requires.tied c.in_session-parts.ensures.parts
+    at_end c.args.epoch.now.scenario.now c.args.epoch.now.floor c.args.epoch.now.end now
+    (tied c.args.epoch.now.scenario.now c.args.epoch.now.floor c.args.epoch.now.end c.args.parts now back.air (cut.0 ++ cut.1) c.requires.tied c.in_session-parts.ensures.parts
     c.cut_when_passed.ensures.same.0 c.cut_when_passed.ensures.same.1 c.cut_when_passed.ensures.posted cut.3 c.in_session-parts.ensures.numbers c.in_session-parts.ensures.members goes)
 
 pub returns-clause-tied : goal.returns-clause-tied
@@ -39,19 +39,19 @@ returns-clause-tied g c =
     let next : Parts = record { clocks = back.clocks; air = c.cut_when_passed.new.air; members = c.epoch_rows.new.members } in
     let cut = c.cut_when_passed.ensures.cut in
     let goes : All (λ m. m.halted ≡ false) back.members.items = subst (λ (l : List Member). All (λ m. m.halted ≡ false) l) c.deref.ensures.value (c.if-any_halted.ensures refl) in
-    tied_taken c.args.scenario.now c.args.floor c.args.end now next
-    (tied c.args.scenario.now c.args.floor c.args.end c.args.parts now back.air (cut.0 ++ cut.1) c.requires.tied c.in_session-parts.ensures.parts
+    tied_taken c.args.epoch.now.scenario.now c.args.epoch.now.floor c.args.epoch.now.end now next
+    (tied c.args.epoch.now.scenario.now c.args.epoch.now.floor c.args.epoch.now.end c.args.parts now back.air (cut.0 ++ cut.1) c.requires.tied c.in_session-parts.ensures.parts
     c.cut_when_passed.ensures.same.0 c.cut_when_passed.ensures.same.1 c.cut_when_passed.ensures.posted cut.3 c.in_session-parts.ensures.numbers c.in_session-parts.ensures.members goes) refl refl c.in_ok-rows.ensures.left
 
 pub in_session-parts-requires-clause-parts : goal.in_session-parts-requires-clause-parts
 in_session-parts-requires-clause-parts g c κs within =
-    subst (λ (n : ℕ). AreParts c.args.parts.air.table (facts_of (fleet_of c.args.scenario.now)) n c.args.parts.clocks c.args.parts.air) (sym c.requires.tied.parts.floor) c.requires.tied.parts
+    subst (λ (n : ℕ). AreParts c.args.parts.air.table (facts_of (fleet_of c.args.epoch.now.scenario.now)) n c.args.parts.clocks c.args.parts.air) (sym c.requires.tied.parts.floor) c.requires.tied.parts
 
 pub in_session-parts-requires-clause-begun : goal.in_session-parts-requires-clause-begun
 in_session-parts-requires-clause-begun g c κs within =
     let len = c.len.ensures in
     let room = c.in_ok-waiting.ensures.capacity in
-    begun _ _ _ _ _ c.args.parts.members c.in_ok-waiting.waiting (all_go_on c.args.scenario.now c.args.floor c.args.end c.args.parts c.requires.tied c.requires.epoch) c.in_ok-waiting.ensures.len (omega arith)
+    begun _ _ _ _ _ c.args.parts.members c.in_ok-waiting.waiting (all_go_on c.args.epoch.now.scenario.now c.args.epoch.now.floor c.args.epoch.now.end c.args.parts c.requires.tied c.requires.epoch) c.in_ok-waiting.ensures.len (omega arith)
 
 pub cut_when_passed-requires-clause-table : goal.cut_when_passed-requires-clause-table
 cut_when_passed-requires-clause-table g c = c.in_session-parts.ensures.parts.table ∙ sym c.in_session-parts.ensures.parts.words
@@ -60,4 +60,4 @@ pub cut_when_passed-requires-clause-rises : goal.cut_when_passed-requires-clause
 cut_when_passed-requires-clause-rises g c = let a = c.in_session-parts.ensures.parts.floor in let b = c.requires.tied.parts.floor in let m = c.requires.more in omega arith
 
 pub cut_when_passed-requires-clause-within : goal.cut_when_passed-requires-clause-within
-cut_when_passed-requires-clause-within g c = subst (λ (w : WorldFacts). c.args.end ≤ w.topo.limit) (sym c.in_session-parts.ensures.parts.world) c.requires.epoch.within
+cut_when_passed-requires-clause-within g c = subst (λ (w : WorldFacts). c.args.epoch.now.end ≤ w.topo.limit) (sym c.in_session-parts.ensures.parts.world) c.requires.epoch.within

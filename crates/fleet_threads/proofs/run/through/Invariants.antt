@@ -3,4 +3,4 @@ use Rattle.node_runner.specs.Scenario.{fleet_of}
 use Rattle.fleet_threads.proofs.run.through.Given as goal
 
 abbrev pub ghosts-in_session : goal.ghosts-in_session
-ghosts-in_session g a = record { table = a.self.air.table; world = facts_of (fleet_of a.scenario.now); floor = a.self.air.floor }
+ghosts-in_session g a = record { table = a.self.air.table; world = facts_of (fleet_of a.epoch.now.scenario.now); floor = a.self.air.floor }

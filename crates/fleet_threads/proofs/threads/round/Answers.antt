@@ -16,13 +16,13 @@ loop-k-preserved g c =
     let len : length xs ≡ vec_len c.loop-k.waiting = search rules in
     let long : k < length xs = omega (arith, c.loop-k-test.true, c.len-k-end.ensures, inv.len, len) in
     record {
-      all = All-set (IsUnderWay g.N.Session.table g.N.Session.world c.args.scenario.now g.N.Session.floor c.args.end) xs k new c.step.ensures.on.0 inv.all;
+      all = All-set (IsUnderWay g.N.Session.table g.N.Session.world c.args.epoch.now.scenario.now g.N.Session.floor c.args.epoch.now.end) xs k new c.step.ensures.on.0 inv.all;
       numbers = stepped xs k c.index_mut.result.now new long (c.step.ensures.on.1 ∙ ap (λ (m : Member). m.runner.number) c.index_mut.ensures.value) ∙ inv.numbers;
       len = inv.len;
       once = let one = c.step.ensures.once refl in let more = one_more_look xs k c.index_mut.result.now new long c.index_mut.ensures.value one in let before = inv.once in omega arith;
       over = (λ on. elim c.if-not-step.branch [
         | then-not-step w ↦ absurd (false≢true (sym w.over-is ∙ on))
-        | else-not-step w ↦ one_more_over c.args.end xs k new long (inv.over (sym w.over-is ∙ on)) (c.step.ensures.over (let e : c.step.result ≡ true = search rules in e))
+        | else-not-step w ↦ one_more_over c.args.epoch.now.end xs k new long (inv.over (sym w.over-is ∙ on)) (c.step.ensures.over (let e : c.step.result ≡ true = search rules in e))
       ]);
     }
 
@@ -33,7 +33,7 @@ pub step-requires : goal.step-requires
 step-requires g c =
     let len : length c.loop-k.waiting.items ≡ vec_len c.loop-k.waiting = search rules in
     let long : c.loop-k.k < length c.loop-k.waiting.items = omega (arith, c.loop-k-test.true, c.len-k-end.ensures, c.loop-k.invariant.len, len) in
-    subst (IsUnderWay g.N.Session.table g.N.Session.world c.args.scenario.now g.N.Session.floor c.args.end) (sym c.index_mut.ensures.value) (c.loop-k.invariant.all c.loop-k.k c.index_mut.result.now long)
+    subst (IsUnderWay g.N.Session.table g.N.Session.world c.args.epoch.now.scenario.now g.N.Session.floor c.args.epoch.now.end) (sym c.index_mut.ensures.value) (c.loop-k.invariant.all c.loop-k.k c.index_mut.result.now long)
 
 pub returns-clause-all : goal.returns-clause-all
 returns-clause-all g c = c.loop-k.invariant.all

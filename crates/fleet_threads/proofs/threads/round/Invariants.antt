@@ -6,9 +6,9 @@ use Rattle.fleet_threads.proofs.threads.round.Given as goal
 
 abbrev pub invariant-loop-k : goal.invariant-loop-k
 invariant-loop-k g l = record {
-  all : All (IsUnderWay g.N.Session.table g.N.Session.world l.scenario g.N.Session.floor l.end) l.waiting.items;
+  all : All (IsUnderWay g.N.Session.table g.N.Session.world l.epoch.scenario.now g.N.Session.floor l.epoch.end) l.waiting.items;
   numbers : numbers l.waiting.items ≡ numbers l.fn.waiting.items;
   len : vec_len l.waiting ≡ vec_len l.fn.waiting;
   once : all_looks l.waiting.items ≤ all_looks l.fn.waiting.items + l.k;
-  over : l.over ≡ true → (i : ℕ) (d : Member) → i < l.k → IsOver l.end (get_or l.waiting.items i d);
+  over : l.over ≡ true → (i : ℕ) (d : Member) → i < l.k → IsOver l.epoch.end (get_or l.waiting.items i d);
 }

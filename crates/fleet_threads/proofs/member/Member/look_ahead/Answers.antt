@@ -15,7 +15,7 @@ returns-clause-on g c =
     let old : Member = c.args.self.now in
     let le : c.max-clock.result ≤ max (c.args.sent + old.gap) old.air.clock = search rules in
     let clock = c.requires.member.clock in
-    let within : c.max-clock.result ≤ c.args.end = search rules in
+    let within : c.max-clock.result ≤ c.args.epoch.now.end = search rules in
     let new : Member = record { runner = old.runner; air = c.raise.new.self; turn = old.turn; gap = old.gap; halted = old.halted } in
     (raised _ _ _ _ _ old c.requires.member new c.max-clock.result refl refl c.raise.ensures within (passed_ahead _ _ _ _ _ old c.requires.member _ _ le c.requires.none), refl)
 

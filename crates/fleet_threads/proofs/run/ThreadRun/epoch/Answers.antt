@@ -17,7 +17,7 @@ invariant_of-self-2 g c =
       scenario = c.self.invariant.scenario;
       limit = c.self.invariant.limit;
       within = omega arith;
-      tied = subst (λ (s : ScenarioOf). IsTied s c.min-end.result c.min-end.result c.in_ok-epoch.epoch.parts) same c.in_ok-epoch.ensures.tied;
+      tied = subst (λ (s : ScenarioOf). IsTied s c.min-end.result c.min-end.result c.in_ok-passed.passed.parts) same c.in_ok-passed.ensures.tied;
     }
 
 pub invariant_of-self : goal.invariant_of-self
@@ -40,7 +40,7 @@ through-requires-clause-epoch g c κs within =
 
 pub returns-clause-rows : goal.returns-clause-rows
 returns-clause-rows g c =
-    subst (λ (n : ℕ). rows_upto (fleet_of c.args.scenario.now) c.min-end.result ≡ rows_upto (fleet_of c.args.scenario.now) n ++ c.in_ok-epoch.epoch.rows.items) (ap (λ (r : RunAt). r.floor) c.self.view_is) c.in_ok-epoch.ensures.rows
+    subst (λ (n : ℕ). rows_upto (fleet_of c.args.scenario.now) c.min-end.result ≡ rows_upto (fleet_of c.args.scenario.now) n ++ c.in_ok-passed.passed.rows.items) (ap (λ (r : RunAt). r.floor) c.self.view_is) c.in_ok-passed.ensures.rows
 
 pub returns-clause-scenario : goal.returns-clause-scenario
 returns-clause-scenario g c = ap (λ (r : RunAt). r.scenario) c.self.view_is
