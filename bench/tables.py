@@ -57,9 +57,9 @@ def path_cells(row):
 
 
 def threads_cells(row):
-    """On one thread, by threads, how many times as fast, the part; how many times as fast beside two and four busy programs."""
+    """On one thread, by threads, how many times as fast, the part; the same beside two and four busy programs, where measured."""
     alone = [span(row["plain"], 2, " s"), span(row["threads"], 2, " s"), span(row["gain"], 1), span(row["part"], 2)]
-    return alone + [span(row[busy], 1) if busy in row else "" for busy in ("gain beside 2", "gain beside 4")]
+    return alone + [span(row[busy], 1) for busy in ("gain beside 2", "gain beside 4") if busy in row]
 
 
 # The script of a table, how its cells are made, and how many cells before them say what the row is.
