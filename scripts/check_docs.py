@@ -32,8 +32,8 @@ TOP = Path(__file__).resolve().parent.parent
 # How many bytes the reader of a document has time for.
 MOST_BYTES = {
     "README.md": 9000,
-    "docs/PROOFS.md": 17250,
-    "docs/SPEED.md": 7800,
+    "docs/PROOFS.md": 17000,
+    "docs/SPEED.md": 7000,
     "docs/RELEASE.md": 5000,
     "docs/PROVING.md": 27000,
     "docs/DECISIONS.md": 22000,
