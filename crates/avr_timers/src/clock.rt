@@ -1,6 +1,6 @@
 // Clocks behind a prescaler.
 ghost use Rattle.std.specs.Prelude.{◌≡◌, ◌≤◌, ◌<◌, ◌+◌, ◌-◌, ◌*◌, ◌/◌, ◌^◌};
-ghost use Rattle.device_base.specs.Bounds.{LAST_CYCLE, LAST_END};
+ghost use Rattle.air_base.specs.Bounds.{LAST_CYCLE, LAST_END};
 ghost use Rattle.avr_timers.specs.Clock.{clocked};
 
 /// Whether a prescaler that divides by `divider` has its clock in `cycle`. One with divider 0 is halted. It counts

@@ -1,6 +1,6 @@
 // The prescalers of the timers.
 ghost use Rattle.std.specs.Prelude.{◌≡◌, ◌≤◌, ◌+◌, ◌↔◌};
-ghost use Rattle.device_base.specs.Bounds.{LAST_END};
+ghost use Rattle.air_base.specs.Bounds.{LAST_END};
 ghost use Rattle.avr_timers.specs.Clock.{clocks_of};
 
 use crate::clocks_in;

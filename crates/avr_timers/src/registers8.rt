@@ -1,6 +1,6 @@
 // The registers of a timer.
 ghost use Rattle.std.specs.Prelude.{◌≡◌, ◌≤◌, ◌+◌, ◌<◌, ℕ, false, Ok, Err, OnOk, OnErr, IfErr};
-ghost use Rattle.device_base.specs.Bounds.{LAST_END};
+ghost use Rattle.air_base.specs.Bounds.{LAST_END};
 
 use crate::Timer8;
 use avr_base::StopCause;

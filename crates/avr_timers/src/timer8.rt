@@ -1,6 +1,6 @@
 // The timer, cycle by cycle and in leaps.
 ghost use Rattle.std.specs.Prelude.{◌≡◌, ◌≤◌, ◌<◌, ◌+◌, ◌-◌, ◌^◌, ◌↔◌, ℕ, false, None, Some, IfNone, IfSome};
-ghost use Rattle.device_base.specs.Bounds.{LAST_CYCLE, LAST_END};
+ghost use Rattle.air_base.specs.Bounds.{LAST_CYCLE, LAST_END};
 ghost use Rattle.avr_timers.specs.Clock.{cycles, many};
 ghost use Rattle.avr_timers.specs.First.{First};
 ghost use Rattle.avr_timers.specs.Timer as counter;

@@ -1,5 +1,6 @@
 -- A board that lags: what its value is, and what stays known of it.
 use Rattle.std.proofs.Common.{◌≡◌, ℕ, ◌+◌, ◌-◌, ◌^◌, ◌<◌, ◌≤◌, true, false, inl, inr, Option, Some, None, refl, sym, ap, ◌∙◌, subst, arith}
+use Rattle.air_base.specs.Bounds.{LAST_CYCLE}
 use Rattle.std.proofs.lemmas.Bool.{cases_lt}
 use Rattle.board_io.specs.declared.ahead.Forecast.{Forecast}
 use Rattle.board_io.specs.declared.board.Board.{Board}
@@ -130,7 +131,7 @@ sooner bound less b le h = record {
 -- ---- a board that lags
 -- n cycles from now on in which nothing ends and no flag changes, nor did it since `settled`
 pub record IsFree (settled n : ℕ) (b : Board) : Type 0 where
-  pub early : b.clock + n ≤ 2 ^ 40
+  pub early : b.clock + n ≤ LAST_CYCLE
   pub quiet : (i : ℕ) → i < n → board_quiet (b.clock + i) b ≡ true
   pub calm : (i : ℕ) → settled + i < b.clock + n → changes_flag_at settled b i ≡ false
 
@@ -178,7 +179,7 @@ module _ (a : Forecast) (b : Board) (h : IsAhead a b) where
       }
 
   -- nor up to a bound that its value is clear to
-  pub free_to : (bound n : ℕ) (v : Board) → caught_up a.settled b ≡ v → bound ≤ 2 ^ 40 → IsClear bound v → b.clock + n ≤ bound → IsFree a.settled n b
+  pub free_to : (bound n : ℕ) (v : Board) → caught_up a.settled b ≡ v → bound ≤ LAST_CYCLE → IsClear bound v → b.clock + n ≤ bound → IsFree a.settled n b
   free_to bound n v e early clear le =
       let k : IsClear bound (caught_up a.settled b) = subst (IsClear bound) (sym e) clear in
       let at = caught_clock a.settled b in

@@ -4,7 +4,7 @@
 -- before the cycles that are made up for. Its clock may be past `next`: whoever moved it there knew that no flag changes
 -- before.
 use Rattle.std.specs.Prelude.{◌≡◌, ℕ, ◌+◌, ◌-◌, ◌<◌, ◌≤◌, ◌==◌, ◌&&◌, not, Bool, true, false, Ok}
-use Rattle.device_base.specs.Bounds.{LAST_CYCLE}
+use Rattle.air_base.specs.Bounds.{LAST_CYCLE}
 use Rattle.board_io.specs.declared.board.Board.{Board}
 use Rattle.board_io.specs.declared.ahead.Forecast.{Forecast}
 use Rattle.board_io.specs.Board.{clock_at}

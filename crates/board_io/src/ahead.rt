@@ -1,13 +1,11 @@
 // What is known of a board's next cycles.
 ghost use Rattle.std.specs.Prelude.{◌≡◌, ◌≤◌, ◌<◌, ◌+◌, ℕ, false};
-ghost use Rattle.device_base.specs.Bounds.{LAST_CYCLE};
+ghost use Rattle.air_base.specs.Bounds.{LAST_CYCLE};
 ghost use Rattle.board_io.specs.Passing.{changes_flag_at, sets_flag_at};
 ghost use Rattle.board_io.specs.Lagging.{IsAhead};
 
 use crate::Board;
-
-// The last cycle that anything is told of.
-const LAST: u64 = 1 << 40;
+use air_base::LAST_CYCLE;
 
 // How many cycles on the next flag must be set at least, so that it is not asked whether it is set already.
 const NEAR: u64 = 32;
@@ -49,7 +47,7 @@ impl Board {
         ensures ahead { IsAhead result self.now }
     {
         let settled = self.clock.get();
-        let calm = self.quiet(settled, LAST - settled);
+        let calm = self.quiet(settled, LAST_CYCLE - settled);
         let same = self.same_lines(settled, calm + 1);
         let steady = settled + (same - 1);
         let next = self.same_until(settled, calm, steady);

@@ -1,6 +1,7 @@
 // The board and what its other parts read of it.
 ghost use Rattle.std.specs.Prelude.{◌≡◌, ◌≤◌, map, slice_set};
-ghost use Rattle.device_base.specs.Bounds.{LAST_END};
+ghost use Rattle.air_base.specs.Bounds.{LAST_END};
+ghost use Rattle.air_base.specs.declared.bounds.TheConstants.{LONGEST_BYTE};
 ghost use Rattle.std.specs.List.{range_with_len};
 ghost use Rattle.board_io.specs.Table.{start_of};
 
@@ -76,7 +77,7 @@ impl Board {
 
     /// The board after reset, with the byte time of its radio in cycles, at most 4,096.
     pub fn new(byte_time: u64) -> Board
-        requires { byte_time ≤ 4096 }
+        requires { byte_time ≤ LONGEST_BYTE }
         ensures { result ≡ reset_board byte_time }
     {
         Board {

@@ -1,6 +1,6 @@
 // The clock of a board.
 ghost use Rattle.std.specs.Prelude.{◌≡◌, ◌≤◌};
-ghost use Rattle.device_base.specs.Bounds.{LAST_END};
+ghost use Rattle.air_base.specs.Bounds.{LAST_END};
 
 use std::marker::Model;
 
@@ -12,7 +12,7 @@ pub struct Clock {
 
 impl Model for Clock {
     ghost use Rattle.std.specs.Prelude.{ℕ, ◌≤◌};
-    ghost use Rattle.device_base.specs.Bounds.{LAST_END};
+    ghost use Rattle.air_base.specs.Bounds.{LAST_END};
 
     ghost Value = { ℕ };
 

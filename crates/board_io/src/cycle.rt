@@ -1,6 +1,6 @@
 // One cycle of the devices.
 ghost use Rattle.std.specs.Prelude.{◌≡◌, ◌≤◌, true, is_some};
-ghost use Rattle.device_base.specs.Bounds.{LAST_END};
+ghost use Rattle.air_base.specs.Bounds.{LAST_END};
 ghost use Rattle.serial_ports.specs.Usart.{frame_ended};
 ghost use Rattle.avr_timers.specs.Timer16 as timer16;
 ghost use Rattle.avr_timers.specs.Timer8 as timer8;

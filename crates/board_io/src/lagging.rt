@@ -1,6 +1,7 @@
 // A board that does its timers' cycles once somebody looks at them.
 ghost use Rattle.std.specs.Prelude.{◌≡◌, ◌≤◌, ◌<◌, ◌+◌, ◌-◌, ◌*◌, true, false, is_some};
-ghost use Rattle.device_base.specs.Bounds.{LAST_CYCLE};
+ghost use Rattle.air_base.specs.Bounds.{LAST_CYCLE};
+ghost use Rattle.air_base.specs.declared.bounds.TheConstants.{LONGEST_BYTE};
 ghost use Rattle.board_io.specs.Lagging.{IsClear, IsIdle};
 
 use crate::ahead::{Forecast, clear_until};
@@ -38,7 +39,7 @@ impl LaggingBoard {
 
     /// The board after reset, at cycle 0, with the byte time of its radio in cycles, at most 4,096.
     pub fn new(byte_time: u64) -> LaggingBoard
-        requires { byte_time ≤ 4096 }
+        requires { byte_time ≤ LONGEST_BYTE }
         ensures { result ≡ reset_board byte_time }
     {
         let board = Board::new(byte_time);

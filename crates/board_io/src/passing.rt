@@ -1,6 +1,6 @@
 // Many cycles of the devices at once.
 ghost use Rattle.std.specs.Prelude.{◌≡◌, ◌≤◌, ◌<◌, ◌+◌, ◌-◌, ℕ, true, false};
-ghost use Rattle.device_base.specs.Bounds.{LAST_CYCLE, LAST_END};
+ghost use Rattle.air_base.specs.Bounds.{LAST_CYCLE, LAST_END};
 ghost use Rattle.avr_timers.specs.Clock.{cycles};
 ghost use Rattle.avr_timers.specs.Timer8 as timer8;
 ghost use Rattle.avr_timers.specs.Timer16 as timer16;

@@ -1,6 +1,7 @@
 // What a board is saved and restored by.
 ghost use Rattle.std.specs.Prelude.{◌≡◌, ◌≤◌, ◌+◌, None, Some, IfSome, is_some, length};
-ghost use Rattle.device_base.specs.Bounds.{LAST_CYCLE, LAST_END};
+ghost use Rattle.air_base.specs.Bounds.{LAST_CYCLE, LAST_END};
+ghost use Rattle.air_base.specs.declared.bounds.TheConstants.{LONGEST_BYTE};
 ghost use Rattle.std.specs.List.{list_all};
 ghost use Rattle.board_io.specs.Kept.{first_refused, is_io, is_kept, kept_bits, kept_of};
 
@@ -158,7 +159,7 @@ impl Board {
         numbers: &[u64; 67],
         io: &[u8],
     ) -> Option<Board>
-        requires byte_time { byte_time ≤ 4096 }
+        requires byte_time { byte_time ≤ LONGEST_BYTE }
         requires cycle { cycle ≤ LAST_END }
         requires io { length io.now ≡ IO_COUNT }
         ensures none { is_some result ≡ list_all (λ fit. fit) (fits ends_from numbers.now) }

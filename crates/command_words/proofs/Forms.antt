@@ -4,6 +4,7 @@ use Rattle.std.proofs.lemmas.Bool.{and_parts}
 use Rattle.std.proofs.lemmas.Bool.Decides.{nat_tests}
 use Rattle.std.proofs.lemmas.Slice.Eq.{bytes_eq-Decides}
 use Rattle.std.specs.Prelude.{IfSome}
+use Rattle.air_base.specs.Bounds.{LAST_CYCLE}
 use Rattle.command_words.specs.declared.command.Command.{Command}
 use Rattle.command_words.specs.Words.{Asked, Node, Run, RunPlain, Monitor, Sniff, Check, Disasm, Asm, Make, Head, Save, Resume, HeadOn, SaveOn, MonitorSpan, Sweep, as_make, as_plain_run, as_resume, as_span, as_sweep, asked_by, cycles_of, epochs_of, bound_of, file_behind, in_order, is_file, is_word, or_else, sample_of, shown, span_of, with_number, with_state, IsInLimits}
 use Rattle.command_words.proofs.Numerals.{number_limits}
@@ -263,7 +264,7 @@ in_limits _ _ (IsHeadOn file epochs state n f e g) = number_limits 7 1 9999999 e
 in_limits _ _ (IsSaveOn file epochs state n f e g) = number_limits 7 1 9999999 epochs n e
 in_limits _ _ (IsMonitorSpan file from to a b f s) =
     let order : nat_le a b ≡ true = s.order in
-    (grind (arith, nat_tests), (number_limits 13 0 1099511627776 to b s.to_is).1)
+    (grind (arith, nat_tests), (number_limits 13 0 LAST_CYCLE to b s.to_is).1)
 in_limits _ _ (IsSweep file state moves f g h) = tt
 
 -- a command that is what the words ask for

@@ -1,5 +1,6 @@
 -- How the words of each form are split.
 use Rattle.std.proofs.Common.{◌≡◌, ℕ, is_some, ◌==◌, Bool, true, false, not, List, Option, Some, None, [], ◌∷◌, refl, sym, ap, ◌∙◌, option_map}
+use Rattle.air_base.specs.Bounds.{LAST_CYCLE}
 use Rattle.std.specs.Str.{bytes_eq}
 use Rattle.clap.specs.Lexer.{strip_byte}
 use Rattle.clap.specs.Words.{subcommand_of, takes}
@@ -68,8 +69,8 @@ taken _ _ (IsSaveOn file epochs state n f e g) =
     simp (a.short, a.long, b.short, b.long, c.short, c.long) (refl {a = true})
 taken _ _ (IsMonitorSpan file from to m n f s) =
     let a = plain_file file f in
-    let b = plain_file from (number_file 13 0 1099511627776 from m s.from_is) in
-    let c = plain_file to (number_file 13 0 1099511627776 to n s.to_is) in
+    let b = plain_file from (number_file 13 0 LAST_CYCLE from m s.from_is) in
+    let c = plain_file to (number_file 13 0 LAST_CYCLE to n s.to_is) in
     simp (a.short, a.long, b.short, b.long, c.short, c.long) (refl {a = true})
 taken _ _ (IsSweep file state moves f g h) =
     let a = plain_file file f in
@@ -118,8 +119,8 @@ kept _ _ (IsSaveOn file epochs state n f e g) =
     simp (a.short, a.long, b.short, b.long, c.short, c.long) asked
 kept _ _ (IsMonitorSpan file from to m n f s) =
     let a = plain_file file f in
-    let b = plain_file from (number_file 13 0 1099511627776 from m s.from_is) in
-    let c = plain_file to (number_file 13 0 1099511627776 to n s.to_is) in
+    let b = plain_file from (number_file 13 0 LAST_CYCLE from m s.from_is) in
+    let c = plain_file to (number_file 13 0 LAST_CYCLE to n s.to_is) in
     let asked : within_in file (Some from) to ≡ Some (MonitorSpan file m n) = ap (option_map (λ span. MonitorSpan file span.0 span.1)) (span_is from to m n s) in
     simp (a.short, a.long, b.short, b.long, c.short, c.long) asked
 kept _ _ (IsSweep file state moves f g h) =

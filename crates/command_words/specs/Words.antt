@@ -1,5 +1,6 @@
 -- The command line: which lists of words are accepted, and what each asks for (this program's own usage).
 use Rattle.std.specs.Prelude.{ℕ, ◌≤◌, ◌==◌, ◌&&◌, nat_le, not, Bool, false, if◌then◌else◌, List, [], ◌∷◌, length, codes, Option, Some, None, option_map}
+use Rattle.air_base.specs.Bounds.{LAST_CYCLE}
 use Rattle.std.specs.Char.{is_ascii_digit}
 use Rattle.std.specs.List.{list_all}
 use Rattle.std.specs.Str.Parse.{digits_value}
@@ -93,7 +94,7 @@ epochs_of word = number_of 7 1 9999999 word
 
 -- FROM, or TO: one to thirteen decimal digits that write a cycle of at most 1,099,511,627,776
 abbrev pub bound_of : List ℕ → Option ℕ
-bound_of word = number_of 13 0 1099511627776 word
+bound_of word = number_of 13 0 LAST_CYCLE word
 
 abbrev pub in_order : Option ℕ → Option ℕ → Option (ℕ × ℕ)
 in_order (Some from) (Some to) = if nat_le from to then Some (from, to) else None
@@ -193,5 +194,5 @@ IsInLimits (Save file epochs) = (1 ≤ epochs) × (epochs ≤ 9999999)
 IsInLimits (Resume file state) = Unit {0}
 IsInLimits (HeadOn file epochs state) = (1 ≤ epochs) × (epochs ≤ 9999999)
 IsInLimits (SaveOn file epochs state) = (1 ≤ epochs) × (epochs ≤ 9999999)
-IsInLimits (MonitorSpan file from to) = (from ≤ to) × (to ≤ 1099511627776)
+IsInLimits (MonitorSpan file from to) = (from ≤ to) × (to ≤ LAST_CYCLE)
 IsInLimits (Sweep file state moves) = Unit {0}

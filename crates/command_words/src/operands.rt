@@ -1,8 +1,11 @@
 // What stands behind the name of a command: files and numbers.
 ghost use Rattle.std.specs.Prelude.{◌≡◌, ◌≤◌, IfSome};
+ghost use Rattle.air_base.specs.Bounds.{LAST_CYCLE};
 ghost use Rattle.std.specs.Char.{is_ascii_digit};
 ghost use Rattle.std.specs.List.{list_all};
 ghost use Rattle.command_words.specs.Words.{bound_of, cycles_of, epochs_of, is_file, number_of, sample_of, span_of};
+
+use air_base::LAST_CYCLE;
 
 /// Whether a word names a file: it is not empty, and no option.
 pub fn is_file(word: &str) -> bool
@@ -59,9 +62,9 @@ pub fn epochs(word: &str) -> Option<u64>
 // The cycle that a word gives as a bound of a span.
 fn bound(word: &str) -> Option<u64>
     ensures value { result ≡ bound_of word.now }
-    ensures limits { IfSome result (λ n. n ≤ 1099511627776) }
+    ensures limits { IfSome result (λ n. n ≤ LAST_CYCLE) }
 {
-    number(word, 13, 0, 1 << 40)
+    number(word, 13, 0, LAST_CYCLE)
 }
 
 /// The span of cycles that two words give: each one to thirteen decimal digits, no sign, at most 1,099,511,627,776,

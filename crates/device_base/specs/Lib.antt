@@ -1,4 +1,3 @@
 pub mod Bits
 pub mod Numbers
 pub mod Names
-pub mod Bounds

@@ -1,5 +1,6 @@
 // What is done to the board: its I/O registers, as the data space has them, its cycles and its interrupt lines.
 ghost use Rattle.std.specs.Prelude.{◌≤◌, ◌^◌};
+ghost use Rattle.air_base.specs.Bounds.{LAST_END};
 
 use crate::answers::Answer;
 use crate::numbers::{address, byte, cycle};
@@ -71,7 +72,7 @@ impl CoreAndBoard {
 
     // One cycle of the devices, in which nothing arrives; where the radio asks the air, it is answered.
     fn cycle(&mut self, at: u64) -> Answer
-        requires { at ≤ 2 ^ 41 }
+        requires { at ≤ LAST_END }
     {
         let begun = self.board.begin(at, None);
         match begun.air {

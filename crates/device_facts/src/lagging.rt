@@ -1,5 +1,6 @@
 // What is done to the board as a node runs it, whose timers do their cycles once somebody looks at them.
 ghost use Rattle.std.specs.Prelude.{◌≡◌, ◌<◌, ◌≤◌, ◌+◌, ◌^◌};
+ghost use Rattle.air_base.specs.Bounds.{LAST_CYCLE};
 
 use crate::answers::Answer;
 use crate::board::HEARD;
@@ -48,7 +49,7 @@ impl NodeBoard {
 
     // One cycle; where the radio asks the air, it is answered.
     fn step(&mut self, arrival: Option<u8>) -> Answer
-        requires { self.old.clock < 2 ^ 40 }
+        requires { self.old.clock < LAST_CYCLE }
     {
         let at = self.cycle;
         let begun = self.board.begin(at, arrival);

@@ -1,10 +1,11 @@
 // What is done to the radio.
 ghost use Rattle.std.specs.Prelude.{◌≤◌, ◌^◌};
+ghost use Rattle.air_base.specs.Bounds.{LAST_END};
 
 use crate::answers::Answer;
 use crate::numbers::{byte, cycle, short};
 use crate::saved::saved_radio;
-use air_base::Heard;
+use air_base::{Heard, LONGEST_BYTE};
 use serial_ports::{Radio, TransferOutcome};
 
 // What a sample hears where nothing else is said: one byte.
@@ -16,7 +17,7 @@ const HEARD: Heard = Heard {
 
 // A transfer that ends in a cycle; where the radio asks the air, it hears this.
 fn moved(radio: &mut Radio, at: u64, selected: bool, mosi: u8, heard: Heard) -> Answer
-    requires { at ≤ 2 ^ 41 }
+    requires { at ≤ LAST_END }
 {
     match radio.transfer(at, selected, mosi) {
         TransferOutcome::Answer(b) => Answer::Byte(b),
@@ -30,7 +31,7 @@ fn moved(radio: &mut Radio, at: u64, selected: bool, mosi: u8, heard: Heard) -> 
 
 fn new_radio(word: &str) -> Option<Radio> {
     let byte_time = short(word)?;
-    if byte_time > 4096 {
+    if byte_time > LONGEST_BYTE {
         return None;
     }
     Some(Radio::new(u64::from(byte_time)))

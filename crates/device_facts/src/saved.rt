@@ -1,6 +1,7 @@
 // Devices of numbers, and the numbers of a device.
 use crate::answers::Answer;
 use crate::numbers::{cycle, long, short};
+use air_base::LONGEST_BYTE;
 use avr_timers::{Prescaler, Timer8, Timer16};
 use device_base::first_outside;
 use serial_ports::{Radio, Spi, Usart};
@@ -99,7 +100,7 @@ pub fn saved_spi(port: &mut Spi, words: &[&str]) -> Option<Answer> {
 
 // A radio of a byte time up to 4,096 cycles.
 fn made_radio(byte_time: u16, numbers: &[u64; 5]) -> Option<Radio> {
-    if byte_time > 4096 {
+    if byte_time > LONGEST_BYTE {
         return None;
     }
     Radio::from_numbers(u64::from(byte_time), numbers)

@@ -2,6 +2,7 @@
 use crate::answers::Answer;
 use crate::numbers::{byte, cycle, long, short};
 use crate::saved::saved_usart;
+use air_base::LAST_CYCLE;
 use serial_ports::{Script, Stretch, Usart, UsartReg};
 use std::alloc::Global;
 
@@ -61,7 +62,7 @@ pub fn do_usart(port: &mut Usart, words: &[&str]) -> Option<Answer> {
 
 // A stretch of three bytes.
 fn stretch(alloc: Global, at: u64, every: u16, bytes: [u8; 3]) -> Option<Stretch> {
-    if at > 1 << 40 || every == 0 {
+    if at > LAST_CYCLE || every == 0 {
         return None;
     }
     let bytes = Vec::from_slice(alloc, &bytes).ok()?;
@@ -70,7 +71,7 @@ fn stretch(alloc: Global, at: u64, every: u16, bytes: [u8; 3]) -> Option<Stretch
 
 // A script of the bytes 01, 02 and 03.
 fn three(alloc: Global, at: u64, every: u16) -> Option<Script> {
-    if at > 1 << 40 || every == 0 {
+    if at > LAST_CYCLE || every == 0 {
         return None;
     }
     let bytes = Vec::from_slice(alloc, &[1, 2, 3]).ok()?;

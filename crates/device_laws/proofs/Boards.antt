@@ -1,5 +1,6 @@
 -- What the calls of a board keep.
 use Rattle.std.proofs.Common.{◌≡◌, ℕ, ◌+◌, ◌*◌, ◌/◌, ◌%◌, ◌<◌, ◌≤◌, ◌==◌, Bool, true, false, not, ◌&&◌, if◌then◌else◌, map, slice_index, length-set, refl, sym, ap, subst, ◌∙◌, Option, Some, None, Result, Ok, Err, bit_and, bit_or, arith}
+use Rattle.air_base.specs.declared.bounds.TheConstants.{LONGEST_BYTE}
 use Rattle.std.proofs.lemmas.List.{get_or-set_same, get_or-set_other}
 use Rattle.std.proofs.lemmas.Nat.{and_assoc, and_comm, and_le_r}
 use Rattle.std.proofs.lemmas.Bool.Decides.{nat_tests}
@@ -333,7 +334,7 @@ start_kept at h = fits_kept (rule_of at) (start_of at) (all_from-at (λ at. fits
 starts : (at : ℕ) → at < 256 → slice_index (map start_of (range_with_len 0 256)) at ≡ start_of at
 starts at h = get_or-map-range_with_len start_of 0 256 at at 0 h (omega arith)
 
-pub reset_kept : (byte_time : ℕ) → byte_time ≤ 4096 → IsBoard (reset_board byte_time)
+pub reset_kept : (byte_time : ℕ) → byte_time ≤ LONGEST_BYTE → IsBoard (reset_board byte_time)
 reset_kept byte_time f = record {
   t0 = record { prescaler_is = refl; select = omega arith; no_pin = refl };
   t1 = record { select = omega arith };

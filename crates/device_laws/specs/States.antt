@@ -1,6 +1,7 @@
 -- What holds of each device at every moment after reset, beyond what its types say: so which states can be written as
 -- numbers and read back (ATmega128 datasheet, the register descriptions).
 use Rattle.std.specs.Prelude.{◌≡◌, ℕ, ◌<◌, ◌≤◌, Bool, true, false, is_some, length, bit_and}
+use Rattle.air_base.specs.declared.bounds.TheConstants.{LONGEST_BYTE}
 use Rattle.board_io.specs.declared.board.Board.{Board}
 use Rattle.board_io.specs.declared.rules.Rule.{Rule}
 use Rattle.board_io.specs.declared.rules.Rule.TheVariants.{Kept, Guarded, ResetFlags, CpuControl}
@@ -56,7 +57,7 @@ pub record IsSpi (s : Spi) : Type 0 where
   pub transfers : is_some s.shift_register ≡ true → any_bit s.control 0x40 ≡ true
 
 pub record IsRadio (r : Radio) : Type 0 where
-  pub byte_time : r.byte_time ≤ 4096
+  pub byte_time : r.byte_time ≤ LONGEST_BYTE
 
 -- what a register that no device has holds by its rule: bits of its mask, and none that may not be written 1; where
 -- nothing is kept, 0

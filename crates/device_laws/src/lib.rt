@@ -3,6 +3,7 @@
 #![tactic(auto)]
 
 ghost use Rattle.std.specs.Prelude.{◌≡◌, ℕ, ◌<◌, ◌≤◌, Ok, Option};
+ghost use Rattle.air_base.specs.declared.bounds.TheConstants.{LONGEST_BYTE};
 ghost use Rattle.board_io.specs.declared.board.Board.{Board};
 ghost use Rattle.board_io.specs.Board.{clock_at, reset_board};
 ghost use Rattle.board_io.specs.Cycle.{board_answered, board_begun, timers_leap};
@@ -13,7 +14,7 @@ ghost use Rattle.air_base.specs.declared.air.Heard.{Heard};
 
 /// A board after reset is in such a state.
 pub fn reset_law()
-    ensures { (byte_time : ℕ) → byte_time ≤ 4096 → IsBoard (reset_board byte_time) }
+    ensures { (byte_time : ℕ) → byte_time ≤ LONGEST_BYTE → IsBoard (reset_board byte_time) }
 {}
 
 /// A read and a write of a register at any data address keep it.

@@ -1,5 +1,6 @@
 // Steps of all nodes.
 ghost use Rattle.std.specs.Prelude.{◌≡◌, ◌<◌, ◌≤◌, ◌^◌, true, OnOk};
+ghost use Rattle.air_base.specs.Bounds.{LAST_CYCLE};
 ghost use Rattle.std.specs.List.{All};
 ghost use Rattle.world_core.specs.Topology.{IsInside};
 ghost use Rattle.node_core.specs.Cycle.{node_kind};
@@ -29,7 +30,7 @@ fn advance(
     end: u64,
 ) -> Result<(), NoMemory>
     requires live { is_live node_kind end node.old ≡ true }
-    requires early { end ≤ 2 ^ 40 }
+    requires early { end ≤ LAST_CYCLE }
     requires number { number < 64 }
     requires inside { All (λ x. IsInside topo.now x.node x.cycle) log.old.sends }
     requires post { CanPost number node.old.cycle log.old.sends }

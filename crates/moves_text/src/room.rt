@@ -1,5 +1,6 @@
 // What is left to the next stretch of a line.
 ghost use Rattle.std.specs.Prelude.{◌≡◌, ◌≤◌};
+ghost use Rattle.air_base.specs.Bounds.{LAST_CYCLE};
 ghost use Rattle.moves_text.specs.Moves.{left_behind};
 
 /// The first cycle in which a stretch may begin, and how many bytes it may have.
@@ -13,7 +14,7 @@ impl Room {
     /// What is left behind a stretch of so many bytes, at least one, in room for it.
     #[tactic(auto, unfolding(crate::specs::Moves::left_behind))]
     pub fn behind(self, at: u64, every: u64, count: usize) -> Room
-        requires at { at ≤ 1099511627776 }
+        requires at { at ≤ LAST_CYCLE }
         requires every { every ≤ 65535 }
         requires some { 1 ≤ count }
         requires few { count ≤ 65536 }

@@ -5,6 +5,7 @@ ghost use Rattle.moves_text.specs.Reading.{Gives, next_stretch};
 
 use crate::fault::{LineFault, MovesFault};
 use crate::room::Room;
+use air_base::LAST_CYCLE;
 use hex::FromHexError;
 use serial_ports::Stretch;
 use state_text::{Parts, is_decimal, value};
@@ -67,7 +68,7 @@ fn stretch_in(
     ensures behind { IfOk result (λ x. x.1 ≡ room_behind room x.0) }
     ensures few { IfOk result (λ x. x.1.bytes ≤ 65536) }
 {
-    let at = number_in(line, LineFault::OutOfRange, 0, (1 << 40) + 1, at)?;
+    let at = number_in(line, LineFault::OutOfRange, 0, LAST_CYCLE + 1, at)?;
     let every = number_in(line, LineFault::OutOfRange, 1, 65_536, every)?;
     let bytes = bytes_in(alloc, line, digits)?;
     if at < room.from {

@@ -1,6 +1,7 @@
 -- Rounds of a loop that waits: where a round leads from a core back to it, so do many at once.
 use Rattle.std.proofs.Common.{◌≡◌, ℕ, zero, suc, ◌+◌, ◌*◌, ◌≤◌, ◌<◌, ◌^◌, add-zero, true, false, None, refl, sym, subst, ap, ◌∙◌, arith}
 use Rattle.std.specs.Prelude.{Ok}
+use Rattle.air_base.specs.Bounds.{LAST_CYCLE}
 use Rattle.avr_base.specs.Lines.{due_of}
 use Rattle.board_io.specs.declared.board.Board.{Board}
 use Rattle.board_io.specs.Board.{clock_at, unclocked}
@@ -39,7 +40,7 @@ pub record IsOpen (t n : ℕ) (m : Machine) : Type 0 where
   pub awake : m.asleep ≡ false
   pub untold : (i : ℕ) → i < n → is_told m.from m.to (t + i) ≡ false
   pub now : m.bus.board.clock ≡ t
-  pub few : m.count ≤ 2 ^ 40 + t
+  pub few : m.count ≤ LAST_CYCLE + t
   pub idle : IsIdle t n (unclocked m.bus.board)
   pub script : (i : ℕ) → i < n → script_byte m.script (t + i) ≡ None
 

@@ -1,5 +1,6 @@
 -- A run of a node goes on: by a rest, and by a cycle that neither samples nor sends.
 use Rattle.std.proofs.Common.{◌≡◌, ℕ, ◌+◌, ◌^◌, ◌≤◌, ◌++◌, Bool, false, None, List, [], add-zero, sym, ◌∙◌, subst, arith}
+use Rattle.air_base.specs.Bounds.{LAST_CYCLE}
 use Rattle.std.proofs.lemmas.Bool.{false≢true}
 use Rattle.node_core.specs.declared.row.Row.{Row}
 use Rattle.air_base.specs.NodeRun.{AllQuiet, Comes, Timed, passed, passed_rows}
@@ -20,7 +21,7 @@ begun_comes v c s u l k h asks sends e r =
     (subst (Comes node_kind v (c + 1) (begun_in c s)) (sym r) (comes_more node_kind v c s l h (asks, sends)))
 
 -- the inside of a node that stands between two cycles
-pub whole_between : (t : ℕ) (b : Bool) (m : Machine) → b ≡ false → m.count ≤ 2 ^ 40 + t → (m.stop ≡ None → m.bus.board.clock ≡ t) → IsWhole t b m
+pub whole_between : (t : ℕ) (b : Bool) (m : Machine) → b ≡ false → m.count ≤ LAST_CYCLE + t → (m.stop ≡ None → m.bus.board.clock ≡ t) → IsWhole t b m
 whole_between t b m calm few clock = subst (λ (a : Bool). IsWhole t a m) (sym calm) record {
   few = omega (arith, few);
   clock = λ going. clock going ∙ sym (add-zero t);

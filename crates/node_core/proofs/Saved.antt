@@ -1,6 +1,7 @@
 -- The numbers of a node: what their bounds say, the state that they make, and that it is the only one.
 use Rattle.std.proofs.Common.{◌≡◌, ◌≤◌, ◌<◌, ◌+◌, ◌^◌, ℕ, Bool, true, refl, sym, ◌∙◌, ap, arith, List, [], ◌∷◌, ◌++◌, length, take, drop, slice_index, slice_set, ◌==◌, nat_le, Option, None, Some, is_none}
 use Rattle.std.specs.Prelude.{map, not}
+use Rattle.air_base.specs.Bounds.{LAST_CYCLE}
 use Rattle.std.specs.List.{list_all, position}
 use Rattle.std.proofs.Math.Seq.{take-add}
 use Rattle.std.proofs.lemmas.List.{append_assoc, drop-drop, drop_at, get_or-drop, get_or-take, length-drop, length-take, map_push, take_all, take_at, take_more, take_more_set}
@@ -47,7 +48,7 @@ tail-fits n =
     ∷ nat_le (slice_index n 37) 1
     ∷ nat_le (slice_index n 38) 1
     ∷ nat_le (slice_index n 39) 26
-    ∷ nat_le (slice_index n 40) (2 ^ 40)
+    ∷ nat_le (slice_index n 40) LAST_CYCLE
     ∷ []
 
 byte-at : (n : List ℕ) (k : ℕ) → 33 ≤ length n → list_all (λ byte. nat_le byte 255) (take 33 n) ≡ true → k < 33 → slice_index n k ≤ 255

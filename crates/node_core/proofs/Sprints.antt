@@ -4,6 +4,7 @@ use Rattle.std.proofs.lemmas.Bool.{false≢true}
 use Rattle.std.proofs.lemmas.Bool.Decides.{nat_tests}
 use Rattle.std.specs.Bool.{beq}
 use Rattle.std.specs.Prelude.{vec_len, vec_capacity}
+use Rattle.air_base.specs.Bounds.{LAST_CYCLE}
 use Rattle.avr_base.specs.Flags.{I, has_flag}
 use Rattle.avr_base.specs.Lines.{due_of, lowest_line, pending_of, vector_of}
 use Rattle.board_io.specs.declared.board.Board.{Board}
@@ -54,7 +55,7 @@ clear_due m e = none_due m (by_flag (has_flag m.cpu.sreg.bits I))
     by_flag false = refl
 
 -- at its beginning
-pub begins : (t : ℕ) (m : Machine) → m.stop ≡ None → m.wait ≡ 0 → m.asleep ≡ false → m.bus.board.clock ≡ t → m.count ≤ 2 ^ 40 + t → IsSprinting t t m m
+pub begins : (t : ℕ) (m : Machine) → m.stop ≡ None → m.wait ≡ 0 → m.asleep ≡ false → m.bus.board.clock ≡ t → m.count ≤ LAST_CYCLE + t → IsSprinting t t m m
 begins t m going free awake clock count =
     let v : Timed NodeState Row = record { cycle = t; asking = false; state = shown m; rows = m.rows.items } in
     record {
@@ -72,7 +73,7 @@ begins t m going free awake clock count =
     }
 
 -- none at all
-pub stands : (t : ℕ) (m : Machine) → m.stop ≡ None → m.wait ≡ 0 → m.asleep ≡ false → m.bus.board.clock ≡ t → m.count ≤ 2 ^ 40 + t → IsSprinted t t false m m
+pub stands : (t : ℕ) (m : Machine) → m.stop ≡ None → m.wait ≡ 0 → m.asleep ≡ false → m.bus.board.clock ≡ t → m.count ≤ LAST_CYCLE + t → IsSprinted t t false m m
 stands t m going free awake clock count = record {
   comes = λ e. comes_none node_kind (let v : Timed NodeState Row = record { cycle = t; asking = false; state = shown m; rows = m.rows.items } in v);
   midway = λ e. absurd (false≢true e);
@@ -113,7 +114,7 @@ module _ (t at : ℕ) (old m : Machine) (h : IsSprinting t at old m) where
         from = h.from;
       }
 
-  pub may : at ≤ 2 ^ 40 → vec_len old.rows < vec_capacity old.rows → MayAct at m
+  pub may : at ≤ LAST_CYCLE → vec_len old.rows < vec_capacity old.rows → MayAct at m
   may early room =
       let count = h.count in
       let len : vec_len m.rows ≡ vec_len old.rows = ap (λ x. vec_len x) h.rows in
@@ -252,7 +253,7 @@ abbrev pub turning : Machine → Registers → Core → ℕ → Machine
 turning self regs core owed_to = owing (nat_lt self.count owed_to) (beside regs core self)
 
 pub acts : (t end : ℕ) (first self : Machine) (regs : Registers) (core : Core) (owed_to : ℕ) (h : IsTurning t end first self regs core owed_to)
-    → end ≤ 2 ^ 40 → vec_len first.rows < vec_capacity first.rows → MayAct self.bus.board.clock (turning self regs core owed_to)
+    → end ≤ LAST_CYCLE → vec_len first.rows < vec_capacity first.rows → MayAct self.bus.board.clock (turning self regs core owed_to)
 acts t end first self regs core owed_to h early room =
     let within = h.within in may t self.bus.board.clock first (turning self regs core owed_to) h.runs (omega (arith, within, early)) room
 
@@ -316,7 +317,7 @@ module _ (t end : ℕ) (first self : Machine) (regs : Registers) (core : Core) (
     pub stays_at : board.clock ≡ self.bus.board.clock
     stays_at = ap (λ (x : Board). x.clock) same ∙ p.clock
 
-    pub may_end : end ≤ 2 ^ 40 → ((i : ℕ) → t + i < end → script_byte first.script (t + i) ≡ None) → MayEnd end n (on_board board)
+    pub may_end : end ≤ LAST_CYCLE → ((i : ℕ) → t + i < end → script_byte first.script (t + i) ≡ None) → MayEnd end n (on_board board)
     may_end early none =
         let at = stays_at in
         let within = h.within in

@@ -2,7 +2,7 @@
 -- wrap; the clock of its board shows the next cycle of the devices; in the middle of a sample there is room for the row
 -- of what is heard, and the transfer that samples runs.
 use Rattle.std.specs.Prelude.{◌≡◌, ℕ, ◌+◌, ◌≤◌, ◌<◌, ◌&&◌, nat_le, nat_lt, Bool, true, false, None, is_some, if◌then◌else◌, vec_len, vec_capacity}
-use Rattle.device_base.specs.Bounds.{LAST_CYCLE}
+use Rattle.air_base.specs.Bounds.{LAST_CYCLE}
 use Rattle.node_core.specs.declared.machine.Machine.{Machine}
 use Rattle.node_core.specs.Bus.{with_board}
 use Rattle.node_core.specs.State.{NodeState}

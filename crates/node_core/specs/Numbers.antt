@@ -3,7 +3,7 @@
 -- instruction, whether an instruction is owed, whether it sleeps, the number of the cause that stopped it (0 for none)
 -- and how many instructions it executed.
 use Rattle.std.specs.Prelude.{ℕ, ◌==◌, nat_le, not, if◌then◌else◌, Bool, List, [], ◌∷◌, ◌++◌, Option, map, take, slice_index}
-use Rattle.device_base.specs.Bounds.{LAST_CYCLE}
+use Rattle.air_base.specs.Bounds.{LAST_CYCLE}
 use Rattle.std.specs.List.{position}
 use Rattle.avr_base.specs.Causes.{stop_number}
 use Rattle.board_io.specs.Saved as board

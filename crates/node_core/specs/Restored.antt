@@ -1,6 +1,6 @@
 -- A node that is restored from its numbers, the I/O bytes that its board keeps and its SRAM, and when it is refused.
 use Rattle.std.specs.Prelude.{◌≡◌, ◌⊎◌, ℕ, ◌+◌, ◌≤◌, ◌<◌, List, length, Option, None, Some, take, slice_index, ◌==◌}
-use Rattle.device_base.specs.Bounds.{LAST_CYCLE}
+use Rattle.air_base.specs.Bounds.{LAST_CYCLE}
 use Rattle.board_io.specs.Kept.{first_refused}
 use Rattle.board_io.specs.Saved as board
 use Rattle.data_space.specs.declared.cpu.Cpu.{Cpu}

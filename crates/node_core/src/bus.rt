@@ -1,5 +1,6 @@
 // The data space of a node beside the core.
 ghost use Rattle.std.specs.Prelude.{◌≡◌, ◌≤◌, true, false, Ok, Err, OnOk, IfOk, OnErr, IfErr};
+ghost use Rattle.air_base.specs.declared.bounds.TheConstants.{LONGEST_BYTE};
 ghost use Rattle.avr_core.specs.Execute.{in_sram};
 ghost use Rattle.node_core.specs.Pace.Leaps.{LoadsStill};
 
@@ -57,7 +58,7 @@ impl NodeBus {
     /// The data space after reset, with the byte time of its radio in cycles, at most 4,096. `Err` only for want of
     /// memory.
     pub fn new(alloc: Global, byte_time: u64) -> Result<Self, NoMemory>
-        requires { byte_time ≤ 4096 }
+        requires { byte_time ≤ LONGEST_BYTE }
         ensures { IfOk result (λ bus. bus ≡ reset_bus byte_time) }
     {
         let sram = Sram::new(alloc)?;

@@ -1,6 +1,6 @@
 // The inside of a node, and the devices' part of a cycle.
 ghost use Rattle.std.specs.Prelude.{◌≡◌, ◌<◌, ◌≤◌, ◌+◌, ◌++◌, None, true, is_some, vec_len, vec_capacity};
-ghost use Rattle.device_base.specs.Bounds.{LAST_CYCLE};
+ghost use Rattle.air_base.specs.Bounds.{LAST_CYCLE};
 ghost use Rattle.node_core.specs.Cycle.{air_after, asks_after, device_rows, devices_cycle, finished_in, finished_rows, sent_rows, serial_rows};
 ghost use Rattle.board_io.specs.Cycle.{sent_by};
 ghost use Rattle.node_core.specs.Shown.{shown};

@@ -1,6 +1,7 @@
 // A node.
 ghost use Rattle.std.specs.Prelude.{◌≡◌, ◌<◌, ◌≤◌, ◌+◌, ◌-◌, [], true, false, IfOk, slice_index};
-ghost use Rattle.device_base.specs.Bounds.{LAST_CYCLE};
+ghost use Rattle.air_base.specs.Bounds.{LAST_CYCLE};
+ghost use Rattle.air_base.specs.declared.bounds.TheConstants.{LONGEST_BYTE, SHORTEST_BYTE};
 ghost use Rattle.data_space.specs.declared.regions.TheConstants.{SRAM_LAST, SRAM_START};
 ghost use Rattle.air_base.specs.NodeRun.{answered};
 ghost use Rattle.node_core.specs.State.{reset};
@@ -81,8 +82,8 @@ impl Node {
         byte_time: u64,
     ) -> Result<Node, NoMemory>
         requires window { window.0 ≤ window.1 }
-        requires least { 256 ≤ byte_time }
-        requires most { byte_time ≤ 4096 }
+        requires least { SHORTEST_BYTE ≤ byte_time }
+        requires most { byte_time ≤ LONGEST_BYTE }
         ensures { IfOk result (λ node. node ≡ record { cycle = 0; asking = false; state = reset number program.bytes script window.0 window.1 byte_time; rows = [] }) }
     {
         let bus = NodeBus::new(alloc, byte_time)?;

@@ -6,6 +6,7 @@ ghost use Rattle.node_core.specs.Shown.{shown};
 
 use crate::Node;
 use crate::machine::Machine;
+use air_base::LAST_CYCLE;
 use avr_base::StopCause;
 use board_io::Board;
 use device_base::{first_outside, part, put_part};
@@ -89,7 +90,7 @@ fn core_fits(numbers: &[u64; NUMBERS]) -> [bool; 41]
         numbers[37] <= 1,
         numbers[38] <= 1,
         numbers[39] <= 26,
-        numbers[40] <= 1 << 40,
+        numbers[40] <= LAST_CYCLE,
     ];
     put_part(&mut fits, 33, &tail);
     fits

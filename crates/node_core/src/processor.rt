@@ -1,5 +1,6 @@
 // The processor's part of a cycle: an instruction, or the entry of an interrupt.
 ghost use Rattle.std.specs.Prelude.{◌≡◌, ◌==◌, ◌<◌, ◌≤◌, ◌+◌, ◌-◌, ◌^◌, ◌%◌, ◌++◌, ◌&&◌, ◌||◌, None, Some, true, false, vec_len, vec_capacity};
+ghost use Rattle.air_base.specs.Bounds.{LAST_END};
 ghost use Rattle.avr_core.specs.Execute.{is_sleep};
 ghost use Rattle.node_core.specs.Cycle.{cpu_cycle, cpu_rows, entered, entered_rows, instructed, instructed_rows, is_idle, is_other, is_refused, is_sei, owes, row, row_within};
 ghost use Rattle.node_core.specs.declared.row.Kind.TheVariants as kind;
@@ -142,7 +143,7 @@ impl Machine {
     fn end(&mut self, cycle: u64, pc: u16, owed: bool, done: Done) -> u8
         requires going { self.old.stop ≡ None }
         requires awake { self.old.asleep ≡ false }
-        requires few { self.old.count ≤ 2 ^ 41 }
+        requires few { self.old.count ≤ LAST_END }
         requires takes { 1 ≤ done.cycles }
         requires room { vec_len self.old.rows < vec_capacity self.old.rows }
         ensures state { shown self.new ≡ record (shown self.old) { wait = done.cycles - 1; owed = owed; asleep = done.sleep && is_idle (sleep_mode self.old.bus.board); count = self.old.count + 1 } }

@@ -1,6 +1,7 @@
 // A node of its numbers, its kept I/O bytes and its SRAM.
 ghost use Rattle.std.specs.Prelude.{◌≡◌, ◌≤◌, [], false, None, IfOk, IfErr, OnOk, length, take};
-ghost use Rattle.device_base.specs.Bounds.{LAST_CYCLE};
+ghost use Rattle.air_base.specs.Bounds.{LAST_CYCLE};
+ghost use Rattle.air_base.specs.declared.bounds.TheConstants.{LONGEST_BYTE, SHORTEST_BYTE};
 ghost use Rattle.data_space.specs.declared.regions.TheConstants.{IO_COUNT};
 ghost use Rattle.board_io.specs.Saved as board;
 ghost use Rattle.device_base.specs.Numbers.{part};
@@ -107,8 +108,8 @@ impl Node {
         sram: &[u8],
     ) -> Result<Node, RestoreFault>
         requires window { window.0 ≤ window.1 }
-        requires least { 256 ≤ byte_time }
-        requires most { byte_time ≤ 4096 }
+        requires least { SHORTEST_BYTE ≤ byte_time }
+        requires most { byte_time ≤ LONGEST_BYTE }
         requires cycle { cycle ≤ LAST_CYCLE }
         requires io { length io.now ≡ IO_COUNT }
         requires sram { length sram.now ≡ SRAM_LEN }

@@ -1,6 +1,7 @@
 -- A cycle of a node leaves its registers, its memory and its counts within their bounds.
 use Rattle.std.proofs.Common.{◌≡◌, ℕ, ◌+◌, ◌-◌, ◌*◌, ◌%◌, ◌^◌, ◌<◌, ◌≤◌, ◌==◌, nat_le, nat_lt, Bool, true, false, cond, if◌then◌else◌, List, [], ◌∷◌, length-set, slice_index, slice_set, replicate, refl, sym, subst, ◌∙◌, arith, Option, Some, None, is_some, inl, inr}
 use Rattle.std.specs.Prelude.{IfOk, Result, Ok, Err, find}
+use Rattle.air_base.specs.declared.bounds.TheConstants.{LONGEST_BYTE}
 use Rattle.std.specs.List.{list_all, range_with_len}
 use Rattle.std.proofs.lemmas.List.{get_or-replicate, length-replicate}
 use Rattle.std.proofs.lemmas.Bool.{and_parts, cases_lt, leb-true}
@@ -366,7 +367,7 @@ zero_at n k =
       | inr high ↦ omega (arith, get_or-eq_default {A = ℕ} (replicate n 0) 0 {n = k} (omega (arith, length-replicate {A = ℕ} n 0, high)))
     ]
 
-pub node_reset_within : (k : ℕ) (flash : List ℕ) (script : ScriptBytes) (first last byte_time : ℕ) → AreBytes flash → byte_time ≤ 4096
+pub node_reset_within : (k : ℕ) (flash : List ℕ) (script : ScriptBytes) (first last byte_time : ℕ) → AreBytes flash → byte_time ≤ LONGEST_BYTE
     → NodeWithin 0 (reset k flash script first last byte_time)
 unfolding zeros
 node_reset_within k flash script first last byte_time bytes gap = record {

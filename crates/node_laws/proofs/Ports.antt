@@ -1,5 +1,6 @@
 -- Within which bounds the calls of USART0, the serial peripheral interface and the radio leave their numbers.
 use Rattle.std.proofs.Common.{◌≡◌, ℕ, zero, suc, ◌+◌, ◌*◌, ◌/◌, ◌%◌, ◌^◌, ◌<◌, ◌≤◌, ◌==◌, nat_le, Bool, true, false, not, ◌&&◌, if◌then◌else◌, refl, sym, subst, Option, Some, None, is_some, Ok, Err, bit_and, arith, mul-le-mul_right}
+use Rattle.air_base.specs.declared.bounds.TheConstants.{LONGEST_BYTE}
 use Rattle.std.proofs.lemmas.Bool.{false≢true}
 use Rattle.std.proofs.lemmas.Bool.Decides.{nat_tests}
 use Rattle.avr_base.specs.declared.stop.StopCause.TheVariants as stop
@@ -289,12 +290,12 @@ idle_by r true second free = ((omega arith, record { state = tt; free = free }),
 idle_by r false true free = (free, tt)
 idle_by r false false free = ((omega arith, record { state = tt; free = free }), tt)
 
-send_by : (t b : ℕ) (r : Radio) (clear : Bool) → t < 2 ^ 40 → b ≤ 255 → r.byte_time ≤ 4096 → r.free ≤ 2 ^ 41
+send_by : (t b : ℕ) (r : Radio) (clear : Bool) → t < 2 ^ 40 → b ≤ 255 → r.byte_time ≤ LONGEST_BYTE → r.free ≤ 2 ^ 41
     → Leaves (if clear then (Send b 0, record r { free = t + r.byte_time; state = Idle }) else (Answer 1, in_state Idle r))
 send_by t b r true early small gap free = ((omega arith, record { state = tt; free = omega (arith, early, gap) }), small)
 send_by t b r false early small gap free = ((omega arith, record { state = tt; free = free }), tt)
 
-selected_within : (t b : ℕ) (state : RadioState) (r : Radio) → t < 2 ^ 40 → b ≤ 255 → r.byte_time ≤ 4096 → r.free ≤ 2 ^ 41 → StateWithin state
+selected_within : (t b : ℕ) (state : RadioState) (r : Radio) → t < 2 ^ 40 → b ≤ 255 → r.byte_time ≤ LONGEST_BYTE → r.free ≤ 2 ^ 41 → StateWithin state
     → Leaves (selected_transfer t b state r)
 selected_within t b Idle r early small gap free h = idle_by r (b == 1) (b == 2) free
 selected_within t b ToSend r early small gap free h = send_by t b r (nat_le r.free t) early small gap free
@@ -303,17 +304,17 @@ selected_within t b (Status x) r early small gap free h = ((omega (arith, h.stat
 selected_within t b (Byte x) r early small gap free h = ((h.byte, record { state = h; free = free }), tt)
 selected_within t b (Age x) r early small gap free h = ((h.age, record { state = tt; free = free }), tt)
 
-radio_by : (t b : ℕ) (r : Radio) (selected : Bool) → t < 2 ^ 40 → b ≤ 255 → r.byte_time ≤ 4096 → RadioWithin r
+radio_by : (t b : ℕ) (r : Radio) (selected : Bool) → t < 2 ^ 40 → b ≤ 255 → r.byte_time ≤ LONGEST_BYTE → RadioWithin r
     → Leaves (if selected then selected_transfer t b r.state r else (Answer 0xFF, in_state Idle r))
 radio_by t b r true early small gap h = selected_within t b r.state r early small gap h.free h.state
 radio_by t b r false early small gap h = ((omega arith, record { state = tt; free = h.free }), tt)
 
-pub transfer_within : (t b : ℕ) (selected : Bool) (r : Radio) → t < 2 ^ 40 → b ≤ 255 → r.byte_time ≤ 4096 → RadioWithin r
+pub transfer_within : (t b : ℕ) (selected : Bool) (r : Radio) → t < 2 ^ 40 → b ≤ 255 → r.byte_time ≤ LONGEST_BYTE → RadioWithin r
     → MovedWithin (radio_transfer t selected b r).0 (radio_transfer t selected b r).1
 unfolding radio_transfer
 transfer_within t b selected r early small gap h = (radio_by t b r selected early small gap h).0
 
-pub sent_within : (t b : ℕ) (selected : Bool) (r : Radio) → t < 2 ^ 40 → b ≤ 255 → r.byte_time ≤ 4096 → RadioWithin r
+pub sent_within : (t b : ℕ) (selected : Bool) (r : Radio) → t < 2 ^ 40 → b ≤ 255 → r.byte_time ≤ LONGEST_BYTE → RadioWithin r
     → SentWithin (radio_transfer t selected b r).0
 unfolding radio_transfer
 sent_within t b selected r early small gap h = (radio_by t b r selected early small gap h).1

@@ -1,7 +1,7 @@
 -- Within which bounds the numbers of a board's devices stay from reset on, beyond what `device_laws` says of its
 -- devices: the bounds by which a saved node is refused (ATmega128 datasheet, the register descriptions).
 use Rattle.std.specs.Prelude.{◌≡◌, ℕ, ◌<◌, ◌≤◌, Option, Some, None, Result, Ok, Err, bit_and}
-use Rattle.device_base.specs.Bounds.{LAST_END}
+use Rattle.air_base.specs.Bounds.{LAST_END}
 use Rattle.avr_base.specs.declared.stop.StopCause.{StopCause}
 use Rattle.board_io.specs.declared.board.Board.{Board}
 use Rattle.board_io.specs.Board.{kept_at}

@@ -4,7 +4,8 @@
 #![tactic(auto)]
 
 ghost use Rattle.std.specs.Prelude.{◌≡◌, ℕ, ◌+◌, ◌<◌, ◌≤◌, List, Option, if◌then◌else◌};
-ghost use Rattle.device_base.specs.Bounds.{LAST_CYCLE};
+ghost use Rattle.air_base.specs.Bounds.{LAST_CYCLE};
+ghost use Rattle.air_base.specs.declared.bounds.TheConstants.{LONGEST_BYTE};
 ghost use Rattle.board_io.specs.declared.board.Board.{Board};
 ghost use Rattle.board_io.specs.Board.{reset_board};
 ghost use Rattle.board_io.specs.Cycle.{board_answered, board_asks, board_begun, board_sends};
@@ -40,7 +41,7 @@ pub fn board_law()
 /// A node is within its bounds after reset, and after each cycle of it, whatever it executes and whatever it hears.
 /// What it sends is a byte.
 pub fn node_law()
-    ensures reset { (k : ℕ) (flash : List ℕ) (script : ScriptBytes) (first last byte_time : ℕ) → AreBytes flash → byte_time ≤ 4096
+    ensures reset { (k : ℕ) (flash : List ℕ) (script : ScriptBytes) (first last byte_time : ℕ) → AreBytes flash → byte_time ≤ LONGEST_BYTE
         → NodeWithin 0 (reset k flash script first last byte_time) }
     ensures cycle { (t : ℕ) (s : NodeState) (h : Heard) → t < LAST_CYCLE → HeardWithin h → NodeWithin t s
         → NodeWithin (t + 1) (ticked node_kind t s h) }

@@ -1,6 +1,6 @@
 // A node of a scenario, at reset and restored.
 ghost use Rattle.std.specs.Prelude.{◌≡◌, ◌<◌, ◌≤◌, [], false, None, IfOk, IfErr, OnOk, length};
-ghost use Rattle.device_base.specs.Bounds.{LAST_CYCLE};
+ghost use Rattle.air_base.specs.Bounds.{LAST_CYCLE};
 ghost use Rattle.data_space.specs.declared.regions.TheConstants.{IO_COUNT, SRAM_LEN};
 ghost use Rattle.node_core.specs.Restored.{IsRefused, fault_of};
 ghost use Rattle.node_core.specs.State.{NodeState};

@@ -1,4 +1,5 @@
 // What was read of a text, line for line.
+use air_base::{LAST_CYCLE, LAST_END};
 use scenario_file::{ScenarioText, read};
 use serial_ports::Script;
 use sim_io::{Name, Sink, write_all};
@@ -21,13 +22,10 @@ const PROBES: [u64; 16] = [
     94,
     99,
     100,
-    1_099_511_627_774,
-    1_099_511_627_775,
-    1_099_511_627_776,
+    LAST_CYCLE - 2,
+    LAST_CYCLE - 1,
+    LAST_CYCLE,
 ];
-
-// No byte of a script arrives as late as that.
-const LAST: u64 = 2_199_023_255_552;
 
 // The most bytes of a script, and one.
 const MOST_ARRIVALS: u32 = 65_537;
@@ -42,11 +40,11 @@ struct Arrivals {
 
 // The first cycle from this one on in which a byte arrives, and that byte.
 fn next_arrival(script: &Script, cycle: u64) -> Option<(u64, u8)> {
-    if cycle >= LAST {
+    if cycle >= LAST_END {
         return None;
     }
-    let quiet = script.quiet(cycle, LAST - cycle);
-    if quiet >= LAST - cycle {
+    let quiet = script.quiet(cycle, LAST_END - cycle);
+    if quiet >= LAST_END - cycle {
         return None;
     }
     let at = cycle + quiet;

@@ -1,5 +1,6 @@
 // A run of one node, which no link reaches.
 ghost use Rattle.std.specs.Prelude.{◌≤◌, ◌^◌};
+ghost use Rattle.air_base.specs.Bounds.{LAST_CYCLE};
 
 use crate::trials::Trial;
 use air_base::Heard;
@@ -31,7 +32,7 @@ pub struct Run {
 
 // Answers a sample of the air with silence, or goes on until a cycle that sends or samples, or the limit.
 fn turn(node: &mut Node, limit: u64)
-    requires early { limit ≤ 2 ^ 40 }
+    requires early { limit ≤ LAST_CYCLE }
 {
     if node.asking() {
         node.answer(SILENCE);

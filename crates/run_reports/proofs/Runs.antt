@@ -1,5 +1,6 @@
 -- The rows of a run that count in a profile: those of the cycles below the window's end, however far the run goes on.
 use Rattle.std.proofs.Common.{◌≡◌, ◌≢◌, ℕ, zero, suc, ◌+◌, ◌-◌, ◌*◌, ◌^◌, ◌<◌, ◌≤◌, ◌&&◌, ◌||◌, ◌==◌, ◌⊎◌, inl, inr, nat_le, nat_lt, Bool, true, false, cond, List, [], ◌∷◌, ◌++◌, map, get_or, length, length-append, refl, sym, subst, ap, ◌∙◌, arith, append-nil}
+use Rattle.air_base.specs.Bounds.{LAST_CYCLE}
 use Rattle.std.specs.List.{All, filter, range_with_len}
 use Rattle.std.specs.List.Sorted.{IsNonDecreasingBy}
 use Rattle.std.proofs.lemmas.Bool.Decides.{nat_tests}
@@ -177,7 +178,7 @@ module _ (sc : ScenarioOf) (ok : IsScenario sc) where
 
   few : length (run_rows f) ≤ 281474976710656 + 64
   few =
-      let limit : sc.topo.limit ≤ 1099511627776 = ok.topo.ranges.limit_to in
+      let limit : sc.topo.limit ≤ LAST_CYCLE = ok.topo.ranges.limit_to in
       let rows = few_rows in
       omega arith
 
@@ -208,7 +209,7 @@ module _ (sc : ScenarioOf) (ok : IsScenario sc) where
       fits : 8 * ((tally_of (window_of sc) (run_rows f) k).window.1 - (tally_of (window_of sc) (run_rows f) k).window.0) + (ended (tally_of (window_of sc) (run_rows f) k)).asleep
           + 512 * (tally_of (window_of sc) (run_rows f) k).sent < 2 ^ 64
       fits =
-          let limit : sc.topo.limit ≤ 1099511627776 = ok.topo.ranges.limit_to in
+          let limit : sc.topo.limit ≤ LAST_CYCLE = ok.topo.ranges.limit_to in
           let rows = few in
           let narrow : sc.to < 2 ^ 64 = omega arith in
           let short : length (run_rows f) < 2 ^ 64 - 1 = omega arith in
@@ -223,7 +224,7 @@ module _ (sc : ScenarioOf) (ok : IsScenario sc) where
   pub tally_told : (k : ℕ) (t : TallyOf) (a : Account) → sc.to ≤ sc.topo.limit → t ≡ tally_of (window_of sc) (run_rows f) k → length (ended t).at ≤ 65536 → length (ended t).entered ≤ 65536
       → a ≡ told (ended t) → a ≡ account k (window_of sc) (run_rows f)
   tally_told k t a within e at entered is =
-      let limit : sc.topo.limit ≤ 1099511627776 = ok.topo.ranges.limit_to in
+      let limit : sc.topo.limit ≤ LAST_CYCLE = ok.topo.ranges.limit_to in
       let rows = few in
       let narrow : sc.to < 2 ^ 64 = omega arith in
       let short : length (run_rows f) < 2 ^ 64 - 1 = omega arith in

@@ -1,5 +1,6 @@
 -- Inputs and scripts.
 use Rattle.std.proofs.Common.{◌≡◌, ◌≢◌, ℕ, zero, suc, ◌+◌, ◌/◌, ◌<◌, ◌≤◌, ◌==◌, ◌||◌, cond, Bool, true, false, List, [], ◌∷◌, length, map, sum, get_or, drop, Result, Ok, Err, codes, refl, sym, ap, subst, ◌∙◌, arith, nat_lt, nat_le}
+use Rattle.air_base.specs.Bounds.{LAST_CYCLE}
 use Rattle.std.specs.List.{count_by}
 use Rattle.std.proofs.lemmas.List.{map-append, drop_more}
 use Rattle.std.proofs.lemmas.Bool.Decides.{nat_tests}
@@ -137,14 +138,14 @@ for_here g xs i d k h e = ap (λ t. script_for k (map g t)) (drop_more xs i d h)
 -- ---- what a passed test says of an input
 pub input_every : (version : Version) (count : ℕ) (d : Data) → on_table (has_ranges version count OfInput) d ≡ true → (1 ≤ number_at (codes "every") 7680 (members_of d)) × (number_at (codes "every") 7680 (members_of d) ≤ 65535)
 input_every version count (table ms) h =
-    let p = and4 (at_key (is_node count) (codes "node") ms) (at_key (fits 0 1099511627776) (codes "at") ms) (at_key (fits 1 65535) (codes "every") ms) (at_key is_hex (codes "hex") ms) h in
+    let p = and4 (at_key (is_node count) (codes "node") ms) (at_key (fits 0 LAST_CYCLE) (codes "at") ms) (at_key (fits 1 65535) (codes "every") ms) (at_key is_hex (codes "hex") ms) h in
     number_bounds 1 65535 7680 (get_member (codes "every") ms) (omega arith) (omega arith) p.2
 input_every version count _ h = absurd cc
 
-pub input_at : (version : Version) (count : ℕ) (d : Data) → on_table (has_ranges version count OfInput) d ≡ true → number_at (codes "at") 0 (members_of d) ≤ 1099511627776
+pub input_at : (version : Version) (count : ℕ) (d : Data) → on_table (has_ranges version count OfInput) d ≡ true → number_at (codes "at") 0 (members_of d) ≤ LAST_CYCLE
 input_at version count (table ms) h =
-    let p = and4 (at_key (is_node count) (codes "node") ms) (at_key (fits 0 1099511627776) (codes "at") ms) (at_key (fits 1 65535) (codes "every") ms) (at_key is_hex (codes "hex") ms) h in
-    (number_bounds 0 1099511627776 0 (get_member (codes "at") ms) (omega arith) (omega arith) p.1).1
+    let p = and4 (at_key (is_node count) (codes "node") ms) (at_key (fits 0 LAST_CYCLE) (codes "at") ms) (at_key (fits 1 65535) (codes "every") ms) (at_key is_hex (codes "hex") ms) h in
+    (number_bounds 0 LAST_CYCLE 0 (get_member (codes "at") ms) (omega arith) (omega arith) p.1).1
 input_at version count _ h = absurd cc
 
 pub few_sum : (ds : List Data) → is_few OfInput ds ≡ true → sum (map (amount_of OfInput) ds) ≤ 65536

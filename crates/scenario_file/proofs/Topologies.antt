@@ -1,5 +1,7 @@
 -- The topology of a document without a fault is one.
 use Rattle.std.proofs.Common.{◌≡◌, ◌≢◌, ap, ℕ, zero, suc, ◌+◌, ◌<◌, ◌≤◌, ◌==◌, ◌&&◌, nat_lt, nat_le, Bool, true, false, pos, negsuc, List, [], ◌∷◌, ◌++◌, length, map, sum, Option, Some, None, is_some, codes, refl, sym, ◌∙◌, arith, lit≤}
+use Rattle.air_base.specs.Bounds.{LAST_CYCLE}
+use Rattle.air_base.specs.declared.bounds.TheConstants.{LONGEST_BYTE, SHORTEST_BYTE}
 use Rattle.std.specs.List.{All, AllPairs, list_all, list_any}
 use Rattle.std.specs.Option.{option_map_or}
 use Rattle.std.proofs.lemmas.Bool.{and_parts}
@@ -70,18 +72,18 @@ record Stands (count place last : ℕ) (xs : List Span) : Type 0 where
   spans : All (IsSpan count) xs
   behind : All (IsBehind place last) xs
 
-span_parts : (last : ℕ) (p : Option (ℕ × ℕ)) → is_span_behind last p ≡ true → (last ≤ (pair_or p).0) × ((pair_or p).0 < (pair_or p).1) × ((pair_or p).1 ≤ 1099511627776) × ((pair_or p).1 ≡ end_of p)
+span_parts : (last : ℕ) (p : Option (ℕ × ℕ)) → is_span_behind last p ≡ true → (last ≤ (pair_or p).0) × ((pair_or p).0 < (pair_or p).1) × ((pair_or p).1 ≤ LAST_CYCLE) × ((pair_or p).1 ≡ end_of p)
 span_parts last None h = absurd cc
 span_parts last (Some (a, b)) h = span_case last a b h
   where
-    span_case : (last a b : ℕ) → (nat_le last a && nat_lt a b && nat_le b 1099511627776) ≡ true → (last ≤ a) × (a < b) × (b ≤ 1099511627776) × (b ≡ b)
+    span_case : (last a b : ℕ) → (nat_le last a && nat_lt a b && nat_le b LAST_CYCLE) ≡ true → (last ≤ a) × (a < b) × (b ≤ LAST_CYCLE) × (b ≡ b)
     span_case last a b h =
-        let p = and_parts (nat_le last a && nat_lt a b) (nat_le b 1099511627776) h in
+        let p = and_parts (nat_le last a && nat_lt a b) (nat_le b LAST_CYCLE) h in
         let q = and_parts (nat_le last a) (nat_lt a b) p.0 in
         (grind (arith, nat_tests, q.0), grind (arith, nat_tests, q.1), grind (arith, nat_tests, p.1), refl)
 
 -- one span before them
-stands_cons : (count place last next : ℕ) (x : Span) (xs : List Span) → x.link ≡ place → place < count → last ≤ x.from → x.from < x.until → x.until ≤ 1099511627776 → x.until ≡ next → Stands count place next xs → Stands count place last (x ∷ xs)
+stands_cons : (count place last next : ℕ) (x : Span) (xs : List Span) → x.link ≡ place → place < count → last ≤ x.from → x.from < x.until → x.until ≤ LAST_CYCLE → x.until ≡ next → Stands count place next xs → Stands count place last (x ∷ xs)
 stands_cons count place last next x xs e inside a b c n s = record {
   pairs = AllPairs-cons IsSpanOrder x xs (λ k d lt. let h = s.behind k d lt in (let m = h.0 in omega (arith, m, e), λ same. let f = h.1 (sym same ∙ e) in omega (arith, f, n))) s.pairs;
   spans = All-cons (IsSpan count) x xs (omega (arith, e, inside), b, c) s.spans;
@@ -136,7 +138,7 @@ whole_bounds least most (Some (integer (pos n))) there whole h =
 whole_bounds least most (Some (integer (negsuc n))) there whole h = absurd cc
 whole_bounds least most (Some _) there whole h = absurd cc
 
-most_long : (version : Version) → most_cycles version ≤ 1099511627776
+most_long : (version : Version) → most_cycles version ≤ LAST_CYCLE
 most_long First = lit≤ tt
 most_long Second = lit≤ tt
 most_long Third = lit≤ tt
@@ -168,13 +170,13 @@ stands_in version nodes count ds some fits h = stands_all version nodes count 0 
 pub record TopRow (version : Version) (ms : Members) : Type 0 where
   pub cycles : at_key (fits 1 (most_cycles version)) (codes "cycles") ms ≡ true
   pub latency : at_key (fits 1 65535) (codes "latency") ms ≡ true
-  pub byte_time : at_key (fits 256 4096) (codes "byte_time") ms ≡ true
+  pub byte_time : at_key (fits SHORTEST_BYTE LONGEST_BYTE) (codes "byte_time") ms ≡ true
   pub window : has_window ms ≡ true
 
 pub top_row : (version : Version) (count : ℕ) (ms : Members) → has_ranges version count Top ms ≡ true → TopRow version ms
 top_row version count ms h =
-    let p = and_parts (at_key (fits 1 3) (codes "version") ms && at_key (fits 1 (most_cycles version)) (codes "cycles") ms && at_key (fits 1 65535) (codes "latency") ms && at_key (fits 256 4096) (codes "byte_time") ms) (has_window ms) h in
-    let q = and4 (at_key (fits 1 3) (codes "version") ms) (at_key (fits 1 (most_cycles version)) (codes "cycles") ms) (at_key (fits 1 65535) (codes "latency") ms) (at_key (fits 256 4096) (codes "byte_time") ms) p.0 in
+    let p = and_parts (at_key (fits 1 3) (codes "version") ms && at_key (fits 1 (most_cycles version)) (codes "cycles") ms && at_key (fits 1 65535) (codes "latency") ms && at_key (fits SHORTEST_BYTE LONGEST_BYTE) (codes "byte_time") ms) (has_window ms) h in
+    let q = and4 (at_key (fits 1 3) (codes "version") ms) (at_key (fits 1 (most_cycles version)) (codes "cycles") ms) (at_key (fits 1 65535) (codes "latency") ms) (at_key (fits SHORTEST_BYTE LONGEST_BYTE) (codes "byte_time") ms) p.0 in
     record { cycles = q.1; latency = q.2; byte_time = q.3; window = p.1 }
 
 pub topology_is : (ms : Members) → Clean ms → IsTopology (topology_of ms)
@@ -188,7 +190,7 @@ topology_is ms clean =
     let c = whole_bounds 1 (most_cycles v) (get_member (codes "cycles") ms) e.cycles_there e.cycles_whole t.cycles in
     let m = most_long v in
     let l = number_bounds 1 65535 3072 (get_member (codes "latency") ms) (lit≤ tt) (lit≤ tt) t.latency in
-    let b = number_bounds 256 4096 3072 (get_member (codes "byte_time") ms) (lit≤ tt) (lit≤ tt) t.byte_time in
+    let b = number_bounds SHORTEST_BYTE LONGEST_BYTE 3072 (get_member (codes "byte_time") ms) (lit≤ tt) (lit≤ tt) t.byte_time in
     let count = length_map link_of (links ms) in
     let own = length_map (latency_of latency) (links ms) in
     let s = stands_in v n (length (map link_of (links ms))) (links ms) e.some (omega (arith, count)) e.links_in in

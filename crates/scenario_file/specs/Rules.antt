@@ -2,6 +2,8 @@
 -- which kind a value is, and which numbers and texts are in range. They depend on the version of the text. Own to this
 -- simulator.
 use Rattle.std.specs.Prelude.{ℕ, ℤ, ◌-◌, ◌/◌, ◌%◌, ◌==◌, ◌&&◌, ◌||◌, nat_lt, nat_le, length, Bool, true, false, not, List, [], ◌∷◌, Option, Some, None, codes, if◌then◌else◌}
+use Rattle.air_base.specs.Bounds.{LAST_CYCLE}
+use Rattle.air_base.specs.declared.bounds.TheConstants.{LONGEST_BYTE, SHORTEST_BYTE}
 use Rattle.std.specs.List.{list_all, list_any}
 use Rattle.std.specs.Option.{option_map_or}
 use Rattle.std.specs.Char.{is_ascii_hexdigit}
@@ -13,7 +15,6 @@ use Rattle.scenario_file.specs.declared.keys.Keys.{Keys}
 use Rattle.scenario_file.specs.declared.keys.Keys.TheVariants.{Top, OfNode, OfLink, OfInput}
 use Rattle.scenario_file.specs.declared.keys.Version.{Version}
 use Rattle.scenario_file.specs.declared.keys.Version.TheVariants.{First, Second, Third}
-use Rattle.scenario_file.specs.declared.ranges.TheConstants.{MOST_CYCLE}
 
 -- ---- the version: the whole numbers 2 and 3 name theirs, and all else has the rules of version 1
 abbrev pub version_numbered : ℕ → Version
@@ -33,7 +34,7 @@ version_of ms = version_in (get_member (codes "version") ms)
 abbrev pub most_cycles : Version → ℕ
 most_cycles First = 10000000
 most_cycles Second = 10000000
-most_cycles Third = MOST_CYCLE
+most_cycles Third = LAST_CYCLE
 
 -- ---- the keys that a table may have
 abbrev pub is_one_of : List (List ℕ) → List ℕ → Bool
@@ -116,7 +117,7 @@ has_window ms = at_key (is_window (number_at (codes "cycles") 0 ms)) (codes "win
 
 -- a span that does not begin below cycle `last`, is not empty and ends by cycle 2^40
 abbrev pub is_span_behind : ℕ → Option (ℕ × ℕ) → Bool
-is_span_behind last (Some p) = nat_le last p.0 && nat_lt p.0 p.1 && nat_le p.1 MOST_CYCLE
+is_span_behind last (Some p) = nat_le last p.0 && nat_lt p.0 p.1 && nat_le p.1 LAST_CYCLE
 is_span_behind last None = false
 
 abbrev pub end_of : Option (ℕ × ℕ) → ℕ
@@ -151,14 +152,14 @@ passes Spans = on_array are_spans
 
 abbrev pub has_top_ranges : Version → Members → Bool
 has_top_ranges version ms = at_key (fits 1 3) (codes "version") ms && at_key (fits 1 (most_cycles version)) (codes "cycles") ms && at_key (fits 1 65535) (codes "latency") ms
-    && at_key (fits 256 4096) (codes "byte_time") ms && has_window ms
+    && at_key (fits SHORTEST_BYTE LONGEST_BYTE) (codes "byte_time") ms && has_window ms
 
 -- in a text of this version and of so many nodes
 abbrev pub has_ranges : Version → ℕ → Keys → Members → Bool
 has_ranges version count Top ms = has_top_ranges version ms
 has_ranges version count OfNode ms = at_key is_name (codes "image") ms
 has_ranges version count OfLink ms = at_key (is_node count) (codes "from") ms && at_key (is_node count) (codes "to") ms && at_key (fits 1 65535) (codes "latency") ms && at_key (on_array are_spans) (codes "open") ms
-has_ranges version count OfInput ms = at_key (is_node count) (codes "node") ms && at_key (fits 0 MOST_CYCLE) (codes "at") ms && at_key (fits 1 65535) (codes "every") ms && at_key is_hex (codes "hex") ms
+has_ranges version count OfInput ms = at_key (is_node count) (codes "node") ms && at_key (fits 0 LAST_CYCLE) (codes "at") ms && at_key (fits 1 65535) (codes "every") ms && at_key is_hex (codes "hex") ms
 
 -- ---- what is bounded over all tables of a kind together: the spans of links, and the bytes of scripts
 abbrev pub amount : Keys → Members → ℕ

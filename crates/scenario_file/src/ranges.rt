@@ -8,10 +8,8 @@ ghost use Rattle.scenario_file.specs.Document.{on_array};
 ghost use Rattle.scenario_file.specs.Rules.{fits, is_node, is_name, is_hex, is_window, is_span_behind, end_of, are_spans_behind, are_spans};
 
 use crate::document::{natural, pair_of};
+use air_base::LAST_CYCLE;
 use toml::Value;
-
-/// No cycle of a run is later than this one.
-pub const MOST_CYCLE: u64 = 1_099_511_627_776;
 
 /// A number in a range.
 pub fn fits(least: u64, most: u64, value: &Value) -> bool
@@ -78,7 +76,7 @@ fn is_span_behind(last: u64, pair: Option<(u64, u64)>) -> bool
     ensures { result ≡ is_span_behind last pair }
 {
     match pair {
-        Some((from, until)) => (last <= from) & (from < until) & (until <= MOST_CYCLE),
+        Some((from, until)) => (last <= from) & (from < until) & (until <= LAST_CYCLE),
         None => false,
     }
 }

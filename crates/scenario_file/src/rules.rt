@@ -10,7 +10,7 @@ ghost use Rattle.scenario_file.specs.Holds.{holds, holds_of, holds_of_all, holds
 use crate::asked::{Asked, passes_at};
 use crate::document::{elements, has_key, member, number_at};
 use crate::keys::{Keys, Version, is_known, most_cycles};
-use crate::ranges::MOST_CYCLE;
+use air_base::{LAST_CYCLE, LONGEST_BYTE, SHORTEST_BYTE};
 use toml::{Table, Value};
 
 fn has_unknown_key(version: Version, keys: Keys, table: &Table) -> bool
@@ -67,7 +67,7 @@ fn has_top_ranges(version: Version, table: &Table) -> bool
     passes_at(table, "version", Asked::Between(1, 3))
         & passes_at(table, "cycles", Asked::Between(1, most_cycles(version)))
         & passes_at(table, "latency", Asked::Between(1, 65_535))
-        & passes_at(table, "byte_time", Asked::Between(256, 4_096))
+        & passes_at(table, "byte_time", Asked::Between(SHORTEST_BYTE, LONGEST_BYTE))
         & passes_at(table, "window", Asked::Window(cycles))
 }
 
@@ -85,7 +85,7 @@ fn has_ranges(version: Version, count: u64, keys: Keys, table: &Table) -> bool
         }
         Keys::OfInput => {
             passes_at(table, "node", Asked::Node(count))
-                & passes_at(table, "at", Asked::Between(0, MOST_CYCLE))
+                & passes_at(table, "at", Asked::Between(0, LAST_CYCLE))
                 & passes_at(table, "every", Asked::Between(1, 65_535))
                 & passes_at(table, "hex", Asked::Hex)
         }

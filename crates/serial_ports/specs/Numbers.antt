@@ -1,7 +1,7 @@
 -- Numbers by which a port is saved and restored: what its transmission, its buffers and their bounds are. A number
 -- whose owner is absent is 0.
 use Rattle.std.specs.Prelude.{ℕ, ◌==◌, nat_le, ◌&&◌, if◌then◌else◌, Bool, Option, None, Some}
-use Rattle.device_base.specs.Bounds.{LAST_END}
+use Rattle.air_base.specs.Bounds.{LAST_END}
 use Rattle.serial_ports.specs.declared.transmission.Transmission.{Transmission}
 
 -- the bound of a number, from whether its owner is there

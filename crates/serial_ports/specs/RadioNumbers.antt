@@ -2,7 +2,7 @@
 -- answers left), the status, the byte and the age of what was heard, and the first cycle in which it may send again.
 use Rattle.std.specs.Prelude.{◌≡◌, ℕ, ◌==◌, if◌then◌else◌, nat_le, Bool, List, [], ◌∷◌, slice_index}
 use Rattle.std.specs.List.{list_all}
-use Rattle.device_base.specs.Bounds.{LAST_END}
+use Rattle.air_base.specs.Bounds.{LAST_END}
 use Rattle.serial_ports.specs.Numbers.{owned}
 use Rattle.serial_ports.specs.declared.radio.Radio.{Radio}
 use Rattle.serial_ports.specs.declared.radio.RadioState.{RadioState}

@@ -1,7 +1,7 @@
 -- A script: the bytes that arrive at a USART from outside, in stretches: bytes one after another at equal distances. Own
 -- to this simulator.
 use Rattle.std.specs.Prelude.{◌≡◌, ℕ, ◌+◌, ◌-◌, ◌*◌, ◌/◌, ◌%◌, ◌<◌, ◌≤◌, ◌==◌, ◌&&◌, nat_le, if◌then◌else◌, List, [], ◌∷◌, length, Option, Some, None, slice_get, is_some, true}
-use Rattle.device_base.specs.Bounds.{LAST_CYCLE}
+use Rattle.air_base.specs.Bounds.{LAST_CYCLE}
 use Rattle.std.specs.Option.{option_or}
 
 -- ---- a stretch: byte i arrives in cycle at + i * every

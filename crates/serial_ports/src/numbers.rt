@@ -3,7 +3,7 @@ ghost use Rattle.std.specs.Prelude.{◌≡◌};
 ghost use Rattle.serial_ports.specs.Numbers.{byte_number, end_number, is_end_number, owned, transmission_of};
 
 use crate::Transmission;
-use device_base::LAST_END;
+use air_base::LAST_END;
 
 // The bound of a number, 0 where its owner is not there.
 #[inline]

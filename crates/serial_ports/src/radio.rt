@@ -1,6 +1,7 @@
 // The radio, transfer by transfer.
 ghost use Rattle.std.specs.Prelude.{◌≡◌, ◌≤◌, ◌+◌, ℕ};
-ghost use Rattle.device_base.specs.Bounds.{LAST_END};
+ghost use Rattle.air_base.specs.Bounds.{LAST_END};
+ghost use Rattle.air_base.specs.declared.bounds.TheConstants.{LONGEST_BYTE};
 
 use air_base::Heard;
 
@@ -63,7 +64,7 @@ impl Radio {
 
     /// A radio after reset, idle, whose bytes are on the air for `byte_time` cycles, at most 4,096.
     pub fn new(byte_time: u64) -> Radio
-        requires { byte_time ≤ 4096 }
+        requires { byte_time ≤ LONGEST_BYTE }
         ensures { result ≡ reset_radio byte_time }
     {
         Radio {

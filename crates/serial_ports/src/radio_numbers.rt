@@ -1,11 +1,12 @@
 // The numbers of the radio, by which it is saved and restored.
 ghost use Rattle.std.specs.Prelude.{◌≡◌, ◌≤◌, true, Some, IfSome, is_some};
+ghost use Rattle.air_base.specs.declared.bounds.TheConstants.{LONGEST_BYTE};
 ghost use Rattle.serial_ports.specs.RadioNumbers.{are_numbers, heard_in, state_number, state_of};
 
 use crate::numbers::owned;
 use crate::{Radio, RadioState};
-use air_base::Heard;
-use device_base::{LAST_END, all_fit};
+use air_base::{Heard, LAST_END};
+use device_base::all_fit;
 
 impl Radio {
     ghost use Rattle.serial_ports.specs.RadioNumbers.{HasNumbers, fits, numbers_of};
@@ -46,7 +47,7 @@ impl Radio {
     /// The radio that has these `numbers`, in the order of `numbers`, and whose bytes are on the air for `byte_time`
     /// cycles, at most 4,096. `None` exactly where one of the numbers breaks its bound.
     pub fn from_numbers(byte_time: u64, numbers: &[u64; 5]) -> Option<Radio>
-        requires { byte_time ≤ 4096 }
+        requires { byte_time ≤ LONGEST_BYTE }
         ensures none { is_some result ≡ are_numbers numbers.now }
         ensures some { IfSome result (λ r. HasNumbers byte_time numbers.now r) }
         ensures one { (r : Radio) → HasNumbers byte_time numbers.now r → are_numbers numbers.now ≡ true → result ≡ Some r }

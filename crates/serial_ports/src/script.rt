@@ -1,6 +1,6 @@
 // Scripts of arriving bytes.
 ghost use Rattle.std.specs.Prelude.{◌≡◌, ℕ, ◌+◌, ◌<◌, ◌≤◌, true, None, [], ◌∷◌, length, is_some, IfOk};
-ghost use Rattle.device_base.specs.Bounds.{LAST_CYCLE, LAST_END};
+ghost use Rattle.air_base.specs.Bounds.{LAST_CYCLE, LAST_END};
 ghost use Rattle.serial_ports.specs.Script.{Arrives, first_byte, script_byte};
 
 use crate::Stretch;

@@ -1,6 +1,6 @@
 // The registers of the interface.
 ghost use Rattle.std.specs.Prelude.{◌≡◌, ◌≤◌, Ok, Err, OnOk, OnErr, IfErr};
-ghost use Rattle.device_base.specs.Bounds.{LAST_END};
+ghost use Rattle.air_base.specs.Bounds.{LAST_END};
 
 use crate::{Spi, Transmission};
 use avr_base::StopCause;

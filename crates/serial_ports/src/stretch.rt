@@ -1,6 +1,6 @@
 // Stretches of arriving bytes.
 ghost use Rattle.std.specs.Prelude.{◌≡◌, ℕ, ◌+◌, ◌-◌, ◌*◌, ◌<◌, ◌≤◌, true, None, length, slice_get, is_some, IfOk, IfSome};
-ghost use Rattle.device_base.specs.Bounds.{LAST_CYCLE, LAST_END};
+ghost use Rattle.air_base.specs.Bounds.{LAST_CYCLE, LAST_END};
 ghost use Rattle.serial_ports.specs.Script.{IsByteOf, IsQuiet, stretch_byte};
 
 use avr_base::NoMemory;

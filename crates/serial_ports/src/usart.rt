@@ -1,6 +1,6 @@
 // The port, cycle by cycle.
 ghost use Rattle.std.specs.Prelude.{◌≡◌, ◌≤◌, ◌^◌, ◌↔◌, false, None};
-ghost use Rattle.device_base.specs.Bounds.{LAST_END};
+ghost use Rattle.air_base.specs.Bounds.{LAST_END};
 
 use crate::ReceiveBuffer;
 use crate::transmission::{Transmission, end_of};

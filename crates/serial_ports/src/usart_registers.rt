@@ -1,6 +1,6 @@
 // The registers of the port.
 ghost use Rattle.std.specs.Prelude.{◌≡◌, ◌≤◌, false, Ok, Err, OnOk, OnErr, IfErr};
-ghost use Rattle.device_base.specs.Bounds.{LAST_END};
+ghost use Rattle.air_base.specs.Bounds.{LAST_END};
 
 use crate::{ReceiveBuffer, Usart};
 use avr_base::StopCause;

@@ -1,6 +1,6 @@
 // The reading of a state's text.
 ghost use Rattle.std.specs.Prelude.{◌≡◌, ◌<◌, ◌^◌, ◌∷◌, [], ℕ, true, None, codes, IfOk, Ok};
-ghost use Rattle.device_base.specs.Bounds.{LAST_CYCLE};
+ghost use Rattle.air_base.specs.Bounds.{LAST_CYCLE};
 ghost use Rattle.state_text.specs.Parts.{is_decimal, value};
 ghost use Rattle.state_text.specs.Text.{StateOf, state_text};
 ghost use Rattle.state_text.specs.Bounds.{Rules, IsState, rules, is_cut, is_kept, follows};

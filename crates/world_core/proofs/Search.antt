@@ -1,6 +1,7 @@
 -- The search among spans that stand in order.
 use Rattle.std.proofs.Common.{◌≡◌, ◌≢◌, ℕ, ◌+◌, ◌-◌, ◌<◌, ◌≤◌, Bool, true, false, cond, ◌&&◌, ◌||◌, ◌==◌, List, length, get_or, refl, sym, subst, ◌∙◌, ap, arith}
 use Rattle.std.specs.Prelude.{nat_le, nat_lt, not}
+use Rattle.air_base.specs.Bounds.{LAST_CYCLE}
 use Rattle.std.specs.List.{All, AllPairs, list_any}
 use Rattle.std.specs.List.Sorted.{IsPartitionPoint, IsPartitionedBy}
 use Rattle.std.proofs.lemmas.List.Folds.{list_any-from_Any, list_any_none}
@@ -185,5 +186,5 @@ link_all xs n p d e lt h = ap (λ (x : Span). x.link) (get_or_default xs n e d l
 pub until_all : (xs : List Span) (n : ℕ) (d e : Span) → n < length xs → (get_or xs n e).until ≡ (get_or xs n d).until
 until_all xs n d e lt = ap (λ (x : Span). x.until) (get_or_default xs n e d lt)
 
-pub wide_all : (count : ℕ) (xs : List Span) → All (λ x. (x.link < count) × (x.from < x.until) × (x.until ≤ 1099511627776)) xs → All (λ x. x.from < x.until) xs
+pub wide_all : (count : ℕ) (xs : List Span) → All (λ x. (x.link < count) × (x.from < x.until) × (x.until ≤ LAST_CYCLE)) xs → All (λ x. x.from < x.until) xs
 wide_all count xs a i d lt = (a i d lt).1

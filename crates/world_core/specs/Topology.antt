@@ -1,5 +1,7 @@
 -- The topology of a network of nodes, and which topologies there are. Own to this simulator.
 use Rattle.std.specs.Prelude.{◌≡◌, ◌≢◌, ℕ, suc, ◌+◌, ◌≤◌, ◌<◌, max, Bool, true, not, ◌&&◌, ◌||◌, ◌==◌, nat_le, nat_lt, if◌then◌else◌, List, [], ◌∷◌, length, take, slice_index_or}
+use Rattle.air_base.specs.Bounds.{LAST_CYCLE}
+use Rattle.air_base.specs.declared.bounds.TheConstants.{LONGEST_BYTE, SHORTEST_BYTE}
 use Rattle.std.specs.List.{All, AllPairs, Contains, list_any}
 use Rattle.world_core.specs.declared.link_table.Link.{Link}
 use Rattle.world_core.specs.declared.spans.Span.{Span}
@@ -32,18 +34,18 @@ IsSpanOrder x y = (x.link ≤ y.link) × (x.link ≡ y.link → x.until ≤ y.fr
 
 -- a span of one of so many links, that is not empty and ends by cycle 2^40
 abbrev pub IsSpan : ℕ → Span → Type 0
-IsSpan links x = (x.link < links) × (x.from < x.until) × (x.until ≤ 1099511627776)
+IsSpan links x = (x.link < links) × (x.from < x.until) × (x.until ≤ LAST_CYCLE)
 
 -- the ranges of its numbers
 pub record HasRanges (t : Topology) : Type 0 where
   pub nodes_from : 1 ≤ t.nodes
   pub nodes_to : t.nodes ≤ 64
   pub limit_from : 1 ≤ t.limit
-  pub limit_to : t.limit ≤ 1099511627776
+  pub limit_to : t.limit ≤ LAST_CYCLE
   pub latency_from : 1 ≤ t.latency
   pub latency_to : t.latency ≤ 65535
-  pub byte_from : 256 ≤ t.byte_time
-  pub byte_to : t.byte_time ≤ 4096
+  pub byte_from : SHORTEST_BYTE ≤ t.byte_time
+  pub byte_to : t.byte_time ≤ LONGEST_BYTE
   pub ends : All (λ l. (l.from < t.nodes) × (l.to < t.nodes)) t.links
   -- there is no own latency, or one of each link
   pub own_count : 0 < length t.own → length t.own ≡ length t.links

@@ -1,5 +1,7 @@
 // The topology of a network of nodes.
 ghost use Rattle.std.specs.Prelude.{◌≡◌, ◌↔◌, ◌==◌, ◌&&◌, ◌+◌, nat_le, nat_lt, ◌<◌, ◌≤◌, MatchResult, IsTrue, length};
+ghost use Rattle.air_base.specs.Bounds.{LAST_CYCLE};
+ghost use Rattle.air_base.specs.declared.bounds.TheConstants.{LONGEST_BYTE, SHORTEST_BYTE};
 ghost use Rattle.std.specs.List.{All, AllPairs, list_any};
 ghost use Rattle.world_core.specs.FirstFault.{AllKeep};
 ghost use Rattle.world_core.specs.Topology.{topology, HasRanges, IsNewLink, IsLinkFault, IsSpan, IsSpanOrder, place_in, greatest, has_span};
@@ -9,6 +11,7 @@ use crate::link_table::LinkTable;
 use crate::neighbours::NeighbourTable;
 use crate::spans::{is_open_at, is_reached};
 use crate::{Link, NoMemory, Span, TopoFault};
+use air_base::{LAST_CYCLE, LONGEST_BYTE, SHORTEST_BYTE};
 use std::marker::Model;
 
 /// Which nodes there are, how long they run, and who hears whom: what all nodes of a network share.
@@ -69,12 +72,12 @@ fn are_ends(nodes: u8, links: &[Link]) -> bool
 
 // Whether the numbers of a topology are in their ranges.
 fn are_numbers(nodes: u8, limit: u64, latency: u64, byte_time: u64) -> bool
-    ensures { IsTrue result ↔ ((1 ≤ nodes) × (nodes ≤ 64) × (1 ≤ limit) × (limit ≤ 1099511627776) × (1 ≤ latency) × (latency ≤ 65535) × (256 ≤ byte_time) × (byte_time ≤ 4096)) }
+    ensures { IsTrue result ↔ ((1 ≤ nodes) × (nodes ≤ 64) × (1 ≤ limit) × (limit ≤ LAST_CYCLE) × (1 ≤ latency) × (latency ≤ 65535) × (SHORTEST_BYTE ≤ byte_time) × (byte_time ≤ LONGEST_BYTE)) }
 {
     (1..=64).contains(&nodes)
-        && (1..=1_099_511_627_776).contains(&limit)
+        && (1..=LAST_CYCLE).contains(&limit)
         && (1..=65_535).contains(&latency)
-        && (256..=4_096).contains(&byte_time)
+        && (SHORTEST_BYTE..=LONGEST_BYTE).contains(&byte_time)
 }
 
 // Whether there is no own latency, or one of each link.
@@ -100,7 +103,7 @@ fn are_spans(count: u64, spans: &[Span]) -> bool
 {
     spans.iter().all(|s| u64::from(s.link) < count
         && s.from < s.until
-        && s.until <= 1_099_511_627_776)
+        && s.until <= LAST_CYCLE)
 }
 
 // Whether the span `next` may stand behind the span `last`.

@@ -1,7 +1,7 @@
 -- A run of a node that stands in the middle of a cycle: of that cycle the processor's part is done, the devices' is
 -- not. What that part did, and what the cycles did in which the node only rested.
 use Rattle.std.specs.Prelude.{◌≡◌, ◌<◌, ◌≤◌, ◌+◌, ◌-◌, ◌&&◌, nat_le, nat_lt, ℕ, Bool, Option, None, Some, Result, Ok, Err, true, false, is_some, List, [], ◌++◌, vec_len, vec_capacity}
-use Rattle.device_base.specs.Bounds.{LAST_CYCLE}
+use Rattle.air_base.specs.Bounds.{LAST_CYCLE}
 use Rattle.avr_base.specs.declared.stop.StopCause.{StopCause}
 use Rattle.node_core.specs.declared.row.Row.{Row}
 use Rattle.node_core.specs.declared.row.Kind.TheVariants as kind

@@ -1,6 +1,6 @@
 // Loops that count a number down and do nothing else, as a delay loop does.
 ghost use Rattle.std.specs.Prelude.{◌≡◌, ◌≤◌, ◌<◌, ◌+◌, ◌*◌, ◌%◌, ℕ, None, false, true, length, slice_index, IfSome};
-ghost use Rattle.device_base.specs.Bounds.{LAST_CYCLE};
+ghost use Rattle.air_base.specs.Bounds.{LAST_CYCLE};
 ghost use Rattle.board_io.specs.Lines.{lines_of};
 ghost use Rattle.node_core.specs.Inside.{MayAct, is_told};
 ghost use Rattle.node_core.specs.Pace.Leaps.{IsBeside, IsCountdown, IsLongLowering, IsLowering, counter_at, spared, with_counter};

@@ -1,7 +1,7 @@
 // Loops that wait, leapt over in whole rounds up to the next event.
 ghost use Rattle.std.specs.Prelude.{◌≡◌, ◌≤◌, ◌<◌, ◌+◌, ℕ, None, false, true, IfSome};
 ghost use Rattle.avr_decoder.specs.declared.op.Op.TheVariants as variant;
-ghost use Rattle.device_base.specs.Bounds.{LAST_CYCLE};
+ghost use Rattle.air_base.specs.Bounds.{LAST_CYCLE};
 ghost use Rattle.board_io.specs.Lines.{lines_of};
 ghost use Rattle.node_core.specs.Inside.{MayAct, is_told};
 ghost use Rattle.node_core.specs.Pace.Leaps.{GoesOnBy, IsLoad, IsRound, IsStill, IsStillStep, is_steering};

@@ -1,6 +1,6 @@
 // Cycles in which a node only waits or sleeps, many at once.
 ghost use Rattle.std.specs.Prelude.{◌≡◌, ◌≤◌, ◌+◌, None, true};
-ghost use Rattle.device_base.specs.Bounds.{LAST_CYCLE};
+ghost use Rattle.air_base.specs.Bounds.{LAST_CYCLE};
 ghost use Rattle.node_core.specs.Interrupts.{due};
 ghost use Rattle.node_core.specs.Pace.Midway.{IsRested};
 ghost use Rattle.node_core.specs.Shown.{shown};

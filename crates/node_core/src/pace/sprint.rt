@@ -1,6 +1,6 @@
 // Instructions of a node, one behind another, while nothing is due.
 ghost use Rattle.std.specs.Prelude.{◌≡◌, ◌≤◌, ◌<◌, ◌+◌, ◌^◌, nat_le, nat_lt, ℕ, None, true, false, IfSome};
-ghost use Rattle.device_base.specs.Bounds.{LAST_CYCLE};
+ghost use Rattle.air_base.specs.Bounds.{LAST_CYCLE, LAST_END};
 ghost use Rattle.board_io.specs.Lagging.{IsClear};
 ghost use Rattle.node_core.specs.Inside.{MayAct, is_told};
 ghost use Rattle.node_core.specs.Interrupts.{due};
@@ -73,7 +73,7 @@ fn clear_to(bus: &NodeBus, end: u64) -> u64
 // Counts an instruction that was executed, and says what the step did.
 #[inline(always)]
 fn told(after: After, executed: Option<Result<Done, StopCause>>, count: &mut u64) -> Step
-    requires few { count.old ≤ 2 ^ 41 }
+    requires few { count.old ≤ LAST_END }
     ensures step { result ≡ step_of after executed }
     ensures count { count.new ≡ counted executed count.old }
 {
@@ -108,7 +108,7 @@ fn one_step(
     count: &mut u64,
 ) -> Step
     requires slots { slots.now ≡ slots_below 65536 program.now.bytes }
-    requires few { count.old ≤ 2 ^ 41 }
+    requires few { count.old ≤ LAST_END }
     ensures step { (m : Machine) → m.program ≡ program.now → MayAct bus.old.board.clock (over regs.old core.old bus.old count.old m) → is_told m.from m.to bus.old.board.clock ≡ false
         → IsStep bus.old.board.clock result (over regs.old core.old bus.old count.old m) (over regs.new core.new bus.new count.new m) }
     ensures flag { leaves_i result ≡ true → nat_lt core.new.sreg.bits 128 ≡ nat_lt core.old.sreg.bits 128 }

@@ -1,6 +1,6 @@
 // Whole instructions of a node up to the next event of its devices.
 ghost use Rattle.std.specs.Prelude.{◌≡◌, ◌≤◌, ◌<◌, ◌+◌, ◌-◌, ℕ, None, true, false, vec_len, vec_capacity};
-ghost use Rattle.device_base.specs.Bounds.{LAST_CYCLE};
+ghost use Rattle.air_base.specs.Bounds.{LAST_CYCLE};
 ghost use Rattle.node_core.specs.Inside.{IsCalm, IsGoing, IsPassed};
 ghost use Rattle.node_core.specs.Pace.Midway.{IsMidway};
 ghost use Rattle.board_io.specs.Cycle.{timers_leap};

@@ -1,4 +1,5 @@
 use Rattle.std.proofs.Common.{◌≡◌, ◌+◌, ◌<◌, ◌≤◌, ℕ, get_or, subst, sym, ◌∙◌, ap, arith}
+use Rattle.air_base.specs.Bounds.{LAST_CYCLE}
 use Rattle.air_base.specs.declared.air.Send.{Send}
 use Rattle.world_core.specs.declared.world.WorldFacts.{WorldFacts}
 use Rattle.world_core.specs.Lawful.{IsLawful}
@@ -21,7 +22,7 @@ post-requires-clause-number g c =
 pub overflow_add-next : goal.overflow_add-next
 overflow_add-next g c =
     let law = subst (λ (w : WorldFacts). IsLawful w) (sym c.requires.world) c.topo.ensures.lawful in
-    let most : g.N.Session.world.topo.limit ≤ 1099511627776 = law.topo.ranges.limit_to in
+    let most : g.N.Session.world.topo.limit ≤ LAST_CYCLE = law.topo.ranges.limit_to in
     let below : (get_or c.args.sends.now c.loop-place.place none).cycle < g.N.Session.world.topo.limit =
     below_limit g.N.Session.world c.args.node.number c.loop-place.place c.args.sends.now none law c.requires.sends c.loop-place-test.true in
     omega (arith, most, below)

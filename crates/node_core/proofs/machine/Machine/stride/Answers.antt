@@ -1,5 +1,6 @@
 use Rattle.std.proofs.Common.{◌≡◌, ℕ, ◌+◌, ◌-◌, ◌<◌, ◌≤◌, ◌^◌, None, false, is_some, refl, add-zero, sym, subst, ap, ◌∙◌, arith}
 use Rattle.std.specs.Prelude.{vec_len, vec_capacity}
+use Rattle.air_base.specs.Bounds.{LAST_CYCLE}
 use Rattle.node_core.specs.declared.machine.Machine.{Machine}
 use Rattle.node_core.specs.declared.row.Row.{Row}
 use Rattle.serial_ports.specs.Script.{ScriptBytes, script_byte}
@@ -69,7 +70,7 @@ loop-cycle-preserved c =
       awake = ap (λ (x : NodeState). x.asleep) passed.after ∙ going.awake;
       clock = f.clock done ∙ next;
       script = ap (λ (x : NodeState). x.script) passed.after ∙ (arrives_still at s u e.state ∙ (q.script none ∙ i.script));
-      count = subst (λ (n : ℕ). n ≤ 2 ^ 40 + (at + c.from-at.result)) (sym (ap (λ (x : NodeState). x.count) passed.after)) (omega (arith, some, more_count, few, next));
+      count = subst (λ (n : ℕ). n ≤ LAST_CYCLE + (at + c.from-at.result)) (sym (ap (λ (x : NodeState). x.count) passed.after)) (omega (arith, some, more_count, few, next));
       room = omega (arith, ap (λ x. vec_len x) f.rows, ap (λ x. vec_capacity x) f.rows, c.has_room.ensures c.if-not-has_room.false);
     }
 

@@ -1,5 +1,6 @@
 use Rattle.std.proofs.Common.{◌≡◌, ◌≤◌, ◌+◌, ◌-◌, ◌^◌, None, false}
 use Rattle.std.specs.Prelude.{vec_len, vec_capacity}
+use Rattle.air_base.specs.Bounds.{LAST_CYCLE}
 use Rattle.air_base.specs.NodeRun.{Comes}
 use Rattle.node_core.specs.Cycle.{node_kind}
 use Rattle.node_core.specs.Shown.{shown}
@@ -15,7 +16,7 @@ invariant-loop-cycle l = record {
   awake : l.self.asleep ≡ false;
   clock : l.self.bus.board.clock ≡ l.at;
   script : l.self.script ≡ l.fn.self.script;
-  count : l.self.count ≤ 2 ^ 40 + l.at;
+  count : l.self.count ≤ LAST_CYCLE + l.at;
   room : vec_len l.self.rows + 4 ≤ vec_capacity l.self.rows;
 }
 
