@@ -45,15 +45,15 @@ fit : (sc : ScenarioOf) (k c : ℕ) (u : NodeState) → IsSaved sc k c u → IsF
 fit sc k c u s = record {
   count = s.count;
   io_count = s.io.length_is;
-  sram_count = length-map-range_with_len (λ i. slice_index u.bus.sram i) 0 4096;
+  sram_count = length-map-range_with_len (λ i. slice_index u.sram i) 0 4096;
   fault = (λ i. fault_by (s.within i) (s.allowed i));
 }
 
 bytes : (sc : ScenarioOf) (k c : ℕ) (u : NodeState) → IsSaved sc k c u → HasBytes (parts_of u)
 bytes sc k c u s = record {
   wide = number_is (λ x. x < 2 ^ 64) (numbers_of u) s.widths;
-  io = number_is (λ x. x < 256) (io_of u.bus.board) (λ i. let b = s.io.bytes i in omega arith);
-  sram = subst (AllByRecursion (λ x. x < 256)) (sym (by_index u.bus.sram 4096 s.sram.length_is)) (number_is (λ x. x < 256) u.bus.sram (λ i. let b = s.sram.bytes i in omega arith));
+  io = number_is (λ x. x < 256) (io_of u.board) (λ i. let b = s.io.bytes i in omega arith);
+  sram = subst (AllByRecursion (λ x. x < 256)) (sym (by_index u.sram 4096 s.sram.length_is)) (number_is (λ x. x < 256) u.sram (λ i. let b = s.sram.bytes i in omega arith));
 }
 
 module _ (sc : ScenarioOf) (c : ℕ) (ok : IsScenario sc) (images : AreImages sc) (cut : is_cut sc.topo c ≡ true) where

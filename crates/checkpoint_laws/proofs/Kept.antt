@@ -31,8 +31,8 @@ by_index xs n len =
 -- the state of a node is read from what is saved of it
 again : (sc : ScenarioOf) (k c : ℕ) (u : NodeState) → IsSaved sc k c u → node_of sc k (parts_of u) ≡ u
 again sc k c u s =
-    let sram : map (λ i. slice_index u.bus.sram i) (range_with_len 0 4096) ≡ u.bus.sram = by_index u.bus.sram 4096 s.sram.length_is in
-    one_node sc k c (parts_of u) u s.within (subst (λ (xs : List ℕ). IsRestoredIn sc k (numbers_of u) (io_of u.bus.board) xs u) (sym sram) s.restored)
+    let sram : map (λ i. slice_index u.sram i) (range_with_len 0 4096) ≡ u.sram = by_index u.sram 4096 s.sram.length_is in
+    one_node sc k c (parts_of u) u s.within (subst (λ (xs : List ℕ). IsRestoredIn sc k (numbers_of u) (io_of u.board) xs u) (sym sram) s.restored)
 
 module _ (sc : ScenarioOf) (c : ℕ) (ok : IsScenario sc) (images : AreImages sc) (lim : c ≤ sc.topo.limit) where
   -- what is saved of node k

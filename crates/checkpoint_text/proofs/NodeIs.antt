@@ -37,8 +37,8 @@ by_mode (Some mode) n = refl
 one_timer16 : (n : List ℕ) (tm : Timer16) → timer16.are_numbers n ≡ true → timer16.HasNumbers n tm → timer16_of n ≡ tm
 one_timer16 n tm fit h = by_mode (control_mode (slice_index n 0)) n ∙ saved16.one-within n tm fit h
 
-one_board : (byte_time t : ℕ) (n io : List ℕ) (b : Board) → all (board.fits t n) ≡ true → board.IsRestored byte_time n io b → b.clock ≡ 0 → board_of byte_time n io ≡ b
-one_board byte_time t n io b fit h at =
+one_board : (byte_time t : ℕ) (n io : List ℕ) (b : Board) → all (board.fits t n) ≡ true → board.IsRestored byte_time n io b → board_of byte_time n io ≡ b
+one_board byte_time t n io b fit h =
     let has = whole.has-numbers n b h.numbers in
     let last = and_parts _ _ (sym (fits-parts t n) ∙ fit) in
     let spis = and_parts _ _ last.0 in
@@ -53,8 +53,7 @@ one_board byte_time t n io b fit h at =
     let spi : spi_of (part 52 10 n) ≡ b.spi = one-spi (part 52 10 n) b.spi has.spi in
     let radio : radio_of byte_time (part 62 5 n) ≡ b.radio = one-radio byte_time (part 62 5 n) b.radio last.1 (record { gap = h.gap; numbers = has.radio }) in
     let kept = sym h.kept in
-    let clock = sym at in
-    (λ i. record { clock = clock i; kept = kept i; t0 = t0 i; t1 = t1 i; t2 = t2 i; t3 = t3 i; usart = usart i; spi = spi i; radio = radio i })
+    (λ i. record { kept = kept i; t0 = t0 i; t1 = t1 i; t2 = t2 i; t3 = t3 i; usart = usart i; spi = spi i; radio = radio i })
 
 -- ---- the core
 at_place : (at : ℕ) (n : List ℕ) (k i : ℕ) → i < k → slice_index (part at k n) i ≡ slice_index n (at + i)
@@ -83,7 +82,7 @@ one_node sc k cycle n u fit r =
     let m : List ℕ = n.numbers in
     let h = has-numbers m u r.registers r.numbers in
     let cpu = one_cpu m u h.tail h.registers in
-    let here = one_board sc.topo.byte_time (ends_from cycle m) (part 41 67 m) n.io u.bus.board (board-fits cycle m fit) r.board r.clock in
+    let here = one_board sc.topo.byte_time (ends_from cycle m) (part 41 67 m) n.io u.board (board-fits cycle m fit) r.board in
     let wait : slice_index m 36 ≡ u.wait = sym (of_tail m u h.tail 4 (omega arith)) in
     let owed : (slice_index m 37 == 1) ≡ u.owed = flag_of (slice_index m 37) u.owed (of_tail m u h.tail 5 (omega arith)) in
     let asleep : (slice_index m 38 == 1) ≡ u.asleep = flag_of (slice_index m 38) u.asleep (of_tail m u h.tail 6 (omega arith)) in
@@ -102,7 +101,8 @@ one_node sc k cycle n u fit r =
       from = first i;
       to = last i;
       cpu = cpu i;
-      bus = record { sram = sram i; board = here i };
+      board = here i;
+      sram = sram i;
       wait = wait i;
       owed = owed i;
       asleep = asleep i;

@@ -92,8 +92,8 @@ pub stood_sized : (vs : List (Timed NodeState Row)) → AllByRecursion IsSized (
 stood_sized [] = tt
 stood_sized (v ∷ vs) = (
   record {
-    io = length-map-range_with_len (λ k. io_at (0x20 + k) v.state.bus.board) 0 224;
-    sram = length-map-range_with_len (λ k. slice_index v.state.bus.sram k) 0 4096;
+    io = length-map-range_with_len (λ k. io_at (0x20 + k) v.state.board) 0 224;
+    sram = length-map-range_with_len (λ k. slice_index v.state.sram k) 0 4096;
   },
   stood_sized vs,
 )

@@ -99,7 +99,6 @@ radio_of byte_time n = record {
 -- the board of its 67 numbers and of the bytes that it keeps, with a radio of this byte time
 abbrev pub board_of : ℕ → List ℕ → List ℕ → Board
 board_of byte_time n io = record {
-  clock = 0;
   kept = kept_of io;
   t0 = timer8_of Own (part 0 6 n);
   t1 = timer16_of (part 12 13 n);
@@ -119,7 +118,8 @@ node_of sc k n = record {
   from = sc.from;
   to = sc.to;
   cpu = cpu_of n.numbers;
-  bus = record { sram = n.sram; board = board_of sc.topo.byte_time (part 41 67 n.numbers) n.io };
+  board = board_of sc.topo.byte_time (part 41 67 n.numbers) n.io;
+  sram = n.sram;
   wait = slice_index n.numbers 36;
   owed = slice_index n.numbers 37 == 1;
   asleep = slice_index n.numbers 38 == 1;

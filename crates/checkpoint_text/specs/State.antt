@@ -54,8 +54,8 @@ state_in sc text = state_of (rules_of sc) text
 abbrev pub parts_of : NodeState → NodeOf
 parts_of s = record {
   numbers = numbers_of s;
-  io = io_of s.bus.board;
-  sram = map (λ k. slice_index s.bus.sram k) (range_with_len 0 SRAM_LEN);
+  io = io_of s.board;
+  sram = map (λ k. slice_index s.sram k) (range_with_len 0 SRAM_LEN);
 }
 
 -- the sends of a run that may still be heard at cycle c, in order of cycle, then node

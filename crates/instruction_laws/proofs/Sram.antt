@@ -9,25 +9,26 @@ use Rattle.avr_decoder.specs.Class.{class_of}
 use Rattle.avr_decoder.specs.declared.op.Class.{Class}
 use Rattle.avr_decoder.specs.declared.op.Class.TheVariants as class
 use Rattle.avr_decoder.specs.declared.op.Op.{Op}
-use Rattle.board_io.specs.declared.board.Board.{Board}
+use Rattle.board_io.specs.declared.clocked.ClockedBoard.{ClockedBoard}
 use Rattle.board_io.specs.Registers.{io_get, io_put}
 use Rattle.data_space.specs.declared.bus.Done.{Done}
 use Rattle.data_space.specs.declared.cpu.Cpu.{Cpu}
 use Rattle.data_space.specs.Memory.{zeros}
+use Rattle.data_space.specs.declared.regions.TheConstants.{SRAM_LEN}
 use Rattle.data_space.specs.Space.{Access}
 use Rattle.data_space.specs.Sequence.{pushed_word}
 use Rattle.data_space.proofs.Keeps.{Got, Keeps, Put, then_kept, word_pushed}
 use Rattle.avr_core.proofs.FlowKeeps.{flow_keeps}
 use Rattle.avr_core.proofs.MemoryKeeps.{memory_keeps}
 use Rattle.node_core.specs.declared.bus.NodeBus.{NodeBus}
-use Rattle.node_core.specs.Bus.{board_got, board_put, bus_at, bus_get, bus_put, reset_bus}
+use Rattle.node_core.specs.Bus.{board_got, board_put, bus_at, bus_get, bus_put}
 use Rattle.node_core.specs.Cycle.{acted, after_entry, after_instruction, begun_in, cpu_cycle, devices_cycle, entered, instructed, is_refused, op_now}
 use Rattle.avr_core.specs.Execute.{executed_over}
 use Rattle.node_core.specs.Execute.{executed, executed_by}
 use Rattle.node_core.specs.Interrupts.{due, entry}
 use Rattle.node_core.specs.State.{NodeState}
 use Rattle.instruction_laws.specs.Stack.{IsMemory}
-use Rattle.instruction_laws.specs.Sram.{has_sram, node_accesses, sram_first, sram_last, with_byte}
+use Rattle.instruction_laws.specs.Sram.{has_sram, is_sram, node_accesses, sram_first, sram_last, with_byte}
 
 -- a memory
 
@@ -37,8 +38,8 @@ size bus = length bus.sram
 in_sram : (bus : NodeBus) (at : ℕ) → has_sram bus ≡ true → sram_first ≤ at → at ≤ sram_last → at - 0x100 < size bus
 in_sram bus at h low high = grind (arith, nat_tests)
 
-pub still_sized : (bus bus' : NodeBus) → size bus' ≡ size bus → has_sram bus ≡ true → has_sram bus' ≡ true
-still_sized bus bus' e h = ap (λ n. n == 4096) e ∙ h
+pub still_sized : (xs ys : List ℕ) → length ys ≡ length xs → is_sram xs ≡ true → is_sram ys ≡ true
+still_sized xs ys e h = ap (λ n. n == 4096) e ∙ h
 
 outside : (at : ℕ) → at ≤ sram_last → nat_lt 0x10FF at ≡ false
 outside at h = grind (arith, nat_tests)
@@ -67,7 +68,7 @@ byte_kept at x bus = length-set bus.sram (at - 0x100) x
 pub memory : IsMemory node_accesses has_sram sram_first sram_last
 memory = record {
   kept = λ bus bus' at x h low high e.
-      subst (λ b. has_sram b ≡ true) (put_is bus bus' at x low high e) (still_sized bus (with_byte at x bus) (byte_kept at x bus) h);
+      subst (λ b. has_sram b ≡ true) (put_is bus bus' at x low high e) (still_sized bus.sram (with_byte at x bus).sram (byte_kept at x bus) h);
   back = λ bus bus' at x h low high e.
       subst (λ b. bus_get b at ≡ Ok (x, b)) (put_is bus bus' at x low high e)
       (got_done (with_byte at x bus) at low high
@@ -79,9 +80,9 @@ memory = record {
       ∙ ap (λ n. Ok (n, with_byte at x bus)) (get_or-set_other bus.sram (at - 0x100) (other - 0x100) x 0 (λ f. apart (omega (arith, f, low, from))) ∙ here));
 }
 
-pub reset_sized : (byte_time : ℕ) → has_sram (reset_bus byte_time) ≡ true
+pub reset_sized : is_sram (zeros SRAM_LEN) ≡ true
 unfolding zeros
-reset_sized byte_time = ap (λ n. n == 4096) (length-replicate {A = ℕ} 4096 0)
+reset_sized = ap (λ n. n == 4096) (length-replicate {A = ℕ} 4096 0)
 
 -- through a cycle
 
@@ -89,11 +90,11 @@ either : {R : Type 0} (P : R → Type 0) (b : Bool) (p q : R) → P p → P q �
 either P true p q h k = h
 either P false p q h k = k
 
-got_board : (bus : NodeBus) (r : Result (ℕ × Board) StopCause) → Got size (size bus) (board_got bus r)
+got_board : (bus : NodeBus) (r : Result (ℕ × ClockedBoard) StopCause) → Got size (size bus) (board_got bus r)
 got_board bus (Ok given) = refl
 got_board bus (Err cause) = tt
 
-put_board : (bus : NodeBus) (r : Result Board StopCause) → Put size (size bus) (board_put bus r)
+put_board : (bus : NodeBus) (r : Result ClockedBoard StopCause) → Put size (size bus) (board_put bus r)
 put_board bus (Ok given) = refl
 put_board bus (Err cause) = tt
 
@@ -101,13 +102,13 @@ get_keeps : (bus : NodeBus) (at : ℕ) → Got size (size bus) (bus_get bus at)
 unfolding bus_get
 get_keeps bus at =
     either (Got size (size bus)) (nat_lt 0x10FF at) _ _ tt
-    (either (Got size (size bus)) (nat_lt 0xFF at) _ _ refl (got_board bus (io_get bus.board at)))
+    (either (Got size (size bus)) (nat_lt 0xFF at) _ _ refl (got_board bus (io_get bus.io at)))
 
 put_keeps : (bus : NodeBus) (at x : ℕ) → Put size (size bus) (bus_put bus at x)
 unfolding bus_put
 put_keeps bus at x =
     either (Put size (size bus)) (nat_lt 0x10FF at) _ _ tt
-    (either (Put size (size bus)) (nat_lt 0xFF at) _ _ (byte_kept at x bus) (put_board bus (io_put bus.board at x)))
+    (either (Put size (size bus)) (nat_lt 0xFF at) _ _ (byte_kept at x bus) (put_board bus (io_put bus.io at x)))
 
 keeps : Keeps size bus_get bus_put
 keeps = record { gets = get_keeps; puts = put_keeps }
@@ -129,28 +130,28 @@ entry_keeps word cpu bus =
     then_kept keeps (size bus) back back.result _ (word_pushed keeps (size bus) cpu.pc cpu bus refl) (λ done c b h. h)
 
 abbrev IsAsLong : NodeState → NodeState → Type 0
-IsAsLong s new = size new.bus ≡ size s.bus
+IsAsLong s new = length new.sram ≡ length s.sram
 
-after_sized : (s : NodeState) (o : Op) (r : Result Done StopCause) (cpu : Cpu) (bus : NodeBus) → size (after_instruction s o r cpu bus).bus ≡ size bus
+after_sized : (s : NodeState) (o : Op) (r : Result Done StopCause) (cpu : Cpu) (bus : NodeBus) → length (after_instruction s o r cpu bus).sram ≡ size bus
 after_sized s o (Ok d) cpu bus = refl
 after_sized s o (Err cause) cpu bus = refl
 
 instructed_sized : (t : ℕ) (s : NodeState) → IsAsLong s (instructed t s)
 unfolding instructed
 instructed_sized t s =
-    let o = executed s.flash (op_now s) s.cpu (bus_at t s.bus) in
+    let o = executed s.flash (op_now s) s.cpu (bus_at t s) in
     either (IsAsLong s) (is_refused s (op_now s)) _ _ refl
-    (after_sized s (op_now s) o.result o.cpu o.bus ∙ executed_keeps s.flash (op_now s) s.cpu (bus_at t s.bus))
+    (after_sized s (op_now s) o.result o.cpu o.bus ∙ executed_keeps s.flash (op_now s) s.cpu (bus_at t s))
 
-entry_sized : (wait : ℕ) (v : Vector) (s : NodeState) (a : Access (Unit {0}) NodeBus) (r : Result (Unit {0}) StopCause) → size (after_entry wait v s a r).bus ≡ size a.bus
+entry_sized : (wait : ℕ) (v : Vector) (s : NodeState) (a : Access (Unit {0}) NodeBus) (r : Result (Unit {0}) StopCause) → length (after_entry wait v s a r).sram ≡ size a.bus
 entry_sized wait v s a (Ok done) = refl
 entry_sized wait v s a (Err cause) = refl
 
 entered_sized : (t wait : ℕ) (v : Vector) (s : NodeState) → IsAsLong s (entered t wait v s)
 unfolding entered
 entered_sized t wait v s =
-    let a = entry v.word s.cpu (bus_at t s.bus) in
-    entry_sized wait v s a a.result ∙ entry_keeps v.word s.cpu (bus_at t s.bus)
+    let a = entry v.word s.cpu (bus_at t s) in
+    entry_sized wait v s a a.result ∙ entry_keeps v.word s.cpu (bus_at t s)
 
 acted_sized : (t : ℕ) (s : NodeState) (v : Option Vector) → IsAsLong s (acted t s v)
 acted_sized t s None = either (IsAsLong s) s.asleep _ _ refl (instructed_sized t s)

@@ -3,12 +3,12 @@
 use Rattle.std.specs.Prelude.{◌≡◌, ℕ, ◌+◌, ◌-◌, ◌/◌, ◌%◌, ◌==◌, Bool, List, length, slice_set}
 use Rattle.avr_decoder.specs.declared.op.Op.{Op}
 use Rattle.avr_decoder.specs.declared.op.Op.TheVariants as op
-use Rattle.board_io.specs.declared.board.Board.{Board}
+use Rattle.board_io.specs.declared.clocked.ClockedBoard.{ClockedBoard}
 use Rattle.data_space.specs.declared.cpu.Cpu.{Cpu}
 use Rattle.data_space.specs.Core.{advanced}
 use Rattle.data_space.specs.Sequence.{Outcome}
 use Rattle.node_core.specs.declared.bus.NodeBus.{NodeBus}
-use Rattle.node_core.specs.Bus.{bus_get, bus_put, with_board}
+use Rattle.node_core.specs.Bus.{bus_get, bus_put, with_io}
 use Rattle.node_core.specs.Execute.{executed}
 use Rattle.instruction_laws.specs.Stack.{Accesses, HasRoom, ended}
 
@@ -24,8 +24,11 @@ abbrev pub node_accesses : Accesses NodeBus
 node_accesses = record { get = bus_get; put = bus_put }
 
 -- whether it has a byte at each of the addresses
+abbrev pub is_sram : List ℕ → Bool
+is_sram bytes = length bytes == 4096
+
 abbrev pub has_sram : NodeBus → Bool
-has_sram bus = length bus.sram == 4096
+has_sram bus = is_sram bus.sram
 
 -- a bus on which this byte is put at a data address of the SRAM
 abbrev pub with_byte : ℕ → ℕ → NodeBus → NodeBus
@@ -40,13 +43,14 @@ with_return words cpu bus =
 abbrev pub HasStack : ℕ → Cpu → Type 0
 HasStack room cpu = HasRoom sram_first sram_last room cpu
 
--- a node executes one instruction after another; its devices go on meanwhile, and its board is then this one
-abbrev pub then_executed : List ℕ → Op → Board → Outcome NodeBus → Outcome NodeBus
-then_executed flash instruction board before = executed flash instruction before.cpu (with_board before.bus board)
+-- a node executes one instruction after another; its devices go on meanwhile, and the later one finds this board, in
+-- this cycle
+abbrev pub then_executed : List ℕ → Op → ClockedBoard → Outcome NodeBus → Outcome NodeBus
+then_executed flash instruction io before = executed flash instruction before.cpu (with_io before.bus io)
 
 -- a node executes a call of so many words and the return that follows it, whatever its devices do meanwhile: the
 -- program goes on behind the call, all else of the core is as before, and the SRAM still has the return address
 abbrev pub NodeComesBack : List ℕ → Op → ℕ → Cpu → NodeBus → Type 0
 NodeComesBack flash call words cpu bus =
-    (board : Board)
-    → then_executed flash op.Ret board (executed flash call cpu bus) ≡ ended 4 (advanced words cpu) (with_board (with_return words cpu bus) board)
+    (io : ClockedBoard)
+    → then_executed flash op.Ret io (executed flash call cpu bus) ≡ ended 4 (advanced words cpu) (with_io (with_return words cpu bus) io)

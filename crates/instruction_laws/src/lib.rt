@@ -17,13 +17,14 @@ ghost use Rattle.avr_core.specs.FlowTable.{flow_effect};
 ghost use Rattle.avr_core.specs.MemoryTable.{memory_effect};
 ghost use Rattle.instruction_laws.specs.Carries.{IsAdded, IsOrdered, IsTaken, carried};
 ghost use Rattle.instruction_laws.specs.Stack.{Accesses, ComesBack, IsMemory, IsStack, TakesReturn, ended, then_memory};
-ghost use Rattle.instruction_laws.specs.Sram.{HasStack, NodeComesBack, has_sram, node_accesses, sram_first, sram_last, then_executed, with_byte};
-ghost use Rattle.board_io.specs.declared.board.Board.{Board};
+ghost use Rattle.instruction_laws.specs.Sram.{HasStack, NodeComesBack, has_sram, is_sram, node_accesses, sram_first, sram_last, then_executed, with_byte};
+ghost use Rattle.board_io.specs.declared.clocked.ClockedBoard.{ClockedBoard};
 ghost use Rattle.node_core.specs.declared.bus.NodeBus.{NodeBus};
-ghost use Rattle.node_core.specs.Bus.{bus_put, reset_bus, with_board};
+ghost use Rattle.node_core.specs.Bus.{bus_put, with_io};
 ghost use Rattle.node_core.specs.Cycle.{begun_in, finished_in};
 ghost use Rattle.node_core.specs.Execute.{executed};
-ghost use Rattle.node_core.specs.State.{NodeState};
+ghost use Rattle.node_core.specs.State.{NodeState, reset};
+ghost use Rattle.serial_ports.specs.Script.{ScriptBytes};
 ghost use Rattle.air_base.specs.declared.air.Heard.{Heard};
 
 /// After CP, and after CPI, the flags compare the two bytes.
@@ -153,18 +154,18 @@ pub fn return_law<B>()
 pub fn sram_law()
     ensures memory { IsMemory node_accesses has_sram sram_first sram_last }
     ensures stores { (bus : NodeBus) (at x : ℕ) → sram_first ≤ at → at ≤ sram_last → bus_put bus at x ≡ Ok (with_byte at x bus) }
-    ensures reset { (byte_time : ℕ) → has_sram (reset_bus byte_time) ≡ true }
-    ensures begun { (t : ℕ) (s : NodeState) → has_sram s.bus ≡ true → has_sram (begun_in t s).bus ≡ true }
-    ensures finished { (t : ℕ) (s : NodeState) (h : Heard) → has_sram s.bus ≡ true → has_sram (finished_in t s h).bus ≡ true }
+    ensures reset { (k : ℕ) (flash : List ℕ) (script : ScriptBytes) (first last byte_time : ℕ) → is_sram (reset k flash script first last byte_time).sram ≡ true }
+    ensures begun { (t : ℕ) (s : NodeState) → is_sram s.sram ≡ true → is_sram (begun_in t s).sram ≡ true }
+    ensures finished { (t : ℕ) (s : NodeState) (h : Heard) → is_sram s.sram ≡ true → is_sram (finished_in t s h).sram ≡ true }
 {}
 
 /// The stack of a node, with the stack pointer in its SRAM and room for what is pushed: PUSH and then POP give a
 /// register the byte that was pushed, and RET comes back behind CALL, RCALL and ICALL, whatever the devices do
 /// meanwhile. All else of the core is as before, and what was pushed stays in the SRAM.
 pub fn node_stack_law()
-    ensures push { (flash : List ℕ) (r d : ℕ) (cpu : Cpu) (bus : NodeBus) (board : Board) → has_sram bus ≡ true → HasStack 1 cpu
-        → then_executed flash (op.Pop d) board (executed flash (op.Push r) cpu bus)
-        ≡ ended 2 (advanced 2 (with_reg d (reg r cpu) cpu)) (with_board (with_byte cpu.sp (reg r cpu) bus) board) }
+    ensures push { (flash : List ℕ) (r d : ℕ) (cpu : Cpu) (bus : NodeBus) (io : ClockedBoard) → has_sram bus ≡ true → HasStack 1 cpu
+        → then_executed flash (op.Pop d) io (executed flash (op.Push r) cpu bus)
+        ≡ ended 2 (advanced 2 (with_reg d (reg r cpu) cpu)) (with_io (with_byte cpu.sp (reg r cpu) bus) io) }
     ensures call { (flash : List ℕ) (k : ℕ) (cpu : Cpu) (bus : NodeBus) → has_sram bus ≡ true → HasStack 2 cpu
         → NodeComesBack flash (op.Call k) 2 cpu bus }
     ensures relative { (flash : List ℕ) (k : ℤ) (cpu : Cpu) (bus : NodeBus) → has_sram bus ≡ true → HasStack 2 cpu

@@ -12,13 +12,14 @@ use Rattle.avr_base.specs.declared.stop.StopCause.{StopCause}
 use Rattle.avr_base.specs.declared.stop.StopCause.TheVariants as stop
 use Rattle.avr_base.proofs.Computed.{all_from, all_from-at}
 use Rattle.board_io.specs.declared.board.Board.{Board}
+use Rattle.board_io.specs.declared.clocked.ClockedBoard.{ClockedBoard}
 use Rattle.board_io.specs.declared.rules.Rule.{Rule}
 use Rattle.board_io.specs.declared.rules.Rule.TheVariants as rule
 use Rattle.board_io.specs.Board.{kept_at, reset_board, selected, with_kept}
 use Rattle.board_io.specs.Cycle.{air_by, air_of, board_air, board_answered, board_asks, board_begun, board_sends, is_asks, moved, moved_by, received, sent_by, timers_cycle, transfer_end, usart_cycle, with_moved}
 use Rattle.board_io.specs.Kept.{kept_bits}
 use Rattle.board_io.specs.Lines.{entered_of, no_flags}
-use Rattle.board_io.specs.Registers.{extended_timer_flags, get_by, timer_flags, io_get, io_put, put_by, with_spi, with_t0, with_t1, with_t2, with_t3, with_usart}
+use Rattle.board_io.specs.Registers.{done_in, extended_timer_flags, get_by, got_in, timer_flags, io_get, io_put, put_by, with_spi, with_t0, with_t1, with_t2, with_t3, with_usart}
 use Rattle.board_io.specs.Table.{rule_of, start_of}
 use Rattle.device_base.specs.Bits.{any_bit, bit}
 use Rattle.avr_timers.specs.Mode.{number_of}
@@ -87,9 +88,6 @@ module _ (t : ℕ) (b : Board) (h : BoardWithin t b) where
 
   pub set_spi : (s : Spi) → SpiWithin t s → BoardWithin t (record b { spi = s })
   set_spi s f = record { t0 = h.t0; t1 = h.t1; t2 = h.t2; t3 = h.t3; usart = h.usart; spi = f; radio = h.radio; kept = h.kept }
-
-  pub set_clock : (c : ℕ) → BoardWithin t (record b { clock = c })
-  set_clock c = record { t0 = h.t0; t1 = h.t1; t2 = h.t2; t3 = h.t3; usart = h.usart; spi = h.spi; radio = h.radio; kept = h.kept }
 
   kept_there : (at x other : ℕ) → IsBoard b → Keeps at x → other < 256 → Dec (other ≡ at) → Keeps other (kept_at other (with_kept at x b))
   kept_there at x other states f g (yes e) =
@@ -304,33 +302,45 @@ byte_spi t s spireg.Control h = h.control
 byte_spi t s spireg.Status h = omega (arith, bit_most s.spif 0x80, bit_most s.wcol 0x40, bit_most s.double 0x01)
 byte_spi t s spireg.Spdr h = h.last
 
--- accesses in cycle t, which the clock of the board shows
+-- accesses in cycle t, by the rule of the register
 
-read_by : (t : ℕ) (r : Rule) (b : Board) (at : ℕ) → b.clock ≡ t → IsBoard b → BoardWithin t b → ReadWithin t (get_by r b at)
-read_by t rule.Reserved b at now states h = tt
-read_by t (rule.Pin port) b at now states h = (kept_byte t b states h port, h, now)
-read_by t (rule.Kept mask) b at now states h = (kept_byte t b states h at, h, now)
-read_by t (rule.Guarded bits cause mask) b at now states h = (kept_byte t b states h at, h, now)
-read_by t rule.WatchdogControl b at now states h = (omega arith, h, now)
-read_by t rule.ResetFlags b at now states h = (kept_byte t b states h at, h, now)
-read_by t rule.CpuControl b at now states h = (kept_byte t b states h at, h, now)
-read_by t rule.TimerFlags b at now states h = (flags_byte b, h, now)
-read_by t rule.ExtendedTimerFlags b at now states h = (extended_byte b, h, now)
-read_by t (rule.Timer0 reg) b at now states h = (byte_8 b.t0 reg states.t0.select h.t0, h, now)
-read_by t (rule.Timer1 reg) b at now states h = (byte_16 b.t1 reg states.t1.select h.t1, set_t1 t b h _ (get_16_within b.t1 h.t1 reg), now)
-read_by t (rule.Timer2 reg) b at now states h = (byte_8 b.t2 reg states.t2.select h.t2, h, now)
-read_by t (rule.Timer3 reg) b at now states h = (byte_16 b.t3 reg states.t3.select h.t3, set_t3 t b h _ (get_16_within b.t3 h.t3 reg), now)
-read_by t (rule.Usart0 reg) b at now states h = (byte_usart t b.usart reg states.usart h.usart, set_usart t b h _ (get_usart_within t b.usart h.usart reg), now)
-read_by t (rule.Spi reg) b at now states h = (byte_spi t b.spi reg h.spi, set_spi t b h _ (get_spi_within t b.spi h.spi reg), now)
+abbrev GotWithin : ℕ → Result (ℕ × Board) StopCause → Type 0
+GotWithin t (Ok got) = (got.0 ≤ 255) × BoardWithin t got.1
+GotWithin t (Err cause) = Unit {0}
 
-pub read_within : (t : ℕ) (b : Board) (at : ℕ) → b.clock ≡ t → IsBoard b → BoardWithin t b → ReadWithin t (io_get b at)
+abbrev PutWithin : ℕ → Result Board StopCause → Type 0
+PutWithin t (Ok b) = BoardWithin t b
+PutWithin t (Err cause) = Unit {0}
+
+read_by : (t : ℕ) (r : Rule) (b : Board) (at : ℕ) → IsBoard b → BoardWithin t b → GotWithin t (get_by r b at)
+read_by t rule.Reserved b at states h = tt
+read_by t (rule.Pin port) b at states h = (kept_byte t b states h port, h)
+read_by t (rule.Kept mask) b at states h = (kept_byte t b states h at, h)
+read_by t (rule.Guarded bits cause mask) b at states h = (kept_byte t b states h at, h)
+read_by t rule.WatchdogControl b at states h = (omega arith, h)
+read_by t rule.ResetFlags b at states h = (kept_byte t b states h at, h)
+read_by t rule.CpuControl b at states h = (kept_byte t b states h at, h)
+read_by t rule.TimerFlags b at states h = (flags_byte b, h)
+read_by t rule.ExtendedTimerFlags b at states h = (extended_byte b, h)
+read_by t (rule.Timer0 reg) b at states h = (byte_8 b.t0 reg states.t0.select h.t0, h)
+read_by t (rule.Timer1 reg) b at states h = (byte_16 b.t1 reg states.t1.select h.t1, set_t1 t b h _ (get_16_within b.t1 h.t1 reg))
+read_by t (rule.Timer2 reg) b at states h = (byte_8 b.t2 reg states.t2.select h.t2, h)
+read_by t (rule.Timer3 reg) b at states h = (byte_16 b.t3 reg states.t3.select h.t3, set_t3 t b h _ (get_16_within b.t3 h.t3 reg))
+read_by t (rule.Usart0 reg) b at states h = (byte_usart t b.usart reg states.usart h.usart, set_usart t b h _ (get_usart_within t b.usart h.usart reg))
+read_by t (rule.Spi reg) b at states h = (byte_spi t b.spi reg h.spi, set_spi t b h _ (get_spi_within t b.spi h.spi reg))
+
+got_within : (t clock : ℕ) (r : Result (ℕ × Board) StopCause) → clock ≡ t → GotWithin t r → ReadWithin t (got_in clock r)
+got_within t clock (Ok got) now h = (h.0, h.1, now)
+got_within t clock (Err cause) now h = tt
+
+pub read_within : (t : ℕ) (c : ClockedBoard) (at : ℕ) → c.clock ≡ t → IsBoard c.board → BoardWithin t c.board → ReadWithin t (io_get c at)
 unfolding io_get
-read_within t b at now states h = read_by t (rule_of at) b at now states h
+read_within t c at now states h = got_within t c.clock (get_by (rule_of at) c.board at) now (read_by t (rule_of at) c.board at states h)
 
 -- a byte that is kept, where its register has this rule
-keeps : (t : ℕ) (r : Rule) (at x : ℕ) (b : Board) → rule_of at ≡ r → bit_and x (kept_bits r) ≡ x → b.clock ≡ t → IsBoard b → BoardWithin t b
-    → WrittenWithin t (Ok (with_kept at x b))
-keeps t r at x b e f now states h = (set_kept t b h at x states (subst (λ (q : Rule). bit_and x (kept_bits q) ≡ x) (sym e) f), now)
+keeps : (t : ℕ) (r : Rule) (at x : ℕ) (b : Board) → rule_of at ≡ r → bit_and x (kept_bits r) ≡ x → IsBoard b → BoardWithin t b
+    → PutWithin t (Ok (with_kept at x b))
+keeps t r at x b e f states h = set_kept t b h at x states (subst (λ (q : Rule). bit_and x (kept_bits q) ≡ x) (sym e) f)
 
 masked : (x mask : ℕ) → bit_and (bit_and x mask) mask ≡ bit_and x mask
 masked x mask = and_assoc mask x mask ∙ ap (bit_and x) (and_self mask)
@@ -366,21 +376,21 @@ guarded_masked x bits mask e =
     a ∙ ap (λ m. bit_and m n) (masked x mask) ∙ c ∙ ap (λ m. bit_and m mask) e
 
 guarded_by : (t bits mask : ℕ) (cause : StopCause) (at x : ℕ) (b : Board) (set : Bool) → any_bit x bits ≡ set → rule_of at ≡ rule.Guarded bits cause mask → at < 256 → x ≤ 255
-    → b.clock ≡ t → IsBoard b → BoardWithin t b → WrittenWithin t (if set then Err cause else Ok (with_kept at (bit_and x mask) b))
-guarded_by t bits mask cause at x b true f e low small now states h = tt
-guarded_by t bits mask cause at x b false f e low small now states h =
+    → IsBoard b → BoardWithin t b → PutWithin t (if set then Err cause else Ok (with_kept at (bit_and x mask) b))
+guarded_by t bits mask cause at x b true f e low small states h = tt
+guarded_by t bits mask cause at x b false f e low small states h =
     keeps t (rule.Guarded bits cause mask) at (bit_and x mask) b e
-    (guarded_masked x bits mask (guarded_free at bits mask x cause low (omega (arith, small)) e f)) now states h
+    (guarded_masked x bits mask (guarded_free at bits mask x cause low (omega (arith, small)) e f)) states h
 
-watchdog_by : (t : ℕ) (b : Board) (off : Bool) → b.clock ≡ t → BoardWithin t b → WrittenWithin t (if off then Err stop.Watchdog else Ok b)
-watchdog_by t b true now h = tt
-watchdog_by t b false now h = (h, now)
+watchdog_by : (t : ℕ) (b : Board) (off : Bool) → BoardWithin t b → PutWithin t (if off then Err stop.Watchdog else Ok b)
+watchdog_by t b true h = tt
+watchdog_by t b false h = h
 
-cpu_by : (t at x : ℕ) (b : Board) (external moved : Bool) → rule_of at ≡ rule.CpuControl → b.clock ≡ t → IsBoard b → BoardWithin t b
-    → WrittenWithin t (if external then Err stop.ExternalMemory else if moved then Err stop.MovedVectors else Ok (with_kept at (bit_and x 0x7C) b))
-cpu_by t at x b true moved e now states h = tt
-cpu_by t at x b false true e now states h = tt
-cpu_by t at x b false false e now states h = keeps t rule.CpuControl at (bit_and x 0x7C) b e (masked x 0x7C) now states h
+cpu_by : (t at x : ℕ) (b : Board) (external moved : Bool) → rule_of at ≡ rule.CpuControl → IsBoard b → BoardWithin t b
+    → PutWithin t (if external then Err stop.ExternalMemory else if moved then Err stop.MovedVectors else Ok (with_kept at (bit_and x 0x7C) b))
+cpu_by t at x b true moved e states h = tt
+cpu_by t at x b false true e states h = tt
+cpu_by t at x b false false e states h = keeps t rule.CpuControl at (bit_and x 0x7C) b e (masked x 0x7C) states h
 
 -- MCUCSR keeps JTD and PORF, of which a write can only clear the second
 abbrev flags_kept : ℕ → ℕ → ℕ
@@ -401,57 +411,64 @@ cleared_by k x e small low =
     let same : bit_and (flags_kept (bit_and k 0x81) x) 0x81 == flags_kept (bit_and k 0x81) x ≡ true = rw (high, rest) at there in
     subst (λ m. bit_and (flags_kept m x) 0x81 ≡ flags_kept m x) e (eqb-true _ _ same)
 
-t0_by : (t : ℕ) (b : Board) (r : Result Timer8 StopCause) → ((tm : Timer8) → r ≡ Ok tm → Timer8Within tm) → b.clock ≡ t → BoardWithin t b → WrittenWithin t (with_t0 b r)
-t0_by t b (Ok tm) f now h = (set_t0 t b h tm (f tm refl), now)
-t0_by t b (Err cause) f now h = tt
+t0_by : (t : ℕ) (b : Board) (r : Result Timer8 StopCause) → ((tm : Timer8) → r ≡ Ok tm → Timer8Within tm) → BoardWithin t b → PutWithin t (with_t0 b r)
+t0_by t b (Ok tm) f h = set_t0 t b h tm (f tm refl)
+t0_by t b (Err cause) f h = tt
 
-t1_by : (t : ℕ) (b : Board) (r : Result Timer16 StopCause) → ((tm : Timer16) → r ≡ Ok tm → Timer16Within tm) → b.clock ≡ t → BoardWithin t b → WrittenWithin t (with_t1 b r)
-t1_by t b (Ok tm) f now h = (set_t1 t b h tm (f tm refl), now)
-t1_by t b (Err cause) f now h = tt
+t1_by : (t : ℕ) (b : Board) (r : Result Timer16 StopCause) → ((tm : Timer16) → r ≡ Ok tm → Timer16Within tm) → BoardWithin t b → PutWithin t (with_t1 b r)
+t1_by t b (Ok tm) f h = set_t1 t b h tm (f tm refl)
+t1_by t b (Err cause) f h = tt
 
-t2_by : (t : ℕ) (b : Board) (r : Result Timer8 StopCause) → ((tm : Timer8) → r ≡ Ok tm → Timer8Within tm) → b.clock ≡ t → BoardWithin t b → WrittenWithin t (with_t2 b r)
-t2_by t b (Ok tm) f now h = (set_t2 t b h tm (f tm refl), now)
-t2_by t b (Err cause) f now h = tt
+t2_by : (t : ℕ) (b : Board) (r : Result Timer8 StopCause) → ((tm : Timer8) → r ≡ Ok tm → Timer8Within tm) → BoardWithin t b → PutWithin t (with_t2 b r)
+t2_by t b (Ok tm) f h = set_t2 t b h tm (f tm refl)
+t2_by t b (Err cause) f h = tt
 
-t3_by : (t : ℕ) (b : Board) (r : Result Timer16 StopCause) → ((tm : Timer16) → r ≡ Ok tm → Timer16Within tm) → b.clock ≡ t → BoardWithin t b → WrittenWithin t (with_t3 b r)
-t3_by t b (Ok tm) f now h = (set_t3 t b h tm (f tm refl), now)
-t3_by t b (Err cause) f now h = tt
+t3_by : (t : ℕ) (b : Board) (r : Result Timer16 StopCause) → ((tm : Timer16) → r ≡ Ok tm → Timer16Within tm) → BoardWithin t b → PutWithin t (with_t3 b r)
+t3_by t b (Ok tm) f h = set_t3 t b h tm (f tm refl)
+t3_by t b (Err cause) f h = tt
 
-usart_by : (t : ℕ) (b : Board) (r : Result Usart StopCause) → ((u : Usart) → r ≡ Ok u → UsartWithin t u) → b.clock ≡ t → BoardWithin t b → WrittenWithin t (with_usart b r)
-usart_by t b (Ok u) f now h = (set_usart t b h u (f u refl), now)
-usart_by t b (Err cause) f now h = tt
+usart_by : (t : ℕ) (b : Board) (r : Result Usart StopCause) → ((u : Usart) → r ≡ Ok u → UsartWithin t u) → BoardWithin t b → PutWithin t (with_usart b r)
+usart_by t b (Ok u) f h = set_usart t b h u (f u refl)
+usart_by t b (Err cause) f h = tt
 
-spi_by : (t : ℕ) (b : Board) (r : Result Spi StopCause) → ((s : Spi) → r ≡ Ok s → SpiWithin t s) → b.clock ≡ t → BoardWithin t b → WrittenWithin t (with_spi b r)
-spi_by t b (Ok s) f now h = (set_spi t b h s (f s refl), now)
-spi_by t b (Err cause) f now h = tt
+spi_by : (t : ℕ) (b : Board) (r : Result Spi StopCause) → ((s : Spi) → r ≡ Ok s → SpiWithin t s) → BoardWithin t b → PutWithin t (with_spi b r)
+spi_by t b (Ok s) f h = set_spi t b h s (f s refl)
+spi_by t b (Err cause) f h = tt
 
-write_by : (t : ℕ) (r : Rule) (b : Board) (at x : ℕ) → rule_of at ≡ r → at < 256 → x ≤ 255 → t < 2 ^ 40 → b.clock ≡ t → IsBoard b → BoardWithin t b
-    → WrittenWithin t (put_by r b at x)
-write_by t rule.Reserved b at x e low small early now states h = tt
-write_by t (rule.Pin port) b at x e low small early now states h = (h, now)
-write_by t (rule.Kept mask) b at x e low small early now states h = keeps t (rule.Kept mask) at (bit_and x mask) b e (masked x mask) now states h
-write_by t (rule.Guarded bits cause mask) b at x e low small early now states h = guarded_by t bits mask cause at x b (any_bit x bits) refl e low small now states h
-write_by t rule.WatchdogControl b at x e low small early now states h = watchdog_by t b (any_bit x 0x08 && not (any_bit x 0x10)) now h
-write_by t rule.ResetFlags b at x e low small early now states h =
+write_by : (t : ℕ) (r : Rule) (b : Board) (at x : ℕ) → rule_of at ≡ r → at < 256 → x ≤ 255 → t < 2 ^ 40 → IsBoard b → BoardWithin t b
+    → PutWithin t (put_by t r b at x)
+write_by t rule.Reserved b at x e low small early states h = tt
+write_by t (rule.Pin port) b at x e low small early states h = h
+write_by t (rule.Kept mask) b at x e low small early states h = keeps t (rule.Kept mask) at (bit_and x mask) b e (masked x mask) states h
+write_by t (rule.Guarded bits cause mask) b at x e low small early states h = guarded_by t bits mask cause at x b (any_bit x bits) refl e low small states h
+write_by t rule.WatchdogControl b at x e low small early states h = watchdog_by t b (any_bit x 0x08 && not (any_bit x 0x10)) h
+write_by t rule.ResetFlags b at x e low small early states h =
     let kept : bit_and (kept_at at b) 0x81 ≡ kept_at at b = subst (λ (q : Rule). bit_and (kept_at at b) (kept_bits q) ≡ kept_at at b) e (h.kept at low) in
-    keeps t rule.ResetFlags at (flags_kept (kept_at at b) x) b e (cleared_by (kept_at at b) x kept small (kept_byte t b states h at)) now states h
-write_by t rule.CpuControl b at x e low small early now states h = cpu_by t at x b (any_bit x 0x80) (any_bit x 0x02) e now states h
-write_by t rule.TimerFlags b at x e low small early now states h =
-    (set_timers t b h _ _ _ _ (again_8 b.t0 _ refl refl h.t0) (again_16 b.t1 h.t1 _ refl refl refl refl refl refl) (again_8 b.t2 _ refl refl h.t2) h.t3, now)
-write_by t rule.ExtendedTimerFlags b at x e low small early now states h =
-    (set_timers t b h _ _ _ _ h.t0 (again_16 b.t1 h.t1 _ refl refl refl refl refl refl) h.t2 (again_16 b.t3 h.t3 _ refl refl refl refl refl refl), now)
-write_by t (rule.Timer0 reg) b at x e low small early now states h = t0_by t b _ (λ tm g. put_8_within b.t0 tm reg x small h.t0 g) now h
-write_by t (rule.Timer1 reg) b at x e low small early now states h = t1_by t b _ (λ tm g. put_16_within b.t1 h.t1 tm reg x small g) now h
-write_by t (rule.Timer2 reg) b at x e low small early now states h = t2_by t b _ (λ tm g. put_8_within b.t2 tm reg x small h.t2 g) now h
-write_by t (rule.Timer3 reg) b at x e low small early now states h = t3_by t b _ (λ tm g. put_16_within b.t3 h.t3 tm reg x small g) now h
-write_by t (rule.Usart0 reg) b at x e low small early now states h =
-    usart_by t b _ (λ u g. put_usart_within t b.usart h.usart u reg x small early states.usart.baud (ap (λ c. usart_registers.put_of c b.usart reg x) (sym now) ∙ g)) now h
-write_by t (rule.Spi reg) b at x e low small early now states h =
-    spi_by t b _ (λ s g. put_spi_within t b.spi s reg x small early h.spi (ap (λ c. spi_registers.put_of c b.spi reg x) (sym now) ∙ g)) now h
+    keeps t rule.ResetFlags at (flags_kept (kept_at at b) x) b e (cleared_by (kept_at at b) x kept small (kept_byte t b states h at)) states h
+write_by t rule.CpuControl b at x e low small early states h = cpu_by t at x b (any_bit x 0x80) (any_bit x 0x02) e states h
+write_by t rule.TimerFlags b at x e low small early states h =
+    set_timers t b h _ _ _ _ (again_8 b.t0 _ refl refl h.t0) (again_16 b.t1 h.t1 _ refl refl refl refl refl refl) (again_8 b.t2 _ refl refl h.t2) h.t3
+write_by t rule.ExtendedTimerFlags b at x e low small early states h =
+    set_timers t b h _ _ _ _ h.t0 (again_16 b.t1 h.t1 _ refl refl refl refl refl refl) h.t2 (again_16 b.t3 h.t3 _ refl refl refl refl refl refl)
+write_by t (rule.Timer0 reg) b at x e low small early states h = t0_by t b _ (λ tm g. put_8_within b.t0 tm reg x small h.t0 g) h
+write_by t (rule.Timer1 reg) b at x e low small early states h = t1_by t b _ (λ tm g. put_16_within b.t1 h.t1 tm reg x small g) h
+write_by t (rule.Timer2 reg) b at x e low small early states h = t2_by t b _ (λ tm g. put_8_within b.t2 tm reg x small h.t2 g) h
+write_by t (rule.Timer3 reg) b at x e low small early states h = t3_by t b _ (λ tm g. put_16_within b.t3 h.t3 tm reg x small g) h
+write_by t (rule.Usart0 reg) b at x e low small early states h =
+    usart_by t b _ (λ u g. put_usart_within t b.usart h.usart u reg x small early states.usart.baud g) h
+write_by t (rule.Spi reg) b at x e low small early states h =
+    spi_by t b _ (λ s g. put_spi_within t b.spi s reg x small early h.spi g) h
 
-pub write_within : (t : ℕ) (b : Board) (at x : ℕ) → at < 256 → x ≤ 255 → t < 2 ^ 40 → b.clock ≡ t → IsBoard b → BoardWithin t b → WrittenWithin t (io_put b at x)
+done_within : (t clock : ℕ) (r : Result Board StopCause) → clock ≡ t → PutWithin t r → WrittenWithin t (done_in clock r)
+done_within t clock (Ok b) now h = (h, now)
+done_within t clock (Err cause) now h = tt
+
+pub write_within : (t : ℕ) (c : ClockedBoard) (at x : ℕ) → at < 256 → x ≤ 255 → t < 2 ^ 40 → c.clock ≡ t → IsBoard c.board → BoardWithin t c.board
+    → WrittenWithin t (io_put c at x)
 unfolding io_put
-write_within t b at x low small early now states h = write_by t (rule_of at) b at x refl low small early now states h
+write_within t c at x low small early now states h =
+    done_within t c.clock (put_by c.clock (rule_of at) c.board at x) now
+    (subst (λ clock. PutWithin t (put_by clock (rule_of at) c.board at x)) (sym now) (write_by t (rule_of at) c.board at x refl low small early states h))
 
 -- an interrupt that is served
 

@@ -267,8 +267,8 @@ module _ (s : NodeState) (len : length s.cpu.r ≡ 32) where
 
   first_33 : take 33 (numbers_of s) ≡ s.cpu.r ++ s.cpu.sreg.bits ∷ []
   first_33 =
-      ap (take 33) (append_assoc s.cpu.r (core_tail s) (board.numbers_of s.bus.board))
-      ∙ take_33 s.cpu.r (drop 1 (core_tail s) ++ board.numbers_of s.bus.board) s.cpu.sreg.bits len
+      ap (take 33) (append_assoc s.cpu.r (core_tail s) (board.numbers_of s.board))
+      ∙ take_33 s.cpu.r (drop 1 (core_tail s) ++ board.numbers_of s.board) s.cpu.sreg.bits len
 
   ends_same : (t : ℕ) → ends_from t (numbers_of s) ≡ (if is_some s.stop then 0 else t)
   ends_same t = ap (λ n. if n == 0 then t else 0) (at_tail 7 (omega arith)) ∙ sym (stop_from t s.stop)
@@ -294,7 +294,7 @@ module _ (s : NodeState) (len : length s.cpu.r ≡ 32) where
   board_all : (t : ℕ) → NodeWithin t s → all (board.fits (ends_from t (numbers_of s)) (part 41 67 (numbers_of s))) ≡ true
   board_all t h =
       let u : ℕ = if is_some s.stop then 0 else t in
-      let here : all (board.fits u (board.numbers_of s.bus.board)) ≡ true = fits_board u s.bus.board h.bus.states h.bus.board in
+      let here : all (board.fits u (board.numbers_of s.board)) ≡ true = fits_board u s.board h.space.states h.space.board in
       ap (λ v. all (board.fits v (part 41 67 (numbers_of s)))) (ends_same t) ∙ ap (λ xs. all (board.fits u xs)) (sym has.board) ∙ here
 
 is_none_of : (o : Option ℕ) → is_none o ≡ true → o ≡ None

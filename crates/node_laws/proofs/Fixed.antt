@@ -35,7 +35,7 @@ pub record Fixed : Type 0 where
   pub gap : ℕ
 
 abbrev pub fixed : NodeState → Fixed
-fixed s = record { given = given s; gap = s.bus.board.radio.byte_time }
+fixed s = record { given = given s; gap = s.board.radio.byte_time }
 
 -- two nodes are given equal things
 abbrev Same : NodeState → NodeState → Type 0
@@ -48,7 +48,7 @@ after_same s o (Err cause) cpu bus = refl
 instructed_same : (t : ℕ) (s : NodeState) → Same s (instructed t s)
 unfolding instructed
 instructed_same t s =
-    let o = executed s.flash (op_now s) s.cpu (bus_at t s.bus) in
+    let o = executed s.flash (op_now s) s.cpu (bus_at t s) in
     kept_if (Same s) (is_refused s (op_now s)) _ _ refl (after_same s (op_now s) o.result o.cpu o.bus)
 
 entry_same : (wait : ℕ) (v : Vector) (s : NodeState) (a : Access (Unit {0}) NodeBus) (r : Result (Unit {0}) StopCause) → Same s (after_entry wait v s a r)
@@ -57,7 +57,7 @@ entry_same wait v s a (Err cause) = refl
 
 entered_same : (t wait : ℕ) (v : Vector) (s : NodeState) → Same s (entered t wait v s)
 unfolding entered
-entered_same t wait v s = let a = entry v.word s.cpu (bus_at t s.bus) in entry_same wait v s a a.result
+entered_same t wait v s = let a = entry v.word s.cpu (bus_at t s) in entry_same wait v s a a.result
 
 acted_same : (t : ℕ) (s : NodeState) (o : Option Vector) → Same s (acted t s o)
 acted_same t s None = kept_if (Same s) s.asleep s (instructed t s) refl (instructed_same t s)
@@ -82,8 +82,8 @@ pair_of g n = record { given = g; gap = n }
 made : (g g' : Given) (n n' : ℕ) → g ≡ g' → n ≡ n' → pair_of g n ≡ pair_of g' n'
 made g g' n n' e f = cc
 
-both_same : (s u : NodeState) → given u ≡ given s → u.bus.board.radio.byte_time ≡ s.bus.board.radio.byte_time → fixed u ≡ fixed s
-both_same s u e f = made (given u) (given s) u.bus.board.radio.byte_time s.bus.board.radio.byte_time e f
+both_same : (s u : NodeState) → given u ≡ given s → u.board.radio.byte_time ≡ s.board.radio.byte_time → fixed u ≡ fixed s
+both_same s u e f = made (given u) (given s) u.board.radio.byte_time s.board.radio.byte_time e f
 
 fixed_begun : (t : ℕ) (s : NodeState) → fixed (begun_in t s) ≡ fixed s
 fixed_begun t s = both_same s (begun_in t s) (begun_same t s) (gap_begun t s)

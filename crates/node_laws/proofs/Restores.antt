@@ -127,7 +127,7 @@ module _ (t : ℕ) (b : Board) (states : IsBoard b) (h : BoardWithin t b) where
   }
 
 module _ (sc : ScenarioOf) (is : IsScenario sc) (images : AreImages sc) (k c : ℕ) (late : c ≤ sc.topo.limit) where
-  pub restored : IsRestoredIn sc k (numbers_of (node_at (fleet_of sc) k c)) (io_of (node_at (fleet_of sc) k c).bus.board) (node_at (fleet_of sc) k c).bus.sram (node_at (fleet_of sc) k c)
+  pub restored : IsRestoredIn sc k (numbers_of (node_at (fleet_of sc) k c)) (io_of (node_at (fleet_of sc) k c).board) (node_at (fleet_of sc) k c).sram (node_at (fleet_of sc) k c)
   restored =
       let u : NodeState = node_at (fleet_of sc) k c in
       let s : NodeState = (fleet_of sc).begins k in
@@ -135,9 +135,9 @@ module _ (sc : ScenarioOf) (is : IsScenario sc) (images : AreImages sc) (k c : �
       let same : fixed u ≡ fixed s = node_fixed sc is images k c late in
       let len : length u.cpu.r ≡ 32 = h.core.count in
       let has : Has (numbers_of u) u = has-numbers (numbers_of u) u len refl in
-      let gap : u.bus.board.radio.byte_time ≡ sc.topo.byte_time = ap (λ (f : Fixed). f.gap) same in
-      let b : board.IsRestored sc.topo.byte_time (board.numbers_of u.bus.board) (io_of u.bus.board) u.bus.board =
-      board_restored (if is_some u.stop then 0 else c) u.bus.board h.bus.states h.bus.board sc.topo.byte_time gap in
+      let gap : u.board.radio.byte_time ≡ sc.topo.byte_time = ap (λ (f : Fixed). f.gap) same in
+      let b : board.IsRestored sc.topo.byte_time (board.numbers_of u.board) (io_of u.board) u.board =
+      board_restored (if is_some u.stop then 0 else c) u.board h.space.states h.space.board sc.topo.byte_time gap in
       record {
         number = ap (λ (f : Fixed). f.given.number) same;
         flash = ap (λ (f : Fixed). f.given.flash) same;
@@ -146,8 +146,7 @@ module _ (sc : ScenarioOf) (is : IsScenario sc) (images : AreImages sc) (k c : �
         to = ap (λ (f : Fixed). f.given.to) same;
         registers = len;
         numbers = refl;
-        board = subst (λ n. board.IsRestored sc.topo.byte_time n (io_of u.bus.board) u.bus.board) has.board b;
-        clock = h.bus.clock;
+        board = subst (λ n. board.IsRestored sc.topo.byte_time n (io_of u.board) u.board) has.board b;
         sram = refl;
       }
 
@@ -158,13 +157,13 @@ saved sc k c is images late =
     let h : NodeWithin c u = node_in sc is images k c late in
     let t : ℕ = if is_some u.stop then 0 else c in
     let early : c ≤ 2 ^ 40 = omega (arith, late, is.topo.ranges.limit_to) in
-    let b : Board = u.bus.board in
+    let b : Board = u.board in
     record {
       count = numbers_length u h.core.count;
       widths = λ i. omega (arith, numbers_small c u h early i);
-      io = record { length_is = io_length t b h.bus.states h.bus.board; bytes = io_bytes t b h.bus.states h.bus.board };
-      sram = record { length_is = h.bus.count; bytes = h.bus.sram };
+      io = record { length_is = io_length t b h.space.states h.space.board; bytes = io_bytes t b h.space.states h.space.board };
+      sram = record { length_is = h.space.count; bytes = h.space.sram };
       within = none_outside_of c u h early;
-      allowed = io_allowed t b h.bus.states h.bus.board;
+      allowed = io_allowed t b h.space.states h.space.board;
       restored = restored sc is images k c late;
     }

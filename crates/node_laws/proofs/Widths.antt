@@ -171,14 +171,14 @@ numbers_small t s h late =
     (both (bit_small s.cpu.rampz) (both (is_small s.wait (omega (arith, h.wait))) (both (bit_small s.owed) (both (bit_small s.asleep)
     (both (is_small (stop_number s.stop) (omega (arith, stop_most s.stop))) (both (is_small s.count (omega (arith, h.count, late))) refl)))))))) in
     let front : all (s.cpu.r ++ core_tail s) ≡ true = all_two s.cpu.r (core_tail s) (bytes_small s.cpu.r h.core.bytes) tail in
-    let rest : all (board.numbers_of s.bus.board) ≡ true = small_board (if is_some s.stop then 0 else t) s.bus.board h.bus.states h.bus.board in
-    small_at (numbers_of s) (all_two (s.cpu.r ++ core_tail s) (board.numbers_of s.bus.board) front rest)
+    let rest : all (board.numbers_of s.board) ≡ true = small_board (if is_some s.stop then 0 else t) s.board h.space.states h.space.board in
+    small_at (numbers_of s) (all_two (s.cpu.r ++ core_tail s) (board.numbers_of s.board) front rest)
 
 pub numbers_length : (s : NodeState) → length s.cpu.r ≡ 32 → length (numbers_of s) ≡ 108
 numbers_length s len =
     let tail : length (core_tail s) ≡ 9 = refl in
-    let rest : length (board.numbers_of s.bus.board) ≡ 67 = refl in
+    let rest : length (board.numbers_of s.board) ≡ 67 = refl in
     let front : length (s.cpu.r ++ core_tail s) ≡ length s.cpu.r + length (core_tail s) = length-append s.cpu.r (core_tail s) in
-    let whole : length (numbers_of s) ≡ length (s.cpu.r ++ core_tail s) + length (board.numbers_of s.bus.board) =
-    length-append (s.cpu.r ++ core_tail s) (board.numbers_of s.bus.board) in
+    let whole : length (numbers_of s) ≡ length (s.cpu.r ++ core_tail s) + length (board.numbers_of s.board) =
+    length-append (s.cpu.r ++ core_tail s) (board.numbers_of s.board) in
     omega (arith, whole, front, tail, rest, len)

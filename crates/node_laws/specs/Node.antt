@@ -1,9 +1,9 @@
 -- Within which bounds a node stays from reset on: registers, memory and counts beside its board.
 use Rattle.std.specs.Prelude.{◌≡◌, ℕ, ◌≤◌, if◌then◌else◌, List, length, slice_index, is_some}
+use Rattle.board_io.specs.declared.board.Board.{Board}
 use Rattle.data_space.specs.declared.cpu.Cpu.{Cpu}
 use Rattle.data_space.specs.declared.regions.TheConstants.{SRAM_LEN}
 use Rattle.device_laws.specs.States.{IsBoard}
-use Rattle.node_core.specs.declared.bus.NodeBus.{NodeBus}
 use Rattle.node_core.specs.State.{NodeState}
 use Rattle.node_laws.specs.Within.{BoardWithin}
 
@@ -18,18 +18,17 @@ pub record CoreWithin (cpu : Cpu) : Type 0 where
   pub sp : cpu.sp ≤ 65535
   pub pc : cpu.pc ≤ 65535
 
--- the data space before cycle t, where the clock of its board shows this
-pub record BusWithin (t shown : ℕ) (bus : NodeBus) : Type 0 where
-  pub count : length bus.sram ≡ SRAM_LEN
-  pub sram : AreBytes bus.sram
-  pub states : IsBoard bus.board
-  pub board : BoardWithin t bus.board
-  pub clock : bus.board.clock ≡ shown
+-- the data space beside the core before cycle t: the devices of a board, and the bytes of the SRAM
+pub record SpaceWithin (t : ℕ) (b : Board) (bytes : List ℕ) : Type 0 where
+  pub count : length bytes ≡ SRAM_LEN
+  pub sram : AreBytes bytes
+  pub states : IsBoard b
+  pub board : BoardWithin t b
 
 -- a node before cycle t; the devices of a stopped one no longer move
 pub record NodeWithin (t : ℕ) (s : NodeState) : Type 0 where
   pub flash : AreBytes s.flash
   pub core : CoreWithin s.cpu
-  pub bus : BusWithin (if is_some s.stop then 0 else t) 0 s.bus
+  pub space : SpaceWithin (if is_some s.stop then 0 else t) s.board s.sram
   pub wait : s.wait ≤ 7
   pub count : s.count ≤ t

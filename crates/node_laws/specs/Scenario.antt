@@ -18,8 +18,8 @@ pub record HasBytes (count : ℕ) (xs : List ℕ) : Type 0 where
 pub record IsSaved (sc : ScenarioOf) (k c : ℕ) (u : NodeState) : Type 0 where
   pub count : length (numbers_of u) ≡ NUMBERS
   pub widths : (i : ℕ) → slice_index (numbers_of u) i < 2 ^ 64
-  pub io : HasBytes IO_COUNT (io_of u.bus.board)
-  pub sram : HasBytes SRAM_LEN u.bus.sram
+  pub io : HasBytes IO_COUNT (io_of u.board)
+  pub sram : HasBytes SRAM_LEN u.sram
   pub within : first_outside c (numbers_of u) ≡ None
-  pub allowed : first_refused (io_of u.bus.board) ≡ None
-  pub restored : IsRestoredIn sc k (numbers_of u) (io_of u.bus.board) u.bus.sram u
+  pub allowed : first_refused (io_of u.board) ≡ None
+  pub restored : IsRestoredIn sc k (numbers_of u) (io_of u.board) u.sram u

@@ -4,6 +4,7 @@ use Rattle.std.specs.Prelude.{◌≡◌, ℕ, ◌<◌, ◌≤◌, Option, Some, 
 use Rattle.air_base.specs.Bounds.{LAST_END}
 use Rattle.avr_base.specs.declared.stop.StopCause.{StopCause}
 use Rattle.board_io.specs.declared.board.Board.{Board}
+use Rattle.board_io.specs.declared.clocked.ClockedBoard.{ClockedBoard}
 use Rattle.board_io.specs.Board.{kept_at}
 use Rattle.board_io.specs.Kept.{kept_bits}
 use Rattle.board_io.specs.Table.{rule_of}
@@ -87,12 +88,11 @@ pub record BoardWithin (t : ℕ) (b : Board) : Type 0 where
   -- a byte that the board keeps has no bit that its register cannot have; where it keeps none it is 0
   pub kept : (at : ℕ) → at < 256 → bit_and (kept_at at b) (kept_bits (rule_of at)) ≡ kept_at at b
 
--- what an access in cycle t, which the clock of the board shows, gives and leaves; one that stops leaves the board as
--- it was
-abbrev pub ReadWithin : ℕ → Result (ℕ × Board) StopCause → Type 0
-ReadWithin t (Ok got) = (got.0 ≤ 255) × BoardWithin t got.1 × (got.1.clock ≡ t)
+-- what an access in cycle t gives and leaves; one that stops leaves the board as it was
+abbrev pub ReadWithin : ℕ → Result (ℕ × ClockedBoard) StopCause → Type 0
+ReadWithin t (Ok got) = (got.0 ≤ 255) × BoardWithin t got.1.board × (got.1.clock ≡ t)
 ReadWithin t (Err cause) = Unit {0}
 
-abbrev pub WrittenWithin : ℕ → Result Board StopCause → Type 0
-WrittenWithin t (Ok b) = BoardWithin t b × (b.clock ≡ t)
+abbrev pub WrittenWithin : ℕ → Result ClockedBoard StopCause → Type 0
+WrittenWithin t (Ok c) = BoardWithin t c.board × (c.clock ≡ t)
 WrittenWithin t (Err cause) = Unit {0}

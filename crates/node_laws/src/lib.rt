@@ -7,7 +7,7 @@ ghost use Rattle.std.specs.Prelude.{◌≡◌, ℕ, ◌+◌, ◌<◌, ◌≤◌,
 ghost use Rattle.air_base.specs.Bounds.{LAST_CYCLE};
 ghost use Rattle.air_base.specs.declared.bounds.TheConstants.{LONGEST_BYTE};
 ghost use Rattle.board_io.specs.declared.board.Board.{Board};
-ghost use Rattle.board_io.specs.Board.{reset_board};
+ghost use Rattle.board_io.specs.Board.{clocked, reset_board};
 ghost use Rattle.board_io.specs.Cycle.{board_answered, board_asks, board_begun, board_sends};
 ghost use Rattle.board_io.specs.Lines.{entered_of};
 ghost use Rattle.board_io.specs.Registers.{io_get, io_put};
@@ -29,9 +29,9 @@ ghost use Rattle.air_base.specs.declared.air.Heard.{Heard};
 /// it hears. What the devices send is a byte.
 pub fn board_law()
     ensures reset { (byte_time : ℕ) → BoardWithin 0 (reset_board byte_time) }
-    ensures read { (t : ℕ) (b : Board) (at : ℕ) → b.clock ≡ t → IsBoard b → BoardWithin t b → ReadWithin t (io_get b at) }
-    ensures write { (t : ℕ) (b : Board) (at x : ℕ) → at < 256 → x ≤ 255 → t < LAST_CYCLE → b.clock ≡ t → IsBoard b → BoardWithin t b
-        → WrittenWithin t (io_put b at x) }
+    ensures read { (t : ℕ) (b : Board) (at : ℕ) → IsBoard b → BoardWithin t b → ReadWithin t (io_get (clocked t b) at) }
+    ensures write { (t : ℕ) (b : Board) (at x : ℕ) → at < 256 → x ≤ 255 → t < LAST_CYCLE → IsBoard b → BoardWithin t b
+        → WrittenWithin t (io_put (clocked t b) at x) }
     ensures entry { (t word : ℕ) (b : Board) → BoardWithin t b → BoardWithin t (entered_of word b) }
     ensures cycle { (t : ℕ) (arrival : Option ℕ) (h : Heard) (b : Board) → t < LAST_CYCLE → HeardWithin h → IsBoard b → BoardWithin t b
         → BoardWithin (t + 1) (if board_asks t b then board_answered h (board_begun t arrival b) else board_begun t arrival b) }

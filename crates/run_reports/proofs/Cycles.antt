@@ -41,7 +41,7 @@ device_few : (t : ℕ) (s : NodeState) → length (device_rows t s) ≤ 2
 unfolding device_rows
 device_few t s =
     few_case 2 (is_some s.stop) [] _ (omega arith)
-    (few_both 1 1 (serial_rows t s (board_serial t s.bus.board)) (sent_rows t s (board_sends t s.bus.board)) (serial_few t s (board_serial t s.bus.board)) (sent_few t s (board_sends t s.bus.board)))
+    (few_both 1 1 (serial_rows t s (board_serial t s.board)) (sent_rows t s (board_sends t s.board)) (serial_few t s (board_serial t s.board)) (sent_few t s (board_sends t s.board)))
 
 begun_few : (t : ℕ) (s : NodeState) → length (begun_rows t s) ≤ 3
 unfolding begun_rows
@@ -88,7 +88,7 @@ module _ (end : ℕ) where
   below_instructed : (t : ℕ) (s : NodeState) → s.to ≡ end → AllBelow (instructed_rows t s)
   unfolding instructed_rows
   below_instructed t s e =
-      below_case (is_refused s (op_now s)) _ _ (below_other _ refl) (below_instruction t s (executed s.flash (op_now s) s.cpu (bus_at t s.bus)).result e)
+      below_case (is_refused s (op_now s)) _ _ (below_other _ refl) (below_instruction t s (executed s.flash (op_now s) s.cpu (bus_at t s)).result e)
 
   below_entry : (t : ℕ) (v : Vector) (s : NodeState) (r : Result (Unit {0}) StopCause) → s.to ≡ end → AllBelow (entry_rows t v s r)
   below_entry t v s (Ok done) e = below_within t s _ e
@@ -96,7 +96,7 @@ module _ (end : ℕ) where
 
   below_entered : (t : ℕ) (v : Vector) (s : NodeState) → s.to ≡ end → AllBelow (entered_rows t v s)
   unfolding entered_rows
-  below_entered t v s e = below_entry t v s (entry v.word s.cpu (bus_at t s.bus)).result e
+  below_entered t v s e = below_entry t v s (entry v.word s.cpu (bus_at t s)).result e
 
   below_acted : (t : ℕ) (s : NodeState) (o : Option Vector) → s.to ≡ end → AllBelow (acted_rows t s o)
   below_acted t s None e = below_case s.asleep [] _ (All-nil (IsBelow end)) (below_instructed t s e)
@@ -118,7 +118,7 @@ module _ (end : ℕ) where
   unfolding device_rows
   below_device t s =
       below_case (is_some s.stop) [] _ (All-nil (IsBelow end))
-      (All-append (IsBelow end) (serial_rows t s (board_serial t s.bus.board)) (sent_rows t s (board_sends t s.bus.board)) (below_serial t s (board_serial t s.bus.board)) (below_sent t s (board_sends t s.bus.board)))
+      (All-append (IsBelow end) (serial_rows t s (board_serial t s.board)) (sent_rows t s (board_sends t s.board)) (below_serial t s (board_serial t s.board)) (below_sent t s (board_sends t s.board)))
 
   below_begun : (t : ℕ) (s : NodeState) → s.to ≡ end → AllBelow (begun_rows t s)
   unfolding begun_rows

@@ -36,7 +36,7 @@ after_same s o (Err cause) cpu bus = record { number = refl; to = refl }
 instructed_same : (t : ℕ) (s : NodeState) → Same s (instructed t s)
 unfolding instructed
 instructed_same t s =
-    let o = executed s.flash (op_now s) s.cpu (bus_at t s.bus) in
+    let o = executed s.flash (op_now s) s.cpu (bus_at t s) in
     same_case s (is_refused s (op_now s)) _ _ (record { number = refl; to = refl }) (after_same s (op_now s) o.result o.cpu o.bus)
 
 after_entry_same : (wait : ℕ) (v : Vector) (s : NodeState) (a : Access (Unit {0}) NodeBus) (r : Result (Unit {0}) StopCause) → Same s (after_entry wait v s a r)
@@ -45,7 +45,7 @@ after_entry_same wait v s a (Err cause) = record { number = refl; to = refl }
 
 entered_same : (t wait : ℕ) (v : Vector) (s : NodeState) → Same s (entered t wait v s)
 unfolding entered
-entered_same t wait v s = let a = entry v.word s.cpu (bus_at t s.bus) in after_entry_same wait v s a a.result
+entered_same t wait v s = let a = entry v.word s.cpu (bus_at t s) in after_entry_same wait v s a a.result
 
 acted_same : (t : ℕ) (s : NodeState) (o : Option Vector) → Same s (acted t s o)
 acted_same t s None = same_case s s.asleep _ _ (itself s) (instructed_same t s)

@@ -46,7 +46,7 @@ silent_instruction t s (Err cause) = refl
 silent_instructed : (t : ℕ) (s : NodeState) → Silent (instructed_rows t s)
 unfolding instructed_rows sends_told
 silent_instructed t s =
-    silent_case (is_refused s (op_now s)) _ _ refl (silent_instruction t s (executed s.flash (op_now s) s.cpu (bus_at t s.bus)).result)
+    silent_case (is_refused s (op_now s)) _ _ refl (silent_instruction t s (executed s.flash (op_now s) s.cpu (bus_at t s)).result)
 
 silent_entry : (t : ℕ) (v : Vector) (s : NodeState) (r : Result (Unit {0}) StopCause) → Silent (entry_rows t v s r)
 unfolding sends_told
@@ -55,7 +55,7 @@ silent_entry t v s (Err cause) = refl
 
 silent_entered : (t : ℕ) (v : Vector) (s : NodeState) → Silent (entered_rows t v s)
 unfolding entered_rows
-silent_entered t v s = silent_entry t v s (entry v.word s.cpu (bus_at t s.bus)).result
+silent_entered t v s = silent_entry t v s (entry v.word s.cpu (bus_at t s)).result
 
 silent_acted : (t : ℕ) (s : NodeState) (o : Option Vector) → Silent (acted_rows t s o)
 silent_acted t s None = silent_case s.asleep [] _ told_none (silent_instructed t s)
@@ -81,7 +81,7 @@ device_case false t s serial sent = told_both (serial_rows t s serial) (sent_row
 
 told_device : (t : ℕ) (s : NodeState) → sends_told (device_rows t s) ≡ send_of t s.number (sends_after t s)
 unfolding device_rows sends_after
-told_device t s = device_case (is_some s.stop) t s (board_serial t s.bus.board) (board_sends t s.bus.board)
+told_device t s = device_case (is_some s.stop) t s (board_serial t s.board) (board_sends t s.board)
 
 begun_case : (b : Bool) (t k : ℕ) (s : NodeState) → s.number ≡ k → sends_told (cond b [] (cpu_rows t s ++ device_rows t (cpu_cycle t s))) ≡ send_of t k (cond b None (sends_after t (cpu_cycle t s)))
 begun_case true t k s e = told_none

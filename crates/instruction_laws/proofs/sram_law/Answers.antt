@@ -9,10 +9,10 @@ pub returns-clause-stores : goal.returns-clause-stores
 returns-clause-stores c = put_done
 
 pub returns-clause-reset : goal.returns-clause-reset
-returns-clause-reset c = reset_sized
+returns-clause-reset c = λ k flash script first last gap. reset_sized
 
 pub returns-clause-begun : goal.returns-clause-begun
-returns-clause-begun c = λ t s. still_sized s.bus (begun_in t s).bus (begun_sized t s)
+returns-clause-begun c = λ t s. still_sized s.sram (begun_in t s).sram (begun_sized t s)
 
 pub returns-clause-finished : goal.returns-clause-finished
 returns-clause-finished c = λ t s h sized. sized

@@ -10,4 +10,4 @@ use Rattle.checkpoint_text.proofs.Saving.{io_shown}
 use Rattle.checkpoint_text.proofs.writing.StoodNodes.io.Goals as goal
 
 pub returns : goal.returns
-returns c = c.io.ensures ∙ (io_shown c.stood_at.result.now.state.bus.board c.args.place c.requires.place ∙ ap (λ (n : NodeOf). slice_index n.io c.args.place) (c.stood_at.ensures ∙ ap (λ (vs : List (Timed NodeState Row)). node_of (stood vs) c.args.node) c.self.view_is))
+returns c = c.io.ensures ∙ (io_shown c.stood_at.result.now.state.board c.args.place c.requires.place ∙ ap (λ (n : NodeOf). slice_index n.io c.args.place) (c.stood_at.ensures ∙ ap (λ (vs : List (Timed NodeState Row)). node_of (stood vs) c.args.node) c.self.view_is))

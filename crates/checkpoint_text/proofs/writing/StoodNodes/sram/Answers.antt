@@ -13,6 +13,6 @@ pub returns : goal.returns
 returns c =
     let at : 256 + c.args.place - 256 ≡ c.args.place = omega arith in
     c.sram.ensures
-    ∙ (ap (λ k. slice_index c.stood_at.result.now.state.bus.sram k) at
-    ∙ (sram_shown c.stood_at.result.now.state.bus.sram c.args.place c.requires.place
+    ∙ (ap (λ k. slice_index c.stood_at.result.now.state.sram k) at
+    ∙ (sram_shown c.stood_at.result.now.state.sram c.args.place c.requires.place
     ∙ ap (λ (n : NodeOf). slice_index n.sram c.args.place) (c.stood_at.ensures ∙ ap (λ (vs : List (Timed NodeState Row)). node_of (stood vs) c.args.node) c.self.view_is)))
