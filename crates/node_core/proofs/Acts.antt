@@ -35,12 +35,12 @@ after_entry_acts wait v s a (Err cause) = (refl, omega arith)
 instructed_acts : (t : ℕ) (s : NodeState) → Acts s (instructed t s)
 unfolding instructed
 instructed_acts t s =
-    let o = executed s.flash (op_now s) s.cpu (bus_at t s.bus) in
+    let o = executed s.flash (op_now s) s.cpu (bus_at t s) in
     acts_case s (is_refused s (op_now s)) _ _ (refl, omega arith) (after_acts s (op_now s) o.result o.cpu o.bus)
 
 entered_acts : (t wait : ℕ) (v : Vector) (s : NodeState) → Acts s (entered t wait v s)
 unfolding entered
-entered_acts t wait v s = let a = entry v.word s.cpu (bus_at t s.bus) in after_entry_acts wait v s a a.result
+entered_acts t wait v s = let a = entry v.word s.cpu (bus_at t s) in after_entry_acts wait v s a a.result
 
 acted_acts : (t : ℕ) (s : NodeState) (o : Option Vector) → Acts s (acted t s o)
 acted_acts t s None = acts_case s s.asleep _ _ (refl, omega arith) (instructed_acts t s)
@@ -63,7 +63,7 @@ instruction_few t s (Err cause) = omega arith
 
 instructed_few : (t : ℕ) (s : NodeState) → length (instructed_rows t s) ≤ 1
 unfolding instructed_rows
-instructed_few t s = few_case (is_refused s (op_now s)) _ _ (omega arith) (instruction_few t s (executed s.flash (op_now s) s.cpu (bus_at t s.bus)).result)
+instructed_few t s = few_case (is_refused s (op_now s)) _ _ (omega arith) (instruction_few t s (executed s.flash (op_now s) s.cpu (bus_at t s)).result)
 
 entry_few : (t : ℕ) (v : Vector) (s : NodeState) (r : Result (Unit {0}) StopCause) → length (entry_rows t v s r) ≤ 1
 entry_few t v s (Ok done) = within_few t s _
@@ -71,7 +71,7 @@ entry_few t v s (Err cause) = omega arith
 
 entered_few : (t : ℕ) (v : Vector) (s : NodeState) → length (entered_rows t v s) ≤ 1
 unfolding entered_rows
-entered_few t v s = entry_few t v s (entry v.word s.cpu (bus_at t s.bus)).result
+entered_few t v s = entry_few t v s (entry v.word s.cpu (bus_at t s)).result
 
 acted_few : (t : ℕ) (s : NodeState) (o : Option Vector) → length (acted_rows t s o) ≤ 1
 acted_few t s None = few_case s.asleep _ _ (omega arith) (instructed_few t s)

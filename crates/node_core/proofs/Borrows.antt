@@ -295,7 +295,7 @@ module _ (d e n k : ℕ) (m : Machine) (from mid to : Cpu) (h : IsStillStep n m 
     second_step =
         let mids : bm.sreg.bits / 64 ≡ mid.sreg.bits / 64 = flags_mid b refl ∙ (sym (flags_mid from refl) ∙ ap (λ (c : Cpu). c.sreg.bits / 64) (sym came_mid)) in
         other_step k m mid to g (op.Sbci e 0) then_ refl bm (with_counter d e w to) (pc_mid b refl ∙ ap (λ (c : Cpu). c.pc) (sym came_mid)) end_there
-        (due_same bm.sreg.bits mid.sreg.bits (lines_of m.bus.board) mids ∙ g.none)
+        (due_same bm.sreg.bits mid.sreg.bits (lines_of m.bus.io.board) mids ∙ g.none)
         (never_on bm.sreg.bits to.sreg.bits (flags_mid b refl ∙ sym flags_to))
 
     pub long_walk : Walk m b (n + k) 2 (with_counter d e w to)

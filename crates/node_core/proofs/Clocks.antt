@@ -1,8 +1,7 @@
--- The clock of a node's board runs on, and its state does not show it.
+-- The clock of a node runs on with the cycles, and its state does not show it.
 use Rattle.std.proofs.Common.{◌≡◌, ℕ, ◌+◌, ◌<◌, None, List, subst}
 use Rattle.avr_decoder.specs.declared.op.Op.{Op}
-use Rattle.board_io.specs.declared.board.Board.{Board}
-use Rattle.board_io.specs.Board.{unclocked}
+use Rattle.board_io.specs.declared.clocked.ClockedBoard.{ClockedBoard}
 use Rattle.board_io.specs.Cycle.{timers_leap}
 use Rattle.board_io.specs.Lagging.{IsIdle}
 use Rattle.board_io.specs.Lines.{lines_of}
@@ -18,19 +17,19 @@ use Rattle.node_core.specs.Shown.{shown}
 use Rattle.node_core.proofs.Untouched.{entry_keeps, executed_keeps}
 
 -- no instruction moves it, and no entry
-pub executed_clock : (flash : List ℕ) (o : Op) (cpu : Cpu) (bus : NodeBus) → (executed flash o cpu bus).bus.board.clock ≡ bus.board.clock
-executed_clock flash o cpu bus = executed_keeps (λ (b : Board). b.clock) get_clock put_clock flash o cpu bus
+pub executed_clock : (flash : List ℕ) (o : Op) (cpu : Cpu) (bus : NodeBus) → (executed flash o cpu bus).bus.io.clock ≡ bus.io.clock
+executed_clock flash o cpu bus = executed_keeps (λ (io : ClockedBoard). io.clock) get_clock put_clock flash o cpu bus
 
-pub entry_clock : (word : ℕ) (cpu : Cpu) (bus : NodeBus) → (entry word cpu bus).bus.board.clock ≡ bus.board.clock
-entry_clock word cpu bus = entry_keeps (λ (b : Board). b.clock) get_clock put_clock word cpu bus
+pub entry_clock : (word : ℕ) (cpu : Cpu) (bus : NodeBus) → (entry word cpu bus).bus.io.clock ≡ bus.io.clock
+entry_clock word cpu bus = entry_keeps (λ (io : ClockedBoard). io.clock) get_clock put_clock word cpu bus
 
 -- cycles in which the board is idle and no byte arrives
-module _ (t n : ℕ) (m : Machine) (at : m.bus.board.clock ≡ t) (idle : IsIdle m.bus.board.clock n (unclocked m.bus.board)) where
-  here : IsIdle t n (unclocked m.bus.board)
-  here = subst (λ (u : ℕ). IsIdle u n (unclocked m.bus.board)) at idle
+module _ (t n : ℕ) (m : Machine) (at : m.bus.io.clock ≡ t) (idle : IsIdle m.bus.io.clock n m.bus.io.board) where
+  here : IsIdle t n m.bus.io.board
+  here = subst (λ (u : ℕ). IsIdle u n m.bus.io.board) at idle
 
   pub calm_of : ((i : ℕ) → i < n → script_byte m.script (t + i) ≡ None) → IsCalm t n (shown m)
   calm_of none = record { ends = here.quiet; none = none }
 
-  pub lines_stay : (i : ℕ) → i < n → lines_of (timers_leap t i (shown m).bus.board) ≡ lines_of (shown m).bus.board
+  pub lines_stay : (i : ℕ) → i < n → lines_of (timers_leap t i (shown m).board) ≡ lines_of (shown m).board
   lines_stay i l = here.same i l

@@ -165,7 +165,7 @@ module _ (n : ℕ) (m : Machine) (from to : Cpu) (h : IsStillStep n m from to) (
     pub came : to ≡ arith_cpu o from
     came = ap (λ (a : Outcome NodeBus). a.cpu) (whole 0 0 0)
 
-    pub other_step : (b c : Cpu) → b.pc ≡ from.pc → c ≡ arith_cpu o b → due_of b.sreg.bits (lines_of m.bus.board) ≡ None → false ≡ owes o b.sreg.bits c.sreg.bits
+    pub other_step : (b c : Cpu) → b.pc ≡ from.pc → c ≡ arith_cpu o b → due_of b.sreg.bits (lines_of m.bus.io.board) ≡ None → false ≡ owes o b.sreg.bits c.sreg.bits
         → IsStillStep n m b c
     other_step b c pc goes_there none settled = record {
       none = none;

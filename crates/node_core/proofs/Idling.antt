@@ -9,7 +9,6 @@ use Rattle.board_io.proofs.Leaps.{leap_next, leap_quiet, leap_zero}
 use Rattle.avr_base.specs.declared.interrupts.Lines.{Lines}
 use Rattle.avr_base.specs.Lines.{due_of}
 use Rattle.air_base.specs.NodeRun.{passed, passed_rows, AllQuiet}
-use Rattle.node_core.specs.Bus.{with_board}
 use Rattle.node_core.specs.State.{NodeState}
 use Rattle.node_core.specs.Cycle.{node_kind, acted, acted_rows, asks_in, begun_in, begun_rows, cpu_cycle, cpu_rows, instructed, instructed_rows, sends_in}
 use Rattle.node_core.specs.Inside.{IsCalm}
@@ -18,7 +17,7 @@ use Rattle.node_core.proofs.Cycles.{asks_calm, begun_calm, rows_calm, sends_calm
 
 -- a node after i cycles of a wait or of sleep, from cycle t on
 abbrev pub rested : ℕ → ℕ → NodeState → NodeState
-rested t i s = record s { wait = s.wait - i; bus = with_board s.bus (timers_leap t i s.bus.board) }
+rested t i s = record s { wait = s.wait - i; board = timers_leap t i s.board }
 
 -- in cycle t the processor does nothing but count off a cycle, if there is one to be counted
 pub record Idles (t : ℕ) (s : NodeState) : Type 0 where
@@ -38,12 +37,12 @@ passed_none : (t : ℕ) (s : NodeState) → passed node_kind t 0 s ≡ rested t 
 unfolding passed
 passed_none t s =
     let wait : s.wait ≡ s.wait - 0 = sym (sub-zero s.wait) in
-    let board : s.bus.board ≡ timers_leap t 0 s.bus.board = sym (leap_zero t s.bus.board) in
-    (λ k. let u : NodeState = record s { wait = wait k; bus = with_board s.bus (board k) } in u)
+    let board : s.board ≡ timers_leap t 0 s.board = sym (leap_zero t s.board) in
+    (λ k. let u : NodeState = record s { wait = wait k; board = board k } in u)
 
 module _ (t : ℕ) (s : NodeState) (going : is_some s.stop ≡ false) (n : ℕ) (calm : IsCalm t n s) (idles : (i : ℕ) → i < n → Idles (t + i) (rested t i s)) where
-  quiet_at : (i : ℕ) → i < n → board_quiet (t + i) (timers_leap t i s.bus.board) ≡ true
-  quiet_at i l = leap_quiet (t + i) t i s.bus.board ∙ calm.ends i l
+  quiet_at : (i : ℕ) → i < n → board_quiet (t + i) (timers_leap t i s.board) ≡ true
+  quiet_at i l = leap_quiet (t + i) t i s.board ∙ calm.ends i l
 
   one_more : (i : ℕ) → i < n → begun_in (t + i) (rested t i s) ≡ rested t (suc i) s
   one_more i l =
@@ -51,7 +50,7 @@ module _ (t : ℕ) (s : NodeState) (going : is_some s.stop ≡ false) (n : ℕ) 
       let u : NodeState = record w { wait = w.wait - 1 } in
       let less : s.wait - i - 1 ≡ s.wait - suc i = omega arith in
       begun_calm (t + i) w u going going (idles i l).part (quiet_at i l) (calm.none i l)
-      ∙ (λ k. let v : NodeState = record s { wait = less k; bus = with_board s.bus (leap_more t i s.bus.board k) } in v)
+      ∙ (λ k. let v : NodeState = record s { wait = less k; board = leap_more t i s.board k } in v)
 
   pub passed_rested : (i : ℕ) → i ≤ n → passed node_kind t i s ≡ rested t i s
   passed_rested zero l = passed_none t s
@@ -102,7 +101,7 @@ sleeps_on t s free asleep none =
     }
 
 pub sleeps : (t n : ℕ) (s : NodeState) → s.wait ≡ 0 → s.asleep ≡ true → due s ≡ None
-    → ((i : ℕ) → i < n → lines_of (timers_leap t i s.bus.board) ≡ lines_of s.bus.board) → (i : ℕ) → i < n → Idles (t + i) (rested t i s)
+    → ((i : ℕ) → i < n → lines_of (timers_leap t i s.board) ≡ lines_of s.board) → (i : ℕ) → i < n → Idles (t + i) (rested t i s)
 sleeps t n s free asleep none same i l =
     sleeps_on (t + i) (rested t i s) (omega arith) asleep (ap (λ (lines : Lines). due_of s.cpu.sreg.bits lines) (same i l) ∙ none)
 

@@ -73,7 +73,7 @@ bus_of bus (Err cause) = bus
 
 module _ (bus new : NodeBus) (at x : ℕ) (h : LoadsStill bus at) (got : bus_get bus at ≡ Ok (x, new)) where
   here : bus_get bus at ≡ Ok (h.byte, bus)
-  here = subst (λ (b : NodeBus). bus_get b at ≡ Ok (h.byte, b)) (none_later bus) (h.gives bus.board.clock 0 0)
+  here = subst (λ (b : NodeBus). bus_get b at ≡ Ok (h.byte, b)) (none_later bus) (h.gives bus.io.clock 0 0)
 
   pub left_still : new ≡ bus
   left_still = ap (bus_of bus) (sym got ∙ here)
@@ -99,7 +99,7 @@ jumps_back cpu fits =
 module _ (m : Machine) (o : Op) (at x : ℕ) (fetched : o ≡ op_now (shown m)) (waits : GoesOnBy o x) (load : IsLoad o at)
     (gives : (u t n : ℕ) → bus_get (bus_later u t n m.bus) at ≡ Ok (x, bus_later u t n m.bus))
     (jump : op.Rjmp (negsuc 1) ≡ op_now (shown (let y : Machine = record m { cpu = advanced 1 m.cpu } in y)))
-    (none : due_of m.cpu.sreg.bits (lines_of m.bus.board) ≡ None) (fits : m.cpu.pc < 65536) where
+    (none : due_of m.cpu.sreg.bits (lines_of m.bus.io.board) ≡ None) (fits : m.cpu.pc < 65536) where
   first : IsStillStep 1 m m.cpu (advanced 1 m.cpu)
   first = record {
     none = none;

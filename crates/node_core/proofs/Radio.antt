@@ -3,7 +3,7 @@ use Rattle.std.proofs.Common.{◌≡◌, ℕ, ◌+◌, ◌≤◌, nat_lt, Bool, 
 use Rattle.std.specs.Prelude.{Result, Ok, Err}
 use Rattle.avr_base.specs.declared.stop.StopCause.{StopCause}
 use Rattle.avr_decoder.specs.declared.op.Op.{Op}
-use Rattle.board_io.specs.declared.board.Board.{Board}
+use Rattle.board_io.specs.declared.clocked.ClockedBoard.{ClockedBoard}
 use Rattle.board_io.proofs.Radio as board
 use Rattle.serial_ports.specs.declared.radio.Radio.{Radio}
 use Rattle.data_space.specs.declared.bus.Done.{Done}
@@ -22,14 +22,14 @@ use Rattle.node_core.proofs.Cycles.{asks_parts, begun_parts, devices_ask, device
 use Rattle.node_core.proofs.Untouched.{entry_keeps, executed_keeps}
 
 abbrev bus_radio : NodeBus → Radio
-bus_radio bus = bus.board.radio
+bus_radio bus = bus.io.board.radio
 
 abbrev radio_of : NodeState → Radio
-radio_of s = s.bus.board.radio
+radio_of s = s.board.radio
 
 -- ---- accesses leave the radio, so does the processor
 executed_radio : (flash : List ℕ) (o : Op) (cpu : Cpu) (bus : NodeBus) → bus_radio (executed flash o cpu bus).bus ≡ bus_radio bus
-executed_radio flash o cpu bus = executed_keeps (λ (b : Board). b.radio) board.get_radio board.put_radio flash o cpu bus
+executed_radio flash o cpu bus = executed_keeps (λ (io : ClockedBoard). io.board.radio) board.get_radio board.put_radio flash o cpu bus
 
 state_case : (v : Radio) (b : Bool) (p q : NodeState) → radio_of p ≡ v → radio_of q ≡ v → radio_of (cond b p q) ≡ v
 state_case v true p q h k = h
@@ -42,22 +42,22 @@ after_radio s o (Err cause) cpu bus = refl
 instructed_radio : (t : ℕ) (s : NodeState) → radio_of (instructed t s) ≡ radio_of s
 unfolding instructed
 instructed_radio t s =
-    let o = executed s.flash (op_now s) s.cpu (bus_at t s.bus) in
+    let o = executed s.flash (op_now s) s.cpu (bus_at t s) in
     state_case (radio_of s) (is_refused s (op_now s)) _ _ refl
-    (after_radio s (op_now s) o.result o.cpu o.bus ∙ (executed_radio s.flash (op_now s) s.cpu (bus_at t s.bus) ∙ board.clock_radio t s.bus.board))
+    (after_radio s (op_now s) o.result o.cpu o.bus ∙ executed_radio s.flash (op_now s) s.cpu (bus_at t s))
 
 entry_radio : (word : ℕ) (cpu : Cpu) (bus : NodeBus) → bus_radio (entry word cpu bus).bus ≡ bus_radio bus
-entry_radio word cpu bus = entry_keeps (λ (b : Board). b.radio) board.get_radio board.put_radio word cpu bus
+entry_radio word cpu bus = entry_keeps (λ (io : ClockedBoard). io.board.radio) board.get_radio board.put_radio word cpu bus
 
 after_entry_radio : (wait : ℕ) (v : Vector) (s : NodeState) (a : Access (Unit {0}) NodeBus) (r : Result (Unit {0}) StopCause) → radio_of (after_entry wait v s a r) ≡ bus_radio a.bus
-after_entry_radio wait v s a (Ok done) = board.entered_radio v.word a.bus.board
+after_entry_radio wait v s a (Ok done) = board.entered_radio v.word a.bus.io.board
 after_entry_radio wait v s a (Err cause) = refl
 
 entered_radio : (t wait : ℕ) (v : Vector) (s : NodeState) → radio_of (entered t wait v s) ≡ radio_of s
 unfolding entered
 entered_radio t wait v s =
-    let a = entry v.word s.cpu (bus_at t s.bus) in
-    after_entry_radio wait v s a a.result ∙ (entry_radio v.word s.cpu (bus_at t s.bus) ∙ board.clock_radio t s.bus.board)
+    let a = entry v.word s.cpu (bus_at t s) in
+    after_entry_radio wait v s a a.result ∙ entry_radio v.word s.cpu (bus_at t s)
 
 acted_radio : (t : ℕ) (s : NodeState) (o : Option Vector) → radio_of (acted t s o) ≡ radio_of s
 acted_radio t s None = state_case (radio_of s) s.asleep _ _ refl (instructed_radio t s)
@@ -74,11 +74,11 @@ devices_stopped t s e = rw e refl
 
 devices_free : (t : ℕ) (s : NodeState) (b : Bool) → is_some s.stop ≡ b → (radio_of s).free ≤ (radio_of (devices_cycle t s)).free
 devices_free t s true e = subst (λ (u : NodeState). (radio_of s).free ≤ (radio_of u).free) (sym (devices_stopped t s e)) (omega arith)
-devices_free t s false e = subst (λ (u : NodeState). (radio_of s).free ≤ (radio_of u).free) (sym (devices_move t s e)) (board.begun_free t (script_byte s.script t) s.bus.board)
+devices_free t s false e = subst (λ (u : NodeState). (radio_of s).free ≤ (radio_of u).free) (sym (devices_move t s e)) (board.begun_free t (script_byte s.script t) s.board)
 
 devices_gap : (t : ℕ) (s : NodeState) (b : Bool) → is_some s.stop ≡ b → (radio_of (devices_cycle t s)).byte_time ≡ (radio_of s).byte_time
 devices_gap t s true e = ap (λ (u : NodeState). (radio_of u).byte_time) (devices_stopped t s e)
-devices_gap t s false e = ap (λ (u : NodeState). (radio_of u).byte_time) (devices_move t s e) ∙ board.begun_gap t (script_byte s.script t) s.bus.board
+devices_gap t s false e = ap (λ (u : NodeState). (radio_of u).byte_time) (devices_move t s e) ∙ board.begun_gap t (script_byte s.script t) s.board
 
 none_some : (b : ℕ) → None ≡ Some b → ⊥
 none_some b e = cc
@@ -94,7 +94,7 @@ devices_sends : (t b : ℕ) (s : NodeState) (c : Bool) → is_some s.stop ≡ c 
     → ((radio_of s).free ≤ t) × (t + (radio_of s).byte_time ≡ (radio_of (devices_cycle t s)).free)
 devices_sends t b s true e h = absurd (none_some b (sym (silenced t s e) ∙ h))
 devices_sends t b s false e h =
-    let both = board.sends_free t b (script_byte s.script t) s.bus.board (sym (devices_send t s e) ∙ h) in
+    let both = board.sends_free t b (script_byte s.script t) s.board (sym (devices_send t s e) ∙ h) in
     (both.0, both.1 ∙ ap (λ (u : NodeState). (radio_of u).free) (sym (devices_move t s e)))
 
 deafened : (t : ℕ) (s : NodeState) → is_some s.stop ≡ true → asks_after t s ≡ false
@@ -103,7 +103,7 @@ deafened t s e = rw e refl
 
 devices_apart : (t : ℕ) (s : NodeState) (c : Bool) → is_some s.stop ≡ c → asks_after t s ≡ true → sends_after t s ≡ None
 devices_apart t s true e h = silenced t s e
-devices_apart t s false e h = devices_send t s e ∙ board.asks_apart t s.bus.board (sym (devices_ask t s e) ∙ h)
+devices_apart t s false e h = devices_send t s e ∙ board.asks_apart t s.board (sym (devices_ask t s e) ∙ h)
 
 -- ---- through a cycle
 stopped_begun : (t : ℕ) (s : NodeState) → is_some s.stop ≡ true → begun_in t s ≡ s
@@ -162,7 +162,7 @@ pub apart : (t : ℕ) (s : NodeState) → asks_in t s ≡ true → sends_in t s 
 apart t s h = apart_case t s (is_some s.stop) refl h
 
 pub gap_finished : (t : ℕ) (s : NodeState) (h : Heard) → (radio_of (finished_in t s h)).byte_time ≡ (radio_of s).byte_time
-gap_finished t s h = board.answered_gap h s.bus.board
+gap_finished t s h = board.answered_gap h s.board
 
 pub free_finished : (t : ℕ) (s : NodeState) (h : Heard) → (radio_of s).free ≤ (radio_of (finished_in t s h)).free
-free_finished t s h = let e = board.answered_free h s.bus.board in omega arith
+free_finished t s h = let e = board.answered_free h s.board in omega arith

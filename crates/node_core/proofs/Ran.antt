@@ -8,7 +8,7 @@ use Rattle.avr_decoder.specs.Class.{class_of}
 use Rattle.avr_decoder.specs.declared.op.Class.{Class}
 use Rattle.avr_decoder.specs.declared.op.Op.{Op}
 use Rattle.avr_base.specs.declared.interrupts.Vector.{Vector}
-use Rattle.board_io.specs.Board.{clock_at}
+use Rattle.board_io.specs.Board.{clocked}
 use Rattle.data_space.specs.declared.bus.Done.{Done}
 use Rattle.data_space.specs.declared.cpu.Cpu.{Cpu}
 use Rattle.data_space.specs.Sequence.{Outcome}
@@ -17,7 +17,7 @@ use Rattle.node_core.specs.declared.row.Kind.TheVariants as kind
 use Rattle.node_core.specs.declared.row.Row.{Row}
 use Rattle.node_core.specs.declared.bus.NodeBus.{NodeBus}
 use Rattle.node_core.specs.declared.machine.Machine.{Machine}
-use Rattle.node_core.specs.Bus.{bus_at, with_board}
+use Rattle.node_core.specs.Bus.{bus_at, with_io}
 use Rattle.node_core.specs.Cycle.{acted, acted_rows, after_entry, after_instruction, cpu_cycle, cpu_rows, entered, entered_rows, entry_rows, instructed, instructed_rows, instruction_rows, is_refused, op_now, row}
 use Rattle.avr_core.specs.Execute.{executed_over}
 use Rattle.node_core.specs.Execute.{executed, executed_by}
@@ -29,16 +29,16 @@ use Rattle.node_core.specs.State.{NodeState}
 skip : {A : Type 0} (b : Bool) (p q : A) → b ≡ false → q ≡ cond b p q
 skip b p q e = sym (ap (λ (x : Bool). cond x p q) e)
 
--- the clock of the board that runs shows the cycle already
-now_at : (t : ℕ) (m : Machine) → m.bus.board.clock ≡ t → m.bus ≡ bus_at t m.bus
-now_at t m now = λ i. with_board m.bus (clock_at (now i) m.bus.board)
+-- the clock of a node that runs shows the cycle already
+now_at : (t : ℕ) (m : Machine) → m.bus.io.clock ≡ t → m.bus ≡ bus_at t (shown m)
+now_at t m now = λ i. with_io m.bus (clocked (now i) m.bus.io.board)
 
 -- the effect of an instruction, by its class
 pub by_class : (k : Class) (flash : List ℕ) (o : Op) (cpu : Cpu) (bus : NodeBus) → class_of o ≡ k → executed_by k flash o cpu bus ≡ executed flash o cpu bus
 unfolding executed_over
 by_class k flash o cpu bus e = ap (λ (c : Class). executed_by c flash o cpu bus) (sym e)
 
-module _ (t : ℕ) (m : Machine) (o : Op) (fetched : o ≡ op_now (shown m)) (runs : is_refused (shown m) o ≡ false) (now : m.bus.board.clock ≡ t)
+module _ (t : ℕ) (m : Machine) (o : Op) (fetched : o ≡ op_now (shown m)) (runs : is_refused (shown m) o ≡ false) (now : m.bus.io.clock ≡ t)
     (a : Outcome NodeBus) (flash : List ℕ) (kept : flash ≡ m.program.bytes) (done : a ≡ executed flash o m.cpu m.bus) where
   abbrev s : NodeState
   s = shown m
@@ -46,7 +46,7 @@ module _ (t : ℕ) (m : Machine) (o : Op) (fetched : o ≡ op_now (shown m)) (ru
   fetched_runs : is_refused s (op_now s) ≡ false
   fetched_runs = ap (is_refused s) (sym fetched) ∙ runs
 
-  whole : a ≡ executed s.flash (op_now s) s.cpu (bus_at t s.bus)
+  whole : a ≡ executed s.flash (op_now s) s.cpu (bus_at t s)
   whole = done ∙ (λ i. executed (kept i) (fetched i) m.cpu (now_at t m now i))
 
   pub ran : (r : Result Done StopCause) → a.result ≡ r → after_instruction s o r a.cpu a.bus ≡ instructed t s
@@ -62,8 +62,8 @@ module _ (t : ℕ) (m : Machine) (o : Op) (fetched : o ≡ op_now (shown m)) (ru
       ∙ (ap (λ (x : Outcome NodeBus). l ++ instruction_rows t s x.result) whole ∙ ap (λ (k : List Row). l ++ k) (skip (is_refused s (op_now s)) _ _ fetched_runs))
 
 -- an interrupt that is let in
-module _ (t wait : ℕ) (v : Vector) (m : Machine) (now : m.bus.board.clock ≡ t) (a : Access (Unit {0}) NodeBus) (done : a ≡ entry v.word m.cpu m.bus) where
-  here : a ≡ entry v.word m.cpu (bus_at t m.bus)
+module _ (t wait : ℕ) (v : Vector) (m : Machine) (now : m.bus.io.clock ≡ t) (a : Access (Unit {0}) NodeBus) (done : a ≡ entry v.word m.cpu m.bus) where
+  here : a ≡ entry v.word m.cpu (bus_at t (shown m))
   here = done ∙ ap (entry v.word m.cpu) (now_at t m now)
 
   pub let_in : (r : Result (Unit {0}) StopCause) → a.result ≡ r → after_entry wait v (shown m) a r ≡ entered t wait v (shown m)

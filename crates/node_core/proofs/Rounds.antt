@@ -4,18 +4,19 @@ use Rattle.std.specs.Prelude.{Ok}
 use Rattle.air_base.specs.Bounds.{LAST_CYCLE}
 use Rattle.avr_base.specs.Lines.{due_of}
 use Rattle.board_io.specs.declared.board.Board.{Board}
-use Rattle.board_io.specs.Board.{clock_at, unclocked}
+use Rattle.board_io.specs.declared.clocked.ClockedBoard.{ClockedBoard}
+use Rattle.board_io.specs.Board.{clocked}
 use Rattle.board_io.specs.Cycle.{board_quiet, timers_leap}
 use Rattle.board_io.specs.Lagging.{IsIdle}
 use Rattle.board_io.specs.Lines.{lines_of}
-use Rattle.board_io.proofs.Lags.{leap_add, leap_clock, lines_clock}
+use Rattle.board_io.proofs.Lags.{leap_add}
 use Rattle.board_io.proofs.Leaps.{leap_quiet, leap_zero}
 use Rattle.data_space.specs.declared.cpu.Cpu.{Cpu}
 use Rattle.data_space.specs.Sequence.{Outcome, done}
 use Rattle.serial_ports.specs.Script.{script_byte}
 use Rattle.node_core.specs.declared.bus.NodeBus.{NodeBus}
 use Rattle.node_core.specs.declared.machine.Machine.{Machine}
-use Rattle.node_core.specs.Bus.{with_board}
+use Rattle.node_core.specs.Bus.{with_io}
 use Rattle.node_core.specs.Inside.{IsCalm, MayAct, is_told}
 use Rattle.node_core.specs.Interrupts.{due}
 use Rattle.node_core.specs.Pace.Leaps.{IsStillStep, Walk, stays, goes, bus_later}
@@ -39,9 +40,9 @@ pub record IsOpen (t n : ℕ) (m : Machine) : Type 0 where
   pub free : m.wait ≡ 0
   pub awake : m.asleep ≡ false
   pub untold : (i : ℕ) → i < n → is_told m.from m.to (t + i) ≡ false
-  pub now : m.bus.board.clock ≡ t
+  pub now : m.bus.io.clock ≡ t
   pub few : m.count ≤ LAST_CYCLE + t
-  pub idle : IsIdle t n (unclocked m.bus.board)
+  pub idle : IsIdle t n m.bus.io.board
   pub script : (i : ℕ) → i < n → script_byte m.script (t + i) ≡ None
 
 -- it n cycles and c instructions later, with this core
@@ -50,24 +51,20 @@ later t n c cpu m = record m { cpu = cpu; bus = bus_later (t + n) t n m.bus; cou
 
 module _ (t all : ℕ) (m : Machine) (open_ : IsOpen t all m) where
   abbrev leapt : ℕ → Board
-  leapt n = timers_leap t n (unclocked m.bus.board)
+  leapt n = timers_leap t n m.bus.io.board
 
   start : IsSprinting t (t + 0) m (later t 0 0 m.cpu m)
   start =
       let o = open_ in
       let at : t ≡ t + 0 = omega arith in
-      let board : m.bus.board ≡ clock_at (t + 0) (timers_leap t 0 m.bus.board) =
-      (λ i. clock_at ((o.now ∙ at) i) m.bus.board) ∙ ap (clock_at (t + 0)) (sym (leap_zero t m.bus.board)) in
+      let io : m.bus.io ≡ clocked (t + 0) (leapt 0) = λ i. clocked ((o.now ∙ at) i) (sym (leap_zero t m.bus.io.board) i) in
       let count : m.count ≡ m.count + 0 = omega arith in
-      let same : m ≡ later t 0 0 m.cpu m = λ i. let x : Machine = record m { bus = with_board m.bus (board i); count = count i } in x in
+      let same : m ≡ later t 0 0 m.cpu m = λ i. let x : Machine = record m { bus = with_io m.bus (io i); count = count i } in x in
       subst (λ (x : Machine). IsSprinting t (t + 0) m x) same
       (subst (λ (u : ℕ). IsSprinting t u m m) at (begins t m o.going o.free o.awake o.now o.few))
 
-  none_at : (n c : ℕ) (cpu : Cpu) → n < all → due_of cpu.sreg.bits (lines_of m.bus.board) ≡ None → due (shown (later t n c cpu m)) ≡ None
-  none_at n c cpu l none =
-      let lines : lines_of (leapt n) ≡ lines_of (unclocked m.bus.board) = open_.idle.same n l in
-      ap (λ (b : Board). due_of cpu.sreg.bits (lines_of b)) (sym (leap_clock 0 t n m.bus.board))
-      ∙ (ap (due_of cpu.sreg.bits) (lines ∙ lines_clock 0 m.bus.board) ∙ none)
+  none_at : (n c : ℕ) (cpu : Cpu) → n < all → due_of cpu.sreg.bits (lines_of m.bus.io.board) ≡ None → due (shown (later t n c cpu m)) ≡ None
+  none_at n c cpu l none = ap (due_of cpu.sreg.bits) (open_.idle.same n l) ∙ none
 
   stepped : (n c k : ℕ) (from to : Cpu) → n < all → IsStillStep k m from to
       → IsStepped (t + n) k (later t n c from m) (let x : Machine = record (later t n c from m) { cpu = to; owed = false; count = m.count + c + 1 } in x)
@@ -86,22 +83,19 @@ module _ (t all : ℕ) (m : Machine) (open_ : IsOpen t all m) where
       let bus : NodeBus = bus_later (t + (n + k)) t (n + k) m.bus in
       let on : t + n + k ≡ t + (n + k) = omega arith in
       let count : m.count + c + 1 ≡ m.count + (c + 1) = omega arith in
-      let there : timers_leap (t + n) k (leapt n) ≡ leapt (n + k) = sym (leap_add t n k (unclocked m.bus.board)) in
-      let board : clock_at 0 (timers_leap t (n + k) m.bus.board) ≡ timers_leap (t + n) k (shown w).bus.board =
-      sym (leap_clock 0 t (n + k) m.bus.board) ∙ (sym there ∙ ap (timers_leap (t + n) k) (leap_clock 0 t n m.bus.board)) in
+      let board : leapt (n + k) ≡ timers_leap (t + n) k (shown w).board = leap_add t n k m.bus.io.board in
       let calm : IsCalm (t + n) k (shown w) = record {
         ends = λ j lt.
             (let same : t + (n + j) ≡ t + n + j = omega arith in
-            ap (board_quiet (t + n + j)) (sym (leap_clock 0 t n m.bus.board))
-            ∙ (leap_quiet (t + n + j) t n (unclocked m.bus.board)
-            ∙ subst (λ (u : ℕ). board_quiet u (unclocked m.bus.board) ≡ true) same (open_.idle.quiet (n + j) (omega (arith, l, lt)))));
+            leap_quiet (t + n + j) t n m.bus.io.board
+            ∙ subst (λ (u : ℕ). board_quiet u m.bus.io.board ≡ true) same (open_.idle.quiet (n + j) (omega (arith, l, lt))));
         none = λ j lt.
             (let same : t + (n + j) ≡ t + n + j = omega arith in
             subst (λ (u : ℕ). script_byte m.script u ≡ None) same (open_.script (n + j) (omega (arith, l, lt))));
       } in
       let state : (let y : Machine = record w { bus = bus } in shown y)
-      ≡ (let s : NodeState = record (shown w) { bus = with_board (shown w).bus (timers_leap (t + n) k (shown w).bus.board) } in s) =
-      λ z. (let s : NodeState = record (shown w) { bus = with_board (shown w).bus (board z) } in s) in
+      ≡ (let s : NodeState = record (shown w) { board = timers_leap (t + n) k (shown w).board } in s) =
+      λ z. (let s : NodeState = record (shown w) { board = board z } in s) in
       let went = sprint.goes t (t + n) m x h k w (none_at n c from (omega (arith, l, some)) s.none) (stepped n c k from to (omega (arith, l, some)) s) bus calm state (sym on) in
       subst (λ (u : ℕ). IsSprinting t u m (later t (n + k) (c + 1) to m)) on
       (subst (λ (y : Machine). IsSprinting t (t + n + k) m y)
@@ -138,24 +132,23 @@ module _ (t all : ℕ) (m : Machine) (open_ : IsOpen t all m) where
         subst (λ (n : ℕ). IsSprinting t (t + n) m (later t n (suc i * count) (after (suc i)) m)) on
         (subst (λ (c : ℕ). IsSprinting t (t + (i * length + length)) m (later t (i * length + length) c (after (suc i)) m)) more there)
 
-    pub all_rounds : k * length ≡ all → (bus : NodeBus) → bus.sram ≡ m.bus.sram → unclocked bus.board ≡ leapt all → bus.board.clock ≡ t + all
+    pub all_rounds : k * length ≡ all → (bus : NodeBus) → bus.sram ≡ m.bus.sram → bus.io.board ≡ leapt all → bus.io.clock ≡ t + all
         → IsSprinted t (t + all) false m (let x : Machine = record m { cpu = after k; bus = bus; count = m.count + k * count } in x)
     all_rounds e bus sram board clock =
-        let b : bus.board ≡ clock_at (t + all) (timers_leap t all m.bus.board) =
-        (λ i. clock_at (clock i) bus.board) ∙ ap (clock_at (t + all)) (board ∙ leap_clock 0 t all m.bus.board) in
+        let io : bus.io ≡ clocked (t + all) (leapt all) = λ i. clocked (clock i) (board i) in
         let same : (let x : Machine = record m { cpu = after k; bus = bus; count = m.count + k * count } in x) ≡ later t all (k * count) (after k) m =
-        λ i. (let x : Machine = record m { cpu = after k; bus = (let n : NodeBus = record { sram = sram i; board = b i } in n); count = m.count + k * count } in x) in
+        λ i. (let x : Machine = record m { cpu = after k; bus = (let n : NodeBus = record { io = io i; sram = sram i } in n); count = m.count + k * count } in x) in
         let there : IsSprinting t (t + all) m (later t all (k * count) (after k) m) =
         subst (λ (n : ℕ). IsSprinting t (t + n) m (later t n (k * count) (after k) m)) e (rounds k (omega arith) (omega (arith, e))) in
         subst (λ (x : Machine). IsSprinted t (t + all) false m x) (sym same) (sprint.stays t (t + all) m (later t all (k * count) (after k) m) there)
 
 -- rounds that the board passed, of a node that is m still
 module _ (t k length count : ℕ) (m x : Machine) (same : x ≡ m) (may : MayAct t m) (untold : (i : ℕ) → i < k * length → is_told m.from m.to (t + i) ≡ false) (owed : m.owed ≡ false) (none : (i : ℕ) → i < k * length → script_byte m.script (t + i) ≡ None)
-    (after : ℕ → Cpu) (first : after 0 ≡ m.cpu) (round : (j : ℕ) → j < k → Walk m (after j) length count (after (suc j))) (board : Board)
-    (idle : IsIdle x.bus.board.clock (k * length) (unclocked x.bus.board)) (state : unclocked board ≡ timers_leap x.bus.board.clock (k * length) (unclocked x.bus.board))
-    (clock : board.clock ≡ x.bus.board.clock + k * length) where
-  now : x.bus.board.clock ≡ t
-  now = ap (λ (y : Machine). y.bus.board.clock) same ∙ may.now
+    (after : ℕ → Cpu) (first : after 0 ≡ m.cpu) (round : (j : ℕ) → j < k → Walk m (after j) length count (after (suc j))) (io : ClockedBoard)
+    (idle : IsIdle x.bus.io.clock (k * length) x.bus.io.board) (state : io.board ≡ timers_leap x.bus.io.clock (k * length) x.bus.io.board)
+    (clock : io.clock ≡ x.bus.io.clock + k * length) where
+  now : x.bus.io.clock ≡ t
+  now = ap (λ (y : Machine). y.bus.io.clock) same ∙ may.now
 
   open_here : IsOpen t (k * length) m
   open_here = record {
@@ -166,15 +159,15 @@ module _ (t k length count : ℕ) (m x : Machine) (same : x ≡ m) (may : MayAct
     untold = untold;
     now = may.now;
     few = may.few;
-    idle = subst (λ (y : Machine). IsIdle t (k * length) (unclocked y.bus.board)) same (subst (λ (u : ℕ). IsIdle u (k * length) (unclocked x.bus.board)) now idle);
+    idle = subst (λ (y : Machine). IsIdle t (k * length) y.bus.io.board) same (subst (λ (u : ℕ). IsIdle u (k * length) x.bus.io.board) now idle);
     script = none;
   }
 
-  pub leapt_over : IsSprinted t (t + k * length) false m (let z : Machine = record x { cpu = after k; bus = (let b : NodeBus = record { sram = x.bus.sram; board = board } in b); count = x.count + k * count } in z)
+  pub leapt_over : IsSprinted t (t + k * length) false m (let z : Machine = record x { cpu = after k; bus = (let b : NodeBus = record { io = io; sram = x.bus.sram } in b); count = x.count + k * count } in z)
   leapt_over =
-      let bus : NodeBus = record { sram = x.bus.sram; board = board } in
+      let bus : NodeBus = record { io = io; sram = x.bus.sram } in
       let there = all_rounds t (k * length) m open_here k length count after first round refl bus (ap (λ (y : Machine). y.bus.sram) same)
-      (state ∙ (ap (λ (u : ℕ). timers_leap u (k * length) (unclocked x.bus.board)) now ∙ ap (λ (y : Machine). timers_leap t (k * length) (unclocked y.bus.board)) same))
+      (state ∙ (ap (λ (u : ℕ). timers_leap u (k * length) x.bus.io.board) now ∙ ap (λ (y : Machine). timers_leap t (k * length) y.bus.io.board) same))
       (clock ∙ ap (λ (u : ℕ). u + k * length) now) in
       subst (λ (z : Machine). IsSprinted t (t + k * length) false m z)
       (λ i. let z : Machine = record (sym same i) { cpu = after k; bus = bus; count = (sym same i).count + k * count } in z) there

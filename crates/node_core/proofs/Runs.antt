@@ -21,7 +21,7 @@ begun_comes v c s u l k h asks sends e r =
     (subst (Comes node_kind v (c + 1) (begun_in c s)) (sym r) (comes_more node_kind v c s l h (asks, sends)))
 
 -- the inside of a node that stands between two cycles
-pub whole_between : (t : ℕ) (b : Bool) (m : Machine) → b ≡ false → m.count ≤ LAST_CYCLE + t → (m.stop ≡ None → m.bus.board.clock ≡ t) → IsWhole t b m
+pub whole_between : (t : ℕ) (b : Bool) (m : Machine) → b ≡ false → m.count ≤ LAST_CYCLE + t → (m.stop ≡ None → m.bus.io.clock ≡ t) → IsWhole t b m
 whole_between t b m calm few clock = subst (λ (a : Bool). IsWhole t a m) (sym calm) record {
   few = omega (arith, few);
   clock = λ going. clock going ∙ sym (add-zero t);

@@ -14,7 +14,6 @@ use Rattle.avr_base.specs.Causes.{cause_of, stop_number}
 use Rattle.avr_base.proofs.Causes.{cause_again}
 use Rattle.avr_base.specs.declared.stop.StopCause.{StopCause}
 use Rattle.board_io.specs.Saved as board
-use Rattle.board_io.specs.declared.board.Board.{Board}
 use Rattle.board_io.proofs.OneBoard.{all, one-board}
 use Rattle.data_space.specs.declared.cpu.Cpu.{Cpu}
 use Rattle.device_base.specs.Bits.{bit}
@@ -24,7 +23,6 @@ use Rattle.serial_ports.specs.Script.{ScriptBytes}
 use Rattle.node_core.specs.Numbers.{core_fits, core_tail, ends_from, first_outside, fits, numbers_of}
 use Rattle.node_core.specs.Restored.{cpu_of, fault_by, IsCore, IsRestored}
 use Rattle.node_core.specs.State.{NodeState}
-use Rattle.node_core.specs.declared.bus.NodeBus.{NodeBus}
 
 -- ---- what the bounds say
 
@@ -140,7 +138,7 @@ nine n len =
 pub record Has (n : List ℕ) (s : NodeState) : Type 0 where
   pub registers : s.cpu.r ≡ take 32 n
   pub tail : core_tail s ≡ part 32 9 n
-  pub board : board.numbers_of s.bus.board ≡ part 41 67 n
+  pub board : board.numbers_of s.board ≡ part 41 67 n
 
 pub numbers-has : (n : List ℕ) (s : NodeState) → length n ≡ 108 → Has n s → numbers_of s ≡ n
 numbers-has n s len h =
@@ -158,13 +156,13 @@ behind n xs ys e len most =
 
 pub has-numbers : (n : List ℕ) (s : NodeState) → length s.cpu.r ≡ 32 → numbers_of s ≡ n → Has n s
 has-numbers n s len e =
-    let rest = core_tail s ++ board.numbers_of s.bus.board in
-    let split : s.cpu.r ++ rest ≡ n = sym (append_assoc s.cpu.r (core_tail s) (board.numbers_of s.bus.board)) ∙ e in
+    let rest = core_tail s ++ board.numbers_of s.board in
+    let split : s.cpu.r ++ rest ≡ n = sym (append_assoc s.cpu.r (core_tail s) (board.numbers_of s.board)) ∙ e in
     let after : drop 32 n ≡ rest = ap (drop 32) (sym split) ∙ drop_at s.cpu.r rest 32 len in
     record {
       registers = sym (ap (take 32) (sym split) ∙ take_at s.cpu.r rest 32 len);
       tail = sym (ap (take 9) after);
-      board = sym (behind n (core_tail s) (board.numbers_of s.bus.board) after refl refl);
+      board = sym (behind n (core_tail s) (board.numbers_of s.board) after refl refl);
     }
 
 -- ---- the one state
@@ -197,18 +195,15 @@ one-state cycle number flash script from to byte_time n io sram a b fit h k =
     let stop = same-stop a.stop b.stop (ap (λ xs. slice_index xs 7) tails) in
     let count = ap (λ xs. slice_index xs 8) tails in
     let cpu = same-cpu a.cpu b.cpu r sreg sp pc rampz in
-    let board = one-board byte_time (ends_from cycle n) (part 41 67 n) io a.bus.board b.bus.board (board-fits cycle n fit) h.board k.board (h.clock ∙ sym k.clock) in
+    let board = one-board byte_time (ends_from cycle n) (part 41 67 n) io a.board b.board (board-fits cycle n fit) h.board k.board in
     let sram = h.sram ∙ sym k.sram in
-    let bus_a : NodeBus = record { sram = a.bus.sram; board = a.bus.board } in
-    let bus_b : NodeBus = record { sram = b.bus.sram; board = b.bus.board } in
-    let bus : bus_a ≡ bus_b = cc in
     let number = h.number ∙ sym k.number in
     let flash = h.flash ∙ sym k.flash in
     let script = h.script ∙ sym k.script in
     let from = h.from ∙ sym k.from in
     let to = h.to ∙ sym k.to in
-    let left : NodeState = record { number = a.number; flash = a.flash; script = a.script; from = a.from; to = a.to; cpu = a.cpu; bus = bus_a; wait = a.wait; owed = a.owed; asleep = a.asleep; stop = a.stop; count = a.count } in
-    let right : NodeState = record { number = b.number; flash = b.flash; script = b.script; from = b.from; to = b.to; cpu = b.cpu; bus = bus_b; wait = b.wait; owed = b.owed; asleep = b.asleep; stop = b.stop; count = b.count } in
+    let left : NodeState = record { number = a.number; flash = a.flash; script = a.script; from = a.from; to = a.to; cpu = a.cpu; board = a.board; sram = a.sram; wait = a.wait; owed = a.owed; asleep = a.asleep; stop = a.stop; count = a.count } in
+    let right : NodeState = record { number = b.number; flash = b.flash; script = b.script; from = b.from; to = b.to; cpu = b.cpu; board = b.board; sram = b.sram; wait = b.wait; owed = b.owed; asleep = b.asleep; stop = b.stop; count = b.count } in
     let same : left ≡ right = cc in
     same
 
@@ -245,7 +240,7 @@ pub record Made (n : List ℕ) (s : NodeState) : Type 0 where
   pub count : s.count ≡ slice_index n 40
 
 -- has them
-pub made-numbers : (n : List ℕ) (s : NodeState) → length n ≡ 108 → IsCore n → Made n s → board.numbers_of s.bus.board ≡ part 41 67 n → numbers_of s ≡ n
+pub made-numbers : (n : List ℕ) (s : NodeState) → length n ≡ 108 → IsCore n → Made n s → board.numbers_of s.board ≡ part 41 67 n → numbers_of s ≡ n
 made-numbers n s len w m b =
     numbers-has n s len
     (record {
@@ -256,20 +251,6 @@ made-numbers n s len w m b =
 
 pub registers-32 : (n : List ℕ) (s : NodeState) → length n ≡ 108 → Made n s → length s.cpu.r ≡ 32
 registers-32 n s len m = ap (λ (cpu : Cpu). length cpu.r) m.cpu ∙ omega (arith, length-take 32 n)
-
--- a board at another clock
-pub clocked : (byte_time t : ℕ) (n io : List ℕ) (b : Board) → board.IsRestored byte_time n io b → board.IsRestored byte_time n io (record b { clock = t })
-clocked byte_time t n io b h = record {
-  numbers = h.numbers;
-  kept = h.kept;
-  own = h.own;
-  shared = h.shared;
-  select0 = h.select0;
-  select1 = h.select1;
-  select2 = h.select2;
-  select3 = h.select3;
-  gap = h.gap;
-}
 
 -- ---- a node without a fault
 

@@ -7,12 +7,10 @@ use Rattle.std.specs.Prelude.{vec_len, vec_capacity}
 use Rattle.air_base.specs.Bounds.{LAST_CYCLE}
 use Rattle.avr_base.specs.Flags.{I, has_flag}
 use Rattle.avr_base.specs.Lines.{due_of, lowest_line, pending_of, vector_of}
-use Rattle.board_io.specs.declared.board.Board.{Board}
-use Rattle.board_io.specs.Board.{unclocked}
+use Rattle.board_io.specs.declared.clocked.ClockedBoard.{ClockedBoard}
 use Rattle.board_io.specs.Cycle.{timers_leap}
 use Rattle.board_io.specs.Lagging.{IsIdle}
 use Rattle.board_io.specs.Lines.{lines_of}
-use Rattle.board_io.proofs.Lags.{lines_clock}
 use Rattle.air_base.specs.NodeRun.{Comes, Timed}
 use Rattle.air_base.proofs.QuietCycles.{comes_none}
 use Rattle.node_core.specs.declared.bus.NodeBus.{NodeBus}
@@ -23,7 +21,7 @@ use Rattle.avr_base.specs.declared.stop.StopCause.{StopCause}
 use Rattle.data_space.specs.declared.cpu.Core.{Core}
 use Rattle.data_space.specs.declared.cpu.Registers.{Registers}
 use Rattle.serial_ports.specs.Script.{ScriptBytes, script_byte}
-use Rattle.node_core.specs.Bus.{with_board}
+use Rattle.node_core.specs.Bus.{with_io}
 use Rattle.node_core.specs.Cycle.{instructed, instructed_rows, node_kind, row}
 use Rattle.node_core.specs.Inside.{IsCalm, MayAct, is_told}
 use Rattle.node_core.specs.Interrupts.{due}
@@ -39,23 +37,20 @@ pub none_of : {A : Type 0} (o : Option A) → is_some o ≡ false → o ≡ None
 none_of None e = refl
 none_of (Some a) e = absurd (false≢true (sym e))
 
-pub none_due : (m : Machine) → due_of m.cpu.sreg.bits (lines_of m.bus.board) ≡ None → due (shown m) ≡ None
-none_due m none = ap (due_of m.cpu.sreg.bits) (lines_clock 0 m.bus.board) ∙ none
-
 none_up : vector_of (lowest_line 0) ≡ None
 unfolding lowest_line
 none_up = refl
 
 -- no interrupt is due while no line is up
-pub clear_due : (m : Machine) → (lines_of m.bus.board).bits ≡ 0 → due (shown m) ≡ None
-clear_due m e = none_due m (by_flag (has_flag m.cpu.sreg.bits I))
+pub clear_due : (m : Machine) → (lines_of m.bus.io.board).bits ≡ 0 → due (shown m) ≡ None
+clear_due m e = by_flag (has_flag m.cpu.sreg.bits I)
   where
-    by_flag : (b : Bool) → cond b (pending_of (lines_of m.bus.board)) None ≡ None
+    by_flag : (b : Bool) → cond b (pending_of (lines_of m.bus.io.board)) None ≡ None
     by_flag true = ap (λ (n : ℕ). vector_of (lowest_line n)) e ∙ none_up
     by_flag false = refl
 
 -- at its beginning
-pub begins : (t : ℕ) (m : Machine) → m.stop ≡ None → m.wait ≡ 0 → m.asleep ≡ false → m.bus.board.clock ≡ t → m.count ≤ LAST_CYCLE + t → IsSprinting t t m m
+pub begins : (t : ℕ) (m : Machine) → m.stop ≡ None → m.wait ≡ 0 → m.asleep ≡ false → m.bus.io.clock ≡ t → m.count ≤ LAST_CYCLE + t → IsSprinting t t m m
 begins t m going free awake clock count =
     let v : Timed NodeState Row = record { cycle = t; asking = false; state = shown m; rows = m.rows.items } in
     record {
@@ -73,7 +68,7 @@ begins t m going free awake clock count =
     }
 
 -- none at all
-pub stands : (t : ℕ) (m : Machine) → m.stop ≡ None → m.wait ≡ 0 → m.asleep ≡ false → m.bus.board.clock ≡ t → m.count ≤ LAST_CYCLE + t → IsSprinted t t false m m
+pub stands : (t : ℕ) (m : Machine) → m.stop ≡ None → m.wait ≡ 0 → m.asleep ≡ false → m.bus.io.clock ≡ t → m.count ≤ LAST_CYCLE + t → IsSprinted t t false m m
 stands t m going free awake clock count = record {
   comes = λ e. comes_none node_kind (let v : Timed NodeState Row = record { cycle = t; asking = false; state = shown m; rows = m.rows.items } in v);
   midway = λ e. absurd (false≢true e);
@@ -190,8 +185,8 @@ module _ (t at : ℕ) (old m : Machine) (h : IsSprinting t at old m) where
         }
 
     pub goes : (bus : NodeBus) → IsCalm at n (shown w)
-        → (let x : Machine = record w { bus = bus } in shown x) ≡ (let s : NodeState = record (shown w) { bus = with_board (shown w).bus (timers_leap at n (shown w).bus.board) } in s)
-        → bus.board.clock ≡ at + n → IsSprinting t (at + n) old (let x : Machine = record w { bus = bus } in x)
+        → (let x : Machine = record w { bus = bus } in shown x) ≡ (let s : NodeState = record (shown w) { board = timers_leap at n (shown w).board } in s)
+        → bus.io.clock ≡ at + n → IsSprinting t (at + n) old (let x : Machine = record w { bus = bus } in x)
     goes bus calm state clock =
         let rows : w.rows.items ≡ m.rows.items = ap (λ x. x.items) p.same in
         let some = p.some in
@@ -216,15 +211,15 @@ module _ (t at : ℕ) (old m : Machine) (h : IsSprinting t at old m) where
 
 -- a step whose cycles pass whole
 pub steps_on : (t at n : ℕ) (old m w x : Machine) → IsSprinting t at old m → due (shown m) ≡ None → IsStepped at n m w
-    → IsCalm at n (shown w) → shown x ≡ (let u : NodeState = record (shown w) { bus = with_board (shown w).bus (timers_leap at n (shown w).bus.board) } in u)
-    → x ≡ (let y : Machine = record w { bus = x.bus } in y) → x.bus.board.clock ≡ at + n → IsSprinting t (at + n) old x
+    → IsCalm at n (shown w) → shown x ≡ (let u : NodeState = record (shown w) { board = timers_leap at n (shown w).board } in u)
+    → x ≡ (let y : Machine = record w { bus = x.bus } in y) → x.bus.io.clock ≡ at + n → IsSprinting t (at + n) old x
 steps_on t at n old m w x h none p calm state others clock =
     subst (IsSprinting t (at + n) old) (sym others) (goes t at old m h n w none p x.bus calm (ap shown (sym others) ∙ state) clock)
 
 -- one that stops
 pub stops : (t at : ℕ) (old m w new : Machine) (cause : StopCause) → IsSprinting t at old m → due (shown m) ≡ None → IsStopping at cause m w
     → shown new ≡ (let u : NodeState = record (shown w) { stop = Some cause } in u) → new.rows.items ≡ w.rows.items ++ row at (shown w) (kind.Stop w.cpu.pc cause)
-    → vec_capacity new.rows ≡ vec_capacity w.rows → new.bus.board.clock ≡ w.bus.board.clock → IsSprinted t at true old new
+    → vec_capacity new.rows ≡ vec_capacity w.rows → new.bus.io.clock ≡ w.bus.io.clock → IsSprinted t at true old new
 stops t at old m w new cause h none q state rows room clock =
     ends t at old m h new none record {
       state = state ∙ q.state;
@@ -253,15 +248,15 @@ abbrev pub turning : Machine → Registers → Core → ℕ → Machine
 turning self regs core owed_to = owing (nat_lt self.count owed_to) (beside regs core self)
 
 pub acts : (t end : ℕ) (first self : Machine) (regs : Registers) (core : Core) (owed_to : ℕ) (h : IsTurning t end first self regs core owed_to)
-    → end ≤ LAST_CYCLE → vec_len first.rows < vec_capacity first.rows → MayAct self.bus.board.clock (turning self regs core owed_to)
+    → end ≤ LAST_CYCLE → vec_len first.rows < vec_capacity first.rows → MayAct self.bus.io.clock (turning self regs core owed_to)
 acts t end first self regs core owed_to h early room =
-    let within = h.within in may t self.bus.board.clock first (turning self regs core owed_to) h.runs (omega (arith, within, early)) room
+    let within = h.within in may t self.bus.io.clock first (turning self regs core owed_to) h.runs (omega (arith, within, early)) room
 
 -- the instruction that begins now is not told
 pub still : (t end : ℕ) (first self : Machine) (regs : Registers) (core : Core) (owed_to : ℕ) (h : IsTurning t end first self regs core owed_to)
-    → ((i : ℕ) → t + i ≤ end → is_told first.from first.to (t + i) ≡ false) → is_told self.from self.to self.bus.board.clock ≡ false
+    → ((i : ℕ) → t + i ≤ end → is_told first.from first.to (t + i) ≡ false) → is_told self.from self.to self.bus.io.clock ≡ false
 still t end first self regs core owed_to h none =
-    let at : ℕ = self.bus.board.clock in
+    let at : ℕ = self.bus.io.clock in
     let within = h.within in
     let here : at + 0 ≡ at = omega arith in
     subst (λ (u : ℕ). is_told self.from self.to u ≡ false) here
@@ -270,54 +265,54 @@ still t end first self regs core owed_to h none =
 -- ---- a step of a sprint, of n cycles
 module _ (t end : ℕ) (first self : Machine) (regs : Registers) (core : Core) (owed_to : ℕ) (h : IsTurning t end first self regs core owed_to)
     (n : ℕ) (to : Registers) (on : Core) (bus : NodeBus) (count : ℕ) (b : Bool)
-    (p : IsStepped self.bus.board.clock n (turning self regs core owed_to) (owing b (over to on bus count self))) where
+    (p : IsStepped self.bus.io.clock n (turning self regs core owed_to) (owing b (over to on bus count self))) where
   abbrev m : Machine
   m = turning self regs core owed_to
 
-  abbrev on_board : Board → Machine
-  on_board board = record self { bus = with_board bus board; count = count }
+  abbrev on_io : ClockedBoard → Machine
+  on_io io = record self { bus = with_io bus io; count = count }
 
   pub turn_free : due (shown m) ≡ None
   turn_free = clear_due m h.clear
 
   -- its cycles pass
-  module _ (silence : (i : ℕ) → t + i < end → script_byte first.script (t + i) ≡ None) (board : Board) (within : bus.board.clock + n ≤ end)
-      (idle : IsIdle bus.board.clock n (unclocked bus.board)) (state : unclocked board ≡ timers_leap bus.board.clock n (unclocked bus.board))
-      (clear : (lines_of board).bits ≡ 0) (clock : board.clock ≡ bus.board.clock + n) where
-    goes_past : IsSprinting t board.clock first (owing b (beside to on (on_board board)))
+  module _ (silence : (i : ℕ) → t + i < end → script_byte first.script (t + i) ≡ None) (io : ClockedBoard) (within : bus.io.clock + n ≤ end)
+      (idle : IsIdle bus.io.clock n bus.io.board) (state : io.board ≡ timers_leap bus.io.clock n bus.io.board)
+      (clear : (lines_of io.board).bits ≡ 0) (clock : io.clock ≡ bus.io.clock + n) where
+    goes_past : IsSprinting t io.clock first (owing b (beside to on (on_io io)))
     goes_past =
-        let at : ℕ = self.bus.board.clock in
+        let at : ℕ = self.bus.io.clock in
         let w : Machine = owing b (over to on bus count self) in
-        let same : bus.board.clock ≡ at = p.clock in
-        let there : board.clock ≡ at + n = clock ∙ ap (λ (u : ℕ). u + n) same in
-        let here : IsIdle at n (unclocked bus.board) = subst (λ (u : ℕ). IsIdle u n (unclocked bus.board)) same idle in
-        let next : unclocked board ≡ timers_leap at n (unclocked bus.board) = subst (λ (u : ℕ). unclocked board ≡ timers_leap u n (unclocked bus.board)) same state in
+        let same : bus.io.clock ≡ at = p.clock in
+        let there : io.clock ≡ at + n = clock ∙ ap (λ (u : ℕ). u + n) same in
+        let here : IsIdle at n bus.io.board = subst (λ (u : ℕ). IsIdle u n bus.io.board) same idle in
+        let next : io.board ≡ timers_leap at n bus.io.board = subst (λ (u : ℕ). io.board ≡ timers_leap u n bus.io.board) same state in
         let from = h.runs.from in
         let calm : IsCalm at n (shown w) = record {
           ends = here.quiet;
           none = λ i l. silent t at end first w (p.script ∙ h.runs.script) from silence i (omega (arith, l, within, same));
         } in
-        subst (λ (u : ℕ). IsSprinting t u first (owing b (beside to on (on_board board)))) (sym there)
-        (goes t at first m h.runs n w turn_free p (with_board bus board) calm (λ i. let u : NodeState = record (shown w) { bus = with_board (shown w).bus (next i) } in u) there)
+        subst (λ (u : ℕ). IsSprinting t u first (owing b (beside to on (on_io io)))) (sym there)
+        (goes t at first m h.runs n w turn_free p (with_io bus io) calm (λ i. let u : NodeState = record (shown w) { board = next i } in u) there)
 
-    pub turned : (owed : ℕ) → owed ≤ count + 1 → nat_lt count owed ≡ b → IsTurning t end first (on_board board) to on owed
+    pub turned : (owed : ℕ) → owed ≤ count + 1 → nat_lt count owed ≡ b → IsTurning t end first (on_io io) to on owed
     turned owed top is = record {
       within = omega (arith, within, clock);
       off = h.off;
       clear = clear;
       top = top;
-      runs = subst (λ (c : Bool). IsSprinting t board.clock first (owing c (beside to on (on_board board)))) (sym is) goes_past;
+      runs = subst (λ (c : Bool). IsSprinting t io.clock first (owing c (beside to on (on_io io)))) (sym is) goes_past;
     }
 
-    pub moved : self.bus.board.clock < board.clock
+    pub moved : self.bus.io.clock < io.clock
     moved = let some = p.some in let same = p.clock in omega (arith, some, same, clock)
 
   -- or are still to pass, on a board that is the same
-  module _ (board : Board) (same : board ≡ bus.board) where
-    pub stays_at : board.clock ≡ self.bus.board.clock
-    stays_at = ap (λ (x : Board). x.clock) same ∙ p.clock
+  module _ (io : ClockedBoard) (same : io ≡ bus.io) where
+    pub stays_at : io.clock ≡ self.bus.io.clock
+    stays_at = ap (λ (x : ClockedBoard). x.clock) same ∙ p.clock
 
-    pub may_end : end ≤ LAST_CYCLE → ((i : ℕ) → t + i < end → script_byte first.script (t + i) ≡ None) → MayEnd end n (on_board board)
+    pub may_end : end ≤ LAST_CYCLE → ((i : ℕ) → t + i < end → script_byte first.script (t + i) ≡ None) → MayEnd end n (on_io io)
     may_end early none =
         let at = stays_at in
         let within = h.within in
@@ -326,16 +321,16 @@ module _ (t end : ℕ) (first self : Machine) (regs : Registers) (core : Core) (
           some = p.some;
           early = omega (arith, at, within, early);
           within = omega (arith, at, within);
-          none = silent t board.clock end first (on_board board) h.runs.script (omega (arith, from, at)) none;
+          none = silent t io.clock end first (on_io io) h.runs.script (omega (arith, from, at)) none;
         }
 
-    pub at_it : IsSprinting t board.clock first m
+    pub at_it : IsSprinting t io.clock first m
     at_it = subst (λ (c : ℕ). IsSprinting t c first m) (sym stays_at) h.runs
 
-    pub carried : IsStepped board.clock n m (owing b (beside to on (on_board board)))
+    pub carried : IsStepped io.clock n m (owing b (beside to on (on_io io)))
     carried =
-        subst (λ (c : ℕ). IsStepped c n m (owing b (beside to on (on_board board)))) (sym stays_at)
-        (subst (λ (x : Board). IsStepped self.bus.board.clock n m (owing b (beside to on (on_board x)))) (sym same) p)
+        subst (λ (c : ℕ). IsStepped c n m (owing b (beside to on (on_io io)))) (sym stays_at)
+        (subst (λ (x : ClockedBoard). IsStepped self.bus.io.clock n m (owing b (beside to on (on_io x)))) (sym same) p)
 
 -- ---- whether the flag I was turned on, by a byte in which it is as it was before, and by that behind
 module _ (flags before after : ℕ) (a b : Bool) (same : nat_lt flags 128 ≡ nat_lt before 128) (was : a ≡ nat_le 128 flags) (is : b ≡ nat_le 128 after) where

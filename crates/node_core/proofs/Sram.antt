@@ -47,7 +47,7 @@ store_is at b cpu bus h = grind (arith, nat_tests, h) ∙ ap (taken cpu bus) (pu
 
 -- ---- an instruction that leaves the board and SREG
 abbrev pub Leaves : Cpu → NodeBus → Outcome NodeBus → Type 0
-Leaves cpu bus o = (o.bus.board ≡ bus.board) × (o.cpu.sreg ≡ cpu.sreg)
+Leaves cpu bus o = (o.bus.io ≡ bus.io) × (o.cpu.sreg ≡ cpu.sreg)
 
 load_leaves : (d at words cycles : ℕ) (cpu : Cpu) (bus : NodeBus) → in_sram at ≡ true → Leaves cpu bus (loads bus_get d at words cycles cpu bus)
 unfolding loads
@@ -241,9 +241,9 @@ module _ (flash : List ℕ) (o : Op) (cpu : Cpu) (bus : NodeBus) where
       (λ e h ok. absurd (false≢true (ap is_single h)))
       (single_cycle flash o cpu bus d)
 
-  pub keeps_board : may_access (after_at o cpu) ≡ false → (executed flash o cpu bus).bus.board ≡ bus.board
+  pub keeps_board : may_access (after_at o cpu) ≡ false → (executed flash o cpu bus).bus.io ≡ bus.io
   keeps_board =
-      by_after o cpu (λ k. may_access k ≡ false → (executed flash o cpu bus).bus.board ≡ bus.board)
-      (λ e h. ap (λ (n : NodeBus). n.board) (falls flash o cpu bus e).1)
+      by_after o cpu (λ k. may_access k ≡ false → (executed flash o cpu bus).bus.io ≡ bus.io)
+      (λ e h. ap (λ (n : NodeBus). n.io) (falls flash o cpu bus e).1)
       (λ e h. (sram_leaves flash cpu bus o e).0)
-      (λ h. ap (λ (n : NodeBus). n.board) (keeps_bus flash cpu bus o h))
+      (λ h. ap (λ (n : NodeBus). n.io) (keeps_bus flash cpu bus o h))

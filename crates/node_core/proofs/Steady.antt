@@ -48,7 +48,7 @@ module _ (P : List Row → Type 0) (t : ℕ) (none : P []) (one : (r : Row) → 
 
   instructed_is : (s : NodeState) → P (instructed_rows t s)
   unfolding instructed_rows
-  instructed_is s = case_of (is_refused s (op_now s)) _ _ (one _ refl) (instruction_is s (executed s.flash (op_now s) s.cpu (bus_at t s.bus)).result)
+  instructed_is s = case_of (is_refused s (op_now s)) _ _ (one _ refl) (instruction_is s (executed s.flash (op_now s) s.cpu (bus_at t s)).result)
 
   entry_is : (v : Vector) (s : NodeState) (r : Result (Unit {0}) StopCause) → P (entry_rows t v s r)
   entry_is v s (Ok done) = within_is s _
@@ -56,7 +56,7 @@ module _ (P : List Row → Type 0) (t : ℕ) (none : P []) (one : (r : Row) → 
 
   entered_is : (v : Vector) (s : NodeState) → P (entered_rows t v s)
   unfolding entered_rows
-  entered_is v s = entry_is v s (entry v.word s.cpu (bus_at t s.bus)).result
+  entered_is v s = entry_is v s (entry v.word s.cpu (bus_at t s)).result
 
   acted_is : (s : NodeState) (o : Option Vector) → P (acted_rows t s o)
   acted_is s None = case_of s.asleep [] (instructed_rows t s) none (instructed_is s)
@@ -76,7 +76,7 @@ module _ (P : List Row → Type 0) (t : ℕ) (none : P []) (one : (r : Row) → 
 
   device_is : (s : NodeState) → P (device_rows t s)
   unfolding device_rows
-  device_is s = case_of (is_some s.stop) [] _ none (both (serial_rows t s (board_serial t s.bus.board)) (sent_rows t s (board_sends t s.bus.board)) (serial_is s (board_serial t s.bus.board)) (sent_is s (board_sends t s.bus.board)))
+  device_is s = case_of (is_some s.stop) [] _ none (both (serial_rows t s (board_serial t s.board)) (sent_rows t s (board_sends t s.board)) (serial_is s (board_serial t s.board)) (sent_is s (board_sends t s.board)))
 
   pub begun_is : (s : NodeState) → P (begun_rows t s)
   unfolding begun_rows
@@ -100,8 +100,8 @@ steady = record {
   apart = apart;
   begun_rows = λ t s. begun_is (Bears t) t (bears_none t) (bears_one t) (All-append (λ (x : Row). x.cycle ≡ t)) s;
   finished_rows = λ t s h. bears_one t _ refl;
-  free = λ s. s.bus.board.radio.free;
-  gap = λ s. s.bus.board.radio.byte_time;
+  free = λ s. s.board.radio.free;
+  gap = λ s. s.board.radio.byte_time;
   gap_begun = gap_begun;
   gap_finished = gap_finished;
   free_begun = free_begun;
@@ -111,6 +111,6 @@ steady = record {
 }
 
 -- the byte time that it was made with is that of its radio
-pub steady_gap : (s : NodeState) → steady.gap s ≡ s.bus.board.radio.byte_time
+pub steady_gap : (s : NodeState) → steady.gap s ≡ s.board.radio.byte_time
 unfolding steady
 steady_gap s = refl

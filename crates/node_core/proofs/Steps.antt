@@ -20,7 +20,7 @@ use Rattle.avr_core.specs.declared.instructions.After.TheVariants as after
 use Rattle.node_core.specs.declared.machine.Machine.{Machine}
 use Rattle.node_core.specs.declared.row.Row.{Row}
 use Rattle.node_core.specs.declared.row.Kind.TheVariants as kind
-use Rattle.node_core.specs.Bus.{bus_at, bus_get, bus_put, with_board}
+use Rattle.node_core.specs.Bus.{bus_get, bus_put}
 use Rattle.avr_core.specs.Execute.{is_sleep, after_at, is_plain}
 use Rattle.node_core.specs.Cycle.{first_word, instructed, instructed_rows, is_idle, is_other, is_refused, node_kind, op_now, owes, row, second_word}
 use Rattle.node_core.specs.Execute.{executed}
@@ -40,23 +40,24 @@ use Rattle.node_core.proofs.Sram.{enables_at, keeps_board, keeps_i_at, single_cy
 use Rattle.node_core.proofs.Strides.{passed_there}
 
 pub runs_on : (s : NodeState) (o : Op) → is_sleep o ≡ false → is_refused s o ≡ false
-runs_on s o e = ap (λ (b : Bool). b && is_other (sleep_mode s.bus.board)) e
+runs_on s o e = ap (λ (b : Bool). b && is_other (sleep_mode s.board)) e
 
 -- of an instruction that is not told and does not sleep
-module _ (t : ℕ) (m : Machine) (o : Op) (fetched : o ≡ op_now (shown m)) (runs : is_refused (shown m) o ≡ false) (now : m.bus.board.clock ≡ t) (untold : is_told m.from m.to t ≡ false)
+module _ (t : ℕ) (m : Machine) (o : Op) (fetched : o ≡ op_now (shown m)) (runs : is_refused (shown m) o ≡ false) (now : m.bus.io.clock ≡ t) (untold : is_told m.from m.to t ≡ false)
     (a : Outcome NodeBus) (flash : List ℕ) (kept : flash ≡ m.program.bytes) (done : a ≡ executed flash o m.cpu m.bus) (d : Done) (ok : a.result ≡ Ok d) where
   abbrev s : NodeState
   s = shown m
 
   pub stepped_state : (b : Bool) → b ≡ owes o m.cpu.sreg.bits a.cpu.sreg.bits → d.sleep ≡ false → m.asleep ≡ false
-      → (let u : NodeState = record (shown m) { cpu = a.cpu; bus = bus_at 0 a.bus; wait = d.cycles - 1; owed = b; count = m.count + 1 } in u) ≡ instructed t (shown m)
+      → (let u : NodeState = record (shown m) { cpu = a.cpu; board = a.bus.io.board; sram = a.bus.sram; wait = d.cycles - 1; owed = b; count = m.count + 1 } in u) ≡ instructed t (shown m)
   stepped_state b owed wakes awake =
       (λ i. let u : NodeState = record s {
         cpu = a.cpu;
-        bus = bus_at 0 a.bus;
+        board = a.bus.io.board;
+        sram = a.bus.sram;
         wait = d.cycles - 1;
         owed = owed i;
-        asleep = (awake ∙ sym (ap (λ (b : Bool). b && is_idle (sleep_mode a.bus.board)) wakes)) i;
+        asleep = (awake ∙ sym (ap (λ (b : Bool). b && is_idle (sleep_mode a.bus.io.board)) wakes)) i;
         count = m.count + 1;
       } in u)
       ∙ ran t m o fetched runs now a flash kept done (Ok d) ok
@@ -80,7 +81,7 @@ module _ (t : ℕ) (m : Machine) (o : Op) (fetched : o ≡ op_now (shown m)) (ru
     closes = refl;
     script = refl;
     count = refl;
-    clock = ap (λ (x : Outcome NodeBus). x.bus.board.clock) done ∙ executed_clock flash o m.cpu m.bus;
+    clock = ap (λ (x : Outcome NodeBus). x.bus.io.clock) done ∙ executed_clock flash o m.cpu m.bus;
   }
 
 -- ---- a plain instruction that is not told
@@ -113,11 +114,11 @@ module _ (t : ℕ) (m : Machine) (o : Op) (fetched : o ≡ op_now (shown m)) (pl
     state = ran t m o fetched runs may.now a flash kept done (Err cause) stop;
     told =
         let pc = ap (λ (x : Outcome NodeBus). x.cpu.pc) done ∙ stops_there bus_get bus_put flash o m.cpu m.bus cause (sym (ap (λ (x : Outcome NodeBus). x.result) done) ∙ stop) in
-        ap (λ (n : ℕ). row t (let x : NodeState = shown m in record x { cpu = a.cpu; bus = bus_at 0 a.bus }) (kind.Stop n cause)) pc
+        ap (λ (n : ℕ). row t (let x : NodeState = shown m in record x { cpu = a.cpu; board = a.bus.io.board; sram = a.bus.sram }) (kind.Stop n cause)) pc
         ∙ ran_rows t m o fetched runs may.now a flash kept done [] (Err cause) stop;
     same = refl;
     count = refl;
-    clock = ap (λ (x : Outcome NodeBus). x.bus.board.clock) done ∙ executed_clock flash o m.cpu m.bus;
+    clock = ap (λ (x : Outcome NodeBus). x.bus.io.clock) done ∙ executed_clock flash o m.cpu m.bus;
   }
 
 -- ---- an instruction that is not told as a step of a sprint
@@ -174,11 +175,11 @@ leaves_flag flash o from to bus there k (Some (Ok d)) e some step is i =
 -- and by which the board does
 pub leaves_devices : (flash : List ℕ) (o : Op) (from to : Cpu) (bus there : NodeBus) (k : After) (x : Option (Result Done StopCause)) → k ≡ after_at o from
     → IfSome x (λ (r : Result Done StopCause). (let a : Outcome NodeBus = record { result = r; cpu = to; bus = there } in a ≡ executed flash o from bus))
-    → (step : Step) → step ≡ step_of k x → leaves_board step ≡ true → there.board ≡ bus.board
+    → (step : Step) → step ≡ step_of k x → leaves_board step ≡ true → there.io ≡ bus.io
 leaves_devices flash o from to bus there k None e some step is i = absurd (false≢true (sym (ap leaves_board is) ∙ i))
 leaves_devices flash o from to bus there k (Some (Err cause)) e some step is i = absurd (false≢true (sym (ap leaves_board is) ∙ i))
 leaves_devices flash o from to bus there k (Some (Ok d)) e some step is i =
-    ap (λ (x : Outcome NodeBus). x.bus.board) some ∙ keeps_board flash o from bus (ap may_access (sym e) ∙ apart k d (sym (ap leaves_board is) ∙ i))
+    ap (λ (x : Outcome NodeBus). x.bus.io) some ∙ keeps_board flash o from bus (ap may_access (sym e) ∙ apart k d (sym (ap leaves_board is) ∙ i))
   where
     apart : (k : After) (d : Done) → leaves_board (step_of k (Some (Ok d))) ≡ true → may_access k ≡ false
     apart after.Single d h = refl
@@ -224,10 +225,10 @@ module _ (v : Timed NodeState Row) (t n : ℕ) (m new : Machine) (k : List Row) 
       }
 
   pub went : (h : IsStepped t n m new) → IsCalm t n (shown new) →
-      Comes node_kind v (t + n) (let w : NodeState = record (shown new) { bus = with_board (shown new).bus (timers_leap t n (shown new).bus.board) } in w) k
+      Comes node_kind v (t + n) (let w : NodeState = record (shown new) { board = timers_leap t n (shown new).board } in w) k
   went h calm =
       let begun : NodeState = record (shown new) { wait = n - 1 } in
-      let w : NodeState = record (shown new) { bus = with_board (shown new).bus (timers_leap t n (shown new).bus.board) } in
+      let w : NodeState = record (shown new) { board = timers_leap t n (shown new).board } in
       let some = h.some in
       passed_there v t n begun w k (began h) record {
         going = h.going;

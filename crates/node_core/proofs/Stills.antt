@@ -9,7 +9,7 @@ use Rattle.avr_decoder.specs.declared.op.Class.TheVariants as class
 use Rattle.avr_decoder.specs.declared.op.Op.{Op}
 use Rattle.avr_decoder.specs.declared.op.Op.TheVariants as op
 use Rattle.board_io.specs.declared.board.Board.{Board}
-use Rattle.board_io.specs.Board.{clock_at}
+use Rattle.board_io.specs.Board.{clocked}
 use Rattle.board_io.specs.Lagging.{ReadsStill}
 use Rattle.board_io.proofs.Leaps.{leap_zero}
 use Rattle.avr_core.specs.FlowShapes.{at_pc, bit_is, branched, ends, relative, skipped, skips_by_io}
@@ -23,7 +23,7 @@ use Rattle.data_space.specs.Core.{advanced, with_reg}
 use Rattle.data_space.specs.Space.{Access, answered, answers, loaded}
 use Rattle.data_space.specs.Sequence.{Outcome, done, then_do}
 use Rattle.node_core.specs.declared.bus.NodeBus.{NodeBus}
-use Rattle.node_core.specs.Bus.{board_got, bus_get, with_board}
+use Rattle.node_core.specs.Bus.{board_got, bus_get, with_io}
 use Rattle.node_core.specs.Execute.{executed}
 use Rattle.node_core.specs.Pace.Leaps.{IsLoad, IsStill, LoadsStill, bus_later, is_steering}
 use Rattle.avr_core.proofs.Executes.{arith_awake, is_arith}
@@ -70,7 +70,7 @@ pub sram_still : (bus : NodeBus) (at : ℕ) → nat_lt 0x10FF at ≡ false → n
 unfolding bus_get
 sram_still bus at below above = record { byte = slice_index bus.sram (at - 0x100); gives = λ u t n. rw (below, above) refl }
 
-pub board_still : (bus : NodeBus) (at : ℕ) → nat_lt 0x10FF at ≡ false → nat_lt 0xFF at ≡ false → ReadsStill bus.board at → LoadsStill bus at
+pub board_still : (bus : NodeBus) (at : ℕ) → nat_lt 0x10FF at ≡ false → nat_lt 0xFF at ≡ false → ReadsStill bus.io.board at → LoadsStill bus at
 unfolding bus_get
 board_still bus at below io h = record {
   byte = h.byte;
@@ -146,15 +146,15 @@ load_still (op.Lds d k) bus at e h = record {
 load_still _ bus at e h = absurd e
 
 -- ---- what such an instruction did
-pub none_later : (bus : NodeBus) → bus_later bus.board.clock 0 0 bus ≡ bus
-none_later bus = ap (λ (b : Board). with_board bus (clock_at bus.board.clock b)) (leap_zero 0 bus.board)
+pub none_later : (bus : NodeBus) → bus_later bus.io.clock 0 0 bus ≡ bus
+none_later bus = ap (λ (b : Board). with_io bus (clocked bus.io.clock b)) (leap_zero 0 bus.io.board)
 
 module _ (o : Op) (bus : NodeBus) (h : IsStill o bus) (flash : List ℕ) (cpu : Cpu) where
   abbrev reaches : NodeBus → Outcome NodeBus
   reaches b = record { result = Ok (h.reached flash cpu).0; cpu = (h.reached flash cpu).1; bus = b }
 
   here : executed flash o cpu bus ≡ reaches bus
-  here = subst (λ (b : NodeBus). executed flash o cpu b ≡ reaches b) (none_later bus) (h.does flash cpu bus.board.clock 0 0)
+  here = subst (λ (b : NodeBus). executed flash o cpu b ≡ reaches b) (none_later bus) (h.does flash cpu bus.io.clock 0 0)
 
   pub leaves : (a : Outcome NodeBus) → a ≡ executed flash o cpu bus → a.bus ≡ bus
   leaves a e = ap (λ (x : Outcome NodeBus). x.bus) (e ∙ here)

@@ -10,7 +10,6 @@ use Rattle.air_base.specs.NodeRun.{Comes, Timed, passed_rows}
 use Rattle.air_base.proofs.QuietCycles.{comes_step}
 use Rattle.board_io.specs.declared.cycle.OnAir.{OnAir}
 use Rattle.board_io.specs.declared.cycle.OnAir.TheVariants.{Quiet, Sent, Asks}
-use Rattle.node_core.specs.Bus.{with_board}
 use Rattle.node_core.specs.Cycle.{air_after, asks_after, asks_in, begun_in, begun_rows, cpu_cycle, cpu_rows, device_rows, devices_cycle, node_kind, sends_after, sends_in}
 use Rattle.node_core.specs.Inside.{IsCalm, IsPassed}
 use Rattle.node_core.specs.Pace.Midway.{IsMidway}
@@ -20,9 +19,9 @@ use Rattle.node_core.proofs.Idling.{Idles, all_quiet, no_rows, passed_rested, re
 use Rattle.node_core.proofs.Runs.{begun_comes, rested_comes}
 
 -- one more, where nothing ends and no byte arrives: the timers alone move
-module _ (v : Timed NodeState Row) (c : ℕ) (u : NodeState) (k : List Row) (h : IsMidway v c u k) (still : is_some u.stop ≡ false) (calm : board_quiet c u.bus.board ≡ true) (none : script_byte u.script c ≡ None) where
+module _ (v : Timed NodeState Row) (c : ℕ) (u : NodeState) (k : List Row) (h : IsMidway v c u k) (still : is_some u.stop ≡ false) (calm : board_quiet c u.board ≡ true) (none : script_byte u.script c ≡ None) where
   abbrev moved : NodeState
-  moved = record u { bus = with_board u.bus (timers_leap c 1 u.bus.board) }
+  moved = record u { board = timers_leap c 1 u.board }
 
   stands : begun_in c h.state ≡ moved
   stands = begun_calm c h.state u h.going still (sym h.part) calm none
@@ -31,7 +30,7 @@ module _ (v : Timed NodeState Row) (c : ℕ) (u : NodeState) (k : List Row) (h :
   told_all =
       h.told ∙ ap (λ (l : List Row). h.rows ++ l) (sym (rows_calm c h.state u h.going still (sym h.part) calm none))
 
-  comes_there : Comes node_kind v (c + 1) (let w : NodeState = record u { bus = with_board u.bus (timers_leap c 1 u.bus.board) } in w) k
+  comes_there : Comes node_kind v (c + 1) (let w : NodeState = record u { board = timers_leap c 1 u.board } in w) k
   comes_there =
       begun_comes v c h.state moved h.rows k h.comes (asks_calm c h.state u h.going still (sym h.part) calm none)
       (sends_calm c h.state u h.going still (sym h.part) calm none) (sym stands) told_all
@@ -39,13 +38,13 @@ module _ (v : Timed NodeState Row) (c : ℕ) (u : NodeState) (k : List Row) (h :
 -- and the cycles that its instruction waits
 module _ (v : Timed NodeState Row) (c n : ℕ) (u w : NodeState) (k : List Row) (h : IsMidway v c u k) (p : IsPassed c n u w) where
   abbrev begun : NodeState
-  begun = record u { bus = with_board u.bus (timers_leap c 1 u.bus.board) }
+  begun = record u { board = timers_leap c 1 u.board }
 
   first : Comes node_kind v (c + 1) begun k
   first =
       let some = p.wait in
       let here : c + 0 ≡ c = omega arith in
-      let quiet = subst (λ (t : ℕ). board_quiet t u.bus.board ≡ true) here (p.calm.ends 0 (omega (arith, some))) in
+      let quiet = subst (λ (t : ℕ). board_quiet t u.board ≡ true) here (p.calm.ends 0 (omega (arith, some))) in
       let none = subst (λ (t : ℕ). script_byte u.script t ≡ None) here (p.calm.none 0 (omega (arith, some))) in
       comes_there v c u k h (ap is_some p.going) quiet none
 
@@ -55,7 +54,7 @@ module _ (v : Timed NodeState Row) (c n : ℕ) (u w : NodeState) (k : List Row) 
       record {
         ends = λ i l.
             (let there : c + (i + 1) ≡ c + 1 + i = omega arith in
-            leap_quiet (c + 1 + i) c 1 u.bus.board ∙ subst (λ (t : ℕ). board_quiet t u.bus.board ≡ true) there (p.calm.ends (i + 1) (omega (arith, some, l))));
+            leap_quiet (c + 1 + i) c 1 u.board ∙ subst (λ (t : ℕ). board_quiet t u.board ≡ true) there (p.calm.ends (i + 1) (omega (arith, some, l))));
         none = λ i l.
             (let there : c + (i + 1) ≡ c + 1 + i = omega arith in
             subst (λ (t : ℕ). script_byte u.script t ≡ None) there (p.calm.none (i + 1) (omega (arith, some, l))));
@@ -68,8 +67,8 @@ module _ (v : Timed NodeState Row) (c n : ℕ) (u w : NodeState) (k : List Row) 
   over =
       let less : u.wait - u.wait ≡ 0 = omega arith in
       let all : 1 + u.wait ≡ n = omega (arith, p.wait) in
-      let board = sym (leap_add c 1 u.wait u.bus.board) ∙ ap (λ (m : ℕ). timers_leap c m u.bus.board) all in
-      (λ i. let x : NodeState = record u { wait = less i; bus = with_board u.bus (board i) } in x) ∙ sym p.after
+      let board = sym (leap_add c 1 u.wait u.board) ∙ ap (λ (m : ℕ). timers_leap c m u.board) all in
+      (λ i. let x : NodeState = record u { wait = less i; board = board i } in x) ∙ sym p.after
 
   pub passed_there : Comes node_kind v (c + n) w k
   passed_there =
@@ -114,7 +113,7 @@ air_told_by false Asks = refl
 
 pub air_told : (t : ℕ) (s : NodeState) → IsOnAir (asks_after t s) (sends_after t s) (air_after t s)
 unfolding air_after asks_after sends_after
-air_told t s = air_told_by (is_some s.stop) (board_air t s.bus.board)
+air_told t s = air_told_by (is_some s.stop) (board_air t s.board)
 
 -- the end of the cycle
 module _ (v : Timed NodeState Row) (c : ℕ) (u : NodeState) (k : List Row) (h : IsMidway v c u k) where

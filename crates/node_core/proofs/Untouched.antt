@@ -6,7 +6,7 @@ use Rattle.avr_decoder.specs.Class.{class_of}
 use Rattle.avr_decoder.specs.declared.op.Class.{Class}
 use Rattle.avr_decoder.specs.declared.op.Class.TheVariants as class
 use Rattle.avr_decoder.specs.declared.op.Op.{Op}
-use Rattle.board_io.specs.declared.board.Board.{Board}
+use Rattle.board_io.specs.declared.clocked.ClockedBoard.{ClockedBoard}
 use Rattle.board_io.specs.Registers.{io_get, io_put}
 use Rattle.data_space.specs.declared.cpu.Cpu.{Cpu}
 use Rattle.data_space.specs.Sequence.{pushed_word}
@@ -19,11 +19,11 @@ use Rattle.avr_core.specs.Execute.{executed_over}
 use Rattle.node_core.specs.Execute.{executed, executed_by}
 use Rattle.node_core.specs.Interrupts.{entry}
 
-module _ {V : Type 0} (part : Board → V)
-    (got : (b c : Board) (at x : ℕ) → io_get b at ≡ Ok (x, c) → part c ≡ part b)
-    (put : (b c : Board) (at x : ℕ) → io_put b at x ≡ Ok c → part c ≡ part b) where
+module _ {V : Type 0} (part : ClockedBoard → V)
+    (got : (b c : ClockedBoard) (at x : ℕ) → io_get b at ≡ Ok (x, c) → part c ≡ part b)
+    (put : (b c : ClockedBoard) (at x : ℕ) → io_put b at x ≡ Ok c → part c ≡ part b) where
   abbrev bus_part : NodeBus → V
-  bus_part bus = part bus.board
+  bus_part bus = part bus.io
 
   got_case : (v : V) (b : Bool) (p q : Result (ℕ × NodeBus) StopCause) → Got bus_part v p → Got bus_part v q → Got bus_part v (cond b p q)
   got_case v true p q h k = h
@@ -33,25 +33,25 @@ module _ {V : Type 0} (part : Board → V)
   put_case v true p q h k = h
   put_case v false p q h k = k
 
-  got_board : (bus : NodeBus) (at : ℕ) (r : Result (ℕ × Board) StopCause) → io_get bus.board at ≡ r → Got bus_part (bus_part bus) (board_got bus r)
-  got_board bus at (Ok given) e = got bus.board given.1 at given.0 e
+  got_board : (bus : NodeBus) (at : ℕ) (r : Result (ℕ × ClockedBoard) StopCause) → io_get bus.io at ≡ r → Got bus_part (bus_part bus) (board_got bus r)
+  got_board bus at (Ok given) e = got bus.io given.1 at given.0 e
   got_board bus at (Err cause) e = tt
 
-  put_board : (bus : NodeBus) (at x : ℕ) (r : Result Board StopCause) → io_put bus.board at x ≡ r → Put bus_part (bus_part bus) (board_put bus r)
-  put_board bus at x (Ok given) e = put bus.board given at x e
+  put_board : (bus : NodeBus) (at x : ℕ) (r : Result ClockedBoard StopCause) → io_put bus.io at x ≡ r → Put bus_part (bus_part bus) (board_put bus r)
+  put_board bus at x (Ok given) e = put bus.io given at x e
   put_board bus at x (Err cause) e = tt
 
   get_keeps : (bus : NodeBus) (at : ℕ) → Got bus_part (bus_part bus) (bus_get bus at)
   unfolding bus_get
   get_keeps bus at =
       got_case (bus_part bus) (nat_lt 0x10FF at) _ _ tt
-      (got_case (bus_part bus) (nat_lt 0xFF at) _ _ refl (got_board bus at (io_get bus.board at) refl))
+      (got_case (bus_part bus) (nat_lt 0xFF at) _ _ refl (got_board bus at (io_get bus.io at) refl))
 
   put_keeps : (bus : NodeBus) (at x : ℕ) → Put bus_part (bus_part bus) (bus_put bus at x)
   unfolding bus_put
   put_keeps bus at x =
       put_case (bus_part bus) (nat_lt 0x10FF at) _ _ tt
-      (put_case (bus_part bus) (nat_lt 0xFF at) _ _ refl (put_board bus at x (io_put bus.board at x) refl))
+      (put_case (bus_part bus) (nat_lt 0xFF at) _ _ refl (put_board bus at x (io_put bus.io at x) refl))
 
   keeps : Keeps bus_part bus_get bus_put
   keeps = record { gets = get_keeps; puts = put_keeps }

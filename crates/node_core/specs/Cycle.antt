@@ -28,7 +28,7 @@ use Rattle.node_core.specs.declared.row.NodeEnd.TheVariants as end
 use Rattle.air_base.specs.declared.air.Heard.{Heard}
 use Rattle.air_base.specs.NodeKind.{NodeKind}
 use Rattle.node_core.specs.declared.bus.NodeBus.{NodeBus}
-use Rattle.node_core.specs.Bus.{bus_at, with_board}
+use Rattle.node_core.specs.Bus.{bus_at, with_bus}
 use Rattle.node_core.specs.State.{NodeState}
 use Rattle.avr_core.specs.Execute.{is_sleep}
 use Rattle.node_core.specs.Execute.{executed}
@@ -74,20 +74,18 @@ is_other Other = true
 
 -- SLEEP in a mode other than idle
 abbrev pub is_refused : NodeState → Op → Bool
-is_refused s o = is_sleep o && is_other (sleep_mode s.bus.board)
+is_refused s o = is_sleep o && is_other (sleep_mode s.board)
 
--- after an instruction, by how it ended. One that stops is not counted, and leaves the wait and what is owed. The
--- board's clock is set for the accesses of an instruction, and shows 0 otherwise
+-- after an instruction, by how it ended. One that stops is not counted, and leaves the wait and what is owed
 abbrev pub after_instruction : NodeState → Op → Result Done StopCause → Cpu → NodeBus → NodeState
-after_instruction s o (Ok d) cpu bus = record s {
+after_instruction s o (Ok d) cpu bus = record (with_bus bus s) {
   cpu = cpu;
-  bus = bus_at 0 bus;
   wait = d.cycles - 1;
   owed = owes o s.cpu.sreg.bits cpu.sreg.bits;
-  asleep = d.sleep && is_idle (sleep_mode bus.board);
+  asleep = d.sleep && is_idle (sleep_mode bus.io.board);
   count = s.count + 1;
 }
-after_instruction s o (Err cause) cpu bus = record s { cpu = cpu; bus = bus_at 0 bus; stop = Some cause }
+after_instruction s o (Err cause) cpu bus = record (with_bus bus s) { cpu = cpu; stop = Some cause }
 
 -- a Stop row stands in place of the Instr row of an instruction that stops
 abbrev pub instruction_rows : ℕ → NodeState → Result Done StopCause → List Row
@@ -98,18 +96,18 @@ instruction_rows t s (Err cause) = row t s (kind.Stop s.cpu.pc cause)
 unfoldable pub instructed : ℕ → NodeState → NodeState
 instructed t s =
     if is_refused s (op_now s) then record s { stop = Some stop.SleepMode }
-    else (let o = executed s.flash (op_now s) s.cpu (bus_at t s.bus) in after_instruction s (op_now s) o.result o.cpu o.bus)
+    else (let o = executed s.flash (op_now s) s.cpu (bus_at t s) in after_instruction s (op_now s) o.result o.cpu o.bus)
 
 unfoldable pub instructed_rows : ℕ → NodeState → List Row
 instructed_rows t s =
     if is_refused s (op_now s) then row t s (kind.Stop s.cpu.pc stop.SleepMode)
-    else instruction_rows t s (executed s.flash (op_now s) s.cpu (bus_at t s.bus)).result
+    else instruction_rows t s (executed s.flash (op_now s) s.cpu (bus_at t s)).result
 
 -- after an interrupt was entered, by how that ended. It wakes the node; one that stops leaves the wait, what is owed
 -- and the sleep
 abbrev pub after_entry : ℕ → Vector → NodeState → Access (Unit {0}) NodeBus → Result (Unit {0}) StopCause → NodeState
-after_entry wait v s a (Ok done) = record s { cpu = a.cpu; bus = bus_at 0 (with_board a.bus (entered_of v.word a.bus.board)); wait = wait; asleep = false }
-after_entry wait v s a (Err cause) = record s { cpu = a.cpu; bus = bus_at 0 a.bus; stop = Some cause }
+after_entry wait v s a (Ok done) = record s { cpu = a.cpu; board = entered_of v.word a.bus.io.board; sram = a.bus.sram; wait = wait; asleep = false }
+after_entry wait v s a (Err cause) = record (with_bus a.bus s) { cpu = a.cpu; stop = Some cause }
 
 abbrev pub entry_rows : ℕ → Vector → NodeState → Result (Unit {0}) StopCause → List Row
 entry_rows t v s (Ok done) = row_within t s (kind.Enter v.word s.cpu.pc)
@@ -117,10 +115,10 @@ entry_rows t v s (Err cause) = row t s (kind.Stop s.cpu.pc cause)
 
 -- an interrupt is entered in cycle t, which goes on for so many cycles more
 unfoldable pub entered : ℕ → ℕ → Vector → NodeState → NodeState
-entered t wait v s = let a = entry v.word s.cpu (bus_at t s.bus) in after_entry wait v s a a.result
+entered t wait v s = let a = entry v.word s.cpu (bus_at t s) in after_entry wait v s a a.result
 
 unfoldable pub entered_rows : ℕ → Vector → NodeState → List Row
-entered_rows t v s = entry_rows t v s (entry v.word s.cpu (bus_at t s.bus)).result
+entered_rows t v s = entry_rows t v s (entry v.word s.cpu (bus_at t s)).result
 
 -- what a processor does that waits for nothing, by what is due: an interrupt is entered in four cycles, from sleep in
 -- eight; not before the instruction that is owed. Only what is due wakes a node that sleeps
@@ -141,7 +139,7 @@ cpu_rows t s = if nat_lt 0 s.wait then [] else acted_rows t s (due s)
 
 -- the devices' part. A node that stopped in this cycle does not reach it
 unfoldable pub devices_cycle : ℕ → NodeState → NodeState
-devices_cycle t s = if is_some s.stop then s else record s { bus = with_board s.bus (board_begun t (script_byte s.script t) s.bus.board) }
+devices_cycle t s = if is_some s.stop then s else record s { board = board_begun t (script_byte s.script t) s.board }
 
 -- the cycle up to its sample. A stopped node does nothing more
 unfoldable pub begun_in : ℕ → NodeState → NodeState
@@ -158,18 +156,18 @@ sent_rows t s (Some byte) = row t s (kind.Sent byte)
 -- what the radio does on the air once the processor's part is done, whether it samples, what it sends, and the rows of
 -- the devices' part
 unfoldable pub air_after : ℕ → NodeState → OnAir
-air_after t s = if is_some s.stop then Quiet else board_air t s.bus.board
+air_after t s = if is_some s.stop then Quiet else board_air t s.board
 
 unfoldable pub asks_after : ℕ → NodeState → Bool
-asks_after t s = if is_some s.stop then false else board_asks t s.bus.board
+asks_after t s = if is_some s.stop then false else board_asks t s.board
 
 unfoldable pub sends_after : ℕ → NodeState → Option ℕ
-sends_after t s = if is_some s.stop then None else board_sends t s.bus.board
+sends_after t s = if is_some s.stop then None else board_sends t s.board
 
 unfoldable pub device_rows : ℕ → NodeState → List Row
 device_rows t s =
     if is_some s.stop then []
-    else serial_rows t s (board_serial t s.bus.board) ++ sent_rows t s (board_sends t s.bus.board)
+    else serial_rows t s (board_serial t s.board) ++ sent_rows t s (board_sends t s.board)
 
 unfoldable pub asks_in : ℕ → NodeState → Bool
 asks_in t s = if is_some s.stop then false else asks_after t (cpu_cycle t s)
@@ -182,7 +180,7 @@ begun_rows t s = if is_some s.stop then [] else cpu_rows t s ++ device_rows t (c
 
 -- the rest of a cycle that looks at the air
 abbrev pub finished_in : ℕ → NodeState → Heard → NodeState
-finished_in t s heard = record s { bus = with_board s.bus (board_answered heard s.bus.board) }
+finished_in t s heard = record s { board = board_answered heard s.board }
 
 abbrev pub finished_rows : ℕ → NodeState → Heard → List Row
 finished_rows t s heard = row t s (kind.Heard heard)

@@ -14,7 +14,7 @@ use Rattle.node_core.specs.State.{NodeState}
 
 -- the interrupt that is due
 abbrev pub due : NodeState → Option Vector
-due s = due_of s.cpu.sreg.bits (lines_of s.bus.board)
+due s = due_of s.cpu.sreg.bits (lines_of s.board)
 
 abbrev pub vectored : ℕ → Cpu → Cpu
 vectored word cpu = record cpu { pc = word; sreg = record { bits = with_flag cpu.sreg.bits I false } }

@@ -26,7 +26,7 @@ core_tail s =
     ∷ []
 
 abbrev pub numbers_of : NodeState → List ℕ
-numbers_of s = s.cpu.r ++ core_tail s ++ board.numbers_of s.bus.board
+numbers_of s = s.cpu.r ++ core_tail s ++ board.numbers_of s.board
 
 -- a test for each number of the core, whether it is within its bound
 unfoldable pub core_fits : List ℕ → List Bool

@@ -48,7 +48,7 @@ abbrev pub IsRefused : ℕ → List ℕ → List ℕ → RestoreFault → Type 0
 IsRefused cycle n io fault = (fault_of cycle n io ≡ Some fault) ⊎ ((fault ≡ NoMemory) × (fault_of cycle n io ≡ None))
 
 -- the state of node k with this program memory, these bytes that arrive, the window from one cycle on and below
--- another, and this byte time, that has these numbers, I/O bytes and SRAM. Between two cycles its board shows no clock
+-- another, and this byte time, that has these numbers, I/O bytes and SRAM
 pub record IsRestored (k : ℕ) (image : List ℕ) (arrivals : ScriptBytes) (first last byte_time : ℕ) (n io bytes : List ℕ) (s : NodeState) : Type 0 where
   pub number : s.number ≡ k
   pub flash : s.flash ≡ image
@@ -57,6 +57,5 @@ pub record IsRestored (k : ℕ) (image : List ℕ) (arrivals : ScriptBytes) (fir
   pub to : s.to ≡ last
   pub registers : length s.cpu.r ≡ 32
   pub numbers : numbers_of s ≡ n
-  pub board : board.IsRestored byte_time (part 41 67 n) io s.bus.board
-  pub clock : s.bus.board.clock ≡ 0
-  pub sram : s.bus.sram ≡ bytes
+  pub board : board.IsRestored byte_time (part 41 67 n) io s.board
+  pub sram : s.sram ≡ bytes

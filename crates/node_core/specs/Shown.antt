@@ -1,6 +1,5 @@
--- What the code's node stands for. Its board has a clock that runs, which is no part of the state.
+-- What the code's node stands for. Its clock is no part of the state.
 use Rattle.node_core.specs.declared.machine.Machine.{Machine}
-use Rattle.node_core.specs.Bus.{bus_at}
 use Rattle.node_core.specs.State.{NodeState}
 
 abbrev pub shown : Machine → NodeState
@@ -11,7 +10,8 @@ shown m = record {
   from = m.from;
   to = m.to;
   cpu = m.cpu;
-  bus = bus_at 0 m.bus;
+  board = m.bus.io.board;
+  sram = m.bus.sram;
   wait = m.wait;
   owed = m.owed;
   asleep = m.asleep;

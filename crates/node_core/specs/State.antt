@@ -2,10 +2,12 @@
 -- "Memories"). A cycle's rows are no part of it.
 use Rattle.std.specs.Prelude.{ℕ, Bool, false, List, Option, None}
 use Rattle.avr_base.specs.declared.stop.StopCause.{StopCause}
+use Rattle.board_io.specs.declared.board.Board.{Board}
+use Rattle.board_io.specs.Board.{reset_board}
 use Rattle.data_space.specs.declared.cpu.Cpu.{Cpu}
+use Rattle.data_space.specs.declared.regions.TheConstants.{SRAM_LEN}
 use Rattle.data_space.specs.Core.{zero_cpu}
-use Rattle.node_core.specs.declared.bus.NodeBus.{NodeBus}
-use Rattle.node_core.specs.Bus.{reset_bus}
+use Rattle.data_space.specs.Memory.{zeros}
 use Rattle.serial_ports.specs.Script.{ScriptBytes}
 
 pub record NodeState : Type 0 where
@@ -15,7 +17,8 @@ pub record NodeState : Type 0 where
   pub from : ℕ  -- its Instr and Enter rows exist from this cycle on
   pub to : ℕ  -- and below this one
   pub cpu : Cpu  -- the registers of the core
-  pub bus : NodeBus  -- the data space beside the core, with its devices
+  pub board : Board  -- the devices, and the I/O registers that hold a byte
+  pub sram : List ℕ  -- the bytes of its internal SRAM
   pub wait : ℕ  -- cycles left of the last instruction or entry
   pub owed : Bool  -- whether an instruction is executed before the next interrupt is entered
   pub asleep : Bool
@@ -31,7 +34,8 @@ reset number flash script from to byte_time = record {
   from = from;
   to = to;
   cpu = zero_cpu;
-  bus = reset_bus byte_time;
+  board = reset_board byte_time;
+  sram = zeros SRAM_LEN;
   wait = 0;
   owed = false;
   asleep = false;

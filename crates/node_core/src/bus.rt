@@ -2,6 +2,9 @@
 ghost use Rattle.std.specs.Prelude.{◌≡◌, ◌≤◌, true, false, Ok, Err, OnOk, IfOk, OnErr, IfErr};
 ghost use Rattle.air_base.specs.declared.bounds.TheConstants.{LONGEST_BYTE};
 ghost use Rattle.avr_core.specs.Execute.{in_sram};
+ghost use Rattle.board_io.specs.Board.{clocked, reset_board};
+ghost use Rattle.data_space.specs.Memory.{zeros};
+ghost use Rattle.data_space.specs.declared.regions.TheConstants.{SRAM_LEN};
 ghost use Rattle.node_core.specs.Pace.Leaps.{LoadsStill};
 
 use avr_base::{NoMemory, StopCause};
@@ -17,13 +20,13 @@ use std::alloc::Global;
 pub struct NodeBus {
     /// The I/O registers and the devices. They stand before the SRAM, whose address is then not that of the whole, which is
     /// passed to calls: so the host looks up a byte of it at once.
-    pub board: LaggingBoard,
+    pub io: LaggingBoard,
     /// The internal SRAM.
     pub sram: Sram,
 }
 
 impl NodeBus {
-    ghost use Rattle.node_core.specs.Bus.{bus_get, bus_put, reset_bus};
+    ghost use Rattle.node_core.specs.Bus.{bus_get, bus_put};
 
     // A load beside the SRAM, in a call of its own: then what is inlined into each instruction is small.
     #[inline(never)]
@@ -37,7 +40,7 @@ impl NodeBus {
         if at > SRAM_LAST {
             return Err(StopCause::PastMemory);
         }
-        self.board.get(at)
+        self.io.get(at)
     }
 
     // A store beside the SRAM.
@@ -52,19 +55,19 @@ impl NodeBus {
         if at > SRAM_LAST {
             return Err(StopCause::PastMemory);
         }
-        self.board.put(at, b)
+        self.io.put(at, b)
     }
 
     /// The data space after reset, with the byte time of its radio in cycles, at most 4,096. `Err` only for want of
     /// memory.
     pub fn new(alloc: Global, byte_time: u64) -> Result<Self, NoMemory>
         requires { byte_time ≤ LONGEST_BYTE }
-        ensures { IfOk result (λ bus. bus ≡ reset_bus byte_time) }
+        ensures { IfOk result (λ bus. bus ≡ record { io = clocked 0 (reset_board byte_time); sram = zeros SRAM_LEN }) }
     {
         let sram = Sram::new(alloc)?;
         Ok(NodeBus {
             sram,
-            board: LaggingBoard::new(byte_time),
+            io: LaggingBoard::new(byte_time),
         })
     }
 
@@ -76,7 +79,7 @@ impl NodeBus {
         if at > SRAM_LAST {
             return false;
         }
-        at >= SRAM_START || self.board.reads_still(at)
+        at >= SRAM_START || self.io.reads_still(at)
     }
 }
 

@@ -57,7 +57,7 @@ impl Machine {
         ensures rows { self.new.rows.items ≡ self.old.rows.items ++ serial_rows cycle (shown self.old) serial }
         ensures used { vec_len self.new.rows ≤ vec_len self.old.rows + 1 }
         ensures room { vec_capacity self.new.rows ≡ vec_capacity self.old.rows }
-        ensures clock { self.new.bus.board.clock ≡ self.old.bus.board.clock }
+        ensures clock { self.new.bus.io.clock ≡ self.old.bus.io.clock }
     {
         if let Some(byte) = serial {
             let node = self.number;
@@ -73,7 +73,7 @@ impl Machine {
         ensures rows { self.new.rows.items ≡ self.old.rows.items ++ sent_rows cycle (shown self.old) (sent_by air) }
         ensures used { vec_len self.new.rows ≤ vec_len self.old.rows + 1 }
         ensures room { vec_capacity self.new.rows ≡ vec_capacity self.old.rows }
-        ensures clock { self.new.bus.board.clock ≡ self.old.bus.board.clock }
+        ensures clock { self.new.bus.io.clock ≡ self.old.bus.io.clock }
     {
         if let OnAir::Sent { byte } = air {
             let node = self.number;
@@ -86,20 +86,20 @@ impl Machine {
     #[tactic(auto, unfolding(crate::specs::Cycle::devices_cycle, crate::specs::Cycle::device_rows, crate::specs::Cycle::air_after, crate::specs::Cycle::asks_after))]
     fn move_devices(&mut self, cycle: u64) -> OnAir
         requires going { self.old.stop ≡ None }
-        requires now { self.old.bus.board.clock ≡ cycle }
+        requires now { self.old.bus.io.clock ≡ cycle }
         requires early { cycle < LAST_CYCLE }
         requires room { vec_len self.old.rows + 2 ≤ vec_capacity self.old.rows }
         ensures state { shown self.new ≡ devices_cycle cycle (shown self.old) }
         ensures rows { self.new.rows.items ≡ self.old.rows.items ++ device_rows cycle (shown self.old) }
         ensures air { result ≡ air_after cycle (shown self.old) }
-        ensures waits { asks_after cycle (shown self.old) ≡ true → is_some self.new.bus.board.spi.shift_register ≡ true }
+        ensures waits { asks_after cycle (shown self.old) ≡ true → is_some self.new.bus.io.board.spi.shift_register ≡ true }
         ensures used { vec_len self.new.rows ≤ vec_len self.old.rows + 2 }
         ensures room { vec_capacity self.new.rows ≡ vec_capacity self.old.rows }
         ensures count { self.new.count ≡ self.old.count }
-        ensures clock { self.new.bus.board.clock ≡ cycle + 1 }
+        ensures clock { self.new.bus.io.clock ≡ cycle + 1 }
     {
         let arrival = self.arrival(cycle);
-        let begun = self.bus.board.begin(cycle, arrival);
+        let begun = self.bus.io.begin(cycle, arrival);
         self.put_serial(cycle, begun.serial);
         self.put_sent(cycle, begun.air);
         begun.air
@@ -109,17 +109,17 @@ impl Machine {
     /// room for its rows, also for that of the sample.
     #[tactic(auto, unfolding(crate::specs::Cycle::devices_cycle, crate::specs::Cycle::device_rows, crate::specs::Cycle::air_after, crate::specs::Cycle::asks_after))]
     pub fn conclude(&mut self, cycle: u64) -> OnAir
-        requires now { self.old.bus.board.clock ≡ cycle }
+        requires now { self.old.bus.io.clock ≡ cycle }
         requires early { cycle < LAST_CYCLE }
         requires room { vec_len self.old.rows + 3 ≤ vec_capacity self.old.rows }
         ensures state { shown self.new ≡ devices_cycle cycle (shown self.old) }
         ensures rows { self.new.rows.items ≡ self.old.rows.items ++ device_rows cycle (shown self.old) }
         ensures air { result ≡ air_after cycle (shown self.old) }
-        ensures waits { asks_after cycle (shown self.old) ≡ true → is_some self.new.bus.board.spi.shift_register ≡ true }
+        ensures waits { asks_after cycle (shown self.old) ≡ true → is_some self.new.bus.io.board.spi.shift_register ≡ true }
         ensures room { vec_len self.new.rows < vec_capacity self.new.rows }
         ensures count { self.new.count ≡ self.old.count }
         ensures stop { self.new.stop ≡ self.old.stop }
-        ensures clock { self.old.stop ≡ None → self.new.bus.board.clock ≡ cycle + 1 }
+        ensures clock { self.old.stop ≡ None → self.new.bus.io.clock ≡ cycle + 1 }
     {
         if self.stop.is_some() {
             return OnAir::Quiet;
@@ -131,15 +131,15 @@ impl Machine {
     /// sampled. There is room for the row.
     pub fn finish(&mut self, cycle: u64, heard: Heard)
         requires room { vec_len self.old.rows < vec_capacity self.old.rows }
-        requires waits { is_some self.old.bus.board.spi.shift_register ≡ true }
+        requires waits { is_some self.old.bus.io.board.spi.shift_register ≡ true }
         ensures state { shown self.new ≡ finished_in cycle (shown self.old) heard }
         ensures rows { self.new.rows.items ≡ self.old.rows.items ++ finished_rows cycle (shown self.old) heard }
         ensures count { self.new.count ≡ self.old.count }
-        ensures clock { self.new.bus.board.clock ≡ self.old.bus.board.clock }
+        ensures clock { self.new.bus.io.clock ≡ self.old.bus.io.clock }
     {
         let node = self.number;
         let kind = Kind::Heard { heard };
         put_row(&mut self.rows, Row { cycle, node, kind });
-        self.bus.board.answer(heard);
+        self.bus.io.answer(heard);
     }
 }

@@ -199,7 +199,7 @@ impl Node {
     pub fn sram(&self, at: u16) -> u8
         requires low { SRAM_START ≤ at }
         requires high { at ≤ SRAM_LAST }
-        ensures { result ≡ slice_index self.now.state.bus.sram (at - SRAM_START) }
+        ensures { result ≡ slice_index self.now.state.sram (at - SRAM_START) }
     {
         self.machine.bus.sram.get(at)
     }

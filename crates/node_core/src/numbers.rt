@@ -110,7 +110,7 @@ impl Node {
         let mut all = [0; NUMBERS];
         put_part(&mut all, 0, &register_numbers(&self.machine.cpu.r));
         put_part(&mut all, 32, &self.machine.core_tail());
-        put_part(&mut all, 41, &self.machine.bus.board.numbers());
+        put_part(&mut all, 41, &self.machine.bus.io.numbers());
         all
     }
 
@@ -118,9 +118,9 @@ impl Node {
     pub fn io(&self, at: u16) -> u8
         requires low { 0x20 ≤ at }
         requires high { at ≤ 0xFF }
-        ensures { result ≡ io_at at self.now.state.bus.board }
+        ensures { result ≡ io_at at self.now.state.board }
     {
-        self.machine.bus.board.io(at as u8)
+        self.machine.bus.io.io(at as u8)
     }
 
     /// The place of the first of these `numbers`, 0 to 107, that is outside its bound, of a node that has reached the

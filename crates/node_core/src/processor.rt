@@ -75,10 +75,10 @@ pub fn owes(op: &Op, before: u8, after: u8) -> bool
 
 // The interrupt that waits to be let in.
 #[inline]
-fn pending(board: &LaggingBoard) -> Option<Vector>
-    ensures { result ≡ pending_of (lines_of board.now) }
+fn pending(io: &LaggingBoard) -> Option<Vector>
+    ensures { result ≡ pending_of (lines_of io.now.board) }
 {
-    let lines = board.lines();
+    let lines = io.lines();
     if lines.bits == 0 {
         return None;
     }
@@ -87,11 +87,11 @@ fn pending(board: &LaggingBoard) -> Option<Vector>
 
 // The interrupt that is due, by SREG and the board.
 #[inline(always)]
-pub fn due(sreg: Sreg, board: &LaggingBoard) -> Option<Vector>
-    ensures { result ≡ due_of sreg.bits (lines_of board.now) }
+pub fn due(sreg: Sreg, io: &LaggingBoard) -> Option<Vector>
+    ensures { result ≡ due_of sreg.bits (lines_of io.now.board) }
 {
     if sreg.has(Sreg::I) {
-        pending(board)
+        pending(io)
     } else {
         None
     }
@@ -105,7 +105,7 @@ impl Machine {
         ensures state { shown self.new ≡ record (shown self.old) { stop = Some cause } }
         ensures rows { self.new.rows.items ≡ self.old.rows.items ++ row cycle (shown self.old) (kind.Stop pc cause) }
         ensures room { vec_capacity self.new.rows ≡ vec_capacity self.old.rows }
-        ensures clock { self.new.bus.board.clock ≡ self.old.bus.board.clock }
+        ensures clock { self.new.bus.io.clock ≡ self.old.bus.io.clock }
     {
         let node = self.number;
         let kind = Kind::Stop { pc, cause };
@@ -119,19 +119,19 @@ impl Machine {
     fn end_instruction(&mut self, cycle: u64, pc: u16, done: Done) -> u8
         requires room { vec_len self.old.rows < vec_capacity self.old.rows }
         requires awake { self.old.asleep ≡ false }
-        ensures state { shown self.new ≡ record (shown self.old) { asleep = done.sleep && is_idle (sleep_mode self.old.bus.board) } }
+        ensures state { shown self.new ≡ record (shown self.old) { asleep = done.sleep && is_idle (sleep_mode self.old.bus.io.board) } }
         ensures rows { self.new.rows.items ≡ self.old.rows.items ++ row_within cycle (shown self.old) (kind.Instr pc (word_at self.old.program.bytes pc) (word_at self.old.program.bytes ((pc + 1) % 65536))) }
         ensures awake { 0 < result → done.sleep ≡ false }
         ensures cycles { 0 < result → result ≡ done.cycles }
         ensures room { vec_capacity self.new.rows ≡ vec_capacity self.old.rows }
         ensures wait { self.new.wait ≡ self.old.wait }
         ensures stop { self.new.stop ≡ self.old.stop }
-        ensures clock { self.new.bus.board.clock ≡ self.old.bus.board.clock }
+        ensures clock { self.new.bus.io.clock ≡ self.old.bus.io.clock }
     {
         let told = is_within(self.from, self.to, cycle);
         tell_instruction(&mut self.rows, told, &self.program, pc, cycle, self.number);
         if done.sleep {
-            self.asleep = is_idle(self.bus.board.sleep_mode());
+            self.asleep = is_idle(self.bus.io.sleep_mode());
             return 0;
         }
         done.cycles
@@ -146,11 +146,11 @@ impl Machine {
         requires few { self.old.count ≤ LAST_END }
         requires takes { 1 ≤ done.cycles }
         requires room { vec_len self.old.rows < vec_capacity self.old.rows }
-        ensures state { shown self.new ≡ record (shown self.old) { wait = done.cycles - 1; owed = owed; asleep = done.sleep && is_idle (sleep_mode self.old.bus.board); count = self.old.count + 1 } }
+        ensures state { shown self.new ≡ record (shown self.old) { wait = done.cycles - 1; owed = owed; asleep = done.sleep && is_idle (sleep_mode self.old.bus.io.board); count = self.old.count + 1 } }
         ensures rows { self.new.rows.items ≡ self.old.rows.items ++ row_within cycle (shown self.old) (kind.Instr pc (word_at self.old.program.bytes pc) (word_at self.old.program.bytes ((pc + 1) % 65536))) }
         ensures going { 0 < result → IsGoing result (shown self.new) }
         ensures room { vec_capacity self.new.rows ≡ vec_capacity self.old.rows }
-        ensures clock { self.new.bus.board.clock ≡ self.old.bus.board.clock }
+        ensures clock { self.new.bus.io.clock ≡ self.old.bus.io.clock }
     {
         self.wait = done.cycles - 1;
         self.owed = owed;
@@ -165,7 +165,7 @@ impl Machine {
     fn refuses(&self, op: &Op) -> bool
         ensures { result ≡ is_refused (shown self.now) op.now }
     {
-        is_sleep(op) && is_other(self.bus.board.sleep_mode())
+        is_sleep(op) && is_other(self.bus.io.sleep_mode())
     }
 
     // The first cycle of an instruction: how many it takes, or 0 where the node stopped or executed SLEEP.
@@ -198,7 +198,7 @@ impl Machine {
     fn enter(&mut self, cycle: u64, wait: u8, vector: Vector) -> u8
         requires short { wait ≤ 7 }
         requires going { self.old.stop ≡ None }
-        requires now { self.old.bus.board.clock ≡ cycle }
+        requires now { self.old.bus.io.clock ≡ cycle }
         requires room { vec_len self.old.rows < vec_capacity self.old.rows }
         ensures { IsActed result (entered cycle wait vector (shown self.old)) (entered_rows cycle vector (shown self.old)) self.old self.new }
     {
@@ -206,7 +206,7 @@ impl Machine {
         let node = self.number;
         match enter(vector, &mut self.cpu, &mut self.bus) {
             Ok(()) => {
-                self.bus.board.entered(vector);
+                self.bus.io.entered(vector);
                 let told = is_within(self.from, self.to, cycle);
                 let kind = Kind::Enter {
                     vector: vector.word,
@@ -229,7 +229,7 @@ impl Machine {
     pub fn due(&self) -> Option<Vector>
         ensures { result ≡ due (shown self.now) }
     {
-        due(self.cpu.sreg, &self.bus.board)
+        due(self.cpu.sreg, &self.bus.io)
     }
 
     // The processor's part of a cycle in which it neither waits nor sleeps: how many cycles its instruction or its
@@ -250,14 +250,14 @@ impl Machine {
     // The processor's part of a cycle in which it waits or sleeps. Only what is due wakes it.
     #[tactic(auto, unfolding(crate::specs::Cycle::cpu_cycle, crate::specs::Cycle::cpu_rows))]
     pub fn idle(&mut self, cycle: u64)
-        requires now { self.old.bus.board.clock ≡ cycle }
+        requires now { self.old.bus.io.clock ≡ cycle }
         requires going { self.old.stop ≡ None }
         requires rests { self.old.wait ≡ 0 → self.old.asleep ≡ true }
         requires room { vec_len self.old.rows < vec_capacity self.old.rows }
         ensures state { shown self.new ≡ cpu_cycle cycle (shown self.old) }
         ensures rows { self.new.rows.items ≡ self.old.rows.items ++ cpu_rows cycle (shown self.old) }
         ensures room { vec_capacity self.new.rows ≡ vec_capacity self.old.rows }
-        ensures clock { self.new.bus.board.clock ≡ self.old.bus.board.clock }
+        ensures clock { self.new.bus.io.clock ≡ self.old.bus.io.clock }
     {
         if self.wait > 0 {
             self.wait -= 1;

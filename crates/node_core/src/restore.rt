@@ -123,7 +123,7 @@ impl Node {
             return Err(fault);
         }
         let ends_from = ends_from(cycle, numbers);
-        let Some(board) = Board::restore(byte_time, cycle, ends_from, &part(numbers, 41), io) else {
+        let Some(board) = Board::restore(byte_time, ends_from, &part(numbers, 41), io) else {
             unreachable!();
         };
         let Ok(sram) = filled(alloc, sram) else {
@@ -141,7 +141,7 @@ impl Node {
                 cpu: cpu_of(numbers),
                 bus: NodeBus {
                     sram,
-                    board: LaggingBoard::restored(board),
+                    io: LaggingBoard::restored(board, cycle),
                 },
                 wait: numbers[36] as u8,
                 owed: numbers[37] == 1,

@@ -4,7 +4,7 @@ use Rattle.std.specs.Prelude.{◌≡◌, ◌≢◌, ◌≤◌, ◌<◌, ◌+◌,
 use Rattle.avr_base.specs.Lines.{due_of}
 use Rattle.avr_decoder.specs.declared.op.Op.{Op}
 use Rattle.avr_decoder.specs.declared.op.Op.TheVariants as op
-use Rattle.board_io.specs.Board.{clock_at}
+use Rattle.board_io.specs.Board.{clocked}
 use Rattle.board_io.specs.Cycle.{timers_leap}
 use Rattle.board_io.specs.Lines.{lines_of}
 use Rattle.data_space.specs.declared.bus.Done.{Done}
@@ -16,7 +16,7 @@ use Rattle.node_core.specs.declared.pace.countdowns.Countdown.{Countdown}
 use Rattle.node_core.specs.declared.pace.countdowns.Lowering.{Lowering}
 use Rattle.node_core.specs.declared.pace.leaps.Round.{Round}
 use Rattle.node_core.specs.declared.machine.Machine.{Machine}
-use Rattle.node_core.specs.Bus.{bus_get, with_board}
+use Rattle.node_core.specs.Bus.{bus_get, with_io}
 use Rattle.avr_core.specs.Execute.{is_sleep}
 use Rattle.node_core.specs.Cycle.{is_sei, op_now, owes}
 use Rattle.node_core.specs.Execute.{executed}
@@ -42,7 +42,7 @@ IsLoad _ at = ⊥
 
 -- the data space n cycles after cycle t in which the timers alone moved, with a clock that shows u
 abbrev pub bus_later : ℕ → ℕ → ℕ → NodeBus → NodeBus
-bus_later u t n bus = with_board bus (clock_at u (timers_leap t n bus.board))
+bus_later u t n bus = with_io bus (clocked u (timers_leap t n bus.io.board))
 
 -- a load gives this byte and changes nothing, however far the timers ran
 pub record LoadsStill (bus : NodeBus) (at : ℕ) : Type 0 where
@@ -65,7 +65,7 @@ pub record GoesOnBy (o : Op) (x : ℕ) : Type 0 where
 
 -- one such instruction of n cycles, where nothing is due, takes the core of a node from one to another, and owes none
 pub record IsStillStep (n : ℕ) (m : Machine) (from to : Cpu) : Type 0 where
-  pub none : due_of from.sreg.bits (lines_of m.bus.board) ≡ None
+  pub none : due_of from.sreg.bits (lines_of m.bus.io.board) ≡ None
   pub some : 1 ≤ n
   pub op : Op
   pub fetched : op ≡ op_now (shown (let x : Machine = record m { cpu = from } in x))

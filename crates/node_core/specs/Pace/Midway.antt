@@ -39,7 +39,7 @@ pub record IsActed (n : ℕ) (u : NodeState) (k : List Row) (old new : Machine) 
   pub rows : new.rows.items ≡ old.rows.items ++ k
   pub going : 0 < n → IsGoing n (shown new)
   pub room : vec_capacity new.rows ≡ vec_capacity old.rows
-  pub clock : new.bus.board.clock ≡ old.bus.board.clock
+  pub clock : new.bus.io.clock ≡ old.bus.io.clock
 
 -- n cycles from cycle t on in which it only waited or slept
 pub record IsRested (t n : ℕ) (old new : Machine) : Type 0 where
@@ -49,7 +49,7 @@ pub record IsRested (t n : ℕ) (old new : Machine) : Type 0 where
   pub same : new.rows ≡ old.rows
   pub stop : new.stop ≡ None
   pub count : new.count ≡ old.count
-  pub clock : new.bus.board.clock ≡ t + n
+  pub clock : new.bus.io.clock ≡ t + n
 
 -- an instruction of n cycles was executed whole in its first one, t, and told nothing; that it then waits is not kept
 pub record IsStepped (t n : ℕ) (old new : Machine) : Type 0 where
@@ -64,7 +64,7 @@ pub record IsStepped (t n : ℕ) (old new : Machine) : Type 0 where
   pub closes : new.to ≡ old.to
   pub script : new.script ≡ old.script
   pub count : new.count ≡ old.count + 1
-  pub clock : new.bus.board.clock ≡ old.bus.board.clock
+  pub clock : new.bus.io.clock ≡ old.bus.io.clock
 
 -- an instruction stopped in its first cycle, t; the row and the stop are still to be told
 pub record IsStopping (t : ℕ) (cause : StopCause) (old new : Machine) : Type 0 where
@@ -72,7 +72,7 @@ pub record IsStopping (t : ℕ) (cause : StopCause) (old new : Machine) : Type 0
   pub told : row t (shown new) (kind.Stop new.cpu.pc cause) ≡ instructed_rows t (shown old)
   pub same : new.rows ≡ old.rows
   pub count : new.count ≡ old.count
-  pub clock : new.bus.board.clock ≡ old.bus.board.clock
+  pub clock : new.bus.io.clock ≡ old.bus.io.clock
 
 -- whether the flag I was turned on
 abbrev pub turned_on : ℕ → ℕ → Bool
@@ -140,7 +140,7 @@ pub record IsSprinting (t at : ℕ) (old m : Machine) : Type 0 where
   pub awake : m.asleep ≡ false
   pub opens : m.from ≡ old.from
   pub closes : m.to ≡ old.to
-  pub clock : m.bus.board.clock ≡ at
+  pub clock : m.bus.io.clock ≡ at
   pub script : m.script ≡ old.script
   pub count : m.count ≤ LAST_CYCLE + at
   pub rows : m.rows ≡ old.rows
@@ -149,18 +149,18 @@ pub record IsSprinting (t at : ℕ) (old m : Machine) : Type 0 where
 -- first of them
 pub record MayEnd (end n : ℕ) (m : Machine) : Type 0 where
   pub some : 0 < n
-  pub early : m.bus.board.clock ≤ LAST_CYCLE
-  pub within : m.bus.board.clock ≤ end
-  pub none : (i : ℕ) → m.bus.board.clock + i < end → script_byte m.script (m.bus.board.clock + i) ≡ None
+  pub early : m.bus.io.clock ≤ LAST_CYCLE
+  pub within : m.bus.io.clock ≤ end
+  pub none : (i : ℕ) → m.bus.io.clock + i < end → script_byte m.script (m.bus.io.clock + i) ≡ None
 
 -- a sprint from cycle t on, of at most up to `end`, between two instructions: no line is up. Parts of the core stand
 -- beside the machine, which says of no instruction that it is owed; one is, up to this count of them
 pub record IsTurning (t end : ℕ) (first m : Machine) (regs : Registers) (core : Core) (owed_to : ℕ) : Type 0 where
-  pub within : m.bus.board.clock ≤ end
+  pub within : m.bus.io.clock ≤ end
   pub off : m.owed ≡ false
-  pub clear : (lines_of m.bus.board).bits ≡ 0
+  pub clear : (lines_of m.bus.io.board).bits ≡ 0
   pub top : owed_to ≤ m.count + 1
-  pub runs : IsSprinting t m.bus.board.clock first (owing (nat_lt m.count owed_to) (beside regs core m))
+  pub runs : IsSprinting t m.bus.io.clock first (owing (nat_lt m.count owed_to) (beside regs core m))
 
 -- from cycle t on it executed instruction after instruction, and came to the beginning of cycle c, or, where it is
 -- inside, to the middle of it
@@ -174,7 +174,7 @@ pub record IsSprinted (t c : ℕ) (inside : Bool) (old new : Machine) : Type 0 w
   pub going : inside ≡ false → new.stop ≡ None
   pub awake : inside ≡ false → new.asleep ≡ false
   pub free : inside ≡ false → new.wait ≡ 0
-  pub clock : new.bus.board.clock ≡ c
+  pub clock : new.bus.io.clock ≡ c
   pub few : inside ≡ false → new.count ≤ LAST_CYCLE + c
   pub one_more : new.count ≤ LAST_CYCLE + c + 1
   pub from : t ≤ c

@@ -231,7 +231,7 @@ impl Machine {
         requires none { (i : ℕ) → cycle + i < end → script_byte self.old.script (cycle + i) ≡ None }
         ensures sprinted { IsSprinted cycle (cycle + result) false self.old self.new }
         ensures others { self.new ≡ record self.old { cpu = self.new.cpu; bus = self.new.bus; count = self.new.count } }
-        ensures lines { lines_of self.new.bus.board ≡ lines_of self.old.bus.board }
+        ensures lines { lines_of self.new.bus.io.board ≡ lines_of self.old.bus.io.board }
         ensures within { cycle + result ≤ end }
     {
         if self.owed {
@@ -242,7 +242,7 @@ impl Machine {
         };
         let Lowering { low, high, spare } = lowering;
         let most = (end - cycle).min(u64::from(spare) * round.length);
-        let rounds = self.bus.board.leap_rounds(most, round.length);
+        let rounds = self.bus.io.leap_rounds(most, round.length);
         let value = counter(low, high, &self.cpu);
         put_counter(low, high, value - rounds as u16, &mut self.cpu);
         self.count += rounds * round.count;

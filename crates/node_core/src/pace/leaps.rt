@@ -100,7 +100,7 @@ impl Machine {
         ensures flags { 0 < result → core.old.sreg.bits < 256 }
     {
         let op = self.program.op_at(self.program.slots(), core.pc);
-        if !is_still(op, &self.bus) || due(core.sreg, &self.bus.board).is_some() {
+        if !is_still(op, &self.bus) || due(core.sreg, &self.bus.io).is_some() {
             return 0;
         }
         let before = core.sreg.bits;
@@ -153,7 +153,7 @@ impl Machine {
         let Some(at) = load_of(&op) else {
             return None;
         };
-        if !self.bus.reads_still(at) || due(self.cpu.sreg, &self.bus.board).is_some() {
+        if !self.bus.reads_still(at) || due(self.cpu.sreg, &self.bus.io).is_some() {
             return None;
         }
         let Ok(byte) = self.bus.get(at) else {
@@ -193,7 +193,7 @@ impl Machine {
         requires none { (i : ℕ) → cycle + i < end → script_byte self.old.script (cycle + i) ≡ None }
         ensures sprinted { IsSprinted cycle (cycle + result) false self.old self.new }
         ensures others { self.new ≡ record self.old { bus = self.new.bus; count = self.new.count } }
-        ensures lines { lines_of self.new.bus.board ≡ lines_of self.old.bus.board }
+        ensures lines { lines_of self.new.bus.io.board ≡ lines_of self.old.bus.io.board }
         ensures within { cycle + result ≤ end }
     {
         if self.owed {
@@ -202,7 +202,7 @@ impl Machine {
         let Some(round) = self.any_round() else {
             return 0;
         };
-        let rounds = self.bus.board.leap_rounds(end - cycle, round.length);
+        let rounds = self.bus.io.leap_rounds(end - cycle, round.length);
         self.count += rounds * round.count;
         rounds * round.length
     }
@@ -218,7 +218,7 @@ impl Machine {
         requires none { (i : ℕ) → cycle + i < end → script_byte self.old.script (cycle + i) ≡ None }
         ensures sprinted { IsSprinted cycle (cycle + result) false self.old self.new }
         ensures others { self.new ≡ record self.old { cpu = self.new.cpu; bus = self.new.bus; count = self.new.count } }
-        ensures lines { lines_of self.new.bus.board ≡ lines_of self.old.bus.board }
+        ensures lines { lines_of self.new.bus.io.board ≡ lines_of self.old.bus.io.board }
         ensures within { cycle + result ≤ end }
     {
         match self.program.op(self.cpu.pc) {

@@ -11,14 +11,14 @@ impl Machine {
     // Cycles of an instruction or an entry that are counted off, of at most so many: how many it were.
     fn wait_out(&mut self, cycle: u64, most: u64) -> u64
         requires going { self.old.stop ≡ None }
-        requires now { self.old.bus.board.clock ≡ cycle }
+        requires now { self.old.bus.io.clock ≡ cycle }
         requires early { cycle + most ≤ LAST_CYCLE }
         ensures rested { IsRested cycle result self.old self.new }
         ensures within { result ≤ most }
     {
         let wait = self.wait;
         let calm = self.script.quiet(cycle, most.min(u64::from(wait)));
-        let n = self.bus.board.leap_up_to(calm);
+        let n = self.bus.io.leap_up_to(calm);
         self.wait = wait - n as u8;
         n
     }
@@ -26,7 +26,7 @@ impl Machine {
     // Cycles of sleep, of at most so many, in which no interrupt becomes due.
     fn sleep_on(&mut self, cycle: u64, most: u64) -> u64
         requires going { self.old.stop ≡ None }
-        requires now { self.old.bus.board.clock ≡ cycle }
+        requires now { self.old.bus.io.clock ≡ cycle }
         requires early { cycle + most ≤ LAST_CYCLE }
         requires free { self.old.wait ≡ 0 }
         requires asleep { self.old.asleep ≡ true }
@@ -35,14 +35,14 @@ impl Machine {
         ensures within { result ≤ most }
     {
         let calm = self.script.quiet(cycle, most);
-        self.bus.board.leap_up_to(calm)
+        self.bus.io.leap_up_to(calm)
     }
 
     /// Cycles in which the node only waits or sleeps, from `cycle` on and of at most `most`: how many it were, 0 where
     /// the next one is to be taken by itself.
     pub fn rest(&mut self, cycle: u64, most: u64) -> u64
         requires going { self.old.stop ≡ None }
-        requires now { self.old.bus.board.clock ≡ cycle }
+        requires now { self.old.bus.io.clock ≡ cycle }
         requires early { cycle + most ≤ LAST_CYCLE }
         ensures rested { IsRested cycle result self.old self.new }
         ensures within { result ≤ most }

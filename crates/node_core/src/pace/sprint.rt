@@ -65,9 +65,9 @@ fn is_on(sreg: u8) -> bool
 #[inline(always)]
 fn clear_to(bus: &NodeBus, end: u64) -> u64
     ensures within { result ≤ end }
-    ensures clear { IsClear result bus.now.board }
+    ensures clear { IsClear result bus.now.io }
 {
-    end.min(bus.board.clear())
+    end.min(bus.io.clear())
 }
 
 // Counts an instruction that was executed, and says what the step did.
@@ -109,10 +109,10 @@ fn one_step(
 ) -> Step
     requires slots { slots.now ≡ slots_below 65536 program.now.bytes }
     requires few { count.old ≤ LAST_END }
-    ensures step { (m : Machine) → m.program ≡ program.now → MayAct bus.old.board.clock (over regs.old core.old bus.old count.old m) → is_told m.from m.to bus.old.board.clock ≡ false
-        → IsStep bus.old.board.clock result (over regs.old core.old bus.old count.old m) (over regs.new core.new bus.new count.new m) }
+    ensures step { (m : Machine) → m.program ≡ program.now → MayAct bus.old.io.clock (over regs.old core.old bus.old count.old m) → is_told m.from m.to bus.old.io.clock ≡ false
+        → IsStep bus.old.io.clock result (over regs.old core.old bus.old count.old m) (over regs.new core.new bus.new count.new m) }
     ensures flag { leaves_i result ≡ true → nat_lt core.new.sreg.bits 128 ≡ nat_lt core.old.sreg.bits 128 }
-    ensures apart { leaves_board result ≡ true → bus.new.board ≡ bus.old.board }
+    ensures apart { leaves_board result ≡ true → bus.new.io ≡ bus.old.io }
 {
     let op = program.op_at(slots, core.pc);
     let (after, executed) = execute_plain(op, program, regs, core, bus);
@@ -133,13 +133,13 @@ impl Machine {
         owed: bool,
     ) -> Sprinted
         requires may { MayEnd end taken self.old }
-        ensures sprinted { (t : ℕ) (first m : Machine) → IsSprinting t self.old.bus.board.clock first m → due (shown m) ≡ None
-            → IsStepped self.old.bus.board.clock taken m (owing owed (beside regs.now core self.old)) → IsSprinted t result.at result.inside first self.new }
+        ensures sprinted { (t : ℕ) (first m : Machine) → IsSprinting t self.old.bus.io.clock first m → due (shown m) ≡ None
+            → IsStepped self.old.bus.io.clock taken m (owing owed (beside regs.now core self.old)) → IsSprinted t result.at result.inside first self.new }
         ensures within { result.at ≤ end }
     {
         self.cpu = Cpu::of_parts(regs, core);
         self.owed = owed;
-        let at = self.bus.board.now();
+        let at = self.bus.io.now();
         if self.passes_whole(at, end, taken) {
             return Sprinted {
                 at: at + u64::from(taken),
@@ -154,12 +154,12 @@ impl Machine {
     // instruction is owed. The answer is the cycle.
     fn gather(&mut self, regs: &Registers, core: Core, owed_to: u64) -> u64
         ensures state { self.new ≡ owing (nat_lt self.old.count owed_to) (beside regs.now core self.old) }
-        ensures value { result ≡ self.old.bus.board.clock }
+        ensures value { result ≡ self.old.bus.io.clock }
         ensures early { result ≤ LAST_CYCLE }
     {
         self.cpu = Cpu::of_parts(regs, core);
         self.owed = self.count < owed_to;
-        self.bus.board.now()
+        self.bus.io.now()
     }
 
     // The last cycle of those from `cycle` on and up to `end` before the window, or of all behind it: an instruction that
@@ -197,7 +197,7 @@ impl Machine {
                 inside: false,
             };
         };
-        if back && self.bus.board.lines().bits != 0 {
+        if back && self.bus.io.lines().bits != 0 {
             let passed = self.leap(cycle, last);
             return Sprinted {
                 at: cycle + passed,
@@ -218,7 +218,7 @@ impl Machine {
         ensures sprinted { IsSprinted cycle result.at result.inside self.old self.new }
         ensures within { result.at ≤ end }
     {
-        if self.owed || self.bus.board.lines().bits != 0 {
+        if self.owed || self.bus.io.lines().bits != 0 {
             return Sprinted {
                 at: cycle,
                 inside: false,
@@ -248,17 +248,17 @@ impl Machine {
                     &mut self.count,
                 ) {
                     Step::Single => {
-                        if !self.bus.board.leap_within(bound, 1) {
+                        if !self.bus.io.leap_within(bound, 1) {
                             return self.end_sprint(&regs, core, end, 1, false);
                         }
                     }
                     Step::Plain { taken } => {
-                        if !self.bus.board.leap_within(bound, taken) {
+                        if !self.bus.io.leap_within(bound, taken) {
                             return self.end_sprint(&regs, core, end, taken, false);
                         }
                     }
                     Step::Jumped { taken } => {
-                        if !self.bus.board.leap_within(bound, taken) {
+                        if !self.bus.io.leap_within(bound, taken) {
                             return self.end_sprint(&regs, core, end, taken, false);
                         }
                         if unseen == 0 {
@@ -268,20 +268,20 @@ impl Machine {
                     }
                     Step::Loaded { taken } => {
                         bound = clear_to(&self.bus, end);
-                        if !self.bus.board.leap_within(bound, taken) {
+                        if !self.bus.io.leap_within(bound, taken) {
                             return self.end_sprint(&regs, core, end, taken, false);
                         }
                     }
                     Step::Stored { taken } => {
                         bound = clear_to(&self.bus, end);
                         if is_on(flags) == is_on(core.sreg.bits) {
-                            if !self.bus.board.leap_within(bound, taken) {
+                            if !self.bus.io.leap_within(bound, taken) {
                                 return self.end_sprint(&regs, core, end, taken, false);
                             }
                         } else {
                             let on = !is_on(flags);
                             flags = core.sreg.bits;
-                            if !self.bus.board.leap_within(bound, taken) {
+                            if !self.bus.io.leap_within(bound, taken) {
                                 return self.end_sprint(&regs, core, end, taken, on);
                             }
                             if on {
@@ -291,7 +291,7 @@ impl Machine {
                     }
                     Step::Enabled { taken } => {
                         bound = clear_to(&self.bus, end);
-                        if !self.bus.board.leap_within(bound, taken) {
+                        if !self.bus.io.leap_within(bound, taken) {
                             return self.end_sprint(&regs, core, end, taken, true);
                         }
                         flags = core.sreg.bits;

@@ -4,7 +4,6 @@ ghost use Rattle.air_base.specs.Bounds.{LAST_CYCLE};
 ghost use Rattle.node_core.specs.Inside.{IsCalm, IsGoing, IsPassed};
 ghost use Rattle.node_core.specs.Pace.Midway.{IsMidway};
 ghost use Rattle.board_io.specs.Cycle.{timers_leap};
-ghost use Rattle.node_core.specs.Bus.{with_board};
 ghost use Rattle.node_core.specs.Shown.{shown};
 ghost use Rattle.serial_ports.specs.Script.{script_byte};
 
@@ -16,20 +15,20 @@ impl Machine {
     /// was so; else nothing changes.
     #[inline(always)]
     pub fn passes_whole(&mut self, cycle: u64, end: u64, taken: u8) -> bool
-        requires now { self.old.bus.board.clock ≡ cycle }
+        requires now { self.old.bus.io.clock ≡ cycle }
         requires early { cycle ≤ LAST_CYCLE }
         requires none { (i : ℕ) → cycle + i < end → script_byte self.old.script (cycle + i) ≡ None }
         ensures calm { result ≡ true → IsCalm cycle taken (shown self.old) }
-        ensures state { result ≡ true → shown self.new ≡ record (shown self.old) { bus = with_board (shown self.old).bus (timers_leap cycle taken (shown self.old).bus.board) } }
+        ensures state { result ≡ true → shown self.new ≡ record (shown self.old) { board = timers_leap cycle taken (shown self.old).board } }
         ensures same { result ≡ false → self.new ≡ self.old }
         ensures others { self.new ≡ record self.old { bus = self.new.bus } }
-        ensures clock { result ≡ true → self.new.bus.board.clock ≡ cycle + taken }
+        ensures clock { result ≡ true → self.new.bus.io.clock ≡ cycle + taken }
         ensures within { result ≡ true → cycle + taken ≤ end }
     {
         if cycle + u64::from(taken) > end {
             return false;
         }
-        self.bus.board.leap_whole(cycle, taken)
+        self.bus.io.leap_whole(cycle, taken)
     }
 
     // The devices' part of the cycle `cycle`, in which an instruction begins that takes `taken` cycles, and its other
@@ -38,13 +37,13 @@ impl Machine {
     #[inline(always)]
     fn finish_instruction(&mut self, cycle: u64, end: u64, taken: u8) -> bool
         requires going { 0 < taken → IsGoing taken (shown self.old) }
-        requires now { self.old.bus.board.clock ≡ cycle }
+        requires now { self.old.bus.io.clock ≡ cycle }
         requires early { cycle ≤ LAST_CYCLE }
         requires none { (i : ℕ) → cycle + i < end → script_byte self.old.script (cycle + i) ≡ None }
         ensures passed { result ≡ true → IsPassed cycle taken (shown self.old) (shown self.new) }
         ensures same { result ≡ false → self.new ≡ self.old }
         ensures rows { self.new.rows ≡ self.old.rows }
-        ensures clock { result ≡ true → self.new.bus.board.clock ≡ cycle + taken }
+        ensures clock { result ≡ true → self.new.bus.io.clock ≡ cycle + taken }
         ensures within { result ≡ true → cycle + taken ≤ end }
     {
         if taken == 0 || !self.passes_whole(cycle, end, taken) {
@@ -65,7 +64,7 @@ impl Machine {
     /// many it were. Of the cycle after them the processor's part is done, and the devices' part is still to come.
     pub fn stride(&mut self, cycle: u64, most: u64) -> u64
         requires going { self.old.stop ≡ None }
-        requires now { self.old.bus.board.clock ≡ cycle }
+        requires now { self.old.bus.io.clock ≡ cycle }
         requires few { self.old.count ≤ LAST_CYCLE + cycle }
         requires early { cycle + most ≤ LAST_CYCLE }
         requires some { 0 < most }
@@ -73,7 +72,7 @@ impl Machine {
         ensures midway { IsMidway (record { cycle = cycle; asking = false; state = shown self.old; rows = self.old.rows.items }) (cycle + result) (shown self.new) self.new.rows.items }
         ensures room { vec_len self.new.rows + 3 ≤ vec_capacity self.new.rows }
         ensures count { self.new.count ≤ LAST_CYCLE + cycle + result + 1 }
-        ensures clock { self.new.bus.board.clock ≡ cycle + result }
+        ensures clock { self.new.bus.io.clock ≡ cycle + result }
         ensures within { result < most }
     {
         if self.wait > 0 || self.asleep {

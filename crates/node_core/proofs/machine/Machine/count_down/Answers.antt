@@ -43,4 +43,4 @@ returns-clause-sprinted c =
     let there = leapt_over t k length down.round.count m x same r.may (λ i l. r.untold i (omega (arith, l, within, most))) c.if-self.false (λ i l. r.none i (omega (arith, l, within, most)))
     after (stands_first l m.cpu byte) (λ j lt. h.walks j (omega (arith, lt, few))) c.leap_rounds-rounds.new.self p.idle p.state p.clock in
     subst (λ (y : Cpu). IsSprinted t (t + k * length) false m
-    (let z : Machine = record x { cpu = y; bus = (let b : NodeBus = record { sram = x.bus.sram; board = c.leap_rounds-rounds.new.self } in b); count = x.count + k * down.round.count } in z)) (sym core) there
+    (let z : Machine = record x { cpu = y; bus = (let b : NodeBus = record { io = c.leap_rounds-rounds.new.self; sram = x.bus.sram } in b); count = x.count + k * down.round.count } in z)) (sym core) there

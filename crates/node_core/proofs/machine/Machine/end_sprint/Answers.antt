@@ -8,7 +8,7 @@ use Rattle.node_core.proofs.machine.Machine.end_sprint.Goals as goal
 pub returns-then-passes_whole-clause-sprinted : goal.returns-then-passes_whole-clause-sprinted
 returns-then-passes_whole-clause-sprinted c t first m h none p =
     let at : ℕ = c.now-at.result in
-    let clock : at ≡ c.args.self.now.bus.board.clock = c.now-at.ensures.value in
+    let clock : at ≡ c.args.self.now.bus.io.clock = c.now-at.ensures.value in
     let n : ℕ = c.args.taken in
     let w : Machine = record c.args.self.now { cpu = c.of_parts-self.result; owed = c.args.owed } in
     let q = subst (λ (k : Cpu). (let z : Machine = record c.args.self.now { cpu = k; owed = c.args.owed } in IsStepped at n m z)) (sym c.of_parts-self.ensures) (subst (λ (u : ℕ). IsStepped u n m (owing c.args.owed (beside c.args.regs.now c.args.core c.args.self.now))) (sym clock) p) in
@@ -23,7 +23,7 @@ returns-then-passes_whole-clause-sprinted c t first m h none p =
 pub returns-clause-sprinted : goal.returns-clause-sprinted
 returns-clause-sprinted c t first m h none p =
     let at : ℕ = c.now-at.result in
-    let clock : at ≡ c.args.self.now.bus.board.clock = c.now-at.ensures.value in
+    let clock : at ≡ c.args.self.now.bus.io.clock = c.now-at.ensures.value in
     let n : ℕ = c.args.taken in
     let w : Machine = record c.args.self.now { cpu = c.of_parts-self.result; owed = c.args.owed } in
     let q = subst (λ (k : Cpu). (let z : Machine = record c.args.self.now { cpu = k; owed = c.args.owed } in IsStepped at n m z)) (sym c.of_parts-self.ensures) (subst (λ (u : ℕ). IsStepped u n m (owing c.args.owed (beside c.args.regs.now c.args.core c.args.self.now))) (sym clock) p) in

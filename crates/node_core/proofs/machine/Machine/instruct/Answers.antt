@@ -49,7 +49,7 @@ returns-in-Ok c =
       rows = c.end.ensures.rows ∙ ran_rows c.args.cycle m o c.op-op.ensures runs c.requires.now a flash refl done m.rows.items (Ok c.in-Ok.done) c.in-Ok.is;
       going = c.end.ensures.going;
       room = c.end.ensures.room;
-      clock = c.end.ensures.clock ∙ (ap (λ (x : Outcome NodeBus). x.bus.board.clock) done ∙ executed_clock flash o m.cpu m.bus);
+      clock = c.end.ensures.clock ∙ (ap (λ (x : Outcome NodeBus). x.bus.io.clock) done ∙ executed_clock flash o m.cpu m.bus);
     }
 
 pub returns-in-Err : goal.returns-in-Err
@@ -65,5 +65,5 @@ returns-in-Err c =
       rows = c.halt-in-Err.ensures.rows ∙ ran_rows c.args.cycle m o c.op-op.ensures runs c.requires.now a flash refl done m.rows.items (Err c.in-Err.cause) c.in-Err.is;
       going = λ l. absurd (omega arith);
       room = c.halt-in-Err.ensures.room;
-      clock = c.halt-in-Err.ensures.clock ∙ (ap (λ (x : Outcome NodeBus). x.bus.board.clock) done ∙ executed_clock flash o m.cpu m.bus);
+      clock = c.halt-in-Err.ensures.clock ∙ (ap (λ (x : Outcome NodeBus). x.bus.io.clock) done ∙ executed_clock flash o m.cpu m.bus);
     }

@@ -1,9 +1,7 @@
 use Rattle.std.proofs.Common.{◌≡◌, ◌++◌, ℕ, Option, List, false, is_some, append_assoc, sym, ap, ◌∙◌}
 use Rattle.board_io.specs.declared.board.Board.{Board}
-use Rattle.board_io.specs.Board.{unclocked}
 use Rattle.board_io.specs.Cycle.{board_begun, sent_by}
 use Rattle.node_core.specs.declared.row.Row.{Row}
-use Rattle.node_core.specs.Bus.{with_board}
 use Rattle.node_core.specs.Cycle.{sent_rows, serial_rows}
 use Rattle.node_core.specs.Shown.{shown}
 use Rattle.node_core.specs.State.{NodeState}
@@ -15,9 +13,9 @@ returns-clause-state c =
     let m = c.args.self.now in
     let s : NodeState = shown m in
     let going : is_some s.stop ≡ false = ap is_some c.requires.going in
-    let board = c.begin-begun.ensures.state ∙ ap (λ (a : Option ℕ). board_begun c.args.cycle a (unclocked m.bus.board)) c.arrival-arrival.ensures in
+    let board = c.begin-begun.ensures.state ∙ ap (λ (a : Option ℕ). board_begun c.args.cycle a m.bus.io.board) c.arrival-arrival.ensures in
     c.put_sent.ensures.state ∙ (c.put_serial.ensures.state
-    ∙ (ap (λ (b : Board). let u : NodeState = record s { bus = with_board s.bus b } in u) board ∙ sym (devices_move c.args.cycle s going)))
+    ∙ (ap (λ (b : Board). let u : NodeState = record s { board = b } in u) board ∙ sym (devices_move c.args.cycle s going)))
 
 pub returns-clause-rows : goal.returns-clause-rows
 returns-clause-rows c =

@@ -1,7 +1,5 @@
 use Rattle.std.proofs.Common.{◌≡◌, ℕ, ◌+◌, ◌-◌, is_some, refl, sym, ap, ◌∙◌, arith}
-use Rattle.board_io.specs.Board.{unclocked}
 use Rattle.board_io.specs.Cycle.{timers_leap}
-use Rattle.node_core.specs.Bus.{with_board}
 use Rattle.node_core.specs.Inside.{IsCalm}
 use Rattle.node_core.specs.Shown.{shown}
 use Rattle.node_core.specs.State.{NodeState}
@@ -17,11 +15,11 @@ returns-clause-rested c =
     let within = c.leap_up_to.ensures.within in
     let calm : IsCalm c.args.cycle n s = calm_of c.args.cycle n c.args.self.now r.now c.leap_up_to.ensures.idle (λ i l. c.quiet-calm.ensures.none i (omega (arith, within, l))) in
     let lines = lines_stay c.args.cycle n c.args.self.now r.now c.leap_up_to.ensures.idle in
-    let board = c.leap_up_to.ensures.state ∙ ap (λ (t : ℕ). timers_leap t n (unclocked c.args.self.now.bus.board)) r.now in
+    let board = c.leap_up_to.ensures.state ∙ ap (λ (t : ℕ). timers_leap t n c.args.self.now.bus.io.board) r.now in
     let wait : s.wait ≡ s.wait - n = omega (arith, r.free) in
     record {
       quiet = all_quiet c.args.cycle s (ap is_some r.going) n calm (sleeps c.args.cycle n s r.free r.asleep r.none lines);
-      state = (λ k. let u : NodeState = record s { wait = wait k; bus = with_board s.bus (board k) } in u)
+      state = (λ k. let u : NodeState = record s { wait = wait k; board = board k } in u)
           ∙ sym (passed_rested c.args.cycle s (ap is_some r.going) n calm (sleeps c.args.cycle n s r.free r.asleep r.none lines) n (omega arith));
       rows = no_rows c.args.cycle s (ap is_some r.going) n calm (sleeps c.args.cycle n s r.free r.asleep r.none lines);
       same = refl;

@@ -34,8 +34,8 @@ loop-self-init c =
         off = c.if-self.false;
         clear = ap (λ (l : Lines). l.bits) (sym c.lines.ensures) ∙ c.if-lines-ne0.false;
         top = omega arith;
-        runs = subst (λ (b : Bool). IsSprinting c.args.cycle m.bus.board.clock m (owing b (beside c.parts.result.0 c.parts.result.1 m))) (sym (none_owed m.count))
-            (subst (λ (x : Machine). IsSprinting c.args.cycle m.bus.board.clock m x) parts (subst (λ (u : ℕ). IsSprinting c.args.cycle u m m) (sym now) first));
+        runs = subst (λ (b : Bool). IsSprinting c.args.cycle m.bus.io.clock m (owing b (beside c.parts.result.0 c.parts.result.1 m))) (sym (none_owed m.count))
+            (subst (λ (x : Machine). IsSprinting c.args.cycle m.bus.io.clock m x) parts (subst (λ (u : ℕ). IsSprinting c.args.cycle u m m) (sym now) first));
       };
       flag = refl;
     }
@@ -317,7 +317,7 @@ leap_within-requires-then-is_on-clause-some c =
     let l = c.loop-self-2 in
     let self : Machine = record c.loop-self.self { bus = l.self.1.1.1.1.1.1.1.0; count = l.self.1.1.1.1.1.1.1.1.1.1.1.1.0 } in
     let h = l.invariant.turning in let s = c.one_step.new in let m : Machine = turning self l.regs l.core l.owed_to in
-    let p = stepped_same l.flags l.core.sreg.bits s.core.sreg.bits c.is_on.result c.is_on-in-Stored.result l.invariant.flag c.is_on.ensures c.is_on-in-Stored.ensures self.bus.board.clock c.in-Stored.taken m (over s.regs s.core s.bus s.count self) c.if-is_on.true (c.in-Stored.ensures.step m refl (acts c.args.cycle c.args.end c.args.self.now self l.regs l.core l.owed_to h c.requires.early c.requires.may.room) (still c.args.cycle c.args.end c.args.self.now self l.regs l.core l.owed_to h c.requires.untold)) in
+    let p = stepped_same l.flags l.core.sreg.bits s.core.sreg.bits c.is_on.result c.is_on-in-Stored.result l.invariant.flag c.is_on.ensures c.is_on-in-Stored.ensures self.bus.io.clock c.in-Stored.taken m (over s.regs s.core s.bus s.count self) c.if-is_on.true (c.in-Stored.ensures.step m refl (acts c.args.cycle c.args.end c.args.self.now self l.regs l.core l.owed_to h c.requires.early c.requires.may.room) (still c.args.cycle c.args.end c.args.self.now self l.regs l.core l.owed_to h c.requires.untold)) in
     p.some
 
 pub leap_within-requires-then-is_on-clause-early : goal.leap_within-requires-then-is_on-clause-early
@@ -330,7 +330,7 @@ end_sprint-requires-then-not-leap_within-5 c =
     let l = c.loop-self-2 in
     let self : Machine = record c.loop-self.self { bus = l.self.1.1.1.1.1.1.1.0; count = l.self.1.1.1.1.1.1.1.1.1.1.1.1.0 } in
     let h = l.invariant.turning in let s = c.one_step.new in let m : Machine = turning self l.regs l.core l.owed_to in
-    let p = stepped_same l.flags l.core.sreg.bits s.core.sreg.bits c.is_on.result c.is_on-in-Stored.result l.invariant.flag c.is_on.ensures c.is_on-in-Stored.ensures self.bus.board.clock c.in-Stored.taken m (over s.regs s.core s.bus s.count self) c.if-is_on.true (c.in-Stored.ensures.step m refl (acts c.args.cycle c.args.end c.args.self.now self l.regs l.core l.owed_to h c.requires.early c.requires.may.room) (still c.args.cycle c.args.end c.args.self.now self l.regs l.core l.owed_to h c.requires.untold)) in
+    let p = stepped_same l.flags l.core.sreg.bits s.core.sreg.bits c.is_on.result c.is_on-in-Stored.result l.invariant.flag c.is_on.ensures c.is_on-in-Stored.ensures self.bus.io.clock c.in-Stored.taken m (over s.regs s.core s.bus s.count self) c.if-is_on.true (c.in-Stored.ensures.step m refl (acts c.args.cycle c.args.end c.args.self.now self l.regs l.core l.owed_to h c.requires.early c.requires.may.room) (still c.args.cycle c.args.end c.args.self.now self l.regs l.core l.owed_to h c.requires.untold)) in
     record { may = may_end c.args.cycle c.args.end c.args.self.now self l.regs l.core l.owed_to h c.in-Stored.taken s.regs s.core s.bus s.count false p c.leap_within-then-is_on.new.self (c.if-not-leap_within-5.ensures.same refl) c.requires.early c.requires.none }
 
 pub returns-then-not-leap_within-5-clause-sprinted : goal.returns-then-not-leap_within-5-clause-sprinted
@@ -338,7 +338,7 @@ returns-then-not-leap_within-5-clause-sprinted c =
     let l = c.loop-self-2 in
     let self : Machine = record c.loop-self.self { bus = l.self.1.1.1.1.1.1.1.0; count = l.self.1.1.1.1.1.1.1.1.1.1.1.1.0 } in
     let h = l.invariant.turning in let s = c.one_step.new in let m : Machine = turning self l.regs l.core l.owed_to in
-    let p = stepped_same l.flags l.core.sreg.bits s.core.sreg.bits c.is_on.result c.is_on-in-Stored.result l.invariant.flag c.is_on.ensures c.is_on-in-Stored.ensures self.bus.board.clock c.in-Stored.taken m (over s.regs s.core s.bus s.count self) c.if-is_on.true (c.in-Stored.ensures.step m refl (acts c.args.cycle c.args.end c.args.self.now self l.regs l.core l.owed_to h c.requires.early c.requires.may.room) (still c.args.cycle c.args.end c.args.self.now self l.regs l.core l.owed_to h c.requires.untold)) in
+    let p = stepped_same l.flags l.core.sreg.bits s.core.sreg.bits c.is_on.result c.is_on-in-Stored.result l.invariant.flag c.is_on.ensures c.is_on-in-Stored.ensures self.bus.io.clock c.in-Stored.taken m (over s.regs s.core s.bus s.count self) c.if-is_on.true (c.in-Stored.ensures.step m refl (acts c.args.cycle c.args.end c.args.self.now self l.regs l.core l.owed_to h c.requires.early c.requires.may.room) (still c.args.cycle c.args.end c.args.self.now self l.regs l.core l.owed_to h c.requires.untold)) in
     let same = c.if-not-leap_within-5.ensures.same refl in
     c.end_sprint-then-not-leap_within-5.ensures.sprinted c.args.cycle c.args.self.now m (at_it c.args.cycle c.args.end c.args.self.now self l.regs l.core l.owed_to h c.in-Stored.taken s.regs s.core s.bus s.count false p c.leap_within-then-is_on.new.self same) (turn_free c.args.cycle c.args.end c.args.self.now self l.regs l.core l.owed_to h c.in-Stored.taken s.regs s.core s.bus s.count false p) (carried c.args.cycle c.args.end c.args.self.now self l.regs l.core l.owed_to h c.in-Stored.taken s.regs s.core s.bus s.count false p c.leap_within-then-is_on.new.self same)
 
@@ -347,7 +347,7 @@ loop-self-2-smaller-else-not-leap_within-5 c =
     let l = c.loop-self-2 in
     let self : Machine = record c.loop-self.self { bus = l.self.1.1.1.1.1.1.1.0; count = l.self.1.1.1.1.1.1.1.1.1.1.1.1.0 } in
     let h = l.invariant.turning in let s = c.one_step.new in let m : Machine = turning self l.regs l.core l.owed_to in
-    let p = stepped_same l.flags l.core.sreg.bits s.core.sreg.bits c.is_on.result c.is_on-in-Stored.result l.invariant.flag c.is_on.ensures c.is_on-in-Stored.ensures self.bus.board.clock c.in-Stored.taken m (over s.regs s.core s.bus s.count self) c.if-is_on.true (c.in-Stored.ensures.step m refl (acts c.args.cycle c.args.end c.args.self.now self l.regs l.core l.owed_to h c.requires.early c.requires.may.room) (still c.args.cycle c.args.end c.args.self.now self l.regs l.core l.owed_to h c.requires.untold)) in
+    let p = stepped_same l.flags l.core.sreg.bits s.core.sreg.bits c.is_on.result c.is_on-in-Stored.result l.invariant.flag c.is_on.ensures c.is_on-in-Stored.ensures self.bus.io.clock c.in-Stored.taken m (over s.regs s.core s.bus s.count self) c.if-is_on.true (c.in-Stored.ensures.step m refl (acts c.args.cycle c.args.end c.args.self.now self l.regs l.core l.owed_to h c.requires.early c.requires.may.room) (still c.args.cycle c.args.end c.args.self.now self l.regs l.core l.owed_to h c.requires.untold)) in
     let e = c.if-not-leap_within-5.ensures in
     let upto = c.clear_to-bound-in-Stored.ensures.within in let below = e.within refl in
     let moves = moved c.args.cycle c.args.end c.args.self.now self l.regs l.core l.owed_to h c.in-Stored.taken s.regs s.core s.bus s.count false p c.requires.none c.leap_within-then-is_on.new.self (omega (arith, below, upto)) (e.idle refl) (e.state refl) (e.lines refl) (e.clock refl) in
@@ -358,7 +358,7 @@ loop-self-2-preserved-else-not-leap_within-5 c =
     let l = c.loop-self-2 in
     let self : Machine = record c.loop-self.self { bus = l.self.1.1.1.1.1.1.1.0; count = l.self.1.1.1.1.1.1.1.1.1.1.1.1.0 } in
     let h = l.invariant.turning in let s = c.one_step.new in let m : Machine = turning self l.regs l.core l.owed_to in
-    let p = stepped_same l.flags l.core.sreg.bits s.core.sreg.bits c.is_on.result c.is_on-in-Stored.result l.invariant.flag c.is_on.ensures c.is_on-in-Stored.ensures self.bus.board.clock c.in-Stored.taken m (over s.regs s.core s.bus s.count self) c.if-is_on.true (c.in-Stored.ensures.step m refl (acts c.args.cycle c.args.end c.args.self.now self l.regs l.core l.owed_to h c.requires.early c.requires.may.room) (still c.args.cycle c.args.end c.args.self.now self l.regs l.core l.owed_to h c.requires.untold)) in
+    let p = stepped_same l.flags l.core.sreg.bits s.core.sreg.bits c.is_on.result c.is_on-in-Stored.result l.invariant.flag c.is_on.ensures c.is_on-in-Stored.ensures self.bus.io.clock c.in-Stored.taken m (over s.regs s.core s.bus s.count self) c.if-is_on.true (c.in-Stored.ensures.step m refl (acts c.args.cycle c.args.end c.args.self.now self l.regs l.core l.owed_to h c.requires.early c.requires.may.room) (still c.args.cycle c.args.end c.args.self.now self l.regs l.core l.owed_to h c.requires.untold)) in
     let e = c.if-not-leap_within-5.ensures in
     let upto = c.clear_to-bound-in-Stored.ensures.within in let below = e.within refl in
     let moves = moved c.args.cycle c.args.end c.args.self.now self l.regs l.core l.owed_to h c.in-Stored.taken s.regs s.core s.bus s.count false p c.requires.none c.leap_within-then-is_on.new.self (omega (arith, below, upto)) (e.idle refl) (e.state refl) (e.lines refl) (e.clock refl) in
@@ -379,7 +379,7 @@ leap_within-requires-else-is_on-clause-some c =
     let l = c.loop-self-2 in
     let self : Machine = record c.loop-self.self { bus = l.self.1.1.1.1.1.1.1.0; count = l.self.1.1.1.1.1.1.1.1.1.1.1.1.0 } in
     let h = l.invariant.turning in let s = c.one_step.new in let m : Machine = turning self l.regs l.core l.owed_to in
-    let p = stepped_turned l.flags l.core.sreg.bits s.core.sreg.bits c.is_on.result c.is_on-in-Stored.result l.invariant.flag c.is_on.ensures c.is_on-in-Stored.ensures self.bus.board.clock c.in-Stored.taken m (over s.regs s.core s.bus s.count self) c.is_on-on.result c.is_on-on.ensures c.if-is_on.false (c.in-Stored.ensures.step m refl (acts c.args.cycle c.args.end c.args.self.now self l.regs l.core l.owed_to h c.requires.early c.requires.may.room) (still c.args.cycle c.args.end c.args.self.now self l.regs l.core l.owed_to h c.requires.untold)) in
+    let p = stepped_turned l.flags l.core.sreg.bits s.core.sreg.bits c.is_on.result c.is_on-in-Stored.result l.invariant.flag c.is_on.ensures c.is_on-in-Stored.ensures self.bus.io.clock c.in-Stored.taken m (over s.regs s.core s.bus s.count self) c.is_on-on.result c.is_on-on.ensures c.if-is_on.false (c.in-Stored.ensures.step m refl (acts c.args.cycle c.args.end c.args.self.now self l.regs l.core l.owed_to h c.requires.early c.requires.may.room) (still c.args.cycle c.args.end c.args.self.now self l.regs l.core l.owed_to h c.requires.untold)) in
     p.some
 
 pub leap_within-requires-else-is_on-clause-early : goal.leap_within-requires-else-is_on-clause-early
@@ -392,7 +392,7 @@ end_sprint-requires-then-not-leap_within-6 c =
     let l = c.loop-self-2 in
     let self : Machine = record c.loop-self.self { bus = l.self.1.1.1.1.1.1.1.0; count = l.self.1.1.1.1.1.1.1.1.1.1.1.1.0 } in
     let h = l.invariant.turning in let s = c.one_step.new in let m : Machine = turning self l.regs l.core l.owed_to in
-    let p = stepped_turned l.flags l.core.sreg.bits s.core.sreg.bits c.is_on.result c.is_on-in-Stored.result l.invariant.flag c.is_on.ensures c.is_on-in-Stored.ensures self.bus.board.clock c.in-Stored.taken m (over s.regs s.core s.bus s.count self) c.is_on-on.result c.is_on-on.ensures c.if-is_on.false (c.in-Stored.ensures.step m refl (acts c.args.cycle c.args.end c.args.self.now self l.regs l.core l.owed_to h c.requires.early c.requires.may.room) (still c.args.cycle c.args.end c.args.self.now self l.regs l.core l.owed_to h c.requires.untold)) in
+    let p = stepped_turned l.flags l.core.sreg.bits s.core.sreg.bits c.is_on.result c.is_on-in-Stored.result l.invariant.flag c.is_on.ensures c.is_on-in-Stored.ensures self.bus.io.clock c.in-Stored.taken m (over s.regs s.core s.bus s.count self) c.is_on-on.result c.is_on-on.ensures c.if-is_on.false (c.in-Stored.ensures.step m refl (acts c.args.cycle c.args.end c.args.self.now self l.regs l.core l.owed_to h c.requires.early c.requires.may.room) (still c.args.cycle c.args.end c.args.self.now self l.regs l.core l.owed_to h c.requires.untold)) in
     record { may = may_end c.args.cycle c.args.end c.args.self.now self l.regs l.core l.owed_to h c.in-Stored.taken s.regs s.core s.bus s.count (not c.is_on-on.result) p c.leap_within-else-is_on.new.self (c.if-not-leap_within-6.ensures.same refl) c.requires.early c.requires.none }
 
 pub returns-then-not-leap_within-6-clause-sprinted : goal.returns-then-not-leap_within-6-clause-sprinted
@@ -400,7 +400,7 @@ returns-then-not-leap_within-6-clause-sprinted c =
     let l = c.loop-self-2 in
     let self : Machine = record c.loop-self.self { bus = l.self.1.1.1.1.1.1.1.0; count = l.self.1.1.1.1.1.1.1.1.1.1.1.1.0 } in
     let h = l.invariant.turning in let s = c.one_step.new in let m : Machine = turning self l.regs l.core l.owed_to in
-    let p = stepped_turned l.flags l.core.sreg.bits s.core.sreg.bits c.is_on.result c.is_on-in-Stored.result l.invariant.flag c.is_on.ensures c.is_on-in-Stored.ensures self.bus.board.clock c.in-Stored.taken m (over s.regs s.core s.bus s.count self) c.is_on-on.result c.is_on-on.ensures c.if-is_on.false (c.in-Stored.ensures.step m refl (acts c.args.cycle c.args.end c.args.self.now self l.regs l.core l.owed_to h c.requires.early c.requires.may.room) (still c.args.cycle c.args.end c.args.self.now self l.regs l.core l.owed_to h c.requires.untold)) in
+    let p = stepped_turned l.flags l.core.sreg.bits s.core.sreg.bits c.is_on.result c.is_on-in-Stored.result l.invariant.flag c.is_on.ensures c.is_on-in-Stored.ensures self.bus.io.clock c.in-Stored.taken m (over s.regs s.core s.bus s.count self) c.is_on-on.result c.is_on-on.ensures c.if-is_on.false (c.in-Stored.ensures.step m refl (acts c.args.cycle c.args.end c.args.self.now self l.regs l.core l.owed_to h c.requires.early c.requires.may.room) (still c.args.cycle c.args.end c.args.self.now self l.regs l.core l.owed_to h c.requires.untold)) in
     let same = c.if-not-leap_within-6.ensures.same refl in
     c.end_sprint-then-not-leap_within-6.ensures.sprinted c.args.cycle c.args.self.now m (at_it c.args.cycle c.args.end c.args.self.now self l.regs l.core l.owed_to h c.in-Stored.taken s.regs s.core s.bus s.count (not c.is_on-on.result) p c.leap_within-else-is_on.new.self same) (turn_free c.args.cycle c.args.end c.args.self.now self l.regs l.core l.owed_to h c.in-Stored.taken s.regs s.core s.bus s.count (not c.is_on-on.result) p) (carried c.args.cycle c.args.end c.args.self.now self l.regs l.core l.owed_to h c.in-Stored.taken s.regs s.core s.bus s.count (not c.is_on-on.result) p c.leap_within-else-is_on.new.self same)
 
@@ -409,7 +409,7 @@ overflow_add-owed_to c =
     let l = c.loop-self-2 in
     let self : Machine = record c.loop-self.self { bus = l.self.1.1.1.1.1.1.1.0; count = l.self.1.1.1.1.1.1.1.1.1.1.1.1.0 } in
     let h = l.invariant.turning in let s = c.one_step.new in let m : Machine = turning self l.regs l.core l.owed_to in
-    let p = stepped_turned l.flags l.core.sreg.bits s.core.sreg.bits c.is_on.result c.is_on-in-Stored.result l.invariant.flag c.is_on.ensures c.is_on-in-Stored.ensures self.bus.board.clock c.in-Stored.taken m (over s.regs s.core s.bus s.count self) c.is_on-on.result c.is_on-on.ensures c.if-is_on.false (c.in-Stored.ensures.step m refl (acts c.args.cycle c.args.end c.args.self.now self l.regs l.core l.owed_to h c.requires.early c.requires.may.room) (still c.args.cycle c.args.end c.args.self.now self l.regs l.core l.owed_to h c.requires.untold)) in
+    let p = stepped_turned l.flags l.core.sreg.bits s.core.sreg.bits c.is_on.result c.is_on-in-Stored.result l.invariant.flag c.is_on.ensures c.is_on-in-Stored.ensures self.bus.io.clock c.in-Stored.taken m (over s.regs s.core s.bus s.count self) c.is_on-on.result c.is_on-on.ensures c.if-is_on.false (c.in-Stored.ensures.step m refl (acts c.args.cycle c.args.end c.args.self.now self l.regs l.core l.owed_to h c.requires.early c.requires.may.room) (still c.args.cycle c.args.end c.args.self.now self l.regs l.core l.owed_to h c.requires.untold)) in
     let few = p.count in
     let most = h.runs.count in
     let within = h.within in omega (arith, few, most, within, c.requires.early)
@@ -419,7 +419,7 @@ loop-self-2-smaller-then-on c =
     let l = c.loop-self-2 in
     let self : Machine = record c.loop-self.self { bus = l.self.1.1.1.1.1.1.1.0; count = l.self.1.1.1.1.1.1.1.1.1.1.1.1.0 } in
     let h = l.invariant.turning in let s = c.one_step.new in let m : Machine = turning self l.regs l.core l.owed_to in
-    let p = stepped_turned l.flags l.core.sreg.bits s.core.sreg.bits c.is_on.result c.is_on-in-Stored.result l.invariant.flag c.is_on.ensures c.is_on-in-Stored.ensures self.bus.board.clock c.in-Stored.taken m (over s.regs s.core s.bus s.count self) c.is_on-on.result c.is_on-on.ensures c.if-is_on.false (c.in-Stored.ensures.step m refl (acts c.args.cycle c.args.end c.args.self.now self l.regs l.core l.owed_to h c.requires.early c.requires.may.room) (still c.args.cycle c.args.end c.args.self.now self l.regs l.core l.owed_to h c.requires.untold)) in
+    let p = stepped_turned l.flags l.core.sreg.bits s.core.sreg.bits c.is_on.result c.is_on-in-Stored.result l.invariant.flag c.is_on.ensures c.is_on-in-Stored.ensures self.bus.io.clock c.in-Stored.taken m (over s.regs s.core s.bus s.count self) c.is_on-on.result c.is_on-on.ensures c.if-is_on.false (c.in-Stored.ensures.step m refl (acts c.args.cycle c.args.end c.args.self.now self l.regs l.core l.owed_to h c.requires.early c.requires.may.room) (still c.args.cycle c.args.end c.args.self.now self l.regs l.core l.owed_to h c.requires.untold)) in
     let e = c.if-not-leap_within-6.ensures in
     let upto = c.clear_to-bound-in-Stored.ensures.within in let below = e.within refl in
     let moves = moved c.args.cycle c.args.end c.args.self.now self l.regs l.core l.owed_to h c.in-Stored.taken s.regs s.core s.bus s.count (not c.is_on-on.result) p c.requires.none c.leap_within-else-is_on.new.self (omega (arith, below, upto)) (e.idle refl) (e.state refl) (e.lines refl) (e.clock refl) in
@@ -430,7 +430,7 @@ loop-self-2-preserved-then-on c =
     let l = c.loop-self-2 in
     let self : Machine = record c.loop-self.self { bus = l.self.1.1.1.1.1.1.1.0; count = l.self.1.1.1.1.1.1.1.1.1.1.1.1.0 } in
     let h = l.invariant.turning in let s = c.one_step.new in let m : Machine = turning self l.regs l.core l.owed_to in
-    let p = stepped_turned l.flags l.core.sreg.bits s.core.sreg.bits c.is_on.result c.is_on-in-Stored.result l.invariant.flag c.is_on.ensures c.is_on-in-Stored.ensures self.bus.board.clock c.in-Stored.taken m (over s.regs s.core s.bus s.count self) c.is_on-on.result c.is_on-on.ensures c.if-is_on.false (c.in-Stored.ensures.step m refl (acts c.args.cycle c.args.end c.args.self.now self l.regs l.core l.owed_to h c.requires.early c.requires.may.room) (still c.args.cycle c.args.end c.args.self.now self l.regs l.core l.owed_to h c.requires.untold)) in
+    let p = stepped_turned l.flags l.core.sreg.bits s.core.sreg.bits c.is_on.result c.is_on-in-Stored.result l.invariant.flag c.is_on.ensures c.is_on-in-Stored.ensures self.bus.io.clock c.in-Stored.taken m (over s.regs s.core s.bus s.count self) c.is_on-on.result c.is_on-on.ensures c.if-is_on.false (c.in-Stored.ensures.step m refl (acts c.args.cycle c.args.end c.args.self.now self l.regs l.core l.owed_to h c.requires.early c.requires.may.room) (still c.args.cycle c.args.end c.args.self.now self l.regs l.core l.owed_to h c.requires.untold)) in
     let e = c.if-not-leap_within-6.ensures in
     let upto = c.clear_to-bound-in-Stored.ensures.within in let below = e.within refl in
     let moves = moved c.args.cycle c.args.end c.args.self.now self l.regs l.core l.owed_to h c.in-Stored.taken s.regs s.core s.bus s.count (not c.is_on-on.result) p c.requires.none c.leap_within-else-is_on.new.self (omega (arith, below, upto)) (e.idle refl) (e.state refl) (e.lines refl) (e.clock refl) in
@@ -451,7 +451,7 @@ loop-self-2-smaller-else-on c =
     let l = c.loop-self-2 in
     let self : Machine = record c.loop-self.self { bus = l.self.1.1.1.1.1.1.1.0; count = l.self.1.1.1.1.1.1.1.1.1.1.1.1.0 } in
     let h = l.invariant.turning in let s = c.one_step.new in let m : Machine = turning self l.regs l.core l.owed_to in
-    let p = stepped_turned l.flags l.core.sreg.bits s.core.sreg.bits c.is_on.result c.is_on-in-Stored.result l.invariant.flag c.is_on.ensures c.is_on-in-Stored.ensures self.bus.board.clock c.in-Stored.taken m (over s.regs s.core s.bus s.count self) c.is_on-on.result c.is_on-on.ensures c.if-is_on.false (c.in-Stored.ensures.step m refl (acts c.args.cycle c.args.end c.args.self.now self l.regs l.core l.owed_to h c.requires.early c.requires.may.room) (still c.args.cycle c.args.end c.args.self.now self l.regs l.core l.owed_to h c.requires.untold)) in
+    let p = stepped_turned l.flags l.core.sreg.bits s.core.sreg.bits c.is_on.result c.is_on-in-Stored.result l.invariant.flag c.is_on.ensures c.is_on-in-Stored.ensures self.bus.io.clock c.in-Stored.taken m (over s.regs s.core s.bus s.count self) c.is_on-on.result c.is_on-on.ensures c.if-is_on.false (c.in-Stored.ensures.step m refl (acts c.args.cycle c.args.end c.args.self.now self l.regs l.core l.owed_to h c.requires.early c.requires.may.room) (still c.args.cycle c.args.end c.args.self.now self l.regs l.core l.owed_to h c.requires.untold)) in
     let e = c.if-not-leap_within-6.ensures in
     let upto = c.clear_to-bound-in-Stored.ensures.within in let below = e.within refl in
     let moves = moved c.args.cycle c.args.end c.args.self.now self l.regs l.core l.owed_to h c.in-Stored.taken s.regs s.core s.bus s.count (not c.is_on-on.result) p c.requires.none c.leap_within-else-is_on.new.self (omega (arith, below, upto)) (e.idle refl) (e.state refl) (e.lines refl) (e.clock refl) in
@@ -462,7 +462,7 @@ loop-self-2-preserved-else-on c =
     let l = c.loop-self-2 in
     let self : Machine = record c.loop-self.self { bus = l.self.1.1.1.1.1.1.1.0; count = l.self.1.1.1.1.1.1.1.1.1.1.1.1.0 } in
     let h = l.invariant.turning in let s = c.one_step.new in let m : Machine = turning self l.regs l.core l.owed_to in
-    let p = stepped_turned l.flags l.core.sreg.bits s.core.sreg.bits c.is_on.result c.is_on-in-Stored.result l.invariant.flag c.is_on.ensures c.is_on-in-Stored.ensures self.bus.board.clock c.in-Stored.taken m (over s.regs s.core s.bus s.count self) c.is_on-on.result c.is_on-on.ensures c.if-is_on.false (c.in-Stored.ensures.step m refl (acts c.args.cycle c.args.end c.args.self.now self l.regs l.core l.owed_to h c.requires.early c.requires.may.room) (still c.args.cycle c.args.end c.args.self.now self l.regs l.core l.owed_to h c.requires.untold)) in
+    let p = stepped_turned l.flags l.core.sreg.bits s.core.sreg.bits c.is_on.result c.is_on-in-Stored.result l.invariant.flag c.is_on.ensures c.is_on-in-Stored.ensures self.bus.io.clock c.in-Stored.taken m (over s.regs s.core s.bus s.count self) c.is_on-on.result c.is_on-on.ensures c.if-is_on.false (c.in-Stored.ensures.step m refl (acts c.args.cycle c.args.end c.args.self.now self l.regs l.core l.owed_to h c.requires.early c.requires.may.room) (still c.args.cycle c.args.end c.args.self.now self l.regs l.core l.owed_to h c.requires.untold)) in
     let e = c.if-not-leap_within-6.ensures in
     let upto = c.clear_to-bound-in-Stored.ensures.within in let below = e.within refl in
     let moves = moved c.args.cycle c.args.end c.args.self.now self l.regs l.core l.owed_to h c.in-Stored.taken s.regs s.core s.bus s.count (not c.is_on-on.result) p c.requires.none c.leap_within-else-is_on.new.self (omega (arith, below, upto)) (e.idle refl) (e.state refl) (e.lines refl) (e.clock refl) in
@@ -562,10 +562,10 @@ returns-in-Left-clause-sprinted c =
     let e = c.in-Left.ensures.step m refl ready (still c.args.cycle c.args.end c.args.self.now self l.regs l.core l.owed_to h c.requires.untold) in
     let g = c.gather-at.ensures in
     let count : s.count ≡ self.count = ap (λ (z : Machine). z.count) e in
-    let clock : c.gather-at.result ≡ self.bus.board.clock = g.value ∙ ap (λ (z : Machine). z.bus.board.clock) e in
+    let clock : c.gather-at.result ≡ self.bus.io.clock = g.value ∙ ap (λ (z : Machine). z.bus.io.clock) e in
     let x : Machine = c.gather-at.new.self in
     let here : x ≡ m = g.state ∙ (ap (λ (n : ℕ). owing (nat_lt n k) (over s.regs s.core s.bus s.count self)) count ∙ e) in
-    subst (λ (u : ℕ). IsSprinted t u false old x) (sym clock) (subst (IsSprinted t self.bus.board.clock false old) (sym here) (stays t self.bus.board.clock old m h.runs))
+    subst (λ (u : ℕ). IsSprinted t u false old x) (sym clock) (subst (IsSprinted t self.bus.io.clock false old) (sym here) (stays t self.bus.io.clock old m h.runs))
 
 pub returns-in-Left-clause-within : goal.returns-in-Left-clause-within
 returns-in-Left-clause-within c =
@@ -579,7 +579,7 @@ returns-in-Left-clause-within c =
     let e = c.in-Left.ensures.step m refl ready (still c.args.cycle c.args.end c.args.self.now self l.regs l.core l.owed_to h c.requires.untold) in
     let g = c.gather-at.ensures in
     let count : s.count ≡ self.count = ap (λ (z : Machine). z.count) e in
-    let clock : c.gather-at.result ≡ self.bus.board.clock = g.value ∙ ap (λ (z : Machine). z.bus.board.clock) e in
+    let clock : c.gather-at.result ≡ self.bus.io.clock = g.value ∙ ap (λ (z : Machine). z.bus.io.clock) e in
     omega (arith, clock, early)
 
 pub halt-requires : goal.halt-requires
@@ -596,7 +596,7 @@ halt-requires c =
     let x : Machine = c.gather-at-in-Stopped.new.self in
     let w : Machine = over s.regs s.core s.bus s.count m in
     let here : x ≡ w = g.state ∙ ap (λ (n : ℕ). owing (nat_lt n k) (over s.regs s.core s.bus s.count self)) q.count in
-    let clock : c.gather-at-in-Stopped.result ≡ self.bus.board.clock = g.value ∙ q.clock in
+    let clock : c.gather-at-in-Stopped.result ≡ self.bus.io.clock = g.value ∙ q.clock in
     let rows : vec_len x.rows ≡ vec_len old.rows = ap (λ (z : Machine). vec_len z.rows) here ∙ ap (λ z. vec_len z) (q.same ∙ h.runs.rows) in
     let wide : vec_capacity x.rows ≡ vec_capacity old.rows = ap (λ (z : Machine). vec_capacity z.rows) here ∙ ap (λ z. vec_capacity z) (q.same ∙ h.runs.rows) in
     let room = c.requires.may.room in
@@ -616,12 +616,12 @@ returns-in-Stopped-clause-sprinted c =
     let x : Machine = c.gather-at-in-Stopped.new.self in
     let w : Machine = over s.regs s.core s.bus s.count m in
     let here : x ≡ w = g.state ∙ ap (λ (n : ℕ). owing (nat_lt n k) (over s.regs s.core s.bus s.count self)) q.count in
-    let clock : c.gather-at-in-Stopped.result ≡ self.bus.board.clock = g.value ∙ q.clock in
+    let clock : c.gather-at-in-Stopped.result ≡ self.bus.io.clock = g.value ∙ q.clock in
     let r = c.halt.ensures in
     let rows = subst (λ (n : ℕ). c.halt.new.self.rows.items ≡ x.rows.items ++ row c.gather-at-in-Stopped.result (shown x) (kind.Stop n c.in-Stopped.cause)) (sym (ap (λ (z : Machine). z.cpu.pc) here)) r.rows in
-    let is : IsStopping self.bus.board.clock c.in-Stopped.cause m x = subst (λ (z : Machine). IsStopping self.bus.board.clock c.in-Stopped.cause m z) (sym here) q in
+    let is : IsStopping self.bus.io.clock c.in-Stopped.cause m x = subst (λ (z : Machine). IsStopping self.bus.io.clock c.in-Stopped.cause m z) (sym here) q in
     subst (λ (u : ℕ). IsSprinted t u true old c.halt.new.self) (sym clock)
-    (stops t self.bus.board.clock old m x c.halt.new.self c.in-Stopped.cause h.runs (clear_due m h.clear) is r.state
+    (stops t self.bus.io.clock old m x c.halt.new.self c.in-Stopped.cause h.runs (clear_due m h.clear) is r.state
     (subst (λ (u : ℕ). c.halt.new.self.rows.items ≡ x.rows.items ++ row u (shown x) (kind.Stop x.cpu.pc c.in-Stopped.cause)) clock rows) r.room r.clock)
 
 pub returns-in-Stopped-clause-within : goal.returns-in-Stopped-clause-within
@@ -638,7 +638,7 @@ returns-in-Stopped-clause-within c =
     let x : Machine = c.gather-at-in-Stopped.new.self in
     let w : Machine = over s.regs s.core s.bus s.count m in
     let here : x ≡ w = g.state ∙ ap (λ (n : ℕ). owing (nat_lt n k) (over s.regs s.core s.bus s.count self)) q.count in
-    let clock : c.gather-at-in-Stopped.result ≡ self.bus.board.clock = g.value ∙ q.clock in
+    let clock : c.gather-at-in-Stopped.result ≡ self.bus.io.clock = g.value ∙ q.clock in
     omega (arith, clock, early)
 
 pub leap-requires-clause-may : goal.leap-requires-clause-may
@@ -733,7 +733,7 @@ loop-self-smaller c =
     let begun : IsSprinting t r old x = subst (λ (u : ℕ). IsSprinting t u old x) (sym now) (subst (λ (z : Machine). IsSprinting t c.leap_within-in-Jumped.new.self.clock old z) (sym g.state) next.runs) in
     let q = c.leap.ensures in
     let z : Machine = c.leap.new.self in
-    let there : z.bus.board.clock ≡ r + c.leap.result = q.sprinted.clock in
+    let there : z.bus.io.clock ≡ r + c.leap.result = q.sprinted.clock in
     let up = q.within in
     omega (arith, moves, last, now, there, up)
 
@@ -760,7 +760,7 @@ loop-self-preserved c =
     let begun : IsSprinting t r old x = subst (λ (u : ℕ). IsSprinting t u old x) (sym now) (subst (λ (z : Machine). IsSprinting t c.leap_within-in-Jumped.new.self.clock old z) (sym g.state) next.runs) in
     let q = c.leap.ensures in
     let z : Machine = c.leap.new.self in
-    let there : z.bus.board.clock ≡ r + c.leap.result = q.sprinted.clock in
+    let there : z.bus.io.clock ≡ r + c.leap.result = q.sprinted.clock in
     let up = q.within in
     let gone = joins t r old x begun (r + c.leap.result) z q.sprinted (ap (λ (w : Machine). w.from) q.others) (ap (λ (w : Machine). w.to) q.others) in
     let owed : z.owed ≡ false = ap (λ (w : Machine). w.owed) q.others ∙ (ap (λ (w : Machine). w.owed) g.state ∙ off) in
@@ -771,9 +771,9 @@ loop-self-preserved c =
       turning = record {
         within = omega (arith, there, up);
         off = owed;
-        clear = ap (λ (w : Lines). w.bits) q.lines ∙ (ap (λ (w : Machine). (lines_of w.bus.board).bits) g.state ∙ e.lines refl);
+        clear = ap (λ (w : Lines). w.bits) q.lines ∙ (ap (λ (w : Machine). (lines_of w.bus.io.board).bits) g.state ∙ e.lines refl);
         top = omega arith;
-        runs = subst (λ (w : Machine). IsSprinting t z.bus.board.clock old w) parts (subst (λ (u : ℕ). IsSprinting t u old z) (sym there) gone);
+        runs = subst (λ (w : Machine). IsSprinting t z.bus.io.clock old w) parts (subst (λ (u : ℕ). IsSprinting t u old z) (sym there) gone);
       };
       flag = refl;
     }

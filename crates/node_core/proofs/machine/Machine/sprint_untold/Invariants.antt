@@ -12,7 +12,7 @@ invariant-loop-self l = record {
 }
 
 abbrev pub decreases-loop-self : goal.decreases-loop-self
-decreases-loop-self l = l.end - l.self.bus.board.clock
+decreases-loop-self l = l.end - l.self.bus.io.clock
 
 -- in it the machine is lent in parts, of which two change: the data space and the count
 abbrev pub invariant-loop-self-2 : goal.invariant-loop-self-2
@@ -35,9 +35,9 @@ invariant-loop-self-2 l = record {
   slots : l.slots ≡ slots_below 65536 l.initial.self.1.1.0.bytes;
   flag : nat_lt l.flags 128 ≡ nat_lt l.core.sreg.bits 128;
   within : l.bound ≤ l.end;
-  ahead : IsClear l.bound l.self.1.1.1.1.1.1.1.0.board;
-  on : l.initial.self.1.1.1.1.1.1.1.0.board.clock ≤ l.self.1.1.1.1.1.1.1.0.board.clock;
+  ahead : IsClear l.bound l.self.1.1.1.1.1.1.1.0.io;
+  on : l.initial.self.1.1.1.1.1.1.1.0.io.clock ≤ l.self.1.1.1.1.1.1.1.0.io.clock;
 }
 
 abbrev pub decreases-loop-self-2 : goal.decreases-loop-self-2
-decreases-loop-self-2 l = l.end - l.self.1.1.1.1.1.1.1.0.board.clock
+decreases-loop-self-2 l = l.end - l.self.1.1.1.1.1.1.1.0.io.clock

@@ -14,7 +14,7 @@ invariant-loop-cycle l = record {
   going : l.self.stop ≡ None;
   free : l.self.wait ≡ 0;
   awake : l.self.asleep ≡ false;
-  clock : l.self.bus.board.clock ≡ l.at;
+  clock : l.self.bus.io.clock ≡ l.at;
   script : l.self.script ≡ l.fn.self.script;
   count : l.self.count ≤ LAST_CYCLE + l.at;
   room : vec_len l.self.rows + 4 ≤ vec_capacity l.self.rows;

@@ -1,8 +1,6 @@
 use Rattle.std.proofs.Common.{ℕ, ◌+◌, ◌-◌, is_some, refl, sym, ap, ◌∙◌, arith}
 use Rattle.board_io.specs.declared.board.Board.{Board}
-use Rattle.board_io.specs.Board.{unclocked}
 use Rattle.board_io.specs.Cycle.{timers_leap}
-use Rattle.node_core.specs.Bus.{with_board}
 use Rattle.node_core.specs.Inside.{IsCalm}
 use Rattle.node_core.specs.Shown.{shown}
 use Rattle.node_core.specs.State.{NodeState}
@@ -17,10 +15,10 @@ returns-clause-rested c =
     let within = c.leap_up_to-n.ensures.within in
     let calm : IsCalm c.args.cycle n s =
     calm_of c.args.cycle n c.args.self.now c.requires.now c.leap_up_to-n.ensures.idle (λ i l. c.quiet-calm.ensures.none i (omega (arith, within, l))) in
-    let board = c.leap_up_to-n.ensures.state ∙ ap (λ (t : ℕ). timers_leap t n (unclocked c.args.self.now.bus.board)) c.requires.now in
+    let board = c.leap_up_to-n.ensures.state ∙ ap (λ (t : ℕ). timers_leap t n c.args.self.now.bus.io.board) c.requires.now in
     record {
       quiet = all_quiet c.args.cycle s (ap is_some c.requires.going) n calm (waits c.args.cycle n s (omega arith));
-      state = ap (λ (b : Board). let u : NodeState = record s { wait = s.wait - n; bus = with_board s.bus b } in u) board
+      state = ap (λ (b : Board). let u : NodeState = record s { wait = s.wait - n; board = b } in u) board
           ∙ sym (passed_rested c.args.cycle s (ap is_some c.requires.going) n calm (waits c.args.cycle n s (omega arith)) n (omega arith));
       rows = no_rows c.args.cycle s (ap is_some c.requires.going) n calm (waits c.args.cycle n s (omega arith));
       same = refl;

@@ -1,12 +1,12 @@
 use Rattle.std.proofs.Common.{◌≡◌, ◌∙◌, ap, arith, is_some, refl, slice_index, ◌==◌, subst, sym}
 use Rattle.std.proofs.lemmas.Bool.{false≢true}
 use Rattle.board_io.specs.Saved as board
-use Rattle.board_io.specs.declared.board.Board.{Board}
+use Rattle.board_io.specs.declared.clocked.ClockedBoard.{ClockedBoard}
 use Rattle.board_io.proofs.OneBoard.{all}
 use Rattle.device_base.specs.Numbers.{part}
 use Rattle.node_core.specs.Numbers.{ends_from}
 use Rattle.node_core.specs.State.{NodeState}
-use Rattle.node_core.proofs.Saved.{board-fits, clocked, core-within, made-numbers, no-fault, one-state, registers-32, Made}
+use Rattle.node_core.proofs.Saved.{board-fits, core-within, made-numbers, no-fault, one-state, registers-32, Made}
 use Rattle.node_core.proofs.node.Node.restore.Goals as goal
 
 pub unreachable-requires : goal.unreachable-requires
@@ -34,7 +34,7 @@ pub invariant_of-result : goal.invariant_of-result
 invariant_of-result c =
     let w = core-within c.args.cycle c.args.numbers.now c.told-numbers (no-fault _ _ (sym c.fault.ensures ∙ c.in_default.is)) in
     let count = w.count in
-    let clock = ap (λ (b : Board). b.clock) c.restored.ensures ∙ c.in-Some-restore.ensures.clock in
+    let clock = ap (λ (io : ClockedBoard). io.clock) c.restored.ensures in
     record {
       few = omega arith;
       clock = λ going. omega arith;
@@ -50,8 +50,8 @@ returns-clause-state c =
     let w = core-within c.args.cycle n c.told-numbers fit in
     let saved : board.IsRestored c.args.byte_time (part 41 67 n) c.args.io.now c.in-Some-restore.board =
     subst (λ p. board.IsRestored c.args.byte_time p c.args.io.now c.in-Some-restore.board) c.part.ensures c.in-Some-restore.ensures.some in
-    let lags : board.IsRestored c.args.byte_time (part 41 67 n) c.args.io.now c.restored.result =
-    subst (λ b. board.IsRestored c.args.byte_time (part 41 67 n) c.args.io.now b) (sym c.restored.ensures) saved in
+    let here : board.IsRestored c.args.byte_time (part 41 67 n) c.args.io.now c.restored.result.board =
+    subst (λ (io : ClockedBoard). board.IsRestored c.args.byte_time (part 41 67 n) c.args.io.now io.board) (sym c.restored.ensures) saved in
     let s : NodeState = record {
       number = c.args.number;
       flash = c.args.program.bytes;
@@ -59,7 +59,8 @@ returns-clause-state c =
       from = c.args.window.0;
       to = c.args.window.1;
       cpu = c.cpu_of.result;
-      bus = record { sram = c.in-Ok.sram; board = record c.restored.result { clock = 0 } };
+      board = c.restored.result.board;
+      sram = c.in-Ok.sram;
       wait = slice_index n 36;
       owed = slice_index n 37 == 1;
       asleep = slice_index n 38 == 1;
@@ -67,7 +68,6 @@ returns-clause-state c =
       count = slice_index n 40;
     } in
     let made : Made n s = record { cpu = c.cpu_of.ensures; wait = refl; owed = refl; asleep = refl; stop = c.of.ensures; count = refl } in
-    let here = clocked c.args.byte_time 0 (part 41 67 n) c.args.io.now c.restored.result lags in
     record {
       number = refl;
       flash = refl;
@@ -77,7 +77,6 @@ returns-clause-state c =
       registers = registers-32 n s c.told-numbers made;
       numbers = made-numbers n s c.told-numbers w made here.numbers;
       board = here;
-      clock = refl;
       sram = c.in-Ok.ensures;
     }
 

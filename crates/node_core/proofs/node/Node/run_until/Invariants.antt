@@ -10,7 +10,7 @@ invariant-loop-self l = record {
   within : l.self-inside.cycle ≤ l.cycle;
   calm : l.self-inside.asking ≡ false;
   few : l.self-inside.machine.count ≤ LAST_CYCLE + l.self-inside.cycle;
-  clock : l.self-inside.machine.stop ≡ None → l.self-inside.machine.bus.board.clock ≡ l.self-inside.cycle;
+  clock : l.self-inside.machine.stop ≡ None → l.self-inside.machine.bus.io.clock ≡ l.self-inside.cycle;
   comes : Comes node_kind l.fn.self l.self-inside.cycle (shown l.self-inside.machine) l.self-inside.machine.rows.items;
   running : AllRunning node_kind l.fn.self l.self-inside.cycle;
 }
