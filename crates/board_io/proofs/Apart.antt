@@ -6,16 +6,17 @@ use Rattle.std.proofs.lemmas.List.{get_or-set_other}
 use Rattle.avr_base.specs.declared.stop.StopCause.{StopCause}
 use Rattle.board_io.specs.declared.ahead.Forecast.{Forecast}
 use Rattle.board_io.specs.declared.board.Board.{Board}
+use Rattle.board_io.specs.declared.clocked.ClockedBoard.{ClockedBoard}
 use Rattle.board_io.specs.declared.rules.Rule.{Rule}
 use Rattle.board_io.specs.declared.rules.Rule.TheVariants.{Reserved, Pin, Kept, Guarded, WatchdogControl, ResetFlags, CpuControl, TimerFlags, ExtendedTimerFlags, Timer0, Timer1, Timer2, Timer3, Usart0, Spi}
-use Rattle.board_io.specs.Board.{kept_at, with_kept}
+use Rattle.board_io.specs.Board.{clocked, kept_at, with_kept}
 use Rattle.board_io.specs.Cycle.{board_quiet, timers_leap}
 use Rattle.board_io.specs.Lagging.{IsAhead, caught_up, is_no_mask, is_plain_read, is_plain_write}
 use Rattle.board_io.specs.Lines.{lines_of}
 use Rattle.board_io.specs.Names.{ETIMSK, IVSEL, SRE, TIMSK, WDCE, WDE}
-use Rattle.board_io.specs.Registers.{IsGot, IsPut, extended_timer_flags, get_by, put_by, timer_flags}
+use Rattle.board_io.specs.Registers.{IsGot, IsPut, extended_timer_flags, get_by, get_in, got_in, put_by, put_in, timer_flags}
 use Rattle.board_io.specs.Passing.{changes_flag_at, sets_flag_at}
-use Rattle.board_io.proofs.Radio.{get_by_clock, put_by_clock}
+use Rattle.board_io.proofs.Agree.{get_clocked, put_clocked}
 use Rattle.board_io.proofs.Steady.{flags_0, flags_1, flags_2, flags_3}
 use Rattle.avr_timers.specs.declared.flags.TimerFlags.{TimerFlags as Flags}
 use Rattle.device_base.specs.Bits.{any_bit}
@@ -39,32 +40,27 @@ with_temp x u = record u { temp = x }
 
 -- what a board has of lines and ends, now and later, another one has
 pub record IsLike (b c : Board) : Type 0 where
-  pub clock : c.clock ≡ b.clock
   pub quiet : (t : ℕ) → board_quiet t c ≡ board_quiet t b
   pub calm : (t i : ℕ) → changes_flag_at t c i ≡ changes_flag_at t b i
   pub steady : (t i : ℕ) → sets_flag_at t c i ≡ sets_flag_at t b i
   pub lines : lines_of c ≡ lines_of b
 
 itself : (b : Board) → IsLike b b
-itself b = record { clock = refl; quiet = λ t. refl; calm = λ t i. refl; steady = λ t i. refl; lines = refl }
+itself b = record { quiet = λ t. refl; calm = λ t i. refl; steady = λ t i. refl; lines = refl }
 
-like_ahead : (a : Forecast) (b c : Board) → IsLike b c → IsAhead a b → IsAhead a c
-like_ahead a b c like h =
-    let e = like.clock in
-    let s = h.settled in
-    let n = h.now in
-    record {
-      settled = omega (arith, e, s);
-      now = omega (arith, e, n);
-      early = h.early;
-      clear = h.clear;
-      down = h.down;
-      quiet = λ t from below. like.quiet t ∙ h.quiet t (omega (arith, e, from)) below;
-      calm = λ i below. like.calm a.settled i ∙ h.calm i below;
-      past = λ i below. like.calm a.settled i ∙ h.past i (omega (arith, e, below));
-      steady = λ i below. like.steady a.settled i ∙ h.steady i below;
-      lines = ap (λ (l : Lines). l.bits) like.lines ∙ h.lines;
-    }
+like_ahead : (a : Forecast) (t : ℕ) (b c : Board) → IsLike b c → IsAhead a t b → IsAhead a t c
+like_ahead a t b c like h = record {
+  settled = h.settled;
+  now = h.now;
+  early = h.early;
+  clear = h.clear;
+  down = h.down;
+  quiet = λ u from below. like.quiet u ∙ h.quiet u from below;
+  calm = λ i below. like.calm a.settled i ∙ h.calm i below;
+  past = λ i below. like.calm a.settled i ∙ h.past i below;
+  steady = λ i below. like.steady a.settled i ∙ h.steady i below;
+  lines = ap (λ (l : Lines). l.bits) like.lines ∙ h.lines;
+}
 
 -- ---- reads
 abbrev pub GotApart : Board → ℕ → ℕ → Result (ℕ × Board) StopCause → Result (ℕ × Board) StopCause → Type 0
@@ -115,7 +111,7 @@ got_apart (Usart0 usart.BaudL) b at s n e none = (refl, itself b)
 got_apart (Usart0 usart.BaudH) b at s n e none = (refl, itself b)
 got_apart (Usart0 usart.Udr) b at s n e none = absurd (false_true e)
 got_apart (Spi spi.Control) b at s n e none = (refl, itself b)
-got_apart (Spi spi.Status) b at s n e none = (refl, record { clock = refl; quiet = λ t. refl; calm = λ t i. refl; steady = λ t i. refl; lines = refl })
+got_apart (Spi spi.Status) b at s n e none = (refl, record { quiet = λ t. refl; calm = λ t i. refl; steady = λ t i. refl; lines = refl })
 got_apart (Spi spi.Spdr) b at s n e none = absurd (false_true e)
 
 -- where the serial peripheral interface asks for no interrupt, it asks for none after an access
@@ -134,34 +130,28 @@ lines_accessed b p e flag control =
 
 pub got_spdr : (b : Board) (at s n : ℕ) → asks_interrupt b.spi ≡ false → GotApart b s n (get_by (Spi spi.Spdr) b at) (get_by (Spi spi.Spdr) (timers_leap s n b) at)
 unfolding timers_leap board_quiet
-got_spdr b at s n e = (refl, record { clock = refl; quiet = λ t. refl; calm = λ t i. refl; steady = λ t i. refl; lines = lines_accessed b _ e refl refl })
+got_spdr b at s n e = (refl, record { quiet = λ t. refl; calm = λ t i. refl; steady = λ t i. refl; lines = lines_accessed b _ e refl refl })
 
-module _ (rule : Rule) (b : Board) (at s : ℕ) (apart : GotApart b s (b.clock - s) (get_by rule b at) (get_by rule (caught_up s b) at)) where
-  got : (g : Result (ℕ × Board) StopCause) → get_by rule b at ≡ g → GotApart b s (b.clock - s) g (get_by rule (caught_up s b) at)
-  got g h = subst (λ r. GotApart b s (b.clock - s) r (get_by rule (caught_up s b) at)) h apart
+-- what a read did on the board that it was caught up to, is told of the value before and after it
+pub read_late : (rule : Rule) (at t : ℕ) (r : Result ℕ StopCause) (b c w : Board) (v : ClockedBoard) → clocked t b ≡ v → w ≡ c → IsGot (get_by rule b at) b r c → IsGot (get_in rule v at) v r (clocked t w)
+read_late rule at t r b c w v now new h =
+    subst (λ (d : Board). IsGot (get_in rule v at) v r (clocked t d)) (sym new)
+    (subst (λ (d : ClockedBoard). IsGot (get_in rule d at) d r (clocked t c)) now (get_clocked rule (clocked t b) at r c h))
 
-  read_ok : (x : ℕ) (c v : Board) → get_by rule b at ≡ Ok (x, c) → caught_up s b ≡ v → get_by rule v at ≡ Ok (x, caught_up s c)
-  read_ok x c v h is =
-      let g = got (Ok (x, c)) h in
-      let later : timers_leap s (b.clock - s) c ≡ caught_up s c = ap (λ (t : ℕ). timers_leap s (t - s) c) (sym g.1.clock) in
-      subst (λ (w : Board). get_by rule w at ≡ Ok (x, caught_up s c)) is (g.0 ∙ ap (λ (w : Board). let r : Result (ℕ × Board) StopCause = Ok (x, w) in r) later)
+module _ (rule : Rule) (b : Board) (at s t : ℕ) (apart : GotApart b s (t - s) (get_by rule b at) (get_by rule (caught_up s t b) at)) where
+  got : (g : Result (ℕ × Board) StopCause) → get_by rule b at ≡ g → GotApart b s (t - s) g (get_by rule (caught_up s t b) at)
+  got g h = subst (λ r. GotApart b s (t - s) r (get_by rule (caught_up s t b) at)) h apart
 
-  pub read_by : (r : Result ℕ StopCause) (c v : Board) → caught_up s b ≡ v → IsGot (get_by rule b at) b r c → IsGot (get_by rule v at) v r (caught_up s c)
-  read_by (Ok x) c v is h = read_ok x c v h is
-  read_by (Err cause) c v is h = (subst (λ (w : Board). get_by rule w at ≡ Err cause) is (got (Err cause) h.0), ap (caught_up s) h.1 ∙ is)
+  read_now : (r : Result ℕ StopCause) (c : Board) → IsGot (get_by rule b at) b r c → IsGot (get_by rule (caught_up s t b) at) (caught_up s t b) r (caught_up s t c)
+  read_now (Ok x) c h = (got (Ok (x, c)) h).0
+  read_now (Err cause) c h = (got (Err cause) h.0, ap (caught_up s t) h.1)
 
-  pub read_ahead_by : (r : Result ℕ StopCause) (a : Forecast) (c : Board) → IsGot (get_by rule b at) b r c → IsAhead a b → IsAhead a c
-  read_ahead_by (Ok x) a c h k = like_ahead a b c (got (Ok (x, c)) h).1 k
-  read_ahead_by (Err cause) a c h k = subst (IsAhead a) (sym h.1) k
+  pub read_by : (r : Result ℕ StopCause) (c : Board) (v : ClockedBoard) → clocked t (caught_up s t b) ≡ v → IsGot (get_by rule b at) b r c → IsGot (get_in rule v at) v r (clocked t (caught_up s t c))
+  read_by r c v is h = read_late rule at t r (caught_up s t b) (caught_up s t c) (caught_up s t c) v is refl (read_now r c h)
 
-pub read_clock : (rule : Rule) (b c : Board) (at : ℕ) (r : Result ℕ StopCause) → IsGot (get_by rule b at) b r c → c.clock ≡ b.clock
-read_clock rule b c at (Ok x) h = get_by_clock rule b c at x h
-read_clock rule b c at (Err cause) h = ap (λ (d : Board). d.clock) h.1
-
--- what a read did on the board that it was caught up to, is told of the board's value before and after it
-pub read_late : (rule : Rule) (at : ℕ) (r : Result ℕ StopCause) (b v c w : Board) → b ≡ v → w ≡ c → IsGot (get_by rule b at) b r c → IsGot (get_by rule v at) v r w
-read_late rule at r b v c w now new h =
-    subst (λ (d : Board). IsGot (get_by rule v at) v r d) (sym new) (subst (λ (d : Board). IsGot (get_by rule d at) d r c) now h)
+  pub read_ahead_by : (r : Result ℕ StopCause) (a : Forecast) (c : Board) → IsGot (get_by rule b at) b r c → IsAhead a t b → IsAhead a t c
+  read_ahead_by (Ok x) a c h k = like_ahead a t b c (got (Ok (x, c)) h).1 k
+  read_ahead_by (Err cause) a c h k = subst (IsAhead a t) (sym h.1) k
 
 -- reads of the timers: TEMP alone may change
 like_t1 : (b : Board) (tm : Timer16) → tm ≡ with_temp tm.temp b.t1 → IsLike b (let c : Board = record b { t1 = tm } in c)
@@ -169,53 +159,55 @@ unfolding board_quiet lines_of
 like_t1 b tm e = subst (λ (u : Timer16). IsLike b (let c : Board = record b { t1 = u } in c)) (sym e) (temp_like tm.temp)
   where
     temp_like : (x : ℕ) → IsLike b (let c : Board = record b { t1 = with_temp x b.t1 } in c)
-    temp_like x = record { clock = refl; quiet = λ t. refl; calm = λ t i. refl; steady = λ t i. refl; lines = refl }
+    temp_like x = record { quiet = λ t. refl; calm = λ t i. refl; steady = λ t i. refl; lines = refl }
 
 like_t3 : (b : Board) (tm : Timer16) → tm ≡ with_temp tm.temp b.t3 → IsLike b (let c : Board = record b { t3 = tm } in c)
 unfolding board_quiet lines_of
 like_t3 b tm e = subst (λ (u : Timer16). IsLike b (let c : Board = record b { t3 = u } in c)) (sym e) (temp_like tm.temp)
   where
     temp_like : (x : ℕ) → IsLike b (let c : Board = record b { t3 = with_temp x b.t3 } in c)
-    temp_like x = record { clock = refl; quiet = λ t. refl; calm = λ t i. refl; steady = λ t i. refl; lines = refl }
+    temp_like x = record { quiet = λ t. refl; calm = λ t i. refl; steady = λ t i. refl; lines = refl }
 
-pub ahead_t1 : (a : Forecast) (b : Board) (tm : Timer16) → tm ≡ with_temp tm.temp b.t1 → IsAhead a b → IsAhead a (let c : Board = record b { t1 = tm } in c)
-ahead_t1 a b tm e h = like_ahead a b (let c : Board = record b { t1 = tm } in c) (like_t1 b tm e) h
+pub ahead_t1 : (a : Forecast) (t : ℕ) (b : Board) (tm : Timer16) → tm ≡ with_temp tm.temp b.t1 → IsAhead a t b → IsAhead a t (let c : Board = record b { t1 = tm } in c)
+ahead_t1 a t b tm e h = like_ahead a t b (let c : Board = record b { t1 = tm } in c) (like_t1 b tm e) h
 
-pub ahead_t3 : (a : Forecast) (b : Board) (tm : Timer16) → tm ≡ with_temp tm.temp b.t3 → IsAhead a b → IsAhead a (let c : Board = record b { t3 = tm } in c)
-ahead_t3 a b tm e h = like_ahead a b (let c : Board = record b { t3 = tm } in c) (like_t3 b tm e) h
+pub ahead_t3 : (a : Forecast) (t : ℕ) (b : Board) (tm : Timer16) → tm ≡ with_temp tm.temp b.t3 → IsAhead a t b → IsAhead a t (let c : Board = record b { t3 = tm } in c)
+ahead_t3 a t b tm e h = like_ahead a t b (let c : Board = record b { t3 = tm } in c) (like_t3 b tm e) h
 
-module _ (rule : Rule) (b v : Board) (at s x : ℕ) (is : caught_up s b ≡ v) where
-  -- at the board's value, what is got at the board that is caught up
-  got_late : (c : Board) → get_by rule (caught_up s b) at ≡ Ok (x, c) → IsGot (get_by rule v at) v (Ok x) c
-  got_late c h = subst (λ (w : Board). get_by rule w at ≡ Ok (x, c)) is h
+module _ (rule : Rule) (b : Board) (v : ClockedBoard) (at s t x : ℕ) (is : clocked t (caught_up s t b) ≡ v) where
+  -- at the value, what is got at the board that is caught up
+  got_late : (c : Board) → get_by rule (caught_up s t b) at ≡ Ok (x, c) → get_in rule v at ≡ Ok (x, clocked t c)
+  got_late c h = subst (λ (w : ClockedBoard). get_in rule w at ≡ Ok (x, clocked t c)) is (ap (got_in t) h)
 
-  pub read_t0 : (reg : Reg8) → rule ≡ Timer0 reg → x ≡ reg8.get_of (cycles timer8.timer_cycle s (b.clock - s) b.t0) reg → get_by rule v at ≡ Ok (x, v)
+  pub read_t0 : (reg : Reg8) → rule ≡ Timer0 reg → x ≡ reg8.get_of (cycles timer8.timer_cycle s (t - s) b.t0) reg → get_in rule v at ≡ Ok (x, v)
   unfolding timers_leap
   read_t0 reg r e =
-      subst (λ (w : Board). get_by rule w at ≡ Ok (x, w)) is
-      (ap (λ (k : Rule). get_by k (caught_up s b) at) r ∙ ap (λ y. let g : Result (ℕ × Board) StopCause = Ok (y, caught_up s b) in g) (sym e))
+      got_late (caught_up s t b)
+      (ap (λ (k : Rule). get_by k (caught_up s t b) at) r ∙ ap (λ y. let g : Result (ℕ × Board) StopCause = Ok (y, caught_up s t b) in g) (sym e))
+      ∙ ap (λ (w : ClockedBoard). let g : Result (ℕ × ClockedBoard) StopCause = Ok (x, w) in g) is
 
-  pub read_t2 : (reg : Reg8) → rule ≡ Timer2 reg → x ≡ reg8.get_of (cycles timer8.timer_cycle s (b.clock - s) b.t2) reg → get_by rule v at ≡ Ok (x, v)
+  pub read_t2 : (reg : Reg8) → rule ≡ Timer2 reg → x ≡ reg8.get_of (cycles timer8.timer_cycle s (t - s) b.t2) reg → get_in rule v at ≡ Ok (x, v)
   unfolding timers_leap
   read_t2 reg r e =
-      subst (λ (w : Board). get_by rule w at ≡ Ok (x, w)) is
-      (ap (λ (k : Rule). get_by k (caught_up s b) at) r ∙ ap (λ y. let g : Result (ℕ × Board) StopCause = Ok (y, caught_up s b) in g) (sym e))
+      got_late (caught_up s t b)
+      (ap (λ (k : Rule). get_by k (caught_up s t b) at) r ∙ ap (λ y. let g : Result (ℕ × Board) StopCause = Ok (y, caught_up s t b) in g) (sym e))
+      ∙ ap (λ (w : ClockedBoard). let g : Result (ℕ × ClockedBoard) StopCause = Ok (x, w) in g) is
 
-  pub read_t1 : (reg : Reg16) (tm : Timer16) → rule ≡ Timer1 reg → reg16s.get_of (cycles timer16.timer_cycle s (b.clock - s) b.t1) reg ≡ (x, cycles timer16.timer_cycle s (b.clock - s) tm)
-      → IsGot (get_by rule v at) v (Ok x) (caught_up s (let c : Board = record b { t1 = tm } in c))
+  pub read_t1 : (reg : Reg16) (tm : Timer16) → rule ≡ Timer1 reg → reg16s.get_of (cycles timer16.timer_cycle s (t - s) b.t1) reg ≡ (x, cycles timer16.timer_cycle s (t - s) tm)
+      → IsGot (get_in rule v at) v (Ok x) (clocked t (caught_up s t (let c : Board = record b { t1 = tm } in c)))
   unfolding timers_leap
   read_t1 reg tm r e =
-      got_late (caught_up s (let c : Board = record b { t1 = tm } in c))
-      (ap (λ (k : Rule). get_by k (caught_up s b) at) r
-      ∙ ap (λ (p : ℕ × Timer16). let c : Board = record (caught_up s b) { t1 = p.1 } in let g : Result (ℕ × Board) StopCause = Ok (p.0, c) in g) e)
+      got_late (caught_up s t (let c : Board = record b { t1 = tm } in c))
+      (ap (λ (k : Rule). get_by k (caught_up s t b) at) r
+      ∙ ap (λ (p : ℕ × Timer16). let c : Board = record (caught_up s t b) { t1 = p.1 } in let g : Result (ℕ × Board) StopCause = Ok (p.0, c) in g) e)
 
-  pub read_t3 : (reg : Reg16) (tm : Timer16) → rule ≡ Timer3 reg → reg16s.get_of (cycles timer16.timer_cycle s (b.clock - s) b.t3) reg ≡ (x, cycles timer16.timer_cycle s (b.clock - s) tm)
-      → IsGot (get_by rule v at) v (Ok x) (caught_up s (let c : Board = record b { t3 = tm } in c))
+  pub read_t3 : (reg : Reg16) (tm : Timer16) → rule ≡ Timer3 reg → reg16s.get_of (cycles timer16.timer_cycle s (t - s) b.t3) reg ≡ (x, cycles timer16.timer_cycle s (t - s) tm)
+      → IsGot (get_in rule v at) v (Ok x) (clocked t (caught_up s t (let c : Board = record b { t3 = tm } in c)))
   unfolding timers_leap
   read_t3 reg tm r e =
-      got_late (caught_up s (let c : Board = record b { t3 = tm } in c))
-      (ap (λ (k : Rule). get_by k (caught_up s b) at) r
-      ∙ ap (λ (p : ℕ × Timer16). let c : Board = record (caught_up s b) { t3 = p.1 } in let g : Result (ℕ × Board) StopCause = Ok (p.0, c) in g) e)
+      got_late (caught_up s t (let c : Board = record b { t3 = tm } in c))
+      (ap (λ (k : Rule). get_by k (caught_up s t b) at) r
+      ∙ ap (λ (p : ℕ × Timer16). let c : Board = record (caught_up s t b) { t3 = p.1 } in let g : Result (ℕ × Board) StopCause = Ok (p.0, c) in g) e)
 
 -- ---- writes
 abbrev PutApart : Board → ℕ → ℕ → Result Board StopCause → Result Board StopCause → Type 0
@@ -232,7 +224,7 @@ like_kept at y b e =
     let parts = and_parts (not (at == TIMSK)) (not (at == ETIMSK)) e in
     let m : kept_at TIMSK (with_kept at y b) ≡ kept_at TIMSK b = get_or-set_other b.kept at TIMSK y 0 (not_at at TIMSK parts.0) in
     let x : kept_at ETIMSK (with_kept at y b) ≡ kept_at ETIMSK b = get_or-set_other b.kept at ETIMSK y 0 (not_at at ETIMSK parts.1) in
-    record { clock = refl; quiet = λ t. refl; calm = λ t i. refl; steady = λ t i. refl; lines = rw (m, x) refl }
+    record { quiet = λ t. refl; calm = λ t i. refl; steady = λ t i. refl; lines = rw (m, x) refl }
 
 either : (b : Board) (s n : ℕ) (c : Bool) (p q u w : Result Board StopCause) → PutApart b s n p u → PutApart b s n q w → PutApart b s n (if c then p else q) (if c then u else w)
 either b s n true p q u w h k = h
@@ -242,48 +234,42 @@ kept_apart : (b : Board) (at y s n : ℕ) → is_no_mask at ≡ true → PutApar
 unfolding timers_leap
 kept_apart b at y s n e = (refl, like_kept at y b e)
 
-put_apart : (rule : Rule) (b : Board) (at x s n : ℕ) → is_plain_write rule at ≡ true → PutApart b s n (put_by rule b at x) (put_by rule (timers_leap s n b) at x)
+put_apart : (t : ℕ) (rule : Rule) (b : Board) (at x s n : ℕ) → is_plain_write rule at ≡ true → PutApart b s n (put_by t rule b at x) (put_by t rule (timers_leap s n b) at x)
 unfolding timers_leap
-put_apart Reserved b at x s n e = refl
-put_apart (Pin port) b at x s n e = (refl, itself b)
-put_apart (Kept mask) b at x s n e = kept_apart b at (bit_and x mask) s n e
-put_apart (Guarded bits cause mask) b at x s n e = either b s n (any_bit x bits) _ _ _ _ refl (kept_apart b at (bit_and x mask) s n e)
-put_apart WatchdogControl b at x s n e = either b s n (any_bit x WDE && not (any_bit x WDCE)) _ _ _ _ refl (refl, itself b)
-put_apart ResetFlags b at x s n e = kept_apart b at _ s n e
-put_apart CpuControl b at x s n e =
+put_apart t Reserved b at x s n e = refl
+put_apart t (Pin port) b at x s n e = (refl, itself b)
+put_apart t (Kept mask) b at x s n e = kept_apart b at (bit_and x mask) s n e
+put_apart t (Guarded bits cause mask) b at x s n e = either b s n (any_bit x bits) _ _ _ _ refl (kept_apart b at (bit_and x mask) s n e)
+put_apart t WatchdogControl b at x s n e = either b s n (any_bit x WDE && not (any_bit x WDCE)) _ _ _ _ refl (refl, itself b)
+put_apart t ResetFlags b at x s n e = kept_apart b at _ s n e
+put_apart t CpuControl b at x s n e =
     either b s n (any_bit x SRE) _ _ _ _ refl (either b s n (any_bit x IVSEL) _ _ _ _ refl (kept_apart b at (bit_and x 0x7C) s n e))
-put_apart TimerFlags b at x s n e = absurd (false_true e)
-put_apart ExtendedTimerFlags b at x s n e = absurd (false_true e)
-put_apart (Timer0 reg) b at x s n e = absurd (false_true e)
-put_apart (Timer1 reg) b at x s n e = absurd (false_true e)
-put_apart (Timer2 reg) b at x s n e = absurd (false_true e)
-put_apart (Timer3 reg) b at x s n e = absurd (false_true e)
-put_apart (Usart0 reg) b at x s n e = absurd (false_true e)
-put_apart (Spi reg) b at x s n e = absurd (false_true e)
-
-module _ (rule : Rule) (b : Board) (at x s : ℕ) (e : is_plain_write rule at ≡ true) where
-  done : (g : Result Board StopCause) → put_by rule b at x ≡ g → PutApart b s (b.clock - s) g (put_by rule (caught_up s b) at x)
-  done g h = subst (λ r. PutApart b s (b.clock - s) r (put_by rule (caught_up s b) at x)) h (put_apart rule b at x s (b.clock - s) e)
-
-  write_ok : (c v : Board) → put_by rule b at x ≡ Ok c → caught_up s b ≡ v → put_by rule v at x ≡ Ok (caught_up s c)
-  write_ok c v h is =
-      let g = done (Ok c) h in
-      let later : timers_leap s (b.clock - s) c ≡ caught_up s c = ap (λ (t : ℕ). timers_leap s (t - s) c) (sym g.1.clock) in
-      subst (λ (w : Board). put_by rule w at x ≡ Ok (caught_up s c)) is (g.0 ∙ ap (λ (w : Board). let r : Result Board StopCause = Ok w in r) later)
-
-  pub write_by : (r : Result (Unit {0}) StopCause) (c v : Board) → caught_up s b ≡ v → IsPut (put_by rule b at x) b r c → IsPut (put_by rule v at x) v r (caught_up s c)
-  write_by (Ok u) c v is h = write_ok c v h is
-  write_by (Err cause) c v is h = (subst (λ (w : Board). put_by rule w at x ≡ Err cause) is (done (Err cause) h.0), ap (caught_up s) h.1 ∙ is)
-
-  pub write_ahead_by : (r : Result (Unit {0}) StopCause) (a : Forecast) (c : Board) → IsPut (put_by rule b at x) b r c → IsAhead a b → IsAhead a c
-  write_ahead_by (Ok u) a c h k = like_ahead a b c (done (Ok c) h).1 k
-  write_ahead_by (Err cause) a c h k = subst (IsAhead a) (sym h.1) k
-
-pub write_clock : (rule : Rule) (b c : Board) (at x : ℕ) (r : Result (Unit {0}) StopCause) → IsPut (put_by rule b at x) b r c → c.clock ≡ b.clock
-write_clock rule b c at x (Ok u) h = put_by_clock rule b c at x h
-write_clock rule b c at x (Err cause) h = ap (λ (d : Board). d.clock) h.1
+put_apart t TimerFlags b at x s n e = absurd (false_true e)
+put_apart t ExtendedTimerFlags b at x s n e = absurd (false_true e)
+put_apart t (Timer0 reg) b at x s n e = absurd (false_true e)
+put_apart t (Timer1 reg) b at x s n e = absurd (false_true e)
+put_apart t (Timer2 reg) b at x s n e = absurd (false_true e)
+put_apart t (Timer3 reg) b at x s n e = absurd (false_true e)
+put_apart t (Usart0 reg) b at x s n e = absurd (false_true e)
+put_apart t (Spi reg) b at x s n e = absurd (false_true e)
 
 -- a write that catches up before or behind it
-pub write_late : (rule : Rule) (at x : ℕ) (r : Result (Unit {0}) StopCause) (b v c w : Board) → b ≡ v → w ≡ c → IsPut (put_by rule b at x) b r c → IsPut (put_by rule v at x) v r w
-write_late rule at x r b v c w now new h =
-    subst (λ (d : Board). IsPut (put_by rule v at x) v r d) (sym new) (subst (λ (d : Board). IsPut (put_by rule d at x) d r c) now h)
+pub write_late : (rule : Rule) (at x t : ℕ) (r : Result (Unit {0}) StopCause) (b c w : Board) (v : ClockedBoard) → clocked t b ≡ v → w ≡ c → IsPut (put_by t rule b at x) b r c → IsPut (put_in rule v at x) v r (clocked t w)
+write_late rule at x t r b c w v now new h =
+    subst (λ (d : Board). IsPut (put_in rule v at x) v r (clocked t d)) (sym new)
+    (subst (λ (d : ClockedBoard). IsPut (put_in rule d at x) d r (clocked t c)) now (put_clocked rule (clocked t b) at x r c h))
+
+module _ (rule : Rule) (b : Board) (at x s t : ℕ) (e : is_plain_write rule at ≡ true) where
+  done : (g : Result Board StopCause) → put_by t rule b at x ≡ g → PutApart b s (t - s) g (put_by t rule (caught_up s t b) at x)
+  done g h = subst (λ r. PutApart b s (t - s) r (put_by t rule (caught_up s t b) at x)) h (put_apart t rule b at x s (t - s) e)
+
+  write_now : (r : Result (Unit {0}) StopCause) (c : Board) → IsPut (put_by t rule b at x) b r c → IsPut (put_by t rule (caught_up s t b) at x) (caught_up s t b) r (caught_up s t c)
+  write_now (Ok u) c h = (done (Ok c) h).0
+  write_now (Err cause) c h = (done (Err cause) h.0, ap (caught_up s t) h.1)
+
+  pub write_by : (r : Result (Unit {0}) StopCause) (c : Board) (v : ClockedBoard) → clocked t (caught_up s t b) ≡ v → IsPut (put_by t rule b at x) b r c → IsPut (put_in rule v at x) v r (clocked t (caught_up s t c))
+  write_by r c v is h = write_late rule at x t r (caught_up s t b) (caught_up s t c) (caught_up s t c) v is refl (write_now r c h)
+
+  pub write_ahead_by : (r : Result (Unit {0}) StopCause) (a : Forecast) (c : Board) → IsPut (put_by t rule b at x) b r c → IsAhead a t b → IsAhead a t c
+  write_ahead_by (Ok u) a c h k = like_ahead a t b c (done (Ok c) h).1 k
+  write_ahead_by (Err cause) a c h k = subst (IsAhead a t) (sym h.1) k

@@ -3,25 +3,27 @@ use Rattle.std.proofs.Common.{◌≡◌, ℕ, ◌+◌, ◌-◌, ◌<◌, true, f
 use Rattle.avr_base.specs.declared.stop.StopCause.{StopCause}
 use Rattle.board_io.specs.declared.ahead.Forecast.{Forecast}
 use Rattle.board_io.specs.declared.board.Board.{Board}
+use Rattle.board_io.specs.declared.clocked.ClockedBoard.{ClockedBoard}
+use Rattle.board_io.specs.Board.{clocked}
+use Rattle.board_io.proofs.Agree.{get_clocked, put_clocked}
 use Rattle.board_io.specs.declared.rules.Rule.{Rule}
 use Rattle.board_io.specs.declared.rules.Rule.TheVariants.{Reserved, Pin, Kept, Guarded, WatchdogControl, ResetFlags, CpuControl, TimerFlags, ExtendedTimerFlags, Timer0, Timer1, Timer2, Timer3, Usart0, Spi}
 use Rattle.board_io.specs.Cycle.{timers_leap}
 use Rattle.board_io.specs.Lagging.{IsAhead, caught_up, is_port}
 use Rattle.board_io.specs.Passing.{changes_flag_at, sets_flag_at}
-use Rattle.board_io.specs.Registers.{IsGot, IsPut, get_by, put_by, with_spi, with_usart}
+use Rattle.board_io.specs.Registers.{IsGot, IsPut, get_by, get_in, put_by, put_in, with_spi, with_usart}
 use Rattle.serial_ports.specs.declared.spi.Spi.{Spi as SpiPort}
 use Rattle.serial_ports.specs.SpiRegisters as spi
 use Rattle.serial_ports.specs.declared.usart.Usart.{Usart}
 use Rattle.serial_ports.specs.UsartRegisters as usart
 
--- another board has the clock of this one, and timers that set and change flags when its do
+-- another board has timers that set and change flags when those of this one do
 pub record IsBeside (b c : Board) : Type 0 where
-  pub clock : c.clock ≡ b.clock
   pub calm : (t i : ℕ) → changes_flag_at t c i ≡ changes_flag_at t b i
   pub steady : (t i : ℕ) → sets_flag_at t c i ≡ sets_flag_at t b i
 
 itself : (b : Board) → IsBeside b b
-itself b = record { clock = refl; calm = λ t i. refl; steady = λ t i. refl }
+itself b = record { calm = λ t i. refl; steady = λ t i. refl }
 
 abbrev GotBeside : Board → ℕ → ℕ → Result (ℕ × Board) StopCause → Result (ℕ × Board) StopCause → Type 0
 GotBeside b s n (Ok p) late = (late ≡ Ok (p.0, timers_leap s n p.1)) × IsBeside b p.1
@@ -49,78 +51,76 @@ got_beside (Timer0 reg) b at s n e = absurd (false_true e)
 got_beside (Timer1 reg) b at s n e = absurd (false_true e)
 got_beside (Timer2 reg) b at s n e = absurd (false_true e)
 got_beside (Timer3 reg) b at s n e = absurd (false_true e)
-got_beside (Usart0 reg) b at s n e = (refl, record { clock = refl; calm = λ t i. refl; steady = λ t i. refl })
-got_beside (Spi reg) b at s n e = (refl, record { clock = refl; calm = λ t i. refl; steady = λ t i. refl })
+got_beside (Usart0 reg) b at s n e = (refl, record { calm = λ t i. refl; steady = λ t i. refl })
+got_beside (Spi reg) b at s n e = (refl, record { calm = λ t i. refl; steady = λ t i. refl })
 
 usart_beside : (b : Board) (s n : ℕ) (o : Result Usart StopCause) → PutBeside b s n (with_usart b o) (with_usart (timers_leap s n b) o)
 unfolding timers_leap
-usart_beside b s n (Ok u) = (refl, record { clock = refl; calm = λ t i. refl; steady = λ t i. refl })
+usart_beside b s n (Ok u) = (refl, record { calm = λ t i. refl; steady = λ t i. refl })
 usart_beside b s n (Err cause) = refl
 
 spi_beside : (b : Board) (s n : ℕ) (o : Result SpiPort StopCause) → PutBeside b s n (with_spi b o) (with_spi (timers_leap s n b) o)
 unfolding timers_leap
-spi_beside b s n (Ok u) = (refl, record { clock = refl; calm = λ t i. refl; steady = λ t i. refl })
+spi_beside b s n (Ok u) = (refl, record { calm = λ t i. refl; steady = λ t i. refl })
 spi_beside b s n (Err cause) = refl
 
-done_beside : (rule : Rule) (b : Board) (at x s n : ℕ) → is_port rule ≡ true → PutBeside b s n (put_by rule b at x) (put_by rule (timers_leap s n b) at x)
+done_beside : (t : ℕ) (rule : Rule) (b : Board) (at x s n : ℕ) → is_port rule ≡ true → PutBeside b s n (put_by t rule b at x) (put_by t rule (timers_leap s n b) at x)
 unfolding timers_leap
-done_beside Reserved b at x s n e = absurd (false_true e)
-done_beside (Pin port) b at x s n e = absurd (false_true e)
-done_beside (Kept mask) b at x s n e = absurd (false_true e)
-done_beside (Guarded bits cause mask) b at x s n e = absurd (false_true e)
-done_beside WatchdogControl b at x s n e = absurd (false_true e)
-done_beside ResetFlags b at x s n e = absurd (false_true e)
-done_beside CpuControl b at x s n e = absurd (false_true e)
-done_beside TimerFlags b at x s n e = absurd (false_true e)
-done_beside ExtendedTimerFlags b at x s n e = absurd (false_true e)
-done_beside (Timer0 reg) b at x s n e = absurd (false_true e)
-done_beside (Timer1 reg) b at x s n e = absurd (false_true e)
-done_beside (Timer2 reg) b at x s n e = absurd (false_true e)
-done_beside (Timer3 reg) b at x s n e = absurd (false_true e)
-done_beside (Usart0 reg) b at x s n e = usart_beside b s n (usart.put_of b.clock b.usart reg x)
-done_beside (Spi reg) b at x s n e = spi_beside b s n (spi.put_of b.clock b.spi reg x)
+done_beside t Reserved b at x s n e = absurd (false_true e)
+done_beside t (Pin port) b at x s n e = absurd (false_true e)
+done_beside t (Kept mask) b at x s n e = absurd (false_true e)
+done_beside t (Guarded bits cause mask) b at x s n e = absurd (false_true e)
+done_beside t WatchdogControl b at x s n e = absurd (false_true e)
+done_beside t ResetFlags b at x s n e = absurd (false_true e)
+done_beside t CpuControl b at x s n e = absurd (false_true e)
+done_beside t TimerFlags b at x s n e = absurd (false_true e)
+done_beside t ExtendedTimerFlags b at x s n e = absurd (false_true e)
+done_beside t (Timer0 reg) b at x s n e = absurd (false_true e)
+done_beside t (Timer1 reg) b at x s n e = absurd (false_true e)
+done_beside t (Timer2 reg) b at x s n e = absurd (false_true e)
+done_beside t (Timer3 reg) b at x s n e = absurd (false_true e)
+done_beside t (Usart0 reg) b at x s n e = usart_beside b s n (usart.put_of t b.usart reg x)
+done_beside t (Spi reg) b at x s n e = spi_beside b s n (spi.put_of t b.spi reg x)
 
-module _ (rule : Rule) (b : Board) (at s : ℕ) (e : is_port rule ≡ true) where
-  got : (g : Result (ℕ × Board) StopCause) → get_by rule b at ≡ g → GotBeside b s (b.clock - s) g (get_by rule (caught_up s b) at)
-  got g h = subst (λ r. GotBeside b s (b.clock - s) r (get_by rule (caught_up s b) at)) h (got_beside rule b at s (b.clock - s) e)
+module _ (rule : Rule) (b : Board) (at s t : ℕ) (e : is_port rule ≡ true) where
+  got : (g : Result (ℕ × Board) StopCause) → get_by rule b at ≡ g → GotBeside b s (t - s) g (get_by rule (caught_up s t b) at)
+  got g h = subst (λ r. GotBeside b s (t - s) r (get_by rule (caught_up s t b) at)) h (got_beside rule b at s (t - s) e)
 
-  done : (x : ℕ) (g : Result Board StopCause) → put_by rule b at x ≡ g → PutBeside b s (b.clock - s) g (put_by rule (caught_up s b) at x)
-  done x g h = subst (λ r. PutBeside b s (b.clock - s) r (put_by rule (caught_up s b) at x)) h (done_beside rule b at x s (b.clock - s) e)
+  done : (x : ℕ) (g : Result Board StopCause) → put_by t rule b at x ≡ g → PutBeside b s (t - s) g (put_by t rule (caught_up s t b) at x)
+  done x g h = subst (λ r. PutBeside b s (t - s) r (put_by t rule (caught_up s t b) at x)) h (done_beside t rule b at x s (t - s) e)
 
-  read_ok : (x : ℕ) (c v : Board) → get_by rule b at ≡ Ok (x, c) → caught_up s b ≡ v → get_by rule v at ≡ Ok (x, caught_up s c)
-  read_ok x c v h is =
-      let g = got (Ok (x, c)) h in
-      let later : timers_leap s (b.clock - s) c ≡ caught_up s c = ap (λ (t : ℕ). timers_leap s (t - s) c) (sym g.1.clock) in
-      subst (λ (w : Board). get_by rule w at ≡ Ok (x, caught_up s c)) is (g.0 ∙ ap (λ (w : Board). let r : Result (ℕ × Board) StopCause = Ok (x, w) in r) later)
+  read_now : (r : Result ℕ StopCause) (c : Board) → IsGot (get_by rule b at) b r c → IsGot (get_by rule (caught_up s t b) at) (caught_up s t b) r (caught_up s t c)
+  read_now (Ok x) c h = (got (Ok (x, c)) h).0
+  read_now (Err cause) c h = (got (Err cause) h.0, ap (caught_up s t) h.1)
 
-  pub read_beside : (r : Result ℕ StopCause) (c v : Board) → caught_up s b ≡ v → IsGot (get_by rule b at) b r c → IsGot (get_by rule v at) v r (caught_up s c)
-  read_beside (Ok x) c v is h = read_ok x c v h is
-  read_beside (Err cause) c v is h = (subst (λ (w : Board). get_by rule w at ≡ Err cause) is (got (Err cause) h.0), ap (caught_up s) h.1 ∙ is)
+  write_now : (x : ℕ) (r : Result (Unit {0}) StopCause) (c : Board) → IsPut (put_by t rule b at x) b r c → IsPut (put_by t rule (caught_up s t b) at x) (caught_up s t b) r (caught_up s t c)
+  write_now x (Ok u) c h = (done x (Ok c) h).0
+  write_now x (Err cause) c h = (done x (Err cause) h.0, ap (caught_up s t) h.1)
 
-  write_ok : (x : ℕ) (c v : Board) → put_by rule b at x ≡ Ok c → caught_up s b ≡ v → put_by rule v at x ≡ Ok (caught_up s c)
-  write_ok x c v h is =
-      let g = done x (Ok c) h in
-      let later : timers_leap s (b.clock - s) c ≡ caught_up s c = ap (λ (t : ℕ). timers_leap s (t - s) c) (sym g.1.clock) in
-      subst (λ (w : Board). put_by rule w at x ≡ Ok (caught_up s c)) is (g.0 ∙ ap (λ (w : Board). let r : Result Board StopCause = Ok w in r) later)
+  pub read_beside : (r : Result ℕ StopCause) (c : Board) (v : ClockedBoard) → clocked t (caught_up s t b) ≡ v → IsGot (get_by rule b at) b r c → IsGot (get_in rule v at) v r (clocked t (caught_up s t c))
+  read_beside r c v is h =
+      subst (λ (w : ClockedBoard). IsGot (get_in rule w at) w r (clocked t (caught_up s t c))) is
+      (get_clocked rule (clocked t (caught_up s t b)) at r (caught_up s t c) (read_now r c h))
 
-  pub write_beside : (x : ℕ) (r : Result (Unit {0}) StopCause) (c v : Board) → caught_up s b ≡ v → IsPut (put_by rule b at x) b r c → IsPut (put_by rule v at x) v r (caught_up s c)
-  write_beside x (Ok u) c v is h = write_ok x c v h is
-  write_beside x (Err cause) c v is h = (subst (λ (w : Board). put_by rule w at x ≡ Err cause) is (done x (Err cause) h.0), ap (caught_up s) h.1 ∙ is)
+  pub write_beside : (x : ℕ) (r : Result (Unit {0}) StopCause) (c : Board) (v : ClockedBoard) → clocked t (caught_up s t b) ≡ v → IsPut (put_by t rule b at x) b r c → IsPut (put_in rule v at x) v r (clocked t (caught_up s t c))
+  write_beside x r c v is h =
+      subst (λ (w : ClockedBoard). IsPut (put_in rule w at x) w r (clocked t (caught_up s t c))) is
+      (put_clocked rule (clocked t (caught_up s t b)) at x r (caught_up s t c) (write_now x r c h))
 
   pub got_timers : (r : Result ℕ StopCause) (c : Board) → IsGot (get_by rule b at) b r c → IsBeside b c
   got_timers (Ok x) c h = (got (Ok (x, c)) h).1
   got_timers (Err cause) c h = subst (IsBeside b) (sym h.1) (itself b)
 
-  pub done_timers : (x : ℕ) (r : Result (Unit {0}) StopCause) (c : Board) → IsPut (put_by rule b at x) b r c → IsBeside b c
+  pub done_timers : (x : ℕ) (r : Result (Unit {0}) StopCause) (c : Board) → IsPut (put_by t rule b at x) b r c → IsBeside b c
   done_timers x (Ok u) c h = (done x (Ok c) h).1
   done_timers x (Err cause) c h = subst (IsBeside b) (sym h.1) (itself b)
 
 -- so what was known of the timers is known still
-pub calm_beside : (a : Forecast) (b c : Board) → IsBeside b c → IsAhead a b → (i : ℕ) → a.settled + i < a.next → changes_flag_at a.settled c i ≡ false
-calm_beside a b c k h i below = k.calm a.settled i ∙ h.calm i below
+pub calm_beside : (a : Forecast) (t : ℕ) (b c : Board) → IsBeside b c → IsAhead a t b → (i : ℕ) → a.settled + i < a.next → changes_flag_at a.settled c i ≡ false
+calm_beside a t b c k h i below = k.calm a.settled i ∙ h.calm i below
 
-pub past_beside : (a : Forecast) (b c : Board) → IsBeside b c → IsAhead a b → (i : ℕ) → a.settled + i < c.clock → changes_flag_at a.settled c i ≡ false
-past_beside a b c k h i below = let same = k.clock in k.calm a.settled i ∙ h.past i (omega (arith, same, below))
+pub past_beside : (a : Forecast) (t : ℕ) (b c : Board) → IsBeside b c → IsAhead a t b → (i : ℕ) → a.settled + i < t → changes_flag_at a.settled c i ≡ false
+past_beside a t b c k h i below = k.calm a.settled i ∙ h.past i below
 
-pub steady_beside : (a : Forecast) (b c : Board) → IsBeside b c → IsAhead a b → (i : ℕ) → a.settled + i < a.steady → sets_flag_at a.settled c i ≡ false
-steady_beside a b c k h i below = k.steady a.settled i ∙ h.steady i below
+pub steady_beside : (a : Forecast) (t : ℕ) (b c : Board) → IsBeside b c → IsAhead a t b → (i : ℕ) → a.settled + i < a.steady → sets_flag_at a.settled c i ≡ false
+steady_beside a t b c k h i below = k.steady a.settled i ∙ h.steady i below

@@ -173,8 +173,8 @@ same-timer8 p n a b h k = sym (saved8.one-timer p n a h) ∙ saved8.one-timer p 
 pub same-timer16 : (n : List ℕ) (a b : Timer16) → timer16.are_numbers n ≡ true → timer16.HasNumbers n a → timer16.HasNumbers n b → a ≡ b
 same-timer16 n a b fit h k = sym (saved16.one-within n a fit h) ∙ saved16.one-within n b fit k
 
-pub one-board : (byte_time t : ℕ) (n io : List ℕ) (a b : Board) → all (fits t n) ≡ true → IsRestored byte_time n io a → IsRestored byte_time n io b → a.clock ≡ b.clock → a ≡ b
-one-board byte_time t n io a b fit h k clock =
+pub one-board : (byte_time t : ℕ) (n io : List ℕ) (a b : Board) → all (fits t n) ≡ true → IsRestored byte_time n io a → IsRestored byte_time n io b → a ≡ b
+one-board byte_time t n io a b fit h k =
     let i = has-numbers n a h.numbers in
     let j = has-numbers n b k.numbers in
     let last = and_parts _ _ (sym (fits-parts t n) ∙ fit) in
@@ -196,7 +196,7 @@ one-board byte_time t n io a b fit h k clock =
     let has_b : radio.HasNumbers byte_time (part 62 5 n) b.radio = record { gap = k.gap; numbers = j.radio } in
     let radio = sym (one-radio byte_time (part 62 5 n) a.radio last.1 has) ∙ one-radio byte_time (part 62 5 n) b.radio last.1 has_b in
     let kept = h.kept ∙ sym k.kept in
-    let left : Board = record { clock = a.clock; kept = a.kept; t0 = a.t0; t1 = a.t1; t2 = a.t2; t3 = a.t3; usart = a.usart; spi = a.spi; radio = a.radio } in
-    let right : Board = record { clock = b.clock; kept = b.kept; t0 = b.t0; t1 = b.t1; t2 = b.t2; t3 = b.t3; usart = b.usart; spi = b.spi; radio = b.radio } in
+    let left : Board = record { kept = a.kept; t0 = a.t0; t1 = a.t1; t2 = a.t2; t3 = a.t3; usart = a.usart; spi = a.spi; radio = a.radio } in
+    let right : Board = record { kept = b.kept; t0 = b.t0; t1 = b.t1; t2 = b.t2; t3 = b.t3; usart = b.usart; spi = b.spi; radio = b.radio } in
     let same : left ≡ right = cc in
     same

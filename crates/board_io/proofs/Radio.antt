@@ -4,15 +4,16 @@ use Rattle.std.specs.Prelude.{bit_and}
 use Rattle.avr_base.specs.declared.stop.StopCause.{StopCause}
 use Rattle.avr_base.specs.declared.stop.StopCause.TheVariants as stop
 use Rattle.board_io.specs.declared.board.Board.{Board}
+use Rattle.board_io.specs.declared.clocked.ClockedBoard.{ClockedBoard}
 use Rattle.board_io.specs.declared.rules.Rule.{Rule}
 use Rattle.board_io.specs.declared.rules.Rule.TheVariants.{Reserved, Pin, Kept, Guarded, WatchdogControl, ResetFlags, CpuControl, TimerFlags, ExtendedTimerFlags, Timer0, Timer1, Timer2, Timer3, Usart0, Spi}
-use Rattle.board_io.specs.Board.{clock_at, selected, with_kept}
+use Rattle.board_io.specs.Board.{selected, with_kept}
 use Rattle.board_io.specs.declared.cycle.OnAir.{OnAir}
 use Rattle.board_io.specs.declared.cycle.OnAir.TheVariants.{Quiet, Sent, Asks}
 use Rattle.board_io.specs.Cycle.{air_by, air_of, board_air, board_answered, board_asks, board_begun, board_sends, is_asks, moved_by, sent_by, timers_cycle, timers_leap, transfer_end, usart_cycle, with_moved}
 use Rattle.board_io.specs.Lines.{entered_of}
 use Rattle.board_io.specs.Names.{IVSEL, SPI_STC, SRE, TIMER0_COMP, TIMER0_OVF, TIMER1_COMPA, TIMER1_COMPB, TIMER1_COMPC, TIMER1_OVF, TIMER2_COMP, TIMER2_OVF, TIMER3_COMPA, TIMER3_COMPB, TIMER3_COMPC, TIMER3_OVF, USART0_TX, WDCE, WDE}
-use Rattle.board_io.specs.Registers.{get_by, io_get, io_put, put_by, with_spi, with_t0, with_t1, with_t2, with_t3, with_usart}
+use Rattle.board_io.specs.Registers.{done_in, get_by, got_in, io_get, io_put, put_by, with_spi, with_t0, with_t1, with_t2, with_t3, with_usart}
 use Rattle.board_io.specs.Table.{rule_of}
 use Rattle.serial_ports.proofs.RadioLaws.{transfer_free, transfer_gap, transfer_sends}
 use Rattle.serial_ports.specs.declared.radio.TransferOutcome.{TransferOutcome}
@@ -102,25 +103,16 @@ pub leap_radio : (t n : ℕ) (b : Board) → (timers_leap t n b).radio ≡ b.rad
 unfolding timers_leap
 leap_radio t n b = refl
 
-pub clock_radio : (t : ℕ) (b : Board) → (clock_at t b).radio ≡ b.radio
-clock_radio t b = refl
+-- after a read and after a write, where these do not stop
+abbrev radio_got : Result (ℕ × Board) StopCause → Radio → Radio
+radio_got (Ok p) r = p.1.radio
+radio_got (Err cause) r = r
 
--- the radio and the clock: after a read and after a write, where these do not stop
-abbrev Aside : Type 0
-Aside = Radio × ℕ
+abbrev radio_put : Result Board StopCause → Radio → Radio
+radio_put (Ok b) r = b.radio
+radio_put (Err cause) r = r
 
-abbrev aside : Board → Aside
-aside b = (b.radio, b.clock)
-
-abbrev aside_got : Result (ℕ × Board) StopCause → Aside → Aside
-aside_got (Ok p) r = aside p.1
-aside_got (Err cause) r = r
-
-abbrev aside_put : Result Board StopCause → Aside → Aside
-aside_put (Ok b) r = aside b
-aside_put (Err cause) r = r
-
-got_by : (rule : Rule) (b : Board) (at : ℕ) → aside_got (get_by rule b at) (aside b) ≡ aside b
+got_by : (rule : Rule) (b : Board) (at : ℕ) → radio_got (get_by rule b at) b.radio ≡ b.radio
 got_by Reserved b at = refl
 got_by (Pin port) b at = refl
 got_by (Kept mask) b at = refl
@@ -137,105 +129,107 @@ got_by (Timer3 reg) b at = refl
 got_by (Usart0 reg) b at = refl
 got_by (Spi reg) b at = refl
 
-pub get_by_aside : (rule : Rule) (b c : Board) (at x : ℕ) → get_by rule b at ≡ Ok (x, c) → aside c ≡ aside b
-get_by_aside rule b c at x e = sym (ap (λ (r : Result (ℕ × Board) StopCause). aside_got r (aside b)) e) ∙ got_by rule b at
+abbrev clocked_got : Result (ℕ × ClockedBoard) StopCause → ClockedBoard → ClockedBoard
+clocked_got (Ok p) c = p.1
+clocked_got (Err cause) c = c
 
-get_aside : (b c : Board) (at x : ℕ) → io_get b at ≡ Ok (x, c) → aside c ≡ aside b
+clock_got : (c : ClockedBoard) (g : Result (ℕ × Board) StopCause) → (clocked_got (got_in c.clock g) c).clock ≡ c.clock
+clock_got c (Ok p) = refl
+clock_got c (Err cause) = refl
+
+got_radio : (c : ClockedBoard) (g : Result (ℕ × Board) StopCause) → (clocked_got (got_in c.clock g) c).board.radio ≡ radio_got g c.board.radio
+got_radio c (Ok p) = refl
+got_radio c (Err cause) = refl
+
+pub get_radio : (b c : ClockedBoard) (at x : ℕ) → io_get b at ≡ Ok (x, c) → c.board.radio ≡ b.board.radio
 unfolding io_get
-get_aside b c at x e = get_by_aside (rule_of at) b c at x e
+get_radio b c at x e =
+    ap (λ (r : Result (ℕ × ClockedBoard) StopCause). (clocked_got r b).board.radio) (sym e)
+    ∙ (got_radio b (get_by (rule_of at) b.board at) ∙ got_by (rule_of at) b.board at)
 
-pub get_radio : (b c : Board) (at x : ℕ) → io_get b at ≡ Ok (x, c) → c.radio ≡ b.radio
-get_radio b c at x e = ap (λ (p : Aside). p.0) (get_aside b c at x e)
+pub get_clock : (b c : ClockedBoard) (at x : ℕ) → io_get b at ≡ Ok (x, c) → c.clock ≡ b.clock
+unfolding io_get
+get_clock b c at x e = ap (λ (r : Result (ℕ × ClockedBoard) StopCause). (clocked_got r b).clock) (sym e) ∙ clock_got b (get_by (rule_of at) b.board at)
 
-pub get_clock : (b c : Board) (at x : ℕ) → io_get b at ≡ Ok (x, c) → c.clock ≡ b.clock
-get_clock b c at x e = ap (λ (p : Aside). p.1) (get_aside b c at x e)
-
-pub get_by_clock : (rule : Rule) (b c : Board) (at x : ℕ) → get_by rule b at ≡ Ok (x, c) → c.clock ≡ b.clock
-get_by_clock rule b c at x e = ap (λ (p : Aside). p.1) (get_by_aside rule b c at x e)
-
-choice : (c : Bool) (x y : Result Board StopCause) (r : Aside) → aside_put x r ≡ r → aside_put y r ≡ r → aside_put (if c then x else y) r ≡ r
+choice : (c : Bool) (x y : Result Board StopCause) (r : Radio) → radio_put x r ≡ r → radio_put y r ≡ r → radio_put (if c then x else y) r ≡ r
 choice true x y r e f = e
 choice false x y r e f = f
 
-t0_aside : (b : Board) (o : Result Timer8 StopCause) → aside_put (with_t0 b o) (aside b) ≡ aside b
-t0_aside b (Ok t) = refl
-t0_aside b (Err cause) = refl
+t0_put : (b : Board) (o : Result Timer8 StopCause) → radio_put (with_t0 b o) b.radio ≡ b.radio
+t0_put b (Ok t) = refl
+t0_put b (Err cause) = refl
 
-t1_aside : (b : Board) (o : Result Timer16 StopCause) → aside_put (with_t1 b o) (aside b) ≡ aside b
-t1_aside b (Ok t) = refl
-t1_aside b (Err cause) = refl
+t1_put : (b : Board) (o : Result Timer16 StopCause) → radio_put (with_t1 b o) b.radio ≡ b.radio
+t1_put b (Ok t) = refl
+t1_put b (Err cause) = refl
 
-t2_aside : (b : Board) (o : Result Timer8 StopCause) → aside_put (with_t2 b o) (aside b) ≡ aside b
-t2_aside b (Ok t) = refl
-t2_aside b (Err cause) = refl
+t2_put : (b : Board) (o : Result Timer8 StopCause) → radio_put (with_t2 b o) b.radio ≡ b.radio
+t2_put b (Ok t) = refl
+t2_put b (Err cause) = refl
 
-t3_aside : (b : Board) (o : Result Timer16 StopCause) → aside_put (with_t3 b o) (aside b) ≡ aside b
-t3_aside b (Ok t) = refl
-t3_aside b (Err cause) = refl
+t3_put : (b : Board) (o : Result Timer16 StopCause) → radio_put (with_t3 b o) b.radio ≡ b.radio
+t3_put b (Ok t) = refl
+t3_put b (Err cause) = refl
 
-usart_aside : (b : Board) (o : Result Usart StopCause) → aside_put (with_usart b o) (aside b) ≡ aside b
-usart_aside b (Ok u) = refl
-usart_aside b (Err cause) = refl
+usart_put : (b : Board) (o : Result Usart StopCause) → radio_put (with_usart b o) b.radio ≡ b.radio
+usart_put b (Ok u) = refl
+usart_put b (Err cause) = refl
 
-spi_aside : (b : Board) (o : Result SpiPort StopCause) → aside_put (with_spi b o) (aside b) ≡ aside b
-spi_aside b (Ok s) = refl
-spi_aside b (Err cause) = refl
+spi_put : (b : Board) (o : Result SpiPort StopCause) → radio_put (with_spi b o) b.radio ≡ b.radio
+spi_put b (Ok s) = refl
+spi_put b (Err cause) = refl
 
-put_keeps : (rule : Rule) (b : Board) (at x : ℕ) → aside_put (put_by rule b at x) (aside b) ≡ aside b
-put_keeps Reserved b at x = refl
-put_keeps (Pin port) b at x = refl
-put_keeps (Kept mask) b at x = refl
-put_keeps (Guarded bits cause mask) b at x = choice (any_bit x bits) (Err cause) (Ok (with_kept at (bit_and x mask) b)) (aside b) refl refl
-put_keeps WatchdogControl b at x = choice (any_bit x WDE && not (any_bit x WDCE)) (Err stop.Watchdog) (Ok b) (aside b) refl refl
-put_keeps ResetFlags b at x = refl
-put_keeps CpuControl b at x =
+put_keeps : (t : ℕ) (rule : Rule) (b : Board) (at x : ℕ) → radio_put (put_by t rule b at x) b.radio ≡ b.radio
+put_keeps t Reserved b at x = refl
+put_keeps t (Pin port) b at x = refl
+put_keeps t (Kept mask) b at x = refl
+put_keeps t (Guarded bits cause mask) b at x = choice (any_bit x bits) (Err cause) (Ok (with_kept at (bit_and x mask) b)) b.radio refl refl
+put_keeps t WatchdogControl b at x = choice (any_bit x WDE && not (any_bit x WDCE)) (Err stop.Watchdog) (Ok b) b.radio refl refl
+put_keeps t ResetFlags b at x = refl
+put_keeps t CpuControl b at x =
     let kept : Result Board StopCause = Ok (with_kept at (bit_and x 0x7C) b) in
-    choice (any_bit x SRE) (Err stop.ExternalMemory) (if any_bit x IVSEL then Err stop.MovedVectors else kept) (aside b) refl
-    (choice (any_bit x IVSEL) (Err stop.MovedVectors) kept (aside b) refl refl)
-put_keeps TimerFlags b at x = refl
-put_keeps ExtendedTimerFlags b at x = refl
-put_keeps (Timer0 reg) b at x = t0_aside b (reg8.put_of b.t0 reg x)
-put_keeps (Timer1 reg) b at x = t1_aside b (reg16.put_of b.t1 reg x)
-put_keeps (Timer2 reg) b at x = t2_aside b (reg8.put_of b.t2 reg x)
-put_keeps (Timer3 reg) b at x = t3_aside b (reg16.put_of b.t3 reg x)
-put_keeps (Usart0 reg) b at x = usart_aside b (usart.put_of b.clock b.usart reg x)
-put_keeps (Spi reg) b at x = spi_aside b (spi.put_of b.clock b.spi reg x)
+    choice (any_bit x SRE) (Err stop.ExternalMemory) (if any_bit x IVSEL then Err stop.MovedVectors else kept) b.radio refl
+    (choice (any_bit x IVSEL) (Err stop.MovedVectors) kept b.radio refl refl)
+put_keeps t TimerFlags b at x = refl
+put_keeps t ExtendedTimerFlags b at x = refl
+put_keeps t (Timer0 reg) b at x = t0_put b (reg8.put_of b.t0 reg x)
+put_keeps t (Timer1 reg) b at x = t1_put b (reg16.put_of b.t1 reg x)
+put_keeps t (Timer2 reg) b at x = t2_put b (reg8.put_of b.t2 reg x)
+put_keeps t (Timer3 reg) b at x = t3_put b (reg16.put_of b.t3 reg x)
+put_keeps t (Usart0 reg) b at x = usart_put b (usart.put_of t b.usart reg x)
+put_keeps t (Spi reg) b at x = spi_put b (spi.put_of t b.spi reg x)
 
-pub put_by_aside : (rule : Rule) (b c : Board) (at x : ℕ) → put_by rule b at x ≡ Ok c → aside c ≡ aside b
-put_by_aside rule b c at x e = sym (ap (λ (r : Result Board StopCause). aside_put r (aside b)) e) ∙ put_keeps rule b at x
+abbrev clocked_put : Result ClockedBoard StopCause → ClockedBoard → ClockedBoard
+clocked_put (Ok d) c = d
+clocked_put (Err cause) c = c
 
-put_aside : (b c : Board) (at x : ℕ) → io_put b at x ≡ Ok c → aside c ≡ aside b
+clock_put : (c : ClockedBoard) (g : Result Board StopCause) → (clocked_put (done_in c.clock g) c).clock ≡ c.clock
+clock_put c (Ok b) = refl
+clock_put c (Err cause) = refl
+
+put_radio_in : (c : ClockedBoard) (g : Result Board StopCause) → (clocked_put (done_in c.clock g) c).board.radio ≡ radio_put g c.board.radio
+put_radio_in c (Ok b) = refl
+put_radio_in c (Err cause) = refl
+
+pub put_radio : (b c : ClockedBoard) (at x : ℕ) → io_put b at x ≡ Ok c → c.board.radio ≡ b.board.radio
 unfolding io_put
-put_aside b c at x e = put_by_aside (rule_of at) b c at x e
+put_radio b c at x e =
+    ap (λ (r : Result ClockedBoard StopCause). (clocked_put r b).board.radio) (sym e)
+    ∙ (put_radio_in b (put_by b.clock (rule_of at) b.board at x) ∙ put_keeps b.clock (rule_of at) b.board at x)
 
-pub put_radio : (b c : Board) (at x : ℕ) → io_put b at x ≡ Ok c → c.radio ≡ b.radio
-put_radio b c at x e = ap (λ (p : Aside). p.0) (put_aside b c at x e)
+pub put_clock : (b c : ClockedBoard) (at x : ℕ) → io_put b at x ≡ Ok c → c.clock ≡ b.clock
+unfolding io_put
+put_clock b c at x e = ap (λ (r : Result ClockedBoard StopCause). (clocked_put r b).clock) (sym e) ∙ clock_put b (put_by b.clock (rule_of at) b.board at x)
 
-pub put_clock : (b c : Board) (at x : ℕ) → io_put b at x ≡ Ok c → c.clock ≡ b.clock
-put_clock b c at x e = ap (λ (p : Aside). p.1) (put_aside b c at x e)
-
-pub put_by_clock : (rule : Rule) (b c : Board) (at x : ℕ) → put_by rule b at x ≡ Ok c → c.clock ≡ b.clock
-put_by_clock rule b c at x e = ap (λ (p : Aside). p.1) (put_by_aside rule b c at x e)
-
-apart_from : (c : Bool) (x y b : Board) → aside x ≡ aside b → aside y ≡ aside b → aside (if c then x else y) ≡ aside b
+apart_from : (c : Bool) (x y b : Board) → x.radio ≡ b.radio → y.radio ≡ b.radio → (if c then x else y).radio ≡ b.radio
 apart_from true x y b e f = e
 apart_from false x y b e f = f
 
-entered_aside : (word : ℕ) (b : Board) → aside (entered_of word b) ≡ aside b
+pub entered_radio : (word : ℕ) (b : Board) → (entered_of word b).radio ≡ b.radio
 unfolding entered_of
-entered_aside word b =
+entered_radio word b =
     apart_from (word == TIMER2_COMP) _ _ b refl (apart_from (word == TIMER2_OVF) _ _ b refl (apart_from (word == TIMER1_COMPA) _ _ b refl
     (apart_from (word == TIMER1_COMPB) _ _ b refl (apart_from (word == TIMER1_OVF) _ _ b refl (apart_from (word == TIMER0_COMP) _ _ b refl
     (apart_from (word == TIMER0_OVF) _ _ b refl (apart_from (word == SPI_STC) _ _ b refl (apart_from (word == USART0_TX) _ _ b refl
     (apart_from (word == TIMER1_COMPC) _ _ b refl (apart_from (word == TIMER3_COMPA) _ _ b refl (apart_from (word == TIMER3_COMPB) _ _ b refl
     (apart_from (word == TIMER3_COMPC) _ _ b refl (apart_from (word == TIMER3_OVF) _ _ b refl refl)))))))))))))
-
-pub entered_radio : (word : ℕ) (b : Board) → (entered_of word b).radio ≡ b.radio
-entered_radio word b = ap (λ (p : Aside). p.0) (entered_aside word b)
-
-pub entered_clock : (word : ℕ) (b : Board) → (entered_of word b).clock ≡ b.clock
-entered_clock word b = ap (λ (p : Aside). p.1) (entered_aside word b)
-
-pub answered_clock : (h : Heard) (b : Board) → (board_answered h b).clock ≡ b.clock
-unfolding board_answered
-answered_clock h b = refl

@@ -1,14 +1,15 @@
 -- A read that changes nothing gives the same as long as the timers alone move.
-use Rattle.std.proofs.Common.{◌≡◌, ℕ, ◌&&◌, not, Bool, true, false, Result, Ok, refl, sym, ap, ◌∙◌, subst}
+use Rattle.std.proofs.Common.{◌≡◌, ℕ, ◌-◌, ◌&&◌, not, Bool, true, false, Result, Ok, refl, sym, ap, ◌∙◌, subst}
 use Rattle.std.proofs.lemmas.Bool.{and_parts}
 use Rattle.avr_base.specs.declared.stop.StopCause.{StopCause}
 use Rattle.board_io.specs.declared.board.Board.{Board}
+use Rattle.board_io.specs.declared.clocked.ClockedBoard.{ClockedBoard}
 use Rattle.board_io.specs.declared.rules.Rule.{Rule}
 use Rattle.board_io.specs.declared.rules.Rule.TheVariants.{Reserved, Pin, Kept, Guarded, WatchdogControl, ResetFlags, CpuControl, TimerFlags, ExtendedTimerFlags, Timer0, Timer1, Timer2, Timer3, Usart0, Spi}
-use Rattle.board_io.specs.Board.{clock_at, kept_at}
+use Rattle.board_io.specs.Board.{clocked, kept_at}
 use Rattle.board_io.specs.Cycle.{timers_leap}
-use Rattle.board_io.specs.Lagging.{ReadsStill, is_still_read}
-use Rattle.board_io.specs.Registers.{get_by, io_get}
+use Rattle.board_io.specs.Lagging.{ReadsStill, caught_up, is_still_read}
+use Rattle.board_io.specs.Registers.{get_by, got_in, io_get}
 use Rattle.board_io.specs.Table.{rule_of}
 use Rattle.serial_ports.specs.declared.spi.Spi.{Spi as SpiPort}
 use Rattle.serial_ports.specs.declared.spi_registers.SpiReg.TheVariants as spi
@@ -18,7 +19,7 @@ use Rattle.serial_ports.specs.UsartRegisters as usart_port
 
 record StillBy (rule : Rule) (b : Board) (at : ℕ) : Type 0 where
   pub byte : ℕ
-  pub gives : (u t n : ℕ) → get_by rule (clock_at u (timers_leap t n b)) at ≡ Ok (byte, clock_at u (timers_leap t n b))
+  pub gives : (t n : ℕ) → get_by rule (timers_leap t n b) at ≡ Ok (byte, timers_leap t n b)
 
 false_true : false ≡ true → ⊥
 false_true e = cc
@@ -41,12 +42,12 @@ unflagged s e =
 still_by : (rule : Rule) (b : Board) (at : ℕ) → is_still_read rule b ≡ true → StillBy rule b at
 unfolding timers_leap
 still_by Reserved b at e = absurd (false_true e)
-still_by (Pin p) b at e = record { byte = kept_at p b; gives = λ u t n. refl }
-still_by (Kept mask) b at e = record { byte = kept_at at b; gives = λ u t n. refl }
-still_by (Guarded bits cause mask) b at e = record { byte = kept_at at b; gives = λ u t n. refl }
-still_by WatchdogControl b at e = record { byte = 0; gives = λ u t n. refl }
-still_by ResetFlags b at e = record { byte = kept_at at b; gives = λ u t n. refl }
-still_by CpuControl b at e = record { byte = kept_at at b; gives = λ u t n. refl }
+still_by (Pin p) b at e = record { byte = kept_at p b; gives = λ t n. refl }
+still_by (Kept mask) b at e = record { byte = kept_at at b; gives = λ t n. refl }
+still_by (Guarded bits cause mask) b at e = record { byte = kept_at at b; gives = λ t n. refl }
+still_by WatchdogControl b at e = record { byte = 0; gives = λ t n. refl }
+still_by ResetFlags b at e = record { byte = kept_at at b; gives = λ t n. refl }
+still_by CpuControl b at e = record { byte = kept_at at b; gives = λ t n. refl }
 still_by TimerFlags b at e = absurd (false_true e)
 still_by ExtendedTimerFlags b at e = absurd (false_true e)
 still_by (Timer0 reg) b at e = absurd (false_true e)
@@ -54,11 +55,11 @@ still_by (Timer1 reg) b at e = absurd (false_true e)
 still_by (Timer2 reg) b at e = absurd (false_true e)
 still_by (Timer3 reg) b at e = absurd (false_true e)
 still_by (Usart0 usart.Udr) b at e = absurd (false_true e)
-still_by (Usart0 reg) b at e = record { byte = (usart_port.get_of b.usart reg).0; gives = λ u t n. refl }
-still_by (Spi spi.Control) b at e = record { byte = b.spi.control; gives = λ u t n. refl }
+still_by (Usart0 reg) b at e = record { byte = (usart_port.get_of b.usart reg).0; gives = λ t n. refl }
+still_by (Spi spi.Control) b at e = record { byte = b.spi.control; gives = λ t n. refl }
 still_by (Spi spi.Status) b at e = record {
   byte = port.status_of b.spi;
-  gives = λ u t n i. (let c : Board = record (clock_at u (timers_leap t n b)) { spi = unflagged b.spi e i } in let r : Result (ℕ × Board) StopCause = Ok (port.status_of b.spi, c) in r);
+  gives = λ t n i. (let c : Board = record (timers_leap t n b) { spi = unflagged b.spi e i } in let r : Result (ℕ × Board) StopCause = Ok (port.status_of b.spi, c) in r);
 }
 still_by (Spi spi.Spdr) b at e = absurd (false_true e)
 
@@ -69,12 +70,13 @@ still_leap (Spi spi.Status) t n b = refl
 still_leap _ t n b = refl
 
 -- a read at a data address of a board whose timers lag
-pub still_at : (rule : Rule) (at t n : ℕ) (b v : Board) → rule ≡ rule_of at → timers_leap t n b ≡ v → is_still_read rule b ≡ true → ReadsStill v at
+pub still_at : (rule : Rule) (at s t : ℕ) (b : Board) (v : ClockedBoard) → rule ≡ rule_of at → clocked t (caught_up s t b) ≡ v → is_still_read rule b ≡ true → ReadsStill v.board at
 unfolding io_get
-still_at rule at t n b v is now e =
-    let late : is_still_read rule v ≡ true = ap (is_still_read rule) (sym now) ∙ (sym (still_leap rule t n b) ∙ e) in
-    let s = still_by rule v at late in
+still_at rule at s t b v is now e =
+    let late : is_still_read rule v.board ≡ true = ap (λ (w : ClockedBoard). is_still_read rule w.board) (sym now) ∙ (sym (still_leap rule s (t - s) b) ∙ e) in
+    let still = still_by rule v.board at late in
     record {
-      byte = s.byte;
-      gives = λ u i k. subst (λ (r : Rule). get_by r (clock_at u (timers_leap i k v)) at ≡ Ok (s.byte, clock_at u (timers_leap i k v))) is (s.gives u i k);
+      byte = still.byte;
+      gives = λ u i k.
+          ap (got_in u) (subst (λ (r : Rule). get_by r (timers_leap i k v.board) at ≡ Ok (still.byte, timers_leap i k v.board)) is (still.gives i k));
     }

@@ -3,6 +3,7 @@
 use Rattle.std.specs.Prelude.{ℕ, ◌&&◌, not, if◌then◌else◌, Bool, map, slice_index, slice_set}
 use Rattle.std.specs.List.{range_with_len}
 use Rattle.board_io.specs.declared.board.Board.{Board}
+use Rattle.board_io.specs.declared.clocked.ClockedBoard.{ClockedBoard}
 use Rattle.board_io.specs.declared.board.Sleep.{Sleep}
 use Rattle.board_io.specs.declared.board.Sleep.TheVariants.{Off, Idle, Other}
 use Rattle.board_io.specs.Names.{DDRB, MCUCR, PORTB, SE}
@@ -17,7 +18,6 @@ use Rattle.serial_ports.specs.Usart.{reset_usart}
 
 abbrev pub reset_board : ℕ → Board
 reset_board byte_time = record {
-  clock = 0;
   kept = map start_of (range_with_len 0 256);
   t0 = timer8.reset_timer Own;
   t1 = timer16.reset_timer;
@@ -35,13 +35,9 @@ kept_at at b = slice_index b.kept at
 abbrev pub with_kept : ℕ → ℕ → Board → Board
 with_kept at x b = record b { kept = slice_set b.kept at x }
 
--- the cycle in which its registers are accessed
-abbrev pub clock_at : ℕ → Board → Board
-clock_at t b = record b { clock = t }
-
--- a board whose clock is not shown, as between two accesses
-abbrev pub unclocked : Board → Board
-unclocked b = clock_at 0 b
+-- a board in the cycle in which its registers are accessed
+abbrev pub clocked : ℕ → Board → ClockedBoard
+clocked t b = record { clock = t; board = b }
 
 -- whether the radio is selected: bit 0 of port B is an output, by DDRB, and low, by PORTB
 abbrev pub selected : Board → Bool

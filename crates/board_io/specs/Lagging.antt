@@ -6,8 +6,9 @@
 use Rattle.std.specs.Prelude.{◌≡◌, ℕ, ◌+◌, ◌-◌, ◌<◌, ◌≤◌, ◌==◌, ◌&&◌, not, Bool, true, false, Ok}
 use Rattle.air_base.specs.Bounds.{LAST_CYCLE}
 use Rattle.board_io.specs.declared.board.Board.{Board}
+use Rattle.board_io.specs.declared.clocked.ClockedBoard.{ClockedBoard}
 use Rattle.board_io.specs.declared.ahead.Forecast.{Forecast}
-use Rattle.board_io.specs.Board.{clock_at}
+use Rattle.board_io.specs.Board.{clocked}
 use Rattle.board_io.specs.Cycle.{board_quiet, timers_leap}
 use Rattle.board_io.specs.Registers.{io_get}
 use Rattle.board_io.specs.Lines.{lines_of}
@@ -21,28 +22,28 @@ use Rattle.serial_ports.specs.declared.spi_registers.SpiReg.TheVariants as spi
 use Rattle.serial_ports.specs.declared.usart_registers.UsartReg.{UsartReg}
 use Rattle.serial_ports.specs.declared.usart_registers.UsartReg.TheVariants as usart
 
--- the board of its clock's cycle, where its timers have done the cycles below `settled` alone
-abbrev pub caught_up : ℕ → Board → Board
-caught_up settled b = timers_leap settled (b.clock - settled) b
+-- the board of the cycle `clock`, where its timers have done the cycles below `settled` alone
+abbrev pub caught_up : ℕ → ℕ → Board → Board
+caught_up settled clock b = timers_leap settled (clock - settled) b
 
--- what is kept of a board that lags is true of it
-pub record IsAhead (a : Forecast) (b : Board) : Type 0 where
-  pub settled : a.settled ≤ b.clock
-  pub now : b.clock ≤ LAST_CYCLE
+-- what is kept of a board that lags behind the cycle `clock` is true of it
+pub record IsAhead (a : Forecast) (clock : ℕ) (b : Board) : Type 0 where
+  pub settled : a.settled ≤ clock
+  pub now : clock ≤ LAST_CYCLE
   pub early : a.next ≤ LAST_CYCLE
-  pub quiet : (t : ℕ) → b.clock ≤ t → t < a.next → board_quiet t b ≡ true
+  pub quiet : (t : ℕ) → clock ≤ t → t < a.next → board_quiet t b ≡ true
   pub calm : (i : ℕ) → a.settled + i < a.next → changes_flag_at a.settled b i ≡ false
-  pub past : (i : ℕ) → a.settled + i < b.clock → changes_flag_at a.settled b i ≡ false
+  pub past : (i : ℕ) → a.settled + i < clock → changes_flag_at a.settled b i ≡ false
   pub steady : (i : ℕ) → a.settled + i < a.steady → sets_flag_at a.settled b i ≡ false
   pub lines : (lines_of b).bits ≡ a.lines
   pub clear : a.clear ≤ a.next
   pub down : 0 < a.clear → a.lines ≡ 0
 
 -- up to the beginning of cycle `bound` no line is up, nothing of a board ends and no flag of a timer changes
-pub record IsClear (bound : ℕ) (b : Board) : Type 0 where
-  pub down : b.clock < bound → (lines_of b).bits ≡ 0
-  pub quiet : (t : ℕ) → b.clock ≤ t → t < bound → board_quiet t b ≡ true
-  pub calm : (i : ℕ) → b.clock + i < bound → changes_flag_at b.clock b i ≡ false
+pub record IsClear (bound : ℕ) (c : ClockedBoard) : Type 0 where
+  pub down : c.clock < bound → (lines_of c.board).bits ≡ 0
+  pub quiet : (t : ℕ) → c.clock ≤ t → t < bound → board_quiet t c.board ≡ true
+  pub calm : (i : ℕ) → c.clock + i < bound → changes_flag_at c.clock c.board i ≡ false
 
 -- n cycles from cycle t on in which nothing of a board ends, and each of which begins with the lines of now
 pub record IsIdle (t n : ℕ) (b : Board) : Type 0 where
@@ -147,8 +148,7 @@ is_still_read (Timer3 reg) b = false
 is_still_read (Usart0 reg) b = not (is_udr reg)
 is_still_read (Spi reg) b = is_still_port reg b.spi
 
--- a load at a data address gives this byte and changes nothing, whatever the clock shows and how far ever the timers
--- ran
+-- a load at a data address gives this byte and changes nothing, in whatever cycle and how far ever the timers ran
 pub record ReadsStill (b : Board) (at : ℕ) : Type 0 where
   pub byte : ℕ
-  pub gives : (u t n : ℕ) → io_get (clock_at u (timers_leap t n b)) at ≡ Ok (byte, clock_at u (timers_leap t n b))
+  pub gives : (u t n : ℕ) → io_get (clocked u (timers_leap t n b)) at ≡ Ok (byte, clocked u (timers_leap t n b))

@@ -4,9 +4,10 @@ use Rattle.std.specs.Prelude.{◌≡◌, ℕ, ◌+◌, ◌&&◌, not, if◌then�
 use Rattle.avr_base.specs.declared.stop.StopCause.{StopCause}
 use Rattle.avr_base.specs.declared.stop.StopCause.TheVariants as stop
 use Rattle.board_io.specs.declared.board.Board.{Board}
+use Rattle.board_io.specs.declared.clocked.ClockedBoard.{ClockedBoard}
 use Rattle.board_io.specs.declared.rules.Rule.{Rule}
 use Rattle.board_io.specs.declared.rules.Rule.TheVariants.{Reserved, Pin, Kept, Guarded, WatchdogControl, ResetFlags, CpuControl, TimerFlags, ExtendedTimerFlags, Timer0, Timer1, Timer2, Timer3, Usart0, Spi}
-use Rattle.board_io.specs.Board.{kept_at, with_kept}
+use Rattle.board_io.specs.Board.{clocked, kept_at, with_kept}
 use Rattle.board_io.specs.Names.{ICF1, ICF3, IVSEL, JTD, OCF0, OCF1A, OCF1B, OCF1C, OCF2, OCF3A, OCF3B, OCF3C, SRE, TOV0, TOV1, TOV2, TOV3, WDCE, WDE}
 use Rattle.board_io.specs.Table.{rule_of}
 use Rattle.device_base.specs.Bits.{any_bit, bit}
@@ -68,7 +69,7 @@ get_by (Usart0 reg) b at = let got = usart.get_of b.usart reg in Ok (got.0, reco
 get_by (Spi reg) b at = let got = spi.get_of b.spi reg in Ok (got.0, record b { spi = got.1 })
 
 -- what a read did, where this is what it gives: a refused one changes nothing
-abbrev pub IsGot : Result (ℕ × Board) StopCause → Board → Result ℕ StopCause → Board → Type 0
+abbrev pub IsGot : {B : Type 0} → Result (ℕ × B) StopCause → B → Result ℕ StopCause → B → Type 0
 IsGot given old (Ok x) new = given ≡ Ok (x, new)
 IsGot given old (Err cause) new = (given ≡ Err cause) × (new ≡ old)
 
@@ -97,36 +98,51 @@ abbrev pub with_spi : Board → Result SpiPort StopCause → Result Board StopCa
 with_spi b (Ok s) = Ok (record b { spi = s })
 with_spi b (Err cause) = Err cause
 
--- a write of the byte x, by the rule of its register. WDTCR: WDE without WDCE turns the watchdog on. MCUCSR: JTD is
--- kept, the reset flags 4 to 0 are cleared where written 0. MCUCR: bits 6 to 2 are kept
-abbrev pub put_by : Rule → Board → ℕ → ℕ → Result Board StopCause
-put_by Reserved b at x = Err stop.ReservedAddress
-put_by (Pin port) b at x = Ok b
-put_by (Kept mask) b at x = Ok (with_kept at (bit_and x mask) b)
-put_by (Guarded bits cause mask) b at x = if any_bit x bits then Err cause else Ok (with_kept at (bit_and x mask) b)
-put_by WatchdogControl b at x = if any_bit x WDE && not (any_bit x WDCE) then Err stop.Watchdog else Ok b
-put_by ResetFlags b at x = Ok (with_kept at (bit_or (bit_and x JTD) (bit_and (bit_and (kept_at at b) x) 0x1F)) b)
-put_by CpuControl b at x =
+-- a write of the byte x in cycle t, by the rule of its register. WDTCR: WDE without WDCE turns the watchdog on. MCUCSR:
+-- JTD is kept, the reset flags 4 to 0 are cleared where written 0. MCUCR: bits 6 to 2 are kept
+abbrev pub put_by : ℕ → Rule → Board → ℕ → ℕ → Result Board StopCause
+put_by t Reserved b at x = Err stop.ReservedAddress
+put_by t (Pin port) b at x = Ok b
+put_by t (Kept mask) b at x = Ok (with_kept at (bit_and x mask) b)
+put_by t (Guarded bits cause mask) b at x = if any_bit x bits then Err cause else Ok (with_kept at (bit_and x mask) b)
+put_by t WatchdogControl b at x = if any_bit x WDE && not (any_bit x WDCE) then Err stop.Watchdog else Ok b
+put_by t ResetFlags b at x = Ok (with_kept at (bit_or (bit_and x JTD) (bit_and (bit_and (kept_at at b) x) 0x1F)) b)
+put_by t CpuControl b at x =
     if any_bit x SRE then Err stop.ExternalMemory
     else if any_bit x IVSEL then Err stop.MovedVectors
     else Ok (with_kept at (bit_and x 0x7C) b)
-put_by TimerFlags b at x = Ok (flags_cleared x b)
-put_by ExtendedTimerFlags b at x = Ok (extended_flags_cleared x b)
-put_by (Timer0 reg) b at x = with_t0 b (reg8.put_of b.t0 reg x)
-put_by (Timer1 reg) b at x = with_t1 b (reg16.put_of b.t1 reg x)
-put_by (Timer2 reg) b at x = with_t2 b (reg8.put_of b.t2 reg x)
-put_by (Timer3 reg) b at x = with_t3 b (reg16.put_of b.t3 reg x)
-put_by (Usart0 reg) b at x = with_usart b (usart.put_of b.clock b.usart reg x)
-put_by (Spi reg) b at x = with_spi b (spi.put_of b.clock b.spi reg x)
+put_by t TimerFlags b at x = Ok (flags_cleared x b)
+put_by t ExtendedTimerFlags b at x = Ok (extended_flags_cleared x b)
+put_by t (Timer0 reg) b at x = with_t0 b (reg8.put_of b.t0 reg x)
+put_by t (Timer1 reg) b at x = with_t1 b (reg16.put_of b.t1 reg x)
+put_by t (Timer2 reg) b at x = with_t2 b (reg8.put_of b.t2 reg x)
+put_by t (Timer3 reg) b at x = with_t3 b (reg16.put_of b.t3 reg x)
+put_by t (Usart0 reg) b at x = with_usart b (usart.put_of t b.usart reg x)
+put_by t (Spi reg) b at x = with_spi b (spi.put_of t b.spi reg x)
 
 -- what a write did, where this is what it gives: a refused one changes nothing
-abbrev pub IsPut : Result Board StopCause → Board → Result (Unit {0}) StopCause → Board → Type 0
+abbrev pub IsPut : {B : Type 0} → Result B StopCause → B → Result (Unit {0}) StopCause → B → Type 0
 IsPut given old (Ok u) new = given ≡ Ok new
 IsPut given old (Err cause) new = (given ≡ Err cause) × (new ≡ old)
 
--- a read and a write at a data address
-unfoldable pub io_get : Board → ℕ → Result (ℕ × Board) StopCause
-io_get b at = get_by (rule_of at) b at
+-- a read and a write by a rule in the cycle of the clock, which stays
+abbrev pub got_in : ℕ → Result (ℕ × Board) StopCause → Result (ℕ × ClockedBoard) StopCause
+got_in t (Ok g) = Ok (g.0, clocked t g.1)
+got_in t (Err cause) = Err cause
 
-unfoldable pub io_put : Board → ℕ → ℕ → Result Board StopCause
-io_put b at x = put_by (rule_of at) b at x
+abbrev pub get_in : Rule → ClockedBoard → ℕ → Result (ℕ × ClockedBoard) StopCause
+get_in rule c at = got_in c.clock (get_by rule c.board at)
+
+abbrev pub done_in : ℕ → Result Board StopCause → Result ClockedBoard StopCause
+done_in t (Ok b) = Ok (clocked t b)
+done_in t (Err cause) = Err cause
+
+abbrev pub put_in : Rule → ClockedBoard → ℕ → ℕ → Result ClockedBoard StopCause
+put_in rule c at x = done_in c.clock (put_by c.clock rule c.board at x)
+
+-- and at a data address
+unfoldable pub io_get : ClockedBoard → ℕ → Result (ℕ × ClockedBoard) StopCause
+io_get c at = get_in (rule_of at) c at
+
+unfoldable pub io_put : ClockedBoard → ℕ → ℕ → Result ClockedBoard StopCause
+io_put c at x = put_in (rule_of at) c at x

@@ -33,7 +33,7 @@ fits t n =
     ++ radio.fits (part 62 5 n)
 
 -- a board of this byte time that has these numbers and keeps these bytes. The clock select of a timer has three bits,
--- so that its control byte tells it. The clock of the board is no part of it
+-- so that its control byte tells it
 pub record IsRestored (byte_time : ℕ) (n io : List ℕ) (b : Board) : Type 0 where
   pub numbers : numbers_of b ≡ n
   pub kept : b.kept ≡ kept_of io

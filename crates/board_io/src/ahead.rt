@@ -39,14 +39,13 @@ pub fn clear_until(lines: u64, next: u64) -> u64
 impl Board {
     ghost use Rattle.board_io.specs.Lagging.{caught_up};
 
-    /// What is known of it from the cycle of its clock on, which its timers have come to.
+    /// What is known of it from the cycle `settled` on, which its timers have come to.
     #[inline(always)]
-    pub fn ahead(&self) -> Forecast
-        requires { self.now.clock ≤ LAST_CYCLE }
-        ensures settled { result.settled ≡ self.now.clock }
-        ensures ahead { IsAhead result self.now }
+    pub fn ahead(&self, settled: u64) -> Forecast
+        requires { settled ≤ LAST_CYCLE }
+        ensures settled { result.settled ≡ settled }
+        ensures ahead { IsAhead result settled self.now }
     {
-        let settled = self.clock.get();
         let calm = self.quiet(settled, LAST_CYCLE - settled);
         let same = self.same_lines(settled, calm + 1);
         let steady = settled + (same - 1);
@@ -87,18 +86,17 @@ impl Board {
         settled + self.same_flags(settled, calm)
     }
 
-    /// What is known of it, where of its timers what `before` tells is known still.
-    pub fn ahead_beside(&self, before: Forecast) -> Forecast
-        requires settled { before.settled ≤ self.now.clock }
-        requires now { self.now.clock ≤ LAST_CYCLE }
+    /// What is known of it in the cycle `clock`, where of its timers what `before` tells is known still.
+    pub fn ahead_beside(&self, clock: u64, before: Forecast) -> Forecast
+        requires settled { before.settled ≤ clock }
+        requires now { clock ≤ LAST_CYCLE }
         requires early { before.next ≤ LAST_CYCLE }
         requires calm { (i : ℕ) → before.settled + i < before.next → changes_flag_at before.settled self.now i ≡ false }
-        requires past { (i : ℕ) → before.settled + i < self.now.clock → changes_flag_at before.settled self.now i ≡ false }
+        requires past { (i : ℕ) → before.settled + i < clock → changes_flag_at before.settled self.now i ≡ false }
         requires steady { (i : ℕ) → before.settled + i < before.steady → sets_flag_at before.settled self.now i ≡ false }
         ensures settled { result.settled ≡ before.settled }
-        ensures ahead { IsAhead result self.now }
+        ensures ahead { IsAhead result clock self.now }
     {
-        let clock = self.clock.get();
         let calm = self.quiet(clock, before.next.saturating_sub(clock));
         let next = clock + calm;
         let lines = self.lines().bits;
@@ -111,13 +109,12 @@ impl Board {
         }
     }
 
-    /// Makes up for the timers' cycles from `settled` on and below its clock.
+    /// Makes up for the timers' cycles from `settled` on and below `clock`.
     #[inline]
-    pub fn catch_up(&mut self, settled: u64)
-        requires { settled ≤ self.old.clock }
-        ensures { self.new ≡ caught_up settled self.old }
+    pub fn catch_up(&mut self, settled: u64, clock: u64)
+        requires { settled ≤ clock }
+        ensures { self.new ≡ caught_up settled clock self.old }
     {
-        let clock = self.clock.get();
         if settled < clock {
             self.leap(settled, clock - settled);
         }

@@ -1,11 +1,9 @@
 // The board and what its other parts read of it.
 ghost use Rattle.std.specs.Prelude.{◌≡◌, ◌≤◌, map, slice_set};
-ghost use Rattle.air_base.specs.Bounds.{LAST_END};
 ghost use Rattle.air_base.specs.declared.bounds.TheConstants.{LONGEST_BYTE};
 ghost use Rattle.std.specs.List.{range_with_len};
 ghost use Rattle.board_io.specs.Table.{start_of};
 
-use crate::Clock;
 use crate::names::{DDRB, MCUCR, MCUCSR, PORF, PORTB, SE, TWAR, TWDR, TWSR, UCSR1A, UCSR1C};
 use avr_timers::{Prescaler, Timer8, Timer16};
 use device_base::any_bit;
@@ -28,12 +26,9 @@ pub enum Sleep {
     Other,
 }
 
-/// All of a node but its core and its SRAM: the devices, and the registers that only hold a byte. As a bus it has the
-/// I/O registers at data addresses 0x0020 to 0x00FF.
+/// All of a node but its core and its SRAM: the devices, and the registers that only hold a byte.
 #[derive(Drop)]
 pub struct Board {
-    /// The cycle in which its registers are accessed.
-    pub clock: Clock,
     /// What the registers hold that no device has, by data address.
     pub kept: [u8; 256],
     /// Timer 0.
@@ -73,7 +68,7 @@ fn starts() -> [u8; 256]
 }
 
 impl Board {
-    ghost use Rattle.board_io.specs.Board.{clock_at, kept_at, reset_board, selected, sleep_mode};
+    ghost use Rattle.board_io.specs.Board.{kept_at, reset_board, selected, sleep_mode};
 
     /// The board after reset, with the byte time of its radio in cycles, at most 4,096.
     pub fn new(byte_time: u64) -> Board
@@ -81,7 +76,6 @@ impl Board {
         ensures { result ≡ reset_board byte_time }
     {
         Board {
-            clock: Clock::new(0),
             kept: starts(),
             t0: Timer8::new(Prescaler::Own),
             t1: Timer16::new(),
@@ -91,14 +85,6 @@ impl Board {
             spi: Spi::new(),
             radio: Radio::new(byte_time),
         }
-    }
-
-    /// Sets the cycle in which its registers are accessed from now on.
-    pub fn set_clock(&mut self, cycle: u64)
-        requires { cycle ≤ LAST_END }
-        ensures { self.new ≡ clock_at cycle self.old }
-    {
-        self.clock = Clock::new(cycle);
     }
 
     /// The byte of a register that no device has, by its data address.

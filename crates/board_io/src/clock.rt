@@ -1,4 +1,4 @@
-// The clock of a board.
+// The clock of a board that is accessed.
 ghost use Rattle.std.specs.Prelude.{◌≡◌, ◌≤◌};
 ghost use Rattle.air_base.specs.Bounds.{LAST_END};
 

@@ -5,52 +5,52 @@ ghost use Rattle.air_base.specs.declared.bounds.TheConstants.{LONGEST_BYTE};
 ghost use Rattle.board_io.specs.Lagging.{IsClear, IsIdle};
 
 use crate::ahead::{Forecast, clear_until};
-use crate::{Board, Clock, CycleOutput, Sleep};
+use crate::{Board, Clock, ClockedBoard, CycleOutput, Sleep};
 use air_base::Heard;
 use avr_base::{Lines, Vector};
 use std::marker::Model;
 
-/// A board, as the node runs it. Contracts see the board of its clock's cycle; behind that its timers lag, since most
-/// cycles only count: they are made up for at an access to a timer and at an event, and until the next event the
-/// interrupt lines are those that are kept.
+/// A board and its clock, as the node runs them. Contracts see the board of its clock's cycle; behind that its timers
+/// lag, since most cycles only count: they are made up for at an access to a timer and at an event, and until the next
+/// event the interrupt lines are those that are kept.
 #[derive(Drop)]
 pub struct LaggingBoard {
-    // before the board, whose clock is then not at the address of the whole: that is passed to calls, so the host would keep
-    // it in a register, and look the clock up by it
+    // before the clock, which is then not at the address of the whole: that is passed to calls, so the host would keep it in
+    // a register, and look the clock up by it
     pub(crate) ahead: Forecast,
-    pub(crate) board: Board,
+    // the clock, and the board whose timers have come to `settled`
+    pub(crate) now: ClockedBoard,
 }
 
 impl Model for LaggingBoard {
-    ghost use Rattle.board_io.specs.declared.board.Board.{Board};
+    ghost use Rattle.board_io.specs.declared.clocked.ClockedBoard.{ClockedBoard};
+    ghost use Rattle.board_io.specs.Board.{clocked};
     ghost use Rattle.board_io.specs.Lagging.{IsAhead, caught_up};
 
-    ghost Value = { Board };
+    ghost Value = { ClockedBoard };
 
-    ghost view = { λ a. caught_up a.ahead.settled a.board };
+    ghost view = { λ a. clocked a.now.clock (caught_up a.ahead.settled a.now.clock a.now.board) };
 
-    ghost invariant = { λ a. IsAhead a.ahead a.board };
+    ghost invariant = { λ a. IsAhead a.ahead a.now.clock a.now.board };
 }
 
 impl LaggingBoard {
-    ghost use Rattle.board_io.specs.Board.{reset_board, sleep_mode, unclocked};
+    ghost use Rattle.board_io.specs.Board.{clocked, reset_board, sleep_mode};
     ghost use Rattle.board_io.specs.Cycle.{board_air, board_answered, board_begun, board_serial, is_asks, timers_leap};
     ghost use Rattle.board_io.specs.Lines.{entered_of, lines_of};
 
     /// The board after reset, at cycle 0, with the byte time of its radio in cycles, at most 4,096.
     pub fn new(byte_time: u64) -> LaggingBoard
         requires { byte_time ≤ LONGEST_BYTE }
-        ensures { result ≡ reset_board byte_time }
+        ensures { result ≡ clocked 0 (reset_board byte_time) }
     {
-        let board = Board::new(byte_time);
-        let ahead = board.ahead();
-        LaggingBoard { board, ahead }
+        LaggingBoard::restored(Board::new(byte_time), 0)
     }
 
     /// The interrupt lines.
     #[inline]
     pub fn lines(&self) -> Lines
-        ensures { result ≡ lines_of self.now }
+        ensures { result ≡ lines_of self.now.board }
     {
         Lines {
             bits: self.ahead.lines,
@@ -60,9 +60,9 @@ impl LaggingBoard {
     /// What SLEEP would do.
     #[inline]
     pub fn sleep_mode(&self) -> Sleep
-        ensures { result ≡ sleep_mode self.now }
+        ensures { result ≡ sleep_mode self.now.board }
     {
-        self.board.sleep_mode()
+        self.now.board.sleep_mode()
     }
 
     /// Passes cycles, of at most `most`, in which no frame and no transfer ends and each of which begins with the lines
@@ -70,14 +70,14 @@ impl LaggingBoard {
     #[inline]
     pub fn leap_up_to(&mut self, most: u64) -> u64
         ensures within { result ≤ most }
-        ensures idle { IsIdle self.old.clock result (unclocked self.old) }
-        ensures state { unclocked self.new ≡ timers_leap self.old.clock result (unclocked self.old) }
-        ensures lines { lines_of self.new ≡ lines_of self.old }
+        ensures idle { IsIdle self.old.clock result self.old.board }
+        ensures state { self.new.board ≡ timers_leap self.old.clock result self.old.board }
+        ensures lines { lines_of self.new.board ≡ lines_of self.old.board }
         ensures clock { self.new.clock ≡ self.old.clock + result }
     {
-        let clock = self.board.clock.get();
+        let clock = self.now.clock.get();
         let n = most.min(self.ahead.next.saturating_sub(clock));
-        self.board.clock = Clock::new(clock + n);
+        self.now.clock = Clock::new(clock + n);
         n
     }
 
@@ -87,14 +87,14 @@ impl LaggingBoard {
     pub fn leap_rounds(&mut self, most: u64, length: u64) -> u64
         requires { 0 < length }
         ensures within { result * length ≤ most }
-        ensures idle { IsIdle self.old.clock (result * length) (unclocked self.old) }
-        ensures state { unclocked self.new ≡ timers_leap self.old.clock (result * length) (unclocked self.old) }
-        ensures lines { lines_of self.new ≡ lines_of self.old }
+        ensures idle { IsIdle self.old.clock (result * length) self.old.board }
+        ensures state { self.new.board ≡ timers_leap self.old.clock (result * length) self.old.board }
+        ensures lines { lines_of self.new.board ≡ lines_of self.old.board }
         ensures clock { self.new.clock ≡ self.old.clock + result * length }
     {
-        let clock = self.board.clock.get();
+        let clock = self.now.clock.get();
         let rounds = most.min(self.ahead.next.saturating_sub(clock)) / length;
-        self.board.clock = Clock::new(clock + rounds * length);
+        self.now.clock = Clock::new(clock + rounds * length);
         rounds
     }
 
@@ -103,9 +103,9 @@ impl LaggingBoard {
     #[inline]
     pub fn leap_whole(&mut self, cycle: u64, n: u8) -> bool
         requires now { self.old.clock ≡ cycle }
-        ensures idle { result ≡ true → IsIdle cycle n (unclocked self.old) }
-        ensures state { result ≡ true → unclocked self.new ≡ timers_leap cycle n (unclocked self.old) }
-        ensures lines { result ≡ true → lines_of self.new ≡ lines_of self.old }
+        ensures idle { result ≡ true → IsIdle cycle n self.old.board }
+        ensures state { result ≡ true → self.new.board ≡ timers_leap cycle n self.old.board }
+        ensures lines { result ≡ true → lines_of self.new.board ≡ lines_of self.old.board }
         ensures clock { result ≡ true → self.new.clock ≡ cycle + n }
         ensures same { result ≡ false → self.new ≡ self.old }
     {
@@ -114,7 +114,7 @@ impl LaggingBoard {
         if end > next {
             return false;
         }
-        self.board.clock = Clock::new(end);
+        self.now.clock = Clock::new(end);
         true
     }
 
@@ -124,7 +124,7 @@ impl LaggingBoard {
         ensures value { result ≡ self.now.clock }
         ensures early { result ≤ LAST_CYCLE }
     {
-        self.board.clock.get()
+        self.now.clock.get()
     }
 
     /// A cycle, of 2^40 at most, up to whose beginning no interrupt line is up, no frame and no transfer ends and no
@@ -145,18 +145,18 @@ impl LaggingBoard {
         requires early { bound ≤ LAST_CYCLE }
         requires clear { IsClear bound self.old }
         ensures within { result ≡ true → self.old.clock + n ≤ bound }
-        ensures idle { result ≡ true → IsIdle self.old.clock n (unclocked self.old) }
-        ensures state { result ≡ true → unclocked self.new ≡ timers_leap self.old.clock n (unclocked self.old) }
-        ensures lines { result ≡ true → (lines_of self.new).bits ≡ 0 }
+        ensures idle { result ≡ true → IsIdle self.old.clock n self.old.board }
+        ensures state { result ≡ true → self.new.board ≡ timers_leap self.old.clock n self.old.board }
+        ensures lines { result ≡ true → (lines_of self.new.board).bits ≡ 0 }
         ensures clear { result ≡ true → IsClear bound self.new }
         ensures clock { result ≡ true → self.new.clock ≡ self.old.clock + n }
         ensures same { result ≡ false → self.new ≡ self.old }
     {
-        let end = self.board.clock.get() + u64::from(n);
+        let end = self.now.clock.get() + u64::from(n);
         if end > bound {
             return false;
         }
-        self.board.clock = Clock::new(end);
+        self.now.clock = Clock::new(end);
         true
     }
 
@@ -165,18 +165,18 @@ impl LaggingBoard {
     fn begin_caught_up(&mut self, cycle: u64, arrival: Option<u8>) -> CycleOutput
         requires now { self.old.clock ≡ cycle }
         requires early { cycle < LAST_CYCLE }
-        ensures state { unclocked self.new ≡ board_begun cycle arrival (unclocked self.old) }
+        ensures state { self.new.board ≡ board_begun cycle arrival self.old.board }
         ensures clock { self.new.clock ≡ cycle + 1 }
-        ensures serial { result.serial ≡ board_serial cycle (unclocked self.old) }
-        ensures air { result.air ≡ board_air cycle (unclocked self.old) }
-        ensures waits { is_asks result.air ≡ true → is_some self.new.spi.shift_register ≡ true }
+        ensures serial { result.serial ≡ board_serial cycle self.old.board }
+        ensures air { result.air ≡ board_air cycle self.old.board }
+        ensures waits { is_asks result.air ≡ true → is_some self.new.board.spi.shift_register ≡ true }
     {
         let settled = self.ahead.settled;
         let n = cycle + 1 - settled;
-        self.board.leap(settled, n);
-        let begun = self.board.begin_ports(cycle, arrival);
-        self.board.set_clock(cycle + 1);
-        self.ahead = self.board.ahead();
+        self.now.board.leap(settled, n);
+        let begun = self.now.board.begin_ports(cycle, arrival);
+        self.now.clock = Clock::new(cycle + 1);
+        self.ahead = self.now.board.ahead(cycle + 1);
         begun
     }
 
@@ -186,11 +186,11 @@ impl LaggingBoard {
     pub fn begin(&mut self, cycle: u64, arrival: Option<u8>) -> CycleOutput
         requires now { self.old.clock ≡ cycle }
         requires early { cycle < LAST_CYCLE }
-        ensures state { unclocked self.new ≡ board_begun cycle arrival (unclocked self.old) }
+        ensures state { self.new.board ≡ board_begun cycle arrival self.old.board }
         ensures clock { self.new.clock ≡ cycle + 1 }
-        ensures serial { result.serial ≡ board_serial cycle (unclocked self.old) }
-        ensures air { result.air ≡ board_air cycle (unclocked self.old) }
-        ensures waits { is_asks result.air ≡ true → is_some self.new.spi.shift_register ≡ true }
+        ensures serial { result.serial ≡ board_serial cycle self.old.board }
+        ensures air { result.air ≡ board_air cycle self.old.board }
+        ensures waits { is_asks result.air ≡ true → is_some self.new.board.spi.shift_register ≡ true }
     {
         if arrival.is_none() && self.leap_whole(cycle, 1) {
             return CycleOutput::NOTHING;
@@ -200,25 +200,27 @@ impl LaggingBoard {
 
     /// The rest of a cycle that samples, with what is heard: the transfer that sampled ends, and answers 0.
     pub fn answer(&mut self, h: Heard)
-        requires { is_some self.old.spi.shift_register ≡ true }
-        ensures state { unclocked self.new ≡ board_answered h (unclocked self.old) }
+        requires { is_some self.old.board.spi.shift_register ≡ true }
+        ensures state { self.new.board ≡ board_answered h self.old.board }
         ensures clock { self.new.clock ≡ self.old.clock }
     {
-        self.board.catch_up(self.ahead.settled);
-        self.board.answer(h);
-        self.ahead = self.board.ahead();
+        let clock = self.now.clock.get();
+        self.now.board.catch_up(self.ahead.settled, clock);
+        self.now.board.answer(h);
+        self.ahead = self.now.board.ahead(clock);
     }
 
     /// What serving the interrupt of the vector `v` does to its source.
     pub fn entered(&mut self, v: Vector)
-        ensures { self.new ≡ entered_of v.word self.old }
+        ensures state { self.new.board ≡ entered_of v.word self.old.board }
+        ensures clock { self.new.clock ≡ self.old.clock }
     {
-        if self.board.clock.get() > self.ahead.steady {
+        if self.now.clock.get() > self.ahead.steady {
             self.enter_caught_up(v);
             return;
         }
-        self.board.entered(v);
-        let lines = self.board.lines().bits;
+        self.now.board.entered(v);
+        let lines = self.now.board.lines().bits;
         let next = self.ahead.next.min(self.ahead.steady);
         self.ahead.next = next;
         self.ahead.lines = lines;
@@ -228,10 +230,12 @@ impl LaggingBoard {
     // The same where a timer may have set the flag again in a cycle that is not made up for yet.
     #[inline(never)]
     fn enter_caught_up(&mut self, v: Vector)
-        ensures { self.new ≡ entered_of v.word self.old }
+        ensures state { self.new.board ≡ entered_of v.word self.old.board }
+        ensures clock { self.new.clock ≡ self.old.clock }
     {
-        self.board.catch_up(self.ahead.settled);
-        self.board.entered(v);
-        self.ahead = self.board.ahead();
+        let clock = self.now.clock.get();
+        self.now.board.catch_up(self.ahead.settled, clock);
+        self.now.board.entered(v);
+        self.ahead = self.now.board.ahead(clock);
     }
 }

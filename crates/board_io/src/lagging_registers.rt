@@ -122,25 +122,25 @@ impl LaggingBoard {
     /// Whether a load at a data address below 0x0100 changes nothing, and gives the same byte in each cycle before the
     /// next event.
     pub fn reads_still(&self, at: u16) -> bool
-        ensures { result ≡ true → ReadsStill self.now at }
+        ensures { result ≡ true → ReadsStill self.now.board at }
     {
         if at > LAST {
             return false;
         }
-        self.board.reads_still(listed_rule(at))
+        self.now.board.reads_still(listed_rule(at))
     }
 }
 
 impl LaggingBoard {
-    ghost use Rattle.board_io.specs.Registers.{IsGot, IsPut, get_by, put_by};
+    ghost use Rattle.board_io.specs.Registers.{IsGot, IsPut, get_in, put_in};
 
     // A read that looks at no timer but for its flags.
     #[inline]
     fn get_plain(&mut self, rule: Rule, at: u8) -> Result<u8, StopCause>
         requires { is_plain_read rule ≡ true }
-        ensures { IsGot (get_by rule self.old at) self.old result self.new }
+        ensures { IsGot (get_in rule self.old at) self.old result self.new }
     {
-        self.board.get_by(rule, at)
+        self.now.board.get_by(rule, at)
     }
 
     // A read by the rule of an address: of a timer, which does not catch up, of a port, or of what looks at no timer. One
@@ -148,19 +148,19 @@ impl LaggingBoard {
     #[inline(always)]
     fn get_listed(&mut self, at: u16) -> Result<u8, StopCause>
         requires { at ≤ 0x9F }
-        ensures { IsGot (get_by (rule_of at) self.old at) self.old result self.new }
+        ensures { IsGot (get_in (rule_of at) self.old at) self.old result self.new }
     {
         let rule = listed_rule(at);
         let settled = self.ahead.settled;
-        let clock = self.board.clock.get();
+        let clock = self.now.clock.get();
         let n = clock - settled;
         // whether no timer has passed its top since
         let steady = clock <= self.ahead.steady;
         match rule {
-            Rule::Timer0(reg) if steady => Ok(self.board.t0.get_calm(settled, n, reg)),
-            Rule::Timer1(reg) if steady => Ok(self.board.t1.get_calm(settled, n, reg)),
-            Rule::Timer2(reg) if steady => Ok(self.board.t2.get_calm(settled, n, reg)),
-            Rule::Timer3(reg) if steady => Ok(self.board.t3.get_calm(settled, n, reg)),
+            Rule::Timer0(reg) if steady => Ok(self.now.board.t0.get_calm(settled, n, reg)),
+            Rule::Timer1(reg) if steady => Ok(self.now.board.t1.get_calm(settled, n, reg)),
+            Rule::Timer2(reg) if steady => Ok(self.now.board.t2.get_calm(settled, n, reg)),
+            Rule::Timer3(reg) if steady => Ok(self.now.board.t3.get_calm(settled, n, reg)),
             Rule::Spi(SpiReg::Spdr) => self.get_spdr(at),
             _ if is_plain_read(rule) => self.get_plain(rule, at as u8),
             _ => self.get_beside(at),
@@ -172,12 +172,12 @@ impl LaggingBoard {
     fn get_spdr(&mut self, at: u16) -> Result<u8, StopCause>
         requires listed { at ≤ 0x9F }
         requires rule { rule_of at ≡ Rule.Spi SpiReg.Spdr }
-        ensures { IsGot (get_by (rule_of at) self.old at) self.old result self.new }
+        ensures { IsGot (get_in (rule_of at) self.old at) self.old result self.new }
     {
-        if self.board.spi.line() {
+        if self.now.board.spi.line() {
             return self.get_beside(at);
         }
-        self.board.get_by(Rule::Spi(SpiReg::Spdr), at as u8)
+        self.now.board.get_by(Rule::Spi(SpiReg::Spdr), at as u8)
     }
 
     // A read of a port, or of a timer that may have passed its top, in a call of its own: inlined, the code would slow the
@@ -185,7 +185,7 @@ impl LaggingBoard {
     #[inline(never)]
     fn get_beside(&mut self, at: u16) -> Result<u8, StopCause>
         requires { at ≤ 0x9F }
-        ensures { IsGot (get_by (rule_of at) self.old at) self.old result self.new }
+        ensures { IsGot (get_in (rule_of at) self.old at) self.old result self.new }
     {
         let low = at as u8;
         let rule = listed_rule(at);
@@ -197,11 +197,12 @@ impl LaggingBoard {
 
     // A read of a timer that may have passed its top in the cycles that are made up for first.
     fn get_caught_up(&mut self, rule: Rule, at: u8) -> Result<u8, StopCause>
-        ensures { IsGot (get_by rule self.old at) self.old result self.new }
+        ensures { IsGot (get_in rule self.old at) self.old result self.new }
     {
-        self.board.catch_up(self.ahead.settled);
-        let got = self.board.get_by(rule, at);
-        self.ahead = self.board.ahead();
+        let clock = self.now.clock.get();
+        self.now.board.catch_up(self.ahead.settled, clock);
+        let got = self.now.board.get_by(rule, at);
+        self.ahead = self.now.board.ahead(clock);
         got
     }
 
@@ -209,29 +210,31 @@ impl LaggingBoard {
     #[inline]
     fn put_plain(&mut self, rule: Rule, at: u8, x: u8) -> Result<(), StopCause>
         requires { is_plain_write rule at ≡ true }
-        ensures { IsPut (put_by rule self.old at x) self.old result self.new }
+        ensures { IsPut (put_in rule self.old at x) self.old result self.new }
     {
-        self.board.put_by(rule, at, x)
+        self.now.board.put_by(self.now.clock, rule, at, x)
     }
 
     // A read of USART0 or of the serial peripheral interface, which may move its lines and its end.
     #[inline(always)]
     fn get_port(&mut self, rule: Rule, at: u8) -> Result<u8, StopCause>
         requires { is_port rule ≡ true }
-        ensures { IsGot (get_by rule self.old at) self.old result self.new }
+        ensures { IsGot (get_in rule self.old at) self.old result self.new }
     {
-        let got = self.board.get_by(rule, at);
-        self.ahead = self.board.ahead_beside(self.ahead);
+        let got = self.now.board.get_by(rule, at);
+        let clock = self.now.clock.get();
+        self.ahead = self.now.board.ahead_beside(clock, self.ahead);
         got
     }
 
     // A write of USART0 or of the serial peripheral interface.
     fn put_port(&mut self, rule: Rule, at: u8, x: u8) -> Result<(), StopCause>
         requires { is_port rule ≡ true }
-        ensures { IsPut (put_by rule self.old at x) self.old result self.new }
+        ensures { IsPut (put_in rule self.old at x) self.old result self.new }
     {
-        let put = self.board.put_by(rule, at, x);
-        self.ahead = self.board.ahead_beside(self.ahead);
+        let put = self.now.board.put_by(self.now.clock, rule, at, x);
+        let clock = self.now.clock.get();
+        self.ahead = self.now.board.ahead_beside(clock, self.ahead);
         put
     }
 
@@ -239,7 +242,7 @@ impl LaggingBoard {
     #[inline(never)]
     fn put_beside(&mut self, at: u16, x: u8) -> Result<(), StopCause>
         requires { at ≤ 0x9F }
-        ensures { IsPut (put_by (rule_of at) self.old at x) self.old result self.new }
+        ensures { IsPut (put_in (rule_of at) self.old at x) self.old result self.new }
     {
         let low = at as u8;
         let rule = listed_rule(at);
@@ -255,15 +258,15 @@ impl LaggingBoard {
     fn put_spdr(&mut self, at: u16, x: u8) -> Result<(), StopCause>
         requires listed { at ≤ 0x9F }
         requires rule { rule_of at ≡ Rule.Spi SpiReg.Spdr }
-        ensures { IsPut (put_by (rule_of at) self.old at x) self.old result self.new }
+        ensures { IsPut (put_in (rule_of at) self.old at x) self.old result self.new }
     {
-        if self.board.spi.line() {
+        if self.now.board.spi.line() {
             return self.put_beside(at, x);
         }
-        let put = self.board.put_spdr(at as u8, x);
-        let clock = self.board.clock.get();
+        let put = self.now.board.put_spdr(self.now.clock, at as u8, x);
+        let clock = self.now.clock.get();
         let most = self.ahead.next.saturating_sub(clock);
-        let calm = cycles_before(self.board.spi.done_at(), clock, most);
+        let calm = cycles_before(self.now.board.spi.done_at(), clock, most);
         let next = clock + calm;
         self.ahead.next = next;
         self.ahead.clear = clear_until(self.ahead.lines, next);
@@ -272,11 +275,12 @@ impl LaggingBoard {
 
     // A write of what may move a timer's event, or enables its line.
     fn put_and_look_ahead(&mut self, rule: Rule, at: u8, x: u8) -> Result<(), StopCause>
-        ensures { IsPut (put_by rule self.old at x) self.old result self.new }
+        ensures { IsPut (put_in rule self.old at x) self.old result self.new }
     {
-        self.board.catch_up(self.ahead.settled);
-        let put = self.board.put_by(rule, at, x);
-        self.ahead = self.board.ahead();
+        let clock = self.now.clock.get();
+        self.now.board.catch_up(self.ahead.settled, clock);
+        let put = self.now.board.put_by(self.now.clock, rule, at, x);
+        self.ahead = self.now.board.ahead(clock);
         put
     }
 }

@@ -6,6 +6,7 @@
 mod ahead;
 mod board;
 mod clock;
+mod clocked;
 mod cycle;
 mod lagging;
 mod lagging_registers;
@@ -18,6 +19,7 @@ mod saved;
 
 pub use board::{Board, Sleep};
 pub use clock::Clock;
+pub use clocked::ClockedBoard;
 pub use cycle::{CycleOutput, OnAir};
 pub use lagging::LaggingBoard;
 pub use saved::first_refused;

@@ -1,15 +1,14 @@
-// The I/O registers as a bus.
-ghost use Rattle.std.specs.Prelude.{◌≡◌};
+// The I/O registers, each by its rule.
+ghost use Rattle.std.specs.Prelude.{ℕ, ◌≡◌};
 
-use crate::Board;
 use crate::names::{
     ICF1, ICF3, IVSEL, JTD, OCF0, OCF1A, OCF1B, OCF1C, OCF2, OCF3A, OCF3B, OCF3C, SRE, TOV0, TOV1,
     TOV2, TOV3, WDCE, WDE,
 };
-use crate::rules::{LAST, Rule, listed_rule};
+use crate::rules::Rule;
+use crate::{Board, Clock};
 use avr_base::StopCause;
 use avr_timers::TimerFlags;
-use data_space::Bus;
 use device_base::{any_bit, bit};
 use serial_ports::SpiReg;
 
@@ -135,7 +134,7 @@ impl Board {
         cause: StopCause,
         mask: u8,
     ) -> Result<(), StopCause>
-        ensures { IsPut (put_by (Rule.Guarded bits cause mask) self.old at x) self.old result self.new }
+        ensures { (t : ℕ) → IsPut (put_by t (Rule.Guarded bits cause mask) self.old at x) self.old result self.new }
     {
         if any_bit(x, bits) {
             return Err(cause);
@@ -146,7 +145,7 @@ impl Board {
 
     // A write of MCUCR.
     fn put_cpu_control(&mut self, at: u8, x: u8) -> Result<(), StopCause>
-        ensures { IsPut (put_by Rule.CpuControl self.old at x) self.old result self.new }
+        ensures { (t : ℕ) → IsPut (put_by t Rule.CpuControl self.old at x) self.old result self.new }
     {
         if any_bit(x, SRE) {
             return Err(StopCause::ExternalMemory);
@@ -158,17 +157,23 @@ impl Board {
         Ok(())
     }
 
-    /// A write of SPDR.
+    /// A write of SPDR in the cycle of the clock.
     #[inline(always)]
-    pub(crate) fn put_spdr(&mut self, at: u8, x: u8) -> Result<(), StopCause>
-        ensures { IsPut (put_by (Rule.Spi SpiReg.Spdr) self.old at x) self.old result self.new }
+    pub(crate) fn put_spdr(&mut self, clock: Clock, at: u8, x: u8) -> Result<(), StopCause>
+        ensures { IsPut (put_by clock (Rule.Spi SpiReg.Spdr) self.old at x) self.old result self.new }
     {
-        self.spi.put(self.clock.get(), SpiReg::Spdr, x)
+        self.spi.put(clock.get(), SpiReg::Spdr, x)
     }
 
-    /// A write of the register at a data address below 0x0100, by its rule.
-    pub(crate) fn put_by(&mut self, rule: Rule, at: u8, x: u8) -> Result<(), StopCause>
-        ensures { IsPut (put_by rule self.old at x) self.old result self.new }
+    /// A write, in the cycle of the clock, of the register at a data address below 0x0100, by its rule.
+    pub(crate) fn put_by(
+        &mut self,
+        clock: Clock,
+        rule: Rule,
+        at: u8,
+        x: u8,
+    ) -> Result<(), StopCause>
+        ensures { IsPut (put_by clock rule self.old at x) self.old result self.new }
     {
         match rule {
             Rule::Reserved => Err(StopCause::ReservedAddress),
@@ -202,32 +207,8 @@ impl Board {
             Rule::Timer1(reg) => self.t1.put(reg, x),
             Rule::Timer2(reg) => self.t2.put(reg, x),
             Rule::Timer3(reg) => self.t3.put(reg, x),
-            Rule::Usart0(reg) => self.usart.put(self.clock.get(), reg, x),
-            Rule::Spi(reg) => self.spi.put(self.clock.get(), reg, x),
+            Rule::Usart0(reg) => self.usart.put(clock.get(), reg, x),
+            Rule::Spi(reg) => self.spi.put(clock.get(), reg, x),
         }
-    }
-}
-
-impl Bus for Board {
-    ghost use Rattle.board_io.specs.Registers.{io_get, io_put};
-
-    ghost get_gives = { io_get };
-
-    ghost put_gives = { io_put };
-
-    #[tactic(auto, unfolding(crate::specs::Registers::io_get))]
-    fn get(&mut self, at: u16) -> Result<u8, StopCause> {
-        if at > LAST {
-            return Err(StopCause::ReservedAddress);
-        }
-        self.get_by(listed_rule(at), at as u8)
-    }
-
-    #[tactic(auto, unfolding(crate::specs::Registers::io_put))]
-    fn put(&mut self, at: u16, b: u8) -> Result<(), StopCause> {
-        if at > LAST {
-            return Err(StopCause::ReservedAddress);
-        }
-        self.put_by(listed_rule(at), at as u8, b)
     }
 }

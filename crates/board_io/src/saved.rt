@@ -1,6 +1,6 @@
 // What a board is saved and restored by.
 ghost use Rattle.std.specs.Prelude.{◌≡◌, ◌≤◌, ◌+◌, None, Some, IfSome, is_some, length};
-ghost use Rattle.air_base.specs.Bounds.{LAST_CYCLE, LAST_END};
+ghost use Rattle.air_base.specs.Bounds.{LAST_CYCLE};
 ghost use Rattle.air_base.specs.declared.bounds.TheConstants.{LONGEST_BYTE};
 ghost use Rattle.std.specs.List.{list_all};
 ghost use Rattle.board_io.specs.Kept.{first_refused, is_io, is_kept, kept_bits, kept_of};
@@ -8,7 +8,7 @@ ghost use Rattle.board_io.specs.Kept.{first_refused, is_io, is_kept, kept_bits, 
 use crate::names::{JTD, PORF};
 use crate::registers::MCUCR_KEPT;
 use crate::rules::{Rule, rule_at};
-use crate::{Board, Clock, LaggingBoard};
+use crate::{Board, Clock, ClockedBoard, LaggingBoard};
 use avr_base::IO_START;
 use avr_timers::{Prescaler, Timer8, Timer16};
 use data_space::IO_COUNT;
@@ -149,25 +149,15 @@ impl Board {
         }
     }
 
-    /// The board of these numbers and of the 224 bytes `io` that it keeps itself, from data address 0x20 on, before the
-    /// cycle `cycle`, with the byte time of its radio in cycles, at most 4,096. `None` exactly where `fits` has a test
-    /// that failed.
-    pub fn restore(
-        byte_time: u64,
-        cycle: u64,
-        ends_from: u64,
-        numbers: &[u64; 67],
-        io: &[u8],
-    ) -> Option<Board>
+    /// The board of these numbers and of the 224 bytes `io` that it keeps itself, from data address 0x20 on, with the byte
+    /// time of its radio in cycles, at most 4,096. `None` exactly where `fits` has a test that failed.
+    pub fn restore(byte_time: u64, ends_from: u64, numbers: &[u64; 67], io: &[u8]) -> Option<Board>
         requires byte_time { byte_time ≤ LONGEST_BYTE }
-        requires cycle { cycle ≤ LAST_END }
         requires io { length io.now ≡ IO_COUNT }
         ensures none { is_some result ≡ list_all (λ fit. fit) (fits ends_from numbers.now) }
         ensures some { IfSome result (λ b. IsRestored byte_time numbers.now io.now b) }
-        ensures clock { IfSome result (λ b. b.clock ≡ cycle) }
     {
         Some(Board {
-            clock: Clock::new(cycle),
             kept: kept_of(io),
             t0: Timer8::from_numbers(Prescaler::Own, &part(numbers, 0))?,
             t2: Timer8::from_numbers(Prescaler::Shared, &part(numbers, 6))?,
@@ -181,40 +171,44 @@ impl Board {
 }
 
 impl LaggingBoard {
+    ghost use Rattle.board_io.specs.Board.{clocked};
     ghost use Rattle.board_io.specs.Kept.{io_at};
     ghost use Rattle.board_io.specs.Saved.{numbers_of};
 
-    /// A board as it stands, whose clock is at most 2^40.
-    pub fn restored(board: Board) -> LaggingBoard
-        requires { board.clock ≤ LAST_CYCLE }
-        ensures { result ≡ board }
+    /// A board as it stands when the cycle `cycle` begins, at most 2^40.
+    pub fn restored(board: Board, cycle: u64) -> LaggingBoard
+        requires { cycle ≤ LAST_CYCLE }
+        ensures { result ≡ clocked cycle board }
     {
-        let ahead = board.ahead();
-        LaggingBoard { board, ahead }
+        let ahead = board.ahead(cycle);
+        let clock = Clock::new(cycle);
+        LaggingBoard {
+            ahead,
+            now: ClockedBoard { clock, board },
+        }
     }
 
     // The board of its clock's cycle.
     fn caught_up(&self) -> Board
-        ensures { result ≡ self.now }
+        ensures { result ≡ self.now.board }
     {
         let mut board = Board {
-            clock: self.board.clock,
-            kept: self.board.kept,
-            t0: self.board.t0,
-            t1: self.board.t1,
-            t2: self.board.t2,
-            t3: self.board.t3,
-            usart: self.board.usart,
-            spi: self.board.spi,
-            radio: self.board.radio,
+            kept: self.now.board.kept,
+            t0: self.now.board.t0,
+            t1: self.now.board.t1,
+            t2: self.now.board.t2,
+            t3: self.now.board.t3,
+            usart: self.now.board.usart,
+            spi: self.now.board.spi,
+            radio: self.now.board.radio,
         };
-        board.catch_up(self.ahead.settled);
+        board.catch_up(self.ahead.settled, self.now.clock.get());
         board
     }
 
     /// The numbers of its devices, as [`Board::numbers`] gives them.
     pub fn numbers(&self) -> [u64; 67]
-        ensures { result ≡ numbers_of self.now }
+        ensures { result ≡ numbers_of self.now.board }
     {
         self.caught_up().numbers()
     }
@@ -222,8 +216,8 @@ impl LaggingBoard {
     /// The byte that it keeps itself at the data address `at`, 0 where it keeps none.
     #[tactic(auto, unfolding(crate::specs::Cycle::timers_leap))]
     pub fn io(&self, at: u8) -> u8
-        ensures { result ≡ io_at at self.now }
+        ensures { result ≡ io_at at self.now.board }
     {
-        self.board.io(at)
+        self.now.board.io(at)
     }
 }

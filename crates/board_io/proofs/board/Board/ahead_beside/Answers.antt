@@ -8,8 +8,7 @@ use Rattle.board_io.proofs.board.Board.ahead_beside.Goals as goal
 pub returns-clause-ahead : goal.returns-clause-ahead
 returns-clause-ahead c =
     let b : Board = c.args.self.now in
-    let t : ℕ = c.get-clock.result in
-    let at = c.get-clock.ensures.value in
+    let t : ℕ = c.args.clock in
     let quiet = c.quiet-calm.ensures in
     let within = quiet.within in
     let settled = c.requires.settled in
@@ -18,14 +17,14 @@ returns-clause-ahead c =
     record {
       settled = settled;
       now = now;
-      early = omega (arith, at, early, within, now);
+      early = omega (arith, early, within, now);
       quiet = λ u from below.
           (let i : ℕ = u - t in
-          let here : t + i ≡ u = omega (arith, from, at) in
-          subst (λ (w : ℕ). board_quiet w b ≡ true) here (quiet.none i (omega (arith, from, at, below))));
-      calm = λ i below. elim (cases_lt (c.args.before.settled + i) b.clock) [
+          let here : t + i ≡ u = omega (arith, from) in
+          subst (λ (w : ℕ). board_quiet w b ≡ true) here (quiet.none i (omega (arith, from, below))));
+      calm = λ i below. elim (cases_lt (c.args.before.settled + i) t) [
         | inl passed ↦ c.requires.past i passed
-        | inr from ↦ c.requires.calm i (omega (arith, below, at, within, from))
+        | inr from ↦ c.requires.calm i (omega (arith, below, within, from))
       ];
       past = c.requires.past;
       steady = c.requires.steady;

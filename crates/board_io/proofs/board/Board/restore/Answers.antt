@@ -65,7 +65,7 @@ returns-clause-none c =
 
 pub returns-clause-some : goal.returns-clause-some
 returns-clause-some c =
-    let b : Board = record { clock = c.new.result; kept = c.kept_of.result; t0 = c.in_ok-from_numbers.field-0; t1 = c.in_ok-from_numbers-3.field-0; t2 = c.in_ok-from_numbers-2.field-0; t3 = c.in_ok-from_numbers-4.field-0; usart = c.in_ok-from_numbers-5.field-0; spi = c.in_ok-from_numbers-6.field-0; radio = c.in_ok-from_numbers-7.field-0 } in
+    let b : Board = record { kept = c.kept_of.result; t0 = c.in_ok-from_numbers.field-0; t1 = c.in_ok-from_numbers-3.field-0; t2 = c.in_ok-from_numbers-2.field-0; t3 = c.in_ok-from_numbers-4.field-0; usart = c.in_ok-from_numbers-5.field-0; spi = c.in_ok-from_numbers-6.field-0; radio = c.in_ok-from_numbers-7.field-0 } in
     let has : Has c.args.numbers.now b = record {
       t0 = c.in_ok-from_numbers.ensures.some.numbers ∙ c.part.ensures;
       t2 = c.in_ok-from_numbers-2.ensures.some.numbers ∙ c.part-2.ensures;

@@ -1,6 +1,5 @@
 use Rattle.std.proofs.Common.{◌≡◌, Option, Some, None, is_some, not, false, ℕ, refl, sym, ap, ◌∙◌}
 use Rattle.std.proofs.lemmas.Bool.{false≢true}
-use Rattle.board_io.specs.Board.{unclocked}
 use Rattle.board_io.specs.Cycle.{board_begun}
 use Rattle.board_io.specs.declared.board.Board.{Board}
 use Rattle.board_io.proofs.Lags.{quiet_now}
@@ -14,8 +13,8 @@ none_is (Some byte) e = absurd (false≢true (sym e))
 pub returns-then-leap_whole-clause-state : goal.returns-then-leap_whole-clause-state
 returns-then-leap_whole-clause-state c =
     let t = c.args.cycle in
-    let v : Board = unclocked c.args.self.now in
-    let quiet = quiet_now t c.args.self.now (c.leap_whole.ensures.idle c.if-leap_whole.true) in
+    let v : Board = c.args.self.now.board in
+    let quiet = quiet_now t v (c.leap_whole.ensures.idle c.if-leap_whole.true) in
     c.leap_whole.ensures.state c.if-leap_whole.true
     ∙ (sym (begun_quiet t v quiet) ∙ ap (λ (a : Option ℕ). board_begun t a v) (sym (none_is c.args.arrival (c.is_none.ensures ∙ ap not c.if-is_none.true))))
 
@@ -24,8 +23,8 @@ returns-then-leap_whole-clause-clock c = c.leap_whole.ensures.clock c.if-leap_wh
 
 pub returns-then-leap_whole-clause-serial : goal.returns-then-leap_whole-clause-serial
 returns-then-leap_whole-clause-serial c =
-    sym (serial_quiet c.args.cycle (unclocked c.args.self.now) (quiet_now c.args.cycle c.args.self.now (c.leap_whole.ensures.idle c.if-leap_whole.true)))
+    sym (serial_quiet c.args.cycle c.args.self.now.board (quiet_now c.args.cycle c.args.self.now.board (c.leap_whole.ensures.idle c.if-leap_whole.true)))
 
 pub returns-then-leap_whole-clause-air : goal.returns-then-leap_whole-clause-air
 returns-then-leap_whole-clause-air c =
-    sym (air_quiet c.args.cycle (unclocked c.args.self.now) (quiet_now c.args.cycle c.args.self.now (c.leap_whole.ensures.idle c.if-leap_whole.true)))
+    sym (air_quiet c.args.cycle c.args.self.now.board (quiet_now c.args.cycle c.args.self.now.board (c.leap_whole.ensures.idle c.if-leap_whole.true)))

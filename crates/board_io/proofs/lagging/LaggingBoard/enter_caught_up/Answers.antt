@@ -1,19 +1,19 @@
-use Rattle.std.proofs.Common.{ap, ◌∙◌, arith}
+use Rattle.std.proofs.Common.{ℕ, ap, subst, ◌∙◌}
 use Rattle.board_io.specs.Lines.{entered_of}
-use Rattle.board_io.specs.declared.board.Board.{Board}
-use Rattle.board_io.proofs.Lags.{caught_clock, caught_zero}
-use Rattle.board_io.proofs.Served.{entered_clock}
+use Rattle.board_io.specs.declared.clocked.ClockedBoard.{ClockedBoard}
+use Rattle.board_io.specs.Lagging.{IsAhead}
+use Rattle.board_io.proofs.Lags.{caught_now, caught_zero}
 use Rattle.board_io.proofs.lagging.LaggingBoard.enter_caught_up.Goals as goal
 
-pub ahead-self-inside-requires : goal.ahead-self-inside-requires
-ahead-self-inside-requires c =
-    let i = c.self.inside in
-    let same = ap (λ (b : Board). b.clock) c.entered.ensures ∙ entered_clock c.args.v.word c.catch_up.new.self in
-    let there = ap (λ (b : Board). b.clock) c.catch_up.ensures ∙ caught_clock i.ahead.settled i.board in
-    let now = c.self.invariant.now in
-    omega (arith, same, there, now)
+pub invariant_of-self : goal.invariant_of-self
+invariant_of-self c = subst (λ (t : ℕ). IsAhead c.ahead-self-inside.result t c.entered.new.self) c.get-clock.ensures.value c.ahead-self-inside.ensures.ahead
 
-pub returns : goal.returns
-returns c =
-    caught_zero c.ahead-self-inside.result.settled c.entered.new.self c.ahead-self-inside.ensures.settled
-    ∙ (c.entered.ensures ∙ ap (entered_of c.args.v.word) (c.catch_up.ensures ∙ c.self.view_is))
+pub returns-clause-state : goal.returns-clause-state
+returns-clause-state c =
+    let i = c.self.inside in
+    let at = c.get-clock.ensures.value in
+    caught_zero c.ahead-self-inside.result.settled i.now.clock c.entered.new.self (c.ahead-self-inside.ensures.settled ∙ at)
+    ∙ (c.entered.ensures ∙ ap (entered_of c.args.v.word) (caught_now i.ahead.settled c.get-clock.result i.now.clock i.now.board c.catch_up.new.self c.args.self.now at c.catch_up.ensures c.self.view_is))
+
+pub returns-clause-clock : goal.returns-clause-clock
+returns-clause-clock c = ap (λ (v : ClockedBoard). v.clock) c.self.view_is

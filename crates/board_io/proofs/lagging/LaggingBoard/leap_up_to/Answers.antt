@@ -1,50 +1,39 @@
 use Rattle.std.proofs.Common.{◌≡◌, ℕ, ◌+◌, sym, ap, subst, ◌∙◌, arith}
-use Rattle.board_io.specs.Board.{clock_at, unclocked}
+use Rattle.board_io.specs.declared.clocked.ClockedBoard.{ClockedBoard}
 use Rattle.board_io.specs.Lagging.{IsAhead, caught_up}
 use Rattle.board_io.specs.Lines.{lines_of}
-use Rattle.board_io.specs.declared.board.Board.{Board}
-use Rattle.board_io.proofs.Lags.{free, idle, later, lines_stay, passed, passed_clock}
+use Rattle.board_io.proofs.Lags.{IsFree, free, idle, later, lines_stay, passed}
 use Rattle.board_io.proofs.lagging.LaggingBoard.leap_up_to.Goals as goal
+
+-- the cycles that were passed are free
+is_free : (c : goal.After-self-1) → IsFree c.self.inside.ahead.settled c.self.inside.now.clock c.min-n.result c.self.inside.now.board
+is_free c =
+    let at = c.get-clock.ensures.value in
+    free c.self.inside.ahead c.self.inside.now.clock c.self.inside.now.board c.self.invariant c.min-n.result (omega (arith, at))
+
+here : (c : goal.After-self-1) → c.self.inside.now.clock + c.min-n.result ≡ c.new-self-inside.result
+here c = ap (λ (t : ℕ). t + c.min-n.result) (sym c.get-clock.ensures.value) ∙ sym c.new-self-inside.ensures
 
 pub invariant_of-self : goal.invariant_of-self
 invariant_of-self c =
-    let a = c.self.inside.ahead in
-    let b : Board = c.self.inside.board in
-    let at = c.get-clock.ensures.value in
-    let n : ℕ = c.min-n.result in
-    let here : b.clock + n ≡ c.new-self-inside.result = omega (arith, at, c.new-self-inside.ensures) in
-    subst (λ (t : ℕ). IsAhead a (clock_at t b)) here (later a b c.self.invariant n (free a b c.self.invariant n (omega (arith, at))))
+    let i = c.self.inside in
+    subst (λ (t : ℕ). IsAhead i.ahead t i.now.board) (here c) (later i.ahead i.now.clock i.now.board c.self.invariant c.min-n.result (is_free c))
 
 pub returns-clause-idle : goal.returns-clause-idle
 returns-clause-idle c =
-    let at = c.get-clock.ensures.value in
-    let free = free c.self.inside.ahead c.self.inside.board c.self.invariant c.min-n.result (omega (arith, at)) in
-    idle c.self.inside.ahead c.self.inside.board c.self.invariant c.min-n.result c.args.self.now c.self.view_is free
+    let i = c.self.inside in
+    idle i.ahead i.now.clock i.now.board c.self.invariant c.min-n.result c.args.self.now c.self.view_is (is_free c)
 
 pub returns-clause-state : goal.returns-clause-state
 returns-clause-state c =
-    let a = c.self.inside.ahead in
-    let b : Board = c.self.inside.board in
-    let at = c.get-clock.ensures.value in
-    let n : ℕ = c.min-n.result in
-    let here : b.clock + n ≡ c.new-self-inside.result = omega (arith, at, c.new-self-inside.ensures) in
-    ap (λ (t : ℕ). unclocked (caught_up a.settled (clock_at t b))) (sym here) ∙ passed a b c.self.invariant n c.args.self.now c.self.view_is
+    let i = c.self.inside in
+    ap (λ (t : ℕ). caught_up i.ahead.settled t i.now.board) (sym (here c)) ∙ passed i.ahead i.now.clock i.now.board c.self.invariant c.min-n.result c.args.self.now c.self.view_is
 
 pub returns-clause-lines : goal.returns-clause-lines
 returns-clause-lines c =
-    let a = c.self.inside.ahead in
-    let b : Board = c.self.inside.board in
-    let at = c.get-clock.ensures.value in
-    let n : ℕ = c.min-n.result in
-    let here : b.clock + n ≡ c.new-self-inside.result = omega (arith, at, c.new-self-inside.ensures) in
-    ap (λ (t : ℕ). lines_of (caught_up a.settled (clock_at t b))) (sym here)
-    ∙ lines_stay a b c.self.invariant n c.args.self.now c.self.view_is (free a b c.self.invariant n (omega (arith, at)))
+    let i = c.self.inside in
+    ap (λ (t : ℕ). lines_of (caught_up i.ahead.settled t i.now.board)) (sym (here c))
+    ∙ lines_stay i.ahead i.now.clock i.now.board c.self.invariant c.min-n.result c.args.self.now c.self.view_is (is_free c)
 
 pub returns-clause-clock : goal.returns-clause-clock
-returns-clause-clock c =
-    let a = c.self.inside.ahead in
-    let b : Board = c.self.inside.board in
-    let at = c.get-clock.ensures.value in
-    let n : ℕ = c.min-n.result in
-    let here : b.clock + n ≡ c.new-self-inside.result = omega (arith, at, c.new-self-inside.ensures) in
-    ap (λ (t : ℕ). (caught_up a.settled (clock_at t b)).clock) (sym here) ∙ passed_clock a b c.self.invariant n c.args.self.now c.self.view_is
+returns-clause-clock c = sym (here c) ∙ ap (λ (v : ClockedBoard). v.clock + c.min-n.result) c.self.view_is

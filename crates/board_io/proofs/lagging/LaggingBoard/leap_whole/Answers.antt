@@ -1,67 +1,55 @@
 use Rattle.std.proofs.Common.{◌≡◌, ℕ, ◌+◌, sym, ap, subst, ◌∙◌, arith}
-use Rattle.board_io.specs.Board.{clock_at, unclocked}
+use Rattle.board_io.specs.declared.clocked.ClockedBoard.{ClockedBoard}
 use Rattle.board_io.specs.Cycle.{timers_leap}
 use Rattle.board_io.specs.Lagging.{IsAhead, IsIdle, caught_up}
 use Rattle.board_io.specs.Lines.{lines_of}
-use Rattle.board_io.specs.declared.board.Board.{Board}
-use Rattle.board_io.proofs.Lags.{caught_clock, free, idle, later, lines_stay, passed, passed_clock}
+use Rattle.board_io.proofs.Lags.{IsFree, free, idle, later, lines_stay, passed}
 use Rattle.board_io.proofs.lagging.LaggingBoard.leap_whole.Goals as goal
 
 pub overflow_add-end : goal.overflow_add-end
 overflow_add-end c =
-    let a = c.self.inside.ahead in
-    let b : Board = c.self.inside.board in
-    let at : b.clock ≡ c.args.cycle = sym (caught_clock a.settled b) ∙ (ap (λ (w : Board). w.clock) c.self.view_is ∙ c.requires.now) in
+    let at : c.self.inside.now.clock ≡ c.args.cycle = ap (λ (v : ClockedBoard). v.clock) c.self.view_is ∙ c.requires.now in
     let now = c.self.invariant.now in
     omega (arith, at, now)
 
+now_at : (c : goal.After-self-1) → c.self.inside.now.clock ≡ c.args.cycle
+now_at c = ap (λ (v : ClockedBoard). v.clock) c.self.view_is ∙ c.requires.now
+
+-- the cycles that were passed are free
+is_free : (c : goal.After-self-1) → IsFree c.self.inside.ahead.settled c.self.inside.now.clock c.args.n c.self.inside.now.board
+is_free c =
+    let at = now_at c in
+    free c.self.inside.ahead c.self.inside.now.clock c.self.inside.now.board c.self.invariant c.args.n (omega (arith, at))
+
+here : (c : goal.After-self-1) → c.self.inside.now.clock + c.args.n ≡ c.new-self-inside.result
+here c = let at = now_at c in omega (arith, at, c.new-self-inside.ensures)
+
 pub invariant_of-self : goal.invariant_of-self
 invariant_of-self c =
-    let a = c.self.inside.ahead in
-    let b : Board = c.self.inside.board in
-    let at : b.clock ≡ c.args.cycle = sym (caught_clock a.settled b) ∙ (ap (λ (w : Board). w.clock) c.self.view_is ∙ c.requires.now) in
-    let n : ℕ = c.args.n in
-    let here : b.clock + n ≡ c.new-self-inside.result = omega (arith, at, c.new-self-inside.ensures) in
-    subst (λ (t : ℕ). IsAhead a (clock_at t b)) here (later a b c.self.invariant n (free a b c.self.invariant n (omega (arith, at))))
+    let i = c.self.inside in
+    subst (λ (t : ℕ). IsAhead i.ahead t i.now.board) (here c) (later i.ahead i.now.clock i.now.board c.self.invariant c.args.n (is_free c))
 
 pub returns-clause-idle : goal.returns-clause-idle
 returns-clause-idle c =
-    let a = c.self.inside.ahead in
-    let b : Board = c.self.inside.board in
-    let at : b.clock ≡ c.args.cycle = sym (caught_clock a.settled b) ∙ (ap (λ (w : Board). w.clock) c.self.view_is ∙ c.requires.now) in
+    let i = c.self.inside in
     λ _.
-    subst (λ (t : ℕ). IsIdle t c.args.n (unclocked c.args.self.now)) c.requires.now
-    (idle a b c.self.invariant c.args.n c.args.self.now c.self.view_is (free a b c.self.invariant c.args.n (omega (arith, at))))
+    subst (λ (t : ℕ). IsIdle t c.args.n c.args.self.now.board) c.requires.now
+    (idle i.ahead i.now.clock i.now.board c.self.invariant c.args.n c.args.self.now c.self.view_is (is_free c))
 
 pub returns-clause-state : goal.returns-clause-state
 returns-clause-state c =
-    let a = c.self.inside.ahead in
-    let b : Board = c.self.inside.board in
-    let at : b.clock ≡ c.args.cycle = sym (caught_clock a.settled b) ∙ (ap (λ (w : Board). w.clock) c.self.view_is ∙ c.requires.now) in
-    let n : ℕ = c.args.n in
-    let here : b.clock + n ≡ c.new-self-inside.result = omega (arith, at, c.new-self-inside.ensures) in
+    let i = c.self.inside in
     λ _.
-    ap (λ (t : ℕ). unclocked (caught_up a.settled (clock_at t b))) (sym here)
-    ∙ (passed a b c.self.invariant n c.args.self.now c.self.view_is ∙ ap (λ (t : ℕ). timers_leap t n (unclocked c.args.self.now)) c.requires.now)
+    ap (λ (t : ℕ). caught_up i.ahead.settled t i.now.board) (sym (here c))
+    ∙ (passed i.ahead i.now.clock i.now.board c.self.invariant c.args.n c.args.self.now c.self.view_is
+    ∙ ap (λ (t : ℕ). timers_leap t c.args.n c.args.self.now.board) c.requires.now)
 
 pub returns-clause-lines : goal.returns-clause-lines
 returns-clause-lines c =
-    let a = c.self.inside.ahead in
-    let b : Board = c.self.inside.board in
-    let at : b.clock ≡ c.args.cycle = sym (caught_clock a.settled b) ∙ (ap (λ (w : Board). w.clock) c.self.view_is ∙ c.requires.now) in
-    let n : ℕ = c.args.n in
-    let here : b.clock + n ≡ c.new-self-inside.result = omega (arith, at, c.new-self-inside.ensures) in
+    let i = c.self.inside in
     λ _.
-    ap (λ (t : ℕ). lines_of (caught_up a.settled (clock_at t b))) (sym here)
-    ∙ lines_stay a b c.self.invariant n c.args.self.now c.self.view_is (free a b c.self.invariant n (omega (arith, at)))
+    ap (λ (t : ℕ). lines_of (caught_up i.ahead.settled t i.now.board)) (sym (here c))
+    ∙ lines_stay i.ahead i.now.clock i.now.board c.self.invariant c.args.n c.args.self.now c.self.view_is (is_free c)
 
 pub returns-clause-clock : goal.returns-clause-clock
-returns-clause-clock c =
-    let a = c.self.inside.ahead in
-    let b : Board = c.self.inside.board in
-    let at : b.clock ≡ c.args.cycle = sym (caught_clock a.settled b) ∙ (ap (λ (w : Board). w.clock) c.self.view_is ∙ c.requires.now) in
-    let n : ℕ = c.args.n in
-    let here : b.clock + n ≡ c.new-self-inside.result = omega (arith, at, c.new-self-inside.ensures) in
-    λ _.
-    ap (λ (t : ℕ). (caught_up a.settled (clock_at t b)).clock) (sym here)
-    ∙ (passed_clock a b c.self.invariant n c.args.self.now c.self.view_is ∙ ap (λ (t : ℕ). t + n) c.requires.now)
+returns-clause-clock c = λ _. sym (here c) ∙ ap (λ (t : ℕ). t + c.args.n) (now_at c)

@@ -1,76 +1,65 @@
 use Rattle.std.proofs.Common.{◌≡◌, ℕ, ◌+◌, sym, ap, subst, ◌∙◌, arith}
-use Rattle.board_io.specs.Board.{clock_at, unclocked}
+use Rattle.avr_base.specs.declared.interrupts.Lines.{Lines}
+use Rattle.board_io.specs.declared.clocked.ClockedBoard.{ClockedBoard}
+use Rattle.board_io.specs.Board.{clocked}
 use Rattle.board_io.specs.Lagging.{IsAhead, IsClear, caught_up}
 use Rattle.board_io.specs.Lines.{lines_of}
-use Rattle.board_io.specs.declared.board.Board.{Board}
-use Rattle.avr_base.specs.declared.interrupts.Lines.{Lines}
-use Rattle.board_io.proofs.Lags.{clear_stays, clock_now, free_to, idle, later, lines_stay, passed, passed_clock}
+use Rattle.board_io.proofs.Lags.{IsFree, clear_stays, free_to, idle, later, lines_stay, passed}
 use Rattle.board_io.proofs.lagging.LaggingBoard.leap_within.Goals as goal
+
+now_at : (c : goal.After-self-1) → c.self.inside.now.clock ≡ c.args.self.now.clock
+now_at c = ap (λ (v : ClockedBoard). v.clock) c.self.view_is
+
+-- the cycles that were passed are free
+is_free : (c : goal.After-self-1) → IsFree c.self.inside.ahead.settled c.self.inside.now.clock c.args.n c.self.inside.now.board
+is_free c =
+    let i = c.self.inside in
+    let at = c.get.ensures.value in
+    free_to i.ahead i.now.clock i.now.board c.self.invariant c.args.bound c.args.n c.args.self.now c.self.view_is c.requires.early c.requires.clear (omega (arith, at))
+
+here : (c : goal.After-self-1) → c.self.inside.now.clock + c.args.n ≡ c.new-self-inside.result
+here c = let at = c.get.ensures.value in omega (arith, at, c.new-self-inside.ensures)
 
 pub invariant_of-self : goal.invariant_of-self
 invariant_of-self c =
-    let a = c.self.inside.ahead in
-    let b : Board = c.self.inside.board in
-    let at = c.get.ensures.value in
-    let n : ℕ = c.args.n in
-    let free = free_to a b c.self.invariant c.args.bound n c.args.self.now c.self.view_is c.requires.early c.requires.clear (omega (arith, at)) in
-    let here : b.clock + n ≡ c.new-self-inside.result = omega (arith, at, c.new-self-inside.ensures) in
-    subst (λ (t : ℕ). IsAhead a (clock_at t b)) here (later a b c.self.invariant n free)
+    let i = c.self.inside in
+    subst (λ (t : ℕ). IsAhead i.ahead t i.now.board) (here c) (later i.ahead i.now.clock i.now.board c.self.invariant c.args.n (is_free c))
 
 pub returns-clause-within : goal.returns-clause-within
 returns-clause-within c =
     let at = c.get.ensures.value in
-    let same = clock_now c.self.inside.ahead c.self.inside.board c.args.self.now c.self.view_is in
+    let same = now_at c in
     λ _. omega (arith, at, same)
 
 pub returns-clause-idle : goal.returns-clause-idle
 returns-clause-idle c =
-    let a = c.self.inside.ahead in
-    let b : Board = c.self.inside.board in
-    let at = c.get.ensures.value in
-    let n : ℕ = c.args.n in
-    let free = free_to a b c.self.invariant c.args.bound n c.args.self.now c.self.view_is c.requires.early c.requires.clear (omega (arith, at)) in
-    λ _. idle a b c.self.invariant n c.args.self.now c.self.view_is free
+    let i = c.self.inside in
+    λ _. idle i.ahead i.now.clock i.now.board c.self.invariant c.args.n c.args.self.now c.self.view_is (is_free c)
 
 pub returns-clause-state : goal.returns-clause-state
 returns-clause-state c =
-    let a = c.self.inside.ahead in
-    let b : Board = c.self.inside.board in
-    let at = c.get.ensures.value in
-    let n : ℕ = c.args.n in
-    let here : b.clock + n ≡ c.new-self-inside.result = omega (arith, at, c.new-self-inside.ensures) in
-    λ _. ap (λ (t : ℕ). unclocked (caught_up a.settled (clock_at t b))) (sym here) ∙ passed a b c.self.invariant n c.args.self.now c.self.view_is
+    let i = c.self.inside in
+    λ _.
+    ap (λ (t : ℕ). caught_up i.ahead.settled t i.now.board) (sym (here c)) ∙ passed i.ahead i.now.clock i.now.board c.self.invariant c.args.n c.args.self.now c.self.view_is
 
 pub returns-clause-lines : goal.returns-clause-lines
 returns-clause-lines c =
-    let a = c.self.inside.ahead in
-    let b : Board = c.self.inside.board in
+    let i = c.self.inside in
     let at = c.get.ensures.value in
-    let n : ℕ = c.args.n in
-    let free = free_to a b c.self.invariant c.args.bound n c.args.self.now c.self.view_is c.requires.early c.requires.clear (omega (arith, at)) in
-    let here : b.clock + n ≡ c.new-self-inside.result = omega (arith, at, c.new-self-inside.ensures) in
-    let same = clock_now a b c.args.self.now c.self.view_is in
+    let same = now_at c in
     let some = c.requires.some in
     λ _.
-    ap (λ (t : ℕ). (lines_of (caught_up a.settled (clock_at t b))).bits) (sym here)
-    ∙ (ap (λ (l : Lines). l.bits) (lines_stay a b c.self.invariant n c.args.self.now c.self.view_is free) ∙ c.requires.clear.down (omega (arith, at, same, some)))
+    ap (λ (t : ℕ). (lines_of (caught_up i.ahead.settled t i.now.board)).bits) (sym (here c))
+    ∙ (ap (λ (l : Lines). l.bits) (lines_stay i.ahead i.now.clock i.now.board c.self.invariant c.args.n c.args.self.now c.self.view_is (is_free c))
+    ∙ c.requires.clear.down (omega (arith, at, same, some)))
 
 pub returns-clause-clear : goal.returns-clause-clear
 returns-clause-clear c =
-    let a = c.self.inside.ahead in
-    let b : Board = c.self.inside.board in
+    let i = c.self.inside in
     let at = c.get.ensures.value in
-    let n : ℕ = c.args.n in
-    let here : b.clock + n ≡ c.new-self-inside.result = omega (arith, at, c.new-self-inside.ensures) in
     λ _.
-    subst (λ (t : ℕ). IsClear c.args.bound (caught_up a.settled (clock_at t b))) here
-    (clear_stays a b c.self.invariant c.args.bound n c.args.self.now c.self.view_is c.requires.clear (omega (arith, at)))
+    subst (λ (t : ℕ). IsClear c.args.bound (clocked t (caught_up i.ahead.settled t i.now.board))) (here c)
+    (clear_stays i.ahead i.now.clock i.now.board c.self.invariant c.args.bound c.args.n c.args.self.now c.self.view_is c.requires.clear (omega (arith, at)))
 
 pub returns-clause-clock : goal.returns-clause-clock
-returns-clause-clock c =
-    let a = c.self.inside.ahead in
-    let b : Board = c.self.inside.board in
-    let at = c.get.ensures.value in
-    let n : ℕ = c.args.n in
-    let here : b.clock + n ≡ c.new-self-inside.result = omega (arith, at, c.new-self-inside.ensures) in
-    λ _. ap (λ (t : ℕ). (caught_up a.settled (clock_at t b)).clock) (sym here) ∙ passed_clock a b c.self.invariant n c.args.self.now c.self.view_is
+returns-clause-clock c = λ _. sym (here c) ∙ ap (λ (t : ℕ). t + c.args.n) (now_at c)

@@ -1,6 +1,6 @@
-use Rattle.std.proofs.Common.{◌∙◌}
-use Rattle.board_io.proofs.Lags.{caught_zero}
+use Rattle.std.proofs.Common.{ap, ◌∙◌}
+use Rattle.board_io.specs.Board.{clocked}
 use Rattle.board_io.proofs.lagging.LaggingBoard.new.Goals as goal
 
 pub returns : goal.returns
-returns c = caught_zero c.ahead-ahead.result.settled c.new-board.result c.ahead-ahead.ensures.settled ∙ c.new-board.ensures
+returns c = c.restored.ensures ∙ ap (clocked 0) c.new.ensures

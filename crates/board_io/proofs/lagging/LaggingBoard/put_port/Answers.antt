@@ -1,22 +1,21 @@
-use Rattle.std.proofs.Common.{ℕ, sym, subst, arith}
-use Rattle.board_io.specs.Lagging.{caught_up}
-use Rattle.board_io.specs.Registers.{IsPut, put_by}
-use Rattle.board_io.proofs.Beside.{calm_beside, done_timers, past_beside, steady_beside, write_beside}
+use Rattle.std.proofs.Common.{ℕ, sym, ap, subst, ◌≡◌, ◌≤◌, ◌∙◌, arith}
+use Rattle.board_io.specs.Board.{clocked}
+use Rattle.board_io.specs.Lagging.{IsAhead, caught_up}
+use Rattle.board_io.specs.Registers.{IsPut, put_in}
+use Rattle.board_io.proofs.Beside.{calm_beside, done_timers, past_beside, write_beside, steady_beside}
 use Rattle.board_io.proofs.lagging.LaggingBoard.put_port.Goals as goal
 
 pub ahead_beside-self-inside-requires-clause-settled : goal.ahead_beside-self-inside-requires-clause-settled
 ahead_beside-self-inside-requires-clause-settled c =
-    let i = c.self.inside in
-    let same = (done_timers c.args.rule i.board c.args.at i.ahead.settled c.requires c.args.x c.put_by-put.result c.put_by-put.new.self c.put_by-put.ensures).clock in
+    let at = c.get-clock.ensures.value in
     let settled = c.self.invariant.settled in
-    omega (arith, same, settled)
+    omega (arith, at, settled)
 
 pub ahead_beside-self-inside-requires-clause-now : goal.ahead_beside-self-inside-requires-clause-now
 ahead_beside-self-inside-requires-clause-now c =
-    let i = c.self.inside in
-    let same = (done_timers c.args.rule i.board c.args.at i.ahead.settled c.requires c.args.x c.put_by-put.result c.put_by-put.new.self c.put_by-put.ensures).clock in
+    let at = c.get-clock.ensures.value in
     let now = c.self.invariant.now in
-    omega (arith, same, now)
+    omega (arith, at, now)
 
 pub ahead_beside-self-inside-requires-clause-early : goal.ahead_beside-self-inside-requires-clause-early
 ahead_beside-self-inside-requires-clause-early c = c.self.invariant.early
@@ -24,20 +23,24 @@ ahead_beside-self-inside-requires-clause-early c = c.self.invariant.early
 pub ahead_beside-self-inside-requires-clause-calm : goal.ahead_beside-self-inside-requires-clause-calm
 ahead_beside-self-inside-requires-clause-calm c =
     let i = c.self.inside in
-    calm_beside i.ahead i.board c.put_by-put.new.self (done_timers c.args.rule i.board c.args.at i.ahead.settled c.requires c.args.x c.put_by-put.result c.put_by-put.new.self c.put_by-put.ensures) c.self.invariant
+    calm_beside i.ahead i.now.clock i.now.board c.put_by-put.new.self (done_timers c.args.rule i.now.board c.args.at i.ahead.settled i.now.clock c.requires c.args.x c.put_by-put.result c.put_by-put.new.self c.put_by-put.ensures) c.self.invariant
 
 pub ahead_beside-self-inside-requires-clause-past : goal.ahead_beside-self-inside-requires-clause-past
-ahead_beside-self-inside-requires-clause-past c =
+ahead_beside-self-inside-requires-clause-past c k below =
     let i = c.self.inside in
-    past_beside i.ahead i.board c.put_by-put.new.self (done_timers c.args.rule i.board c.args.at i.ahead.settled c.requires c.args.x c.put_by-put.result c.put_by-put.new.self c.put_by-put.ensures) c.self.invariant
+    let at = c.get-clock.ensures.value in
+    past_beside i.ahead i.now.clock i.now.board c.put_by-put.new.self (done_timers c.args.rule i.now.board c.args.at i.ahead.settled i.now.clock c.requires c.args.x c.put_by-put.result c.put_by-put.new.self c.put_by-put.ensures) c.self.invariant k (omega (arith, at, below))
 
 pub ahead_beside-self-inside-requires-clause-steady : goal.ahead_beside-self-inside-requires-clause-steady
 ahead_beside-self-inside-requires-clause-steady c =
     let i = c.self.inside in
-    steady_beside i.ahead i.board c.put_by-put.new.self (done_timers c.args.rule i.board c.args.at i.ahead.settled c.requires c.args.x c.put_by-put.result c.put_by-put.new.self c.put_by-put.ensures) c.self.invariant
+    steady_beside i.ahead i.now.clock i.now.board c.put_by-put.new.self (done_timers c.args.rule i.now.board c.args.at i.ahead.settled i.now.clock c.requires c.args.x c.put_by-put.result c.put_by-put.new.self c.put_by-put.ensures) c.self.invariant
+
+pub invariant_of-self : goal.invariant_of-self
+invariant_of-self c = subst (λ (t : ℕ). IsAhead c.ahead_beside-self-inside.result t c.put_by-put.new.self) c.get-clock.ensures.value c.ahead_beside-self-inside.ensures.ahead
 
 pub returns : goal.returns
 returns c =
     let i = c.self.inside in
-    subst (λ (s : ℕ). IsPut (put_by c.args.rule c.args.self.now c.args.at c.args.x) c.args.self.now c.put_by-put.result (caught_up s c.put_by-put.new.self)) (sym c.ahead_beside-self-inside.ensures.settled)
-    (write_beside c.args.rule i.board c.args.at i.ahead.settled c.requires c.args.x c.put_by-put.result c.put_by-put.new.self c.args.self.now c.self.view_is c.put_by-put.ensures)
+    subst (λ (s : ℕ). IsPut (put_in c.args.rule c.args.self.now c.args.at c.args.x) c.args.self.now c.put_by-put.result (clocked i.now.clock (caught_up s i.now.clock c.put_by-put.new.self))) (sym c.ahead_beside-self-inside.ensures.settled)
+    (write_beside c.args.rule i.now.board c.args.at i.ahead.settled i.now.clock c.requires c.args.x c.put_by-put.result c.put_by-put.new.self c.args.self.now c.self.view_is c.put_by-put.ensures)

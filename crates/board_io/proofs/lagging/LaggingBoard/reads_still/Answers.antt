@@ -1,9 +1,8 @@
-use Rattle.std.proofs.Common.{◌-◌, sym, ◌∙◌}
+use Rattle.std.proofs.Common.{sym, ◌∙◌}
 use Rattle.board_io.proofs.Still.{still_at}
 use Rattle.board_io.proofs.lagging.LaggingBoard.reads_still.Goals as goal
 
 pub returns : goal.returns
 returns c e =
-    let a = c.self.inside.ahead in
-    let b = c.self.inside.board in
-    still_at _ c.args.at a.settled (b.clock - a.settled) b c.args.self.now c.listed_rule.ensures c.self.view_is (sym c.reads_still.ensures ∙ e)
+    let i = c.self.inside in
+    still_at _ c.args.at i.ahead.settled i.now.clock i.now.board c.args.self.now c.listed_rule.ensures c.self.view_is (sym c.reads_still.ensures ∙ e)
