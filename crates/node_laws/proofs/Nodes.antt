@@ -1,5 +1,5 @@
 -- A cycle of a node leaves its registers, its memory and its counts within their bounds.
-use Rattle.std.proofs.Common.{◌≡◌, ℕ, ◌+◌, ◌-◌, ◌*◌, ◌%◌, ◌^◌, ◌<◌, ◌≤◌, ◌==◌, nat_le, nat_lt, Bool, true, false, cond, if◌then◌else◌, List, [], ◌∷◌, length-set, slice_index, slice_set, replicate, refl, sym, subst, ◌∙◌, arith, Option, Some, None, is_some, inl, inr}
+use Rattle.std.proofs.Common.{◌≡◌, ℕ, ◌+◌, ◌-◌, ◌*◌, ◌%◌, ◌^◌, ◌<◌, ◌≤◌, nat_le, nat_lt, Bool, true, false, cond, if◌then◌else◌, List, [], ◌∷◌, length-set, slice_index, slice_set, replicate, refl, sym, subst, ◌∙◌, arith, Option, Some, None, is_some, inl, inr}
 use Rattle.std.specs.Prelude.{IfOk, Result, Ok, Err, find}
 use Rattle.air_base.specs.declared.bounds.TheConstants.{LONGEST_BYTE}
 use Rattle.std.specs.List.{list_all, range_with_len}
