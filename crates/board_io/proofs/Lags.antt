@@ -1,5 +1,5 @@
 -- A board that lags: what its value is, and what stays known of it.
-use Rattle.std.proofs.Common.{◌≡◌, ℕ, ◌+◌, ◌-◌, ◌^◌, ◌<◌, ◌≤◌, true, false, inl, inr, refl, sym, ap, ◌∙◌, subst, arith}
+use Rattle.std.proofs.Common.{◌≡◌, ℕ, ◌+◌, ◌-◌, ◌<◌, ◌≤◌, true, false, inl, inr, refl, sym, ap, ◌∙◌, subst, arith}
 use Rattle.air_base.specs.Bounds.{LAST_CYCLE}
 use Rattle.std.proofs.lemmas.Bool.{cases_lt}
 use Rattle.board_io.specs.declared.ahead.Forecast.{Forecast}

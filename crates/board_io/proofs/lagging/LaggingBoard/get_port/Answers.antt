@@ -1,4 +1,4 @@
-use Rattle.std.proofs.Common.{ℕ, sym, ap, subst, ◌≡◌, ◌≤◌, ◌∙◌, arith}
+use Rattle.std.proofs.Common.{ℕ, sym, subst, arith}
 use Rattle.board_io.specs.Board.{clocked}
 use Rattle.board_io.specs.Lagging.{IsAhead, caught_up}
 use Rattle.board_io.specs.Registers.{IsGot, get_in}
