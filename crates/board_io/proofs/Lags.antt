@@ -1,5 +1,5 @@
 -- A board that lags: what its value is, and what stays known of it.
-use Rattle.std.proofs.Common.{◌≡◌, ℕ, ◌+◌, ◌-◌, ◌^◌, ◌<◌, ◌≤◌, true, false, inl, inr, refl, sym, ap, ◌∙◌, subst, arith}
+use Rattle.std.proofs.Common.{◌≡◌, ℕ, ◌+◌, ◌-◌, ◌<◌, ◌≤◌, true, false, inl, inr, refl, sym, ap, ◌∙◌, subst, arith}
 use Rattle.air_base.specs.Bounds.{LAST_CYCLE}
 use Rattle.std.proofs.lemmas.Bool.{cases_lt}
 use Rattle.board_io.specs.declared.ahead.Forecast.{Forecast}
@@ -37,10 +37,6 @@ sleep_leap t n b = refl
 -- ---- a board that does not lag is its value
 pub caught_zero : (t u : ℕ) (b : Board) → t ≡ u → caught_up t u b ≡ b
 caught_zero t u b e = let none : u - t ≡ 0 = omega (arith, e) in ap (λ (n : ℕ). timers_leap t n b) none ∙ leap_zero t b
-
--- and one that catches up has its value
-pub caught_now : (s u t : ℕ) (b c : Board) (v : ClockedBoard) → u ≡ t → c ≡ caught_up s u b → clocked t (caught_up s t b) ≡ v → c ≡ v.board
-caught_now s u t b c v at is e = is ∙ (ap (λ (k : ℕ). caught_up s k b) at ∙ ap (λ (w : ClockedBoard). w.board) e)
 
 bits_same : (l m : Lines) → l.bits ≡ m.bits → l ≡ m
 bits_same l m e = λ k. let n : Lines = record { bits = e k } in n

@@ -4,7 +4,7 @@ ghost use Rattle.air_base.specs.Bounds.{LAST_CYCLE};
 ghost use Rattle.board_io.specs.Passing.{changes_flag_at, sets_flag_at};
 ghost use Rattle.board_io.specs.Lagging.{IsAhead};
 
-use crate::Board;
+use crate::{Board, Clock};
 use air_base::LAST_CYCLE;
 
 // How many cycles on the next flag must be set at least, so that it is not asked whether it is set already.
@@ -111,10 +111,11 @@ impl Board {
 
     /// Makes up for the timers' cycles from `settled` on and below `clock`.
     #[inline]
-    pub fn catch_up(&mut self, settled: u64, clock: u64)
+    pub fn catch_up(&mut self, settled: u64, clock: Clock)
         requires { settled ≤ clock }
         ensures { self.new ≡ caught_up settled clock self.old }
     {
+        let clock = clock.get();
         if settled < clock {
             self.leap(settled, clock - settled);
         }

@@ -19,7 +19,7 @@ pub struct LaggingBoard {
     // a register, and look the clock up by it
     pub(crate) ahead: Forecast,
     // the clock, and the board whose timers have come to `settled`
-    pub(crate) now: ClockedBoard,
+    pub(crate) held: ClockedBoard,
 }
 
 impl Model for LaggingBoard {
@@ -29,9 +29,9 @@ impl Model for LaggingBoard {
 
     ghost Value = { ClockedBoard };
 
-    ghost view = { λ a. clocked a.now.clock (caught_up a.ahead.settled a.now.clock a.now.board) };
+    ghost view = { λ a. clocked a.held.clock (caught_up a.ahead.settled a.held.clock a.held.board) };
 
-    ghost invariant = { λ a. IsAhead a.ahead a.now.clock a.now.board };
+    ghost invariant = { λ a. IsAhead a.ahead a.held.clock a.held.board };
 }
 
 impl LaggingBoard {
@@ -62,7 +62,7 @@ impl LaggingBoard {
     pub fn sleep_mode(&self) -> Sleep
         ensures { result ≡ sleep_mode self.now.board }
     {
-        self.now.board.sleep_mode()
+        self.held.board.sleep_mode()
     }
 
     /// Passes cycles, of at most `most`, in which no frame and no transfer ends and each of which begins with the lines
@@ -75,9 +75,9 @@ impl LaggingBoard {
         ensures lines { lines_of self.new.board ≡ lines_of self.old.board }
         ensures clock { self.new.clock ≡ self.old.clock + result }
     {
-        let clock = self.now.clock.get();
+        let clock = self.held.clock.get();
         let n = most.min(self.ahead.next.saturating_sub(clock));
-        self.now.clock = Clock::new(clock + n);
+        self.held.clock = Clock::new(clock + n);
         n
     }
 
@@ -92,9 +92,9 @@ impl LaggingBoard {
         ensures lines { lines_of self.new.board ≡ lines_of self.old.board }
         ensures clock { self.new.clock ≡ self.old.clock + result * length }
     {
-        let clock = self.now.clock.get();
+        let clock = self.held.clock.get();
         let rounds = most.min(self.ahead.next.saturating_sub(clock)) / length;
-        self.now.clock = Clock::new(clock + rounds * length);
+        self.held.clock = Clock::new(clock + rounds * length);
         rounds
     }
 
@@ -114,7 +114,7 @@ impl LaggingBoard {
         if end > next {
             return false;
         }
-        self.now.clock = Clock::new(end);
+        self.held.clock = Clock::new(end);
         true
     }
 
@@ -124,7 +124,7 @@ impl LaggingBoard {
         ensures value { result ≡ self.now.clock }
         ensures early { result ≤ LAST_CYCLE }
     {
-        self.now.clock.get()
+        self.held.clock.get()
     }
 
     /// A cycle, of 2^40 at most, up to whose beginning no interrupt line is up, no frame and no transfer ends and no
@@ -152,11 +152,11 @@ impl LaggingBoard {
         ensures clock { result ≡ true → self.new.clock ≡ self.old.clock + n }
         ensures same { result ≡ false → self.new ≡ self.old }
     {
-        let end = self.now.clock.get() + u64::from(n);
+        let end = self.held.clock.get() + u64::from(n);
         if end > bound {
             return false;
         }
-        self.now.clock = Clock::new(end);
+        self.held.clock = Clock::new(end);
         true
     }
 
@@ -173,10 +173,10 @@ impl LaggingBoard {
     {
         let settled = self.ahead.settled;
         let n = cycle + 1 - settled;
-        self.now.board.leap(settled, n);
-        let begun = self.now.board.begin_ports(cycle, arrival);
-        self.now.clock = Clock::new(cycle + 1);
-        self.ahead = self.now.board.ahead(cycle + 1);
+        self.held.board.leap(settled, n);
+        let begun = self.held.board.begin_ports(cycle, arrival);
+        self.held.clock = Clock::new(cycle + 1);
+        self.ahead = self.held.board.ahead(cycle + 1);
         begun
     }
 
@@ -204,10 +204,11 @@ impl LaggingBoard {
         ensures state { self.new.board ≡ board_answered h self.old.board }
         ensures clock { self.new.clock ≡ self.old.clock }
     {
-        let clock = self.now.clock.get();
-        self.now.board.catch_up(self.ahead.settled, clock);
-        self.now.board.answer(h);
-        self.ahead = self.now.board.ahead(clock);
+        self.held
+            .board
+            .catch_up(self.ahead.settled, self.held.clock);
+        self.held.board.answer(h);
+        self.ahead = self.held.board.ahead(self.held.clock.get());
     }
 
     /// What serving the interrupt of the vector `v` does to its source.
@@ -215,12 +216,12 @@ impl LaggingBoard {
         ensures state { self.new.board ≡ entered_of v.word self.old.board }
         ensures clock { self.new.clock ≡ self.old.clock }
     {
-        if self.now.clock.get() > self.ahead.steady {
+        if self.held.clock.get() > self.ahead.steady {
             self.enter_caught_up(v);
             return;
         }
-        self.now.board.entered(v);
-        let lines = self.now.board.lines().bits;
+        self.held.board.entered(v);
+        let lines = self.held.board.lines().bits;
         let next = self.ahead.next.min(self.ahead.steady);
         self.ahead.next = next;
         self.ahead.lines = lines;
@@ -233,9 +234,10 @@ impl LaggingBoard {
         ensures state { self.new.board ≡ entered_of v.word self.old.board }
         ensures clock { self.new.clock ≡ self.old.clock }
     {
-        let clock = self.now.clock.get();
-        self.now.board.catch_up(self.ahead.settled, clock);
-        self.now.board.entered(v);
-        self.ahead = self.now.board.ahead(clock);
+        self.held
+            .board
+            .catch_up(self.ahead.settled, self.held.clock);
+        self.held.board.entered(v);
+        self.ahead = self.held.board.ahead(self.held.clock.get());
     }
 }

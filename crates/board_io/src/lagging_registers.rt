@@ -127,7 +127,7 @@ impl LaggingBoard {
         if at > LAST {
             return false;
         }
-        self.now.board.reads_still(listed_rule(at))
+        self.held.board.reads_still(listed_rule(at))
     }
 }
 
@@ -140,7 +140,7 @@ impl LaggingBoard {
         requires { is_plain_read rule ≡ true }
         ensures { IsGot (get_in rule self.old at) self.old result self.new }
     {
-        self.now.board.get_by(rule, at)
+        self.held.board.get_by(rule, at)
     }
 
     // A read by the rule of an address: of a timer, which does not catch up, of a port, or of what looks at no timer. One
@@ -152,15 +152,15 @@ impl LaggingBoard {
     {
         let rule = listed_rule(at);
         let settled = self.ahead.settled;
-        let clock = self.now.clock.get();
+        let clock = self.held.clock.get();
         let n = clock - settled;
         // whether no timer has passed its top since
         let steady = clock <= self.ahead.steady;
         match rule {
-            Rule::Timer0(reg) if steady => Ok(self.now.board.t0.get_calm(settled, n, reg)),
-            Rule::Timer1(reg) if steady => Ok(self.now.board.t1.get_calm(settled, n, reg)),
-            Rule::Timer2(reg) if steady => Ok(self.now.board.t2.get_calm(settled, n, reg)),
-            Rule::Timer3(reg) if steady => Ok(self.now.board.t3.get_calm(settled, n, reg)),
+            Rule::Timer0(reg) if steady => Ok(self.held.board.t0.get_calm(settled, n, reg)),
+            Rule::Timer1(reg) if steady => Ok(self.held.board.t1.get_calm(settled, n, reg)),
+            Rule::Timer2(reg) if steady => Ok(self.held.board.t2.get_calm(settled, n, reg)),
+            Rule::Timer3(reg) if steady => Ok(self.held.board.t3.get_calm(settled, n, reg)),
             Rule::Spi(SpiReg::Spdr) => self.get_spdr(at),
             _ if is_plain_read(rule) => self.get_plain(rule, at as u8),
             _ => self.get_beside(at),
@@ -174,10 +174,10 @@ impl LaggingBoard {
         requires rule { rule_of at ≡ Rule.Spi SpiReg.Spdr }
         ensures { IsGot (get_in (rule_of at) self.old at) self.old result self.new }
     {
-        if self.now.board.spi.line() {
+        if self.held.board.spi.line() {
             return self.get_beside(at);
         }
-        self.now.board.get_by(Rule::Spi(SpiReg::Spdr), at as u8)
+        self.held.board.get_by(Rule::Spi(SpiReg::Spdr), at as u8)
     }
 
     // A read of a port, or of a timer that may have passed its top, in a call of its own: inlined, the code would slow the
@@ -199,10 +199,11 @@ impl LaggingBoard {
     fn get_caught_up(&mut self, rule: Rule, at: u8) -> Result<u8, StopCause>
         ensures { IsGot (get_in rule self.old at) self.old result self.new }
     {
-        let clock = self.now.clock.get();
-        self.now.board.catch_up(self.ahead.settled, clock);
-        let got = self.now.board.get_by(rule, at);
-        self.ahead = self.now.board.ahead(clock);
+        self.held
+            .board
+            .catch_up(self.ahead.settled, self.held.clock);
+        let got = self.held.board.get_by(rule, at);
+        self.ahead = self.held.board.ahead(self.held.clock.get());
         got
     }
 
@@ -212,7 +213,7 @@ impl LaggingBoard {
         requires { is_plain_write rule at ≡ true }
         ensures { IsPut (put_in rule self.old at x) self.old result self.new }
     {
-        self.now.board.put_by(self.now.clock, rule, at, x)
+        self.held.board.put_by(self.held.clock, rule, at, x)
     }
 
     // A read of USART0 or of the serial peripheral interface, which may move its lines and its end.
@@ -221,9 +222,9 @@ impl LaggingBoard {
         requires { is_port rule ≡ true }
         ensures { IsGot (get_in rule self.old at) self.old result self.new }
     {
-        let got = self.now.board.get_by(rule, at);
-        let clock = self.now.clock.get();
-        self.ahead = self.now.board.ahead_beside(clock, self.ahead);
+        let got = self.held.board.get_by(rule, at);
+        let clock = self.held.clock.get();
+        self.ahead = self.held.board.ahead_beside(clock, self.ahead);
         got
     }
 
@@ -232,9 +233,9 @@ impl LaggingBoard {
         requires { is_port rule ≡ true }
         ensures { IsPut (put_in rule self.old at x) self.old result self.new }
     {
-        let put = self.now.board.put_by(self.now.clock, rule, at, x);
-        let clock = self.now.clock.get();
-        self.ahead = self.now.board.ahead_beside(clock, self.ahead);
+        let put = self.held.board.put_by(self.held.clock, rule, at, x);
+        let clock = self.held.clock.get();
+        self.ahead = self.held.board.ahead_beside(clock, self.ahead);
         put
     }
 
@@ -260,13 +261,13 @@ impl LaggingBoard {
         requires rule { rule_of at ≡ Rule.Spi SpiReg.Spdr }
         ensures { IsPut (put_in (rule_of at) self.old at x) self.old result self.new }
     {
-        if self.now.board.spi.line() {
+        if self.held.board.spi.line() {
             return self.put_beside(at, x);
         }
-        let put = self.now.board.put_spdr(self.now.clock, at as u8, x);
-        let clock = self.now.clock.get();
+        let put = self.held.board.put_spdr(self.held.clock, at as u8, x);
+        let clock = self.held.clock.get();
         let most = self.ahead.next.saturating_sub(clock);
-        let calm = cycles_before(self.now.board.spi.done_at(), clock, most);
+        let calm = cycles_before(self.held.board.spi.done_at(), clock, most);
         let next = clock + calm;
         self.ahead.next = next;
         self.ahead.clear = clear_until(self.ahead.lines, next);
@@ -277,10 +278,11 @@ impl LaggingBoard {
     fn put_and_look_ahead(&mut self, rule: Rule, at: u8, x: u8) -> Result<(), StopCause>
         ensures { IsPut (put_in rule self.old at x) self.old result self.new }
     {
-        let clock = self.now.clock.get();
-        self.now.board.catch_up(self.ahead.settled, clock);
-        let put = self.now.board.put_by(self.now.clock, rule, at, x);
-        self.ahead = self.now.board.ahead(clock);
+        self.held
+            .board
+            .catch_up(self.ahead.settled, self.held.clock);
+        let put = self.held.board.put_by(self.held.clock, rule, at, x);
+        self.ahead = self.held.board.ahead(self.held.clock.get());
         put
     }
 }

@@ -184,7 +184,7 @@ impl LaggingBoard {
         let clock = Clock::new(cycle);
         LaggingBoard {
             ahead,
-            now: ClockedBoard { clock, board },
+            held: ClockedBoard { clock, board },
         }
     }
 
@@ -193,16 +193,16 @@ impl LaggingBoard {
         ensures { result ≡ self.now.board }
     {
         let mut board = Board {
-            kept: self.now.board.kept,
-            t0: self.now.board.t0,
-            t1: self.now.board.t1,
-            t2: self.now.board.t2,
-            t3: self.now.board.t3,
-            usart: self.now.board.usart,
-            spi: self.now.board.spi,
-            radio: self.now.board.radio,
+            kept: self.held.board.kept,
+            t0: self.held.board.t0,
+            t1: self.held.board.t1,
+            t2: self.held.board.t2,
+            t3: self.held.board.t3,
+            usart: self.held.board.usart,
+            spi: self.held.board.spi,
+            radio: self.held.board.radio,
         };
-        board.catch_up(self.ahead.settled, self.now.clock.get());
+        board.catch_up(self.ahead.settled, self.held.clock);
         board
     }
 
@@ -218,6 +218,6 @@ impl LaggingBoard {
     pub fn io(&self, at: u8) -> u8
         ensures { result ≡ io_at at self.now.board }
     {
-        self.now.board.io(at)
+        self.held.board.io(at)
     }
 }

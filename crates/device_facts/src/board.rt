@@ -7,7 +7,7 @@ use crate::numbers::{address, byte, cycle};
 use air_base::Heard;
 use avr_base::Vector;
 use avr_timers::TimerFlags;
-use board_io::{Board, OnAir};
+use board_io::{Board, Clock, ClockedBoard, OnAir};
 use data_space::{Bus, Cpu, load, store};
 use serial_ports::ReceiveBuffer;
 
@@ -26,11 +26,11 @@ const ALL: TimerFlags = TimerFlags {
     icf: true,
 };
 
-/// A core after reset, for its own registers, and the board.
+/// A core after reset, for its own registers, and the board in the cycle of an access.
 #[derive(Drop)]
 pub struct CoreAndBoard {
     cpu: Cpu,
-    board: Board,
+    io: ClockedBoard,
 }
 
 impl CoreAndBoard {
@@ -38,14 +38,17 @@ impl CoreAndBoard {
     pub fn new() -> Self {
         CoreAndBoard {
             cpu: Cpu::default(),
-            board: Board::new(512),
+            io: ClockedBoard {
+                clock: Clock::new(0),
+                board: Board::new(512),
+            },
         }
     }
 
     // At reset, but each flag of the devices is set, and USART0 has a byte.
     fn flagged() -> Self {
         let mut devices = CoreAndBoard::new();
-        let board = &mut devices.board;
+        let board = &mut devices.io.board;
         board.t0.tov = true;
         board.t0.ocf_a = true;
         board.t1.flags = ALL;
@@ -60,24 +63,24 @@ impl CoreAndBoard {
 
     fn put(&mut self, at: u8, b: u8) -> Answer {
         let (mut regs, mut core) = self.cpu.parts();
-        let stored = store(&mut regs, &mut core, &mut self.board, u16::from(at), b);
+        let stored = store(&mut regs, &mut core, &mut self.io, u16::from(at), b);
         self.cpu = Cpu::of_parts(&regs, core);
         Answer::of_put(stored)
     }
 
     fn get(&mut self, at: u8) -> Answer {
         let (regs, core) = self.cpu.parts();
-        Answer::of_get(load(&regs, &core, &mut self.board, u16::from(at)))
+        Answer::of_get(load(&regs, &core, &mut self.io, u16::from(at)))
     }
 
     // One cycle of the devices, in which nothing arrives; where the radio asks the air, it is answered.
     fn cycle(&mut self, at: u64) -> Answer
         requires { at ≤ LAST_END }
     {
-        let begun = self.board.begin(at, None);
+        let begun = self.io.board.begin(at, None);
         match begun.air {
             OnAir::Asks => {
-                self.board.answer(HEARD);
+                self.io.board.answer(HEARD);
                 Answer::Asks
             }
             OnAir::Sent { byte } => Answer::Sends(byte),
@@ -99,9 +102,9 @@ fn do_registers(devices: &mut CoreAndBoard, words: &[&str]) -> Option<Answer> {
     match words {
         ["put", at, b] => Some(devices.put(byte(at)?, byte(b)?)),
         ["get", at] => Some(devices.get(byte(at)?)),
-        ["bus", at, b] => Some(Answer::of_put(devices.board.put(address(at)?, byte(b)?))),
+        ["bus", at, b] => Some(Answer::of_put(devices.io.put(address(at)?, byte(b)?))),
         ["at", c] => {
-            devices.board.set_clock(cycle(c)?);
+            devices.io.clock = Clock::new(cycle(c)?);
             Some(Answer::Done)
         }
         _ => None,
@@ -114,14 +117,14 @@ fn do_cycles(devices: &mut CoreAndBoard, words: &[&str]) -> Option<Answer> {
         ["tick", from, n] => ticks(devices, from, n),
         ["cycle", c] => Some(devices.cycle(cycle(c)?)),
         ["leap", from, n] => {
-            devices.board.leap(cycle(from)?, cycle(n)?);
+            devices.io.board.leap(cycle(from)?, cycle(n)?);
             Some(Answer::Done)
         }
         ["quiet", from, most] => Some(Answer::Number(
-            devices.board.quiet(cycle(from)?, cycle(most)?),
+            devices.io.board.quiet(cycle(from)?, cycle(most)?),
         )),
         ["same", from, most] => Some(Answer::Number(
-            devices.board.same_lines(cycle(from)?, cycle(most)?),
+            devices.io.board.same_lines(cycle(from)?, cycle(most)?),
         )),
         _ => None,
     }
@@ -130,15 +133,15 @@ fn do_cycles(devices: &mut CoreAndBoard, words: &[&str]) -> Option<Answer> {
 // What the node around it asks and tells.
 fn do_node(devices: &mut CoreAndBoard, words: &[&str]) -> Option<Answer> {
     match words {
-        ["lines"] => Some(Answer::Lines(devices.board.lines().bits)),
+        ["lines"] => Some(Answer::Lines(devices.io.board.lines().bits)),
         ["enter", word] => {
-            devices.board.entered(Vector {
+            devices.io.board.entered(Vector {
                 word: address(word)?,
             });
             Some(Answer::Done)
         }
-        ["sleep"] => Some(Answer::Sleep(devices.board.sleep_mode())),
-        ["selected"] => Some(Answer::Truth(devices.board.selected())),
+        ["sleep"] => Some(Answer::Sleep(devices.io.board.sleep_mode())),
+        ["selected"] => Some(Answer::Truth(devices.io.board.selected())),
         _ => None,
     }
 }

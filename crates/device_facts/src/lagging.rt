@@ -19,9 +19,9 @@ pub struct NodeBoard {
 
 impl Model for NodeBoard {
     ghost use Rattle.std.specs.Prelude.{◌≡◌};
-    ghost use Rattle.board_io.specs.declared.board.Board.{Board};
+    ghost use Rattle.board_io.specs.declared.clocked.ClockedBoard.{ClockedBoard};
 
-    ghost Value = { Board };
+    ghost Value = { ClockedBoard };
 
     ghost view = { λ n. n.board };
 
@@ -85,7 +85,6 @@ impl NodeBoard {
         Answer::Done
     }
 
-    #[tactic(auto, using(board_io::proofs::Radio::entered_clock))]
     fn enter(&mut self, word: u16) {
         self.board.entered(Vector { word });
     }

@@ -10,12 +10,13 @@ use native.Mathlib.Decide.{ℕ_discrete}
 use Rattle.avr_base.specs.declared.stop.StopCause.{StopCause}
 use Rattle.avr_base.specs.declared.stop.StopCause.TheVariants as stop
 use Rattle.board_io.specs.declared.board.Board.{Board}
+use Rattle.board_io.specs.declared.clocked.ClockedBoard.{ClockedBoard}
 use Rattle.board_io.specs.declared.rules.Rule.{Rule}
 use Rattle.board_io.specs.declared.rules.Rule.TheVariants as rule
 use Rattle.board_io.specs.Board.{kept_at, reset_board, selected, with_kept}
 use Rattle.board_io.specs.Cycle.{board_answered, board_begun, moved_by, received, timers_cycle, timers_leap, transfer_end, usart_cycle, with_moved}
 use Rattle.board_io.specs.Lines.{entered_of, no_flags}
-use Rattle.board_io.specs.Registers.{get_by, io_get, io_put, put_by, with_spi, with_t0, with_t1, with_t2, with_t3, with_usart}
+use Rattle.board_io.specs.Registers.{done_in, get_by, got_in, io_get, io_put, put_by, with_spi, with_t0, with_t1, with_t2, with_t3, with_usart}
 use Rattle.board_io.specs.Table.{rule_of, start_of}
 use Rattle.serial_ports.specs.declared.radio.TransferOutcome.{TransferOutcome}
 use Rattle.serial_ports.specs.declared.radio.TransferOutcome.TheVariants.{Answer, Send, Ask}
@@ -63,9 +64,6 @@ module _ (b : Board) (h : IsBoard b) where
 
   pub set_spi : (s : Spi) → IsSpi s → IsBoard (record b { spi = s })
   set_spi s f = set_ports b.radio s h.radio f
-
-  pub set_clock : (t : ℕ) → IsBoard (record b { clock = t })
-  set_clock t = record { t0 = h.t0; t1 = h.t1; t2 = h.t2; t3 = h.t3; usart = h.usart; spi = h.spi; radio = h.radio; count = h.count; kept = h.kept }
 
   kept_there : (at x other : ℕ) → IsKept (rule_of at) x → other < 256 → Dec (other ≡ at) → IsKept (rule_of other) (kept_at other (with_kept at x b))
   kept_there at x other f g (yes e) =
@@ -137,6 +135,23 @@ abbrev WriteLeaves : Result Board StopCause → Type 0
 WriteLeaves (Ok b) = IsBoard b
 WriteLeaves (Err cause) = Unit {0}
 
+-- and of a board in a cycle
+abbrev ReadLeavesIn : Result (ℕ × ClockedBoard) StopCause → Type 0
+ReadLeavesIn (Ok got) = IsBoard got.1.board
+ReadLeavesIn (Err cause) = Unit {0}
+
+abbrev WriteLeavesIn : Result ClockedBoard StopCause → Type 0
+WriteLeavesIn (Ok c) = IsBoard c.board
+WriteLeavesIn (Err cause) = Unit {0}
+
+read_in : (t : ℕ) (r : Result (ℕ × Board) StopCause) → ReadLeaves r → ReadLeavesIn (got_in t r)
+read_in t (Ok got) h = h
+read_in t (Err cause) h = tt
+
+write_in : (t : ℕ) (r : Result Board StopCause) → WriteLeaves r → WriteLeavesIn (done_in t r)
+write_in t (Ok b) h = h
+write_in t (Err cause) h = tt
+
 read_kept : (r : Rule) (b : Board) (at : ℕ) → IsBoard b → ReadLeaves (get_by r b at)
 read_kept rule.Reserved b at h = tt
 read_kept (rule.Pin port) b at h = h
@@ -154,9 +169,9 @@ read_kept (rule.Timer3 reg) b at h = set_t3 b h _ (get_16_kept b.t3 reg h.t3)
 read_kept (rule.Usart0 reg) b at h = set_usart b h _ (get_usart_kept b.usart reg h.usart)
 read_kept (rule.Spi reg) b at h = set_spi b h _ (get_spi_kept b.spi reg h.spi)
 
-pub io_read_kept : (b b' : Board) (at x : ℕ) → IsBoard b → io_get b at ≡ Ok (x, b') → IsBoard b'
+pub io_read_kept : (c c' : ClockedBoard) (at x : ℕ) → IsBoard c.board → io_get c at ≡ Ok (x, c') → IsBoard c'.board
 unfolding io_get
-io_read_kept b b' at x h e = subst ReadLeaves e (read_kept (rule_of at) b at h)
+io_read_kept c c' at x h e = subst ReadLeavesIn e (read_in c.clock (get_by (rule_of at) c.board at) (read_kept (rule_of at) c.board at h))
 
 t0_kept : (b : Board) (r : Result Timer8 StopCause) → ((tm : Timer8) → r ≡ Ok tm → IsTimer8 Own tm) → IsBoard b → WriteLeaves (with_t0 b r)
 t0_kept b (Ok tm) f h = set_t0 b h tm (f tm refl)
@@ -242,28 +257,29 @@ reset_flags x z f g =
     ap (λ a. bit_or a (n % 32)) (high ∙ sym top) ∙ ap (bit_or (bit_and x 0x80)) (rest ∙ sym low) in
     subst (IsWithin 0x9F) both (equal _ _ (all_from-at together 0 64 n all_together (omega arith) (omega arith)))
 
-write_kept : (r : Rule) (b : Board) (at x : ℕ) → rule_of at ≡ r → x < 256 → IsBoard b → WriteLeaves (put_by r b at x)
-write_kept rule.Reserved b at x e f h = tt
-write_kept (rule.Pin port) b at x e f h = h
-write_kept (rule.Kept mask) b at x e f h = keeps (rule.Kept mask) at (bit_and x mask) b e (within x mask) h
-write_kept (rule.Guarded bits cause mask) b at x e f h = guarded_kept bits mask cause at x b (any_bit x bits) refl e h
-write_kept rule.WatchdogControl b at x e f h = watchdog_kept b (any_bit x 0x08 && not (any_bit x 0x10)) h
-write_kept rule.ResetFlags b at x e f h =
+write_kept : (t : ℕ) (r : Rule) (b : Board) (at x : ℕ) → rule_of at ≡ r → x < 256 → IsBoard b → WriteLeaves (put_by t r b at x)
+write_kept t rule.Reserved b at x e f h = tt
+write_kept t (rule.Pin port) b at x e f h = h
+write_kept t (rule.Kept mask) b at x e f h = keeps (rule.Kept mask) at (bit_and x mask) b e (within x mask) h
+write_kept t (rule.Guarded bits cause mask) b at x e f h = guarded_kept bits mask cause at x b (any_bit x bits) refl e h
+write_kept t rule.WatchdogControl b at x e f h = watchdog_kept b (any_bit x 0x08 && not (any_bit x 0x10)) h
+write_kept t rule.ResetFlags b at x e f h =
     keeps rule.ResetFlags at _ b e (reset_flags x (bit_and (kept_at at b) x) f (small (kept_at at b) x f)) h
-write_kept rule.CpuControl b at x e f h = cpu_kept at x b (any_bit x 0x80) (any_bit x 0x02) e h
-write_kept rule.TimerFlags b at x e f h =
+write_kept t rule.CpuControl b at x e f h = cpu_kept at x b (any_bit x 0x80) (any_bit x 0x02) e h
+write_kept t rule.TimerFlags b at x e f h =
     set_timers b h _ _ _ _ (again_8 Own b.t0 _ refl refl h.t0) (again_16 b.t1 _ refl h.t1) (again_8 Shared b.t2 _ refl refl h.t2) h.t3
-write_kept rule.ExtendedTimerFlags b at x e f h = set_timers b h _ _ _ _ h.t0 (again_16 b.t1 _ refl h.t1) h.t2 (again_16 b.t3 _ refl h.t3)
-write_kept (rule.Timer0 reg) b at x e f h = t0_kept b _ (λ tm g. put_8_kept Own b.t0 tm reg x h.t0 g) h
-write_kept (rule.Timer1 reg) b at x e f h = t1_kept b _ (λ tm g. put_16_kept b.t1 tm reg x h.t1 g) h
-write_kept (rule.Timer2 reg) b at x e f h = t2_kept b _ (λ tm g. put_8_kept Shared b.t2 tm reg x h.t2 g) h
-write_kept (rule.Timer3 reg) b at x e f h = t3_kept b _ (λ tm g. put_16_kept b.t3 tm reg x h.t3 g) h
-write_kept (rule.Usart0 reg) b at x e f h = usart_kept b _ (λ u g. put_usart_kept b.clock b.usart u reg x f h.usart g) h
-write_kept (rule.Spi reg) b at x e f h = spi_kept b _ (λ s g. put_spi_kept b.clock b.spi s reg x h.spi g) h
+write_kept t rule.ExtendedTimerFlags b at x e f h = set_timers b h _ _ _ _ h.t0 (again_16 b.t1 _ refl h.t1) h.t2 (again_16 b.t3 _ refl h.t3)
+write_kept t (rule.Timer0 reg) b at x e f h = t0_kept b _ (λ tm g. put_8_kept Own b.t0 tm reg x h.t0 g) h
+write_kept t (rule.Timer1 reg) b at x e f h = t1_kept b _ (λ tm g. put_16_kept b.t1 tm reg x h.t1 g) h
+write_kept t (rule.Timer2 reg) b at x e f h = t2_kept b _ (λ tm g. put_8_kept Shared b.t2 tm reg x h.t2 g) h
+write_kept t (rule.Timer3 reg) b at x e f h = t3_kept b _ (λ tm g. put_16_kept b.t3 tm reg x h.t3 g) h
+write_kept t (rule.Usart0 reg) b at x e f h = usart_kept b _ (λ u g. put_usart_kept t b.usart u reg x f h.usart g) h
+write_kept t (rule.Spi reg) b at x e f h = spi_kept b _ (λ s g. put_spi_kept t b.spi s reg x h.spi g) h
 
-pub io_write_kept : (b b' : Board) (at x : ℕ) → x < 256 → IsBoard b → io_put b at x ≡ Ok b' → IsBoard b'
+pub io_write_kept : (c c' : ClockedBoard) (at x : ℕ) → x < 256 → IsBoard c.board → io_put c at x ≡ Ok c' → IsBoard c'.board
 unfolding io_put
-io_write_kept b b' at x f h e = subst WriteLeaves e (write_kept (rule_of at) b at x refl f h)
+io_write_kept c c' at x f h e =
+    subst WriteLeavesIn e (write_in c.clock (put_by c.clock (rule_of at) c.board at x) (write_kept c.clock (rule_of at) c.board at x refl f h))
 
 -- an interrupt
 

@@ -5,7 +5,8 @@
 ghost use Rattle.std.specs.Prelude.{◌≡◌, ℕ, ◌<◌, ◌≤◌, Ok, Option};
 ghost use Rattle.air_base.specs.declared.bounds.TheConstants.{LONGEST_BYTE};
 ghost use Rattle.board_io.specs.declared.board.Board.{Board};
-ghost use Rattle.board_io.specs.Board.{clock_at, reset_board};
+ghost use Rattle.board_io.specs.declared.clocked.ClockedBoard.{ClockedBoard};
+ghost use Rattle.board_io.specs.Board.{reset_board};
 ghost use Rattle.board_io.specs.Cycle.{board_answered, board_begun, timers_leap};
 ghost use Rattle.board_io.specs.Lines.{entered_of};
 ghost use Rattle.board_io.specs.Registers.{io_get, io_put};
@@ -17,10 +18,10 @@ pub fn reset_law()
     ensures { (byte_time : ℕ) → byte_time ≤ LONGEST_BYTE → IsBoard (reset_board byte_time) }
 {}
 
-/// A read and a write of a register at any data address keep it.
+/// A read and a write of a register at any data address keep it, in whatever cycle.
 pub fn access_law()
-    ensures read { (b b' : Board) (at x : ℕ) → IsBoard b → io_get b at ≡ Ok (x, b') → IsBoard b' }
-    ensures write { (b b' : Board) (at x : ℕ) → x < 256 → IsBoard b → io_put b at x ≡ Ok b' → IsBoard b' }
+    ensures read { (c c' : ClockedBoard) (at x : ℕ) → IsBoard c.board → io_get c at ≡ Ok (x, c') → IsBoard c'.board }
+    ensures write { (c c' : ClockedBoard) (at x : ℕ) → x < 256 → IsBoard c.board → io_put c at x ≡ Ok c' → IsBoard c'.board }
 {}
 
 /// A cycle of the devices keeps it, up to its sample and from it on, and so do many cycles of the timers at once.
@@ -28,7 +29,6 @@ pub fn cycle_law()
     ensures begun { (t : ℕ) (arrival : Option ℕ) (b : Board) → IsBoard b → IsBoard (board_begun t arrival b) }
     ensures answered { (h : Heard) (b : Board) → IsBoard b → IsBoard (board_answered h b) }
     ensures leapt { (t n : ℕ) (b : Board) → IsBoard b → IsBoard (timers_leap t n b) }
-    ensures clocked { (t : ℕ) (b : Board) → IsBoard b → IsBoard (clock_at t b) }
 {}
 
 /// Serving an interrupt keeps it.

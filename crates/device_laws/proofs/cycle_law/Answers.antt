@@ -1,4 +1,4 @@
-use Rattle.device_laws.proofs.Boards.{answered_kept, begun_kept, leapt_kept, set_clock}
+use Rattle.device_laws.proofs.Boards.{answered_kept, begun_kept, leapt_kept}
 use Rattle.device_laws.proofs.cycle_law.Goals as goal
 
 pub returns-clause-begun : goal.returns-clause-begun
@@ -9,6 +9,3 @@ returns-clause-answered c = answered_kept
 
 pub returns-clause-leapt : goal.returns-clause-leapt
 returns-clause-leapt c = leapt_kept
-
-pub returns-clause-clocked : goal.returns-clause-clocked
-returns-clause-clocked c = λ t b h. set_clock b h t

@@ -1,7 +1,3 @@
-use Rattle.std.proofs.Common.{sym, subst}
-use Rattle.board_io.specs.declared.rules.Rule.{Rule}
-use Rattle.board_io.specs.Registers.{IsGot, get_in}
-use Rattle.board_io.specs.Table.{rule_of}
 use Rattle.board_io.proofs.Agree.{get_clocked, get_err, get_ok, get_past, got_same}
 use Rattle.board_io.proofs.clocked.ClockedBoardBus.get.Goals as goal
 

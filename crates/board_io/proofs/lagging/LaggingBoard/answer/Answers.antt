@@ -2,18 +2,17 @@ use Rattle.std.proofs.Common.{ℕ, ap, subst, ◌∙◌}
 use Rattle.board_io.specs.Cycle.{board_answered}
 use Rattle.board_io.specs.declared.clocked.ClockedBoard.{ClockedBoard}
 use Rattle.board_io.specs.Lagging.{IsAhead}
-use Rattle.board_io.proofs.Lags.{caught_now, caught_zero}
+use Rattle.board_io.proofs.Lags.{caught_zero}
 use Rattle.board_io.proofs.lagging.LaggingBoard.answer.Goals as goal
 
 pub invariant_of-self : goal.invariant_of-self
-invariant_of-self c = subst (λ (t : ℕ). IsAhead c.ahead-self-inside.result t c.answer.new.self) c.get-clock.ensures.value c.ahead-self-inside.ensures.ahead
+invariant_of-self c = subst (λ (t : ℕ). IsAhead c.ahead-self-inside.result t c.answer.new.self) c.get.ensures.value c.ahead-self-inside.ensures.ahead
 
 pub returns-clause-state : goal.returns-clause-state
 returns-clause-state c =
     let i = c.self.inside in
-    let at = c.get-clock.ensures.value in
-    caught_zero c.ahead-self-inside.result.settled i.now.clock c.answer.new.self (c.ahead-self-inside.ensures.settled ∙ at)
-    ∙ (c.answer.ensures ∙ ap (board_answered c.args.h) (caught_now i.ahead.settled c.get-clock.result i.now.clock i.now.board c.catch_up.new.self c.args.self.now at c.catch_up.ensures c.self.view_is))
+    caught_zero c.ahead-self-inside.result.settled i.held.clock c.answer.new.self (c.ahead-self-inside.ensures.settled ∙ c.get.ensures.value)
+    ∙ (c.answer.ensures ∙ ap (board_answered c.args.h) (c.catch_up.ensures ∙ ap (λ (v : ClockedBoard). v.board) c.self.view_is))
 
 pub returns-clause-clock : goal.returns-clause-clock
 returns-clause-clock c = ap (λ (v : ClockedBoard). v.clock) c.self.view_is

@@ -14,19 +14,19 @@ overflow_sub-n c =
     omega (arith, at, settled, c.requires.now)
 
 -- the timers' part of the cycle is done by the leap
-ticked : (c : goal.After-self-1) → c.leap.new.self ≡ timers_cycle c.args.cycle c.args.self.now.board
+ticked : (c : goal.After-self-2-1) → c.leap.new.self ≡ timers_cycle c.args.cycle c.args.self.now.board
 ticked c =
     let a = c.self.inside.ahead in
-    let b : Board = c.self.inside.now.board in
+    let b : Board = c.self.inside.held.board in
     let t = c.args.cycle in
-    let at : c.self.inside.now.clock ≡ t = ap (λ (v : ClockedBoard). v.clock) c.self.view_is ∙ c.requires.now in
+    let at : c.self.inside.held.clock ≡ t = ap (λ (v : ClockedBoard). v.clock) c.self.view_is ∙ c.requires.now in
     let settled = c.self.invariant.settled in
     c.leap.ensures
     ∙ (leap_with a.settled t (t + 1 - a.settled) b (omega (arith, at, settled)) refl
     ∙ ap (timers_cycle t) (ap (λ (u : ℕ). timers_leap a.settled (u - a.settled) b) (sym at) ∙ ap (λ (v : ClockedBoard). v.board) c.self.view_is))
 
 -- and no cycle is left to make up for
-value : (c : goal.After-self-1) → caught_up c.ahead-self-inside.result.settled c.new-self-inside.result c.begin_ports-begun.new.self ≡ c.begin_ports-begun.new.self
+value : (c : goal.After-self-2-1) → caught_up c.ahead-self-inside.result.settled c.new-self-inside.result c.begin_ports-begun.new.self ≡ c.begin_ports-begun.new.self
 value c = caught_zero c.ahead-self-inside.result.settled c.new-self-inside.result c.begin_ports-begun.new.self (c.ahead-self-inside.ensures.settled ∙ sym c.new-self-inside.ensures)
 
 pub invariant_of-self : goal.invariant_of-self

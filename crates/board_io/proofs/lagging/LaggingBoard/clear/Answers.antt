@@ -9,4 +9,4 @@ returns-clause-early c =
     omega (arith, clear, early)
 
 pub returns-clause-clear : goal.returns-clause-clear
-returns-clause-clear c = clear_is c.self.inside.ahead c.self.inside.now.clock c.self.inside.now.board c.self.invariant c.args.self.now c.self.view_is
+returns-clause-clear c = clear_is c.self.inside.ahead c.self.inside.held.clock c.self.inside.held.board c.self.invariant c.args.self.now c.self.view_is

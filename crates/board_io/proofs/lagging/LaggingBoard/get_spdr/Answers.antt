@@ -11,11 +11,11 @@ use Rattle.board_io.proofs.lagging.LaggingBoard.get_spdr.Goals as goal
 pub invariant_of-self : goal.invariant_of-self
 invariant_of-self c =
     let i = c.self.inside in
-    read_ahead_by (Spi Spdr) i.now.board c.args.at i.ahead.settled i.now.clock (got_spdr i.now.board c.args.at i.ahead.settled (i.now.clock - i.ahead.settled) (sym c.if-line.ensures)) c.get_by.result i.ahead c.get_by.new.self c.get_by.ensures c.self.invariant
+    read_ahead_by (Spi Spdr) i.held.board c.args.at i.ahead.settled i.held.clock (got_spdr i.held.board c.args.at i.ahead.settled (i.held.clock - i.ahead.settled) (sym c.if-line.ensures)) c.get_by.result i.ahead c.get_by.new.self c.get_by.ensures c.self.invariant
 
 pub returns : goal.returns
 returns c =
     let i = c.self.inside in
-    let apart = got_spdr i.now.board c.args.at i.ahead.settled (i.now.clock - i.ahead.settled) (sym c.if-line.ensures) in
-    subst (λ (k : Rule). IsGot (get_in k c.args.self.now c.args.at) c.args.self.now c.get_by.result (clocked i.now.clock (caught_up i.ahead.settled i.now.clock c.get_by.new.self))) (sym c.requires.rule)
-    (read_by (Spi Spdr) i.now.board c.args.at i.ahead.settled i.now.clock apart c.get_by.result c.get_by.new.self c.args.self.now c.self.view_is c.get_by.ensures)
+    let apart = got_spdr i.held.board c.args.at i.ahead.settled (i.held.clock - i.ahead.settled) (sym c.if-line.ensures) in
+    subst (λ (k : Rule). IsGot (get_in k c.args.self.now c.args.at) c.args.self.now c.get_by.result (clocked i.held.clock (caught_up i.ahead.settled i.held.clock c.get_by.new.self))) (sym c.requires.rule)
+    (read_by (Spi Spdr) i.held.board c.args.at i.ahead.settled i.held.clock apart c.get_by.result c.get_by.new.self c.args.self.now c.self.view_is c.get_by.ensures)

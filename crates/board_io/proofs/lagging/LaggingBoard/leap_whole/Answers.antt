@@ -8,48 +8,48 @@ use Rattle.board_io.proofs.lagging.LaggingBoard.leap_whole.Goals as goal
 
 pub overflow_add-end : goal.overflow_add-end
 overflow_add-end c =
-    let at : c.self.inside.now.clock ≡ c.args.cycle = ap (λ (v : ClockedBoard). v.clock) c.self.view_is ∙ c.requires.now in
+    let at : c.self.inside.held.clock ≡ c.args.cycle = ap (λ (v : ClockedBoard). v.clock) c.self.view_is ∙ c.requires.now in
     let now = c.self.invariant.now in
     omega (arith, at, now)
 
-now_at : (c : goal.After-self-1) → c.self.inside.now.clock ≡ c.args.cycle
+now_at : (c : goal.After-self-1) → c.self.inside.held.clock ≡ c.args.cycle
 now_at c = ap (λ (v : ClockedBoard). v.clock) c.self.view_is ∙ c.requires.now
 
 -- the cycles that were passed are free
-is_free : (c : goal.After-self-1) → IsFree c.self.inside.ahead.settled c.self.inside.now.clock c.args.n c.self.inside.now.board
+is_free : (c : goal.After-self-1) → IsFree c.self.inside.ahead.settled c.self.inside.held.clock c.args.n c.self.inside.held.board
 is_free c =
     let at = now_at c in
-    free c.self.inside.ahead c.self.inside.now.clock c.self.inside.now.board c.self.invariant c.args.n (omega (arith, at))
+    free c.self.inside.ahead c.self.inside.held.clock c.self.inside.held.board c.self.invariant c.args.n (omega (arith, at))
 
-here : (c : goal.After-self-1) → c.self.inside.now.clock + c.args.n ≡ c.new-self-inside.result
+here : (c : goal.After-self-1) → c.self.inside.held.clock + c.args.n ≡ c.new-self-inside.result
 here c = let at = now_at c in omega (arith, at, c.new-self-inside.ensures)
 
 pub invariant_of-self : goal.invariant_of-self
 invariant_of-self c =
     let i = c.self.inside in
-    subst (λ (t : ℕ). IsAhead i.ahead t i.now.board) (here c) (later i.ahead i.now.clock i.now.board c.self.invariant c.args.n (is_free c))
+    subst (λ (t : ℕ). IsAhead i.ahead t i.held.board) (here c) (later i.ahead i.held.clock i.held.board c.self.invariant c.args.n (is_free c))
 
 pub returns-clause-idle : goal.returns-clause-idle
 returns-clause-idle c =
     let i = c.self.inside in
     λ _.
     subst (λ (t : ℕ). IsIdle t c.args.n c.args.self.now.board) c.requires.now
-    (idle i.ahead i.now.clock i.now.board c.self.invariant c.args.n c.args.self.now c.self.view_is (is_free c))
+    (idle i.ahead i.held.clock i.held.board c.self.invariant c.args.n c.args.self.now c.self.view_is (is_free c))
 
 pub returns-clause-state : goal.returns-clause-state
 returns-clause-state c =
     let i = c.self.inside in
     λ _.
-    ap (λ (t : ℕ). caught_up i.ahead.settled t i.now.board) (sym (here c))
-    ∙ (passed i.ahead i.now.clock i.now.board c.self.invariant c.args.n c.args.self.now c.self.view_is
+    ap (λ (t : ℕ). caught_up i.ahead.settled t i.held.board) (sym (here c))
+    ∙ (passed i.ahead i.held.clock i.held.board c.self.invariant c.args.n c.args.self.now c.self.view_is
     ∙ ap (λ (t : ℕ). timers_leap t c.args.n c.args.self.now.board) c.requires.now)
 
 pub returns-clause-lines : goal.returns-clause-lines
 returns-clause-lines c =
     let i = c.self.inside in
     λ _.
-    ap (λ (t : ℕ). lines_of (caught_up i.ahead.settled t i.now.board)) (sym (here c))
-    ∙ lines_stay i.ahead i.now.clock i.now.board c.self.invariant c.args.n c.args.self.now c.self.view_is (is_free c)
+    ap (λ (t : ℕ). lines_of (caught_up i.ahead.settled t i.held.board)) (sym (here c))
+    ∙ lines_stay i.ahead i.held.clock i.held.board c.self.invariant c.args.n c.args.self.now c.self.view_is (is_free c)
 
 pub returns-clause-clock : goal.returns-clause-clock
 returns-clause-clock c = λ _. sym (here c) ∙ ap (λ (t : ℕ). t + c.args.n) (now_at c)

@@ -7,23 +7,23 @@ use Rattle.board_io.specs.Lines.{lines_of}
 use Rattle.board_io.proofs.Lags.{IsFree, clear_stays, free_to, idle, later, lines_stay, passed}
 use Rattle.board_io.proofs.lagging.LaggingBoard.leap_within.Goals as goal
 
-now_at : (c : goal.After-self-1) → c.self.inside.now.clock ≡ c.args.self.now.clock
+now_at : (c : goal.After-self-1) → c.self.inside.held.clock ≡ c.args.self.now.clock
 now_at c = ap (λ (v : ClockedBoard). v.clock) c.self.view_is
 
 -- the cycles that were passed are free
-is_free : (c : goal.After-self-1) → IsFree c.self.inside.ahead.settled c.self.inside.now.clock c.args.n c.self.inside.now.board
+is_free : (c : goal.After-self-1) → IsFree c.self.inside.ahead.settled c.self.inside.held.clock c.args.n c.self.inside.held.board
 is_free c =
     let i = c.self.inside in
     let at = c.get.ensures.value in
-    free_to i.ahead i.now.clock i.now.board c.self.invariant c.args.bound c.args.n c.args.self.now c.self.view_is c.requires.early c.requires.clear (omega (arith, at))
+    free_to i.ahead i.held.clock i.held.board c.self.invariant c.args.bound c.args.n c.args.self.now c.self.view_is c.requires.early c.requires.clear (omega (arith, at))
 
-here : (c : goal.After-self-1) → c.self.inside.now.clock + c.args.n ≡ c.new-self-inside.result
+here : (c : goal.After-self-1) → c.self.inside.held.clock + c.args.n ≡ c.new-self-inside.result
 here c = let at = c.get.ensures.value in omega (arith, at, c.new-self-inside.ensures)
 
 pub invariant_of-self : goal.invariant_of-self
 invariant_of-self c =
     let i = c.self.inside in
-    subst (λ (t : ℕ). IsAhead i.ahead t i.now.board) (here c) (later i.ahead i.now.clock i.now.board c.self.invariant c.args.n (is_free c))
+    subst (λ (t : ℕ). IsAhead i.ahead t i.held.board) (here c) (later i.ahead i.held.clock i.held.board c.self.invariant c.args.n (is_free c))
 
 pub returns-clause-within : goal.returns-clause-within
 returns-clause-within c =
@@ -34,13 +34,13 @@ returns-clause-within c =
 pub returns-clause-idle : goal.returns-clause-idle
 returns-clause-idle c =
     let i = c.self.inside in
-    λ _. idle i.ahead i.now.clock i.now.board c.self.invariant c.args.n c.args.self.now c.self.view_is (is_free c)
+    λ _. idle i.ahead i.held.clock i.held.board c.self.invariant c.args.n c.args.self.now c.self.view_is (is_free c)
 
 pub returns-clause-state : goal.returns-clause-state
 returns-clause-state c =
     let i = c.self.inside in
     λ _.
-    ap (λ (t : ℕ). caught_up i.ahead.settled t i.now.board) (sym (here c)) ∙ passed i.ahead i.now.clock i.now.board c.self.invariant c.args.n c.args.self.now c.self.view_is
+    ap (λ (t : ℕ). caught_up i.ahead.settled t i.held.board) (sym (here c)) ∙ passed i.ahead i.held.clock i.held.board c.self.invariant c.args.n c.args.self.now c.self.view_is
 
 pub returns-clause-lines : goal.returns-clause-lines
 returns-clause-lines c =
@@ -49,8 +49,8 @@ returns-clause-lines c =
     let same = now_at c in
     let some = c.requires.some in
     λ _.
-    ap (λ (t : ℕ). (lines_of (caught_up i.ahead.settled t i.now.board)).bits) (sym (here c))
-    ∙ (ap (λ (l : Lines). l.bits) (lines_stay i.ahead i.now.clock i.now.board c.self.invariant c.args.n c.args.self.now c.self.view_is (is_free c))
+    ap (λ (t : ℕ). (lines_of (caught_up i.ahead.settled t i.held.board)).bits) (sym (here c))
+    ∙ (ap (λ (l : Lines). l.bits) (lines_stay i.ahead i.held.clock i.held.board c.self.invariant c.args.n c.args.self.now c.self.view_is (is_free c))
     ∙ c.requires.clear.down (omega (arith, at, same, some)))
 
 pub returns-clause-clear : goal.returns-clause-clear
@@ -58,8 +58,8 @@ returns-clause-clear c =
     let i = c.self.inside in
     let at = c.get.ensures.value in
     λ _.
-    subst (λ (t : ℕ). IsClear c.args.bound (clocked t (caught_up i.ahead.settled t i.now.board))) (here c)
-    (clear_stays i.ahead i.now.clock i.now.board c.self.invariant c.args.bound c.args.n c.args.self.now c.self.view_is c.requires.clear (omega (arith, at)))
+    subst (λ (t : ℕ). IsClear c.args.bound (clocked t (caught_up i.ahead.settled t i.held.board))) (here c)
+    (clear_stays i.ahead i.held.clock i.held.board c.self.invariant c.args.bound c.args.n c.args.self.now c.self.view_is c.requires.clear (omega (arith, at)))
 
 pub returns-clause-clock : goal.returns-clause-clock
 returns-clause-clock c = λ _. sym (here c) ∙ ap (λ (t : ℕ). t + c.args.n) (now_at c)

@@ -8,4 +8,4 @@ pub returns : goal.returns
 returns c =
     let i = c.self.inside in
     c.sleep_mode.ensures
-    ∙ (sleep_leap i.ahead.settled (i.now.clock - i.ahead.settled) i.now.board ∙ ap (λ (v : ClockedBoard). sleep_mode v.board) c.self.view_is)
+    ∙ (sleep_leap i.ahead.settled (i.held.clock - i.ahead.settled) i.held.board ∙ ap (λ (v : ClockedBoard). sleep_mode v.board) c.self.view_is)
