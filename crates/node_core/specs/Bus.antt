@@ -40,6 +40,6 @@ bus_put bus at x =
 abbrev pub bus_at : ℕ → NodeState → NodeBus
 bus_at t s = record { io = clocked t s.board; sram = s.sram }
 
--- and a node of which an instruction left it so
+-- the node with what the instruction left of that
 abbrev pub with_bus : NodeBus → NodeState → NodeState
 with_bus bus s = record s { board = bus.io.board; sram = bus.sram }

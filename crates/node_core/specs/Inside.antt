@@ -1,5 +1,5 @@
 -- What holds of the inside of a node between two calls: an instruction takes at least a cycle, so its count cannot
--- wrap; the clock of its board shows the next cycle of the devices; in the middle of a sample there is room for the row
+-- wrap; its clock shows the next cycle of the devices; in the middle of a sample there is room for the row
 -- of what is heard, and the transfer that samples runs.
 use Rattle.std.specs.Prelude.{◌≡◌, ℕ, ◌+◌, ◌≤◌, ◌<◌, ◌&&◌, nat_le, nat_lt, Bool, true, false, None, is_some, if◌then◌else◌, vec_len, vec_capacity}
 use Rattle.air_base.specs.Bounds.{LAST_CYCLE}

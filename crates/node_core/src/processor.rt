@@ -90,11 +90,7 @@ fn pending(io: &LaggingBoard) -> Option<Vector>
 pub fn due(sreg: Sreg, io: &LaggingBoard) -> Option<Vector>
     ensures { result ≡ due_of sreg.bits (lines_of io.now.board) }
 {
-    if sreg.has(Sreg::I) {
-        pending(io)
-    } else {
-        None
-    }
+    if sreg.has(Sreg::I) { pending(io) } else { None }
 }
 
 impl Machine {
