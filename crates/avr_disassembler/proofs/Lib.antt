@@ -1,1 +1,2 @@
+-- No mnemonic is longer than six letters: by each instruction's own.
 mod Short

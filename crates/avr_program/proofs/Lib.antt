@@ -1,1 +1,2 @@
+-- The slots of a program memory.
 pub mod Slots

@@ -1,8 +1,16 @@
+-- The lines of a listing that are still to come.
 pub mod Lines
+-- How the reading of a network ends, and what is left to do then.
 pub mod Networks
+-- A saved state that is read, and a network that is to go on from it.
 pub mod States
+-- Where epochs end.
 pub mod Epochs
+-- The trace of a run, epoch by epoch.
 pub mod Traces
+-- What each status says of a call.
 pub mod Statuses
+-- A network and a state of it that are read, from which the run is to be cut.
 pub mod Onwards
+-- What is read for a sweep, and the runs that it writes one behind another.
 pub mod SweepRuns

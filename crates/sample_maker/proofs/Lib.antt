@@ -1,1 +1,2 @@
+-- The links of a ring.
 pub mod InRing
