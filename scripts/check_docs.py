@@ -5,6 +5,7 @@ lines with what they print.
     scripts/check_docs.py                  sizes, links, names and maps; it needs nothing but the repository
     scripts/check_docs.py --run [PROGRAM]  also runs the commands, with PROGRAM or the one that `./avrora` built
     scripts/check_docs.py --counts         first puts the counts of stored cases right
+    scripts/check_docs.py --index          first writes the indexes of lemmas, proofs/Lib.antt of each crate
 
 A command is a line `$ COMMAND` of a block that begins with ```console. It runs in a copy of the repository, in its top folder or
 where the last `$ cd DIR` of the document led, and prints first the lines that stand below it; a line `...` stands for any lines,
@@ -25,7 +26,8 @@ import sys
 import tempfile
 from pathlib import Path
 
-from doc_maps import wrong_maps
+import lemmas
+from doc_maps import Repository, wrong_maps
 
 TOP = Path(__file__).resolve().parent.parent
 
@@ -312,6 +314,7 @@ def main():
     parser = argparse.ArgumentParser(description=__doc__, formatter_class=argparse.RawDescriptionHelpFormatter)
     parser.add_argument("--run", nargs="?", const=str(TOP / "crates/avrora_program/out/rlib/avrora_program"), metavar="PROGRAM", help="run the commands too")
     parser.add_argument("--counts", action="store_true", help="put the counts of stored cases right")
+    parser.add_argument("--index", action="store_true", help="write the indexes of lemmas")
     given = parser.parse_args()
     program = given.run
     if program and not os.access(program, os.X_OK):
@@ -322,6 +325,8 @@ def main():
     if given.counts:
         for path, text in documents().items():
             (TOP / path).write_text(COUNT.sub(right_count, text), encoding="utf-8")
+    if given.index:
+        lemmas.write(Repository(TOP, tracked()))
     texts = documents()
     wrong = [it for path, text in texts.items() for check in (sizes, links, names, counts) for it in check(path, text)]
     wrong += crates(texts)

@@ -1,4 +1,5 @@
-"""What scripts/check_docs.py checks of the maps in docs/ARCHITECTURE.md and docs/CASES.md, by the repository's files alone.
+"""What scripts/check_docs.py checks of the maps in docs/ARCHITECTURE.md and docs/CASES.md, and of the indexes of lemmas, by the
+repository's files alone.
 
 Each check takes the repository and yields a line for whatever is wrong. A check that found nothing to look at is wrong too: its
 document or its list has changed so much that it checks nothing any more.
@@ -6,6 +7,8 @@ document or its list has changed so much that it checks nothing any more.
 import fnmatch
 import re
 import tomllib
+
+import lemmas
 
 ARCHITECTURE, CASES, PLACES = "docs/ARCHITECTURE.md", "docs/CASES.md", "scripts/places.toml"
 ARGS, RUNNER, DATA = "crates/command_facts/args", "crates/command_facts/src/main.rt", "crates/command_facts/data/"
@@ -264,7 +267,7 @@ def idle_files(repo):
     yield from (f"{path}: no case names it" for path in files if not {path.rsplit("/")[-1], path.rsplit("/")[-1].split(".")[0]} & named)
 
 
-CHECKS = (places, change_lists, kinds, crate_map, idle_files)
+CHECKS = (places, change_lists, kinds, crate_map, idle_files, lemmas.indexes)
 
 
 def wrong_maps(top, paths):

@@ -10,6 +10,8 @@ import sys
 from check_docs import TOP, tracked
 from doc_maps import ARCHITECTURE, ARGS, CASES, CHECKS, PLACES, RUNNER, Repository
 
+INDEX = "crates/node_core/proofs/Lib.antt"
+
 # What is planted: a path, what stands there once at least, what comes in its place, and a part of what is to be told.
 FAULTS = (
     (PLACES, '"crates/trace_writer/src/line.rt" = ', '"crates/trace_writer/src/trace.rt" = ', "crates/trace_writer/src/line.rt matches, and stands under no places"),
@@ -37,6 +39,9 @@ FAULTS = (
     (ARGS, "refused\n", "refused\nrumours=heard.txt\n", "the table of words lacks rumours="),
     (RUNNER, '"air" => air_facts::', '"air" => record_facts::', "air= is run by record_facts"),
     ("crates.txt", "\nfleet_plain:", "\nfleet_simple:", "fleet_simple has 0 rows"),
+    (INDEX, "pub mod Polls\n", "", "crates/node_core/proofs/Polls.antt stands in no index"),
+    (INDEX, "-- Polls by SBIS", "-- Loops by SBIS", "it does not say of each module"),
+    ("crates/node_core/proofs/Polls.antt", "-- Polls by", "use Polls by", "it does not begin with a sentence"),
 )
 
 

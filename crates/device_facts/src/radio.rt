@@ -30,11 +30,11 @@ fn moved(radio: &mut Radio, at: u64, selected: bool, mosi: u8, heard: Heard) -> 
 }
 
 fn new_radio(word: &str) -> Option<Radio> {
-    let byte_time = short(word)?;
+    let byte_time = u64::from(short(word)?);
     if byte_time > LONGEST_BYTE {
         return None;
     }
-    Some(Radio::new(u64::from(byte_time)))
+    Some(Radio::new(byte_time))
 }
 
 // A status, a byte and an age.

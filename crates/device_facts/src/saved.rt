@@ -99,18 +99,18 @@ pub fn saved_spi(port: &mut Spi, words: &[&str]) -> Option<Answer> {
 }
 
 // A radio of a byte time up to 4,096 cycles.
-fn made_radio(byte_time: u16, numbers: &[u64; 5]) -> Option<Radio> {
+fn made_radio(byte_time: u64, numbers: &[u64; 5]) -> Option<Radio> {
     if byte_time > LONGEST_BYTE {
         return None;
     }
-    Radio::from_numbers(u64::from(byte_time), numbers)
+    Radio::from_numbers(byte_time, numbers)
 }
 
 /// What comes of `restore`, `outside` or `numbers` with the numbers of a saved radio; `None` of another line.
 pub fn saved_radio(radio: &mut Radio, words: &[&str]) -> Option<Answer> {
     match words {
         ["restore", byte_time, numbers @ ..] => {
-            let made = made_radio(short(byte_time)?, &all(numbers)?);
+            let made = made_radio(u64::from(short(byte_time)?), &all(numbers)?);
             Some(taken(radio, made))
         }
         ["outside", numbers @ ..] => Some(outside(&Radio::fits(&all(numbers)?))),
