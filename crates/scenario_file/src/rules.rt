@@ -67,7 +67,11 @@ fn has_top_ranges(version: Version, table: &Table) -> bool
     passes_at(table, "version", Asked::Between(1, 3))
         & passes_at(table, "cycles", Asked::Between(1, most_cycles(version)))
         & passes_at(table, "latency", Asked::Between(1, 65_535))
-        & passes_at(table, "byte_time", Asked::Between(SHORTEST_BYTE, LONGEST_BYTE))
+        & passes_at(
+            table,
+            "byte_time",
+            Asked::Between(SHORTEST_BYTE, LONGEST_BYTE),
+        )
         & passes_at(table, "window", Asked::Window(cycles))
 }
 

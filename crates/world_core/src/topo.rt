@@ -101,9 +101,7 @@ fn are_latencies(own: &[u64]) -> bool
 fn are_spans(count: u64, spans: &[Span]) -> bool
     ensures { IsTrue result ↔ All (IsSpan count) spans.now }
 {
-    spans.iter().all(|s| u64::from(s.link) < count
-        && s.from < s.until
-        && s.until <= LAST_CYCLE)
+    spans.iter().all(|s| u64::from(s.link) < count && s.from < s.until && s.until <= LAST_CYCLE)
 }
 
 // Whether the span `next` may stand behind the span `last`.
