@@ -64,23 +64,23 @@ pub refuses : {A : Type 0} (files : Files) (plan : Plan A) (refusal : Refusal) �
 unfolding verdict
 refuses files plan refusal r = record { reached = r; verdict_is = reached_says files plan (Refuse refusal) (RefusedVerdict refusal) r refl }
 
-module _ {J : Type 0} (output : J → List ℕ) (files : Files) (plan : Plan J) where
+module _ (files : Files) (plan : Plan (List ℕ)) where
   -- reading that stops ends the call
-  pub ends_stopped : (store store' : Reads) (out : Stream) (end : End) → StopsAt files plan store store' end → Ends output files plan store store' out out end
+  pub ends_stopped : (store store' : Reads) (out : Stream) (end : End) → StopsAt files plan store store' end → Ends files plan store store' out out end
   ends_stopped store store' out Done h = absurd h
   ends_stopped store store' out OutFailed h = absurd h
   ends_stopped store store' out NoMemory h = (h, inl refl)
   ends_stopped store store' out (ReadFailed name) h = (h.0, h.1, refl)
   ends_stopped store store' out (Refused refusal) h = (h.0, refuses files plan refusal h.1, refl)
 
-  -- the work of the job ends the call
-  pub ends_job : {A : Type 0} (job : J) (store store' : Reads) (out out' : Stream) (r : Result A Trouble)
-      → Reached files plan (Give job) → store' ≡ store → Written (output job) out out' r → Ends output files plan store store' out out' (end_of r)
-  ends_job job store store' out out' (Result.Ok x) reached same h = (same, (job, accepts files plan job reached, h))
-  ends_job job store store' out out' (Result.Err trouble.OutFailed) reached same h = (same, (job, accepts files plan job reached, h))
-  ends_job job store store' out out' (Result.Err trouble.NoMemory) reached same h = (same, inr (job, accepts files plan job reached, h.0, h.1))
-  ends_job job store store' out out' (Result.Err (trouble.ReadFailed name)) reached same h = absurd h
-  ends_job job store store' out out' (Result.Err (trouble.Refused c)) reached same h = absurd h
+  -- the writing of the text ends the call
+  pub ends_written : {A : Type 0} (text : List ℕ) (store store' : Reads) (out out' : Stream) (r : Result A Trouble)
+      → Reached files plan (Give text) → store' ≡ store → Written text out out' r → Ends files plan store store' out out' (end_of r)
+  ends_written text store store' out out' (Result.Ok x) reached same h = (same, (text, accepts files plan text reached, h))
+  ends_written text store store' out out' (Result.Err trouble.OutFailed) reached same h = (same, (text, accepts files plan text reached, h))
+  ends_written text store store' out out' (Result.Err trouble.NoMemory) reached same h = (same, inr (text, accepts files plan text reached, h.0, h.1))
+  ends_written text store store' out out' (Result.Err (trouble.ReadFailed name)) reached same h = absurd h
+  ends_written text store store' out out' (Result.Err (trouble.Refused c)) reached same h = absurd h
 
 -- what stopped a reading was reported
 pub reported_stop : {A : Type 0} (files : Files) (plan : Plan A) (store store' : Reads) (end : End) (err err' : Stream) (answer : Status)

@@ -59,23 +59,19 @@ pub data End : Type 0 where
   ReadFailed : (name : List ℕ) → End
   Refused : (refusal : Refusal) → End
 
--- what a plan gets is a job, and each job has its output
-module _ {J : Type 0} (output : J → List ℕ) where
-  -- `out` took nothing, or a front of the job's output, and no write failed
-  abbrev pub HasFront : Files → Plan J → Stream → Stream → Type 0
-  HasFront files plan out out' =
-      (out' ≡ out)
-      ⊎ ((job : J) × Accepts files plan job × TookFront out.taken (output job) out'.taken × (out'.faults ≡ out.faults))
+-- the plan of a call gets the text that is to be written: `out` took nothing, or a front of it, and no write failed
+abbrev pub HasFront : Files → Plan (List ℕ) → Stream → Stream → Type 0
+HasFront files plan out out' =
+    (out' ≡ out)
+    ⊎ ((text : List ℕ) × Accepts files plan text × TookFront out.taken text out'.taken × (out'.faults ≡ out.faults))
 
-  -- what holds at each end, of the store and of `out`
-  abbrev pub Ends : Files → Plan J → Reads → Reads → Stream → Stream → End → Type 0
-  Ends files plan store store' out out' Done =
-      (store' ≡ store) × ((job : J) × Accepts files plan job × (out' ≡ took out (output job)))
-  Ends files plan store store' out out' OutFailed =
-      (store' ≡ store) × ((job : J) × Accepts files plan job × FailedIn out (output job) out')
-  Ends files plan store store' out out' NoMemory = (store' ≡ store) × HasFront files plan out out'
-  Ends files plan store store' out out' (ReadFailed name) = FailedRead store name store' × IsNext files plan name × (out' ≡ out)
-  Ends files plan store store' out out' (Refused refusal) = (store' ≡ store) × Refuses files plan refusal × (out' ≡ out)
+-- what holds at each end, of the store and of `out`
+abbrev pub Ends : Files → Plan (List ℕ) → Reads → Reads → Stream → Stream → End → Type 0
+Ends files plan store store' out out' Done = (store' ≡ store) × ((text : List ℕ) × Accepts files plan text × (out' ≡ took out text))
+Ends files plan store store' out out' OutFailed = (store' ≡ store) × ((text : List ℕ) × Accepts files plan text × FailedIn out text out')
+Ends files plan store store' out out' NoMemory = (store' ≡ store) × HasFront files plan out out'
+Ends files plan store store' out out' (ReadFailed name) = FailedRead store name store' × IsNext files plan name × (out' ≡ out)
+Ends files plan store store' out out' (Refused refusal) = (store' ≡ store) × Refuses files plan refusal × (out' ≡ out)
 
 -- where the fault of an image, a source, a state or moves is
 unfoldable pub place_text : Option ℕ → List ℕ
@@ -133,16 +129,14 @@ status_due NoMemory = status.NoMemory
 status_due (ReadFailed name) = status.ReadFailed
 status_due (Refused refusal) = refusal_status refusal
 
-module _ {J : Type 0} (output : J → List ℕ) where
-  -- a call ended so, and `err` took the line of that end
-  abbrev pub EndedSaying : Files → Plan J → Reads → Reads → Stream → Stream → Stream → Stream → End → Type 0
-  EndedSaying files plan store store' out out' err err' end =
-      Ends output files plan store store' out out' end × (err' ≡ took err (line_due end))
+-- a call ended so, and `err` took the line of that end
+abbrev pub EndedSaying : Files → Plan (List ℕ) → Reads → Reads → Stream → Stream → Stream → Stream → End → Type 0
+EndedSaying files plan store store' out out' err err' end = Ends files plan store store' out out' end × (err' ≡ took err (line_due end))
 
-  -- a call ended so, and `err` failed within the line of that end
-  abbrev pub EndedUnsaid : Files → Plan J → Reads → Reads → Stream → Stream → Stream → Stream → End → Type 0
-  EndedUnsaid files plan store store' out out' err err' end =
-      (end ≢ Done) × Ends output files plan store store' out out' end × FailedIn err (line_due end) err'
+-- a call ended so, and `err` failed within the line of that end
+abbrev pub EndedUnsaid : Files → Plan (List ℕ) → Reads → Reads → Stream → Stream → Stream → Stream → End → Type 0
+EndedUnsaid files plan store store' out out' err err' end =
+    (end ≢ Done) × Ends files plan store store' out out' end × FailedIn err (line_due end) err'
 
 -- the answer is that of the verdict, where it is known
 abbrev pub HasStatus : {A : Type 0} → Verdict A → Status → Type 0

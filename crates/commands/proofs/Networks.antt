@@ -15,10 +15,9 @@ use Rattle.command_plans.specs.Ends.{End, Reads, Stream}
 use Rattle.command_plans.specs.Parts.{StopsAt}
 use Rattle.command_plans.proofs.Steps.{both, goes_on, stops_on, stops_moved, stops_behind, reached_moved, through}
 use Rattle.commands.specs.Network.{network_of}
-use Rattle.commands.specs.Job.{Job}
 use Rattle.commands.specs.Plan.{cut_or, cut_plan, images_for, network_plan, span_or, span_plan}
-use Rattle.commands.specs.Parts.{HasGot, HasRead, IsShort, Ready, job_at}
-use Rattle.commands.specs.declared.job.Job.{Job as JobValue}
+use Rattle.commands.specs.Parts.{HasGot, HasRead, IsShort, Ready, output}
+use Rattle.commands.specs.declared.job.Job.{Job}
 
 -- a plan for what a scenario says, and behind it its images
 module _ (files files' : Files) (first : Plan ScenarioParts) where
@@ -90,19 +89,19 @@ module _ (files : Files) (name : List ℕ) (epochs : ℕ) (network : ScenarioOf)
 -- ---- what is left to do
 
 -- what is to be done with something that was read
-pub ready : {A : Type 0} (files : Files) (plan : Plan A) (next : A → Job) (got : A) (store store' : Reads) (err err' : Stream) (todo : JobValue)
-    → Reached files plan (Give got) → next got ≡ job_at todo → store' ≡ store → err' ≡ err → IsShort todo
+pub ready : {A : Type 0} (files : Files) (plan : Plan A) (next : A → List ℕ) (got : A) (store store' : Reads) (err err' : Stream) (todo : Job)
+    → Reached files plan (Give got) → next got ≡ output todo → store' ≡ store → err' ≡ err → IsShort todo
     → Ready files (and_then plan (λ it. Give (next it))) store store' err err' todo
 ready files plan next got store store' err err' todo reached is same silent short = record {
-  reached = subst (λ (job : Job). Reached files (and_then plan (λ it. Give (next it))) (Give job)) is (goes_on files plan got (λ it. Give (next it)) reached);
+  reached = subst (λ (text : List ℕ). Reached files (and_then plan (λ it. Give (next it))) (Give text)) is (goes_on files plan got (λ it. Give (next it)) reached);
   same = same;
   silent = silent;
   short = short;
 }
 
 -- and with the network of a scenario
-pub network_ready : (files : Files) (plan : Plan ScenarioOf) (next : ScenarioOf → Job) (store store' : Reads) (err err' : Stream) (network : ScenarioOf) (todo : JobValue)
-    → HasRead files plan store store' err err' network → next network ≡ job_at todo → IsShort todo
+pub network_ready : (files : Files) (plan : Plan ScenarioOf) (next : ScenarioOf → List ℕ) (store store' : Reads) (err err' : Stream) (network : ScenarioOf) (todo : Job)
+    → HasRead files plan store store' err err' network → next network ≡ output todo → IsShort todo
     → Ready files (and_then plan (λ it. Give (next it))) store store' err err' todo
 network_ready files plan next store store' err err' network todo read is short =
     ready files plan next network store store' err err' todo read.reached is read.same read.silent short

@@ -14,9 +14,9 @@ use Rattle.command_plans.specs.Parts.{Stopped, StopsAt, Told}
 use Rattle.command_plans.specs.declared.status.Status.{Status}
 use Rattle.command_plans.specs.declared.trouble.StateCause.TheVariants as cause
 use Rattle.command_plans.proofs.Steps.{both, goes_on, opened, reached_moved, stops_behind, stops_moved, stops_on}
-use Rattle.commands.specs.Job.{Job, ResumeJob}
+use Rattle.commands.specs.Texts.{resume_text}
 use Rattle.commands.specs.Plan.{network_plan, state_or, state_plan}
-use Rattle.commands.specs.Parts.{HasRead, IsFresh, Ready}
+use Rattle.commands.specs.Parts.{HasRead, IsFresh, Ready, output}
 use Rattle.commands.specs.declared.job.Job.TheVariants as job
 
 -- a fault that is no want of memory is that of the text
@@ -38,10 +38,10 @@ module _ (files : Files) (network : ScenarioOf) (name bytes : List ℕ) (read : 
 
 module _ (files files' : Files) (file name : List ℕ) (network : ScenarioOf) (store mid store' : Reads) (err err' : Stream)
     (read : HasRead files (network_plan file) store mid err err' network) (held : files' ≡ files) where
-  abbrev Next : ScenarioOf → Plan Job
-  Next network = and_then (state_plan network name) (λ state. Give (ResumeJob network state))
+  abbrev Next : ScenarioOf → Plan (List ℕ)
+  Next network = and_then (state_plan network name) (λ state. Give (resume_text network state))
 
-  abbrev Whole : Plan Job
+  abbrev Whole : Plan (List ℕ)
   Whole = and_then (network_plan file) Next
 
   to_state : Reached files Whole (Next network)
@@ -50,10 +50,11 @@ module _ (files files' : Files) (file name : List ℕ) (network : ScenarioOf) (s
   -- a network and a state of it were read
   pub resume_ready : (saved : SavedAt) → (store' ≡ mid) × Reached files' (state_plan network name) (Give saved.state) → IsFresh network saved
       → Ready files Whole store store' err err' (job.Resume network saved)
+  unfolding output
   resume_ready saved state fresh = record {
     reached =
-        both files Whole (Next network) (Give (ResumeJob network saved.state)) to_state
-        (goes_on files (state_plan network name) saved.state (λ state. Give (ResumeJob network state))
+        both files Whole (Next network) (Give (resume_text network saved.state)) to_state
+        (goes_on files (state_plan network name) saved.state (λ state. Give (resume_text network state))
         (reached_moved files files' (state_plan network name) (Give saved.state) held state.1));
     same = state.0 ∙ read.same;
     silent = read.silent;
@@ -66,7 +67,7 @@ module _ (files files' : Files) (file name : List ℕ) (network : ScenarioOf) (s
   resume_stopped end said answer stops told = record {
     end = end;
     stops = stops_on files Whole (Next network) store store' end to_state
-        (stops_behind files (state_plan network name) (λ state. Give (ResumeJob network state)) store store' end
+        (stops_behind files (state_plan network name) (λ state. Give (resume_text network state)) store store' end
         (stops_moved files files' (state_plan network name) store mid store' end held read.same stops));
     told = subst (λ e. Told end e said answer) read.silent told;
   }

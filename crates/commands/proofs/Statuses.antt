@@ -25,12 +25,11 @@ use Rattle.command_plans.specs.declared.trouble.MovesCause.{MovesCause}
 use Rattle.command_plans.specs.declared.trouble.StateCause.TheVariants as cause
 use Rattle.command_plans.specs.declared.status.Status.{Status}
 use Rattle.command_plans.specs.declared.status.Status.TheVariants as case
-use Rattle.command_plans.proofs.Endings.{KeepsWords, ends_job, ends_stopped, keeps_both, keeps_image, keeps_images, keeps_moves, keeps_reached, keeps_scenario, keeps_source, reported_stop, state_is_no_words}
-use Rattle.commands.specs.Job.{Job, output}
+use Rattle.command_plans.proofs.Endings.{KeepsWords, ends_written, ends_stopped, keeps_both, keeps_image, keeps_images, keeps_moves, keeps_reached, keeps_scenario, keeps_source, reported_stop, state_is_no_words}
 use Rattle.commands.specs.Plan.{begun_plan, cut_on_or, cut_on_plan, cut_plan, images_for, network_plan, plan, plan_for, plan_of, span_or, span_plan, state_or, state_plan, sweep_plan}
 use Rattle.commands.specs.TopClause.{TopClause}
-use Rattle.commands.specs.Parts.{JobRead, Prepared, Prepares, Ready, job_at}
-use Rattle.commands.specs.declared.job.Job.{Job as JobValue}
+use Rattle.commands.specs.Parts.{JobRead, Prepared, Prepares, Ready, output}
+use Rattle.commands.specs.declared.job.Job.{Job}
 
 asked_not_none : (o : Option Asked) (asked : Asked) → o ≡ Some asked → o ≡ None → ⊥
 asked_not_none o asked e none = cc
@@ -139,23 +138,23 @@ has_status (RefusedVerdict r) w answer s h = subst (λ x. HasStatus x answer) (s
 has_status (Accepted j) w answer s h = subst (λ x. HasStatus x answer) (sym s) h
 
 -- all was done; or an end was told; or it could not be told
-data How (files : Files) (plan : Plan Job) (store store' : Reads) (out out' err err' : Stream) (answer : Status) : Type 0 where
-  AllDone : Ends output files plan store store' out out' Done → answer ≡ case.Done → err' ≡ err → How files plan store store' out out' err err' answer
-  Saying : (end : End) → end ≢ Done → answer ≡ status_due end → EndedSaying output files plan store store' out out' err err' end → How files plan store store' out out' err err' answer
-  Unsaying : (end : End) → answer ≡ case.SinkFailed → EndedUnsaid output files plan store store' out out' err err' end → How files plan store store' out out' err err' answer
+data How (files : Files) (plan : Plan (List ℕ)) (store store' : Reads) (out out' err err' : Stream) (answer : Status) : Type 0 where
+  AllDone : Ends files plan store store' out out' Done → answer ≡ case.Done → err' ≡ err → How files plan store store' out out' err err' answer
+  Saying : (end : End) → end ≢ Done → answer ≡ status_due end → EndedSaying files plan store store' out out' err err' end → How files plan store store' out out' err err' answer
+  Unsaying : (end : End) → answer ≡ case.SinkFailed → EndedUnsaid files plan store store' out out' err err' end → How files plan store store' out out' err err' answer
 
 module _ (files : Files) (words : List (List ℕ)) (store store' : Reads) (out out' err err' : Stream) (answer : Status) where
   abbrev SaidSo : End → Type 0
-  SaidSo end = EndedSaying output files (plan words) store store' out out' err err' end
+  SaidSo end = EndedSaying files (plan words) store store' out out' err err' end
 
   abbrev HowNow : Type 0
   HowNow = How files (plan words) store store' out out' err err' answer
 
-  how_told : (end : End) → end ≢ Done → Ends output files (plan words) store store' out out' end → Told end err err' answer → HowNow
+  how_told : (end : End) → end ≢ Done → Ends files (plan words) store store' out out' end → Told end err err' answer → HowNow
   how_told end not_done ends (Said s t) = Saying end not_done s (ends, t)
   how_told end not_done ends (Unsaid s f) = Unsaying end s (not_done, ends, f)
 
-  how_ended : (end : End) → Ends output files (plan words) store store' out out' end → Reported end err err' answer → HowNow
+  how_ended : (end : End) → Ends files (plan words) store store' out out' end → Reported end err err' answer → HowNow
   how_ended Done ends r = AllDone ends r.0 r.1
   how_ended OutFailed ends r = how_told OutFailed (λ e. cc) ends r
   how_ended NoMemory ends r = how_told NoMemory (λ e. cc) ends r
@@ -168,13 +167,13 @@ module _ (files : Files) (words : List (List ℕ)) (store store' : Reads) (out o
   said (Saying end not_done s so) x e no_done no_sink = (end, ends_with x answer end s e, so)
   said (Unsaying end s un) x e no_done no_sink = absurd (no_sink (sym e ∙ s))
 
-  done_from : HowNow → answer ≡ case.Done → Ends output files (plan words) store store' out out' Done × (err' ≡ err)
+  done_from : HowNow → answer ≡ case.Done → Ends files (plan words) store store' out out' Done × (err' ≡ err)
   done_from (AllDone ends s same) e = (ends, same)
   done_from (Saying end not_done s so) e = absurd (not_done (ends_with case.Done answer end s e))
   done_from (Unsaying end s un) e = absurd (cc)
 
   sink_from : HowNow → answer ≡ case.SinkFailed
-      → SaidSo OutFailed ⊎ ((end : End) × EndedUnsaid output files (plan words) store store' out out' err err' end)
+      → SaidSo OutFailed ⊎ ((end : End) × EndedUnsaid files (plan words) store store' out out' err err' end)
   sink_from (AllDone ends s same) e = absurd (cc)
   sink_from (Saying end not_done s so) e = inl (subst SaidSo (ends_with case.SinkFailed answer end s e) so)
   sink_from (Unsaying end s un) e = inr (end, un)
@@ -225,7 +224,7 @@ module _ (files : Files) (words : List (List ℕ)) (store store' : Reads) (out o
       ⊎ ((answer ≡ case.NoMemory)
       ⊎ ((answer ≡ case.SinkFailed) × (Rose out.faults out'.faults ⊎ Rose err.faults err'.faults)))
 
-  expected_end : (end : End) → Ends output files (plan words) store store' out out' end → answer ≡ status_due end → (Rose store.faults store'.faults → ⊥) → Expected
+  expected_end : (end : End) → Ends files (plan words) store store' out out' end → answer ≡ status_due end → (Rose store.faults store'.faults → ⊥) → Expected
   expected_end Done h s no_read = inl (has_status _ (Accepted h.1.0) answer h.1.1.verdict_is s)
   expected_end OutFailed h s no_read = inr (inr (s, inl h.1.2.rose))
   expected_end NoMemory h s no_read = inr (inl s)
@@ -259,13 +258,13 @@ module _ (files : Files) (words : List (List ℕ)) (store store' : Reads) (out o
   }
 
 -- a call that was prepared ends with its job
-pub done_clause : {A : Type 0} (files files' : Files) (words : List (List ℕ)) (store store' : Reads) (out out' err mid err' : Stream) (todo : JobValue) (r : Result A Trouble) (answer : Status)
-    → Prepared files files' words store store' err mid todo → Written (output (job_at todo)) out out' r → Reported (end_of r) mid err' answer
+pub done_clause : {A : Type 0} (files files' : Files) (words : List (List ℕ)) (store store' : Reads) (out out' err mid err' : Stream) (todo : Job) (r : Result A Trouble) (answer : Status)
+    → Prepared files files' words store store' err mid todo → Written (output todo) out out' r → Reported (end_of r) mid err' answer
     → TopClause files files' words store store' out out' err err' answer
 done_clause files files' words store store' out out' err mid err' todo r answer prepared ends reported =
     top_clause files words store store' out out' err err' answer files' prepared.held
     (how_ended files words store store' out out' err err' answer (end_of r)
-    (ends_job output files (plan words) (job_at todo) store store' out out' r prepared.ready.reached prepared.ready.same ends)
+    (ends_written files (plan words) (output todo) store store' out out' r prepared.ready.reached prepared.ready.same ends)
     (subst (λ e. Reported (end_of r) e err' answer) prepared.ready.silent reported))
     (λ none. let bad : false ≡ true = ap is_some (sym none) ∙ prepared.asked in absurd (cc))
 
@@ -276,12 +275,12 @@ stopped_clause : (files files' : Files) (words : List (List ℕ)) (store store' 
 stopped_clause files files' words store store' err err' answer same h none out =
     top_clause files words store store' out out err err' answer files' same
     (how_ended files words store store' out out err err' answer h.end
-    (ends_stopped output files (plan words) store store' out h.end h.stops)
+    (ends_stopped files (plan words) store store' out h.end h.stops)
     (reported_stop files (plan words) store store' h.end err err' answer h.stops h.told))
     none
 
 -- words that ask for something are followed by it
-pub asked_prepares : (files files' : Files) (words : List (List ℕ)) (command : Command) (store store' : Reads) (err err' : Stream) (r : Result JobValue Status)
+pub asked_prepares : (files files' : Files) (words : List (List ℕ)) (command : Command) (store store' : Reads) (err err' : Stream) (r : Result Job Status)
     → files' ≡ files → Some (shown command) ≡ asked_by words → JobRead files (plan_of (shown command)) store store' err err' r
     → Prepares files files' words store store' err err' r
 asked_prepares files files' words command store store' err err' (Ok todo) same asked read = record {

@@ -2,7 +2,7 @@ pub mod Listing
 pub mod Network
 pub mod Sample
 pub mod Sweep
-pub mod Job
+pub mod Texts
 pub mod Plan
 pub mod TopClause
 pub mod Parts

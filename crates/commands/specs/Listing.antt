@@ -1,4 +1,4 @@
--- The listing of an image.
+-- What `disasm` writes: the listing of an image.
 use Rattle.std.specs.Prelude.{ℕ, ◌+◌, ◌/◌, List}
 use Rattle.ihex_loader.specs.Flash.{Image, word_at}
 use Rattle.avr_disassembler.specs.Listing.{listing_of}

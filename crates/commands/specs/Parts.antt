@@ -1,5 +1,5 @@
--- What the parts of a call owe to one another: the job that a value of the code stands for, and what is known once it
--- was read. These are the contracts of functions inside this crate, and no part of what the top clause says.
+-- What the parts of a call owe to one another: what a job writes, and what is known once it was read. These are the
+-- contracts of functions inside this crate, and no part of what the top clause says.
 use Rattle.std.specs.List.{All}
 use Rattle.std.specs.Prelude.{◌≡◌, false, ◌≤◌, ◌<◌, ◌+◌, ◌-◌, ◌*◌, ℕ, min, true, is_some, length, List, Result, Ok, Err}
 use Rattle.world_core.specs.Kept.{epoch}
@@ -13,10 +13,16 @@ use Rattle.command_plans.specs.Reading.{Files, Reached}
 use Rattle.command_plans.specs.Ends.{Reads, Stream}
 use Rattle.command_plans.specs.Parts.{Stopped}
 use Rattle.command_plans.specs.declared.status.Status.{Status}
-use Rattle.commands.specs.Job.{Job, TraceJob, MonitorJob, SniffJob, SizeJob, DisasmJob, AsmJob, SampleJob, HeadJob, SaveJob, ResumeJob, HeadOnJob, SaveOnJob, SweepJob}
+use Rattle.ihex_loader.specs.Hex.{hex_of}
+use Rattle.run_reports.specs.Frames.{frames_text}
+use Rattle.run_reports.specs.Profiles.{profiles_text}
+use Rattle.commands.specs.Listing.{listing}
+use Rattle.commands.specs.Network.{size_line, trace_of}
 use Rattle.commands.specs.Plan.{plan}
+use Rattle.commands.specs.Sample.{sample_line}
+use Rattle.commands.specs.Texts.{head_on_text, head_text, resume_text, save_on_text, save_text, sweep_text}
 use Rattle.commands.specs.TopClause.{TopClause}
-use Rattle.commands.specs.declared.job.Job.{Job as JobValue}
+use Rattle.commands.specs.declared.job.Job.{Job}
 use Rattle.commands.specs.declared.job.Job.TheVariants as job
 
 -- the window of a network ends within its run
@@ -40,22 +46,22 @@ pub record HasRead (files : Files) (plan : Plan ScenarioOf) (store store' : Read
   pub silent : err' ≡ err
   pub within : EndsWithin network
 
--- the job that a value of the code stands for
-abbrev pub job_at : JobValue → Job
-job_at (job.Trace network) = TraceJob network
-job_at (job.PlainTrace network) = TraceJob network
-job_at (job.Profiles network) = MonitorJob network
-job_at (job.Frames network) = SniffJob network
-job_at (job.Size network) = SizeJob network
-job_at (job.Listing flash) = DisasmJob flash
-job_at (job.Program words) = AsmJob words.items
-job_at (job.Sample number) = SampleJob number
-job_at (job.Head network epochs) = HeadJob network epochs
-job_at (job.Save network epochs) = SaveJob network epochs
-job_at (job.Resume network saved) = ResumeJob network saved.state
-job_at (job.HeadOn network saved epochs) = HeadOnJob network saved.state epochs
-job_at (job.SaveOn network saved epochs) = SaveOnJob network saved.state epochs
-job_at (job.Sweep network state moves) = SweepJob network state moves.items
+-- what a job writes to `out`
+unfoldable pub output : Job → List ℕ
+output (job.Trace network) = trace_of network
+output (job.PlainTrace network) = trace_of network
+output (job.Monitor network) = profiles_text network
+output (job.Sniff network) = frames_text network
+output (job.Check network) = size_line network
+output (job.Disasm flash) = listing flash
+output (job.Asm words) = hex_of words.items
+output (job.Make number) = sample_line number
+output (job.Head network epochs) = head_text network epochs
+output (job.Save network epochs) = save_text network epochs
+output (job.Resume network saved) = resume_text network saved.state
+output (job.HeadOn network saved epochs) = head_on_text network saved.state epochs
+output (job.SaveOn network saved epochs) = save_on_text network saved.state epochs
+output (job.Sweep network state moves) = sweep_text network state moves.items
 
 -- a saved state of this network, with which nothing was done yet
 pub record IsFresh (network : ScenarioOf) (saved : SavedAt) : Type 0 where
@@ -86,15 +92,15 @@ pub record IsSweep (network : ScenarioOf) (state : StateOf) (moves : List MoveOf
   pub known : All (λ (m : MoveOf). m.node < network.topo.nodes) moves
 
 -- a program is no longer than the flash, a window that is watched ends within the run, and a run is cut below its limit
-abbrev pub IsShort : JobValue → Type 0
+abbrev pub IsShort : Job → Type 0
 IsShort (job.Trace network) = Unit {0}
 IsShort (job.PlainTrace network) = Unit {0}
-IsShort (job.Profiles network) = EndsWithin network
-IsShort (job.Frames network) = Unit {0}
-IsShort (job.Size network) = Unit {0}
-IsShort (job.Listing flash) = Unit {0}
-IsShort (job.Program words) = length words.items ≤ 65536
-IsShort (job.Sample number) = Unit {0}
+IsShort (job.Monitor network) = EndsWithin network
+IsShort (job.Sniff network) = Unit {0}
+IsShort (job.Check network) = Unit {0}
+IsShort (job.Disasm flash) = Unit {0}
+IsShort (job.Asm words) = length words.items ≤ 65536
+IsShort (job.Make number) = Unit {0}
 IsShort (job.Head network epochs) = epochs * epoch < network.topo.limit
 IsShort (job.Save network epochs) = epochs * epoch < network.topo.limit
 IsShort (job.Resume network saved) = IsFresh network saved
@@ -103,24 +109,24 @@ IsShort (job.SaveOn network saved epochs) = IsCutOn network saved epochs
 IsShort (job.Sweep network state moves) = IsSweep network state moves.items
 
 -- what a plan reads was read, this is left to do, and nothing was said
-pub record Ready (files : Files) (plan : Plan Job) (store store' : Reads) (err err' : Stream) (todo : JobValue) : Type 0 where
-  pub reached : Reached files plan (Give (job_at todo))
+pub record Ready (files : Files) (plan : Plan (List ℕ)) (store store' : Reads) (err err' : Stream) (todo : Job) : Type 0 where
+  pub reached : Reached files plan (Give (output todo))
   pub same : store' ≡ store
   pub silent : err' ≡ err
   pub short : IsShort todo
 
 -- what a plan reads was read; or that stopped, and was told
-abbrev pub JobRead : Files → Plan Job → Reads → Reads → Stream → Stream → Result JobValue Status → Type 0
+abbrev pub JobRead : Files → Plan (List ℕ) → Reads → Reads → Stream → Stream → Result Job Status → Type 0
 JobRead files plan store store' err err' (Ok todo) = Ready files plan store store' err err' todo
 JobRead files plan store store' err err' (Err answer) = Stopped files plan store store' err err' answer
 
 -- the words ask for something, and what it needs was read
-pub record Prepared (files files' : Files) (words : List (List ℕ)) (store store' : Reads) (err err' : Stream) (todo : JobValue) : Type 0 where
+pub record Prepared (files files' : Files) (words : List (List ℕ)) (store store' : Reads) (err err' : Stream) (todo : Job) : Type 0 where
   pub held : files' ≡ files
   pub asked : is_some (asked_by words) ≡ true
   pub ready : Ready files (plan words) store store' err err' todo
 
 -- a call is prepared; or it ended before it wrote any output
-abbrev pub Prepares : Files → Files → List (List ℕ) → Reads → Reads → Stream → Stream → Result JobValue Status → Type 0
+abbrev pub Prepares : Files → Files → List (List ℕ) → Reads → Reads → Stream → Stream → Result Job Status → Type 0
 Prepares files files' words store store' err err' (Ok todo) = Prepared files files' words store store' err err' todo
 Prepares files files' words store store' err err' (Err answer) = (out : Stream) → TopClause files files' words store store' out out err err' answer

@@ -13,8 +13,13 @@ use Rattle.state_text.specs.declared.fault.StateFault.TheVariants.{PastEnd}
 use Rattle.command_plans.specs.declared.trouble.ScenarioCause.TheVariants as scenario_cause
 use Rattle.command_plans.specs.declared.trouble.StateCause.TheVariants as cause
 use Rattle.command_plans.specs.Plan.{Plan, Give, Refuse, Read, BadWords, BadScenario, BadState, and_then, image_plan, images_plan, moves_plan, scenario_plan, source_plan}
-use Rattle.commands.specs.Job.{Job, TraceJob, MonitorJob, SniffJob, SizeJob, DisasmJob, AsmJob, SampleJob, HeadJob, SaveJob, ResumeJob, HeadOnJob, SaveOnJob, SweepJob}
-use Rattle.commands.specs.Network.{lone_node, network_of}
+use Rattle.ihex_loader.specs.Hex.{hex_of}
+use Rattle.run_reports.specs.Frames.{frames_text}
+use Rattle.run_reports.specs.Profiles.{profiles_text}
+use Rattle.commands.specs.Listing.{listing}
+use Rattle.commands.specs.Network.{lone_node, network_of, size_line, trace_of}
+use Rattle.commands.specs.Sample.{sample_line}
+use Rattle.commands.specs.Texts.{head_on_text, head_text, resume_text, save_on_text, save_text, sweep_text}
 
 -- read the image of each node of a scenario, for the network
 abbrev pub images_for : ScenarioParts → Plan ScenarioOf
@@ -69,29 +74,29 @@ abbrev pub sweep_plan : List ℕ → List ℕ → List ℕ → Plan ((ScenarioOf
 sweep_plan file state name =
     and_then (begun_plan file state) (λ begun. and_then (moves_plan begun.0.topo.nodes name) (λ moves. Give (begun, moves)))
 
--- what each command reads
-unfoldable pub plan_of : Asked → Plan Job
-plan_of (Node file cycles) = and_then (image_plan file) (λ flash. Give (TraceJob (lone_node flash cycles)))
-plan_of (Run file) = and_then (network_plan file) (λ network. Give (TraceJob network))
-plan_of (RunPlain file) = and_then (network_plan file) (λ network. Give (TraceJob network))
-plan_of (Monitor file) = and_then (network_plan file) (λ network. Give (MonitorJob network))
-plan_of (Sniff file) = and_then (network_plan file) (λ network. Give (SniffJob network))
-plan_of (Check file) = and_then (network_plan file) (λ network. Give (SizeJob network))
-plan_of (Disasm file) = and_then (image_plan file) (λ flash. Give (DisasmJob flash))
-plan_of (Asm file) = and_then (source_plan file) (λ words. Give (AsmJob words))
-plan_of (Make number) = Give (SampleJob number)
-plan_of (Head file epochs) = and_then (cut_plan file epochs) (λ network. Give (HeadJob network epochs))
-plan_of (Save file epochs) = and_then (cut_plan file epochs) (λ network. Give (SaveJob network epochs))
-plan_of (Resume file state) = and_then (network_plan file) (λ network. and_then (state_plan network state) (λ saved. Give (ResumeJob network saved)))
-plan_of (HeadOn file epochs state) = and_then (cut_on_plan file epochs state) (λ at. Give (HeadOnJob at.0 at.1 epochs))
-plan_of (SaveOn file epochs state) = and_then (cut_on_plan file epochs state) (λ at. Give (SaveOnJob at.0 at.1 epochs))
-plan_of (Sweep file state moves) = and_then (sweep_plan file state moves) (λ it. Give (SweepJob it.0.0 it.0.1 it.1))
-plan_of (MonitorSpan file from to) = and_then (span_plan file from to) (λ network. Give (MonitorJob network))
+-- what each command reads, and what it writes then
+unfoldable pub plan_of : Asked → Plan (List ℕ)
+plan_of (Node file cycles) = and_then (image_plan file) (λ flash. Give (trace_of (lone_node flash cycles)))
+plan_of (Run file) = and_then (network_plan file) (λ network. Give (trace_of network))
+plan_of (RunPlain file) = and_then (network_plan file) (λ network. Give (trace_of network))
+plan_of (Monitor file) = and_then (network_plan file) (λ network. Give (profiles_text network))
+plan_of (Sniff file) = and_then (network_plan file) (λ network. Give (frames_text network))
+plan_of (Check file) = and_then (network_plan file) (λ network. Give (size_line network))
+plan_of (Disasm file) = and_then (image_plan file) (λ flash. Give (listing flash))
+plan_of (Asm file) = and_then (source_plan file) (λ words. Give (hex_of words))
+plan_of (Make number) = Give (sample_line number)
+plan_of (Head file epochs) = and_then (cut_plan file epochs) (λ network. Give (head_text network epochs))
+plan_of (Save file epochs) = and_then (cut_plan file epochs) (λ network. Give (save_text network epochs))
+plan_of (Resume file state) = and_then (network_plan file) (λ network. and_then (state_plan network state) (λ saved. Give (resume_text network saved)))
+plan_of (HeadOn file epochs state) = and_then (cut_on_plan file epochs state) (λ at. Give (head_on_text at.0 at.1 epochs))
+plan_of (SaveOn file epochs state) = and_then (cut_on_plan file epochs state) (λ at. Give (save_on_text at.0 at.1 epochs))
+plan_of (Sweep file state moves) = and_then (sweep_plan file state moves) (λ it. Give (sweep_text it.0.0 it.0.1 it.1))
+plan_of (MonitorSpan file from to) = and_then (span_plan file from to) (λ network. Give (profiles_text network))
 
 -- the plan of what the words ask for
-abbrev pub plan_for : Option Asked → Plan Job
+abbrev pub plan_for : Option Asked → Plan (List ℕ)
 plan_for None = Refuse BadWords
 plan_for (Some asked) = plan_of asked
 
-abbrev pub plan : List (List ℕ) → Plan Job
+abbrev pub plan : List (List ℕ) → Plan (List ℕ)
 plan words = plan_for (asked_by words)

@@ -1,4 +1,4 @@
--- What is written of a sample.
+-- What `make` writes of a sample.
 use Rattle.std.specs.Prelude.{ℕ, List, ◌++◌, codes, decimal}
 use Rattle.world_core.specs.Order.{run_rows}
 use Rattle.node_runner.specs.Scenario.{fleet_of}

@@ -1,4 +1,4 @@
--- A run of a sweep.
+-- A run of a `sweep`.
 use Rattle.std.specs.Prelude.{ℕ, List}
 use Rattle.checkpoint_text.specs.Onward.{onward}
 use Rattle.moves_text.specs.Moves.{MoveOf}

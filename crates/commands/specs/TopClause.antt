@@ -5,7 +5,6 @@ use Rattle.sim_io.specs.Outside.{Rose}
 use Rattle.command_words.specs.Words.{asked_by}
 use Rattle.command_plans.specs.Plan.{BadWords, BadScenario, BadImage, BadSource, BadState, BadMoves}
 use Rattle.command_plans.specs.Reading.{Files, verdict}
-use Rattle.commands.specs.Job.{output}
 use Rattle.commands.specs.Plan.{plan}
 use Rattle.command_plans.specs.Ends.{Reads, Stream, End, Done, OutFailed, NoMemory, ReadFailed, Refused, Ends, EndedSaying, EndedUnsaid, HasStatus}
 use Rattle.command_plans.specs.declared.trouble.ImageCause.{ImageCause}
@@ -20,34 +19,34 @@ use Rattle.command_plans.specs.declared.status.Status.TheVariants as status
 pub record TopClause (files files' : Files) (words : List (List ℕ)) (store store' : Reads) (out out' err err' : Stream) (answer : Status) : Type 0 where
   -- whatever the status: the store holds the files that it held
   pub held : files' ≡ files
-  -- 0: all files were accepted, and the job's whole output is written
-  pub done : answer ≡ status.Done → Ends output files (plan words) store store' out out' Done × (err' ≡ err)
+  -- 0: all files were accepted, and the whole text is written
+  pub done : answer ≡ status.Done → Ends files (plan words) store store' out out' Done × (err' ≡ err)
   -- 1: a write to `out` failed, and `err` has the line that says so; or a write to `err` failed, of the line of some
   -- end
   pub sink_failed : answer ≡ status.SinkFailed
-      → EndedSaying output files (plan words) store store' out out' err err' OutFailed
-      ⊎ ((end : End) × EndedUnsaid output files (plan words) store store' out out' err err' end)
+      → EndedSaying files (plan words) store store' out out' err err' OutFailed
+      ⊎ ((end : End) × EndedUnsaid files (plan words) store store' out out' err err' end)
   -- 2: the words are not accepted
   pub bad_words : answer ≡ status.BadWords
-      → (asked_by words ≡ None) × EndedSaying output files (plan words) store store' out out' err err' (Refused BadWords)
+      → (asked_by words ≡ None) × EndedSaying files (plan words) store store' out out' err err' (Refused BadWords)
   -- 3: a read of the next file failed
   pub read_failed : answer ≡ status.ReadFailed
-      → (name : List ℕ) × EndedSaying output files (plan words) store store' out out' err err' (ReadFailed name)
+      → (name : List ℕ) × EndedSaying files (plan words) store store' out out' err err' (ReadFailed name)
   -- 4: the scenario is refused
   pub bad_scenario : answer ≡ status.BadScenario
-      → (name : List ℕ) × ((why : ScenarioCause) × EndedSaying output files (plan words) store store' out out' err err' (Refused (BadScenario name why)))
+      → (name : List ℕ) × ((why : ScenarioCause) × EndedSaying files (plan words) store store' out out' err err' (Refused (BadScenario name why)))
   -- 5: the next image is refused
   pub bad_image : answer ≡ status.BadImage
-      → (name : List ℕ) × ((why : ImageCause) × EndedSaying output files (plan words) store store' out out' err err' (Refused (BadImage name why)))
+      → (name : List ℕ) × ((why : ImageCause) × EndedSaying files (plan words) store store' out out' err err' (Refused (BadImage name why)))
   -- 6: want of memory
-  pub no_memory : answer ≡ status.NoMemory → EndedSaying output files (plan words) store store' out out' err err' NoMemory
+  pub no_memory : answer ≡ status.NoMemory → EndedSaying files (plan words) store store' out out' err err' NoMemory
   -- 7: the source is refused
   pub bad_source : answer ≡ status.BadSource
-      → (name : List ℕ) × ((why : SourceCause) × EndedSaying output files (plan words) store store' out out' err err' (Refused (BadSource name why)))
+      → (name : List ℕ) × ((why : SourceCause) × EndedSaying files (plan words) store store' out out' err err' (Refused (BadSource name why)))
   -- 8: the saved state is refused, or cannot be had; or the moves of a sweep are refused
   pub bad_state : answer ≡ status.BadState
-      → ((name : List ℕ) × ((why : StateCause) × EndedSaying output files (plan words) store store' out out' err err' (Refused (BadState name why))))
-      ⊎ ((name : List ℕ) × ((why : MovesCause) × EndedSaying output files (plan words) store store' out out' err err' (Refused (BadMoves name why))))
+      → ((name : List ℕ) × ((why : StateCause) × EndedSaying files (plan words) store store' out out' err err' (Refused (BadState name why))))
+      ⊎ ((name : List ℕ) × ((why : MovesCause) × EndedSaying files (plan words) store store' out out' err err' (Refused (BadMoves name why))))
   -- words that are not accepted give 2, or 1 where `err` failed
   pub words_first : asked_by words ≡ None → (answer ≡ status.BadWords) ⊎ ((answer ≡ status.SinkFailed) × Rose err.faults err'.faults)
   -- where no read failed, the verdict decides, but for want of memory and failed writes

@@ -1,4 +1,5 @@
-// Saved states: one is read from its text, written as text, and gone on from.
+// Saved states: one is read from its text, written as text (`save`), and gone on from (`resume`, and `head` and `save`
+// from a state).
 ghost use Rattle.std.specs.Prelude.{◌≡◌, ◌<◌, ◌+◌, ◌*◌, false, IfOk, OnOk};
 ghost use Rattle.checkpoint_text.specs.Onward.{CanResume, onward};
 ghost use Rattle.checkpoint_text.specs.State.{saved_at, saved_from};

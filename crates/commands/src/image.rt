@@ -1,4 +1,4 @@
-// The image of a program.
+// `asm`: the image of a program.
 ghost use Rattle.std.specs.Prelude.{◌≤◌, length};
 ghost use Rattle.ihex_loader.specs.Hex.{hex_of};
 ghost use Rattle.command_plans.specs.Ends.{stream};

@@ -1,8 +1,7 @@
 // What is left to do once all files of a call are read.
 ghost use Rattle.command_plans.specs.Ends.{stream};
 ghost use Rattle.command_plans.specs.Parts.{Written};
-ghost use Rattle.commands.specs.Job.{output};
-ghost use Rattle.commands.specs.Parts.{IsShort, job_at};
+ghost use Rattle.commands.specs.Parts.{IsShort, output};
 
 use crate::checkpoints::{write_head_on, write_onward, write_saved, write_saved_on};
 use crate::frames::write_frames;
@@ -22,24 +21,25 @@ use sim_io::Sink;
 use state_text::StateParts;
 use std::alloc::Global;
 
-/// What a call is to do once all its files are read and accepted.
+/// What a call is to do once all its files are read and accepted: each is called after its command, but for those that
+/// write the whole trace of a network, `run` (`Trace`) and `run --plain` and `node` (`PlainTrace`).
 pub enum Job {
     /// To write the trace of this network.
     Trace(Scenario),
     /// To write the trace of this network, run on one thread.
     PlainTrace(Scenario),
     /// To write the profile of each node of this network.
-    Profiles(Scenario),
+    Monitor(Scenario),
     /// To write the frames that the nodes of this network send.
-    Frames(Scenario),
+    Sniff(Scenario),
     /// To write how large this network is.
-    Size(Scenario),
+    Check(Scenario),
     /// To write the listing of this image.
-    Listing(Flash),
+    Disasm(Flash),
     /// To write the program of these words as an image.
-    Program(Vec<u16>),
+    Asm(Vec<u16>),
     /// To write what comes out of the sample of this number.
-    Sample(u16),
+    Make(u16),
     /// To write the trace of the first epochs of this network, so many.
     Head(Scenario, u64),
     /// To write the state in which this network is after so many epochs.
@@ -55,20 +55,20 @@ pub enum Job {
 }
 
 /// Does a job on one thread.
-#[tactic(auto, unfolding(crate::specs::Job::output))]
+#[tactic(auto, unfolding(crate::specs::Parts::output))]
 pub fn do_job<'n, O: Sink>(alloc: Global, job: Job, out: &mut O) -> Result<(), Trouble<'n>>
     requires { IsShort job }
-    ensures { Written (output (job_at job)) (stream (O.taken out.old) (O.faults out.old)) (stream (O.taken out.new) (O.faults out.new)) result }
+    ensures { Written (output job) (stream (O.taken out.old) (O.faults out.old)) (stream (O.taken out.new) (O.faults out.new)) result }
 {
     match job {
         Job::Trace(network) => write_trace(alloc, &network, out),
         Job::PlainTrace(network) => write_trace(alloc, &network, out),
-        Job::Profiles(network) => write_profiles(alloc, &network, out),
-        Job::Frames(network) => write_frames(alloc, &network, out),
-        Job::Size(network) => write_size(&network, out),
-        Job::Listing(flash) => write_listing(&flash, out),
-        Job::Program(words) => write_program(alloc, words.as_slice(), out),
-        Job::Sample(number) => write_sample(alloc, number, out),
+        Job::Monitor(network) => write_profiles(alloc, &network, out),
+        Job::Sniff(network) => write_frames(alloc, &network, out),
+        Job::Check(network) => write_size(&network, out),
+        Job::Disasm(flash) => write_listing(&flash, out),
+        Job::Asm(words) => write_program(alloc, words.as_slice(), out),
+        Job::Make(number) => write_sample(alloc, number, out),
         Job::Head(network, epochs) => write_head(alloc, &network, epochs, out),
         Job::Save(network, epochs) => write_saved(alloc, &network, epochs, out),
         Job::Resume(network, saved) => write_onward(&network, saved, out),

@@ -1,4 +1,4 @@
-// The listing of an image.
+// `disasm`: the listing of an image.
 ghost use Rattle.std.specs.Prelude.{◌≡◌, ◌≤◌, ◌<◌, ◌+◌, ◌++◌, if◌then◌else◌};
 ghost use Rattle.arrayvec.specs.ArrayString.{array_string_len};
 ghost use Rattle.avr_decoder.specs.Words.{is_two_words};

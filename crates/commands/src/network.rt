@@ -1,4 +1,4 @@
-// The network of one node, and how large a network is.
+// `node`: the network of one node; `check`: how large a network is.
 ghost use Rattle.std.specs.Prelude.{◌≡◌, ◌≤◌, IfOk};
 ghost use Rattle.commands.specs.Network.{lone_node, size_line};
 ghost use Rattle.command_plans.specs.Ends.{stream};

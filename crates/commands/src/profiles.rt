@@ -1,4 +1,4 @@
-// The profiles of a network.
+// `monitor`: the profiles of a network.
 ghost use Rattle.std.specs.Prelude.{◌≡◌, ◌≤◌, [], false, IfOk, OnOk};
 ghost use Rattle.command_plans.specs.Ends.{stream};
 ghost use Rattle.command_plans.specs.Parts.{Written};

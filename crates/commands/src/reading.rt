@@ -134,9 +134,9 @@ fn read_job<'w, S: Store, E: Sink>(
     match command {
         Command::Run { file } => Ok(Job::Trace(read_network(alloc, file, store, err)?)),
         Command::RunPlain { file } => Ok(Job::PlainTrace(read_network(alloc, file, store, err)?)),
-        Command::Monitor { file } => Ok(Job::Profiles(read_network(alloc, file, store, err)?)),
-        Command::Sniff { file } => Ok(Job::Frames(read_network(alloc, file, store, err)?)),
-        Command::Check { file } => Ok(Job::Size(read_network(alloc, file, store, err)?)),
+        Command::Monitor { file } => Ok(Job::Monitor(read_network(alloc, file, store, err)?)),
+        Command::Sniff { file } => Ok(Job::Sniff(read_network(alloc, file, store, err)?)),
+        Command::Check { file } => Ok(Job::Check(read_network(alloc, file, store, err)?)),
         Command::Node { file, cycles } => match read_image(alloc, file, store) {
             Ok(flash) => match lone_node(alloc, flash, cycles) {
                 Ok(network) => Ok(Job::PlainTrace(network)),
@@ -145,14 +145,14 @@ fn read_job<'w, S: Store, E: Sink>(
             Err(trouble) => Err(tell(err, trouble)),
         },
         Command::Disasm { file } => match read_image(alloc, file, store) {
-            Ok(flash) => Ok(Job::Listing(flash)),
+            Ok(flash) => Ok(Job::Disasm(flash)),
             Err(trouble) => Err(tell(err, trouble)),
         },
         Command::Asm { file } => match read_source(alloc, file, store) {
-            Ok(words) => Ok(Job::Program(words)),
+            Ok(words) => Ok(Job::Asm(words)),
             Err(trouble) => Err(tell(err, trouble)),
         },
-        Command::Make { number } => Ok(Job::Sample(number)),
+        Command::Make { number } => Ok(Job::Make(number)),
         Command::Head { file, epochs } => {
             let network = read_cut(alloc, file, epochs, store, err)?;
             Ok(Job::Head(network, epochs))
@@ -186,7 +186,7 @@ fn read_job<'w, S: Store, E: Sink>(
         }
         Command::MonitorSpan { file, from, to } => {
             let network = read_span(alloc, file, from, to, store, err)?;
-            Ok(Job::Profiles(network))
+            Ok(Job::Monitor(network))
         }
         Command::Sweep { file, state, moves } => {
             let ((network, state), moves) = read_sweep(alloc, file, state, moves, store, err)?;

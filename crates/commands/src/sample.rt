@@ -1,4 +1,4 @@
-// Samples, and what is written of them.
+// `make`: samples, and what is written of them.
 ghost use Rattle.std.specs.Prelude.{◌≡◌};
 ghost use Rattle.world_core.specs.Order.{run_rows};
 ghost use Rattle.node_runner.specs.Scenario.{fleet_of};

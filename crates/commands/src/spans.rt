@@ -1,4 +1,4 @@
-// The network of a scenario with other cycles in place of its window.
+// `monitor FILE FROM TO`: the network of a scenario with other cycles in place of its window.
 ghost use Rattle.std.specs.Prelude.{◌≡◌, ◌≤◌, IfErr, IfOk};
 ghost use Rattle.command_plans.specs.Ends.{reads, stream};
 ghost use Rattle.command_plans.specs.Parts.{Stopped};

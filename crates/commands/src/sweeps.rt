@@ -1,4 +1,4 @@
-// Many runs of one network from one state on, each with another input at a node.
+// `sweep`: many runs of one network from one state on, each with another input at a node.
 ghost use Rattle.std.specs.Prelude.{◌≡◌, ◌<◌, IfErr, IfOk};
 ghost use Rattle.std.specs.List.{flat_map};
 ghost use Rattle.checkpoint_text.specs.Onward.{CanResume, onward};

@@ -1,9 +1,8 @@
-// The jobs in which each node has a thread of its own.
+// The jobs in which each node has a thread of its own: `run` and `make`.
 ghost use Rattle.command_plans.specs.Ends.{stream};
 ghost use Rattle.command_plans.specs.Parts.{Written};
-ghost use Rattle.commands.specs.Job.{output};
 ghost use Rattle.commands.specs.Network.{trace_of};
-ghost use Rattle.commands.specs.Parts.{IsShort, job_at};
+ghost use Rattle.commands.specs.Parts.{IsShort, output};
 ghost use Rattle.commands.specs.Sample.{sample_line};
 
 use crate::job::{Job, do_job};
@@ -64,7 +63,7 @@ fn write_sample<'n, R: Threads + Wait + Sync, O: Sink, G: Gate + Sync>(
 
 /// Does a job: the runs of `run FILE` and `make NUMBER` give each node a thread of its own, and all else is done on
 /// this one.
-#[tactic(auto, unfolding(crate::specs::Job::output))]
+#[tactic(auto, unfolding(crate::specs::Parts::output))]
 pub fn do_on_threads<'n, R: Threads + Wait + Sync, O: Sink, G: Gate + Sync>(
     rt: &R,
     alloc: Global,
@@ -73,11 +72,11 @@ pub fn do_on_threads<'n, R: Threads + Wait + Sync, O: Sink, G: Gate + Sync>(
     gate: &G,
 ) -> Result<(), Trouble<'n>>
     requires { IsShort job }
-    ensures { Written (output (job_at job)) (stream (O.taken out.old) (O.faults out.old)) (stream (O.taken out.new) (O.faults out.new)) result }
+    ensures { Written (output job) (stream (O.taken out.old) (O.faults out.old)) (stream (O.taken out.new) (O.faults out.new)) result }
 {
     match job {
         Job::Trace(network) => write_trace(rt, alloc, &network, out, gate),
-        Job::Sample(number) => write_sample(rt, alloc, number, out, gate),
+        Job::Make(number) => write_sample(rt, alloc, number, out, gate),
         job => do_job(alloc, job, out),
     }
 }

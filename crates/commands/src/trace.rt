@@ -1,4 +1,4 @@
-// The trace of a network, and that of its first epochs, on one thread.
+// `run --plain`, `node`: the trace of a network, on one thread; `head`: that of its first epochs.
 ghost use Rattle.std.specs.Prelude.{◌≡◌, ◌<◌, ◌*◌, false};
 ghost use Rattle.command_plans.specs.Ends.{stream};
 ghost use Rattle.command_plans.specs.Parts.{Written};

@@ -27,8 +27,9 @@ use Rattle.command_words.proofs.Forms.{form_of, in_limits}
 use Rattle.command_plans.specs.Plan.{Plan, Give, Refuse, BadState, and_then}
 use Rattle.command_plans.specs.Reading.{Files, Accepted, Accepts, Says, verdict}
 use Rattle.command_plans.specs.declared.trouble.StateCause.TheVariants as cause
-use Rattle.commands.specs.Job.{Job, TraceJob, HeadJob, SaveJob, ResumeJob, output}
+use Rattle.commands.specs.Network.{trace_of}
 use Rattle.commands.specs.Plan.{cut_or, cut_plan, network_plan, plan, plan_for, plan_of, state_or, state_plan}
+use Rattle.commands.specs.Texts.{head_text, resume_text, save_text}
 use Rattle.pieces_law.specs.Pieces.{AreThePieces, IsInPieces}
 use Rattle.pieces_law.proofs.Networks.{network_accepted}
 use Rattle.pieces_law.proofs.Room.{few_kept, inside}
@@ -36,11 +37,11 @@ use Rattle.pieces_law.proofs.Sizes.{text_short}
 use Rattle.pieces_law.proofs.Verdicts as verdicts
 
 -- ---- what was saved
-record IsCut (files : Files) (file : List ℕ) (epochs : ℕ) (saved : Job) : Type 0 where
+record IsCut (files : Files) (file : List ℕ) (epochs : ℕ) (saved : List ℕ) : Type 0 where
   network : ScenarioOf
   accepted_is : verdict files (network_plan file) ≡ Accepted network
   early : nat_lt (epochs * epoch) network.topo.limit ≡ true
-  is : saved ≡ SaveJob network epochs
+  is : saved ≡ save_text network epochs
 
 given : {A : Type 0} (files : Files) (got last : A) → verdict files (Give got) ≡ Accepted last → last ≡ got
 unfolding verdict
@@ -52,17 +53,17 @@ unfolding verdict
 early_case files file true network last e = (refl, cc)
 early_case files file false network last e = absurd (cc)
 
-cut_of : (files : Files) (file : List ℕ) (epochs : ℕ) (saved : Job) → verdict files (plan_of (Save file epochs)) ≡ Accepted saved → IsCut files file epochs saved
+cut_of : (files : Files) (file : List ℕ) (epochs : ℕ) (saved : List ℕ) → verdict files (plan_of (Save file epochs)) ≡ Accepted saved → IsCut files file epochs saved
 unfolding plan_of
 cut_of files file epochs saved e =
-    let p = verdicts.parts files (cut_plan file epochs) (λ network. Give (SaveJob network epochs)) saved e in
+    let p = verdicts.parts files (cut_plan file epochs) (λ network. Give (save_text network epochs)) saved e in
     let q = verdicts.parts files (network_plan file) (cut_or file (epochs * epoch)) p.got p.first in
     let b = early_case files file (nat_lt (epochs * epoch) q.got.topo.limit) q.got p.got q.after in
     record {
       network = q.got;
       accepted_is = q.first;
       early = b.0;
-      is = given files (SaveJob p.got epochs) saved p.after ∙ ap (λ n. SaveJob n epochs) b.1;
+      is = given files (save_text p.got epochs) saved p.after ∙ ap (λ n. save_text n epochs) b.1;
     }
 
 -- ---- what else is accepted
@@ -78,16 +79,16 @@ cut_again files file epochs network first early =
     verdicts.joined files (network_plan file) (cut_or file (epochs * epoch)) network network first after
 
 head_accepted : (files : Files) (file : List ℕ) (epochs : ℕ) (network : ScenarioOf) → verdict files (network_plan file) ≡ Accepted network → nat_lt (epochs * epoch) network.topo.limit ≡ true
-    → verdict files (plan_of (Head file epochs)) ≡ Accepted (HeadJob network epochs)
+    → verdict files (plan_of (Head file epochs)) ≡ Accepted (head_text network epochs)
 unfolding plan_of
 head_accepted files file epochs network first early =
-    verdicts.joined files (cut_plan file epochs) (λ n. Give (HeadJob n epochs)) network (HeadJob network epochs) (cut_again files file epochs network first early) (gives files (HeadJob network epochs))
+    verdicts.joined files (cut_plan file epochs) (λ n. Give (head_text n epochs)) network (head_text network epochs) (cut_again files file epochs network first early) (gives files (head_text network epochs))
 
 run_accepted : (files : Files) (file : List ℕ) (network : ScenarioOf) → verdict files (network_plan file) ≡ Accepted network
-    → verdict files (plan_of (Run file)) ≡ Accepted (TraceJob network)
+    → verdict files (plan_of (Run file)) ≡ Accepted (trace_of network)
 unfolding plan_of
 run_accepted files file network first =
-    verdicts.joined files (network_plan file) (λ n. Give (TraceJob n)) network (TraceJob network) first (gives files (TraceJob network))
+    verdicts.joined files (network_plan file) (λ n. Give (trace_of n)) network (trace_of network) first (gives files (trace_of network))
 
 state_accepted : (files : Files) (name text : List ℕ) (network : ScenarioOf) (state : StateOf) → files name ≡ Some text → length text ≤ 4194304 → state_in network text ≡ Ok state
     → verdict files (state_plan network name) ≡ Accepted state
@@ -97,12 +98,12 @@ state_accepted files name text network state there le says =
 
 resume_accepted : (files : Files) (file name text : List ℕ) (network : ScenarioOf) (state : StateOf) → verdict files (network_plan file) ≡ Accepted network
     → files name ≡ Some text → length text ≤ 4194304 → state_in network text ≡ Ok state
-    → verdict files (plan_of (Resume file name)) ≡ Accepted (ResumeJob network state)
+    → verdict files (plan_of (Resume file name)) ≡ Accepted (resume_text network state)
 unfolding plan_of
 resume_accepted files file name text network state first there le says =
-    verdicts.joined files (network_plan file) (λ n. and_then (state_plan n name) (λ saved. Give (ResumeJob n saved))) network (ResumeJob network state) first
-    (verdicts.joined files (state_plan network name) (λ saved. Give (ResumeJob network saved)) state (ResumeJob network state)
-    (state_accepted files name text network state there le says) (gives files (ResumeJob network state)))
+    verdicts.joined files (network_plan file) (λ n. and_then (state_plan n name) (λ saved. Give (resume_text n saved))) network (resume_text network state) first
+    (verdicts.joined files (state_plan network name) (λ saved. Give (resume_text network saved)) state (resume_text network state)
+    (state_accepted files name text network state there le says) (gives files (resume_text network state)))
 
 -- ---- the state is one that can be read
 whole_epochs : (epochs limit : ℕ) → 1 ≤ epochs → nat_lt (epochs * epoch) limit ≡ true → ((epochs * epoch) % epoch == 0 && (nat_le epoch (epochs * epoch) && nat_lt (epochs * epoch) limit)) ≡ true
@@ -147,15 +148,10 @@ module _ (network : ScenarioOf) (is : IsAccepted network) (epochs : ℕ) (some :
   unfolding rows_text
   both_texts xs ys = flat_map-append row_line xs ys
 
-  pub pieces_are : output (HeadJob network epochs) ++ output (ResumeJob network state) ≡ output (TraceJob network)
-  unfolding output
+  pub pieces_are : head_text network epochs ++ resume_text network state ≡ trace_of network
   pieces_are =
       let rows = goes_on network cycle ok (images_are network is) (let low = lower in omega (arith, low)) in
       sym (both_texts (world_at (fleet_of network) cycle).rows (run_rows (onward network state))) ∙ ap rows_text (sym rows)
-
-output_saved : (network : ScenarioOf) (epochs : ℕ) (saved : Job) → saved ≡ SaveJob network epochs → output saved ≡ state_text (saved_at network (epochs * epoch))
-unfolding output
-output_saved network epochs saved e = ap output e
 
 pub pieces : (files later : Files) (head save resume run : List (List ℕ)) (calls : IsInPieces files later head save resume run) → AreThePieces files later head save resume run calls.saved
 pieces files later head save resume run calls =
@@ -165,12 +161,12 @@ pieces files later head save resume run calls =
     let network = c.network in
     let is = network_accepted files calls.file network c.accepted_is in
     let state = saved_at network (calls.epochs * epoch) in
-    let text : output calls.saved ≡ state_text state = output_saved network calls.epochs calls.saved c.is in
+    let text : calls.saved ≡ state_text state = c.is in
     let long = not_long network is calls.epochs some c.early in
     record {
-      first = HeadJob network calls.epochs;
-      rest = ResumeJob network state;
-      whole = TraceJob network;
+      first = head_text network calls.epochs;
+      rest = resume_text network state;
+      whole = trace_of network;
       head_is = ap (λ o. verdict files (plan_for o)) calls.head_asks ∙ head_accepted files calls.file calls.epochs network c.accepted_is c.early;
       resume_is = ap (λ o. verdict later (plan_for o)) calls.resume_asks
           ∙ resume_accepted later calls.file calls.state (state_text state) network state (calls.kept ∙ c.accepted_is) (calls.written ∙ ap Some text) long (read_again network is calls.epochs some c.early);
@@ -180,15 +176,15 @@ pieces files later head save resume run calls =
     }
 
 -- ---- whatever the calls are accepted with
-same_job : {A : Type 0} (files : Files) (p : Plan A) (is got : A) → verdict files p ≡ Accepted is → Accepts files p got → is ≡ got
-same_job files p is got e a = let same : Accepted is ≡ Accepted got = subst (λ v. Says v (Accepted got)) e a.verdict_is in cc
+same_text : {A : Type 0} (files : Files) (p : Plan A) (is got : A) → verdict files p ≡ Accepted is → Accepts files p got → is ≡ got
+same_text files p is got e a = let same : Accepted is ≡ Accepted got = subst (λ v. Says v (Accepted got)) e a.verdict_is in cc
 
-pub joined : (files later : Files) (head save resume run : List (List ℕ)) (first rest whole : Job) → IsInPieces files later head save resume run
+pub joined : (files later : Files) (head save resume run : List (List ℕ)) (first rest whole : List ℕ) → IsInPieces files later head save resume run
     → Accepts files (plan head) first → Accepts later (plan resume) rest → Accepts files (plan run) whole
-    → output first ++ output rest ≡ output whole
+    → first ++ rest ≡ whole
 joined files later head save resume run first rest whole calls a b c =
     let p = pieces files later head save resume run calls in
-    let x = same_job files (plan head) p.first first p.head_is a in
-    let y = same_job later (plan resume) p.rest rest p.resume_is b in
-    let z = same_job files (plan run) p.whole whole p.run_is c in
-    (λ i. output (sym x i) ++ output (sym y i)) ∙ p.joined ∙ ap output z
+    let x = same_text files (plan head) p.first first p.head_is a in
+    let y = same_text later (plan resume) p.rest rest p.resume_is b in
+    let z = same_text files (plan run) p.whole whole p.run_is c in
+    (λ i. sym x i ++ sym y i) ∙ p.joined ∙ z

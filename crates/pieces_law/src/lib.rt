@@ -5,7 +5,6 @@
 ghost use Rattle.std.specs.Prelude.{◌≡◌, ◌++◌, ℕ, List, Some};
 ghost use Rattle.command_words.specs.Words.{Node, asked_by};
 ghost use Rattle.command_plans.specs.Reading.{Accepted, Accepts, Files, verdict};
-ghost use Rattle.commands.specs.Job.{Job, output};
 ghost use Rattle.commands.specs.Network.{lone_node};
 ghost use Rattle.commands.specs.Plan.{network_plan, plan};
 ghost use Rattle.ihex_loader.specs.Flash.{Image};
@@ -30,7 +29,7 @@ pub fn pieces_law()
     ensures pieces { (files later : Files) (head save resume run : List (List ℕ)) (calls : IsInPieces files later head save resume run)
         → AreThePieces files later head save resume run calls.saved }
     // whatever these calls are accepted with
-    ensures joined { (files later : Files) (head save resume run : List (List ℕ)) (first rest whole : Job) → IsInPieces files later head save resume run
+    ensures joined { (files later : Files) (head save resume run : List (List ℕ)) (first rest whole : List ℕ) → IsInPieces files later head save resume run
         → Accepts files (plan head) first → Accepts later (plan resume) rest → Accepts files (plan run) whole
-        → output first ++ output rest ≡ output whole }
+        → first ++ rest ≡ whole }
 {}

@@ -1,194 +1,200 @@
-use Rattle.std.proofs.Common.{refl, sym, ap}
+use Rattle.std.proofs.Common.{ℕ, List, refl, sym, ap}
 use Rattle.std.proofs.lemmas.Result.{err_from_is_err_and}
 use Rattle.node_runner.specs.Scenario.{ScenarioOf}
+use Rattle.ihex_loader.specs.Hex.{hex_of}
+use Rattle.run_reports.specs.Frames.{frames_text}
+use Rattle.run_reports.specs.Profiles.{profiles_text}
 use Rattle.command_plans.specs.Plan.{Give, image_plan, source_plan}
 use Rattle.command_plans.specs.Parts.{end_at}
 use Rattle.command_plans.specs.Reading.{Here}
 use Rattle.command_plans.proofs.Steps.{stopped_behind}
-use Rattle.commands.specs.Job.{Job, TraceJob, MonitorJob, SniffJob, SizeJob, DisasmJob, AsmJob, SampleJob, HeadJob, SaveJob, HeadOnJob, SaveOnJob, SweepJob}
-use Rattle.commands.specs.Network.{lone_node}
+use Rattle.commands.specs.Listing.{listing}
+use Rattle.commands.specs.Network.{lone_node, size_line, trace_of}
+use Rattle.commands.specs.Parts.{output}
 use Rattle.commands.specs.Plan.{cut_on_plan, cut_plan, network_plan, plan_of, span_plan, sweep_plan}
+use Rattle.commands.specs.Sample.{sample_line}
+use Rattle.commands.specs.Texts.{head_on_text, head_text, save_on_text, save_text, sweep_text}
 use Rattle.commands.proofs.Networks.{network_ready, ready}
 use Rattle.commands.proofs.States.{resume_ready, resume_stopped}
 use Rattle.commands.proofs.reading.read_job.Goals as goal
 
 pub returns-in_ok-read_network-in-Run-clause-read : goal.returns-in_ok-read_network-in-Run-clause-read
-unfolding plan_of
-returns-in_ok-read_network-in-Run-clause-read g c = rw c.in-Run.is (network_ready _ (network_plan c.in-Run.file.now) TraceJob _ _ _ _ _ _ c.in_ok-read_network-in-Run.ensures.ok refl tt)
+unfolding plan_of output
+returns-in_ok-read_network-in-Run-clause-read g c = rw c.in-Run.is (network_ready _ (network_plan c.in-Run.file.now) trace_of _ _ _ _ _ _ c.in_ok-read_network-in-Run.ensures.ok refl tt)
 
 pub returns-in_err-read_network-in-Run-clause-read : goal.returns-in_err-read_network-in-Run-clause-read
-unfolding plan_of
+unfolding plan_of output
 returns-in_err-read_network-in-Run-clause-read g c =
     let p = err_from_is_err_and c.from_residual.result c.from_residual.ensures.1 in
     rw (p.1, p.2, c.in-Run.is) (stopped_behind _ (network_plan c.in-Run.file.now) _ _ _ _ _ _ c.in_err-read_network-in-Run.ensures.err)
 
 pub returns-in_ok-read_network-in-RunPlain-clause-read : goal.returns-in_ok-read_network-in-RunPlain-clause-read
-unfolding plan_of
-returns-in_ok-read_network-in-RunPlain-clause-read g c = rw c.in-RunPlain.is (network_ready _ (network_plan c.in-RunPlain.file.now) TraceJob _ _ _ _ _ _ c.in_ok-read_network-in-RunPlain.ensures.ok refl tt)
+unfolding plan_of output
+returns-in_ok-read_network-in-RunPlain-clause-read g c = rw c.in-RunPlain.is (network_ready _ (network_plan c.in-RunPlain.file.now) trace_of _ _ _ _ _ _ c.in_ok-read_network-in-RunPlain.ensures.ok refl tt)
 
 pub returns-in_err-read_network-in-RunPlain-clause-read : goal.returns-in_err-read_network-in-RunPlain-clause-read
-unfolding plan_of
+unfolding plan_of output
 returns-in_err-read_network-in-RunPlain-clause-read g c =
     let p = err_from_is_err_and c.from_residual-in_err-read_network-in-RunPlain.result c.from_residual-in_err-read_network-in-RunPlain.ensures.1 in
     rw (p.1, p.2, c.in-RunPlain.is) (stopped_behind _ (network_plan c.in-RunPlain.file.now) _ _ _ _ _ _ c.in_err-read_network-in-RunPlain.ensures.err)
 
 pub returns-in_ok-read_network-in-Monitor-clause-read : goal.returns-in_ok-read_network-in-Monitor-clause-read
-unfolding plan_of
-returns-in_ok-read_network-in-Monitor-clause-read g c = rw c.in-Monitor.is (network_ready _ (network_plan c.in-Monitor.file.now) MonitorJob _ _ _ _ _ _ c.in_ok-read_network-in-Monitor.ensures.ok refl c.in_ok-read_network-in-Monitor.ensures.ok.within)
+unfolding plan_of output
+returns-in_ok-read_network-in-Monitor-clause-read g c = rw c.in-Monitor.is (network_ready _ (network_plan c.in-Monitor.file.now) profiles_text _ _ _ _ _ _ c.in_ok-read_network-in-Monitor.ensures.ok refl c.in_ok-read_network-in-Monitor.ensures.ok.within)
 
 pub returns-in_err-read_network-in-Monitor-clause-read : goal.returns-in_err-read_network-in-Monitor-clause-read
-unfolding plan_of
+unfolding plan_of output
 returns-in_err-read_network-in-Monitor-clause-read g c =
     let p = err_from_is_err_and c.from_residual-in_err-read_network-in-Monitor.result c.from_residual-in_err-read_network-in-Monitor.ensures.1 in
     rw (p.1, p.2, c.in-Monitor.is) (stopped_behind _ (network_plan c.in-Monitor.file.now) _ _ _ _ _ _ c.in_err-read_network-in-Monitor.ensures.err)
 
 pub returns-in_ok-read_network-in-Sniff-clause-read : goal.returns-in_ok-read_network-in-Sniff-clause-read
-unfolding plan_of
-returns-in_ok-read_network-in-Sniff-clause-read g c = rw c.in-Sniff.is (network_ready _ (network_plan c.in-Sniff.file.now) SniffJob _ _ _ _ _ _ c.in_ok-read_network-in-Sniff.ensures.ok refl tt)
+unfolding plan_of output
+returns-in_ok-read_network-in-Sniff-clause-read g c = rw c.in-Sniff.is (network_ready _ (network_plan c.in-Sniff.file.now) frames_text _ _ _ _ _ _ c.in_ok-read_network-in-Sniff.ensures.ok refl tt)
 
 pub returns-in_err-read_network-in-Sniff-clause-read : goal.returns-in_err-read_network-in-Sniff-clause-read
-unfolding plan_of
+unfolding plan_of output
 returns-in_err-read_network-in-Sniff-clause-read g c =
     let p = err_from_is_err_and c.from_residual-in_err-read_network-in-Sniff.result c.from_residual-in_err-read_network-in-Sniff.ensures.1 in
     rw (p.1, p.2, c.in-Sniff.is) (stopped_behind _ (network_plan c.in-Sniff.file.now) _ _ _ _ _ _ c.in_err-read_network-in-Sniff.ensures.err)
 
 pub returns-in_ok-read_network-in-Check-clause-read : goal.returns-in_ok-read_network-in-Check-clause-read
-unfolding plan_of
-returns-in_ok-read_network-in-Check-clause-read g c = rw c.in-Check.is (network_ready _ (network_plan c.in-Check.file.now) SizeJob _ _ _ _ _ _ c.in_ok-read_network-in-Check.ensures.ok refl tt)
+unfolding plan_of output
+returns-in_ok-read_network-in-Check-clause-read g c = rw c.in-Check.is (network_ready _ (network_plan c.in-Check.file.now) size_line _ _ _ _ _ _ c.in_ok-read_network-in-Check.ensures.ok refl tt)
 
 pub returns-in_err-read_network-in-Check-clause-read : goal.returns-in_err-read_network-in-Check-clause-read
-unfolding plan_of
+unfolding plan_of output
 returns-in_err-read_network-in-Check-clause-read g c =
     let p = err_from_is_err_and c.from_residual-in_err-read_network-in-Check.result c.from_residual-in_err-read_network-in-Check.ensures.1 in
     rw (p.1, p.2, c.in-Check.is) (stopped_behind _ (network_plan c.in-Check.file.now) _ _ _ _ _ _ c.in_err-read_network-in-Check.ensures.err)
 
 pub returns-in-Ok-lone_node-clause-read : goal.returns-in-Ok-lone_node-clause-read
-unfolding plan_of
+unfolding plan_of output
 returns-in-Ok-lone_node-clause-read g c =
     let read = c.in-Ok.ensures.read in
-    let work : ScenarioOf → Job = TraceJob in
+    let work : ScenarioOf → List ℕ = trace_of in
     rw c.in-Node.is
-    (ready _ (image_plan c.in-Node.file.now) (λ flash. TraceJob (lone_node flash c.in-Node.cycles)) _ _ _ _ _ _ read.1 (ap work (sym c.in-Ok-lone_node.ensures)) read.0 refl tt)
+    (ready _ (image_plan c.in-Node.file.now) (λ flash. trace_of (lone_node flash c.in-Node.cycles)) _ _ _ _ _ _ read.1 (ap work (sym c.in-Ok-lone_node.ensures)) read.0 refl tt)
 
 pub returns-in-Err-clause-read : goal.returns-in-Err-clause-read
-unfolding plan_of
+unfolding plan_of output
 returns-in-Err-clause-read g c =
     rw c.in-Node.is
     (stopped_behind _ (image_plan c.in-Node.file.now) _ _ _ _ _ _
     (record { end = end_at c.in-Err.trouble; stops = c.in-Err.ensures.read; told = c.tell-in-Err.ensures }))
 
 pub returns-in-Ok-read_image-clause-read : goal.returns-in-Ok-read_image-clause-read
-unfolding plan_of
+unfolding plan_of output
 returns-in-Ok-read_image-clause-read g c =
     let read = c.in-Ok-read_image.ensures.read in
-    rw c.in-Disasm.is (ready _ (image_plan c.in-Disasm.file.now) DisasmJob _ _ _ _ _ _ read.1 refl read.0 refl tt)
+    rw c.in-Disasm.is (ready _ (image_plan c.in-Disasm.file.now) listing _ _ _ _ _ _ read.1 refl read.0 refl tt)
 
 pub returns-in-Err-read_image-clause-read : goal.returns-in-Err-read_image-clause-read
-unfolding plan_of
+unfolding plan_of output
 returns-in-Err-read_image-clause-read g c =
     rw c.in-Disasm.is
     (stopped_behind _ (image_plan c.in-Disasm.file.now) _ _ _ _ _ _
     (record { end = end_at c.in-Err-read_image.trouble; stops = c.in-Err-read_image.ensures.read; told = c.tell-in-Err-read_image.ensures }))
 
 pub returns-in-Ok-read_source-clause-read : goal.returns-in-Ok-read_source-clause-read
-unfolding plan_of
+unfolding plan_of output
 returns-in-Ok-read_source-clause-read g c =
     let read = c.in-Ok-read_source.ensures.read in
-    rw c.in-Asm.is (ready _ (source_plan c.in-Asm.file.now) AsmJob _ _ _ _ _ _ read.1 refl read.0 refl c.in-Ok-read_source.ensures.few)
+    rw c.in-Asm.is (ready _ (source_plan c.in-Asm.file.now) hex_of _ _ _ _ _ _ read.1 refl read.0 refl c.in-Ok-read_source.ensures.few)
 
 pub returns-in-Err-read_source-clause-read : goal.returns-in-Err-read_source-clause-read
-unfolding plan_of
+unfolding plan_of output
 returns-in-Err-read_source-clause-read g c =
     rw c.in-Asm.is
     (stopped_behind _ (source_plan c.in-Asm.file.now) _ _ _ _ _ _
     (record { end = end_at c.in-Err-read_source.trouble; stops = c.in-Err-read_source.ensures.read; told = c.tell-in-Err-read_source.ensures }))
 
 pub returns-in-Make-clause-read : goal.returns-in-Make-clause-read
-unfolding plan_of
-returns-in-Make-clause-read g c = rw c.in-Make.is (record { reached = Here (Give (SampleJob c.in-Make.number)); same = refl; silent = refl; short = tt })
+unfolding plan_of output
+returns-in-Make-clause-read g c = rw c.in-Make.is (record { reached = Here (Give (sample_line c.in-Make.number)); same = refl; silent = refl; short = tt })
 
 pub returns-in_ok-network-in-Head-clause-read : goal.returns-in_ok-network-in-Head-clause-read
-unfolding plan_of
-returns-in_ok-network-in-Head-clause-read g c = rw c.in-Head.is (network_ready _ (cut_plan c.in-Head.file.now c.in-Head.epochs) (λ network. HeadJob network c.in-Head.epochs) _ _ _ _ _ _ c.in_ok-network-in-Head.ensures.ok refl c.in_ok-network-in-Head.ensures.within)
+unfolding plan_of output
+returns-in_ok-network-in-Head-clause-read g c = rw c.in-Head.is (network_ready _ (cut_plan c.in-Head.file.now c.in-Head.epochs) (λ network. head_text network c.in-Head.epochs) _ _ _ _ _ _ c.in_ok-network-in-Head.ensures.ok refl c.in_ok-network-in-Head.ensures.within)
 
 pub returns-in_err-network-in-Head-clause-read : goal.returns-in_err-network-in-Head-clause-read
-unfolding plan_of
+unfolding plan_of output
 returns-in_err-network-in-Head-clause-read g c =
     let p = err_from_is_err_and c.from_residual-in_err-network-in-Head.result c.from_residual-in_err-network-in-Head.ensures.1 in
     rw (p.1, p.2, c.in-Head.is) (stopped_behind _ (cut_plan c.in-Head.file.now c.in-Head.epochs) _ _ _ _ _ _ c.in_err-network-in-Head.ensures.err)
 
 pub returns-in_ok-network-in-Save-clause-read : goal.returns-in_ok-network-in-Save-clause-read
-unfolding plan_of
-returns-in_ok-network-in-Save-clause-read g c = rw c.in-Save.is (network_ready _ (cut_plan c.in-Save.file.now c.in-Save.epochs) (λ network. SaveJob network c.in-Save.epochs) _ _ _ _ _ _ c.in_ok-network-in-Save.ensures.ok refl c.in_ok-network-in-Save.ensures.within)
+unfolding plan_of output
+returns-in_ok-network-in-Save-clause-read g c = rw c.in-Save.is (network_ready _ (cut_plan c.in-Save.file.now c.in-Save.epochs) (λ network. save_text network c.in-Save.epochs) _ _ _ _ _ _ c.in_ok-network-in-Save.ensures.ok refl c.in_ok-network-in-Save.ensures.within)
 
 pub returns-in_err-network-in-Save-clause-read : goal.returns-in_err-network-in-Save-clause-read
-unfolding plan_of
+unfolding plan_of output
 returns-in_err-network-in-Save-clause-read g c =
     let p = err_from_is_err_and c.from_residual-in_err-network-in-Save.result c.from_residual-in_err-network-in-Save.ensures.1 in
     rw (p.1, p.2, c.in-Save.is) (stopped_behind _ (cut_plan c.in-Save.file.now c.in-Save.epochs) _ _ _ _ _ _ c.in_err-network-in-Save.ensures.err)
 
 pub returns-in_err-network-in-Resume-clause-read : goal.returns-in_err-network-in-Resume-clause-read
-unfolding plan_of
+unfolding plan_of output
 returns-in_err-network-in-Resume-clause-read g c =
     let p = err_from_is_err_and c.from_residual-in_err-network-in-Resume.result c.from_residual-in_err-network-in-Resume.ensures.1 in
     rw (p.1, p.2, c.in-Resume.is) (stopped_behind _ (network_plan c.in-Resume.file.now) _ _ _ _ _ _ c.in_err-network-in-Resume.ensures.err)
 
 pub returns-in-Ok-read_saved-clause-read : goal.returns-in-Ok-read_saved-clause-read
-unfolding plan_of
+unfolding plan_of output
 returns-in-Ok-read_saved-clause-read g c =
     rw c.in-Resume.is
     (resume_ready _ _ c.in-Resume.file.now c.in-Resume.state.now c.in_ok-network-in-Resume.network _ _ _ _ _ c.in_ok-network-in-Resume.ensures.ok c.in_ok-network-in-Resume.ensures.held
     c.in-Ok-read_saved.saved c.in-Ok-read_saved.ensures.read c.in-Ok-read_saved.ensures.fresh)
 
 pub returns-in-Err-read_saved-clause-read : goal.returns-in-Err-read_saved-clause-read
-unfolding plan_of
+unfolding plan_of output
 returns-in-Err-read_saved-clause-read g c =
     rw c.in-Resume.is
     (resume_stopped _ _ c.in-Resume.file.now c.in-Resume.state.now c.in_ok-network-in-Resume.network _ _ _ _ _ c.in_ok-network-in-Resume.ensures.ok c.in_ok-network-in-Resume.ensures.held
     (end_at c.in-Err-read_saved.trouble) _ _ c.in-Err-read_saved.ensures.read c.tell-in-Err-read_saved.ensures)
 
 pub returns-in_ok-network-in-HeadOn-clause-read : goal.returns-in_ok-network-in-HeadOn-clause-read
-unfolding plan_of
+unfolding plan_of output
 returns-in_ok-network-in-HeadOn-clause-read g c =
     let read = c.in_ok-network-in-HeadOn.ensures.ok in
-    rw c.in-HeadOn.is (ready _ (cut_on_plan c.in-HeadOn.file.now c.in-HeadOn.epochs c.in-HeadOn.state.now) (λ at. HeadOnJob at.0 at.1 c.in-HeadOn.epochs) _ _ _ _ _ _ read.reached refl read.same read.silent read.cut)
+    rw c.in-HeadOn.is (ready _ (cut_on_plan c.in-HeadOn.file.now c.in-HeadOn.epochs c.in-HeadOn.state.now) (λ at. head_on_text at.0 at.1 c.in-HeadOn.epochs) _ _ _ _ _ _ read.reached refl read.same read.silent read.cut)
 
 pub returns-in_err-network-in-HeadOn-clause-read : goal.returns-in_err-network-in-HeadOn-clause-read
-unfolding plan_of
+unfolding plan_of output
 returns-in_err-network-in-HeadOn-clause-read g c =
     let p = err_from_is_err_and c.from_residual-in_err-network-in-HeadOn.result c.from_residual-in_err-network-in-HeadOn.ensures.1 in
     rw (p.1, p.2, c.in-HeadOn.is) (stopped_behind _ (cut_on_plan c.in-HeadOn.file.now c.in-HeadOn.epochs c.in-HeadOn.state.now) _ _ _ _ _ _ c.in_err-network-in-HeadOn.ensures.err)
 
 pub returns-in_ok-network-in-SaveOn-clause-read : goal.returns-in_ok-network-in-SaveOn-clause-read
-unfolding plan_of
+unfolding plan_of output
 returns-in_ok-network-in-SaveOn-clause-read g c =
     let read = c.in_ok-network-in-SaveOn.ensures.ok in
-    rw c.in-SaveOn.is (ready _ (cut_on_plan c.in-SaveOn.file.now c.in-SaveOn.epochs c.in-SaveOn.state.now) (λ at. SaveOnJob at.0 at.1 c.in-SaveOn.epochs) _ _ _ _ _ _ read.reached refl read.same read.silent read.cut)
+    rw c.in-SaveOn.is (ready _ (cut_on_plan c.in-SaveOn.file.now c.in-SaveOn.epochs c.in-SaveOn.state.now) (λ at. save_on_text at.0 at.1 c.in-SaveOn.epochs) _ _ _ _ _ _ read.reached refl read.same read.silent read.cut)
 
 pub returns-in_err-network-in-SaveOn-clause-read : goal.returns-in_err-network-in-SaveOn-clause-read
-unfolding plan_of
+unfolding plan_of output
 returns-in_err-network-in-SaveOn-clause-read g c =
     let p = err_from_is_err_and c.from_residual-in_err-network-in-SaveOn.result c.from_residual-in_err-network-in-SaveOn.ensures.1 in
     rw (p.1, p.2, c.in-SaveOn.is) (stopped_behind _ (cut_on_plan c.in-SaveOn.file.now c.in-SaveOn.epochs c.in-SaveOn.state.now) _ _ _ _ _ _ c.in_err-network-in-SaveOn.ensures.err)
 
 pub returns-in_ok-network-in-MonitorSpan-clause-read : goal.returns-in_ok-network-in-MonitorSpan-clause-read
-unfolding plan_of
-returns-in_ok-network-in-MonitorSpan-clause-read g c = rw c.in-MonitorSpan.is (network_ready _ (span_plan c.in-MonitorSpan.file.now c.in-MonitorSpan.from c.in-MonitorSpan.to) MonitorJob _ _ _ _ _ _ c.in_ok-network-in-MonitorSpan.ensures.ok refl c.in_ok-network-in-MonitorSpan.ensures.ok.within)
+unfolding plan_of output
+returns-in_ok-network-in-MonitorSpan-clause-read g c = rw c.in-MonitorSpan.is (network_ready _ (span_plan c.in-MonitorSpan.file.now c.in-MonitorSpan.from c.in-MonitorSpan.to) profiles_text _ _ _ _ _ _ c.in_ok-network-in-MonitorSpan.ensures.ok refl c.in_ok-network-in-MonitorSpan.ensures.ok.within)
 
 pub returns-in_err-network-in-MonitorSpan-clause-read : goal.returns-in_err-network-in-MonitorSpan-clause-read
-unfolding plan_of
+unfolding plan_of output
 returns-in_err-network-in-MonitorSpan-clause-read g c =
     let p = err_from_is_err_and c.from_residual-in_err-network-in-MonitorSpan.result c.from_residual-in_err-network-in-MonitorSpan.ensures.1 in
     rw (p.1, p.2, c.in-MonitorSpan.is) (stopped_behind _ (span_plan c.in-MonitorSpan.file.now c.in-MonitorSpan.from c.in-MonitorSpan.to) _ _ _ _ _ _ c.in_err-network-in-MonitorSpan.ensures.err)
 
 pub returns-in_ok-network-in-Sweep-clause-read : goal.returns-in_ok-network-in-Sweep-clause-read
-unfolding plan_of
+unfolding plan_of output
 returns-in_ok-network-in-Sweep-clause-read g c =
     let read = c.in_ok-network-in-Sweep.ensures.ok in
-    rw c.in-Sweep.is (ready _ (sweep_plan c.in-Sweep.file.now c.in-Sweep.state.now c.in-Sweep.moves.now) (λ it. SweepJob it.0.0 it.0.1 it.1) _ _ _ _ _ _ read.reached refl read.same read.silent c.in_ok-network-in-Sweep.ensures.fit)
+    rw c.in-Sweep.is (ready _ (sweep_plan c.in-Sweep.file.now c.in-Sweep.state.now c.in-Sweep.moves.now) (λ it. sweep_text it.0.0 it.0.1 it.1) _ _ _ _ _ _ read.reached refl read.same read.silent c.in_ok-network-in-Sweep.ensures.fit)
 
 pub returns-in_err-network-in-Sweep-clause-read : goal.returns-in_err-network-in-Sweep-clause-read
-unfolding plan_of
+unfolding plan_of output
 returns-in_err-network-in-Sweep-clause-read g c =
     let p = err_from_is_err_and c.from_residual-in_err-network-in-Sweep.result c.from_residual-in_err-network-in-Sweep.ensures.1 in
     rw (p.1, p.2, c.in-Sweep.is) (stopped_behind _ (sweep_plan c.in-Sweep.file.now c.in-Sweep.state.now c.in-Sweep.moves.now) _ _ _ _ _ _ c.in_err-network-in-Sweep.ensures.err)

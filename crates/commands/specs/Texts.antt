@@ -1,0 +1,36 @@
+-- What the commands that cut a run, or go on with one, write.
+use Rattle.std.specs.Prelude.{ℕ, ◌+◌, ◌*◌, List}
+use Rattle.std.specs.List.{flat_map}
+use Rattle.world_core.specs.Kept.{epoch}
+use Rattle.world_core.specs.Order.{run_rows, world_at}
+use Rattle.moves_text.specs.Moves.{MoveOf}
+use Rattle.node_runner.specs.Scenario.{ScenarioOf, fleet_of}
+use Rattle.checkpoint_text.specs.Onward.{onward}
+use Rattle.checkpoint_text.specs.State.{saved_at, saved_from}
+use Rattle.state_text.specs.Text.{StateOf, state_text}
+use Rattle.trace_writer.specs.Line.{rows_text}
+use Rattle.commands.specs.Sweep.{run_text}
+
+-- `head`: the trace of the first epochs of a network
+abbrev pub head_text : ScenarioOf → ℕ → List ℕ
+head_text network epochs = rows_text (world_at (fleet_of network) (epochs * epoch)).rows
+
+-- `save`: the state in which it is then
+abbrev pub save_text : ScenarioOf → ℕ → List ℕ
+save_text network epochs = state_text (saved_at network (epochs * epoch))
+
+-- `resume`: the trace of a network from a state on
+abbrev pub resume_text : ScenarioOf → StateOf → List ℕ
+resume_text network state = rows_text (run_rows (onward network state))
+
+-- `head` from a state on: the trace of so many epochs
+abbrev pub head_on_text : ScenarioOf → StateOf → ℕ → List ℕ
+head_on_text network state epochs = rows_text (world_at (onward network state) (state.cycle + epochs * epoch)).rows
+
+-- `save` from a state on: the state in which it is then
+abbrev pub save_on_text : ScenarioOf → StateOf → ℕ → List ℕ
+save_on_text network state epochs = state_text (saved_from network state (state.cycle + epochs * epoch))
+
+-- `sweep`: the traces of a network from a state on, one for each of these moves, one behind another
+abbrev pub sweep_text : ScenarioOf → StateOf → List MoveOf → List ℕ
+sweep_text network state moves = flat_map (run_text network state) moves
