@@ -1,7 +1,7 @@
 -- The state of a node of a saved state: each part of it is read from the node's numbers, from the I/O bytes that its
 -- board keeps, or is its SRAM. A number's place in its device is that of the device's `numbers_of`. Own to this
 -- simulator.
-use Rattle.std.specs.Prelude.{ℕ, ◌%◌, ◌==◌, if◌then◌else◌, List, Option, None, Some, slice_index}
+use Rattle.std.specs.Prelude.{ℕ, ◌%◌, ◌==◌, List, Option, None, Some, slice_index}
 use Rattle.avr_base.specs.Causes.{cause_of}
 use Rattle.device_base.specs.Bits.{any_bit}
 use Rattle.device_base.specs.Numbers.{part}

@@ -1,5 +1,5 @@
 -- The state of a scenario that a text says, and the one that is written of a run at a cycle. Own to this simulator.
-use Rattle.std.specs.Prelude.{◌≡◌, ℕ, ◌^◌, ◌<◌, ◌==◌, ◌&&◌, nat_le, Bool, true, false, List, length, map, slice_index, is_none, Option, Some, None, Result}
+use Rattle.std.specs.Prelude.{ℕ, ◌^◌, ◌<◌, ◌==◌, ◌&&◌, nat_le, Bool, true, List, length, map, slice_index, is_none, Option, Some, None, Result}
 use Rattle.std.specs.List.{AllByRecursion, filter, range_with_len}
 use Rattle.world_core.specs.Kept.{is_kept}
 use Rattle.world_core.specs.Order.{Fleet, node_at, world_at}

@@ -17,7 +17,7 @@ use crate::onward::InState;
 use air_base::Send;
 use avr_base::NoMemory;
 use fleet_flight::{kept_sends, pass_to, record_of, rows_to};
-use node_core::{NUMBERS, Node, RestoreFault, Row};
+use node_core::{NUMBERS, Node, Row};
 use node_runner::Scenario;
 use state_text::{NodeParts, StateParts};
 use std::alloc::Global;
@@ -51,10 +51,7 @@ fn node_of(
     // The call's clause says that the scenario is one (`IsScenario`), which what follows rests on.
     let _lawful = scenario.lawful_topo();
     let numbers = numbers_of(&parts.numbers);
-    match scenario.restore(alloc, number, cycle, &numbers, &parts.io, &parts.sram) {
-        Ok(node) => Ok(node),
-        Err(_) => Err(NoMemory),
-    }
+    scenario.restored(alloc, number, cycle, &numbers, &parts.io, &parts.sram)
 }
 
 // The nodes of the scenario, in order.

@@ -1,5 +1,5 @@
 -- The numbers of a node: what their bounds say, the state that they make, and that it is the only one.
-use Rattle.std.proofs.Common.{◌≡◌, ◌≤◌, ◌<◌, ◌+◌, ◌^◌, ℕ, Bool, true, refl, sym, ◌∙◌, ap, arith, List, [], ◌∷◌, ◌++◌, length, take, drop, slice_index, slice_set, ◌==◌, nat_le, Option, None, Some, is_none}
+use Rattle.std.proofs.Common.{◌≡◌, ◌≤◌, ◌<◌, ◌+◌, ℕ, Bool, true, refl, sym, ◌∙◌, ap, arith, List, [], ◌∷◌, ◌++◌, length, take, drop, slice_index, slice_set, ◌==◌, nat_le, Option, None, Some, is_none}
 use Rattle.std.specs.Prelude.{map, not}
 use Rattle.air_base.specs.Bounds.{LAST_CYCLE}
 use Rattle.std.specs.List.{list_all, position}
