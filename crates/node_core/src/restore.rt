@@ -9,13 +9,13 @@ ghost use Rattle.node_core.specs.Restored.{cpu_of, fault_of, IsCore, IsRefused, 
 ghost use Rattle.node_core.specs.State.{NodeState};
 
 use crate::machine::Machine;
-use crate::numbers::{NUMBERS, ends_from};
+use crate::numbers::ends_from;
 use crate::{Node, NodeBus};
 use avr_base::{IO_START, NoMemory, Sreg, StopCause};
 use avr_program::Program;
 use board_io::{Board, LaggingBoard, first_refused};
 use data_space::{Cpu, SRAM_LEN, SRAM_START, Sram};
-use device_base::part;
+use device_base::{CORE_NUMBERS, NUMBERS, part};
 use serial_ports::Script;
 use std::alloc::Global;
 
@@ -156,7 +156,13 @@ impl Node {
         ensures one { (s : NodeState) → IsRestored number program.bytes script window.0 window.1 byte_time numbers.now io.now sram.now s → IfOk result (λ node. node.state ≡ s) }
     {
         let ends_from = ends_from(cycle, numbers);
-        let Some(board) = Board::restore(byte_time, cycle, ends_from, &part(numbers, 41), io) else {
+        let Some(board) = Board::restore(
+            byte_time,
+            cycle,
+            ends_from,
+            &part(numbers, CORE_NUMBERS),
+            io,
+        ) else {
             unreachable!();
         };
         let sram = filled(alloc, sram)?;

@@ -8,7 +8,8 @@ ghost use Rattle.node_runner.specs.Scenario.{IsRestoredIn, fleet_of};
 
 use crate::Scenario;
 use avr_base::NoMemory;
-use node_core::{NUMBERS, Node, RestoreFault};
+use device_base::NUMBERS;
+use node_core::{Node, RestoreFault};
 use std::alloc::Global;
 
 impl Scenario {
