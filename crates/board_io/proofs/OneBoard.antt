@@ -6,8 +6,9 @@ use Rattle.std.proofs.lemmas.List.{take_all}
 use Rattle.std.proofs.lemmas.List.Folds.{list_all-append}
 use Rattle.std.proofs.lemmas.Bool.{and_parts, false≢true}
 use Rattle.board_io.specs.declared.board.Board.{Board}
-use Rattle.board_io.specs.Saved.{IsRestored, fits, numbers_of}
+use Rattle.board_io.specs.Saved.{IsRestored, fits, numbers_of, ports_fit, timers_fit}
 use Rattle.device_base.specs.Numbers.{part}
+use Rattle.device_base.proofs.Places.{part-part}
 use Rattle.avr_timers.specs.Numbers8 as timer8
 use Rattle.avr_timers.specs.Numbers16 as timer16
 use Rattle.avr_timers.specs.declared.prescaler.Prescaler.{Prescaler}
@@ -93,6 +94,34 @@ has-numbers n b e = record {
 abbrev pub all : List Bool → Bool
 all fits = list_all (λ fit. fit) fits
 
+timers-parts : (n : List ℕ) → all (timers_fit n) ≡ (timer8.are_numbers Own (part 0 6 n) && timer8.are_numbers Shared (part 6 6 n) && timer16.are_numbers (part 12 13 n) && timer16.are_numbers (part 25 13 n))
+unfolding timers_fit
+timers-parts n =
+    let a = timer8.fits Own (part 0 6 n) in
+    let b = timer8.fits Shared (part 6 6 n) in
+    let c = timer16.fits (part 12 13 n) in
+    let d = timer16.fits (part 25 13 n) in
+    let ab = list_all-append (λ fit. fit) a b in
+    let abc = list_all-append (λ fit. fit) (a ++ b) c ∙ ap (λ x. x && all c) ab in
+    list_all-append (λ fit. fit) (a ++ b ++ c) d ∙ ap (λ x. x && all d) abc
+
+ports-parts : (t : ℕ) (n : List ℕ) → all (ports_fit t n) ≡ (usart.are_numbers t (part 0 14 n) && spi.are_numbers t (part 14 10 n) && radio.are_numbers (part 24 5 n))
+unfolding ports_fit
+ports-parts t n =
+    let a = usart.fits t (part 0 14 n) in
+    let b = spi.fits t (part 14 10 n) in
+    let c = radio.fits (part 24 5 n) in
+    list_all-append (λ fit. fit) (a ++ b) c ∙ ap (λ x. x && all c) (list_all-append (λ fit. fit) a b)
+
+-- of all devices, where those of the timers' numbers and those of the ports' are
+pub both-parts : (t : ℕ) (n : List ℕ) → all (fits t n) ≡ (all (timers_fit (part 0 38 n)) && all (ports_fit t (part 38 29 n)))
+unfolding fits
+both-parts t n = list_all-append (λ fit. fit) (timers_fit (part 0 38 n)) (ports_fit t (part 38 29 n))
+
+regroup : (a b c d : Bool) → (a && (b && c && d)) ≡ (a && b && c && d)
+regroup true b c d = refl
+regroup false b c d = refl
+
 pub fits-parts :
     (t : ℕ) (n : List ℕ)
     → all (fits t n)
@@ -103,21 +132,18 @@ pub fits-parts :
     && usart.are_numbers t (part 38 14 n)
     && spi.are_numbers t (part 52 10 n)
     && radio.are_numbers (part 62 5 n))
-unfolding fits
 fits-parts t n =
-    let a = timer8.fits Own (part 0 6 n) in
-    let b = timer8.fits Shared (part 6 6 n) in
-    let c = timer16.fits (part 12 13 n) in
-    let d = timer16.fits (part 25 13 n) in
-    let e = usart.fits t (part 38 14 n) in
-    let f = spi.fits t (part 52 10 n) in
-    let g = radio.fits (part 62 5 n) in
-    let ab = list_all-append (λ fit. fit) a b in
-    let abc = list_all-append (λ fit. fit) (a ++ b) c ∙ ap (λ x. x && all c) ab in
-    let abcd = list_all-append (λ fit. fit) (a ++ b ++ c) d ∙ ap (λ x. x && all d) abc in
-    let to_e = list_all-append (λ fit. fit) (a ++ b ++ c ++ d) e ∙ ap (λ x. x && all e) abcd in
-    let to_f = list_all-append (λ fit. fit) (a ++ b ++ c ++ d ++ e) f ∙ ap (λ x. x && all f) to_e in
-    list_all-append (λ fit. fit) (a ++ b ++ c ++ d ++ e ++ f) g ∙ ap (λ x. x && all g) to_f
+    let a = part-part n 0 38 0 6 (omega arith) in
+    let b = part-part n 0 38 6 6 (omega arith) in
+    let c = part-part n 0 38 12 13 (omega arith) in
+    let d = part-part n 0 38 25 13 (omega arith) in
+    let e = part-part n 38 29 0 14 (omega arith) in
+    let f = part-part n 38 29 14 10 (omega arith) in
+    let g = part-part n 38 29 24 5 (omega arith) in
+    let timers = timers-parts (part 0 38 n) ∙ (λ i. timer8.are_numbers Own (a i) && timer8.are_numbers Shared (b i) && timer16.are_numbers (c i) && timer16.are_numbers (d i)) in
+    let ports = ports-parts t (part 38 29 n) ∙ (λ i. usart.are_numbers t (e i) && spi.are_numbers t (f i) && radio.are_numbers (g i)) in
+    let four : Bool = timer8.are_numbers Own (part 0 6 n) && timer8.are_numbers Shared (part 6 6 n) && timer16.are_numbers (part 12 13 n) && timer16.are_numbers (part 25 13 n) in
+    both-parts t n ∙ (λ i. timers i && ports i) ∙ regroup four (usart.are_numbers t (part 38 14 n)) (spi.are_numbers t (part 52 10 n)) (radio.are_numbers (part 62 5 n))
 
 both : (a b : Bool) → a ≡ true → b ≡ true → (a && b) ≡ true
 both true b e f = f

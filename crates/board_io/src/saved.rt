@@ -12,7 +12,7 @@ use crate::{Board, Clock, ClockedBoard, LaggingBoard};
 use avr_base::IO_START;
 use avr_timers::{Prescaler, Timer8, Timer16};
 use data_space::IO_COUNT;
-use device_base::{first_outside, part, put_part};
+use device_base::{DEVICE_NUMBERS, PORT_NUMBERS, TIMER_NUMBERS, part, put_part};
 use serial_ports::{Radio, Spi, Usart};
 
 impl Rule {
@@ -95,14 +95,14 @@ fn kept_of(io: &[u8]) -> [u8; 256]
 
 impl Board {
     ghost use Rattle.board_io.specs.Kept.{io_at};
-    ghost use Rattle.board_io.specs.Saved.{IsRestored, fits, numbers_of};
+    ghost use Rattle.board_io.specs.Saved.{IsRestored, fits, numbers_of, ports_fit, timers_fit};
 
     /// The numbers of its devices: those of timers 0, 2, 1 and 3, of USART0, of the serial peripheral interface and of
     /// the radio, each in the order of its `numbers`.
-    pub fn numbers(&self) -> [u64; 67]
+    pub fn numbers(&self) -> [u64; DEVICE_NUMBERS]
         ensures { result ≡ numbers_of self.now }
     {
-        let mut all = [0; 67];
+        let mut all = [0; DEVICE_NUMBERS];
         put_part(&mut all, 0, &self.t0.numbers());
         put_part(&mut all, 6, &self.t2.numbers());
         put_part(&mut all, 12, &self.t1.numbers());
@@ -113,13 +113,12 @@ impl Board {
         all
     }
 
-    /// A test for each of these `numbers`, whether it is within its bound, where a frame and a transfer end at the
-    /// cycle `ends_from` or later.
-    #[tactic(auto, unfolding(crate::specs::Saved::fits))]
-    pub fn fits(ends_from: u64, numbers: &[u64; 67]) -> [bool; 67]
-        ensures { result ≡ fits ends_from numbers.now }
+    /// A test for each of these `numbers` of the timers, whether it is within its bound.
+    #[tactic(auto, unfolding(crate::specs::Saved::timers_fit))]
+    pub fn timers_fit(numbers: &[u64; TIMER_NUMBERS]) -> [bool; TIMER_NUMBERS]
+        ensures { result ≡ timers_fit numbers.now }
     {
-        let mut all = [false; 67];
+        let mut all = [false; TIMER_NUMBERS];
         put_part(
             &mut all,
             0,
@@ -132,9 +131,34 @@ impl Board {
         );
         put_part(&mut all, 12, &Timer16::fits(&part(numbers, 12)));
         put_part(&mut all, 25, &Timer16::fits(&part(numbers, 25)));
-        put_part(&mut all, 38, &Usart::fits(ends_from, &part(numbers, 38)));
-        put_part(&mut all, 52, &Spi::fits(ends_from, &part(numbers, 52)));
-        put_part(&mut all, 62, &Radio::fits(&part(numbers, 62)));
+        all
+    }
+
+    /// A test for each of these `numbers` of the ports, whether it is within its bound, where a frame and a transfer
+    /// end at the cycle `ends_from` or later.
+    #[tactic(auto, unfolding(crate::specs::Saved::ports_fit))]
+    pub fn ports_fit(ends_from: u64, numbers: &[u64; PORT_NUMBERS]) -> [bool; PORT_NUMBERS]
+        ensures { result ≡ ports_fit ends_from numbers.now }
+    {
+        let mut all = [false; PORT_NUMBERS];
+        put_part(&mut all, 0, &Usart::fits(ends_from, &part(numbers, 0)));
+        put_part(&mut all, 14, &Spi::fits(ends_from, &part(numbers, 14)));
+        put_part(&mut all, 24, &Radio::fits(&part(numbers, 24)));
+        all
+    }
+
+    /// A test for each of these `numbers`, first those of the timers, then those of the ports.
+    #[tactic(auto, unfolding(crate::specs::Saved::fits))]
+    pub fn fits(ends_from: u64, numbers: &[u64; DEVICE_NUMBERS]) -> [bool; DEVICE_NUMBERS]
+        ensures { result ≡ fits ends_from numbers.now }
+    {
+        let mut all = [false; DEVICE_NUMBERS];
+        put_part(&mut all, 0, &Board::timers_fit(&part(numbers, 0)));
+        put_part(
+            &mut all,
+            TIMER_NUMBERS,
+            &Board::ports_fit(ends_from, &part(numbers, TIMER_NUMBERS)),
+        );
         all
     }
 
@@ -151,7 +175,12 @@ impl Board {
 
     /// The board of these numbers and of the 224 bytes `io` that it keeps itself, from data address 0x20 on, with the byte
     /// time of its radio in cycles, at most 4,096. `None` exactly where `fits` has a test that failed.
-    pub fn restore(byte_time: u64, ends_from: u64, numbers: &[u64; 67], io: &[u8]) -> Option<Board>
+    pub fn restore(
+        byte_time: u64,
+        ends_from: u64,
+        numbers: &[u64; DEVICE_NUMBERS],
+        io: &[u8],
+    ) -> Option<Board>
         requires byte_time { byte_time ≤ LONGEST_BYTE }
         requires io { length io.now ≡ IO_COUNT }
         ensures none { is_some result ≡ list_all (λ fit. fit) (fits ends_from numbers.now) }
@@ -207,7 +236,7 @@ impl LaggingBoard {
     }
 
     /// The numbers of its devices, as [`Board::numbers`] gives them.
-    pub fn numbers(&self) -> [u64; 67]
+    pub fn numbers(&self) -> [u64; DEVICE_NUMBERS]
         ensures { result ≡ numbers_of self.now.board }
     {
         self.caught_up().numbers()

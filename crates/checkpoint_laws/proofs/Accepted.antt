@@ -23,7 +23,7 @@ use Rattle.state_text.specs.Bounds.{HasNode, IsState, is_cut}
 use Rattle.state_text.specs.Text.{NodeOf}
 use Rattle.checkpoint_text.specs.Onward.{IsFit}
 use Rattle.checkpoint_text.specs.State.{HasBytes, parts_of, rules_of, saved_at}
-use Rattle.checkpoint_text.proofs.Prefix.{has_node}
+use Rattle.checkpoint_text.proofs.Bounded.{has_node}
 use Rattle.checkpoint_laws.proofs.InOrder.{sends_are}
 use Rattle.checkpoint_laws.proofs.Kept.{by_index}
 

@@ -1,87 +1,89 @@
 -- The bounds of a state's text are those from which a node can be restored.
-use Rattle.std.proofs.Common.{◌≡◌, ℕ, ◌+◌, ◌<◌, ◌≤◌, Bool, true, false, eqb, ltb, ◌&&◌, ◌||◌, not, List, [], ◌∷◌, ◌++◌, length, map, take, get_or, Option, Some, None, Result, Ok, Err, refl, sym, ap, ◌∙◌, arith, inl, inr}
-use Rattle.std.specs.Prelude.{IfOk, is_none, nat_le, slice_index}
-use Rattle.std.specs.List.{All, AllByRecursion}
-use Rattle.std.proofs.lemmas.Bool.{and_parts, cases_eq, cases_lt, eqb-true, leb-true, ltb-true}
-use Rattle.std.proofs.lemmas.List.{get_or_default, length-append, length-map, length-take, same_lists}
+use Rattle.std.proofs.Common.{◌≡◌, ℕ, ◌+◌, ◌<◌, ◌≤◌, Bool, true, false, eqb, ltb, ◌==◌, ◌&&◌, ◌||◌, not, List, [], ◌∷◌, length, drop, if◌then◌else◌, Option, Some, None, Result, Ok, Err, refl, sym, ap, ◌∙◌, arith, inl, inr}
+use Rattle.std.specs.Prelude.{IfOk, is_none}
+use Rattle.std.specs.List.{All, AllByRecursion, position}
+use Rattle.std.proofs.lemmas.Bool.{and_from, and_parts, cases_eq, cases_lt, eq-eqb, eqb-true, ltb-true}
+use Rattle.std.proofs.lemmas.List.{get_or-take, length-drop, take_all}
 use Rattle.std.proofs.lemmas.List.Elements.{All-cons, All-nil, All-weaker}
-use Rattle.std.proofs.lemmas.List.FromFn.{get_or-map-range_with_len, length-map-range_with_len}
+use Rattle.std.proofs.lemmas.List.Folds.{list_all-append}
 use Rattle.std.proofs.lemmas.List.Kept.{AllPairs-cons}
-use Rattle.std.proofs.lemmas.List.Quantifiers.{position-Some}
 use Rattle.world_core.specs.Chain.{Rises}
 use Rattle.world_core.specs.Topology.{Topology}
 use Rattle.air_base.specs.declared.air.Send.{Send}
-use Rattle.device_base.specs.Numbers.{part}
-use Rattle.avr_timers.specs.Numbers8.{fits as fits8}
-use Rattle.avr_timers.specs.Numbers16.{fits as fits16}
-use Rattle.serial_ports.specs.UsartNumbers.{fits as fits_usart}
-use Rattle.serial_ports.specs.SpiNumbers.{fits as fits_spi}
-use Rattle.serial_ports.specs.RadioNumbers.{fits as fits_radio}
+use Rattle.device_base.specs.Numbers.{all_fit, part}
+use Rattle.device_base.proofs.Places.{none_outside, part-part}
 use Rattle.board_io.specs.Kept.{first_refused}
-use Rattle.board_io.specs.Saved.{fits as fits_board}
-use Rattle.node_core.specs.Numbers.{core_fits, ends_from, fits, first_outside}
+use Rattle.board_io.specs.Saved.{fits as fits_board, ports_fit, timers_fit}
+use Rattle.board_io.proofs.OneBoard.{both-parts}
+use Rattle.node_core.specs.Numbers.{core_fits, ends_from, first_outside, fits}
 use Rattle.node_core.specs.Restored.{fault_by}
 use Rattle.node_runner.specs.Scenario.{ScenarioOf}
 use Rattle.state_text.specs.Bounds.{HasNode, IsState, is_kept, follows, kept_behind, are_sends}
-use Rattle.state_text.specs.Text.{NodeOf, StateOf, state_text}
+use Rattle.state_text.specs.Text.{NodeOf, StateOf, core_of, ports_of, state_text, timers_of}
 use Rattle.state_text.specs.declared.fault.StateFault.{StateFault}
 use Rattle.checkpoint_text.specs.Onward.{CanResume, IsFit}
-use Rattle.checkpoint_text.specs.State.{is_behind, padded, rules_of, within}
+use Rattle.checkpoint_text.specs.State.{HasBytes, rules_of}
 
--- ---- there is a test for each number
+-- ---- a node's numbers are within their bounds where those of its three lines are
 
-board_count : (t : ℕ) (n : List ℕ) → length (fits_board t n) ≡ 67
-unfolding fits_board fits8 fits16 fits_usart fits_spi fits_radio
-board_count t n = refl
+abbrev IsWithin : ℕ → List ℕ → Bool
+IsWithin cycle n =
+    all_fit (core_fits (core_of n)) && (all_fit (timers_fit (timers_of n)) && all_fit (ports_fit (ends_from cycle (core_of n)) (ports_of n)))
 
-behind : (xs ys : List Bool) (m : ℕ) → length ys ≡ m → length (xs ++ ys) ≡ length xs + m
-behind xs ys m e = length-append xs ys ∙ ap (λ k. length xs + k) e
-
-pub core_count : (n : List ℕ) → length n ≡ 108 → length (core_fits n) ≡ 41
-unfolding core_fits
-core_count n many =
-    let bytes : length (map (λ byte. nat_le byte 255) (take 33 n)) ≡ 33 = length-map (take 33 n) (λ byte. nat_le byte 255) ∙ omega (arith, many, length-take 33 n) in
-    behind (map (λ byte. nat_le byte 255) (take 33 n)) _ 8 refl ∙ ap (λ k. k + 8) bytes
-
-pub fits_count : (cycle : ℕ) (n : List ℕ) → length n ≡ 108 → length (fits cycle n) ≡ 108
+lines_fit : (cycle : ℕ) (n : List ℕ) → length n ≡ 108 → all_fit (fits cycle n) ≡ IsWithin cycle n
 unfolding fits
-fits_count cycle n many = behind (core_fits n) (fits_board (ends_from cycle n) (part 41 67 n)) 67 (board_count (ends_from cycle n) (part 41 67 n)) ∙ ap (λ k. k + 67) (core_count n many)
+lines_fit cycle n many =
+    let devices = part 41 67 n in
+    let timers : part 0 38 devices ≡ timers_of n = part-part n 41 67 0 38 (omega arith) in
+    let rest : length (drop 79 n) ≡ 29 = omega (arith, many, length-drop 79 n) in
+    let ports : part 38 29 devices ≡ ports_of n = part-part n 41 67 38 29 (omega arith) ∙ take_all 29 (drop 79 n) (omega (arith, rest)) in
+    let stop : ends_from cycle n ≡ ends_from cycle (core_of n) = ap (λ c. if c == 0 then cycle else 0) (sym (get_or-take 41 n 39 0 (omega arith))) in
+    list_all-append (λ fit. fit) (core_fits (part 0 41 n)) (fits_board (ends_from cycle n) devices)
+    ∙ ap (λ x. all_fit (core_fits (part 0 41 n)) && x) (both-parts (ends_from cycle n) devices ∙ (λ i. all_fit (timers_fit (timers i)) && all_fit (ports_fit (stop i) (ports i))))
 
 -- ---- a node
-
-pub padded_whole : (n : List ℕ) → length n ≡ 108 → padded n ≡ n
-padded_whole n many =
-    let len = length-map-range_with_len (λ place. slice_index n place) 0 108 in
-    same_lists (padded n) n (omega (arith, len, many)) (λ k d low. at k d (omega (arith, low, len)))
-  where
-    at : (k d : ℕ) → k < 108 → get_or (padded n) k d ≡ get_or n k d
-    at k d low =
-        let place : 0 + k ≡ k = omega arith in
-        get_or-map-range_with_len (λ place. slice_index n place) 0 108 k k d low place ∙ get_or_default n k 0 d (omega (arith, low, many))
-
-none_outside : (cycle : ℕ) (n : List ℕ) (o : Option ℕ) → length n ≡ 108 → first_outside cycle n ≡ o → is_behind (length n) o ≡ true → first_outside cycle n ≡ None
-none_outside cycle n None many e h = e
-none_outside cycle n (Some place) many e h =
-    let low = (position-Some not (fits cycle n) place true e).0 in
-    let high = leb-true (length n) place h in
-    absurd (omega (arith, low, high, many, fits_count cycle n many))
-
-pub within_whole : (cycle : ℕ) (n : List ℕ) → length n ≡ 108 → within cycle n ≡ true → first_outside cycle n ≡ None
-within_whole cycle n many h = none_outside cycle n (first_outside cycle n) many refl (ap (λ m. is_behind (length n) (first_outside cycle m)) (sym (padded_whole n many)) ∙ h)
 
 is_none_none : {X : Type 0} (o : Option X) → is_none o ≡ true → o ≡ None
 is_none_none None h = refl
 is_none_none (Some x) h = absurd cc
 
+none_outside_of : (tests : List Bool) → all_fit tests ≡ true → position not tests ≡ None
+none_outside_of tests h = is_none_none (position not tests) (none_outside tests ∙ h)
+
 is_fit : (sc : ScenarioOf) (cycle : ℕ) (n : NodeOf) → HasNode (rules_of sc) cycle n → IsFit cycle n
 is_fit sc cycle n h =
-    let numbers = within_whole cycle n.numbers h.count h.ports in
+    let lines = and_from (all_fit (core_fits (core_of n.numbers))) _ h.core (and_from (all_fit (timers_fit (timers_of n.numbers))) _ h.timers h.ports) in
+    let numbers : first_outside cycle n.numbers ≡ None = none_outside_of (fits cycle n.numbers) (lines_fit cycle n.numbers h.count ∙ lines) in
     let io = is_none_none (first_refused n.io) (and_parts (eqb (length n.io) 224) (is_none (first_refused n.io)) h.io).1 in
     record {
       count = h.count;
       io_count = h.io_count;
       sram_count = h.sram_count;
       fault = ap (λ o. fault_by o (first_refused n.io)) numbers ∙ ap (fault_by None) io;
+    }
+
+none_of_both : (o p : Option ℕ) → fault_by o p ≡ None → (o ≡ None) × (p ≡ None)
+none_of_both None None h = (refl, refl)
+none_of_both None (Some k) h = absurd cc
+none_of_both (Some place) p h = absurd cc
+
+pub has_node : (sc : ScenarioOf) (cycle : ℕ) (n : NodeOf) → IsFit cycle n → HasBytes n → HasNode (rules_of sc) cycle n
+has_node sc cycle n h b =
+    let fit = none_of_both (first_outside cycle n.numbers) (first_refused n.io) h.fault in
+    let all : all_fit (fits cycle n.numbers) ≡ true = sym (none_outside (fits cycle n.numbers)) ∙ ap is_none fit.0 in
+    let lines = and_parts _ _ (sym (lines_fit cycle n.numbers h.count) ∙ all) in
+    let devices = and_parts _ _ lines.1 in
+    record {
+      count = h.count;
+      wide = b.wide;
+      core = lines.0;
+      timers = devices.0;
+      ports = devices.1;
+      io_count = h.io_count;
+      io_bytes = b.io;
+      io = and_from _ _ (eq-eqb (length n.io) 224 h.io_count) (ap is_none fit.1);
+      sram_count = h.sram_count;
+      sram_bytes = b.sram;
     }
 
 are_fit : (sc : ScenarioOf) (cycle : ℕ) (ns : List NodeOf) → AllByRecursion (HasNode (rules_of sc) cycle) ns → All (IsFit cycle) ns

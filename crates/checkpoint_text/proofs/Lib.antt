@@ -4,8 +4,5 @@ pub mod NodeIs
 pub mod Continues
 -- The bounds of a state's text are those from which a node can be restored.
 pub mod Bounded
--- A node that can be restored has first numbers within their bounds, whatever stands in the place of the numbers behind
--- them.
-pub mod Prefix
 -- The state of a run: its nodes as they are at the cycle reached, and the sends that can still be heard in order.
 pub mod Saving

@@ -1,9 +1,12 @@
 -- The node that a saved state has is the one that has its numbers, its I/O bytes and its SRAM.
-use Rattle.std.proofs.Common.{◌≡◌, ◌<◌, ◌+◌, ℕ, Bool, true, ◌==◌, refl, sym, ◌∙◌, ap, arith, List, take, drop, slice_index, Option, None, Some}
+use Rattle.std.proofs.Common.{◌≡◌, ◌<◌, ◌+◌, ℕ, Bool, true, false, ◌==◌, refl, sym, ◌∙◌, ap, arith, List, [], take, drop, slice_index, Option, None, Some, Result, Ok, Err}
+use Rattle.std.specs.Prelude.{IfOk}
 use Rattle.std.proofs.lemmas.Bool.{and_parts}
 use Rattle.std.proofs.lemmas.List.{get_or-drop, get_or-take}
 use Rattle.avr_base.specs.Causes.{cause_of}
 use Rattle.avr_base.proofs.Causes.{cause_again}
+use Rattle.avr_base.specs.declared.memory.NoMemory.{NoMemory}
+use Rattle.air_base.specs.NodeRun.{Timed}
 use Rattle.board_io.specs.Saved as board
 use Rattle.board_io.specs.declared.board.Board.{Board}
 use Rattle.board_io.proofs.OneBoard.{all, fits-parts}
@@ -23,6 +26,7 @@ use Rattle.serial_ports.proofs.SpiSaved.{one-spi}
 use Rattle.serial_ports.proofs.RadioSaved.{one-radio}
 use Rattle.node_core.specs.Numbers.{core_tail, ends_from, first_outside}
 use Rattle.node_core.specs.Restored.{cpu_of}
+use Rattle.node_core.specs.declared.row.Row.{Row}
 use Rattle.node_core.specs.State.{NodeState}
 use Rattle.node_core.proofs.Saved.{board-fits, has-numbers}
 use Rattle.node_runner.specs.Scenario.{ScenarioOf, IsRestoredIn}
@@ -109,3 +113,13 @@ one_node sc k cycle n u fit r =
       stop = stopped i;
       count = count i;
     })
+
+-- a node that was made of what is saved
+pub if_restored : (sc : ScenarioOf) (k cycle : ℕ) (n : NodeOf) (made : Result (Timed NodeState Row) NoMemory) → first_outside cycle n.numbers ≡ None
+    → IfOk made (λ v. v ≡ record { cycle = cycle; asking = false; state = v.state; rows = [] })
+    → IfOk made (λ v. IsRestoredIn sc k n.numbers n.io n.sram v.state)
+    → IfOk made (λ v. v ≡ record { cycle = cycle; asking = false; state = node_of sc k n; rows = [] })
+if_restored sc k cycle n (Ok v) fit node is =
+    let one = one_node sc k cycle n v.state fit is in
+    node ∙ (λ i. record { cycle = cycle; asking = false; state = sym one i; rows = [] })
+if_restored sc k cycle n (Err e) fit node is = tt

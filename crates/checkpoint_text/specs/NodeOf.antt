@@ -1,10 +1,11 @@
 -- The state of a node of a saved state: each part of it is read from the node's numbers, from the I/O bytes that its
 -- board keeps, or is its SRAM. A number's place in its device is that of the device's `numbers_of`. Own to this
 -- simulator.
-use Rattle.std.specs.Prelude.{ℕ, ◌%◌, ◌==◌, if◌then◌else◌, List, Option, None, Some, slice_index}
+use Rattle.std.specs.Prelude.{ℕ, ◌%◌, ◌==◌, List, Option, None, Some, slice_index}
 use Rattle.avr_base.specs.Causes.{cause_of}
 use Rattle.device_base.specs.Bits.{any_bit}
 use Rattle.device_base.specs.Numbers.{part}
+use Rattle.device_base.specs.declared.numbers.TheConstants.{CORE_NUMBERS, DEVICE_NUMBERS}
 use Rattle.avr_timers.specs.Numbers16.{control_mode}
 use Rattle.avr_timers.specs.declared.mode.Mode16.{Mode16}
 use Rattle.avr_timers.specs.declared.mode.Mode16.TheVariants.{Normal}
@@ -96,7 +97,7 @@ radio_of byte_time n = record {
   state = state_of (slice_index n 0) (record { status = slice_index n 1; byte = slice_index n 2; age = slice_index n 3 });
 }
 
--- the board of its 67 numbers and of the bytes that it keeps, with a radio of this byte time
+-- the board of its numbers and of the bytes that it keeps, with a radio of this byte time
 abbrev pub board_of : ℕ → List ℕ → List ℕ → Board
 board_of byte_time n io = record {
   kept = kept_of io;
@@ -118,7 +119,7 @@ node_of sc k n = record {
   from = sc.from;
   to = sc.to;
   cpu = cpu_of n.numbers;
-  board = board_of sc.topo.byte_time (part 41 67 n.numbers) n.io;
+  board = board_of sc.topo.byte_time (part CORE_NUMBERS DEVICE_NUMBERS n.numbers) n.io;
   sram = n.sram;
   wait = slice_index n.numbers 36;
   owed = slice_index n.numbers 37 == 1;

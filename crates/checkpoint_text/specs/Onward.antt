@@ -5,7 +5,7 @@ use Rattle.std.specs.List.{All}
 use Rattle.world_core.specs.Chain.{Rises}
 use Rattle.world_core.specs.Order.{Fleet}
 use Rattle.data_space.specs.declared.regions.TheConstants.{IO_COUNT, SRAM_LEN}
-use Rattle.node_core.specs.declared.numbers.TheConstants.{NUMBERS}
+use Rattle.device_base.specs.declared.numbers.TheConstants.{NUMBERS}
 use Rattle.node_core.specs.declared.row.Row.{Row}
 use Rattle.node_core.specs.Restored.{fault_of}
 use Rattle.node_core.specs.State.{NodeState}

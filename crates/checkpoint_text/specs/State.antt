@@ -1,18 +1,19 @@
 -- The state of a scenario that a text says, and the one that is written of a run at a cycle. Own to this simulator.
-use Rattle.std.specs.Prelude.{◌≡◌, ℕ, ◌^◌, ◌<◌, ◌==◌, ◌&&◌, nat_le, Bool, true, false, List, length, map, slice_index, is_none, Option, Some, None, Result}
+use Rattle.std.specs.Prelude.{ℕ, ◌^◌, ◌<◌, ◌==◌, ◌&&◌, Bool, List, length, map, slice_index, is_none, Result}
 use Rattle.std.specs.List.{AllByRecursion, filter, range_with_len}
 use Rattle.world_core.specs.Kept.{is_kept}
 use Rattle.world_core.specs.Order.{Fleet, node_at, world_at}
 use Rattle.air_base.specs.declared.air.Send.{Send}
 use Rattle.air_base.specs.NodeRun.{Timed}
 use Rattle.board_io.specs.Kept.{first_refused, io_of}
-use Rattle.node_core.specs.Numbers.{first_outside, numbers_of}
+use Rattle.board_io.specs.Saved.{ports_fit, timers_fit}
+use Rattle.device_base.specs.Numbers.{all_fit}
+use Rattle.node_core.specs.Numbers.{core_fits, ends_from, numbers_of}
 use Rattle.data_space.specs.declared.regions.TheConstants.{IO_COUNT, SRAM_LEN}
-use Rattle.node_core.specs.declared.numbers.TheConstants.{NUMBERS}
 use Rattle.node_core.specs.declared.row.Row.{Row}
 use Rattle.node_core.specs.State.{NodeState}
 use Rattle.node_runner.specs.Scenario.{ScenarioOf, fleet_of}
-use Rattle.state_text.specs.Bounds.{Rules, rules}
+use Rattle.state_text.specs.Bounds.{NodeRules, Rules, rules}
 use Rattle.state_text.specs.Reading.{state_of}
 use Rattle.state_text.specs.Text.{NodeOf, StateOf}
 use Rattle.state_text.specs.declared.fault.StateFault.{StateFault}
@@ -20,23 +21,20 @@ use Rattle.checkpoint_text.specs.Onward.{onward}
 
 -- ---- what is read
 
--- a node's first numbers, and 0 for each that is not there
-abbrev pub padded : List ℕ → List ℕ
-padded n = map (λ place. slice_index n place) (range_with_len 0 NUMBERS)
-
-abbrev pub is_behind : ℕ → Option ℕ → Bool
-is_behind count None = true
-is_behind count (Some place) = nat_le count place
-
--- none of a node's first numbers is outside its bound: no bound hangs on a number behind its own, and 0 is within each
-abbrev pub within : ℕ → List ℕ → Bool
-within cycle n = is_behind (length n) (first_outside cycle (padded n))
-
 abbrev pub readable : List ℕ → Bool
 readable io = length io == IO_COUNT && is_none (first_refused io)
 
+-- the bounds of a node's lines are those of its restoring
+abbrev pub node_rules : NodeRules
+node_rules = record {
+  core = λ n. all_fit (core_fits n);
+  timers = λ n. all_fit (timers_fit n);
+  ports = λ cycle core n. all_fit (ports_fit (ends_from cycle core) n);
+  io = readable;
+}
+
 abbrev pub rules_of : ScenarioOf → Rules
-rules_of sc = rules sc.topo within readable
+rules_of sc = rules sc.topo node_rules
 
 -- numbers of 64 bits, and bytes
 pub record HasBytes (n : NodeOf) : Type 0 where

@@ -6,7 +6,7 @@ ghost use Rattle.state_text.specs.Text.{NodeOf};
 ghost use Rattle.checkpoint_text.specs.Onward.{IsFit};
 ghost use Rattle.checkpoint_text.specs.State.{HasBytes, rules_of};
 
-/// Each line of a node that can be restored keeps its bounds: a line is bounded by its own numbers and those before it.
+/// Each line of a node that can be restored keeps its bounds.
 pub fn fit_law()
     ensures { (sc : ScenarioOf) (cycle : ℕ) (n : NodeOf) → IsFit cycle n → HasBytes n → HasNode (rules_of sc) cycle n }
 {}

@@ -1,52 +1,40 @@
 // A saved state is read from its text.
-ghost use Rattle.std.specs.Prelude.{◌≡◌, ◌≢◌, ◌<◌, Ok, Err, false, slice_index, IfErr, IfOk};
+ghost use Rattle.std.specs.Prelude.{◌≡◌, ◌≢◌, ◌<◌, Ok, Err, false, IfErr, IfOk};
 ghost use Rattle.state_text.specs.declared.fault.StateFault.TheVariants.{NoMemory};
 ghost use Rattle.state_text.specs.Reading.{Gives};
 ghost use Rattle.checkpoint_text.specs.Onward.{CanResume};
-ghost use Rattle.checkpoint_text.specs.State.{padded, readable, state_in, within};
+ghost use Rattle.checkpoint_text.specs.State.{node_rules, state_in};
 
 use crate::saved::Saved;
-use board_io::first_refused;
+use board_io::{Board, first_refused};
 use data_space::IO_COUNT;
-use node_core::{NUMBERS, Node};
+use device_base::{CORE_NUMBERS, PORT_NUMBERS, TIMER_NUMBERS, all_fit};
+use node_core::{core_fits, ends_from};
 use node_runner::Scenario;
 use state_text::{Bounds, StateFault, StateParts, read};
 use std::alloc::Global;
-
-// The number at a place, 0 where there is none.
-fn number_at(numbers: &[u64], place: usize) -> u64
-    ensures { result ≡ slice_index numbers.now place }
-{
-    if place < numbers.len() {
-        return numbers[place];
-    }
-    0
-}
-
-// The first numbers of a node, and 0 for each that is not there.
-fn padded(numbers: &[u64]) -> [u64; NUMBERS]
-    ensures { result ≡ padded numbers.now }
-{
-    let mut all = [0; NUMBERS];
-    for place in 0..NUMBERS {
-        all[place] = number_at(numbers, place);
-    }
-    all
-}
 
 // The bounds of what is saved of a node: those of its restoring.
 struct NodeBounds;
 
 impl Bounds for NodeBounds {
-    ghost within = { λ bounds cycle numbers. within cycle numbers };
+    ghost rules = { λ bounds. node_rules };
 
-    ghost readable = { λ bounds io. readable io };
+    fn is_core(&self, core: &[u64; CORE_NUMBERS]) -> bool {
+        all_fit(&core_fits(core))
+    }
 
-    fn are_within(&self, cycle: u64, numbers: &[u64]) -> bool {
-        match Node::first_outside(cycle, &padded(numbers)) {
-            None => true,
-            Some(place) => numbers.len() <= usize::from(place),
-        }
+    fn are_timers(&self, timers: &[u64; TIMER_NUMBERS]) -> bool {
+        all_fit(&Board::timers_fit(timers))
+    }
+
+    fn are_ports(
+        &self,
+        cycle: u64,
+        core: &[u64; CORE_NUMBERS],
+        ports: &[u64; PORT_NUMBERS],
+    ) -> bool {
+        all_fit(&Board::ports_fit(ends_from(cycle, core), ports))
     }
 
     fn are_readable(&self, io: &[u8]) -> bool {

@@ -17,23 +17,13 @@ use crate::onward::InState;
 use air_base::Send;
 use avr_base::NoMemory;
 use fleet_flight::{kept_sends, pass_to, record_of, rows_to};
-use node_core::{NUMBERS, Node, RestoreFault, Row};
+use node_core::{Node, Row};
 use node_runner::Scenario;
 use state_text::{NodeParts, StateParts};
 use std::alloc::Global;
 use std::marker::Model;
 use std::snapshot::Snapshot;
 use world_core::{EPOCH, SendLog};
-
-// The numbers of a node.
-fn numbers_of(numbers: &[u64]) -> [u64; NUMBERS]
-    requires { length numbers.now ≡ NUMBERS }
-    ensures { result ≡ numbers.now }
-{
-    let mut all = [0; NUMBERS];
-    all.copy_from_slice(numbers);
-    all
-}
 
 // Node `number` of the scenario, by what is saved of it at the cycle `cycle`.
 fn node_of(
@@ -50,11 +40,7 @@ fn node_of(
 {
     // The call's clause says that the scenario is one (`IsScenario`), which what follows rests on.
     let _lawful = scenario.lawful_topo();
-    let numbers = numbers_of(&parts.numbers);
-    match scenario.restore(alloc, number, cycle, &numbers, &parts.io, &parts.sram) {
-        Ok(node) => Ok(node),
-        Err(_) => Err(NoMemory),
-    }
+    scenario.restored(alloc, number, cycle, &parts.numbers, &parts.io, &parts.sram)
 }
 
 // The nodes of the scenario, in order.

@@ -1,8 +1,10 @@
 -- Numbers by which a device is saved: lists of known length, flags, and bytes of bits.
-use Rattle.std.proofs.Common.{◌≡◌, ◌≤◌, ◌+◌, ℕ, zero, suc, Bool, true, false, not, refl, sym, ◌∙◌, ap, arith, List, [], ◌∷◌, length, slice_index, ◌==◌, nat_lt, is_none, cond, Some, None, inl, inr}
+use Rattle.std.proofs.Common.{◌≡◌, ◌≤◌, ◌+◌, ◌-◌, ℕ, zero, suc, Bool, true, false, not, refl, sym, ◌∙◌, ap, arith, List, [], ◌∷◌, ◌++◌, length, take, drop, slice_index, ◌==◌, nat_lt, is_none, cond, Some, None, inl, inr}
 use Rattle.std.specs.List.{list_all, position, position_or_len}
 use Rattle.std.proofs.lemmas.Bool.{cases_lt, false≢true, le-ltb, lt-ltb}
+use Rattle.std.proofs.lemmas.List.{drop-drop, drop-take, take-take, take_all}
 use Rattle.device_base.specs.Bits.{bit}
+use Rattle.device_base.specs.Numbers.{part}
 
 -- ---- a list by its places
 
@@ -64,3 +66,17 @@ none-by false false x h = absurd (false≢true h)
 -- no test fails where all hold
 pub none_outside : (fits : List Bool) → is_none (position not fits) ≡ list_all (λ fit. fit) fits
 none_outside fits = none-by _ _ (position_or_len not fits) (fails-before fits)
+
+-- ---- a part of a part, and a list into which parts were put
+
+-- what stands at some of the places of a part stands at places of the whole
+pub part-part : (n : List ℕ) (from m at count : ℕ) → at + count ≤ m → part at count (part from m n) ≡ part (from + at) count n
+part-part n from m at count fits =
+    let xs = drop from n in
+    let whole : m ≡ at + (m - at) = omega arith in
+    ap (λ k. part at count (take k xs)) whole ∙ ap (take count) (drop-take at (m - at) xs)
+    ∙ take-take count (m - at) (drop at xs) (omega arith) ∙ ap (take count) (drop-drop at from n)
+
+-- a part is put behind what stands at the front
+pub then_put : {X : Type 0} (i j : ℕ) (front part n1 n2 : List X) → take i n1 ≡ front → take j n2 ≡ take i n1 ++ part → length n2 ≡ j → n2 ≡ front ++ part
+then_put i j front part n1 n2 first second len = sym (take_all j n2 (omega arith)) ∙ second ∙ ap (λ xs. xs ++ part) first

@@ -7,4 +7,5 @@ pub mod names;
 mod numbers;
 
 pub use bits::{any_bit, bit};
+pub use numbers::{CORE_NUMBERS, DEVICE_NUMBERS, NUMBERS, PORT_NUMBERS, TIMER_NUMBERS};
 pub use numbers::{all_fit, first_outside, part, put_part};

@@ -1,12 +1,27 @@
 // Lists of numbers by which a device is saved and restored: which of them breaks its bound, and lists that are made of
 // several devices' lists.
 ghost use Rattle.std.specs.Prelude.{◌≡◌, ◌≤◌, ◌+◌, ◌++◌, not, length, take};
-ghost use Rattle.std.specs.List.{list_all, position};
-ghost use Rattle.device_base.specs.Numbers.{part};
+ghost use Rattle.std.specs.List.{position};
+ghost use Rattle.device_base.specs.Numbers.{all_fit, part};
+
+/// How many numbers a node's core is saved by.
+pub const CORE_NUMBERS: usize = 41;
+
+/// How many its four timers are saved by.
+pub const TIMER_NUMBERS: usize = 38;
+
+/// How many its ports are saved by: USART0, the serial peripheral interface and the radio.
+pub const PORT_NUMBERS: usize = 29;
+
+/// How many its devices are saved by, the timers and the ports.
+pub const DEVICE_NUMBERS: usize = TIMER_NUMBERS + PORT_NUMBERS;
+
+/// How many a node is saved by.
+pub const NUMBERS: usize = CORE_NUMBERS + DEVICE_NUMBERS;
 
 /// Whether each number is within its bound, by the test of each.
 pub fn all_fit(fits: &[bool]) -> bool
-    ensures { result ≡ list_all (λ fit. fit) fits.now }
+    ensures { result ≡ all_fit fits.now }
 {
     fits.iter().all(|fit| *fit)
 }

@@ -1,10 +1,10 @@
 -- The numbers of a node: what their bounds say, the state that they make, and that it is the only one.
-use Rattle.std.proofs.Common.{◌≡◌, ◌≤◌, ◌<◌, ◌+◌, ◌^◌, ℕ, Bool, true, refl, sym, ◌∙◌, ap, arith, List, [], ◌∷◌, ◌++◌, length, take, drop, slice_index, slice_set, ◌==◌, nat_le, Option, None, Some, is_none}
+use Rattle.std.proofs.Common.{◌≡◌, ◌≤◌, ◌<◌, ◌+◌, ℕ, Bool, true, refl, sym, ◌∙◌, ap, arith, List, [], ◌∷◌, ◌++◌, length, take, drop, slice_index, slice_set, ◌==◌, nat_le, Option, None, Some, is_none}
 use Rattle.std.specs.Prelude.{map, not}
 use Rattle.air_base.specs.Bounds.{LAST_CYCLE}
 use Rattle.std.specs.List.{list_all, position}
 use Rattle.std.proofs.Math.Seq.{take-add}
-use Rattle.std.proofs.lemmas.List.{append_assoc, drop-drop, drop_at, get_or-drop, get_or-take, length-drop, length-take, map_push, take_all, take_at, take_more, take_more_set}
+use Rattle.std.proofs.lemmas.List.{append_assoc, drop-drop, drop_at, get_or-drop, get_or-take, length-drop, length-take, map_push, take_all, take_at, take_more, take_more_set, take-take}
 use Rattle.std.proofs.lemmas.List.Folds.{list_all-append, list_all-map}
 use Rattle.std.proofs.lemmas.List.Sums.{AllPass-from_list_all}
 use Rattle.std.proofs.lemmas.List.Elements.{All-get_or}
@@ -26,13 +26,22 @@ use Rattle.node_core.specs.State.{NodeState}
 
 -- ---- what the bounds say
 
+-- the tests of the core's numbers are those of a node's first ones
+pub core-front : (n : List ℕ) → core_fits (part 0 41 n) ≡ core_fits n
+unfolding core_fits
+core-front n =
+    let bytes : take 33 (part 0 41 n) ≡ take 33 n = take-take 33 41 n (omega arith) in
+    let at = λ (k : ℕ) (low : k < 41). get_or-take 41 n k 0 low in
+    rw (bytes, at 33 (omega arith), at 34 (omega arith), at 35 (omega arith), at 36 (omega arith), at 37 (omega arith), at 38 (omega arith), at 39 (omega arith), at 40 (omega arith)) refl
+
 fit-all : (tests : List Bool) → position not tests ≡ None → all tests ≡ true
 fit-all tests e = sym (none_outside tests) ∙ ap is_none e
 
 both-fit : (cycle : ℕ) (n : List ℕ) → first_outside cycle n ≡ None → (all (core_fits n) ≡ true) × (all (board.fits (ends_from cycle n) (part 41 67 n)) ≡ true)
 unfolding fits
 both-fit cycle n e =
-    and_parts _ _ (sym (list_all-append (λ fit. fit) (core_fits n) (board.fits (ends_from cycle n) (part 41 67 n))) ∙ fit-all (fits cycle n) e)
+    let both = and_parts _ _ (sym (list_all-append (λ fit. fit) (core_fits (part 0 41 n)) (board.fits (ends_from cycle n) (part 41 67 n))) ∙ fit-all (fits cycle n) e) in
+    (ap all (sym (core-front n)) ∙ both.0, both.1)
 
 pub board-fits : (cycle : ℕ) (n : List ℕ) → first_outside cycle n ≡ None → all (board.fits (ends_from cycle n) (part 41 67 n)) ≡ true
 board-fits cycle n e = (both-fit cycle n e).1
@@ -103,10 +112,6 @@ pub tested :
 tested fits ys i a b same =
     take_more_set fits i (nat_le (slice_index ys i) 255) a ∙ ap (λ xs. xs ++ nat_le (slice_index ys i) 255 ∷ []) same
     ∙ sym (map_push (λ byte. nat_le byte 255) (take i ys) (slice_index ys i)) ∙ ap (map (λ byte. nat_le byte 255)) (sym (take_more ys i 0 b))
-
--- a part is put behind what stands at the front
-pub then_put : {X : Type 0} (i j : ℕ) (front part n1 n2 : List X) → take i n1 ≡ front → take j n2 ≡ take i n1 ++ part → length n2 ≡ j → n2 ≡ front ++ part
-then_put i j front part n1 n2 first second len = sym (take_all j n2 (omega arith)) ∙ second ∙ ap (λ xs. xs ++ part) first
 
 -- ---- a list of 108 numbers by its parts
 

@@ -5,6 +5,7 @@ use Rattle.board_io.specs.Kept.{first_refused}
 use Rattle.board_io.specs.Saved as board
 use Rattle.data_space.specs.declared.cpu.Cpu.{Cpu}
 use Rattle.device_base.specs.Numbers.{part}
+use Rattle.device_base.specs.declared.numbers.TheConstants.{CORE_NUMBERS, DEVICE_NUMBERS}
 use Rattle.serial_ports.specs.Script.{ScriptBytes}
 use Rattle.node_core.specs.Numbers.{first_outside, numbers_of}
 use Rattle.node_core.specs.State.{NodeState}
@@ -57,5 +58,5 @@ pub record IsRestored (k : ℕ) (image : List ℕ) (arrivals : ScriptBytes) (fir
   pub to : s.to ≡ last
   pub registers : length s.cpu.r ≡ 32
   pub numbers : numbers_of s ≡ n
-  pub board : board.IsRestored byte_time (part 41 67 n) io s.board
+  pub board : board.IsRestored byte_time (part CORE_NUMBERS DEVICE_NUMBERS n) io s.board
   pub sram : s.sram ≡ bytes

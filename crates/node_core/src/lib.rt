@@ -19,6 +19,6 @@ pub use avr_core::execute;
 pub use bus::NodeBus;
 pub use law::steady_law;
 pub use node::{Node, Reached};
-pub use numbers::NUMBERS;
+pub use numbers::{core_fits, ends_from};
 pub use restore::RestoreFault;
 pub use row::{Kind, NodeEnd, Row};

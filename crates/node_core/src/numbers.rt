@@ -1,5 +1,5 @@
 // The numbers of a node, by which it is saved and restored.
-ghost use Rattle.std.specs.Prelude.{◌≡◌, ◌≤◌, nat_le, map};
+ghost use Rattle.std.specs.Prelude.{◌≡◌, ◌≤◌, length, nat_le, map};
 ghost use Rattle.avr_base.specs.Causes.{stop_number};
 ghost use Rattle.node_core.specs.Numbers.{core_fits, core_tail, ends_from, fits};
 ghost use Rattle.node_core.specs.Shown.{shown};
@@ -9,10 +9,7 @@ use crate::machine::Machine;
 use air_base::LAST_CYCLE;
 use avr_base::StopCause;
 use board_io::Board;
-use device_base::{first_outside, part, put_part};
-
-/// How many numbers a node is saved by.
-pub const NUMBERS: usize = 108;
+use device_base::{CORE_NUMBERS, NUMBERS, first_outside, part, put_part};
 
 // The place of the stop cause's number.
 const STOP: usize = 39;
@@ -27,8 +24,10 @@ fn stop_number(stop: Option<StopCause>) -> u64
     }
 }
 
-/// The cycle before which no frame and no transfer ends, of a node with these numbers that has reached `cycle`.
-pub fn ends_from(cycle: u64, numbers: &[u64; NUMBERS]) -> u64
+/// The cycle before which no frame and no transfer ends, of a node that has reached `cycle` and has these `numbers`,
+/// those of its core first.
+pub fn ends_from(cycle: u64, numbers: &[u64]) -> u64
+    requires { CORE_NUMBERS ≤ length numbers.now }
     ensures { result ≡ ends_from cycle numbers.now }
 {
     if numbers[STOP] == 0 { cycle } else { 0 }
@@ -75,12 +74,12 @@ fn register_fits(numbers: &[u64; 33]) -> [bool; 33]
     fits
 }
 
-// A test for each number of the core, whether it is within its bound.
+/// A test for each of these `numbers` of a core, whether it is within its bound.
 #[tactic(auto, unfolding(crate::specs::Numbers::core_fits))]
-fn core_fits(numbers: &[u64; NUMBERS]) -> [bool; 41]
+pub fn core_fits(numbers: &[u64; CORE_NUMBERS]) -> [bool; CORE_NUMBERS]
     ensures { result ≡ core_fits numbers.now }
 {
-    let mut fits = [false; 41];
+    let mut fits = [false; CORE_NUMBERS];
     put_part(&mut fits, 0, &register_fits(&part(numbers, 0)));
     let tail = [
         numbers[33] <= 65535,
@@ -100,7 +99,7 @@ impl Node {
     ghost use Rattle.node_core.specs.Numbers.{first_outside, numbers_of};
     ghost use Rattle.board_io.specs.Kept.{io_at};
 
-    /// Its 108 numbers: r0 to r31, SREG, SP, PC, RAMPZ, the cycles left of the last instruction, as 0 or 1 whether an
+    /// Its numbers: r0 to r31, SREG, SP, PC, RAMPZ, the cycles left of the last instruction, as 0 or 1 whether an
     /// instruction is owed and whether it sleeps, the number of the cause that stopped it (0 for none), and how many
     /// instructions it executed; then those of timers 0, 2, 1 and 3, of USART0, of the serial peripheral interface and
     /// of the radio, each in the order of its `numbers`.
@@ -110,7 +109,7 @@ impl Node {
         let mut all = [0; NUMBERS];
         put_part(&mut all, 0, &register_numbers(&self.machine.cpu.r));
         put_part(&mut all, 32, &self.machine.core_tail());
-        put_part(&mut all, 41, &self.machine.bus.io.numbers());
+        put_part(&mut all, CORE_NUMBERS, &self.machine.bus.io.numbers());
         all
     }
 
@@ -123,10 +122,8 @@ impl Node {
         self.machine.bus.io.io(at as u8)
     }
 
-    /// The place of the first of these `numbers`, 0 to 107, that is outside its bound, of a node that has reached the
-    /// cycle `cycle`. The bound of a number hangs on no number behind it, and of other devices' numbers on that of the
-    /// stop alone.
-    pub fn first_outside(cycle: u64, numbers: &[u64; NUMBERS]) -> Option<u8>
+    // The place of the first of these numbers, 0 to 107, that is outside its bound, of a node that has reached a cycle.
+    pub(crate) fn first_outside(cycle: u64, numbers: &[u64; NUMBERS]) -> Option<u8>
         ensures { result ≡ first_outside cycle numbers.now }
     {
         match first_outside(&fits(cycle, numbers)) {
@@ -142,11 +139,11 @@ fn fits(cycle: u64, numbers: &[u64; NUMBERS]) -> [bool; NUMBERS]
     ensures { result ≡ fits cycle numbers.now }
 {
     let mut all = [false; NUMBERS];
-    put_part(&mut all, 0, &core_fits(numbers));
+    put_part(&mut all, 0, &core_fits(&part(numbers, 0)));
     put_part(
         &mut all,
-        41,
-        &Board::fits(ends_from(cycle, numbers), &part(numbers, 41)),
+        CORE_NUMBERS,
+        &Board::fits(ends_from(cycle, numbers), &part(numbers, CORE_NUMBERS)),
     );
     all
 }

@@ -9,13 +9,13 @@ ghost use Rattle.node_core.specs.Restored.{cpu_of, fault_of, IsCore, IsRefused, 
 ghost use Rattle.node_core.specs.State.{NodeState};
 
 use crate::machine::Machine;
-use crate::numbers::{NUMBERS, ends_from};
+use crate::numbers::ends_from;
 use crate::{Node, NodeBus};
 use avr_base::{IO_START, NoMemory, Sreg, StopCause};
 use avr_program::Program;
 use board_io::{Board, LaggingBoard, first_refused};
 use data_space::{Cpu, SRAM_LEN, SRAM_START, Sram};
-use device_base::part;
+use device_base::{CORE_NUMBERS, NUMBERS, part};
 use serial_ports::Script;
 use std::alloc::Global;
 
@@ -122,13 +122,45 @@ impl Node {
         if let Some(fault) = Node::fault(cycle, numbers, io) {
             return Err(fault);
         }
+        let made = Node::restored(
+            alloc, number, program, script, window, byte_time, cycle, numbers, io, sram,
+        );
+        match made {
+            Ok(node) => Ok(node),
+            Err(_) => Err(RestoreFault::NoMemory),
+        }
+    }
+
+    /// The node that [`Node::restore`] makes, where `fault` has found none: nothing is tested again.
+    pub fn restored(
+        alloc: Global,
+        number: u8,
+        program: Program,
+        script: Script,
+        window: (u64, u64),
+        byte_time: u64,
+        cycle: u64,
+        numbers: &[u64; NUMBERS],
+        io: &[u8],
+        sram: &[u8],
+    ) -> Result<Node, NoMemory>
+        requires window { window.0 ≤ window.1 }
+        requires least { SHORTEST_BYTE ≤ byte_time }
+        requires most { byte_time ≤ LONGEST_BYTE }
+        requires cycle { cycle ≤ LAST_CYCLE }
+        requires io { length io.now ≡ IO_COUNT }
+        requires sram { length sram.now ≡ SRAM_LEN }
+        requires sound { fault_of cycle numbers.now io.now ≡ None }
+        ensures node { IfOk result (λ node. node ≡ record { cycle = cycle; asking = false; state = node.state; rows = [] }) }
+        ensures state { IfOk result (λ node. IsRestored number program.bytes script window.0 window.1 byte_time numbers.now io.now sram.now node.state) }
+        ensures one { (s : NodeState) → IsRestored number program.bytes script window.0 window.1 byte_time numbers.now io.now sram.now s → IfOk result (λ node. node.state ≡ s) }
+    {
         let ends_from = ends_from(cycle, numbers);
-        let Some(board) = Board::restore(byte_time, ends_from, &part(numbers, 41), io) else {
+        let Some(board) = Board::restore(byte_time, ends_from, &part(numbers, CORE_NUMBERS), io)
+        else {
             unreachable!();
         };
-        let Ok(sram) = filled(alloc, sram) else {
-            return Err(RestoreFault::NoMemory);
-        };
+        let sram = filled(alloc, sram)?;
         Ok(Node {
             cycle,
             asking: false,

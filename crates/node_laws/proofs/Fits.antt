@@ -39,7 +39,7 @@ use Rattle.serial_ports.specs.declared.radio.RadioState.TheVariants.{Idle, ToSen
 use Rattle.device_laws.specs.States.{IsBoard, IsSpi, IsTimer16, IsTimer8, IsUsart}
 use Rattle.node_core.specs.Numbers.{core_fits, core_tail, ends_from, first_outside, fits, numbers_of}
 use Rattle.node_core.specs.State.{NodeState}
-use Rattle.node_core.proofs.Saved.{Has, has-numbers}
+use Rattle.node_core.proofs.Saved.{Has, core-front, has-numbers}
 use Rattle.node_laws.specs.Within.{BoardWithin, ByteWithin, InboxWithin, RadioWithin, ShiftWithin, SpiWithin, StateWithin, Timer16Within, Timer8Within, UsartWithin}
 use Rattle.node_laws.specs.Node.{AreBytes, NodeWithin}
 
@@ -178,7 +178,7 @@ all_two : (xs ys : List Bool) → all xs ≡ true → all ys ≡ true → all (x
 all_two xs ys a b = list_all-append (λ fit. fit) xs ys ∙ both a b
 
 pub fits_board : (t : ℕ) (b : Board) → IsBoard b → BoardWithin t b → all (board.fits t (board.numbers_of b)) ≡ true
-unfolding board.fits
+unfolding board.fits board.timers_fit board.ports_fit
 fits_board t b states h =
     let a : List Bool = timer8.fits Own (timer8.numbers_of b.t0) in
     let c : List Bool = timer8.fits Shared (timer8.numbers_of b.t2) in
@@ -187,15 +187,11 @@ fits_board t b states h =
     let f : List Bool = usart.fits t (usart.numbers_of b.usart) in
     let g : List Bool = spi.fits t (spi.numbers_of b.spi) in
     let i : List Bool = radio.fits (radio.numbers_of b.radio) in
-    all_two (a ++ c ++ d ++ e ++ f ++ g) i
-    (all_two (a ++ c ++ d ++ e ++ f) g
-    (all_two (a ++ c ++ d ++ e) f
+    all_two (a ++ c ++ d ++ e) (f ++ g ++ i)
     (all_two (a ++ c ++ d) e
     (all_two (a ++ c) d (all_two a c (fits_8 Own b.t0 states.t0 h.t0) (fits_8 Shared b.t2 states.t2 h.t2)) (fits_16 b.t1 states.t1 h.t1))
     (fits_16 b.t3 states.t3 h.t3))
-    (fits_usart t b.usart states.usart h.usart))
-    (fits_spi t b.spi states.spi h.spi))
-    (fits_radio b.radio h.radio)
+    (all_two (f ++ g) i (all_two f g (fits_usart t b.usart states.usart h.usart) (fits_spi t b.spi states.spi h.spi)) (fits_radio b.radio h.radio))
 
 -- the core
 
@@ -307,5 +303,6 @@ unfolding fits
 none_outside_of t s h late =
     let n : List ℕ = numbers_of s in
     let len : length s.cpu.r ≡ 32 = h.core.count in
-    let every : all (core_fits n ++ board.fits (ends_from t n) (part 41 67 n)) ≡ true = all_two (core_fits n) (board.fits (ends_from t n) (part 41 67 n)) (core_all s len t h late) (board_all s len t h) in
-    is_none_of (position not (core_fits n ++ board.fits (ends_from t n) (part 41 67 n))) (none_outside (core_fits n ++ board.fits (ends_from t n) (part 41 67 n)) ∙ every)
+    let core : all (core_fits (part 0 41 n)) ≡ true = ap all (core-front n) ∙ core_all s len t h late in
+    let every : all (fits t n) ≡ true = all_two (core_fits (part 0 41 n)) (board.fits (ends_from t n) (part 41 67 n)) core (board_all s len t h) in
+    is_none_of (position not (fits t n)) (none_outside (fits t n) ∙ every)

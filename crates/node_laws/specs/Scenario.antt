@@ -3,7 +3,7 @@ use Rattle.std.specs.Prelude.{◌≡◌, ℕ, ◌^◌, ◌<◌, None, List, leng
 use Rattle.board_io.specs.Kept.{first_refused, io_of}
 use Rattle.node_core.specs.Numbers.{first_outside, numbers_of}
 use Rattle.data_space.specs.declared.regions.TheConstants.{IO_COUNT, SRAM_LEN}
-use Rattle.node_core.specs.declared.numbers.TheConstants.{NUMBERS}
+use Rattle.device_base.specs.declared.numbers.TheConstants.{NUMBERS}
 use Rattle.node_core.specs.State.{NodeState}
 use Rattle.node_runner.specs.Scenario.{IsRestoredIn, ScenarioOf}
 use Rattle.node_laws.specs.Node.{AreBytes}

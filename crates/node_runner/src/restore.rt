@@ -8,7 +8,8 @@ ghost use Rattle.node_runner.specs.Scenario.{IsRestoredIn, fleet_of};
 
 use crate::Scenario;
 use avr_base::NoMemory;
-use node_core::{NUMBERS, Node, RestoreFault};
+use device_base::NUMBERS;
+use node_core::{Node, RestoreFault};
 use std::alloc::Global;
 
 impl Scenario {
@@ -49,19 +50,38 @@ impl Scenario {
         if let Some(fault) = Node::fault(cycle, numbers, io) {
             return Err(fault);
         }
+        match self.restored(alloc, node, cycle, numbers, io, sram) {
+            Ok(node) => Ok(node),
+            Err(_) => Err(RestoreFault::NoMemory),
+        }
+    }
+
+    /// The node that [`Scenario::restore`] makes, where [`Node::fault`] finds none: nothing is tested again.
+    pub fn restored(
+        &self,
+        alloc: Global,
+        node: u8,
+        cycle: u64,
+        numbers: &[u64; NUMBERS],
+        io: &[u8],
+        sram: &[u8],
+    ) -> Result<Node, NoMemory>
+        requires node { node < self.now.topo.nodes }
+        requires cycle { cycle ≤ LAST_CYCLE }
+        requires io { length io.now ≡ IO_COUNT }
+        requires sram { length sram.now ≡ SRAM_LEN }
+        requires sound { fault_of cycle numbers.now io.now ≡ None }
+        ensures node { IfOk result (λ n. n ≡ record { cycle = cycle; asking = false; state = n.state; rows = [] }) }
+        ensures state { IfOk result (λ n. IsRestoredIn self.now node numbers.now io.now sram.now n.state) }
+        ensures one { (s : NodeState) → IsRestoredIn self.now node numbers.now io.now sram.now s → IfOk result (λ n. n.state ≡ s) }
+    {
         let topo = self.lawful_topo();
-        let Ok(program) = self.program(node).share() else {
-            return Err(RestoreFault::NoMemory);
-        };
-        let Ok(script) = self.script(node).copy() else {
-            return Err(RestoreFault::NoMemory);
-        };
         let window = self.window();
-        Node::restore(
+        Node::restored(
             alloc,
             node,
-            program,
-            script,
+            self.program(node).share()?,
+            self.script(node).copy()?,
             window,
             topo.byte_time(),
             cycle,

@@ -12,7 +12,7 @@ use Rattle.world_core.specs.Topology.{Topology, IsTopology}
 use Rattle.state_text.specs.Parts.{parts_of, line_of, pieces_of}
 use Rattle.state_text.specs.Text.{NodeOf, StateOf, numbers_line, bytes_line, node_lines, nodes_lines, send_line, cycle_line, title, tail_lines, state_lines, state_text}
 use Rattle.state_text.specs.Bounds.{Rules, HasNode, IsState, is_cut, is_kept, follows, kept_behind, are_sends}
-use Rattle.state_text.specs.Reading.{◌>>=◌, place, next_line, behind_word, behind_node, numbers_behind, only_bytes, title_at, cycle_at, numbers_at, bytes_at, node_at, nodes_at, send_in, send_of, sends_in, state_of}
+use Rattle.state_text.specs.Reading.{◌>>=◌, place, next_line, behind_word, behind_node, numbers_in, only_bytes, title_at, cycle_at, numbers_at, bytes_at, node_at, nodes_at, send_in, send_of, sends_in, state_of}
 use Rattle.state_text.proofs.Loops.{sends_are}
 use Rattle.state_text.proofs.Visible.{IsAbove, AreBytes, hex_above, parts_again, line_above, pieces_again}
 use Rattle.state_text.proofs.Numerals.{AreWide, decimal_again, decimal_above, decimals_again}
@@ -47,18 +47,18 @@ length_map : (ns : List ℕ) → length (map decimal ns) ≡ length ns
 length_map [] = refl
 length_map (n ∷ ns) = ap suc (length_map ns)
 
-numbers_read : (number count : ℕ) (before ns all : List ℕ) → length ns ≡ count → AreWide ns → before ++ ns ≡ all → numbers_behind number count before (map decimal ns) ≡ Ok all
-unfolding numbers_behind
-numbers_read number count before ns all len wide e =
+numbers_read : (number count : ℕ) (ns : List ℕ) → length ns ≡ count → AreWide ns → numbers_in number count (map decimal ns) ≡ Ok ns
+unfolding numbers_in
+numbers_read number count ns len wide =
     let d = decimals_again ns wide in
     let many : eqb (length (map decimal ns)) count ≡ true = eq-eqb (length (map decimal ns)) count (length_map ns ∙ len) in
-    rw (many, d.decimals, d.fit, d.values, e) refl
+    rw (many, d.decimals, d.fit, d.values) refl
 
-numbers_again : (within : List ℕ → Bool) (word : List ℕ) (k count : ℕ) (before ns all : List ℕ) (number : ℕ) (lines : List (List ℕ)) → IsAbove 32 word → k < 2 ^ 64 → length ns ≡ count → AreWide ns → before ++ ns ≡ all → within all ≡ true
-    → numbers_at within word k count before (place number (numbers_line word k ns ∷ whole lines)) ≡ Ok (all, place (number + 1) (whole lines))
+numbers_again : (within : List ℕ → Bool) (word : List ℕ) (k count : ℕ) (ns : List ℕ) (number : ℕ) (lines : List (List ℕ)) → IsAbove 32 word → k < 2 ^ 64 → length ns ≡ count → AreWide ns → within ns ≡ true
+    → numbers_at within word k count (place number (numbers_line word k ns ∷ whole lines)) ≡ Ok (ns, place (number + 1) (whole lines))
 unfolding numbers_at numbers_line
-numbers_again within word k count before ns all number lines hw hk len wide e holds =
-    rw (next_again number (line_of (word ∷ decimal k ∷ map decimal ns)) lines, node_again_word number word k (map decimal ns) hw hk (decimals_again ns wide).visible, numbers_read number count before ns all len wide e, holds) refl
+numbers_again within word k count ns number lines hw hk len wide holds =
+    rw (next_again number (line_of (word ∷ decimal k ∷ map decimal ns)) lines, node_again_word number word k (map decimal ns) hw hk (decimals_again ns wide).visible, numbers_read number count ns len wide, holds) refl
 
 only_again : (number count : ℕ) (bytes : List ℕ) → length bytes ≡ count → AreBytes bytes → only_bytes number count (encode_upper bytes ∷ []) ≡ Ok bytes
 unfolding only_bytes
@@ -89,12 +89,13 @@ node_again r cycle k n number lines hk h =
     let l4 = bytes_line (codes "io") k n.io ∷ l5 in
     let l3 = numbers_line (codes "ports") k (drop 79 ns) ∷ l4 in
     let l2 = numbers_line (codes "timers") k (take 38 (drop 41 ns)) ∷ l3 in
-    let s1 = numbers_again (r.within cycle) (codes "core") k 41 [] (take 41 ns) (take 41 ns) number l2 refl hk (omega (arith, count, length-take 41 ns)) (wide_take 41 ns h.wide) refl h.core in
-    let s2 = numbers_again (r.within cycle) (codes "timers") k 38 (take 41 ns) (take 38 (drop 41 ns)) (take 79 ns) (number + 1) l3 refl hk (omega (arith, count, length-take 38 (drop 41 ns), length-drop 41 ns)) (wide_take 38 (drop 41 ns) (wide_drop 41 ns h.wide)) (sym (take-add 41 38 ns)) h.timers in
-    let s3 = numbers_again (r.within cycle) (codes "ports") k 29 (take 79 ns) (drop 79 ns) ns (number + 1 + 1) l4 refl hk (omega (arith, count, length-drop 79 ns)) (wide_drop 79 ns h.wide) (take-append-drop 79 ns) h.ports in
-    let s4 = bytes_at_again r.readable (codes "io") k 224 n.io (number + 1 + 1 + 1) l5 refl hk h.io_count h.io_bytes h.io in
+    let s1 = numbers_again r.node.core (codes "core") k 41 (take 41 ns) number l2 refl hk (omega (arith, count, length-take 41 ns)) (wide_take 41 ns h.wide) h.core in
+    let s2 = numbers_again r.node.timers (codes "timers") k 38 (take 38 (drop 41 ns)) (number + 1) l3 refl hk (omega (arith, count, length-take 38 (drop 41 ns), length-drop 41 ns)) (wide_take 38 (drop 41 ns) (wide_drop 41 ns h.wide)) h.timers in
+    let s3 = numbers_again (r.node.ports cycle (take 41 ns)) (codes "ports") k 29 (drop 79 ns) (number + 1 + 1) l4 refl hk (omega (arith, count, length-drop 79 ns)) (wide_drop 79 ns h.wide) h.ports in
+    let s4 = bytes_at_again r.node.io (codes "io") k 224 n.io (number + 1 + 1 + 1) l5 refl hk h.io_count h.io_bytes h.io in
     let s5 = bytes_at_again (λ bytes. true) (codes "sram") k 4096 n.sram (number + 1 + 1 + 1 + 1) lines refl hk h.sram_count h.sram_bytes refl in
-    rw (s1, s2, s3, s4, s5) refl
+    let all : take 41 ns ++ take 38 (drop 41 ns) ++ drop 79 ns ≡ ns = ap (λ xs. xs ++ drop 79 ns) (sym (take-add 41 38 ns)) ∙ take-append-drop 79 ns in
+    rw (s1, s2, s3, s4, s5, all) refl
 
 record NodesAgain (r : Rules) (cycle k count number : ℕ) (ns : List NodeOf) (lines : List (List ℕ)) : Type 0 where
   next : ℕ
@@ -209,7 +210,7 @@ title_again lines = rw (next_again 1 title lines) refl
 cycle_again : (t : Topology) (cycle : ℕ) (lines : List (List ℕ)) → cycle < 2 ^ 64 → is_cut t cycle ≡ true → cycle_at t (place 2 (cycle_line cycle ∷ whole lines)) ≡ Ok (cycle, place 3 (whole lines))
 unfolding cycle_at cycle_line
 cycle_again t cycle lines early holds =
-    rw (next_again 2 (line_of (codes "cycle" ∷ decimal cycle ∷ [])) lines, parts_again (codes "cycle") (decimal cycle ∷ []) (refl, (decimal_above cycle early, tt)), word_again 2 (codes "cycle") (decimal cycle ∷ []), numbers_read 2 1 [] (cycle ∷ []) (cycle ∷ []) refl (early, tt) refl, holds) refl
+    rw (next_again 2 (line_of (codes "cycle" ∷ decimal cycle ∷ [])) lines, parts_again (codes "cycle") (decimal cycle ∷ []) (refl, (decimal_above cycle early, tt)), word_again 2 (codes "cycle") (decimal cycle ∷ []), numbers_read 2 1 (cycle ∷ []) refl (early, tt), holds) refl
 
 pub state_again : (r : Rules) (st : StateOf) → IsTopology r.topo → IsState r st → state_of r (state_text st) ≡ Ok st
 unfolding state_of state_text state_lines cycle_line

@@ -13,8 +13,8 @@ use Rattle.world_core.specs.Topology.{Topology, IsTopology}
 use Rattle.state_text.specs.Parts.{is_decimal, value, parts_of, line_of, pieces_of}
 use Rattle.state_text.specs.Text.{NodeOf, StateOf, numbers_line, bytes_line, node_lines, nodes_lines, send_line, cycle_line, title, tail_lines, state_lines, state_text}
 use Rattle.state_text.specs.Bounds.{Rules, HasNode, IsState, is_cut, is_kept, follows, kept_behind, are_sends}
-use Rattle.state_text.specs.Reading.{◌>>=◌, Place, place, line_in, next_line, no_form, behind_word, behind_node, numbers_behind, only_bytes, bytes_in, title_at, cycle_at, numbers_at, bytes_at, node_at, nodes_at, three_of, send, if_kept, some_or_out, send_in, send_of, over, sends_in, state_of, one_number}
-use Rattle.state_text.proofs.Taken.{bind_ok, ok_is, formed_ok, bounded_ok, numbers_taken}
+use Rattle.state_text.specs.Reading.{◌>>=◌, Place, place, line_in, next_line, no_form, behind_word, behind_node, numbers_in, only_bytes, bytes_in, title_at, cycle_at, numbers_at, bytes_at, node_at, nodes_at, three_of, send, if_kept, some_or_out, send_in, send_of, over, sends_in, state_of, one_number}
+use Rattle.state_text.proofs.Taken.{bind_ok, ok_is, formed_ok, bounded_ok, numbers_count, numbers_taken}
 use Rattle.state_text.proofs.Visible.{AreBytes, joined}
 use Rattle.state_text.proofs.Numerals.{AreWide, decimal_of, decimals_of}
 use Rattle.state_text.proofs.HexBytes.{bytes_of}
@@ -47,37 +47,29 @@ node_word number word k line parts h =
 
 -- ---- lines of a node
 
-record NumbersTaken (within : List ℕ → Bool) (word : List ℕ) (k count : ℕ) (before : List ℕ) (at : Place) (ns : List ℕ) (next : Place) : Type 0 where
-  new : List ℕ
-  line : at.pieces ≡ numbers_line word k new ∷ next.pieces
-  are : before ++ new ≡ ns
-  many : length new ≡ count
-  wide : AreWide new
+record NumbersTaken (within : List ℕ → Bool) (word : List ℕ) (k count : ℕ) (at : Place) (ns : List ℕ) (next : Place) : Type 0 where
+  line : at.pieces ≡ numbers_line word k ns ∷ next.pieces
+  many : length ns ≡ count
+  wide : AreWide ns
   holds : within ns ≡ true
 
-numbers_found : (within : List ℕ → Bool) (word : List ℕ) (k count : ℕ) (before : List ℕ) (at : Place) (ns : List ℕ) (next : Place) → numbers_at within word k count before at ≡ Ok (ns, next) → NumbersTaken within word k count before at ns next
+numbers_found : (within : List ℕ → Bool) (word : List ℕ) (k count : ℕ) (at : Place) (ns : List ℕ) (next : Place) → numbers_at within word k count at ≡ Ok (ns, next) → NumbersTaken within word k count at ns next
 unfolding numbers_at numbers_line
-numbers_found within word k count before at ns next h =
+numbers_found within word k count at ns next h =
     let a = bind_ok (next_line at) _ (ns, next) h in
     let b = bind_ok (behind_node at.number word k a.0.0) _ (ns, next) a.2 in
-    let c = bind_ok (numbers_behind at.number count before b.0) _ (ns, next) b.2 in
+    let c = bind_ok (numbers_in at.number count b.0) _ (ns, next) b.2 in
     let d = bounded_ok at.number (within c.0) (c.0, a.0.1) (ns, next) c.2 in
-    let t = numbers_taken at.number count before b.0 c.0 c.1 in
+    let t = numbers_taken at.number count b.0 c.0 c.1 in
     let dec = decimals_of b.0 t.decimals t.fit in
-    let text : a.0.0 ≡ line_of (word ∷ decimal k ∷ map decimal (map value b.0)) = node_word at.number word k a.0.0 b.0 b.1 ∙ ap (λ xs. line_of (word ∷ decimal k ∷ xs)) (sym dec.0) in
-    let made : NumbersTaken within word k count before at c.0 a.0.1 = record {
-      new = map value b.0;
+    let text : a.0.0 ≡ line_of (word ∷ decimal k ∷ map decimal c.0) = node_word at.number word k a.0.0 b.0 b.1 ∙ ap (λ xs. line_of (word ∷ decimal k ∷ xs)) (sym dec.0 ∙ ap (map decimal) t.are) in
+    let made : NumbersTaken within word k count at c.0 a.0.1 = record {
       line = line_taken at.number at.pieces a.0.0 a.0.1 a.1 ∙ ap (λ x. x ∷ a.0.1.pieces) text;
-      are = t.are;
-      many = mapped b.0 ∙ t.many;
-      wide = dec.1;
+      many = numbers_count at.number count b.0 c.0 c.1;
+      wide = subst AreWide t.are dec.1;
       holds = d.0;
     } in
-    subst (λ (x : List ℕ × Place). NumbersTaken within word k count before at x.0 x.1) d.1 made
-  where
-    mapped : (parts : List (List ℕ)) → length (map value parts) ≡ length parts
-    mapped [] = refl
-    mapped (p ∷ parts) = ap suc (mapped parts)
+    subst (λ (x : List ℕ × Place). NumbersTaken within word k count at x.0 x.1) d.1 made
 
 record BytesTaken (readable : List ℕ → Bool) (word : List ℕ) (k count : ℕ) (at : Place) (bytes : List ℕ) (next : Place) : Type 0 where
   line : at.pieces ≡ bytes_line word k bytes ∷ next.pieces
@@ -118,7 +110,6 @@ record Thirds (a b c ns : List ℕ) : Type 0 where
   first : a ≡ take 41 ns
   second : b ≡ take 38 (drop 41 ns)
   third : c ≡ drop 79 ns
-  two : a ++ b ≡ take 79 ns
 
 thirds : (a b c ns : List ℕ) → (a ++ b) ++ c ≡ ns → length a ≡ 41 → length b ≡ 38 → Thirds a b c ns
 thirds a b c ns e la lb =
@@ -129,7 +120,6 @@ thirds a b c ns e la lb =
       first = sym (ap (take 41) grouped ∙ take_at a (b ++ c) 41 la);
       second = sym (ap (take 38) behind ∙ take_at b c 38 lb);
       third = sym (ap (drop 79) (sym e) ∙ drop_at (a ++ b) c 79 lab);
-      two = sym (ap (take 79) (sym e) ∙ take_at (a ++ b) c 79 lab);
     }
 
 record NodeTaken (r : Rules) (cycle k : ℕ) (at : Place) (n : NodeOf) (next : Place) : Type 0 where
@@ -139,32 +129,28 @@ record NodeTaken (r : Rules) (cycle k : ℕ) (at : Place) (n : NodeOf) (next : P
 node_found : (r : Rules) (cycle k : ℕ) (at : Place) (n : NodeOf) (next : Place) → node_at r cycle k at ≡ Ok (n, next) → NodeTaken r cycle k at n next
 unfolding node_at node_lines
 node_found r cycle k at n next h =
-    let a = bind_ok (numbers_at (r.within cycle) (codes "core") k 41 [] at) _ (n, next) h in
-    let b = bind_ok (numbers_at (r.within cycle) (codes "timers") k 38 a.0.0 a.0.1) _ (n, next) a.2 in
-    let c = bind_ok (numbers_at (r.within cycle) (codes "ports") k 29 b.0.0 b.0.1) _ (n, next) b.2 in
-    let d = bind_ok (bytes_at r.readable (codes "io") k 224 c.0.1) _ (n, next) c.2 in
+    let a = bind_ok (numbers_at r.node.core (codes "core") k 41 at) _ (n, next) h in
+    let b = bind_ok (numbers_at r.node.timers (codes "timers") k 38 a.0.1) _ (n, next) a.2 in
+    let c = bind_ok (numbers_at (r.node.ports cycle a.0.0) (codes "ports") k 29 b.0.1) _ (n, next) b.2 in
+    let d = bind_ok (bytes_at r.node.io (codes "io") k 224 c.0.1) _ (n, next) c.2 in
     let e = bind_ok (bytes_at (λ bytes. true) (codes "sram") k 4096 d.0.1) _ (n, next) d.2 in
-    let ta = numbers_found (r.within cycle) (codes "core") k 41 [] at a.0.0 a.0.1 a.1 in
-    let tb = numbers_found (r.within cycle) (codes "timers") k 38 a.0.0 a.0.1 b.0.0 b.0.1 b.1 in
-    let tc = numbers_found (r.within cycle) (codes "ports") k 29 b.0.0 b.0.1 c.0.0 c.0.1 c.1 in
-    let td = bytes_found r.readable (codes "io") k 224 c.0.1 d.0.0 d.0.1 d.1 in
+    let ta = numbers_found r.node.core (codes "core") k 41 at a.0.0 a.0.1 a.1 in
+    let tb = numbers_found r.node.timers (codes "timers") k 38 a.0.1 b.0.0 b.0.1 b.1 in
+    let tc = numbers_found (r.node.ports cycle a.0.0) (codes "ports") k 29 b.0.1 c.0.0 c.0.1 c.1 in
+    let td = bytes_found r.node.io (codes "io") k 224 c.0.1 d.0.0 d.0.1 d.1 in
     let te = bytes_found (λ bytes. true) (codes "sram") k 4096 d.0.1 e.0.0 e.0.1 e.1 in
-    let all : (ta.new ++ tb.new) ++ tc.new ≡ c.0.0 = ap (λ x. (x ++ tb.new) ++ tc.new) ta.are ∙ (ap (λ x. x ++ tc.new) tb.are ∙ tc.are) in
-    let t = thirds ta.new tb.new tc.new c.0.0 all ta.many tb.many in
-    let core : a.0.0 ≡ take 41 c.0.0 = sym ta.are ∙ t.first in
-    let timers : b.0.0 ≡ take 79 c.0.0 = sym tb.are ∙ (ap (λ x. x ++ tb.new) (sym ta.are) ∙ t.two) in
+    let all : List ℕ = a.0.0 ++ b.0.0 ++ c.0.0 in
+    let t = thirds a.0.0 b.0.0 c.0.0 all refl ta.many tb.many in
     let la = ta.many in
     let lb = tb.many in
     let lc = tc.many in
-    let len : length ((ta.new ++ tb.new) ++ tc.new) ≡ length c.0.0 = ap length all in
-    let made : NodeOf = record { numbers = c.0.0; io = d.0.0; sram = e.0.0 } in
-    let wide : AreWide c.0.0 = subst AreWide all (wide_append (ta.new ++ tb.new) tc.new (wide_append ta.new tb.new ta.wide tb.wide) tc.wide) in
+    let made : NodeOf = record { numbers = all; io = d.0.0; sram = e.0.0 } in
     let have : HasNode r cycle made = record {
-      count = omega (arith, len, la, lb, lc, length-append (ta.new ++ tb.new) tc.new, length-append ta.new tb.new);
-      wide = wide;
-      core = ap (r.within cycle) (sym core) ∙ ta.holds;
-      timers = ap (r.within cycle) (sym timers) ∙ tb.holds;
-      ports = tc.holds;
+      count = omega (arith, la, lb, lc, length-append (a.0.0 ++ b.0.0) c.0.0, length-append a.0.0 b.0.0);
+      wide = wide_append (a.0.0 ++ b.0.0) c.0.0 (wide_append a.0.0 b.0.0 ta.wide tb.wide) tc.wide;
+      core = ap r.node.core (sym t.first) ∙ ta.holds;
+      timers = ap r.node.timers (sym t.second) ∙ tb.holds;
+      ports = (λ i. r.node.ports cycle (sym t.first i) (sym t.third i)) ∙ tc.holds;
       io_count = td.many;
       io_bytes = td.small;
       io = td.holds;
@@ -173,9 +159,9 @@ node_found r cycle k at n next h =
     } in
     let lines : at.pieces ≡ node_lines k made ++ e.0.1.pieces =
     ta.line ∙ (ap (λ x. numbers_line (codes "core") k x ∷ a.0.1.pieces) t.first
-    ∙ ap (λ x. numbers_line (codes "core") k (take 41 c.0.0) ∷ x) (tb.line ∙ (ap (λ x. numbers_line (codes "timers") k x ∷ b.0.1.pieces) t.second
-    ∙ ap (λ x. numbers_line (codes "timers") k (take 38 (drop 41 c.0.0)) ∷ x) (tc.line ∙ (ap (λ x. numbers_line (codes "ports") k x ∷ c.0.1.pieces) t.third
-    ∙ ap (λ x. numbers_line (codes "ports") k (drop 79 c.0.0) ∷ x) (td.line ∙ ap (λ x. bytes_line (codes "io") k d.0.0 ∷ x) te.line)))))) in
+    ∙ ap (λ x. numbers_line (codes "core") k (take 41 all) ∷ x) (tb.line ∙ (ap (λ x. numbers_line (codes "timers") k x ∷ b.0.1.pieces) t.second
+    ∙ ap (λ x. numbers_line (codes "timers") k (take 38 (drop 41 all)) ∷ x) (tc.line ∙ (ap (λ x. numbers_line (codes "ports") k x ∷ c.0.1.pieces) t.third
+    ∙ ap (λ x. numbers_line (codes "ports") k (drop 79 all) ∷ x) (td.line ∙ ap (λ x. bytes_line (codes "io") k d.0.0 ∷ x) te.line)))))) in
     let whole : NodeTaken r cycle k at made e.0.1 = record { lines = lines; have = have } in
     subst (λ (x : NodeOf × Place). NodeTaken r cycle k at x.0 x.1) (ok_is (made, e.0.1) (n, next) e.2) whole
 
@@ -224,9 +210,9 @@ unfolding cycle_at cycle_line
 cycle_found t at cycle next h =
     let a = bind_ok (next_line at) _ (cycle, next) h in
     let b = bind_ok (behind_word at.number (codes "cycle") (parts_of a.0.0)) _ (cycle, next) a.2 in
-    let c = bind_ok (numbers_behind at.number 1 [] b.0) _ (cycle, next) b.2 in
+    let c = bind_ok (numbers_in at.number 1 b.0) _ (cycle, next) b.2 in
     let d = bounded_ok at.number (is_cut t (one_number c.0)) (one_number c.0, a.0.1) (cycle, next) c.2 in
-    let t1 = numbers_taken at.number 1 [] b.0 c.0 c.1 in
+    let t1 = numbers_taken at.number 1 b.0 c.0 c.1 in
     let dec = decimals_of b.0 t1.decimals t1.fit in
     let mapped : map decimal c.0 ≡ b.0 = ap (map decimal) (sym t1.are) ∙ dec.0 in
     let many = t1.many in

@@ -11,7 +11,7 @@ use Rattle.world_core.specs.Topology.{Topology, IsTopology}
 use Rattle.state_text.specs.declared.fault.StateFault.{StateFault}
 use Rattle.state_text.specs.Parts.{parts_of, is_decimal, value, is_lower}
 use Rattle.state_text.specs.Bounds.{is_cut}
-use Rattle.state_text.specs.Reading.{◌>>=◌, Place, no_form, bounded, formed, decoded, numbers_behind, bytes_in, fits_word, send, send_in, if_kept, some_or_out, next_line, behind_word, cycle_at}
+use Rattle.state_text.specs.Reading.{◌>>=◌, Place, no_form, bounded, formed, decoded, numbers_in, bytes_in, fits_word, send, send_in, if_kept, some_or_out, next_line, behind_word, cycle_at}
 
 -- the value of a step that did not fail
 pub bind_ok : {A B : Type 0} (r : Result A StateFault) (f : A → Result B StateFault) (y : B) → (r >>= f) ≡ Ok y → (x : A) × (r ≡ Ok x) × (f x ≡ Ok y)
@@ -32,33 +32,31 @@ pub formed_ok : {A : Type 0} (number : ℕ) (holds : Bool) (x y : A) → formed 
 formed_ok number true x y e = (refl, cc)
 formed_ok number false x y e = absurd cc
 
-pub record AreNumbers (count : ℕ) (before : List ℕ) (parts : List (List ℕ)) (ns : List ℕ) : Type 0 where
+pub record AreNumbers (count : ℕ) (parts : List (List ℕ)) (ns : List ℕ) : Type 0 where
   pub many : length parts ≡ count
   pub decimals : list_all is_decimal parts ≡ true
   pub fit : list_all fits_word parts ≡ true
-  pub are : before ++ map value parts ≡ ns
+  pub are : map value parts ≡ ns
 
-pub numbers_taken : (number count : ℕ) (before : List ℕ) (parts : List (List ℕ)) (ns : List ℕ) → numbers_behind number count before parts ≡ Ok ns → AreNumbers count before parts ns
-unfolding numbers_behind
-numbers_taken number count before parts ns h = go (eqb (length parts) count && list_all is_decimal parts) refl h
+pub numbers_taken : (number count : ℕ) (parts : List (List ℕ)) (ns : List ℕ) → numbers_in number count parts ≡ Ok ns → AreNumbers count parts ns
+unfolding numbers_in
+numbers_taken number count parts ns h = go (eqb (length parts) count && list_all is_decimal parts) refl h
   where
-    go : (b : Bool) → (eqb (length parts) count && list_all is_decimal parts) ≡ b → cond b (bounded number (list_all fits_word parts) (before ++ map value parts)) (no_form number) ≡ Ok ns → AreNumbers count before parts ns
+    go : (b : Bool) → (eqb (length parts) count && list_all is_decimal parts) ≡ b → cond b (bounded number (list_all fits_word parts) (map value parts)) (no_form number) ≡ Ok ns → AreNumbers count parts ns
     go false e k = absurd cc
     go true e k =
         let both = and_parts (eqb (length parts) count) (list_all is_decimal parts) e in
-        let fit = bounded_ok number (list_all fits_word parts) (before ++ map value parts) ns k in
+        let fit = bounded_ok number (list_all fits_word parts) (map value parts) ns k in
         record { many = eqb-true (length parts) count both.0; decimals = both.1; fit = fit.0; are = fit.1 }
 
 mapped : (parts : List (List ℕ)) → length (map value parts) ≡ length parts
 mapped [] = refl
 mapped (p ∷ parts) = ap suc (mapped parts)
 
-pub numbers_count : (number count : ℕ) (before : List ℕ) (parts : List (List ℕ)) (ns : List ℕ) → numbers_behind number count before parts ≡ Ok ns → length ns ≡ length before + count
-numbers_count number count before parts ns h =
-    let t = numbers_taken number count before parts ns h in
-    let are : length (before ++ map value parts) ≡ length ns = ap length t.are in
-    let n = t.many in
-    omega (arith, are, n, length-append before (map value parts), mapped parts)
+pub numbers_count : (number count : ℕ) (parts : List (List ℕ)) (ns : List ℕ) → numbers_in number count parts ≡ Ok ns → length ns ≡ count
+numbers_count number count parts ns h =
+    let t = numbers_taken number count parts ns h in
+    sym (ap length t.are) ∙ mapped parts ∙ t.many
 
 decoded_ok : (number : ℕ) (r : Result (List ℕ) _) (bytes : List ℕ) → decoded number r ≡ Ok bytes → r ≡ Ok bytes
 decoded_ok number (Ok bs) bytes h = cc
@@ -100,6 +98,6 @@ first_is [] x one h = absurd (omega arith)
 first_is (n ∷ ns) x one h = h
 
 pub cycle_taken : (t : Topology) (at next : Place) (line : List ℕ) (parts : List (List ℕ)) (ns : List ℕ) (x : ℕ) → next_line at ≡ Ok (line, next) → behind_word at.number (codes "cycle") (parts_of line) ≡ Ok parts
-    → numbers_behind at.number 1 [] parts ≡ Ok ns → slice_index ns 0 ≡ x → is_cut t x ≡ true → cycle_at t at ≡ Ok (x, next)
+    → numbers_in at.number 1 parts ≡ Ok ns → slice_index ns 0 ≡ x → is_cut t x ≡ true → cycle_at t at ≡ Ok (x, next)
 unfolding cycle_at
 cycle_taken t at next line parts ns x h1 h2 h3 first cut = rw (h1, h2, h3, first, cut) refl

@@ -1,21 +1,29 @@
 -- The bounds of a state's lines.
-use Rattle.std.specs.Prelude.{◌≡◌, ℕ, ◌+◌, ◌%◌, ◌^◌, ◌<◌, ◌==◌, ◌&&◌, ◌||◌, nat_le, nat_lt, Bool, true, List, [], ◌∷◌, length, take, Option, Some, None}
+use Rattle.std.specs.Prelude.{◌≡◌, ℕ, ◌+◌, ◌%◌, ◌^◌, ◌<◌, ◌==◌, ◌&&◌, ◌||◌, nat_le, nat_lt, Bool, true, List, [], ◌∷◌, length, Option, Some, None}
 use Rattle.std.specs.List.{AllByRecursion}
 use Rattle.world_core.specs.Topology.{Topology, reach}
 use Rattle.world_core.specs.Kept.{epoch}
 use Rattle.air_base.specs.declared.air.Send.{Send}
+use Rattle.device_base.specs.declared.numbers.TheConstants.{NUMBERS}
 use Rattle.data_space.specs.declared.regions.TheConstants.{IO_COUNT, SRAM_LEN}
-use Rattle.state_text.specs.Text.{NodeOf, StateOf}
+use Rattle.state_text.specs.Text.{NodeOf, StateOf, core_of, ports_of, timers_of}
+
+-- which lines of a node keep their bounds
+pub record NodeRules : Type 0 where
+  -- the numbers of its core, and of its timers
+  pub core : List ℕ → Bool
+  pub timers : List ℕ → Bool
+  -- the numbers of its ports, in a state at this cycle, where its core has these numbers
+  pub ports : ℕ → List ℕ → List ℕ → Bool
+  -- the bytes from 0x20 on, as the board can read them
+  pub io : List ℕ → Bool
 
 pub record Rules : Type 0 where
   pub topo : Topology
-  -- of the first numbers of a node, in a state at this cycle, none breaks its bound
-  pub within : ℕ → List ℕ → Bool
-  -- the board can read these bytes from 0x20 on
-  pub readable : List ℕ → Bool
+  pub node : NodeRules
 
-abbrev pub rules : Topology → (ℕ → List ℕ → Bool) → (List ℕ → Bool) → Rules
-rules topo within readable = record { topo = topo; within = within; readable = readable }
+abbrev pub rules : Topology → NodeRules → Rules
+rules topo node = record { topo = topo; node = node }
 
 -- the end of an epoch, below the limit
 abbrev pub is_cut : Topology → ℕ → Bool
@@ -40,14 +48,14 @@ are_sends t cycle before (x ∷ xs) = kept_behind t cycle before x && are_sends 
 
 -- what a state can have of a node
 pub record HasNode (r : Rules) (cycle : ℕ) (n : NodeOf) : Type 0 where
-  pub count : length n.numbers ≡ 108
+  pub count : length n.numbers ≡ NUMBERS
   pub wide : AllByRecursion (λ x. x < 2 ^ 64) n.numbers
-  pub core : r.within cycle (take 41 n.numbers) ≡ true
-  pub timers : r.within cycle (take 79 n.numbers) ≡ true
-  pub ports : r.within cycle n.numbers ≡ true
+  pub core : r.node.core (core_of n.numbers) ≡ true
+  pub timers : r.node.timers (timers_of n.numbers) ≡ true
+  pub ports : r.node.ports cycle (core_of n.numbers) (ports_of n.numbers) ≡ true
   pub io_count : length n.io ≡ IO_COUNT
   pub io_bytes : AllByRecursion (λ x. x < 256) n.io
-  pub io : r.readable n.io ≡ true
+  pub io : r.node.io n.io ≡ true
   pub sram_count : length n.sram ≡ SRAM_LEN
   pub sram_bytes : AllByRecursion (λ x. x < 256) n.sram
 

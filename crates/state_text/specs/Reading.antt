@@ -5,6 +5,7 @@ use Rattle.std.specs.List.{list_all, list_any}
 use Rattle.std.specs.Str.{bytes_eq}
 use Rattle.hex.specs.Hex.{decode_sized}
 use Rattle.hex.specs.declared.error.FromHexError.{FromHexError}
+use Rattle.device_base.specs.declared.numbers.TheConstants.{CORE_NUMBERS, PORT_NUMBERS, TIMER_NUMBERS}
 use Rattle.data_space.specs.declared.regions.TheConstants.{IO_COUNT, SRAM_LEN}
 use Rattle.world_core.specs.Topology.{Topology}
 use Rattle.air_base.specs.declared.air.Send.{Send}
@@ -66,10 +67,10 @@ formed number holds x = if holds then Ok x else no_form number
 abbrev pub fits_word : List ℕ → Bool
 fits_word part = nat_lt (value part) (2 ^ 64)
 
--- so many numbers, one in each part, behind others
-unfoldable pub numbers_behind : ℕ → ℕ → List ℕ → List (List ℕ) → Result (List ℕ) StateFault
-numbers_behind number count before parts =
-    if length parts == count && list_all is_decimal parts then bounded number (list_all fits_word parts) (before ++ map value parts) else no_form number
+-- so many numbers, one in each part
+unfoldable pub numbers_in : ℕ → ℕ → List (List ℕ) → Result (List ℕ) StateFault
+numbers_in number count parts =
+    if length parts == count && list_all is_decimal parts then bounded number (list_all fits_word parts) (map value parts) else no_form number
 
 abbrev pub decoded : ℕ → Result (List ℕ) FromHexError → Result (List ℕ) StateFault
 decoded number (Ok bytes) = Ok bytes
@@ -110,15 +111,15 @@ unfoldable pub cycle_at : Topology → Place → Result (ℕ × Place) StateFaul
 cycle_at t at = do
   line ← next_line at
   parts ← behind_word at.number (codes "cycle") (parts_of line.0)
-  ns ← numbers_behind at.number 1 [] parts
+  ns ← numbers_in at.number 1 parts
   bounded at.number (is_cut t (one_number ns)) (one_number ns, line.1)
 
--- a line of numbers of node k, behind those of its lines before
-unfoldable pub numbers_at : (List ℕ → Bool) → List ℕ → ℕ → ℕ → List ℕ → Place → Result (List ℕ × Place) StateFault
-numbers_at within word k count before at = do
+-- a line of so many numbers of node k, within their bounds
+unfoldable pub numbers_at : (List ℕ → Bool) → List ℕ → ℕ → ℕ → Place → Result (List ℕ × Place) StateFault
+numbers_at within word k count at = do
   line ← next_line at
   parts ← behind_node at.number word k line.0
-  ns ← numbers_behind at.number count before parts
+  ns ← numbers_in at.number count parts
   bounded at.number (within ns) (ns, line.1)
 
 -- a line of bytes of node k
@@ -132,12 +133,12 @@ bytes_at readable word k count at = do
 -- the five lines of node k
 unfoldable pub node_at : Rules → ℕ → ℕ → Place → Result (NodeOf × Place) StateFault
 node_at r cycle k at = do
-  core ← numbers_at (r.within cycle) (codes "core") k 41 [] at
-  timers ← numbers_at (r.within cycle) (codes "timers") k 38 core.0 core.1
-  ports ← numbers_at (r.within cycle) (codes "ports") k 29 timers.0 timers.1
-  io ← bytes_at r.readable (codes "io") k IO_COUNT ports.1
+  core ← numbers_at r.node.core (codes "core") k CORE_NUMBERS at
+  timers ← numbers_at r.node.timers (codes "timers") k TIMER_NUMBERS core.1
+  ports ← numbers_at (r.node.ports cycle core.0) (codes "ports") k PORT_NUMBERS timers.1
+  io ← bytes_at r.node.io (codes "io") k IO_COUNT ports.1
   sram ← bytes_at (λ bytes. true) (codes "sram") k SRAM_LEN io.1
-  Ok (record { numbers = ports.0; io = io.0; sram = sram.0 }, sram.1)
+  Ok (record { numbers = core.0 ++ timers.0 ++ ports.0; io = io.0; sram = sram.0 }, sram.1)
 
 -- so many nodes, from node k on
 unfoldable pub nodes_at : Rules → ℕ → ℕ → ℕ → Place → Result (List NodeOf × Place) StateFault

@@ -4,15 +4,26 @@ use Rattle.std.specs.Prelude.{ℕ, ◌+◌, List, [], ◌∷◌, ◌++◌, map, 
 use Rattle.std.specs.List.{flat_map}
 use Rattle.hex.specs.Hex.{encode_upper}
 use Rattle.air_base.specs.declared.air.Send.{Send}
+use Rattle.device_base.specs.declared.numbers.TheConstants.{CORE_NUMBERS, TIMER_NUMBERS}
 use Rattle.state_text.specs.Parts.{line_of, ended}
 
 pub record NodeOf : Type 0 where
-  -- 41 of the core, 38 of the timers and 29 of the ports
+  -- those of the core, then of the timers, then of the ports
   pub numbers : List ℕ
   -- the bytes from 0x20 to 0xFF that the board itself keeps
   pub io : List ℕ
   -- the bytes from 0x100 to 0x10FF
   pub sram : List ℕ
+
+-- the numbers of each of its three lines
+abbrev pub core_of : List ℕ → List ℕ
+core_of ns = take CORE_NUMBERS ns
+
+abbrev pub timers_of : List ℕ → List ℕ
+timers_of ns = take TIMER_NUMBERS (drop CORE_NUMBERS ns)
+
+abbrev pub ports_of : List ℕ → List ℕ
+ports_of ns = drop (CORE_NUMBERS + TIMER_NUMBERS) ns
 
 pub record StateOf : Type 0 where
   pub cycle : ℕ
@@ -30,9 +41,9 @@ bytes_line word k bytes = line_of (word ∷ decimal k ∷ encode_upper bytes ∷
 -- the lines of node k
 unfoldable pub node_lines : ℕ → NodeOf → List (List ℕ)
 node_lines k n =
-    numbers_line (codes "core") k (take 41 n.numbers)
-    ∷ numbers_line (codes "timers") k (take 38 (drop 41 n.numbers))
-    ∷ numbers_line (codes "ports") k (drop 79 n.numbers)
+    numbers_line (codes "core") k (core_of n.numbers)
+    ∷ numbers_line (codes "timers") k (timers_of n.numbers)
+    ∷ numbers_line (codes "ports") k (ports_of n.numbers)
     ∷ bytes_line (codes "io") k n.io
     ∷ bytes_line (codes "sram") k n.sram
     ∷ []

@@ -1,10 +1,10 @@
 -- Words of the writer's contracts, and no part of what a state is: how a page of text in front of a sink stands after a
 -- text was appended to it.
-use Rattle.std.specs.Prelude.{◌≡◌, ℕ, ◌≤◌, Bool, true, false, List, [], ◌∷◌, ◌++◌, length, take, drop, codes, decimal, slice_index_or, Option}
+use Rattle.std.specs.Prelude.{◌≡◌, ℕ, ◌≤◌, Bool, true, false, List, [], ◌∷◌, ◌++◌, length, codes, decimal, slice_index_or, Option}
 use Rattle.data_space.specs.declared.regions.TheConstants.{IO_COUNT, SRAM_LEN}
 use Rattle.sim_io.specs.Outside.{Rose, TookFront, Moved}
 use Rattle.state_text.specs.Parts.{ended}
-use Rattle.state_text.specs.Text.{NodeOf, numbers_line}
+use Rattle.state_text.specs.Text.{NodeOf, core_of, numbers_line, ports_of, timers_of}
 
 -- as many bytes as a node has
 pub record IsSized (n : NodeOf) : Type 0 where
@@ -28,7 +28,7 @@ head word k = word ++ spaced (decimal k)
 
 -- the lines of the numbers of node k
 abbrev pub numbers_text : ℕ → List ℕ → List ℕ
-numbers_text k ns = ended (numbers_line (codes "core") k (take 41 ns)) ++ (ended (numbers_line (codes "timers") k (take 38 (drop 41 ns))) ++ ended (numbers_line (codes "ports") k (drop 79 ns)))
+numbers_text k ns = ended (numbers_line (codes "core") k (core_of ns)) ++ (ended (numbers_line (codes "timers") k (timers_of ns)) ++ ended (numbers_line (codes "ports") k (ports_of ns)))
 
 -- what the sink took, where it tells, the page in front of it, whether there was a fault, and how many writes failed
 pub record Out : Type 0 where

@@ -4,6 +4,8 @@ ghost use Rattle.data_space.specs.declared.regions.TheConstants.{IO_COUNT, SRAM_
 ghost use Rattle.state_text.specs.Text.{NodeOf};
 ghost use Rattle.state_text.specs.Writing.{node_of};
 
+use device_base::NUMBERS;
+
 /// The nodes of a state that is to be written.
 pub trait Nodes {
     /// What the state has of each, in order.
@@ -13,8 +15,8 @@ pub trait Nodes {
     fn count(&self) -> usize
         ensures { result ≡ length (nodes self.now) };
 
-    /// The 108 numbers of a node.
-    fn numbers(&self, node: usize) -> [u64; 108]
+    /// The numbers of a node.
+    fn numbers(&self, node: usize) -> [u64; NUMBERS]
         requires { node < length (nodes self.now) }
         ensures { result ≡ (node_of (nodes self.now) node).numbers };
 

@@ -1,12 +1,12 @@
 // Numbers and bytes as they are written.
-ghost use Rattle.std.specs.Prelude.{◌≡◌, ◌+◌, ◌-◌, ◌*◌, ◌==◌, ◌&&◌, ◌++◌, ◌^◌, ◌≤◌, true, length, map, IfSome, IfNone, IfOk};
+ghost use Rattle.std.specs.Prelude.{◌≡◌, ◌+◌, ◌-◌, ◌*◌, ◌==◌, ◌&&◌, ◌^◌, ◌≤◌, true, length, map, is_some, IfSome, IfNone};
 ghost use Rattle.std.specs.List.{list_all, list_any};
 ghost use Rattle.state_text.specs.Parts.{is_decimal, is_digit, is_lower, value};
-ghost use Rattle.state_text.specs.Reading.{Gives, bytes_in, numbers_behind, only_bytes, fits_word};
+ghost use Rattle.state_text.specs.Reading.{Gives, bytes_in, fits_word, numbers_in, only_bytes};
 
 use crate::fault::StateFault;
 use crate::parts::Parts;
-use std::alloc::{AllocError, Global};
+use std::alloc::Global;
 
 fn is_digit(b: u8) -> bool
     ensures { result ≡ is_digit b }
@@ -80,38 +80,36 @@ fn are_decimals(mut parts: Parts<'_>, count: usize) -> bool
     }
 }
 
-// Appends the numbers of the parts, where each has at most 64 bits.
-fn push_values(mut parts: Parts<'_>, out: &mut Vec<u64>) -> Result<bool, AllocError>
-    requires { list_all is_decimal parts ≡ true }
-    ensures fits { IfOk result (λ fits. fits ≡ list_all fits_word parts.entry) }
-    ensures values { IfOk result (λ fits. fits ≡ true → out.new.items ≡ out.old.items ++ map value parts.entry) }
+// The numbers of so many parts, where each has at most 64 bits.
+fn values<const N: usize>(mut parts: Parts<'_>) -> Option<[u64; N]>
+    requires decimals { list_all is_decimal parts ≡ true }
+    requires many { length parts ≡ N }
+    ensures fit { is_some result ≡ list_all fits_word parts.entry }
+    ensures values { IfSome result (λ numbers. numbers ≡ map value parts.entry) }
 {
-    while let Some(part) = parts.next() {
-        match value(part) {
-            None => return Ok(false),
-            Some(n) => out.push(n)?,
+    let mut numbers = [0; N];
+    for place in 0..N {
+        match value(parts.next()?) {
+            None => return None,
+            Some(n) => numbers[place] = n,
         }
     }
-    Ok(true)
+    Some(numbers)
 }
 
-/// Appends so many numbers, one in each part that is left.
-#[tactic(auto, unfolding(crate::specs::Reading::numbers_behind))]
-pub fn numbers_in(
-    number: usize,
-    count: usize,
-    parts: Parts<'_>,
-    out: &mut Vec<u64>,
-) -> Result<(), StateFault>
-    ensures { Gives (λ x. out.new.items) result (numbers_behind number count out.old.items parts.entry) }
+/// The `N` numbers of the parts that are left, one in each. `NotAState`, with the line number `number`, where they are
+/// more or fewer, or one is no decimal number; out of bounds where one has more than 64 bits.
+#[tactic(auto, unfolding(crate::specs::Reading::numbers_in))]
+pub fn numbers_in<const N: usize>(number: usize, parts: Parts<'_>) -> Result<[u64; N], StateFault>
+    ensures { Gives (λ numbers. numbers) result (numbers_in number N parts.entry) }
 {
-    if !are_decimals(parts.again(), count) {
+    if !are_decimals(parts.again(), N) {
         return Err(StateFault::NotAState { line: number });
     }
-    if !push_values(parts, out)? {
-        return Err(StateFault::out_of_bounds(number));
+    match values(parts) {
+        Some(numbers) => Ok(numbers),
+        None => Err(StateFault::out_of_bounds(number)),
     }
-    Ok(())
 }
 
 fn is_lower(b: u8) -> bool

@@ -1,5 +1,5 @@
 // The reading of a state's text.
-ghost use Rattle.std.specs.Prelude.{◌≡◌, ◌<◌, ◌^◌, ◌∷◌, [], ℕ, true, None, codes, IfOk, Ok};
+ghost use Rattle.std.specs.Prelude.{◌≡◌, ◌<◌, ◌^◌, ◌∷◌, ◌++◌, [], ℕ, true, None, codes, IfOk, Ok};
 ghost use Rattle.air_base.specs.Bounds.{LAST_CYCLE};
 ghost use Rattle.state_text.specs.Parts.{is_decimal, value};
 ghost use Rattle.state_text.specs.Text.{StateOf, state_text};
@@ -15,6 +15,7 @@ use crate::parts::{Parts, behind_node};
 use crate::state::{NodeParts, StateParts};
 use air_base::Send;
 use data_space::{IO_COUNT, SRAM_LEN};
+use device_base::{CORE_NUMBERS, NUMBERS, PORT_NUMBERS, TIMER_NUMBERS, put_part};
 use std::alloc::Global;
 use world_core::{EPOCH, Topo};
 
@@ -38,15 +39,14 @@ fn is_cut(topo: &Topo, cycle: u64) -> bool
 }
 
 #[tactic(auto, unfolding(crate::specs::Reading::cycle_at))]
-fn cycle(alloc: Global, topo: &Topo, lines: &mut Lines<'_>) -> Result<u64, StateFault>
+fn cycle(topo: &Topo, lines: &mut Lines<'_>) -> Result<u64, StateFault>
     ensures exact { Gives (λ cycle. (cycle, lines.new)) result (cycle_at topo.now lines.old) }
     ensures early { IfOk result (λ cycle. cycle < LAST_CYCLE) }
 {
     let number = lines.number();
     let mut parts = Parts::of(lines.next_line()?);
     parts.word(number, b"cycle")?;
-    let mut numbers = Vec::new(alloc);
-    numbers_in(number, 1, parts, &mut numbers)?;
+    let numbers: [u64; 1] = numbers_in(number, parts)?;
     let cycle = numbers[0];
     if !is_cut(topo, cycle) {
         return Err(StateFault::out_of_bounds(number));
@@ -54,26 +54,73 @@ fn cycle(alloc: Global, topo: &Topo, lines: &mut Lines<'_>) -> Result<u64, State
     Ok(cycle)
 }
 
-// A line of so many numbers of a node, behind those of its lines before.
+// The line of a node's core, of its timers, and of its ports.
 #[tactic(auto, unfolding(crate::specs::Reading::numbers_at))]
-fn numbers<B: Bounds>(
+fn core<B: Bounds>(
     bounds: &B,
-    cycle: u64,
-    word: &[u8],
     node: u8,
-    count: usize,
     lines: &mut Lines<'_>,
-    out: &mut Vec<u64>,
-) -> Result<(), StateFault>
-    ensures { Gives (λ x. (out.new.items, lines.new)) result (numbers_at (B.within bounds.now cycle) word.now node count out.old.items lines.old) }
+) -> Result<[u64; CORE_NUMBERS], StateFault>
+    ensures { Gives (λ core. (core, lines.new)) result (numbers_at (B.rules bounds.now).core (codes "core") node CORE_NUMBERS lines.old) }
 {
     let number = lines.number();
-    let parts = behind_node(number, word, node, lines.next_line()?)?;
-    numbers_in(number, count, parts, out)?;
-    if !bounds.are_within(cycle, out) {
+    let parts = behind_node(number, b"core", node, lines.next_line()?)?;
+    let core = numbers_in(number, parts)?;
+    if !bounds.is_core(&core) {
         return Err(StateFault::out_of_bounds(number));
     }
-    Ok(())
+    Ok(core)
+}
+
+#[tactic(auto, unfolding(crate::specs::Reading::numbers_at))]
+fn timers<B: Bounds>(
+    bounds: &B,
+    node: u8,
+    lines: &mut Lines<'_>,
+) -> Result<[u64; TIMER_NUMBERS], StateFault>
+    ensures { Gives (λ timers. (timers, lines.new)) result (numbers_at (B.rules bounds.now).timers (codes "timers") node TIMER_NUMBERS lines.old) }
+{
+    let number = lines.number();
+    let parts = behind_node(number, b"timers", node, lines.next_line()?)?;
+    let timers = numbers_in(number, parts)?;
+    if !bounds.are_timers(&timers) {
+        return Err(StateFault::out_of_bounds(number));
+    }
+    Ok(timers)
+}
+
+#[tactic(auto, unfolding(crate::specs::Reading::numbers_at))]
+fn ports<B: Bounds>(
+    bounds: &B,
+    cycle: u64,
+    core: &[u64; CORE_NUMBERS],
+    node: u8,
+    lines: &mut Lines<'_>,
+) -> Result<[u64; PORT_NUMBERS], StateFault>
+    ensures { Gives (λ ports. (ports, lines.new)) result (numbers_at ((B.rules bounds.now).ports cycle core.now) (codes "ports") node PORT_NUMBERS lines.old) }
+{
+    let number = lines.number();
+    let parts = behind_node(number, b"ports", node, lines.next_line()?)?;
+    let ports = numbers_in(number, parts)?;
+    if !bounds.are_ports(cycle, core, &ports) {
+        return Err(StateFault::out_of_bounds(number));
+    }
+    Ok(ports)
+}
+
+// The numbers of a node by those of its lines.
+fn joined(
+    core: &[u64; CORE_NUMBERS],
+    timers: &[u64; TIMER_NUMBERS],
+    ports: &[u64; PORT_NUMBERS],
+) -> [u64; NUMBERS]
+    ensures { result ≡ core.now ++ timers.now ++ ports.now }
+{
+    let mut all = [0; NUMBERS];
+    put_part(&mut all, 0, core);
+    put_part(&mut all, CORE_NUMBERS, timers);
+    put_part(&mut all, CORE_NUMBERS + TIMER_NUMBERS, ports);
+    all
 }
 
 // A line of so many bytes of a node.
@@ -93,7 +140,7 @@ fn io<B: Bounds>(
     node: u8,
     lines: &mut Lines<'_>,
 ) -> Result<Vec<u8>, StateFault>
-    ensures { Gives (λ bytes. (bytes.items, lines.new)) result (bytes_at (B.readable bounds.now) (codes "io") node IO_COUNT lines.old) }
+    ensures { Gives (λ bytes. (bytes.items, lines.new)) result (bytes_at (B.rules bounds.now).io (codes "io") node IO_COUNT lines.old) }
 {
     let number = lines.number();
     let parts = behind_node(number, b"io", node, lines.next_line()?)?;
@@ -114,16 +161,15 @@ fn node<B: Bounds>(
     node: u8,
     lines: &mut Lines<'_>,
 ) -> Result<NodeParts, StateFault>
-    ensures { Gives (λ parts. (parts, lines.new)) result (node_at (rules topo.now (B.within bounds.now) (B.readable bounds.now)) cycle node lines.old) }
+    ensures { Gives (λ parts. (parts, lines.new)) result (node_at (rules topo.now (B.rules bounds.now)) cycle node lines.old) }
 {
-    let mut all = Vec::with_capacity(alloc, 108)?;
-    numbers(bounds, cycle, b"core", node, 41, lines, &mut all)?;
-    numbers(bounds, cycle, b"timers", node, 38, lines, &mut all)?;
-    numbers(bounds, cycle, b"ports", node, 29, lines, &mut all)?;
+    let core = core(bounds, node, lines)?;
+    let timers = timers(bounds, node, lines)?;
+    let ports = ports(bounds, cycle, &core, node, lines)?;
     let io = io(alloc, bounds, node, lines)?;
     let sram = sram(alloc, node, lines)?;
     Ok(NodeParts {
-        numbers: all,
+        numbers: joined(&core, &timers, &ports),
         io,
         sram,
     })
@@ -137,7 +183,7 @@ fn nodes<B: Bounds>(
     cycle: u64,
     lines: &mut Lines<'_>,
 ) -> Result<Vec<NodeParts>, StateFault>
-    ensures { Gives (λ nodes. (nodes.items, lines.new)) result (nodes_at (rules topo.now (B.within bounds.now) (B.readable bounds.now)) cycle 0 topo.now.nodes lines.old) }
+    ensures { Gives (λ nodes. (nodes.items, lines.new)) result (nodes_at (rules topo.now (B.rules bounds.now)) cycle 0 topo.now.nodes lines.old) }
 {
     let mut nodes = Vec::new(alloc);
     for k in 0..topo.nodes() {
@@ -312,11 +358,11 @@ fn state<B: Bounds>(
     bounds: &B,
     bytes: &[u8],
 ) -> Result<StateParts, StateFault>
-    ensures { Gives (λ state. state) result (state_of (rules topo.now (B.within bounds.now) (B.readable bounds.now)) bytes.now) }
+    ensures { Gives (λ state. state) result (state_of (rules topo.now (B.rules bounds.now)) bytes.now) }
 {
     let mut lines = Lines::of(bytes);
     title(&mut lines)?;
-    let cycle = cycle(alloc, topo, &mut lines)?;
+    let cycle = cycle(topo, &mut lines)?;
     let nodes = nodes(alloc, topo, bounds, cycle, &mut lines)?;
     let sends = sends(alloc, topo, cycle, &mut lines)?;
     Ok(StateParts {
@@ -334,11 +380,11 @@ pub fn read<B: Bounds>(
     bytes: &[u8],
 ) -> Result<StateParts, StateFault>
     // what is read is what would be written
-    ensures found { IfOk result (λ state. IsState (rules topo.now (B.within bounds.now) (B.readable bounds.now)) state × (bytes.now ≡ state_text state)) }
+    ensures found { IfOk result (λ state. IsState (rules topo.now (B.rules bounds.now)) state × (bytes.now ≡ state_text state)) }
     // what is written is read as what was written
-    ensures only { (st : StateOf) → IsState (rules topo.now (B.within bounds.now) (B.readable bounds.now)) st → bytes.now ≡ state_text st → Gives (λ state. state) result (Ok st) }
+    ensures only { (st : StateOf) → IsState (rules topo.now (B.rules bounds.now)) st → bytes.now ≡ state_text st → Gives (λ state. state) result (Ok st) }
     // every other text has exactly its fault
-    ensures exact { Gives (λ state. state) result (state_of (rules topo.now (B.within bounds.now) (B.readable bounds.now)) bytes.now) }
+    ensures exact { Gives (λ state. state) result (state_of (rules topo.now (B.rules bounds.now)) bytes.now) }
 {
     // The call's clause says that the topology is lawful, which what follows rests on.
     let _lawful = topo.nodes();

@@ -1,11 +1,12 @@
 // A saved state as plain data.
 use air_base::Send;
+use device_base::NUMBERS;
 use std::marker::Model;
 
 /// What a state has of a node. A contract sees it as its `NodeOf`.
 pub struct NodeParts {
-    /// 41 numbers of the core, 38 of the timers and 29 of the ports.
-    pub numbers: Vec<u64>,
+    /// Those of the core, then of the timers, then of the ports.
+    pub numbers: [u64; NUMBERS],
     /// The 224 bytes from 0x20 to 0xFF that the board itself keeps.
     pub io: Vec<u8>,
     /// The 4,096 bytes from 0x100 to 0x10FF.
@@ -28,7 +29,7 @@ impl Model for NodeParts {
 
     ghost Value = { NodeOf };
 
-    ghost view = { λ n. record { numbers = n.numbers.items; io = n.io.items; sram = n.sram.items } };
+    ghost view = { λ n. record { numbers = n.numbers; io = n.io.items; sram = n.sram.items } };
 }
 
 /// A state: its cycle, its nodes in order, and the sends that may still be heard. A contract sees it as its `StateOf`.

@@ -11,6 +11,7 @@ use crate::nodes::Nodes;
 use crate::page::Page;
 use air_base::Send;
 use data_space::{IO_COUNT, SRAM_LEN};
+use device_base::{CORE_NUMBERS, NUMBERS, TIMER_NUMBERS};
 use sim_io::{Sink, SinkFault, write_all};
 
 // Appends numbers, each behind a space.
@@ -49,11 +50,11 @@ fn put_numbers_line<O: Sink>(
 
 // Appends the three lines of numbers of a node.
 fn put_numbers_lines<O: Sink>(node: usize, numbers: &[u64], page: &mut Page, sink: &mut O)
-    requires { length numbers.now ≡ 108 }
+    requires { length numbers.now ≡ NUMBERS }
     ensures { IsPut (numbers_text node numbers.now) (out (O.taken sink.old) page.old.text.bytes page.old.failed (O.faults sink.old)) (out (O.taken sink.new) page.new.text.bytes page.new.failed (O.faults sink.new)) }
 {
-    let (core, devices) = numbers.split_at(41);
-    let (timers, ports) = devices.split_at(38);
+    let (core, devices) = numbers.split_at(CORE_NUMBERS);
+    let (timers, ports) = devices.split_at(TIMER_NUMBERS);
     put_numbers_line("core", node, core, page, sink);
     put_numbers_line("timers", node, timers, page, sink);
     put_numbers_line("ports", node, ports, page, sink);

@@ -1,4 +1,4 @@
-use Rattle.checkpoint_text.proofs.Prefix.{has_node}
+use Rattle.checkpoint_text.proofs.Bounded.{has_node}
 use Rattle.checkpoint_text.proofs.law.fit_law.Goals as goal
 
 pub returns : goal.returns

@@ -1,6 +1,6 @@
 use Rattle.std.proofs.Common.{◌∙◌, ap, map, nat_le}
 use Rattle.node_core.specs.Numbers.{core_fits}
-use Rattle.node_core.proofs.Saved.{then_put}
+use Rattle.device_base.proofs.Places.{then_put}
 use Rattle.node_core.proofs.numbers.core_fits.Goals as goal
 
 pub returns : goal.returns

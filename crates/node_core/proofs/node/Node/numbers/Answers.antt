@@ -3,7 +3,7 @@ use Rattle.air_base.specs.NodeRun.{Timed}
 use Rattle.node_core.specs.declared.row.Row.{Row}
 use Rattle.node_core.specs.Numbers.{numbers_of}
 use Rattle.node_core.specs.State.{NodeState}
-use Rattle.node_core.proofs.Saved.{then_put}
+use Rattle.device_base.proofs.Places.{then_put}
 use Rattle.node_core.proofs.node.Node.numbers.Goals as goal
 
 pub returns : goal.returns
