@@ -7,5 +7,7 @@ pub mod names;
 mod numbers;
 
 pub use bits::{any_bit, bit};
-pub use numbers::{CORE_NUMBERS, DEVICE_NUMBERS, NUMBERS, PORT_NUMBERS, TIMER_NUMBERS};
-pub use numbers::{all_fit, first_outside, part, put_part};
+pub use numbers::{
+    CORE_NUMBERS, DEVICE_NUMBERS, NUMBERS, PORT_NUMBERS, TIMER_NUMBERS, all_fit, first_outside,
+    part, put_part,
+};
