@@ -1,5 +1,5 @@
 -- A run of a node goes on: by a rest, and by a cycle that neither samples nor sends.
-use Rattle.std.proofs.Common.{◌≡◌, ℕ, ◌+◌, ◌^◌, ◌≤◌, ◌++◌, Bool, false, None, List, [], add-zero, sym, ◌∙◌, subst, arith}
+use Rattle.std.proofs.Common.{◌≡◌, ℕ, ◌+◌, ◌≤◌, ◌++◌, Bool, false, None, List, [], add-zero, sym, ◌∙◌, subst, arith}
 use Rattle.air_base.specs.Bounds.{LAST_CYCLE}
 use Rattle.std.proofs.lemmas.Bool.{false≢true}
 use Rattle.node_core.specs.declared.row.Row.{Row}

@@ -1,12 +1,12 @@
 -- A sprint: what holds of it at the beginning of a cycle, and how a step takes it on or ends it.
-use Rattle.std.proofs.Common.{◌≡◌, ℕ, ◌+◌, ◌-◌, ◌≤◌, ◌<◌, ◌^◌, ◌++◌, ◌&&◌, nat_le, nat_lt, Bool, cond, not, true, false, Option, Some, None, List, is_some, refl, sym, subst, ap, ◌∙◌, arith}
+use Rattle.std.proofs.Common.{◌≡◌, ℕ, ◌+◌, ◌-◌, ◌≤◌, ◌<◌, ◌++◌, ◌&&◌, nat_le, nat_lt, Bool, cond, not, true, false, Option, Some, None, List, is_some, refl, sym, subst, ap, ◌∙◌, arith}
 use Rattle.std.proofs.lemmas.Bool.{false≢true}
 use Rattle.std.proofs.lemmas.Bool.Decides.{nat_tests}
 use Rattle.std.specs.Bool.{beq}
 use Rattle.std.specs.Prelude.{vec_len, vec_capacity}
 use Rattle.air_base.specs.Bounds.{LAST_CYCLE}
 use Rattle.avr_base.specs.Flags.{I, has_flag}
-use Rattle.avr_base.specs.Lines.{due_of, lowest_line, pending_of, vector_of}
+use Rattle.avr_base.specs.Lines.{lowest_line, pending_of, vector_of}
 use Rattle.board_io.specs.declared.clocked.ClockedBoard.{ClockedBoard}
 use Rattle.board_io.specs.Cycle.{timers_leap}
 use Rattle.board_io.specs.Lagging.{IsIdle}

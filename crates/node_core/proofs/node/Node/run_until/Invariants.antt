@@ -1,4 +1,4 @@
-use Rattle.std.proofs.Common.{◌≡◌, ◌≤◌, ◌+◌, ◌-◌, ◌^◌, None, false}
+use Rattle.std.proofs.Common.{◌≡◌, ◌≤◌, ◌+◌, ◌-◌, None, false}
 use Rattle.air_base.specs.Bounds.{LAST_CYCLE}
 use Rattle.air_base.specs.NodeRun.{Comes, AllRunning}
 use Rattle.node_core.specs.Cycle.{node_kind}
