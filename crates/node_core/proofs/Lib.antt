@@ -21,7 +21,7 @@ pub mod Strides
 pub mod Until
 -- A part of the board that no access changes is as it was after an instruction and after an entry.
 pub mod Untouched
--- The clock of a node's board runs on, and its state does not show it.
+-- The clock of a node runs on with the cycles, and its state does not show it.
 pub mod Clocks
 -- SEI and RETI leave the flag I set, where they do not stop.
 pub mod Sei
