@@ -1,4 +1,4 @@
--- The array of rules in the code is the table and no address past it has a row; accesses in a cycle; the start values.
+-- The array of rules in the code is the table, no address past it has a row, and the start values.
 use Rattle.std.proofs.Common.{◌≡◌, ℕ, ◌==◌, ◌<◌, ◌≤◌, nat_le, Bool, true, false, List, [], ◌∷◌, Ok, Err, refl, sym, ap, ◌∙◌, arith, zero-add, get_or}
 use Rattle.std.specs.Prelude.{IfErr, IfOk, OnErr, OnOk, Result, map, replicate, slice_set}
 use Rattle.std.specs.List.{list_all, list_any, range_with_len}

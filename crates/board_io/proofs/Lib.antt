@@ -1,4 +1,4 @@
--- The array of rules in the code is the table and no address past it has a row; accesses in a cycle; the start values.
+-- The array of rules in the code is the table, no address past it has a row, and the start values.
 pub mod Agree
 -- A byte that arrives leaves the frame that runs alone.
 pub mod Turns
@@ -6,7 +6,7 @@ pub mod Turns
 pub mod Steady
 -- Cycles of the board in which nothing ends, and leaps over them.
 pub mod Leaps
--- What a cycle of the board does to its radio, and what leaves the radio or the clock alone.
+-- What a cycle of the board does to its radio, and what leaves the radio alone.
 pub mod Radio
 -- A timer that is halted stands as it is.
 pub mod Halted

@@ -1,4 +1,4 @@
--- What a cycle of the board does to its radio, and what leaves the radio or the clock alone.
+-- What a cycle of the board does to its radio, and what leaves the radio alone.
 use Rattle.std.proofs.Common.{◌≡◌, ℕ, ◌+◌, ◌≤◌, ◌==◌, ◌&&◌, not, if◌then◌else◌, Bool, true, false, Option, Some, None, Result, Ok, Err, refl, sym, ap, ◌∙◌, arith}
 use Rattle.std.specs.Prelude.{bit_and}
 use Rattle.avr_base.specs.declared.stop.StopCause.{StopCause}

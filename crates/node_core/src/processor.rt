@@ -1,5 +1,5 @@
 // The processor's part of a cycle: an instruction, or the entry of an interrupt.
-ghost use Rattle.std.specs.Prelude.{◌≡◌, ◌==◌, ◌<◌, ◌≤◌, ◌+◌, ◌-◌, ◌^◌, ◌%◌, ◌++◌, ◌&&◌, ◌||◌, None, Some, true, false, vec_len, vec_capacity};
+ghost use Rattle.std.specs.Prelude.{◌≡◌, ◌==◌, ◌<◌, ◌≤◌, ◌+◌, ◌-◌, ◌%◌, ◌++◌, ◌&&◌, ◌||◌, None, Some, true, false, vec_len, vec_capacity};
 ghost use Rattle.air_base.specs.Bounds.{LAST_END};
 ghost use Rattle.avr_core.specs.Execute.{is_sleep};
 ghost use Rattle.node_core.specs.Cycle.{cpu_cycle, cpu_rows, entered, entered_rows, instructed, instructed_rows, is_idle, is_other, is_refused, is_sei, owes, row, row_within};
