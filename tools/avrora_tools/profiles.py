@@ -126,6 +126,7 @@ class TraceReader:
         cycles = int(end - max(owner.cycle if owner else start, start)) if end < math.inf else 0
         if cycles <= 0:
             return
+        self.charged(node, owner, cycles)
         if owner is None:
             spent.lead += cycles
         elif owner.event is None:
@@ -137,6 +138,9 @@ class TraceReader:
             spent.asleep += cycles - 1
         else:
             spent.at[owner.event.address].cycles += cycles
+
+    def charged(self, node: int, owner: Owner | None, cycles: int) -> None:
+        """So many cycles of a node are their owner's: for readers that add up more than this one does."""
 
     def note_call(self, node: int, event: Instr) -> None:
         caller = self.calling.pop(node, None)

@@ -34,6 +34,13 @@ class Function(NamedTuple):
     name: str
 
 
+class SourceLine(NamedTuple):
+    """A line of a source file, by the path that the compiler wrote."""
+
+    path: str
+    line: int
+
+
 def vector_name(word: int) -> str:
     """The interrupt whose vector is at `word`, as the C library names its handler."""
     return f"{VECTORS[word]}_vect" if word in VECTORS else f"vector {word:04X}"
@@ -57,7 +64,8 @@ class Program:
                 raise BadInput(f"{self.name}: an ELF file for {elf['e_machine']}, and not for the AVR")
             self.flash = flash_of(elf)
             self.functions = functions_of(elf, code_end_of(elf) // 2)
-            self.lines = lines_of(elf)
+            self.places = line_places(elf)
+            self.lines = [(word, f"{os.path.basename(at.path)}:{at.line}" if at else None) for word, at in self.places]
             has_stabs = elf.get_section_by_name(".stab") is not None
         except BadInput:
             raise
@@ -85,6 +93,11 @@ class Program:
         """The source line of `word`, as FILE:LINE, or None."""
         place = bisect.bisect_right(self.line_words, word) - 1
         return self.lines[place][1] if place >= 0 else None
+
+    def source_line_at(self, word: int) -> SourceLine | None:
+        """The source line of `word` with its path, or None."""
+        place = bisect.bisect_right(self.line_words, word) - 1
+        return self.places[place][1] if place >= 0 else None
 
     def place(self, word: int) -> str:
         """The function, offset in bytes, and source line of `word`, as text."""
@@ -144,28 +157,40 @@ def functions_of(elf: Any, end: int) -> list[Function]:
     return [Function(word, after, best[word][-1]) for word, after in zip(words, words[1:] + [end])]
 
 
-def lines_of(elf: Any) -> list[tuple[int, str | None]]:
-    """The words at which a source line's code begins, in order, each with the line; none without DWARF."""
+def line_places(elf: Any) -> list[tuple[int, SourceLine | None]]:
+    """The words at which a source line's code begins, in order, each with the line; None where no line's code is."""
     if not elf.has_dwarf_info():
         return []
-    found: dict[int, str | None] = {}
+    found: dict[int, SourceLine | None] = {}
     dwarf = elf.get_dwarf_info()
     for unit in dwarf.iter_CUs():
         program = dwarf.line_program_for_CU(unit)
         if program is None:
             continue
+        paths = source_paths(unit, program)
         base = 0 if program["version"] >= 5 else 1
-        files = program["file_entry"]
         for entry in program.get_entries():
             state = entry.state
             if state is None:
                 continue
-            name = os.path.basename(files[state.file - base].name.decode("utf-8", "replace"))
             if not state.end_sequence:
-                found[state.address // 2] = f"{name}:{state.line}"
+                found[state.address // 2] = SourceLine(paths[state.file - base], state.line)
             else:
                 found.setdefault(state.address // 2, None)
     return sorted(found.items())
+
+
+def source_paths(unit: Any, program: Any) -> list[str]:
+    """The paths of a compilation unit's source files, in the order of its line program."""
+    attribute = unit.get_top_DIE().attributes.get("DW_AT_comp_dir")
+    folder = attribute.value.decode("utf-8", "replace") if attribute else ""
+    folders = [folder, *(part.decode("utf-8", "replace") for part in program["include_directory"])]
+    if program["version"] >= 5:
+        folders = folders[1:]  # whose first entry is the folder of the compilation
+    return [
+        os.path.normpath(os.path.join(folder, folders[one.dir_index], one.name.decode("utf-8", "replace")))
+        for one in program["file_entry"]
+    ]
 
 
 class Programs:
