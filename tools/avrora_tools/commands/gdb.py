@@ -1,0 +1,72 @@
+"""Serves avr-gdb over a run, forwards and backwards."""
+import argparse
+import contextlib
+import os
+import socket
+import sys
+from collections.abc import Iterator
+
+from avrora_tools import cli, files, terminal
+from avrora_tools.debugging import history, packets, session
+from avrora_tools.errors import BadWords, CannotWork
+
+SUMMARY = "debugs a run by avr-gdb, forwards and backwards"
+
+DESCRIPTION = """Speaks gdb's remote protocol over the run of a scenario. Each node is a thread of gdb. Breakpoints, steps, `finish`,
+`until`, call chains and variables are gdb's own; so are reverse-continue, reverse-step, reverse-next and reverse-finish,
+since a run is the same each time. `monitor help` in gdb tells what a network adds. Nothing can be written: a run is a
+fact. In gdb:
+  (gdb) file packet.elf
+  (gdb) target remote | avrora-tools gdb packet.toml
+or with --port, in another terminal, `target remote :4242`. It listens on this machine alone. docs/DEBUGGING.md leads
+through a hunt."""
+
+LOOPBACK = "127.0.0.1"
+
+
+def configure(parser: argparse.ArgumentParser) -> None:
+    cli.describe(parser, DESCRIPTION, "gdb --port 4242 --at 300_000 packet.toml")
+    cli.add_simulator(parser)
+    parser.add_argument("--port", type=port, help="listen there, for one gdb after another; else the standard streams")
+    parser.add_argument("--at", type=cli.natural, default=0, metavar="CYCLE", help="where gdb stands at first")
+    parser.add_argument("--node", type=cli.natural, default=0, metavar="NODE", help="the node that gdb shows at first")
+    parser.add_argument("scenario", metavar="SCENARIO")
+
+
+def port(text: str) -> int:
+    number = cli.whole_number(text, 0)
+    if number > 65_535:
+        raise argparse.ArgumentTypeError(f"{text} is no port: 0 to 65535, where 0 takes a free one")
+    return number
+
+
+def run(arguments: argparse.Namespace) -> int:
+    with history.history(arguments.scenario, cli.simulator(arguments.avrora)) as past:
+        if arguments.at > past.limit:
+            raise BadWords(f"--at {arguments.at}: the run has {past.limit:,} cycles")
+        if arguments.node >= past.nodes:
+            raise BadWords(f"--node {arguments.node}: the scenario has nodes 0 to {past.nodes - 1}")
+        past.state(arguments.at)  # so that what is refused is told here
+        for channel in channels(arguments.port):
+            with contextlib.suppress(packets.Gone):
+                session.Session(past, channel, arguments.at, arguments.node).serve()
+    return 0
+
+
+def channels(number: int | None) -> Iterator[packets.Channel]:
+    """The gdbs that come, one after another."""
+    if number is None:
+        sys.stdout.flush()
+        yield packets.Channel(0, 1)
+        return
+    try:
+        server = socket.create_server((LOOPBACK, number))
+    except OSError as fault:
+        raise CannotWork(f"cannot listen on port {number}: {fault.strerror}") from None
+    with server:
+        terminal.say(f"listening: target remote :{server.getsockname()[1]}")
+        while True:
+            connection, _ = server.accept()
+            with connection:
+                connection.setsockopt(socket.IPPROTO_TCP, socket.TCP_NODELAY, 1)
+                yield packets.Channel(connection.fileno(), connection.fileno())

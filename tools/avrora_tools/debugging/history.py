@@ -1,0 +1,285 @@
+"""A run as a whole, whatever cycle one asks for: states, traced rows, and events. All of it is asked of the simulator, which
+gives the same each time; what was asked for is kept for a while."""
+import bisect
+import collections
+import concurrent.futures
+import contextlib
+import functools
+import os
+import re
+import subprocess
+import tempfile
+from collections.abc import Callable, Iterable, Iterator, Sequence
+from dataclasses import dataclass, field
+from typing import NamedTuple
+
+from avrora_tools import files, toml
+from avrora_tools.commands.window import windowed
+from avrora_tools.errors import BadInput, CannotWork
+from avrora_tools.scenarios import MAX_WINDOW, Scenario
+from avrora_tools.states import State
+from avrora_tools.traces import EPOCH
+
+# So many cycles are traced at once: few for steps, more to look for a breakpoint.
+STEP_SPAN, SEARCH_SPAN = 1_000, MAX_WINDOW
+
+# What is kept: states in memory, windows for steps, epochs' events, states at epochs' ends on the disk.
+KEPT_STATES, KEPT_WINDOWS, KEPT_EPOCHS, KEPT_FILES = 32, 64, 64, 128
+
+# The statuses by which the simulator refuses what it reads.
+REFUSED = (2, 4, 5, 8)
+
+
+class Traced(NamedTuple):
+    """A row of the processor: its cycle, whether an instruction begins, an interrupt is entered or the node stops, the word
+    address of what begins, is left, or stops, and the rest of the row."""
+
+    cycle: int
+    kind: str  # instr, enter, stop
+    address: int
+    rest: str
+
+
+class Happened(NamedTuple):
+    """Any other row: its cycle, node, kind, and rest."""
+
+    cycle: int
+    node: int
+    kind: str
+    rest: str
+
+
+PROCESSOR = re.compile(rb"^\d+ \d+ (?:instr|enter|stop) [^\n]*", re.M)
+OTHER = re.compile(rb"^(\d+) (\d+) (sent|heard|serial|stop) ([^\n]*)$", re.M)
+
+
+@dataclass
+class Window:
+    """The processor's rows of all nodes in a span, in order."""
+
+    rows: list[list[Traced]]
+    cycles: list[list[int]] = field(default_factory=list)
+
+    def __post_init__(self) -> None:
+        self.cycles = [[row.cycle for row in rows] for rows in self.rows]
+
+
+class History:
+    """The run of a scenario."""
+
+    def __init__(self, scenario: str, simulator: str, folder: str) -> None:
+        """`folder` is one for files of its own, which whoever made it clears away."""
+        self.simulator, self.own = simulator, folder
+        self.place = os.path.dirname(os.path.abspath(scenario))
+        self.path = os.path.abspath(scenario)
+        self.text = files.read_text(scenario).removeprefix(toml.BYTE_ORDER_MARK)
+        self.scenario = Scenario.of_text(self.text, files.shown(scenario))
+        self.limit, self.nodes = self.scenario.cycles, len(self.scenario.images)
+        self.calls = 0
+        # Asked between two spans of a search, which ends where it says so.
+        self.wants_stop: Callable[[], bool] | None = None
+        self.was_stopped = False
+        self.saved: dict[int, str] = {}  # by the number of the epoch that begins there
+        self.state = functools.lru_cache(KEPT_STATES)(self.looked)
+        self.window = functools.lru_cache(KEPT_WINDOWS)(self.read_window)
+        self.events = functools.lru_cache(KEPT_EPOCHS)(self.read_events)
+
+    # ---- the simulator
+
+    def run(self, *words: str) -> bytes:
+        """What the simulator writes. Raises BadInput where it refuses something, CannotWork where it fails."""
+        self.calls += 1
+        try:
+            done = subprocess.run(
+                [self.simulator, *words], cwd=self.place, stdin=subprocess.DEVNULL, capture_output=True, check=False
+            )
+        except OSError as fault:
+            raise CannotWork(f"cannot run {files.shown(self.simulator)}: {fault.strerror}") from None
+        if done.returncode:
+            said = files.printable((done.stderr.decode("utf-8", "replace").strip().splitlines() or [""])[-1])
+            raised = BadInput if done.returncode in REFUSED else CannotWork
+            raise raised(f"the simulator ended with status {done.returncode}: {said}")
+        return done.stdout
+
+    def checkpoint(self, epoch: int) -> str | None:
+        """The file of the state at the beginning of an epoch; None where that is reset."""
+        if epoch == 0:
+            return None
+        if epoch not in self.saved:
+            before = max((one for one in self.saved if one < epoch), default=0)
+            words = ["save", self.path, str(epoch - before), *([self.saved[before]] if before else [])]
+            path = f"{self.own}/{epoch}.state"
+            files.write_whole(path, self.run(*words), lasting=False)
+            self.saved[epoch] = path
+            self.thin(epoch)
+        return self.saved[epoch]
+
+    def thin(self, newest: int) -> None:
+        """Forgets every other state that is far from the newest, where there are too many."""
+        if len(self.saved) <= KEPT_FILES:
+            return
+        for number, epoch in enumerate(sorted(self.saved)):
+            if number % 2 and abs(epoch - newest) > KEPT_FILES // 8:
+                os.unlink(self.saved.pop(epoch))
+
+    # ---- states
+
+    def looked(self, cycle: int) -> State:
+        """The state as a cycle begins."""
+        start = self.checkpoint(min(cycle, self.limit - 1) // EPOCH)
+        text = self.run("look", self.path, str(cycle), *([start] if start else []))
+        return State.of_text(text.decode("ascii"), f"the state in cycle {cycle}")
+
+    # ---- the processor's rows
+
+    def traced_text(self, first: int, end: int) -> bytes:
+        """The trace from the epoch on in which `first` lies, with all instructions from `first` on, up to `end`."""
+        with tempfile.NamedTemporaryFile("w", dir=self.own, suffix=".toml", encoding="utf-8", newline="") as file:
+            file.write(windowed(self.text, first, end))
+            file.flush()
+            start = self.checkpoint(first // EPOCH)
+            return self.run(*(["resume", file.name, start] if start else ["run", "--plain", file.name]))
+
+    def read_window(self, number: int) -> Window:
+        """The rows of the span with this number, each of STEP_SPAN cycles."""
+        first = number * STEP_SPAN
+        rows: list[list[Traced]] = [[] for _ in range(self.nodes)]
+        for node, row in found_in(self.traced_text(first, min(first + STEP_SPAN, self.limit)), first, PROCESSOR):
+            rows[node].append(row)
+        return Window(rows)
+
+    def next_row(self, node: int, cycle: int) -> Traced | None:
+        """The node's first row behind a cycle, or None."""
+        for number in range(cycle // STEP_SPAN, spans(self.limit, STEP_SPAN)):
+            window = self.window(number)
+            place = bisect.bisect_right(window.cycles[node], cycle)
+            if place < len(window.rows[node]):
+                return window.rows[node][place]
+            if self.is_quiet(node, number):
+                return self.woken(node, number)
+        return None
+
+    def last_row(self, node: int, cycle: int) -> Traced | None:
+        """The node's last row before a cycle, or None."""
+        number = min(cycle, self.limit - 1) // STEP_SPAN
+        while number >= 0:
+            window = self.window(number)
+            place = bisect.bisect_left(window.cycles[node], cycle)
+            if place:
+                return window.rows[node][place - 1]
+            number, cycle = number - 1, self.limit
+            if number >= 0 and not self.window(number).rows[node]:
+                return self.found_before(node, number * STEP_SPAN)
+        return None
+
+    def is_quiet(self, node: int, number: int) -> bool:
+        """Whether the node has no row in a span, so that one looks further by larger steps."""
+        return not self.window(number).rows[node]
+
+    def woken(self, node: int, number: int) -> Traced | None:
+        return next((row for _, row in self.hits(number * STEP_SPAN, self.limit, rows_like({node}))), None)
+
+    def found_before(self, node: int, cycle: int) -> Traced | None:
+        return next((row for _, row in self.hits_back(cycle, rows_like({node}))), None)
+
+    # ---- searches
+
+    def hits(self, first: int, end: int, like: re.Pattern[bytes]) -> Iterator[tuple[int, Traced]]:
+        """The rows of the processor from a cycle on and before another that are like this (`rows_like`), in order."""
+        for span, text in self.searched(first, end):
+            yield from ((node, row) for node, row in found_in(text, max(first, span), like) if row.cycle < end)
+
+    def hits_back(self, end: int, like: re.Pattern[bytes]) -> Iterator[tuple[int, Traced]]:
+        """Those before a cycle, the last first."""
+        for span, text in self.searched_back(end):
+            found = [it for it in found_in(text, span, like) if it[1].cycle < end]
+            yield from reversed(found)
+
+    def searched(self, first: int, end: int) -> Iterator[tuple[int, bytes]]:
+        """The traces of the spans from a cycle on, some made ahead."""
+        return self.made_ahead(range(first // SEARCH_SPAN, spans(min(end, self.limit), SEARCH_SPAN)))
+
+    def searched_back(self, end: int) -> Iterator[tuple[int, bytes]]:
+        return self.made_ahead(range(spans(min(end, self.limit), SEARCH_SPAN) - 1, -1, -1))
+
+    def made_ahead(self, numbers: Sequence[int]) -> Iterator[tuple[int, bytes]]:
+        """The traces of spans in the order of their numbers; while one is looked at, the next are made."""
+        ahead = os.cpu_count() or 1
+        self.was_stopped = False
+        waiting: collections.deque[tuple[int, concurrent.futures.Future[bytes]]] = collections.deque()
+        left = iter(numbers)
+        with concurrent.futures.ThreadPoolExecutor(ahead) as pool:
+            try:
+                while True:
+                    while len(waiting) < ahead and (number := next(left, None)) is not None:
+                        first = number * SEARCH_SPAN
+                        self.checkpoint(first // EPOCH)  # here, since files are made one by one
+                        end = min(first + SEARCH_SPAN, self.limit)
+                        waiting.append((first, pool.submit(self.traced_text, first, end)))
+                    if not waiting:
+                        return
+                    first, made = waiting.popleft()
+                    yield first, made.result()
+                    if self.wants_stop and self.wants_stop():
+                        self.was_stopped = True
+                        return
+            finally:
+                for _, made in waiting:
+                    made.cancel()
+
+    # ---- sends, samples, USART0
+
+    def read_events(self, epoch: int) -> list[Happened]:
+        """The rows of an epoch that are not the processor's."""
+        first, end = epoch * EPOCH, min((epoch + 1) * EPOCH, self.limit)
+        with tempfile.NamedTemporaryFile("w", dir=self.own, suffix=".toml", encoding="utf-8", newline="") as file:
+            file.write(windowed(self.text, end - 1, end))
+            file.flush()
+            start = self.checkpoint(epoch)
+            text = self.run(*(["resume", file.name, start] if start else ["run", "--plain", file.name]))
+        rows = (Happened(int(it[1]), int(it[2]), it[3].decode(), it[4].decode()) for it in OTHER.finditer(text))
+        return [row for row in rows if first <= row.cycle < end]
+
+    def events_from(self, cycle: int) -> Iterator[Happened]:
+        """The events behind a cycle, in order."""
+        for epoch in range(cycle // EPOCH, spans(self.limit, EPOCH)):
+            yield from (row for row in self.events(epoch) if row.cycle > cycle)
+
+    def events_before(self, cycle: int) -> Iterator[Happened]:
+        """The events before a cycle, the last first."""
+        for epoch in range(min(cycle, self.limit - 1) // EPOCH, -1, -1):
+            yield from (row for row in reversed(self.events(epoch)) if row.cycle < cycle)
+
+
+def spans(end: int, length: int) -> int:
+    """How many spans of a length cover the cycles below `end`."""
+    return (end + length - 1) // length
+
+
+def rows_like(nodes: Iterable[int] | None, addresses: Iterable[int] | None = None) -> re.Pattern[bytes]:
+    """What finds the rows of the processor of these nodes, or of all; with addresses, word addresses, those at which an
+    instruction begins there, and each stop."""
+    number = rb"\d+" if nodes is None else b"(?:%s)" % b"|".join(b"%d" % node for node in sorted(nodes))
+    if addresses is None:
+        return re.compile(rb"^\d+ %s (?:instr|enter|stop) [^\n]*" % number, re.M)
+    places = b"|".join(b"%04X" % address for address in sorted(addresses))
+    begins = rb"instr (?:%s)|" % places if places else b""
+    return re.compile(rb"^\d+ %s (?:%sstop) [^\n]*" % (number, begins), re.M)
+
+
+def found_in(text: bytes, first: int, like: re.Pattern[bytes]) -> Iterator[tuple[int, Traced]]:
+    """The rows of a trace from a cycle on that are like this: node and row."""
+    for match in like.finditer(text):
+        cycle, node, kind, address, *rest = match[0].decode("ascii").split(" ", 4)
+        if int(cycle) >= first:
+            if kind == "enter":
+                yield int(node), Traced(int(cycle), kind, int(rest[0], 16), address)
+            else:
+                yield int(node), Traced(int(cycle), kind, int(address, 16), rest[0])
+
+
+@contextlib.contextmanager
+def history(scenario: str, simulator: str) -> Iterator[History]:
+    """The run of a scenario, with a folder of its own while it is used."""
+    with tempfile.TemporaryDirectory(prefix="avrora-gdb-") as folder:
+        yield History(scenario, simulator, folder)

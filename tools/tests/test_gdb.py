@@ -1,0 +1,355 @@
+"""Debugging by avr-gdb. The addresses and variables are those of examples/packet.c as the test compiles it; what gdb shows is
+compared with rows of the trace and with states, which other tests compare with the manual."""
+import contextlib
+import os
+import random
+import re
+import shutil
+import socket
+import subprocess
+import sys
+import threading
+
+import pytest
+
+from support import LONG, LOOPBACK, TOP, TOOL, has_loopback
+from avrora_tools import cli
+from avrora_tools.debugging import history, packets, session, target
+
+PROGRAM = os.environ.get(cli.PROGRAM_VARIABLE)
+NEEDED = ("avr-gdb", "avr-gcc", "avr-objcopy")
+
+needs_all = pytest.mark.skipif(
+    not PROGRAM or not all(map(shutil.which, NEEDED)),
+    reason="needs a program (AVRORA_PROGRAM), avr-gdb and avr-gcc (Debian's gdb-avr and gcc-avr)",
+)
+
+
+@pytest.fixture(scope="module")
+def folder(tmp_path_factory):
+    """Two sensors and a sink, compiled with names of lines and variables."""
+    place = tmp_path_factory.mktemp("gdb")
+    for name in ("packet.c", "packet.toml", "radio.h"):
+        shutil.copy(f"{TOP}/examples/{name}", place)
+    words = ["avr-gcc", "-mmcu=atmega128", "-Os", "-gdwarf-2", "packet.c", "-o", "packet.elf"]
+    subprocess.run(words, cwd=place, check=True)
+    words = ["avr-objcopy", "-j", ".text", "-j", ".data", "-O", "ihex", "packet.elf", "packet.hex"]
+    subprocess.run(words, cwd=place, check=True)
+    return place
+
+
+@pytest.fixture
+def past(folder):
+    with history.history(f"{folder}/packet.toml", PROGRAM) as found:
+        yield found
+
+
+def gdb(folder, *commands, at=0, node=0):
+    """What avr-gdb says to commands, over the tool by a pipe."""
+    remote = " ".join([*TOOL, "gdb", "--avrora", PROGRAM, "--at", str(at), "--node", str(node), "packet.toml"])
+    words = [
+        "avr-gdb",
+        "-nx",
+        "-batch",
+        "-ex",
+        "set pagination off",
+        "-ex",
+        "set remotetimeout 60",
+        "-ex",
+        "file packet.elf",
+    ]
+    for command in (f"target remote | {remote}", *commands):
+        words += ["-ex", command]
+    done = subprocess.run(words, cwd=folder, capture_output=True, text=True, timeout=LONG, check=False)
+    return done.stdout + done.stderr
+
+
+# ---- packets
+
+
+def channel():
+    """A channel, and the end of it that a gdb would have."""
+    own, other = socket.socketpair()
+    return packets.Channel(own.fileno(), own.fileno()), own, other
+
+
+def test_packets_there_and_back():
+    draw = random.Random(1)
+    for _ in range(2_000):
+        data = bytes(draw.choice([*b"#$}*", draw.randrange(256)]) for _ in range(draw.randrange(40)))
+        one, own, other = channel()
+        with own, other:
+            other.sendall(b"+" + packets.framed(data))
+            assert one.receive() == data
+            assert other.recv(10) == b"+"
+
+
+def test_a_packet_with_a_wrong_sum_is_asked_for_again():
+    one, own, other = channel()
+    with own, other:
+        other.sendall(b"$g#00$m0,4#fd")
+        assert one.receive() == b"m0,4"
+        assert other.recv(10) == b"-+"
+
+
+def test_a_packet_that_comes_twice_is_answered_once():
+    one, own, other = channel()
+    with own, other:
+        other.sendall(packets.framed(b"qSupported") * 2 + b"+")
+        assert one.receive() == b"qSupported"
+        one.send(b"x")
+        other.sendall(packets.framed(b"g"))
+        assert one.receive() == b"g"
+
+
+def test_noise_and_an_end_are_no_packet():
+    one, own, other = channel()
+    with own, other:
+        sender = threading.Thread(target=other.sendall, args=(b"$" + b"garbage" * 20_000,), daemon=True)
+        sender.start()
+        with pytest.raises(packets.Gone):
+            one.receive()
+    one, own, other = channel()
+    with own:
+        other.close()
+        with pytest.raises(packets.Gone):
+            one.receive()
+
+
+def test_an_interrupt_is_heard_between():
+    one, own, other = channel()
+    with own, other:
+        assert not one.has_interrupt()
+        other.sendall(b"\x03")
+        assert one.has_interrupt() and not one.has_interrupt()
+
+
+# ---- a run at any cycle
+
+
+@needs_all
+def test_rows_forward_and_back_are_those_of_the_trace(past, folder):
+    """Of drawn nodes and cycles the next and the last row are those of a window of the whole run."""
+    draw = random.Random(2)
+    for _ in range(12):
+        first = draw.randrange(0, past.limit - 20_000)
+        text = past.traced_text(first, first + 20_000).decode()
+        rows = [re.match(r"(\d+) (\d+) (instr|enter|stop) ([0-9A-F]+)", line) for line in text.splitlines()]
+        for _ in range(6):
+            node, cycle = draw.randrange(past.nodes), draw.randrange(first + 5_000, first + 15_000)
+            own = [int(row[1]) for row in rows if row and int(row[2]) == node and int(row[1]) >= first]
+            later, before = [at for at in own if at > cycle], [at for at in own if at < cycle]
+            if later:
+                assert past.next_row(node, cycle).cycle == later[0]
+            if before:
+                assert past.last_row(node, cycle).cycle == before[-1]
+
+
+@needs_all
+def test_a_search_finds_all_and_in_order(past):
+    like = history.rows_like(None, {0x0046})  # ticks of the sensors and of the sink
+    there = list(past.hits(0, past.limit, like))
+    assert there == sorted(there, key=lambda it: (it[1].cycle, it[0]))
+    assert list(past.hits_back(past.limit, like)) == there[::-1]
+    middle = past.limit // 2
+    assert list(past.hits(0, middle, like)) + list(past.hits(middle, past.limit, like)) == there
+
+
+@needs_all
+def test_states_far_apart_are_kept_few(past, monkeypatch):
+    monkeypatch.setattr(history, "KEPT_FILES", 2)
+    for epoch in (1, 2):
+        assert past.state(epoch * history.EPOCH).cycle == epoch * history.EPOCH
+    assert len(past.saved) <= 3
+
+
+def test_registers_as_gdb_orders_them():
+    class Node(dict):
+        data = bytes(range(32)) + bytes(0x1100 - 32)
+
+        def __missing__(self, name):
+            return int(name[1:]) if re.fullmatch(r"r\d+", name) else 0
+
+    node = Node({"SREG": 0x82, "SP": 0x10D5, "PC": 0x0068, "TCNT1": 0x1234, "TOV0": 1, "OCF1A": 1, "RAMPZ": 1})
+    found = target.registers(node)
+    assert found == bytes(range(32)) + b"\x82\xd5\x10" + b"\xd0\x00\x00\x00"
+    assert [found[first : first + length] for first, length in target.PLACES[-2:]] == [b"\xd5\x10", b"\xd0\x00\x00\x00"]
+    data = target.data_space(node)
+    assert (data[0x4C], data[0x4D], data[0x56], data[0x5B], data[0x5D], data[0x5E], data[0x5F]) == (
+        0x34,
+        0x12,
+        0x11,
+        1,
+        0xD5,
+        0x10,
+        0x82,
+    )
+    assert target.memory(node, b"\x0c\x94", 0, 4) == b"\x0c\x94"
+    assert target.memory(node, b"", 0x800010, 2) == b"\x10\x11"
+    assert target.memory(node, b"", 0x801100, 2) == b""
+
+
+# ---- with avr-gdb
+
+
+@needs_all
+def test_forward_to_a_breakpoint_and_back_to_the_cause(folder):
+    said = gdb(
+        folder,
+        "break put",
+        "continue",
+        "bt",
+        "delete",
+        "break packet.c:49",
+        "reverse-continue",
+        "print got",
+        "print coming",
+        at=300_000,
+    )
+    assert "hit Breakpoint 1, put (text=0x" in said
+    assert re.search(r"#1 .* in sink \(\)", said)
+    assert re.search(r"hit Breakpoint 2, receive \(byte=", said)
+    assert re.search(r"= 3 '\\003'", said) and "length = 3" in said
+
+
+@needs_all
+def test_nodes_are_threads_with_words(folder):
+    said = gdb(folder, "info threads", "thread 2", "print/x $sp", at=300_000)
+    assert re.findall(r'"(node \d)" \(cycle 300,000, (?:asleep|awake)\)', said) == ["node 0", "node 1", "node 2"]
+    assert "Switching to thread 2" in said
+
+
+@needs_all
+def test_steps_back_and_forth_are_the_same_places(folder):
+    """A drawn walk of steps: each way the same program counters and registers."""
+    there = ["stepi"] * 12
+    show = ['printf "at %x %x %x\\n", $pc, $sp, $r24']
+    commands = ["stepi", *(it for step in there for it in (*show, step)), *show]  # it wakes first
+    commands += [it for step in there for it in ("reverse-stepi", *show)]
+    found = re.findall(r"^at (.*)$", gdb(folder, *commands, at=151_000, node=1), re.M)
+    assert len(found) == 25
+    assert found[:13] == found[12:][::-1]
+
+
+@needs_all
+def test_both_ends_of_the_run_are_told(folder):
+    said = gdb(folder, "reverse-continue", "monitor cycle", "continue", "monitor cycle", at=1_000)
+    assert said.count("No more reverse-execution history") == 2
+    assert "cycle 0, node 0" in said and "cycle 737,280, node 0" in said
+
+
+@needs_all
+def test_a_breakpoint_of_another_node_is_not_passed_by(folder, past):
+    """Node after node meets the same line; none is lost while gdb steps another one over it."""
+    word = 0x005D  # the loop of the start-up code that clears memory, in which all three are at once
+    like = history.rows_like(None, {word})
+    rows = [(node, row.cycle) for node, row in past.hits(0, 1_000, like) if row.kind == "instr"]
+    assert {node for node, _ in rows[:7]} == {0, 1, 2}
+    commands = [f"break *{2 * word:#x}"] + ["continue", "monitor cycle"] * 7
+    found = re.findall(r"^cycle ([\d,]+), node (\d)", gdb(folder, *commands), re.M)
+    assert [(int(node), int(cycle.replace(",", ""))) for cycle, node in found] == rows[:7]
+
+
+@needs_all
+def test_words_of_the_network(folder):
+    said = gdb(
+        folder,
+        "monitor next heard of 0",
+        "monitor who",
+        "monitor air",
+        "monitor last sent",
+        "monitor next interrupt TIMER1_COMPA of 0",
+        "monitor console 0",
+        at=300_000,
+    )
+    heard = re.search(r"cycle ([\d,]+), node 0: heard 1 AA", said)
+    assert heard
+    sent = re.search(r"AA that node 1 sent in cycle ([\d,]+): goto", said)
+    assert sent and int(sent[1].replace(",", "")) + 100 <= int(heard[1].replace(",", ""))
+    assert re.search(r"node 0 can hear AA that node 1 sent", said)
+    assert f"cycle {sent[1]}, node 1: sent AA" in said
+    assert "TIMER1_COMPA_vect interrupts" in said
+    assert "from 1 packet 0: 21" in said
+
+
+@needs_all
+def test_wrong_words_are_told(folder):
+    said = gdb(
+        folder,
+        "monitor goto 9_999_999",
+        "monitor goto x",
+        "monitor jump 3",
+        "monitor next rain",
+        "monitor next sent of 7",
+        "monitor next interrupt FOO",
+    )
+    for text in (
+        "the run has 737,280 cycles",
+        "x is no cycle",
+        "no word is called jump",
+        "one of sent, heard",
+        "7 is no node",
+        "FOO is no interrupt",
+    ):
+        assert text in said, text
+
+
+@needs_all
+def test_nothing_can_be_written(folder):
+    said = gdb(folder, "set var got = 9", "print got", "set var $r24 = 7", "print $r24", at=300_000)
+    assert re.search("Cannot access memory|a run is a fact", said)
+    assert "$1 = 3" in said
+
+
+@needs_all
+def test_over_a_port_one_gdb_after_another(folder):
+    if not has_loopback():
+        pytest.skip("needs a network that has 127.0.0.1")
+    words = [*TOOL, "gdb", "--avrora", PROGRAM, "--port", "0", "packet.toml"]
+    server = subprocess.Popen(words, cwd=folder, stderr=subprocess.PIPE, text=True)
+    try:
+        number = int(re.search(r"target remote :(\d+)", server.stderr.readline())[1])
+        with socket.create_connection((LOOPBACK, number), LONG) as garbage:
+            garbage.sendall(b"GET / HTTP/1.1\r\n\r\n")
+            with contextlib.suppress(ConnectionResetError):
+                assert garbage.recv(10) == b""
+        for _ in range(2):
+            command = ["avr-gdb", "-nx", "-batch", "-ex", "set remotetimeout 60", "-ex", "file packet.elf"]
+            command += ["-ex", f"target remote :{number}", "-ex", "break main", "-ex", "continue"]
+            done = subprocess.run(command, cwd=folder, capture_output=True, text=True, timeout=LONG, check=False)
+            assert "hit Breakpoint 1, main" in done.stdout
+    finally:
+        server.kill()
+        server.communicate()
+
+
+@needs_all
+def test_a_long_continue_is_interrupted(folder):
+    """gdb's ^C is a byte between packets."""
+    own, other = socket.socketpair()
+    with own, other, history.history(f"{folder}/packet.toml", PROGRAM) as past:
+        one = session.Session(past, packets.Channel(own.fileno(), own.fileno()))
+        one.points = {0xF000: 1}
+        other.sendall(b"\x03")
+        assert one.told(one.go_on()).startswith(b"T02")
+        assert one.told(one.go_on()).endswith(b"replaylog:end;")
+
+
+@needs_all
+@pytest.mark.parametrize(
+    "words, said",
+    [(["--at", "737_281"], "the run has"), (["--node", "3"], "nodes 0 to 2"), (["--port", "70000"], "no port")],
+)
+def test_bad_words_are_refused(folder, words, said):
+    done = subprocess.run(
+        [*TOOL, "gdb", "--avrora", PROGRAM, *words, "packet.toml"],
+        cwd=folder,
+        stdin=subprocess.DEVNULL,
+        capture_output=True,
+        text=True,
+        check=False,
+    )
+    assert done.returncode == 2 and said in done.stderr
+
+
+assert sys.version_info >= (3, 11)
