@@ -1,21 +1,20 @@
 """Serves avr-gdb over a run, forwards and backwards."""
 import argparse
 import contextlib
-import os
 import socket
 import sys
 from collections.abc import Iterator
 
-from avrora_tools import cli, files, terminal
+from avrora_tools import cli, terminal
 from avrora_tools.debugging import history, packets, session
 from avrora_tools.errors import BadWords, CannotWork
 
 SUMMARY = "debugs a run by avr-gdb, forwards and backwards"
 
-DESCRIPTION = """Speaks gdb's remote protocol over the run of a scenario. Each node is a thread of gdb. Breakpoints, steps, `finish`,
-`until`, call chains and variables are gdb's own; so are reverse-continue, reverse-step, reverse-next and reverse-finish,
-since a run is the same each time. `monitor help` in gdb tells what a network adds. Nothing can be written: a run is a
-fact. In gdb:
+DESCRIPTION = """Speaks gdb's remote protocol over the run of a scenario. Each node is a thread of gdb. Breakpoints, steps,
+`finish`, `until`, call chains and variables are gdb's own; so are reverse-continue, reverse-step, reverse-next and
+reverse-finish, since a run is the same each time. `monitor help` in gdb tells what a network adds. Nothing can be
+written: a run is a fact. In gdb:
   (gdb) file packet.elf
   (gdb) target remote | avrora-tools gdb packet.toml
 or with --port, in another terminal, `target remote :4242`. It listens on this machine alone. docs/DEBUGGING.md leads

@@ -1,1 +1,1 @@
-"""gdb's remote protocol over finished runs: a position is a cycle, and everything else is asked of the simulator again."""
+"""gdb's remote protocol over finished runs: a position is a cycle; all else is asked of the simulator again."""

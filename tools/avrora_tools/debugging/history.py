@@ -1,5 +1,5 @@
-"""A run as a whole, whatever cycle one asks for: states, traced rows, and events. All of it is asked of the simulator, which
-gives the same each time; what was asked for is kept for a while."""
+"""A run as a whole, whatever cycle one asks for: states, traced rows, and events. All of it is asked of the simulator,
+which gives the same each time; what was asked for is kept for a while."""
 import bisect
 import collections
 import concurrent.futures
@@ -31,8 +31,8 @@ REFUSED = (2, 4, 5, 8)
 
 
 class Traced(NamedTuple):
-    """A row of the processor: its cycle, whether an instruction begins, an interrupt is entered or the node stops, the word
-    address of what begins, is left, or stops, and the rest of the row."""
+    """A row of the processor: its cycle, whether an instruction begins, an interrupt is entered or the node stops, the
+    word address of what begins, is left, or stops, and the rest of the row."""
 
     cycle: int
     kind: str  # instr, enter, stop

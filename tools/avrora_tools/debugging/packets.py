@@ -91,7 +91,7 @@ class Channel:
         self.buffer += more
 
     def drop_noise(self) -> None:
-        """Passes over what stands before a packet: acknowledgements and interrupts. Raises Gone at what no gdb sends."""
+        """Passes over acknowledgements and interrupts before a packet. Raises Gone at what no gdb sends."""
         while self.buffer and self.buffer[0] != ord("$"):
             byte = self.buffer.pop(0)
             if byte == INTERRUPT:

@@ -257,8 +257,8 @@ class Session:
         return self.at_end()
 
     def steps_from(self, cycle: int) -> Iterator[Traced]:
-        """The node's rows behind a cycle; interrupts are stepped over, unless they are to be shown or a breakpoint lies in
-        them."""
+        """The node's rows behind a cycle; interrupts are stepped over, unless they are to be shown or a breakpoint lies
+        in them."""
         depth = 0
         while (row := self.history.next_row(self.at.node, cycle)) is not None:
             cycle = row.cycle

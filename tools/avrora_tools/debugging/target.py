@@ -10,8 +10,8 @@ RAMPZ, SPL, SPH, SREG = 0x5B, 0x5D, 0x5E, 0x5F
 
 # Device registers by data address: the name of the number that a state has, and whether it is its upper byte.
 BYTES = {
-    0x53: "TCCR0", 0x52: "TCNT0", 0x51: "OCR0", 0x45: "TCCR2", 0x44: "TCNT2", 0x43: "OCR2", 0x4E: "TCCR1B", 0x8A: "TCCR3B",
-    0x2A: "UCSR0B", 0x2D: "SPCR", 0x2F: "SPDR",
+    0x53: "TCCR0", 0x52: "TCNT0", 0x51: "OCR0", 0x45: "TCCR2", 0x44: "TCNT2", 0x43: "OCR2",
+    0x4E: "TCCR1B", 0x8A: "TCCR3B", 0x2A: "UCSR0B", 0x2D: "SPCR", 0x2F: "SPDR",
 }  # fmt: skip
 WORDS = {
     0x4C: "TCNT1", 0x4A: "OCR1A", 0x48: "OCR1B", 0x78: "OCR1C", 0x46: "ICR1",
@@ -37,8 +37,8 @@ PLACES = [(number, 1) for number in range(33)] + [(33, 2), (35, 4)]
 
 
 def data_space(node: Node) -> bytes:
-    """The data space as it can be looked at without the effects of a read: general registers, the core's, those of devices
-    that a state tells, bytes that registers keep, the SRAM. A register that a state does not tell is 0."""
+    """The data space as it can be looked at without the effects of a read: general registers, the core's, those of
+    devices that a state tells, bytes that registers keep, the SRAM. A register that a state does not tell is 0."""
     data = bytearray(node.data)
     for at, name in BYTES.items():
         data[at] = node[name] & 0xFF
