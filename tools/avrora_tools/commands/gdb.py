@@ -27,7 +27,8 @@ def configure(parser: argparse.ArgumentParser) -> None:
     cli.describe(parser, DESCRIPTION, "gdb --port 4242 --at 300_000 packet.toml")
     cli.add_simulator(parser)
     parser.add_argument("--port", type=port, help="listen there, for one gdb after another; else the standard streams")
-    parser.add_argument("--at", type=cli.natural, default=0, metavar="CYCLE", help="where gdb stands at first")
+    parser.add_argument("--state", metavar="STATE", help="a state in which the run begins, as of `sweep --out`; else reset")
+    parser.add_argument("--at", type=cli.natural, metavar="CYCLE", help="where gdb stands at first; else the beginning")
     parser.add_argument("--node", type=cli.natural, default=0, metavar="NODE", help="the node that gdb shows at first")
     parser.add_argument("scenario", metavar="SCENARIO")
 
@@ -40,15 +41,16 @@ def port(text: str) -> int:
 
 
 def run(arguments: argparse.Namespace) -> int:
-    with history.history(arguments.scenario, cli.simulator(arguments.avrora)) as past:
-        if arguments.at > past.limit:
-            raise BadWords(f"--at {arguments.at}: the run has {past.limit:,} cycles")
+    with history.history(arguments.scenario, cli.simulator(arguments.avrora), arguments.state) as past:
+        cycle = past.first if arguments.at is None else arguments.at
+        if not past.first <= cycle <= past.limit:
+            raise BadWords(f"--at {cycle}: the run has the cycles {past.first:,} to {past.limit:,}")
         if arguments.node >= past.nodes:
             raise BadWords(f"--node {arguments.node}: the scenario has nodes 0 to {past.nodes - 1}")
-        past.state(arguments.at)  # so that what is refused is told here
+        past.state(cycle)  # so that what is refused is told here
         for channel in channels(arguments.port):
             with contextlib.suppress(packets.Gone):
-                session.Session(past, channel, arguments.at, arguments.node).serve()
+                session.Session(past, channel, cycle, arguments.node).serve()
     return 0
 
 

@@ -67,14 +67,17 @@ class Window:
 class History:
     """The run of a scenario."""
 
-    def __init__(self, scenario: str, simulator: str, folder: str) -> None:
-        """`folder` is one for files of its own, which whoever made it clears away."""
+    def __init__(self, scenario: str, simulator: str, folder: str, state: str | None = None) -> None:
+        """`folder` is one for files of its own, which whoever made it clears away; the run begins in the state of the file
+        `state`, else at reset."""
         self.simulator, self.own = simulator, folder
         self.place = os.path.dirname(os.path.abspath(scenario))
         self.path = os.path.abspath(scenario)
         self.text = files.read_text(scenario).removeprefix(toml.BYTE_ORDER_MARK)
         self.scenario = Scenario.of_text(self.text, files.shown(scenario))
         self.limit, self.nodes = self.scenario.cycles, len(self.scenario.images)
+        self.first = State.load(state).cycle if state else 0
+        self.state_file = os.path.abspath(state) if state else None
         self.calls = 0
         # Asked between two spans of a search, which ends where it says so.
         self.wants_stop: Callable[[], bool] | None = None
@@ -103,11 +106,13 @@ class History:
 
     def checkpoint(self, epoch: int) -> str | None:
         """The file of the state at the beginning of an epoch; None where that is reset."""
-        if epoch == 0:
-            return None
+        begun = self.first // EPOCH
+        if epoch <= begun:
+            return self.state_file
         if epoch not in self.saved:
-            before = max((one for one in self.saved if one < epoch), default=0)
-            words = ["save", self.path, str(epoch - before), *([self.saved[before]] if before else [])]
+            before = max((one for one in self.saved if one < epoch), default=begun)
+            state = self.saved.get(before, self.state_file)
+            words = ["save", self.path, str(epoch - before), *([state] if state else [])]
             path = f"{self.own}/{epoch}.state"
             files.write_whole(path, self.run(*words), lasting=False)
             self.saved[epoch] = path
@@ -142,9 +147,9 @@ class History:
 
     def read_window(self, number: int) -> Window:
         """The rows of the span with this number, each of STEP_SPAN cycles."""
-        first = number * STEP_SPAN
+        first = max(number * STEP_SPAN, self.first)
         rows: list[list[Traced]] = [[] for _ in range(self.nodes)]
-        for node, row in found_in(self.traced_text(first, min(first + STEP_SPAN, self.limit)), first, PROCESSOR):
+        for node, row in found_in(self.traced_text(first, min((number + 1) * STEP_SPAN, self.limit)), first, PROCESSOR):
             rows[node].append(row)
         return Window(rows)
 
@@ -162,13 +167,14 @@ class History:
     def last_row(self, node: int, cycle: int) -> Traced | None:
         """The node's last row before a cycle, or None."""
         number = min(cycle, self.limit - 1) // STEP_SPAN
-        while number >= 0:
+        lowest = self.first // STEP_SPAN
+        while number >= lowest:
             window = self.window(number)
             place = bisect.bisect_left(window.cycles[node], cycle)
             if place:
                 return window.rows[node][place - 1]
             number, cycle = number - 1, self.limit
-            if number >= 0 and not self.window(number).rows[node]:
+            if number >= lowest and not self.window(number).rows[node]:
                 return self.found_before(node, number * STEP_SPAN)
         return None
 
@@ -200,7 +206,8 @@ class History:
         return self.made_ahead(range(first // SEARCH_SPAN, spans(min(end, self.limit), SEARCH_SPAN)))
 
     def searched_back(self, end: int) -> Iterator[tuple[int, bytes]]:
-        return self.made_ahead(range(spans(min(end, self.limit), SEARCH_SPAN) - 1, -1, -1))
+        lowest = self.first // SEARCH_SPAN
+        return self.made_ahead(range(spans(min(end, self.limit), SEARCH_SPAN) - 1, lowest - 1, -1))
 
     def made_ahead(self, numbers: Sequence[int]) -> Iterator[tuple[int, bytes]]:
         """The traces of spans in the order of their numbers; while one is looked at, the next are made."""
@@ -212,9 +219,9 @@ class History:
             try:
                 while True:
                     while len(waiting) < ahead and (number := next(left, None)) is not None:
-                        first = number * SEARCH_SPAN
+                        first = max(number * SEARCH_SPAN, self.first)
                         self.checkpoint(first // EPOCH)  # here, since files are made one by one
-                        end = min(first + SEARCH_SPAN, self.limit)
+                        end = min((number + 1) * SEARCH_SPAN, self.limit)
                         waiting.append((first, pool.submit(self.traced_text, first, end)))
                     if not waiting:
                         return
@@ -247,7 +254,7 @@ class History:
 
     def events_before(self, cycle: int) -> Iterator[Happened]:
         """The events before a cycle, the last first."""
-        for epoch in range(min(cycle, self.limit - 1) // EPOCH, -1, -1):
+        for epoch in range(min(cycle, self.limit - 1) // EPOCH, self.first // EPOCH - 1, -1):
             yield from (row for row in reversed(self.events(epoch)) if row.cycle < cycle)
 
 
@@ -279,7 +286,7 @@ def found_in(text: bytes, first: int, like: re.Pattern[bytes]) -> Iterator[tuple
 
 
 @contextlib.contextmanager
-def history(scenario: str, simulator: str) -> Iterator[History]:
-    """The run of a scenario, with a folder of its own while it is used."""
+def history(scenario: str, simulator: str, state: str | None = None) -> Iterator[History]:
+    """The run of a scenario, from a state on or from reset, with a folder of its own while it is used."""
     with tempfile.TemporaryDirectory(prefix="avrora-gdb-") as folder:
-        yield History(scenario, simulator, folder)
+        yield History(scenario, simulator, folder, state)

@@ -349,7 +349,7 @@ class Session:
         return Stop(more="replaylog:end;")
 
     def at_beginning(self) -> Stop:
-        self.at = Place(0, self.at.node)
+        self.at = Place(self.history.first, self.at.node)
         return Stop(more="replaylog:begin;")
 
 

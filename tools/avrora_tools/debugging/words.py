@@ -76,6 +76,8 @@ class Words:
             cycle = int(re.sub("[_,]", "", words[0]))
         if cycle > self.session.history.limit:
             raise Refused(f"the run has {self.session.history.limit:,} cycles")
+        if cycle < self.session.history.first:
+            raise Refused(f"the run begins in cycle {self.session.history.first:,}")
         self.session.at = self.session.at._replace(cycle=cycle)
         return self.here()
 
