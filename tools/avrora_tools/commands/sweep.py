@@ -197,6 +197,14 @@ def print_plan(sweep: Sweep) -> None:
     events = " and ".join(f"{m.event} from {m.span.first:,} to {m.span.last:,}" for m in sweep.scenario.moved)
     moves = sum(len(cell.arrivals.moves) for cell in sweep.cells)
     print(f"{events}: {moves:,} moves, {len(sweep.cells):,} classes; each run ends at {sweep.scenario.until:,}")
+    for doubt in sweep.doubts:
+        print(f"{doubt}: each move is a class")
+    if sweep.stores:
+        more = f" and {len(sweep.stores) - 1:,} more" if len(sweep.stores) > 1 else ""
+        print(
+            f"interrupts are off at the store through a pointer at {sweep.shown_address(sweep.stores[0])}{more}, which may write "
+            "SREG: behind it they count as on, which makes more classes"
+        )
     if sweep.sharing and sweep.sharing.things:
         print(f"used by handlers and by main: {', '.join(sweep.sharing.things)}")
 
