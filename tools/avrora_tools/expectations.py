@@ -51,6 +51,14 @@ class Outcome(NamedTuple):
     status: Status = Status.GOOD
 
 
+class NoRoom(BadInput):
+    """A row that is never to come has no room between those that were found about it: so in this trace, and not in each."""
+
+    def __init__(self, path: str, line: int, why: str) -> None:
+        super().__init__(f"{path}, line {line}: {why}, where the rows about it were found")
+        self.place = f"{path}, line {line}"
+
+
 class Unmet(Exception):
     """A golden trace is not saved: something else is not met."""
 
@@ -498,11 +506,10 @@ def refuse_impossible(case: Case, extent: Extent) -> None:
 
 
 def refuse_gaps(case: Case, extent: Extent, gaps: list[Gap]) -> None:
-    """Raises BadInput where the rows that were found leave no room between them for one that was never to come."""
+    """Raises NoRoom where the rows that were found leave no room between them for one that was never to come."""
     for never, first, last in gaps:
         if why := never.pattern.why_not(extent, Span(first, extent.limit if last is None else last), first):
-            where = f"{files.shown(case.path)}, line {never.line}"
-            raise BadInput(f"{where}: {why}, where the rows about it were found")
+            raise NoRoom(files.shown(case.path), never.line, why)
 
 
 def why_impossible(statement: Statement, extent: Extent) -> str:

@@ -18,7 +18,7 @@ from avrora_tools.sweeping.plans import Cell
 from avrora_tools.sweeping.sharing import Sharing, objects_of
 from avrora_tools.sweeping.simulation import ProcessTails, Simulator, scenario_text
 from avrora_tools.sweeping.sweep import Options, Results, Sweep
-from avrora_tools.sweeping.rows import written
+from avrora_tools.sweeping.rows import stops, written, written_before
 from avrora_tools.sweeping.verdicts import CaseCheck, Check, Compare, PredicateCheck, SerialCheck, nodes_of, predicate_of
 from avrora_tools.terminal import Progress
 
@@ -91,7 +91,11 @@ def tails_of(
     if arguments.alone:
         raise BadWords("--alone is of runs of this machine")
     tails = ClusterTails(simulator, scenario, state)
-    tails.connect(arguments.scheduler, shipping.program(arguments.avrora))
+    try:
+        tails.connect(arguments.scheduler, shipping.program(arguments.avrora))
+    except BaseException as fault:
+        tails.__exit__(type(fault), fault, None)
+        raise
     return tails
 
 
@@ -145,19 +149,27 @@ def check_of(arguments: argparse.Namespace, tails: ProcessTails, scenario: Moved
     if arguments.expect:
         return CaseCheck(tails.head, cases.read_case(arguments.expect))
     nodes = nodes_of(len(scenario.document["node"]), arguments.nodes)
-    good = written(reference(arguments, tails, scenario, scenario.until))
-    try:
-        re.compile(arguments.drop)
-    except re.error as fault:
-        raise BadWords(f"--drop: {fault}") from None
-    return SerialCheck(
+    rows = reference(arguments, tails, scenario, scenario.until)
+    check = SerialCheck(
         tails.head,
-        good,
+        written(rows),
         nodes,
         Compare(arguments.compare),
-        os.fsencode(arguments.drop),
+        dropped(arguments.drop),
         lambda: written(reference(arguments, tails, scenario, scenario.document["cycles"])),
+        stops(rows),
     )
+    first = min(m.span.first if isinstance(m.event, InputByte) else 0 for m in scenario.moved)
+    check.refuse_nothing(written_before(rows, first), first)
+    return check
+
+
+def dropped(pattern: str) -> re.Pattern[bytes] | None:
+    """What is left out of serial output."""
+    try:
+        return re.compile(os.fsencode(pattern)) if pattern else None
+    except re.error as fault:
+        raise BadWords(f"--drop: {fault}; what nodes write are bytes, and \\xHH is one") from None
 
 
 def reference(
