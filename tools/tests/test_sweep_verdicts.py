@@ -6,10 +6,15 @@ from pathlib import Path
 
 import pytest
 
-from firmware import PROGRAM, compiled, needs_compiler, needs_program, scenario
+from firmware import PROGRAM, SOURCES, compiled, needs_compiler, needs_program, scenario
 from support import TESTS, run_tool
 
 pytestmark = [needs_program, needs_compiler]
+
+BANNER = """#include "serial.h"
+ISR(USART0_RX_vect) { (void)UDR0; }
+int main(void) { uart(1); put(65); sei(); for (;;); }
+"""
 
 SPAN = ("--start", "0=280_000..280_299", "--until", "330_000", "--jobs", "2")
 
@@ -18,8 +23,12 @@ SPAN = ("--start", "0=280_000..280_299", "--until", "330_000", "--jobs", "2")
 def folder(tmp_path_factory):
     """A folder with the scenario of each firmware."""
     found = tmp_path_factory.mktemp("sweeps")
-    for name in ("torn_guard", "sreg_copy", "silent", "stops"):
+    (found / "banner.c").write_text(BANNER)
+    guarded = (SOURCES / "torn_guard.c").read_text()
+    (found / "error.c").write_text(guarded.replace("put('k');", ""))
+    for name in ("torn_guard", "sreg_copy", "silent", "stops", found / "banner", found / "error"):
         compiled(f"{name}.c", found, "-O0")
+        name = Path(name).name
         scenario(f"{name}.hex", found / f"{name}.toml")
     return found
 
@@ -46,25 +55,23 @@ def test_each_move_of_a_class_makes_one_execution(folder, name):
 @pytest.mark.parametrize(
     "name, words, why",
     [
-        ("silent", (), "node 0 writes nothing to USART0 from cycle 280,000 on"),
-        ("silent", ("--nodes", "0"), "node 0 writes nothing"),
+        ("silent", (), "from cycle 280,000 on; --expect"),
+        ("silent", ("--nodes", "0", "--stop"), "from cycle 280,000 on; --expect"),
         ("torn_guard", ("--drop", ".*"), "except what --drop leaves out"),
         ("torn_guard", ("--compare", "lines", "--drop", "[k!]"), "except what --drop leaves out"),
+        ("banner", (), "from cycle 280,000 on"),
     ],
 )
 def test_a_sweep_that_compares_nothing_is_refused(folder, name, words, why):
+    """Also where all is written before the span."""
     status, out, err = sweep(folder, name, *words)
-    assert (status, out) == (2, "")
-    assert err.startswith("avrora-tools sweep: nothing is compared: ") and why in err
+    assert status == 2 and "\nthe run that is not moved writes nothing from there on:" in out
+    assert err.startswith("avrora-tools sweep: nothing was compared: ") and why in err
 
 
-def test_what_is_written_before_the_span_alone_is_no_comparison(folder):
-    source = folder / "banner.c"
-    source.write_text('#include "serial.h"\nISR(USART0_RX_vect) { (void)UDR0; }\nint main(void) { uart(1); put(65); sei(); for (;;); }')
-    compiled(source, folder, "-Os")
-    scenario("banner.hex", folder / "banner.toml")
-    status, _, err = sweep(folder, "banner")
-    assert status == 2 and "nothing is compared" in err
+def test_what_is_written_where_nothing_is_due_fails(folder):
+    status, out, err = sweep(folder, "error")
+    assert (status, err) == (1, "") and "node 0 wrote '!' too much" in out
 
 
 def test_a_stop_that_the_unmoved_run_has_not_is_a_failure(folder):

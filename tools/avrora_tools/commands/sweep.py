@@ -58,6 +58,12 @@ def run(arguments: argparse.Namespace) -> int:
         if found and arguments.out:
             command = write_earliest(arguments.out, sweep, found[0].first())
             print(f"earliest: {shown_command(sweep.tails.simulator, command)}")
+        if compares_nothing(sweep) and not results.failures:
+            raise BadInput(
+                "nothing was compared: neither the run that is not moved nor a moved one writes anything to USART0 "
+                f"from cycle {first_move(sweep.scenario):,} on{', except what --drop leaves out' * bool(arguments.drop)}; "
+                "--expect or --check checks what is not written"
+            )
     return Status.NOT_MET if results.failures else Status.GOOD
 
 
@@ -150,7 +156,7 @@ def check_of(arguments: argparse.Namespace, tails: ProcessTails, scenario: Moved
         return CaseCheck(tails.head, cases.read_case(arguments.expect))
     nodes = nodes_of(len(scenario.document["node"]), arguments.nodes)
     rows = reference(arguments, tails, scenario, scenario.until)
-    check = SerialCheck(
+    return SerialCheck(
         tails.head,
         written(rows),
         nodes,
@@ -158,10 +164,17 @@ def check_of(arguments: argparse.Namespace, tails: ProcessTails, scenario: Moved
         dropped(arguments.drop),
         lambda: written(reference(arguments, tails, scenario, scenario.document["cycles"])),
         stops(rows),
+        written_before(rows, first_move(scenario)),
     )
-    first = min(m.span.first if isinstance(m.event, InputByte) else 0 for m in scenario.moved)
-    check.refuse_nothing(written_before(rows, first), first)
-    return check
+
+
+def first_move(scenario: MovedScenario) -> int:
+    """The first cycle in which something moves."""
+    return min(m.span.first if isinstance(m.event, InputByte) else 0 for m in scenario.moved)
+
+
+def compares_nothing(sweep: Sweep) -> bool:
+    return isinstance(sweep.check, SerialCheck) and sweep.check.compares_nothing()
 
 
 def dropped(pattern: str) -> re.Pattern[bytes] | None:
@@ -209,6 +222,8 @@ def print_plan(sweep: Sweep) -> None:
     events = " and ".join(f"{m.event} from {m.span.first:,} to {m.span.last:,}" for m in sweep.scenario.moved)
     moves = sum(len(cell.arrivals.moves) for cell in sweep.cells)
     print(f"{events}: {moves:,} moves, {len(sweep.cells):,} classes; each run ends at {sweep.scenario.until:,}")
+    if compares_nothing(sweep):
+        print("the run that is not moved writes nothing from there on: only what is written too much, and stops, can be told")
     for doubt in sweep.doubts:
         print(f"{doubt}: each move is a class")
     if sweep.stores:

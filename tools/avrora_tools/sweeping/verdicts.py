@@ -51,6 +51,7 @@ class SerialCheck:
     drop: re.Pattern[bytes] | None = None  # what may differ
     good_at_last: Callable[[], Mapping[int, bytes]] | None = None  # what the unmoved run writes up to the scenario's end
     good_stops: Mapping[int, str] = field(default_factory=dict)
+    good_before: Mapping[int, bytes] = field(default_factory=dict)  # what it writes before the first move
 
     def failure(self, move: Move, output: bytes) -> str | None:
         stopped = stops((self.head, output))
@@ -75,18 +76,11 @@ class SerialCheck:
             return None if got == good else different_bytes(good, got)
         return different_parts(parts(self.compare, good), parts(self.compare, got))
 
-    def refuse_nothing(self, before: Mapping[int, bytes], cycle: int) -> None:
-        """Raises BadInput where no node writes anything that a move could change, which is what comes from a cycle on. `before`
-        is what the unmoved run writes before it."""
-        for node in self.nodes:
-            good = self.good.get(node, b"")
-            if self.without_dropped(good) != self.without_dropped(before.get(node, b"")):
-                return
-        whose = f"node {next(iter(self.nodes))} writes nothing" if len(self.nodes) == 1 else "none of these nodes writes anything"
-        raise BadInput(
-            f"nothing is compared: {whose} to USART0 from cycle {cycle:,} on in the run that is not moved"
-            + (", except what --drop leaves out" if self.drop else "")
-            + "; --expect or --check checks what is not written"
+    def compares_nothing(self) -> bool:
+        """Whether the unmoved run writes nothing that a move could change, which is what comes from the first move on."""
+        return all(
+            self.without_dropped(self.good.get(node, b"")) == self.without_dropped(self.good_before.get(node, b""))
+            for node in self.nodes
         )
 
     def late(self, output: bytes) -> Late | None:
