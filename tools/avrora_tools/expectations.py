@@ -29,6 +29,7 @@ from avrora_tools.errors import BadInput, CannotWork, Status, ToolError
 from avrora_tools.events import TRACED, Serial, event_of
 from avrora_tools.patterns import EVERY, Extent, Span
 from avrora_tools.scenarios import BYTE_TIME, MAX_WINDOW, Scenario
+from avrora_tools.wholeness import Lacking
 
 __all__ = ["Case", "Golden", "Outcome", "RUNS", "check", "read_case", "run_case"]
 
@@ -390,14 +391,15 @@ def check(
     name: str = "the trace",
     ended: Ended | None = None,
     window: range | None = None,
+    lacking: Lacking | None = None,
 ) -> Outcome:
     """Whether a trace, a file or an iterable of bytes, meets the case: all that is not met, or none. With `save` golden
     traces are written anew, whatever they were, unless another expectation is not met. `ended` is called behind the
     last row; `window` has the cycles in which the run traced instructions, where they are known otherwise than by its
-    rows. Raises BadInput where the trace is not whole, or can never meet what is expected."""
+    rows; `lacking` finds rows that are missing, where no simulator has just made them. Raises BadInput where the trace is not whole, or can never meet what is expected."""
     blocks = traces.blocks_of(cast(BinaryIO, source)) if hasattr(source, "read") else iter(source)
     # A case may expect what a scenario's byte time allows and another's does not.
-    trace = traces.Trace(blocks, name, traces.Form.WHOLE, least_gap=BYTE_TIME.start)
+    trace = traces.Trace(blocks, name, traces.Form.WHOLE, least_gap=BYTE_TIME.start, lacking=lacking)
     looked = 0
     gaps: list[Gap] = []
     failures: list[str] = []
@@ -544,7 +546,7 @@ def run_case(case: Case, avrora: str, save: bool = False, timeout: float | None 
         raise BadInput(f"{files.shown(case.path)}: no run, node or trace says where the rows come from")
     if case.source[0] == "trace":
         path = os.path.join(case.folder, case.source[1])
-        return check(case, traces.file_blocks(path), save, files.shown(path))
+        return check(case, traces.file_blocks(path), save, files.shown(path), lacking=Lacking())
     words = [avrora, *case.source]
     with tempfile.TemporaryFile() as errors:
         streams = {"stdin": subprocess.DEVNULL, "stdout": subprocess.PIPE, "stderr": errors}

@@ -17,7 +17,8 @@ from avrora_tools.errors import BadInput, CannotWork
 from avrora_tools.expectations import REFUSALS
 from avrora_tools.files import printable
 from avrora_tools.groups import Groups
-from avrora_tools.sweeping.events import EPOCH, Document, InputByte, Move, MovedScenario
+from avrora_tools.states import EPOCH
+from avrora_tools.sweeping.events import Document, InputByte, Move, MovedScenario
 
 Window = tuple[int, int]
 NO_WINDOW = (0, 0)

@@ -4,11 +4,11 @@ from collections.abc import Iterator, Mapping, Sequence
 from dataclasses import dataclass, field
 
 from avrora_tools.programs import Program
-from avrora_tools.states import State
+from avrora_tools.states import EPOCH, State
 from avrora_tools.sweeping import evidence
 from avrora_tools.sweeping.cells import CellMaker
 from avrora_tools.sweeping.doubts import stack_doubt
-from avrora_tools.sweeping.events import EPOCH, InputByte, Move, MovedScenario
+from avrora_tools.sweeping.events import InputByte, Move, MovedScenario
 from avrora_tools.sweeping.findings import Finding, Spots, findings
 from avrora_tools.sweeping.ordering import Clock, Enter, dividers, steps
 from avrora_tools.sweeping.plans import Cell, FirstLook, in_rounds
