@@ -222,6 +222,14 @@ class Encoding:
             for part in parts
         )
 
+    def texts_of(self, operand: str) -> list[str]:
+        """All texts of an operand, which is of one field or none."""
+        letters = [letter for letter in operand if letter in self.fields]
+        if not letters:
+            return [operand]
+        count = 1 << len(self.fields[letters[0]])
+        return [operand.replace(letters[0], OPERANDS[letters[0]].shown(bits)) for bits in range(count)]
+
     def texts(self) -> str:
         """A regular expression of all its texts."""
         return " ".join(self.words())
