@@ -7,7 +7,7 @@ from typing import NamedTuple
 
 WORDS = 0x10000  # of program memory
 
-SLEEP = "sleep"
+SLEEP, RETI = "sleep", "reti"
 CALLS = ("call", "rcall", "icall")
 
 
