@@ -31,7 +31,7 @@ class Console(unittest.TestCase):
     def typed(self, text, *words, step=10):
         """What is shown of bytes that node 0 writes."""
         trace = "".join(f"{step * (i + 1)} 0 serial {byte:02X}\n" for i, byte in enumerate(text))
-        return [line[17:] for line in self.console(*words, trace=trace).splitlines()]
+        return [line[18:] for line in self.console(*words, trace=trace).splitlines()]
 
     def test_empty_lines_are_shown(self):
         self.assertEqual(self.typed(b"a\n\nb\n"), ["a", "", "b"])
