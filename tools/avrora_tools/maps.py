@@ -178,12 +178,13 @@ UNUSED, ALONE = "#b8b8b8", "#d11"
 
 @dataclass(frozen=True)
 class Quality:
-    """What became of the bytes that were sent while the link was open."""
+    """What became of the bytes that were sent, some of them while the link was closed."""
 
     sent: int
     clean: int
     clashed: int
     unheard: int
+    closed: int = 0
 
     @property
     def share(self) -> float | None:
@@ -242,6 +243,7 @@ def link_shape(at: Sequence[Point], ends: Ends, quality: Quality, markers: Mappi
     dashes = ' stroke-dasharray="5 4"' if is_lone else ""
     share = "nothing sent" if quality.share is None else f"{100 * quality.share:.1f}% of {quality.sent:,} bytes clean"
     more = f", {quality.clashed:,} clashed, {quality.unheard:,} unheard" if quality.sent else ""
+    more += f", {quality.closed:,} while it was closed" if quality.closed else ""
     title = html.escape(f"{ends[0]} to {ends[1]}: {share}{more}{', one direction' if is_lone else ''}")
     return (
         f'<path d="M{start[0]:.1f} {start[1]:.1f}Q{bend_x:.1f} {bend_y:.1f} {end[0]:.1f} {end[1]:.1f}" fill="none" '

@@ -135,3 +135,9 @@ def test_mknet_warns_and_writes_places(tmp_path):
     assert places_of(places.read_text(), "p", 4)[0] == (0, 0)
     assert "nothing reaches" in run_tool("mknet", "geo:0.01", "a.hex*5")[2]
     assert run_tool("mknet", "ring", "a.hex*5")[2] == ""
+
+
+def test_what_was_sent_while_a_link_was_closed_did_not_come_through():
+    half = Quality(10, 5, 0, 0, 5)
+    assert half.share == 0.5
+    assert "0 to 1: 50.0% of 10 bytes clean, 0 clashed, 0 unheard, 5 while it was closed" in drawn([(0, 0), (1, 1)], {(0, 1): half})

@@ -134,8 +134,7 @@ def draw_map(arguments: argparse.Namespace, reader: Reader) -> None:
     links: dict[maps.Ends, maps.Quality] = {}
     for link in reader.scenario.links:
         ends = link.sender, link.hearer
-        sent = counts[ends, "sent"] - counts[ends, "closed"]
-        links[ends] = maps.Quality(sent, *(counts[ends, fate] for fate in ("clean", "clashed", "unheard")))
+        links[ends] = maps.Quality(*(counts[ends, fate] for fate in ("sent", "clean", "clashed", "unheard", "closed")))
     count = len(reader.scenario.images)
     if arguments.places:
         places = maps.places_of(files.read_text(arguments.places), files.shown(arguments.places), count)
