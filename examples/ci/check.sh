@@ -1,7 +1,8 @@
 #!/bin/sh
 # Builds the firmware of a folder, checks it, and leaves what came of it as JUnit: check.sh [--timeout SECONDS] FOLDER [OUT]
 #
-# FOLDER is copied to OUT (./build where absent). There each NAME.c becomes NAME.hex, and the cases, all NAME.expect, are run;
+# FOLDER is copied to OUT (./build where absent). There each NAME.c becomes NAME.hex, and so do all sources of a folder NAME.src
+# together, an image of several sources; and the cases, all NAME.expect, are run;
 # `avrora-tools expect --help` says what is in them. The report is OUT/junit.xml, and OUT/SHA256SUMS has the sums of all that
 # was built and checked. Each compilation and each case may take SECONDS (600). To try it with an example:
 #
@@ -147,12 +148,23 @@ limited() {
 
 # A name begins with ./, so that none is an option or a file of options. A header is the first one included, so that no
 # precompiled one is taken, which has code in it. No object is taken for one of link-time optimization, which has options.
+image() {
+    name=$1
+    shift
+    limited avr-gcc -mmcu=atmega128 -Os -gdwarf-2 -Wall -fno-lto -fno-use-linker-plugin -include /dev/null -I . \
+        ${headers:+-I "$headers"} -o "$name.elf" "$@"
+    limited avr-objcopy -j .text -j .data -O ihex "$name.elf" "$name.hex"
+}
 for source in ./*.c; do
     [ -f "$source" ] || continue
-    name=${source%.c}
-    limited avr-gcc -mmcu=atmega128 -Os -gdwarf-2 -Wall -fno-lto -fno-use-linker-plugin -include /dev/null -I . \
-        ${headers:+-I "$headers"} -o "$name.elf" "$source"
-    limited avr-objcopy -j .text -j .data -O ihex "$name.elf" "$name.hex"
+    image "${source%.c}" "$source"
+done
+for sources in ./*.src; do
+    [ -d "$sources" ] || continue
+    set -- "$sources"/*.c
+    [ -f "$1" ] || end 2 "$sources: there is no source"
+    [ ! -f "${sources%.src}.c" ] || end 2 "$sources: ${sources%.src}.c makes an image of this name too"
+    image "${sources%.src}" -I "$sources" "$@"
 done
 
 set -- ./*.expect
