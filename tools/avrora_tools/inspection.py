@@ -3,8 +3,8 @@ import fnmatch
 import itertools
 from collections.abc import Iterable, Iterator, Sequence
 
-from avrora_tools.programs import Program, vector_name
-from avrora_tools.stacks import HANDLER_PREFIX, Frame, Unwinder, data_end, lowest_used
+from avrora_tools.programs import Program
+from avrora_tools.stacks import Frame, Unwinder, data_end, lowest_used
 from avrora_tools.states import DATA_END, SRAM_FIRST, Node
 from avrora_tools.variables import Variable, place_in, variables_of
 
@@ -103,5 +103,4 @@ class NodeMemory:
         function = self.view.program.function_at(word)
         if function is None or function.first != word:
             return None
-        name = str(function.name)
-        return vector_name(2 * int(name.removeprefix(HANDLER_PREFIX))) if name.startswith(HANDLER_PREFIX) else name
+        return function.name

@@ -39,6 +39,16 @@ def vector_name(word: int) -> str:
     return f"{VECTORS[word]}_vect" if word in VECTORS else f"vector {word:04X}"
 
 
+HANDLER = re.compile(r"__vector_([0-9]+)")
+HANDLERS = frozenset(f"{name}_vect" for name in INTERRUPTS)
+
+
+def source_name(symbol: str) -> str:
+    """The name of a function as its source has it: TIMER1_COMPA_vect for __vector_12."""
+    match = HANDLER.fullmatch(symbol)
+    return vector_name(2 * int(match[1])) if match and 2 * int(match[1]) in VECTORS else symbol
+
+
 class Program:
     """A linked program for the AVR."""
 
@@ -146,7 +156,7 @@ def functions_of(elf: Any, end: int) -> list[Function]:
         word = symbol["st_value"] // 2
         best[word] = max(best.get(word, rank), rank)
     words = sorted(word for word in best if word < end)
-    return [Function(word, after, best[word][-1]) for word, after in zip(words, words[1:] + [end])]
+    return [Function(word, after, source_name(best[word][-1])) for word, after in zip(words, words[1:] + [end])]
 
 
 def lines_of(elf: Any) -> list[tuple[int, str | None]]:

@@ -5,12 +5,11 @@ from typing import Any
 
 from avrora_tools import files
 from avrora_tools.errors import BadInput
-from avrora_tools.programs import Program
+from avrora_tools.programs import HANDLERS, Program
 from avrora_tools.states import DATA_END, SRAM_FIRST, Node
 from avrora_tools.variables import DATA_SPACE, reader
 
 MOST_FRAMES = (DATA_END - SRAM_FIRST) // 2  # more there is no room for
-HANDLER_PREFIX = "__vector_"
 
 # DWARF's numbers of registers on the AVR: r28 of the frame pointer Y, the stack pointer, the return address.
 Y_LOW, Y_HIGH, STACK_POINTER, RETURN_ADDRESS = 28, 29, 32, 36
@@ -81,7 +80,7 @@ class Unwinder:
             if not SRAM_FIRST <= frame < DATA_END or frame <= stack:
                 return Chain(frames, f"its frame would end at {frame & 0xFFFF:04X}, where no stack is")
             back = node.data[frame - 1] << 8 | node.data[frame]
-            is_handler = function.name.startswith(HANDLER_PREFIX)
+            is_handler = function.name in HANDLERS
             if not is_handler and not self.returns_to(back, function.first):
                 return Chain(frames, f"{back:04X}, which is to be where it returns to, stands behind no call of it")
             y = byte_at(node, saved.get(Y_LOW), y & 0xFF) | byte_at(node, saved.get(Y_HIGH), y >> 8) << 8

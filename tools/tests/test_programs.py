@@ -31,8 +31,8 @@ class Programs(unittest.TestCase):
                 (0xB0, "__bad_interrupt"),
                 (0xB4, "put"),
                 (0xD4, "transfer"),
-                (0xDE, "__vector_18"),
-                (0x130, "__vector_15"),
+                (0xDE, "USART0_RX_vect"),
+                (0x130, "TIMER0_COMP_vect"),
                 (0x1DC, "main"),
                 (0x210, "_exit"),
                 (0x212, "__stop_program"),
@@ -45,7 +45,7 @@ class Programs(unittest.TestCase):
             (0x1E * 2, "__vectors+0x3C"),
             (0xB4, "put relay.c:21"),
             (0xD8, "transfer+0x4 relay.c:29"),
-            (0x130, "__vector_15 relay.c:52"),
+            (0x130, "TIMER0_COMP_vect relay.c:52"),
             (0x20A, "main+0x2E relay.c:71"),
             (0x214, "?"),
         ):
@@ -157,8 +157,8 @@ class Annotate(unittest.TestCase):
             [
                 "TIMER0_COMP_vect, from main+0x2C relay.c:71",
                 "__vectors+0x3C",
-                "__vector_15 relay.c:52",
-                "__vector_15+0x2 relay.c:52",
+                "TIMER0_COMP_vect relay.c:52",
+                "TIMER0_COMP_vect+0x2 relay.c:52",
             ],
         )
 
@@ -364,12 +364,12 @@ class Profile(unittest.TestCase):
         # handler's head.
         lines = self.profile("-s", f"{DATA}/relay.toml", "-e", ELF, "--callers", "--lines", trace=data("relay.trace"))
         for line in (
-            "90 51.43 55 __vector_15",
+            "90 51.43 55 TIMER0_COMP_vect",
             "15 8.57 5 __vectors",
             "40 22.86 5 (entering interrupts)",
             "30 17.14 (before the first row)",
             "90 51.43 55 relay.c:52",
-            "5 TIMER0_COMP_vect > __vector_15",
+            "5 (interrupt) > TIMER0_COMP_vect",
             "3 29 0 0 6 232",
         ):
             self.assertIn(line.split(), lines)
@@ -380,7 +380,7 @@ class Profile(unittest.TestCase):
         lines = self.profile("-s", f"{DATA}/relay.toml", "-e", ELF, "--coverage", trace=data("relay.trace"))
         self.assertIn("1 35 3 __vectors".split(), lines)
         self.assertIn("0 13 0 put".split(), lines)
-        self.assertIn("11 76 14 __vector_15".split(), lines)
+        self.assertIn("11 76 14 TIMER0_COMP_vect".split(), lines)
 
     @pyelftools
     def test_calls(self):
@@ -396,5 +396,5 @@ class Profile(unittest.TestCase):
         self.assertEqual(
             lines[lines.index(["calls"]) + 1 :],
             [["calls"]]
-            + [line.split() for line in ("1 USART0_RX_vect > __vector_18", "1 __vector_18 > put", "1 main > transfer")],
+            + [line.split() for line in ("1 (interrupt) > USART0_RX_vect", "1 USART0_RX_vect > put", "1 main > transfer")],
         )

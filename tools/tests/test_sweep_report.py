@@ -18,7 +18,7 @@ from avrora_tools.traces import Row
 class Program:
     """A program of one function `main` of words 0x50 to 0x5F, a line each 4 words, and a handler of USART0 RX at 0x80."""
 
-    functions = [Function(0x50, 0x60, "main"), Function(0x60, 0x80, "idle"), Function(0x80, 0x90, "__vector_18")]
+    functions = [Function(0x50, 0x60, "main"), Function(0x60, 0x80, "idle"), Function(0x80, 0x90, "USART0_RX_vect")]
 
     def function_at(self, word):
         return next((f for f in self.functions if f.first <= word < f.end), None)

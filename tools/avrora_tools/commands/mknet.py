@@ -2,7 +2,7 @@
 import argparse
 import re
 
-from avrora_tools import cli, files, maps, networks, scenarios, traces
+from avrora_tools import cli, files, maps, networks, scenarios
 from avrora_tools.terminal import warn
 
 SUMMARY = "writes the scenario of a network of some shape"

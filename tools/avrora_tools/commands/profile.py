@@ -58,10 +58,15 @@ def print_flat(title: str, spent: Mapping[int, Spent], name_of: Namer) -> None:
             print(f"{taken:>12,} {100 * taken / total:>6.2f} {count:>10}  {name}")
 
 
+INTERRUPT = "(interrupt)"  # what calls the handler that has its name
+
+
 def print_callers(calls: Mapping[Call, int], name_of: Namer) -> None:
     by_name: collections.Counter[tuple[str, str]] = collections.Counter()
     for (node, caller, callee), count in calls.items():
-        by_name[caller if isinstance(caller, str) else name_of(node, caller), name_of(node, callee)] += count
+        called = name_of(node, callee)
+        by = name_of(node, caller) if isinstance(caller, int) else INTERRUPT if caller == called else caller
+        by_name[by, called] += count
     print(f"\ncalls\n{'calls':>12}")
     for (by, called), count in sorted(by_name.items(), key=lambda item: (-item[1], item[0])):
         print(f"{count:>12,}  {by} > {called}")

@@ -9,10 +9,9 @@ from collections import defaultdict
 from collections.abc import Iterable, Sequence
 from dataclasses import dataclass
 
-from avrora_tools.programs import Program, vector_name
+from avrora_tools.programs import HANDLERS, Program
 
 SLEEP = "sleep"
-HANDLER = re.compile(r"__vector_(\d+)")
 
 FIRST_SRAM = 0x100
 IO_TO_DATA = 0x20  # what IN and OUT call A is the data address A + 0x20
@@ -66,7 +65,7 @@ class Sharing:
         self.timer_uses: dict[int, set[int]] = defaultdict(set)  # by an instruction's address: whose registers it uses
         self.calls: dict[str, set[str]] = defaultdict(set)
         self.read_listing(listing)
-        handlers = {f.name for f in program.functions if HANDLER.fullmatch(f.name)}
+        handlers = {f.name for f in program.functions if f.name in HANDLERS}
         self.of_handlers, self.of_main = self.reached(handlers), self.reached({"main"})
         self.things = [thing for thing, uses in self.uses.items() if thing != SLEEP and self.is_shared(uses)]
         self.between = self.addresses_between()
@@ -131,9 +130,9 @@ class Sharing:
 
     def users(self, thing: str) -> list[str]:
         """The handlers that use a thing, or call what does, by the names of their interrupts."""
-        handlers = sorted({f.name for f in self.program.functions if HANDLER.fullmatch(f.name)})
+        handlers = sorted({f.name for f in self.program.functions if f.name in HANDLERS})
         using = {use.function for use in self.uses[thing]}
-        return [handler_name(name) for name in handlers if self.reached({name}) & using]
+        return [name for name in handlers if self.reached({name}) & using]
 
 
 def target(address: int, text: str) -> int:
@@ -159,12 +158,6 @@ def data_address(name: str, operands: list[str], constants: dict[str, tuple[str,
     value = two[1] << 8 | one[1]
     base = value if two[0] == "ldi" else -value & 0xFFFF
     return base + int(pointer[2] or 0)
-
-
-def handler_name(function: str) -> str:
-    """A handler as its source names it: USART0_RX_vect for __vector_18."""
-    match = HANDLER.fullmatch(function)
-    return vector_name(2 * int(match[1])) if match else function
 
 
 REGISTER_NAMES = """20 PINF 21 PINE 29 UBRR0L 2A UCSR0B 2B UCSR0A 2D SPCR 2E SPSR 2F SPDR 30 PIND 33 PINC 36 PINB 39 PINA
