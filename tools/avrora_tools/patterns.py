@@ -154,7 +154,7 @@ class Pattern:
         return self.shapes_of(word, rest)
 
     def shapes_of(self, word: str, rest: list[str]) -> dict[str, list[Shape]]:
-        kinds = list(KINDS) if word == ANY else members(word) or [word]
+        kinds = list(KINDS) if word == ANY else list(dict.fromkeys(members(word) or [word]))
         found: dict[str, list[Shape]] = {}
         refusals: list[tuple[int, str]] = []
         for kind in kinds:

@@ -303,6 +303,7 @@ class Refused(unittest.TestCase):
             ("never * * end * dead", "end: dead cannot stand there"),
             ("never * * {sent,heard} 41", "heard"),
             ("nevr * * stop *", "no statement is called nevr"),
+            ("never * * {sent,sent} 4Z", "4Z is not 2 upper-case"),
             ("count >= 0: * * sent *", ">= 0 holds of each count"),
             ("count < 0: * * sent *", "< 0 holds of no count"),
             ("text 1 lines >= 0", ">= 0 holds of each count"),
