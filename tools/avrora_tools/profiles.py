@@ -288,10 +288,14 @@ class MonitorReader:
 
     def cycles(self) -> int:
         """How many cycles each node is to have."""
-        if self.window is None and all(spent.total() == self.scenario.cycles for spent in self.spent):
-            return self.scenario.cycles
-        first, end = self.window or self.scenario.window
+        first, end = self.span()
         return end - first
+
+    def span(self) -> tuple[int, int]:
+        """The cycles that the report is of: the first, and the one behind the last."""
+        if self.window is None and all(spent.total() == self.scenario.cycles for spent in self.spent):
+            return 0, self.scenario.cycles
+        return self.window or self.scenario.window
 
 
 def text_lines(blocks: Iterable[bytes], name: str) -> Iterator[str]:
