@@ -17,8 +17,8 @@ OFF = "off"  # the current that a table may leave out
 
 @dataclass(frozen=True)
 class Currents:
-    """Milliamperes: of the processor awake and asleep, of the radio while a byte is on the air, while it is else selected, and
-    while it is not."""
+    """Milliamperes: of the processor awake and asleep, of the radio while a byte is on the air, while it is else
+    selected, and while it is not."""
 
     awake: float
     asleep: float
@@ -29,7 +29,8 @@ class Currents:
 
 @dataclass(frozen=True)
 class Table:
-    """The currents of all nodes, of some by their numbers, and the clock in cycles a second; a battery in mA h, if any."""
+    """The currents of all nodes, of some by their numbers, and the clock in cycles a second; a battery in mA h, if
+    any."""
 
     common: Currents
     by_node: Mapping[int, Currents]
@@ -42,9 +43,9 @@ class Table:
 
 @dataclass(frozen=True)
 class Account:
-    """The charge of a node over a span, in mA s. What the processor drew in cycles without an owner is not known: `unknown`
-    has the difference between awake and asleep all the time, and `asleep` the lower of the two; so of cycles in which it is not
-    known whether the radio was selected."""
+    """The charge of a node over a span, in mA s. What the processor drew in cycles without an owner is not known:
+    `unknown` has the difference between awake and asleep all the time, and `asleep` the lower of the two; so of cycles
+    in which it is not known whether the radio was selected."""
 
     awake: float
     asleep: float
@@ -84,8 +85,8 @@ def account(node: Spent, currents: Currents, byte_time: int, hz: float, radio: R
 
 
 def shares(node: Spent, byte_time: int, radio: Radio) -> tuple[int, int, int]:
-    """In how many cycles a node's radio sent, was else selected, and was not; of the rest it is not known. A byte is on its way
-    also where the radio is no longer selected."""
+    """In how many cycles a node's radio sent, was else selected, and was not; of the rest it is not known. A byte is on
+    its way also where the radio is no longer selected."""
     running = node.total() - node.stopped
     on_air = min(sent(node) * byte_time, running)
     listening = max(0, radio.selected - on_air)
@@ -146,7 +147,9 @@ def nodes_of(key: str, name: str) -> set[int]:
 def current(table: Mapping[str, object], key: str, name: str) -> float:
     value = table.get(key)
     if isinstance(value, bool) or not isinstance(value, (int, float)) or not 0 <= value < 1e12:
-        raise BadInput(f"{name}: {key} is to be a number of at least 0" + ("" if key in table else ", and is not there"))
+        raise BadInput(
+            f"{name}: {key} is to be a number of at least 0" + ("" if key in table else ", and is not there")
+        )
     return float(value)
 
 

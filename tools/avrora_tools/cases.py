@@ -1,5 +1,5 @@
-"""Cases of `expect`: what the statements of a case's text say (tools/README.md has the form). A statement that no trace can
-meet, or that each trace meets, is refused when it is read."""
+"""Cases of `expect`: what the statements of a case's text say (tools/README.md has the form). A statement that no trace
+can meet, or that each trace meets, is refused when it is read."""
 import argparse
 import ast
 import operator
@@ -33,7 +33,8 @@ BEGINS_A_ROW = re.compile(r"[0-9*+{.]")
 
 
 class Expected(NamedTuple):
-    """A row that comes behind the one expected before; at most `most` others come between, any number where it is None."""
+    """A row that comes behind the one expected before; at most `most` others come between, any number where it is
+    None."""
 
     line: int
     pattern: Pattern
@@ -173,8 +174,8 @@ def refuse_between(name: str, statements: list[Statement]) -> None:
 
 
 def refuse_certain(name: str, statements: list[Statement], only: Only) -> None:
-    """Raises BadInput where an expectation is met by each trace, or by none: each has an end row of each of its nodes, in their
-    order, and nothing behind them."""
+    """Raises BadInput where an expectation is met by each trace, or by none: each has an end row of each of its nodes,
+    in their order, and nothing behind them."""
     above: list[Expected] = []
     for statement in statements:
         why = None
@@ -183,7 +184,9 @@ def refuse_certain(name: str, statements: list[Statement], only: Only) -> None:
             why = None if why and statement.most is not None and not why.startswith("no such") else why
             above.append(statement)
         elif isinstance(statement, Never):
-            is_last = statement.span is None and not any(isinstance(it, Expected) and it.line > statement.line for it in statements)
+            is_last = statement.span is None and not any(
+                isinstance(it, Expected) and it.line > statement.line for it in statements
+            )
             if is_last or statement.span and cover([statement.span], [LIMITS]):
                 why = why_certain(statement.pattern, above if is_last else [], only)
         elif isinstance(statement, Count):
@@ -220,7 +223,8 @@ def why_out_of_order(statement: Expected, above: list[Expected]) -> str | None:
 
 
 def why_count_is_certain(count: Count, only: Only, nodes: int | None) -> str | None:
-    """Why a comparison holds of the rows of each trace, or of none; of those with so many nodes where they are known."""
+    """Why a comparison holds of the rows of each trace, or of none; of those with so many nodes where they are
+    known."""
     looked_at = (only.nodes or frozenset(range(cli.MAX_NODES))) & frozenset(range(nodes or cli.MAX_NODES))
     seen_kinds = count.pattern.kinds & (only.kinds or count.pattern.kinds)
     least, most = 0, None
@@ -230,7 +234,13 @@ def why_count_is_certain(count: Count, only: Only, nodes: int | None) -> str | N
         most = len(seen_kinds) * len(count.pattern.nodes & looked_at)
     outcomes = {
         COMPARISONS[count.comparison](number, count.wanted)
-        for number in {least, max(least, count.wanted - 1), max(least, count.wanted), max(least, count.wanted + 1), most or 0}
+        for number in {
+            least,
+            max(least, count.wanted - 1),
+            max(least, count.wanted),
+            max(least, count.wanted + 1),
+            most or 0,
+        }
         if number >= least and (most is None or number <= most)
     }
     if len(outcomes) == 2:
@@ -351,7 +361,8 @@ def expression_of(text: str) -> re.Pattern[bytes]:
 
 
 def probes(expression: bytes) -> Iterator[bytes]:
-    """Texts of which an expression that can fail most likely does not match one: single bytes, and what stands in it."""
+    """Texts of which an expression that can fail most likely does not match one: single bytes, and what stands in
+    it."""
     yield from (bytes([byte]) for byte in range(256))
     parts = re.findall(rb"[A-Za-z0-9 _:=,;<>-]+", expression)
     for part in [*parts, b"".join(parts), b" ".join(parts)]:

@@ -98,8 +98,8 @@ class Drawing:
         self.byte_time = trace.scenario.byte_time if trace.scenario else gap
 
     def closed(self, hearer: int) -> list[tuple[int, int, int]]:
-        """The spans of what is drawn in which a link to a node is not open: the first cycle, the one behind the last, and the
-        sender."""
+        """The spans of what is drawn in which a link to a node is not open: the first cycle, the one behind the last,
+        and the sender."""
         found = []
         for link in self.scenario.links if self.scenario else ():
             if link.hearer != hearer or link.spans is None:
@@ -200,7 +200,8 @@ def flat(events: Iterable[Drawn], kind: str) -> list[Any]:
 
 
 class Thinning(NamedTuple):
-    """Which events are left out: those of the kinds that lie less than `step` cycles behind the last one that is kept."""
+    """Which events are left out: those of the kinds that lie less than `step` cycles behind the last one that is
+    kept."""
 
     kinds: tuple[str, ...] = ()
     step: int = 0
@@ -215,7 +216,15 @@ class Thinning(NamedTuple):
         return f"thinned to one in {self.step:,} cycles: {words}" if self.step else ""
 
 
-WORDS = {"quiet": "samples of nothing", "enter": "interrupts", "asleep": "sleep", "heard": "heard", "serial": "USART0", "sent": "sent", "clash": "clashes"}
+WORDS = {
+    "quiet": "samples of nothing",
+    "enter": "interrupts",
+    "asleep": "sleep",
+    "heard": "heard",
+    "serial": "USART0",
+    "sent": "sent",
+    "clash": "clashes",
+}
 
 # In which order kinds are thinned: clashes last, stops never.
 THINNED = (

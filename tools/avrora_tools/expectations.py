@@ -46,8 +46,8 @@ REFUSALS = (2, 3, 4, 5, 7, 8)
 
 
 class Outcome(NamedTuple):
-    """What a check found: None or the text of all that is not met; rows that were looked at; expectations of the case; and
-    what is the matter where it is not met."""
+    """What a check found: None or the text of all that is not met; rows that were looked at; expectations of the case;
+    and what is the matter where it is not met."""
 
     failure: str | None
     rows: int
@@ -56,7 +56,8 @@ class Outcome(NamedTuple):
 
 
 class NoRoom(BadInput):
-    """A row that is never to come has no room between those that were found about it: so in this trace, and not in each."""
+    """A row that is never to come has no room between those that were found about it: so in this trace, and not in
+    each."""
 
     def __init__(self, path: str, line: int, why: str) -> None:
         super().__init__(f"{path}, line {line}: {why}, where the rows about it were found")
@@ -104,8 +105,8 @@ class Near(NamedTuple):
 
 
 class Gap(NamedTuple):
-    """Where a row was looked for that is never to come: between the row found above it and the one found below it, None where
-    these are the trace's ends; and what was expected below."""
+    """Where a row was looked for that is never to come: between the row found above it and the one found below it, None
+    where these are the trace's ends; and what was expected below."""
 
     never: Never
     above: traces.TraceRow | None
@@ -120,9 +121,11 @@ class Gap(NamedTuple):
 class Watcher(Protocol):
     """Looks at each row, and tells at the end what is not met."""
 
-    def feed(self, row: traces.TraceRow) -> None: ...
+    def feed(self, row: traces.TraceRow) -> None:
+        ...
 
-    def finish(self) -> list[Report]: ...
+    def finish(self) -> list[Report]:
+        ...
 
 
 class Sequence:
@@ -147,7 +150,9 @@ class Sequence:
         self.step = end
         expected = self.steps[end] if end < len(self.steps) else None
         self.expected = expected if isinstance(expected, Expected) else None
-        self.between: list[traces.TraceRow] = []  # what came instead, for the report: the first, or the first of its kin
+        self.between: list[
+            traces.TraceRow
+        ] = []  # what came instead, for the report: the first, or the first of its kin
         self.passed = 0
 
     def feed(self, row: traces.TraceRow) -> None:
@@ -174,7 +179,9 @@ class Sequence:
             report = self.missing(self.expected, "did not come")
             behind = sum(isinstance(step, Expected) for step in self.steps[self.step + 1 :])
             if behind:
-                report.details.append(f"so {behind} more, expected behind it, {'was' if behind == 1 else 'were'} not looked for")
+                report.details.append(
+                    f"so {behind} more, expected behind it, {'was' if behind == 1 else 'were'} not looked for"
+                )
             self.reports.append(report)
         else:
             self.gaps += [Gap(never, self.found, None, None) for never in self.nevers]
@@ -300,7 +307,9 @@ class WrittenLines:
         lines = self.lines
         if COMPARISONS[lines.comparison](self.came, lines.wanted):
             return []
-        why = f"{lines.comparison} {lines.wanted} lines of node {lines.node} wanted{within(lines.span)}, {self.came} came"
+        why = (
+            f"{lines.comparison} {lines.wanted} lines of node {lines.node} wanted{within(lines.span)}, {self.came} came"
+        )
         return [Report(lines, why)]
 
 
@@ -334,7 +343,12 @@ class GoldenTrace:
         self.number += 1
         parts = line.rstrip("\n").split(" ", 2 if self.golden.with_cycles else 1)
         is_number = all(part.isdigit() for part in parts[:-1])
-        if not line.endswith("\n") or len(parts) != 2 + self.golden.with_cycles or not is_number or not event_of(parts[-1]):
+        if (
+            not line.endswith("\n")
+            or len(parts) != 2 + self.golden.with_cycles
+            or not is_number
+            or not event_of(parts[-1])
+        ):
             raise BadInput(f"{self.name}, line {self.number}: no row: {files.printable(line[:60].rstrip())}")
         return line.rstrip("\n")
 
@@ -404,7 +418,8 @@ def check(
     """Whether a trace, a file or an iterable of bytes, meets the case: all that is not met, or none. With `save` golden
     traces are written anew, whatever they were, unless another expectation is not met. `ended` is called behind the
     last row; `window` has the cycles in which the run traced instructions, where they are known otherwise than by its
-    rows; `lacking` finds rows that are missing, where no simulator has just made them. Raises BadInput where the trace is not whole, or can never meet what is expected."""
+    rows; `lacking` finds rows that are missing, where no simulator has just made them. Raises BadInput where the trace
+    is not whole, or can never meet what is expected."""
     blocks = traces.blocks_of(cast(BinaryIO, source)) if hasattr(source, "read") else iter(source)
     # A case may expect what a scenario's byte time allows and another's does not.
     trace = traces.Trace(blocks, name, traces.Form.WHOLE, least_gap=BYTE_TIME.start, lacking=lacking)
@@ -569,8 +584,8 @@ def window_of(case: Case) -> range | None:
 
 def run_case(case: Case, avrora: str, save: bool = False, timeout: float | None = None) -> Outcome:
     """Makes the trace of the case, by the simulator `avrora` in the case's folder, and checks it as it comes. Raises
-    BadInput where the case names no source or no trace, and where the run is refused; CannotWork where it fails, or takes
-    more than `timeout` seconds."""
+    BadInput where the case names no source or no trace, and where the run is refused; CannotWork where it fails, or
+    takes more than `timeout` seconds."""
     if case.source is None:
         raise BadInput(f"{files.shown(case.path)}: no run, node or trace says where the rows come from")
     if case.source[0] == "trace":
@@ -614,4 +629,3 @@ def checked_run(
     finally:
         if timer:
             timer.cancel()
-

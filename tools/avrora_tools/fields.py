@@ -1,4 +1,5 @@
-"""The parts of rows, as patterns of `expect` have them: which texts a part may be at all, and which of them a pattern takes."""
+"""The parts of rows, as patterns of `expect` have them: which texts a part may be at all, and which of them a pattern
+takes."""
 import re
 from collections.abc import Sequence
 from typing import NamedTuple
@@ -113,7 +114,8 @@ ALL = Taken()
 
 
 class Numbers(NamedTuple):
-    """A part of a row that is a number: decimal, or of so many hexadecimal digits; one of `members` alone, if there are any."""
+    """A part of a row that is a number: decimal, or of so many hexadecimal digits; one of `members` alone, if there are
+    any."""
 
     first: int
     last: int
@@ -157,7 +159,9 @@ class Numbers(NamedTuple):
             raise ValueError(
                 f"{word} is none of {len(self.members)} from {low} to {high}"
                 if self.members and span.meets(self.first, self.last)
-                else f"{word} is not {low} to {high}" if low != high else f"{word} is not {low}"
+                else f"{word} is not {low} to {high}"
+                if low != high
+                else f"{word} is not {low}"
             )
         return Taken(found, base=16 if self.digits else 10)
 
@@ -221,7 +225,9 @@ def operand_words(encoding: Encoding) -> list[Words]:
             found.append(Words(None, part.replace("@", form)))
             continue
         texts = encoding.texts_of(part)
-        if encoding.mnemonic in CHANGE_POINTERS and len(texts) > 1:  # what they do with registers of a pointer that they change is undefined
+        if (
+            encoding.mnemonic in CHANGE_POINTERS and len(texts) > 1
+        ):  # what they do with registers of a pointer that they change is undefined
             texts = [text for text in texts if is_instruction(encoding.template.replace(part, text, 1))]
         found.append(Words(frozenset(texts)))
     return found

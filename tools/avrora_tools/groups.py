@@ -1,4 +1,5 @@
-"""Processes with all that they start: a script such as ./avrora starts the program, and ends where the program does not."""
+"""Processes with all that they start: a script such as ./avrora starts the program, and ends where the program does
+not."""
 import contextlib
 import os
 import signal
@@ -19,8 +20,8 @@ class Groups:
 
     @contextlib.contextmanager
     def started(self, words: Sequence[str], **options: Any) -> Iterator[subprocess.Popen[bytes]]:
-        """A process, with the options of Popen. What is left of its group behind the block is ended, unless it is known to
-        have ended itself. Raises CannotWork where it cannot be started."""
+        """A process, with the options of Popen. What is left of its group behind the block is ended, unless it is known
+        to have ended itself. Raises CannotWork where it cannot be started."""
         try:
             process = subprocess.Popen(words, process_group=0, **options)
         except OSError as fault:

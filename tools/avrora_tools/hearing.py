@@ -37,7 +37,8 @@ class Hearing:
         if cycle >= self.known_from and answer(on_air, cycle) != (event.status, event.byte, event.age):
             status, byte, age = answer(on_air, cycle)
             raise BadInput(
-                f"{self.name}: not the trace of this scenario: in cycle {cycle} node {node} heard {event.rest}, and its "
+                f"{self.name}: not the trace of this scenario: in cycle {cycle} node {node} heard {event.rest}, and "
+                "its "
                 f"sends give {status} {byte:02X} {age}"
             )
         return on_air

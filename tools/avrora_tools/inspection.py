@@ -1,4 +1,5 @@
-"""What a program's ELF file tells of a node's memory: its variables, its call chain, and the room that its stack has left."""
+"""What a program's ELF file tells of a node's memory: its variables, its call chain, and the room that its stack has
+left."""
 import fnmatch
 import itertools
 from collections.abc import Iterable, Iterator, Sequence
@@ -58,7 +59,8 @@ class View:
         if stack == 0 or stack + 1 >= end:
             return None
         if stack < SRAM_FIRST:
-            return f"OVERFLOW: SP {stack:04X} lies in the registers, {end - stack - 1:,} bytes below the end of the variables"
+            below = f"{end - stack - 1:,} bytes below the end of the variables"
+            return f"OVERFLOW: SP {stack:04X} lies in the registers, {below}"
         name = next((one.name for one in self.variables() if one.address <= stack + 1 < one.end), None)
         where = f"`{name}`" if name else "the variables"
         return f"OVERFLOW: SP lies in {where}, {end - stack - 1:,} bytes below the end of the variables, {end:04X}"
@@ -66,7 +68,8 @@ class View:
     def lowest(self, node: Node, end: int) -> str:
         low = lowest_used(node.data, end)
         if low is None:
-            return f"nothing above the variables, which end at {end:04X}, was ever written but 0: {DATA_END - end:,} bytes left"
+            room = f"{DATA_END - end:,} bytes left"
+            return f"nothing above the variables, which end at {end:04X}, was ever written but 0: {room}"
         if low == end:
             return f"reached {low:04X}, where the variables end: nothing is left above them"
         return f"reached {low:04X} at least; {low - end:,} bytes left above the variables, which end at {end:04X}"

@@ -1,5 +1,5 @@
-"""Instructions: the texts that the simulator prints for them (docs/FORMATS.md, "Instruction texts"), from their words and by
-their form. The encodings are those of the AVR Instruction Set Manual."""
+"""Instructions: the texts that the simulator prints for them (docs/FORMATS.md, "Instruction texts"), from their words
+and by their form. The encodings are those of the AVR Instruction Set Manual."""
 import re
 from collections.abc import Callable
 from functools import lru_cache

@@ -1,9 +1,9 @@
-"""For how long each node's radio was selected, which no report tells: the scenario is run again with all instructions, a window
-behind another, and the writes to the pin that selects the radio are followed (docs/AIR.md: PB0 an output, and low).
+"""For how long each node's radio was selected, which no report tells: the scenario is run again with all instructions,
+a window behind another, and the writes to the pin that selects the radio are followed (docs/AIR.md: PB0 an output, and
+low).
 
-What a program writes is known from its constants and from what it reads of the pin's own registers. Where that is not enough it
-is not known whether the radio is selected, until the next write that tells, or the next state.
-"""
+What a program writes is known from its constants and from what it reads of the pin's own registers. Where that is not
+enough it is not known whether the radio is selected, until the next write that tells, or the next state. """
 import os
 import re
 import tempfile
@@ -182,14 +182,17 @@ def inverted(byte: Byte) -> Byte:
 class Selection:
     """Runs a scenario in windows, and follows the pins of its nodes."""
 
-    def __init__(self, simulator: Simulator, scenario: Scenario, document: Mapping[str, Any], span: tuple[int, int]) -> None:
+    def __init__(
+        self, simulator: Simulator, scenario: Scenario, document: Mapping[str, Any], span: tuple[int, int]
+    ) -> None:
         self.simulator, self.scenario, self.document, self.span = simulator, scenario, document, span
         self.pins = [Pin(first=span[0]) for _ in scenario.images]
         self.state = b""
         self.left: list[dict[int, int]] = []  # by node how often an instruction is still to come that may write the pin
 
     def radios(self, nodes: Sequence[Spent]) -> list[Radio]:
-        """Of each node, whose report is given. Instructions that may write the pin are looked for until all have come."""
+        """Of each node, whose report is given. Instructions that may write the pin are looked for until all have
+        come."""
         first, end = self.span
         self.left = [may_write(self.scenario, k, node) for k, node in enumerate(nodes)]
         for pin, node in zip(self.pins, nodes):

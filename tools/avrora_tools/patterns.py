@@ -1,5 +1,5 @@
-"""Patterns of rows, as cases of `expect` have them: a row with `*`, ranges, tolerances and sets as parts. A pattern is a set of
-rows: what it says is judged by which rows are in it, and not by how it is spelled.
+"""Patterns of rows, as cases of `expect` have them: a row with `*`, ranges, tolerances and sets as parts. A pattern is
+a set of rows: what it says is judged by which rows are in it, and not by how it is spelled.
 
 One that no row of a trace can match is refused when it is read.
 """
@@ -13,15 +13,14 @@ from avrora_tools.fields import ANY, EVERY, SHAPES, Field, Span, Taken, cover, m
 from avrora_tools.scenarios import MAX_CYCLES
 
 
-
 MOST_KNOWN = 50_000  # events whose match is kept
 LAST_CYCLE = max(MAX_CYCLES.values())
 LIMITS = Span(1, LAST_CYCLE)  # the cycles in which traces end
 
 
 class Extent(NamedTuple):
-    """Where a trace can have rows: its nodes, the cycle of its end rows, and the cycles in which instructions and entries
-    are traced, None where they are in none."""
+    """Where a trace can have rows: its nodes, the cycle of its end rows, and the cycles in which instructions and
+    entries are traced, None where they are in none."""
 
     nodes: int
     limit: int
@@ -93,7 +92,8 @@ def parts_of(shape: list[Field], words: list[str], is_open: bool) -> list[Taken]
 
 
 class Place(NamedTuple):
-    """Where a row stands: its cycle, its node, and its rank among the rows of a node's cycle. Places rise in a trace."""
+    """Where a row stands: its cycle, its node, and its rank among the rows of a node's cycle. Places rise in a
+    trace."""
 
     cycle: int
     node: int
@@ -111,7 +111,9 @@ class Pattern:
         if self.is_open:
             words = words[:-1]
         elif len(words) < 3:
-            raise ValueError(f"`{text}` is no row: a cycle, a node and a kind, or * in place of each; a last * is any rest")
+            raise ValueError(
+                f"`{text}` is no row: a cycle, a node and a kind, or * in place of each; a last * is any rest"
+            )
         cycle, node, kind, *rest = (words + [ANY] * 3)[:3] + words[3:]
         self.is_relative = cycle[0] == "+"
         self.cycles = self.read_cycles(cycle)
@@ -228,9 +230,11 @@ class Pattern:
         """The cycles that may be, where a row of the cycle `base` was found before."""
         return [span.later(base) for span in self.cycles] if self.is_relative else self.cycles
 
-    def has_room(self, extent: "Extent", after: Place | None, before: Place | None, base: int, kinds: Sequence[str]) -> bool:
-        """Whether a row of these kinds that it matches may stand behind a place and before another; None where these are the
-        ends of the trace."""
+    def has_room(
+        self, extent: "Extent", after: Place | None, before: Place | None, base: int, kinds: Sequence[str]
+    ) -> bool:
+        """Whether a row of these kinds that it matches may stand behind a place and before another; None where these
+        are the ends of the trace."""
         low, high = after or Place(0, -1, 0), before or Place(extent.limit, MAX_NODES, 0)
         nodes = [node for node in self.nodes if node < extent.nodes]
         for kind in self.kinds.intersection(kinds):
@@ -249,7 +253,8 @@ class Pattern:
 
     def why_not(self, extent: Extent, within: Span = EVERY, base: int | None = None) -> str:
         """Why no row of a trace in the cycles `within` matches, or none of a node, a kind or a span of cycles that the
-        pattern names; "" where they may. Relative cycles are counted from the cycle `base`, or are any where it is None."""
+        pattern names; "" where they may. Relative cycles are counted from the cycle `base`, or are any where it is
+        None."""
         strange = sorted(node for node in self.named if node >= extent.nodes)
         if strange or min(self.nodes) >= extent.nodes:
             node = strange[0] if strange else min(self.nodes)

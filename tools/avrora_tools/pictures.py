@@ -60,7 +60,9 @@ class Picture:
 
     def x(self, cycle: float) -> float:
         return round(
-            self.margin + (min(max(cycle, self.drawing.first), self.drawing.last_cycle) - self.drawing.first) * self.scale, 2
+            self.margin
+            + (min(max(cycle, self.drawing.first), self.drawing.last_cycle) - self.drawing.first) * self.scale,
+            2,
         )
 
     def y(self, node: int) -> int:
@@ -102,7 +104,8 @@ class Picture:
             )
         for first, end, sender in self.drawing.closed(node):
             self.add(
-                f'<rect class="closed" x="{self.x(first)}" y="{y + high - 1.5}" width="{self.x(end) - self.x(first):.2f}" '
+                f'<rect class="closed" x="{self.x(first)}" y="{y + high - 1.5}" '
+                f'width="{self.x(end) - self.x(first):.2f}" '
                 'height="1.5"',
                 f"the link from node {sender} to node {node} is closed from {first:,} to {end:,}",
             )
@@ -186,8 +189,13 @@ class Picture:
         self.out.append(f'<line class="{name}" x1="{x}" y1="{y:.1f}" x2="{end_x}" y2="{end_y:.1f}"/>')
 
     def legend_rows(self) -> list[list[tuple[str, str]]]:
-        """The signs and words of the legend, in as many rows as there is room for them, the cycles that are drawn last."""
-        entries = [entry for entry in SIGNS if "closed" not in entry[0] or any(self.drawing.closed(node) for node in self.nodes)]
+        """The signs and words of the legend, in as many rows as there is room for them, the cycles that are drawn
+        last."""
+        entries = [
+            entry
+            for entry in SIGNS
+            if "closed" not in entry[0] or any(self.drawing.closed(node) for node in self.nodes)
+        ]
         entries.append(("", f"cycles {self.drawing.first:,} to {self.drawing.last_cycle:,}"))
         rows: list[list[tuple[str, str]]] = [[]]
         room = float(self.width - self.margin - RIGHT)
@@ -234,8 +242,8 @@ def shortened(text: str, most: int) -> str:
 
 
 def ticks(first: int, end: int, hz: int | None, width: float) -> list[tuple[float, str]]:
-    """The ticks of an axis of so many pixels: the cycle and the label of each, at round cycles, or by a clock at round times, so
-    far apart that no label stands over another."""
+    """The ticks of an axis of so many pixels: the cycle and the label of each, at round cycles, or by a clock at round
+    times, so far apart that no label stands over another."""
     for most in range(MOST_TICKS, 0, -1):
         found = list(round_ticks(first, end, hz, most))
         apart = width * (found[1][0] - found[0][0]) / max(1, end - first) if len(found) > 1 else width
@@ -255,8 +263,8 @@ def round_ticks(first: int, end: int, hz: int | None, most: int) -> Iterator[tup
 
 
 def round_step(least: Fraction, may_be_part: bool) -> tuple[Fraction, int]:
-    """The least of 1, 2, 5, 10, 20, 50, .. that is no less than `least`, or of parts of 1 such as 0.5 too; and how many digits
-    such a number has behind its point."""
+    """The least of 1, 2, 5, 10, 20, 50, .. that is no less than `least`, or of parts of 1 such as 0.5 too; and how many
+    digits such a number has behind its point."""
     power = -6 if may_be_part else 0
     while True:
         for factor in (1, 2, 5):

@@ -216,8 +216,8 @@ LONGEST_LINE = 80
 class MonitorReader:
     """Reads what `avrora monitor` wrote: of each node of a scenario, in their order, all its lines.
 
-    The cycles are those of `window`; without one those of the scenario's window, or all of its cycles, where there are so many.
-    """
+    The cycles are those of `window`; without one those of the scenario's window, or all of its cycles, where there are
+    so many."""
 
     def __init__(self, name: str, scenario: Scenario, window: tuple[int, int] | None = None) -> None:
         self.name, self.scenario, self.window = name, scenario, window
@@ -278,7 +278,8 @@ class MonitorReader:
             rest = spent.charge - BUSY_CHARGE * spent.busy() - ASLEEP_CHARGE * spent.asleep
             if spent.total() != cycles:
                 raise BadInput(
-                    f"{self.name}: the lines of node {node} do not add up to the {cycles:,} cycles of the window, but to "
+                    f"{self.name}: the lines of node {node} do not add up to the {cycles:,} cycles of the window, "
+                    "but to "
                     f"{spent.total():,}: of `avrora monitor FILE FROM TO` --window FROM..TO says the window"
                 )
             if rest < 0 or rest % SEND_CHARGE:
@@ -314,4 +315,3 @@ def text_lines(blocks: Iterable[bytes], name: str) -> Iterator[str]:
 def is_monitor(beginning: bytes) -> bool:
     """Whether a text begins as what a monitor writes."""
     return bool(re.match(rb"\d+ lead ", beginning))
-

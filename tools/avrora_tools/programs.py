@@ -212,7 +212,8 @@ class Programs:
             nodes = {node for node, image in enumerate(scenario.images) if stem(image) == stem(program.path)}
             if not nodes:
                 raise BadInput(
-                    f"{program.name}: no node has the image {stem(program.name)}.hex; say which: -e NODES={program.name}"
+                    f"{program.name}: no node has the image {stem(program.name)}.hex; say which: -e "
+                    f"NODES={program.name}"
                 )
         if nodes is None:
             self.others = program
@@ -252,7 +253,8 @@ class Programs:
         text = program.instruction_at(event.address)
         if text != event.instruction:
             raise BadInput(
-                f"{program.name}: another program than that of the trace: node {node} executed `{event.instruction}` at "
+                f"{program.name}: another program than that of the trace: node {node} executed `{event.instruction}` "
+                "at "
                 f"{event.address:04X}, where it has `{text}` (--force takes it all the same)"
             )
 
@@ -277,5 +279,7 @@ def add_programs(parser: argparse.ArgumentParser) -> None:
         metavar="[NODES=]ELF",
         help="the program of all nodes, of NODES such as 0,2-4, or with -s of the nodes with an image of its name",
     )
-    parser.add_argument("--force", action="store_true", help="take a program that is not that of the image or the trace")
+    parser.add_argument(
+        "--force", action="store_true", help="take a program that is not that of the image or the trace"
+    )
     cli.add_scenario(parser)

@@ -64,8 +64,8 @@ class Unwinder:
         stack, y = node["SP"], node["r28"] | node["r29"] << 8
         while len(frames) < MOST_FRAMES:
             at = frames[-1]
-            # What called is looked up by its call, as the next word may be that of another function, where the call does not
-            # return; what was interrupted, and the first one, by the next instruction.
+            # What called is looked up by its call, as the next word may be that of another function, where the call
+            # does not return; what was interrupted, and the first one, by the next instruction.
             is_caller = not at.interrupted and len(frames) > 1
             word = at.word - 1 if is_caller else at.word
             function = self.program.function_at(word)
@@ -89,8 +89,8 @@ class Unwinder:
         return Chain(frames, "more functions than are followed")
 
     def frame(self, word: int, stack: int, y: int, is_call: bool) -> tuple[int, dict[int, int]] | None:
-        """The address of the low byte of a frame's return address, and by register where it was saved. In front of a return
-        the frame is told by the pops that are left, else by the rules."""
+        """The address of the low byte of a frame's return address, and by register where it was saved. In front of a
+        return the frame is told by the pops that are left, else by the rules."""
         pops = None if is_call else self.pops_before_return(word)
         if pops is not None:
             return stack + pops + 2, {}
@@ -108,7 +108,9 @@ class Unwinder:
             return 0
         codes = [self.opcode(at) for at in range(function.first, word)]
         by_in = sum(a in (IN_R0_SREG, IN_R0_RAMPZ) and b == PUSH_R0 for a, b in zip(codes, codes[1:]))
-        by_lds = sum(a == LDS_R0 and at in SREG_AND_RAMPZ and b == PUSH_R0 for a, at, b in zip(codes, codes[1:], codes[2:]))
+        by_lds = sum(
+            a == LDS_R0 and at in SREG_AND_RAMPZ and b == PUSH_R0 for a, at, b in zip(codes, codes[1:], codes[2:])
+        )
         return by_in + by_lds
 
     def rule_at(self, word: int) -> FrameRule | None:
@@ -170,7 +172,11 @@ def rules_of(entry: Any) -> Iterator[FrameRule]:
         cfa = row["cfa"]
         if cfa.reg is None:
             continue
-        saved = {register: row[register].arg for register in (Y_LOW, Y_HIGH) if register in row and row[register].type == "OFFSET"}
+        saved = {
+            register: row[register].arg
+            for register in (Y_LOW, Y_HIGH)
+            if register in row and row[register].type == "OFFSET"
+        }
         yield FrameRule(row["pc"] // 2, cfa.reg, cfa.offset, saved)
 
 
@@ -186,6 +192,6 @@ def data_end(path: str) -> int | None:
 
 
 def lowest_used(data: Sequence[int], end_of_variables: int) -> int | None:
-    """The lowest address above the variables whose byte is not 0. All memory is 0 at reset, so the stack, or a heap, has
-    reached it; zeros that were pushed below it do not show."""
+    """The lowest address above the variables whose byte is not 0. All memory is 0 at reset, so the stack, or a heap,
+    has reached it; zeros that were pushed below it do not show."""
     return next((at for at in range(end_of_variables, DATA_END) if data[at]), None)

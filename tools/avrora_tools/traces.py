@@ -44,11 +44,11 @@ class Form(enum.Enum):
 
 
 class Texts(dict[str, Said]):
-    """What rows say by their texts behind the cycle, as far as they came: one look-up for the node and the event of a row.
+    """What rows say by their texts behind the cycle, as far as they came: one look-up for the node and the event of a
+    row.
 
-    A text raises KeyError that says nothing, or is of a node that is none of `nodes`. Where one leaves them the texts are
-    to be forgotten, too.
-    """
+    A text raises KeyError that says nothing, or is of a node that is none of `nodes`. Where one leaves them the texts
+    are to be forgotten, too."""
 
     MOST = 50_000  # beyond which all are forgotten, so that memory does not grow with a trace
 
@@ -278,7 +278,13 @@ class Trace:
             raise self.fault(f"an end row of another cycle than {self.limit}", line)
         if self.form is not Form.ROWS and node != len(self.ended):
             raise self.fault(f"no end row of node {len(self.ended)} stands before", line)
-        if has_stopped and event.state != STOPPED or self.is_from_reset() and not has_stopped and event.state == STOPPED:
+        if (
+            has_stopped
+            and event.state != STOPPED
+            or self.is_from_reset()
+            and not has_stopped
+            and event.state == STOPPED
+        ):
             raise self.fault(f"node {node} {'stopped' if has_stopped else 'did not stop'} before", line)
         if event.instructions > cycle:
             raise self.fault("more instructions than cycles", line)
@@ -303,7 +309,8 @@ class Trace:
         wanted = len(self.scenario.images) if self.scenario else len(self.state.nodes) if self.state else 1
         if len(self.ended) < wanted:
             raise BadInput(
-                f"{self.name}: no end row of node {len(self.ended)}: the trace is cut off, a part of one, or of another "
+                f"{self.name}: no end row of node {len(self.ended)}: the trace is cut off, a part of one, or of "
+                "another "
                 "network"
             )
         silent = set(self.last_sent) - set(self.ended)
@@ -311,7 +318,8 @@ class Trace:
             raise BadInput(f"{self.name}: no end row of node {min(silent)}, which has other rows: no whole trace")
         if self.form is Form.WHOLE and self.scenario and self.limit != self.scenario.cycles:
             raise BadInput(
-                f"{self.name}: it ends in cycle {self.limit:,}, and the scenario in cycle {self.scenario.cycles:,}: not its "
+                f"{self.name}: it ends in cycle {self.limit:,}, and the scenario in cycle {self.scenario.cycles:,}: "
+                "not its "
                 "trace"
             )
         if self.lacking and (why := self.lacking.at_end(self.limit or 0, len(self.ended))):
@@ -325,7 +333,8 @@ class Trace:
             return
         if self.limit is not None and self.limit != scenario.cycles:
             raise BadInput(
-                f"{self.name}: it ends in cycle {self.limit:,}, and the scenario in cycle {scenario.cycles:,}: not its trace"
+                f"{self.name}: it ends in cycle {self.limit:,}, and the scenario in cycle {scenario.cycles:,}: not "
+                "its trace"
             )
         first, end = scenario.window
         if self.form is not Form.ROWS and self.traced and not (first <= self.traced[0] and self.traced[1] < end):

@@ -17,8 +17,8 @@ OP_ADDR = 0x03
 BOOLEAN, FLOAT, SIGNED, SIGNED_CHAR, UNSIGNED, UNSIGNED_CHAR = 0x02, 0x04, 0x05, 0x06, 0x07, 0x08
 SIGNED_FIXED, UNSIGNED_FIXED = 0x0D, 0x0E
 
-# Of floating-point numbers by their bytes: how `struct` reads them, how many digits tell one from the next, and how many bits
-# the fraction has.
+# Of floating-point numbers by their bytes: how `struct` reads them, how many digits tell one from the next, and how
+# many bits the fraction has.
 FLOATS = {4: ("<f", 9, 23), 8: ("<d", 17, 52)}
 
 MOST_ELEMENTS = 24  # of an array that are shown, runs of one value taken together
@@ -28,7 +28,8 @@ MOST_DEPTH = 8
 class Memory(Protocol):
     """A data space, and what stands where."""
 
-    def read(self, address: int, size: int) -> bytes: ...
+    def read(self, address: int, size: int) -> bytes:
+        ...
 
     def object_at(self, address: int) -> str | None:
         """The variable, and the place in it, that an address lies in."""
@@ -41,10 +42,12 @@ class Type(Protocol):
     """A type of C."""
 
     @property
-    def name(self) -> str: ...
+    def name(self) -> str:
+        ...
 
     @property
-    def size(self) -> int: ...
+    def size(self) -> int:
+        ...
 
     def shown(self, data: bytes, memory: Memory, depth: int = 0) -> str:
         """A value, given its bytes."""
@@ -187,7 +190,8 @@ def taken_together(parts: Sequence[str]) -> list[str]:
 
 @dataclass(frozen=True)
 class Member:
-    """A member of a structure; of one of some bits their number, and how far they lie from the lowest bit of its first byte."""
+    """A member of a structure; of one of some bits their number, and how far they lie from the lowest bit of its first
+    byte."""
 
     name: str
     at: int
@@ -288,7 +292,11 @@ def variables_of(path: str) -> list[Variable]:
             elf = reader()(file)
             if not elf.has_dwarf_info():
                 raise BadInput(f"{files.shown(path)}: it says nothing of variables; compile with -gdwarf-2")
-            found = {(one.address, one.name): one for unit in elf.get_dwarf_info().iter_CUs() for one in Unit(unit).variables()}
+            found = {
+                (one.address, one.name): one
+                for unit in elf.get_dwarf_info().iter_CUs()
+                for one in Unit(unit).variables()
+            }
         except BadInput:
             raise
         except Exception as fault:  # whatever a broken file leads the library to
@@ -382,7 +390,9 @@ class Unit:
         target = entry.get_DIE_from_attribute("DW_AT_type")
         is_code = target.tag == "DW_TAG_subroutine_type"
         # A structure may have a pointer to itself, so only the name of the target is looked at.
-        name = "function" if is_code else (self.attribute(named(target), "DW_AT_name") or b"..").decode("utf-8", "replace")
+        name = (
+            "function" if is_code else (self.attribute(named(target), "DW_AT_name") or b"..").decode("utf-8", "replace")
+        )
         return Pointer(f"{name} *", is_code)
 
     def array(self, entry: Any) -> Type:
@@ -399,7 +409,9 @@ class Unit:
         return int(bound) + 1 if isinstance(bound, int) else 0
 
     def structure(self, entry: Any, name: str, size: int) -> Structure:
-        return Structure(name, size, tuple(self.member(one) for one in entry.iter_children() if one.tag == "DW_TAG_member"))
+        return Structure(
+            name, size, tuple(self.member(one) for one in entry.iter_children() if one.tag == "DW_TAG_member")
+        )
 
     def member(self, entry: Any) -> Member:
         type_ = self.type_of(entry)
@@ -412,7 +424,9 @@ class Unit:
             return Member(name, at, type_, int(bits), int(from_lowest) - 8 * at)
         # DWARF 2 counts bits from the highest of the storage unit; below 0 where they go on behind it.
         size = int(self.attribute(entry, "DW_AT_byte_size") or type_.size)
-        return Member(name, at, type_, int(bits), 8 * size - signed_value(entry.attributes["DW_AT_bit_offset"]) - int(bits))
+        return Member(
+            name, at, type_, int(bits), 8 * size - signed_value(entry.attributes["DW_AT_bit_offset"]) - int(bits)
+        )
 
 
 def signed_value(attribute: Any) -> int:
@@ -442,7 +456,9 @@ def address_of(entry: Any) -> int | None:
 def enumerators(entry: Any) -> Iterator[tuple[int, str]]:
     for child in entry.iter_children():
         if child.tag == "DW_TAG_enumerator":
-            yield int(child.attributes["DW_AT_const_value"].value), child.attributes["DW_AT_name"].value.decode("utf-8", "replace")
+            yield int(child.attributes["DW_AT_const_value"].value), child.attributes["DW_AT_name"].value.decode(
+                "utf-8", "replace"
+            )
 
 
 def member_offset(entry: Any) -> int:

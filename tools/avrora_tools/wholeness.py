@@ -1,8 +1,8 @@
 """Whether rows are missing from a trace that is said to be whole: of its window, or of what was sent before a sample.
 
-A node that does not sleep has a row of its processor each few cycles, and a byte that is heard was sent. So a trace whose front
-was cut off shows it, unless all nodes sleep through what is left of the window, and no sample hears what was sent before.
-"""
+A node that does not sleep has a row of its processor each few cycles, and a byte that is heard was sent. So a trace
+whose front was cut off shows it, unless all nodes sleep through what is left of the window, and no sample hears what
+was sent before. """
 import collections
 from collections.abc import Sequence
 
@@ -51,7 +51,9 @@ class Window:
     def __init__(self, first: int | None, end: int | None) -> None:
         self.first, self.end = first, end  # where nothing else tells them, those of the rows
         self.last: int | None = None  # the cycle of the last row
-        self.due: dict[int, int | None] = {}  # by node: the last cycle in which its next row may come; None where it may sleep
+        self.due: dict[
+            int, int | None
+        ] = {}  # by node: the last cycle in which its next row may come; None where it may sleep
 
     def row(self, cycle: int, node: int, event: Event) -> str | None:
         """Takes in a row of an instruction, an entry or a stop; what is missing before it."""
@@ -73,7 +75,12 @@ class Window:
         due = self.due.get(node)
         if due is not None and due < cycle:
             return f"node {node} executed something between its row before and this, and no row tells what"
-        if node not in self.due and isinstance(event, Instr) and self.first is not None and cycle >= self.first + AFTER_ENTRY:
+        if (
+            node not in self.due
+            and isinstance(event, Instr)
+            and self.first is not None
+            and cycle >= self.first + AFTER_ENTRY
+        ):
             return f"node {node} executed something between cycle {self.first:,} and this, and no row tells what"
         return None
 
@@ -88,7 +95,8 @@ class Window:
         if self.last is not None or self.first is None or first_row <= self.first:
             return None
         return (
-            f"no row of the window [{self.first}, {self.end}] and none before it: all nodes sleep through it, or the trace lacks "
+            f"no row of the window [{self.first}, {self.end}] and none before it: all nodes sleep through it, or the "
+            "trace lacks "
             "its beginning"
         )
 

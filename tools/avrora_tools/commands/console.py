@@ -9,8 +9,9 @@ from avrora_tools.events import Serial, Stop
 SUMMARY = "what each node wrote to USART0"
 
 DESCRIPTION = """Shows what each node writes to USART0, as a serial monitor does: a line with the cycle of its first
-byte and the node's number. A line ends with LF, CR or CR LF, and where the node stops or is silent for long; an empty line
-is shown as one. Bytes that are no visible ASCII are shown as \\xHH, and a backslash as two. Stops are shown too. It takes any rows of a trace, also while they are made."""
+byte and the node's number. A line ends with LF, CR or CR LF, and where the node stops or is silent for long; an empty
+line is shown as one. Bytes that are no visible ASCII are shown as \\xHH, and a backslash as two. Stops are shown too.
+It takes any rows of a trace, also while they are made."""
 
 BYTES_A_LINE = 16  # with --hex
 CR, LF, BACKSLASH = b"\r\n\\"

@@ -25,6 +25,7 @@ whole, with an end row of each node of the scenario; or with --state that of `av
 knows what was on the air. Status 0: all samples are as they should be; 1: one is not; 2: no scenario, no whole
 trace of it, or one without any sample, of which nothing can be checked."""
 
+
 class Flight(NamedTuple):
     """A byte on the air, and by whom it was heard: a dictionary from the hearer to ONE_BYTE or CLASH. A byte that was
     sent before the trace begins is not `counted`."""
@@ -150,7 +151,9 @@ def configure(parser: argparse.ArgumentParser) -> None:
     parser.add_argument("--clashes", action="store_true", help="tell each clash, with the sends that clashed")
     parser.add_argument("--losses", action="store_true", help="links alone that lost a byte")
     parser.add_argument("--map", metavar="FILE", help="draw the network, with the quality of each link, as SVG")
-    parser.add_argument("--places", metavar="FILE", help="where the map has the nodes: a TOML file of lines NODE = [x, y]")
+    parser.add_argument(
+        "--places", metavar="FILE", help="where the map has the nodes: a TOML file of lines NODE = [x, y]"
+    )
     parser.add_argument("--state", metavar="STATE", help="the state from which `avrora resume` wrote the trace")
     parser.add_argument("scenario", metavar="SCENARIO")
     cli.add_trace(parser)
@@ -175,7 +178,8 @@ def run(arguments: argparse.Namespace) -> int:
         draw_map(arguments, reader)
     if not state and (trace.first_row or 0) >= EPOCH:
         terminal.warn(
-            f"{trace.name}: its first row is of cycle {trace.first_row:,}: where it is the trace of `avrora resume`, --state names "
+            f"{trace.name}: its first row is of cycle {trace.first_row:,}: where it is the trace of `avrora resume`, "
+            "--state names "
             "the state, without which what was sent before is not known"
         )
     total, sends = sum(reader.samples.values()), sum(reader.sends.values())

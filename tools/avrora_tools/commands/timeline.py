@@ -71,7 +71,9 @@ def configure(parser: argparse.ArgumentParser) -> None:
     parser.add_argument("--svg", action="store_true", help="a picture, and no page; as --out FILE.svg does")
     parser.add_argument("--width", type=cli.positive, default=1200, help="of the picture, in pixels (%(default)s)")
     parser.add_argument(
-        "--quiet", action="store_true", help="show samples that heard nothing in the picture too (the page has a switch)"
+        "--quiet",
+        action="store_true",
+        help="show samples that heard nothing in the picture too (the page has a switch)",
     )
     cli.add_clock(parser)
     cli.add_head(parser)

@@ -1,11 +1,11 @@
 """Classes of arrivals: the cycles in which a byte of USART0 can arrive and make one and the same execution.
 
-Up to the byte's arrival each run is the run in which it never comes, so one trace of that run tells the past of all. In it
-stand the points at which an arrival can be noticed: a boundary at which the interrupt USART0 RX could be entered, each cycle
-of a sleep, and an instruction that reads or writes a register of the port. Bytes that arrive between the same two points
-make one execution, cycle for cycle. Where it is not known whether a point is one it counts as one, which makes more classes
-and never fewer. What the rows cannot tell (a stack over the registers) makes each cycle a point, and is told.
-"""
+Up to the byte's arrival each run is the run in which it never comes, so one trace of that run tells the past of all. In
+it stand the points at which an arrival can be noticed: a boundary at which the interrupt USART0 RX could be entered,
+each cycle of a sleep, and an instruction that reads or writes a register of the port. Bytes that arrive between the
+same two points make one execution, cycle for cycle. Where it is not known whether a point is one it counts as one,
+which makes more classes and never fewer. What the rows cannot tell (a stack over the registers) makes each cycle a
+point, and is told. """
 import re
 from collections.abc import Iterable, Iterator, Sequence
 from dataclasses import dataclass
@@ -16,8 +16,8 @@ from avrora_tools.traces import Row
 
 USART0_RX = 0x24
 
-# An instruction that names UDR0, UCSR0B, UCSR0A (0x0A to 0x0C as I/O registers) or UCSR0C (which cuts what arrives), and one
-# that may reach them through a pointer.
+# An instruction that names UDR0, UCSR0B, UCSR0A (0x0A to 0x0C as I/O registers) or UCSR0C (which cuts what arrives),
+# and one that may reach them through a pointer.
 NAMES_PORT = re.compile(r"(?:in|out|sbi|cbi|sbis|sbic) .*\b0x0[ABC]\b|(?:lds|sts) .*\b0x(?:002[ABC]|0095)\b")
 POINTER_ACCESS = re.compile(r"(?:ld|ldd|st|std) ")
 POINTER_STORES = ("st ", "std ")
@@ -25,8 +25,8 @@ POINTER_STORES = ("st ", "std ")
 
 @dataclass(frozen=True)
 class Place:
-    """What a node is at when an arrival is noticed: the address to return to, the handlers it is in (by their vectors, the
-    inner one last), whether it sleeps."""
+    """What a node is at when an arrival is noticed: the address to return to, the handlers it is in (by their vectors,
+    the inner one last), whether it sleeps."""
 
     address: int
     handlers: tuple[int, ...] = ()
@@ -43,8 +43,8 @@ class Point:
 
 @dataclass(frozen=True)
 class ArrivalClass:
-    """Values of a moved event that make one execution. Without a point the event is never noticed, or, of an event that is
-    no arrival, it is not known where."""
+    """Values of a moved event that make one execution. Without a point the event is never noticed, or, of an event that
+    is no arrival, it is not known where."""
 
     moves: range
     point: Point | None = None
@@ -52,8 +52,8 @@ class ArrivalClass:
 
 @dataclass(frozen=True)
 class Start:
-    """What is known of a node as its rows begin: the cycle, whether the flag I is certainly clear, and where it sleeps, if it
-    does."""
+    """What is known of a node as its rows begin: the cycle, whether the flag I is certainly clear, and where it sleeps,
+    if it does."""
 
     cycle: int
     is_clear: bool = False
@@ -119,8 +119,8 @@ class Watch:
 
 @dataclass(frozen=True)
 class Classes:
-    """The classes of the arrivals of a span, in their order; why each arrival is one, where the rows do not tell more; and the
-    addresses of stores through pointers with I clear, behind which I counts as set."""
+    """The classes of the arrivals of a span, in their order; why each arrival is one, where the rows do not tell more;
+    and the addresses of stores through pointers with I clear, behind which I counts as set."""
 
     classes: list[ArrivalClass]
     doubt: str | None = None
@@ -128,17 +128,19 @@ class Classes:
 
 
 def classes(rows: Sequence[Row], start: Start, first: int, last: int, end: int, doubt: str | None = None) -> Classes:
-    """The classes of the arrivals from `first` to `last`; `end` is the cycle behind the rows. An arrival in the cycle of a
-    point is noticed at the next one, as the processor comes first in each cycle. A `doubt` of what the rows tell makes each
-    arrival a class."""
+    """The classes of the arrivals from `first` to `last`; `end` is the cycle behind the rows. An arrival in the cycle
+    of a point is noticed at the next one, as the processor comes first in each cycle. A `doubt` of what the rows tell
+    makes each arrival a class."""
     found: list[Point] = []
     watch = Watch(start)
     try:
         found = [] if doubt else list(watch.points(rows, end))
     except Contradiction as fault:
         row = fault.row
-        doubt = f"node {row.node} enters {vector_name(int(row.rest[:4], 16))} in cycle {row.cycle:,}, where its flag I is clear by "
-        doubt += "all that the rows tell: SREG, or a copy of it, is written in a way that they do not show"
+        doubt = (
+            f"node {row.node} enters {vector_name(int(row.rest[:4], 16))} in cycle {row.cycle:,}, where its flag I is "
+            "clear by all that the rows tell: SREG, or a copy of it, is written in a way that they do not show"
+        )
     if doubt:
         found = list(all_points(rows, start, end))
     result, begun = [], first

@@ -33,8 +33,8 @@ class CellMaker:
             yield from (Cell(values, one) for one in self.classes(values))
 
     def classes(self, before: Move) -> list[ArrivalClass]:
-        """The classes of the last event's values. A class that has none of the values that are asked for keeps its own: it
-        is told as one that was not run."""
+        """The classes of the last event's values. A class that has none of the values that are asked for keeps its own:
+        it is told as one that was not run."""
         span = self.last.span
         if not isinstance(self.last.event, InputByte):
             return [ArrivalClass(range(value, value + 1)) for value in span.values()]
@@ -45,7 +45,9 @@ class CellMaker:
         if result.doubt:
             self.doubts[result.doubt] = None
         script = self.scenario.scripts[len(self.before)]
-        if script.index < len(script.bytes_) - 1 and not script.is_alone:  # the bytes behind move too, and tell all moves apart
+        if (
+            script.index < len(script.bytes_) - 1 and not script.is_alone
+        ):  # the bytes behind move too, and tell all moves apart
             found = [ArrivalClass(range(x, x + 1), one.point) for one in found for x in one.moves]
         return found
 

@@ -14,8 +14,8 @@ NAMES_FIRST = re.compile(r"\S+ (r\d+)")
 
 
 def stack_doubt(node: Node | None, listing: Iterable[str]) -> str | None:
-    """What tells that the stack may lie over the registers: the state from which a node goes on, or the constants that its
-    program writes to the stack pointer. None where nothing does."""
+    """What tells that the stack may lie over the registers: the state from which a node goes on, or the constants that
+    its program writes to the stack pointer. None where nothing does."""
     if node is not None and 0 < node["SP"] < SRAM_FIRST:
         return f"the stack pointer is {node['SP']:04X}, so the stack lies over registers"
     constants: dict[str, int] = {}  # of registers, as the code above in the listing leaves them

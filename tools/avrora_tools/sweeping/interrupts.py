@@ -1,10 +1,9 @@
 """What the rows of one node tell of its interrupt flag I: whether it is certainly clear.
 
-A trace shows no registers. That I is clear follows from CLI and entries, and from copies of SREG that a program keeps in a
-register or on the stack and writes back. A store through a pointer may write SREG, a register or what lies on the stack, so
-behind it nothing of these is certain; a store to an address at which stacks lie is one to the stack. Whatever is not certain
-counts as set.
-"""
+A trace shows no registers. That I is clear follows from CLI and entries, and from copies of SREG that a program keeps
+in a register or on the stack and writes back. A store through a pointer may write SREG, a register or what lies on the
+stack, so behind it nothing of these is certain; a store to an address at which stacks lie is one to the stack. Whatever
+is not certain counts as set. """
 import re
 
 from avrora_tools.traces import Row
@@ -16,8 +15,8 @@ PAIRS = {"X": ("r26", "r27"), "Y": ("r28", "r29"), "Z": ("r30", "r31")}
 
 # Instructions that change no general register (except a pointer that is counted up or down).
 KEEPS_REGISTERS = frozenset(
-    """st std sts out sbi cbi cp cpi cpc cpse sbrs sbrc sbis sbic brbs brbc rjmp jmp ijmp nop sleep wdr bset bclr bst push
-    call rcall icall ret reti""".split()
+    """st std sts out sbi cbi cp cpi cpc cpse sbrs sbrc sbis sbic brbs brbc rjmp jmp ijmp nop sleep wdr bset bclr bst
+    push call rcall icall ret reti""".split()
 )
 TO_R0_R1 = frozenset("mul muls mulsu fmul fmuls fmulsu".split())
 TO_PAIR = frozenset("movw adiw sbiw".split())

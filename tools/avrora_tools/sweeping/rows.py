@@ -1,5 +1,5 @@
-"""The rows of one node out of what a run wrote, and what nodes wrote to USART0. What the simulator itself has just written is
-not checked again."""
+"""The rows of one node out of what a run wrote, and what nodes wrote to USART0. What the simulator itself has just
+written is not checked again."""
 import re
 from collections import defaultdict
 from collections.abc import Iterable, Iterator

@@ -1,5 +1,5 @@
-"""Runs the moves of a sweep. `Tails` is all that the rest of a sweep knows of it. Runs that go on from one state, and in which
-bytes of one node arrive otherwise, are made by one process, some of them at a time."""
+"""Runs the moves of a sweep. `Tails` is all that the rest of a sweep knows of it. Runs that go on from one state, and
+in which bytes of one node arrive otherwise, are made by one process, some of them at a time."""
 import itertools
 import json
 import os
@@ -30,7 +30,8 @@ class Tails(Protocol):
     """Runs that all begin in one state (or at reset), each with its events moved."""
 
     def outputs(self, jobs: Iterable[tuple[Move, Window]]) -> Iterator[bytes]:
-        """The rows of each run, from where runs begin on, in the order of the jobs; jobs are taken as they are needed."""
+        """The rows of each run, from where runs begin on, in the order of the jobs; jobs are taken as they are
+        needed."""
 
     def output(self, move: Sequence[int | None], window: Window = NO_WINDOW, until: int | None = None) -> bytes:
         """The rows of one run; a byte whose value is None never comes."""
@@ -44,8 +45,8 @@ class Simulator:
         self.groups = Groups()
 
     def call(self, *words: str, runs: int = 1) -> bytes:
-        """What the program writes, which makes so many runs. Raises BadInput with what it says where it refuses its input, and
-        CannotWork where it fails or is killed."""
+        """What the program writes, which makes so many runs. Raises BadInput with what it says where it refuses its
+        input, and CannotWork where it fails or is killed."""
         streams = {"stdin": subprocess.DEVNULL, "stdout": subprocess.PIPE, "stderr": subprocess.PIPE}
         try:
             with self.groups.started([self.program, *words], cwd=self.folder, **streams) as process:
@@ -66,8 +67,8 @@ def ending(status: int) -> str:
 
 
 class ProcessTails:
-    """Runs are made by processes, some at a time, and never by more ahead than that of what is asked for: a run each, or some
-    where they go on from a state and a byte moves."""
+    """Runs are made by processes, some at a time, and never by more ahead than that of what is asked for: a run each,
+    or some where they go on from a state and a byte moves."""
 
     def __init__(self, simulator: Simulator, scenario: MovedScenario, jobs: int, state: bytes | None = None) -> None:
         """`state` is that of the cycle in which the runs begin; without it the simulator makes it."""
@@ -93,7 +94,9 @@ class ProcessTails:
     def __enter__(self) -> "ProcessTails":
         return self
 
-    def __exit__(self, kind: type[BaseException] | None, fault: BaseException | None, trace: TracebackType | None) -> None:
+    def __exit__(
+        self, kind: type[BaseException] | None, fault: BaseException | None, trace: TracebackType | None
+    ) -> None:
         self.end_runs()  # also where something else went wrong, and nobody closes what runs are asked by
         self.folder.cleanup()
 
@@ -164,8 +167,8 @@ class ProcessTails:
 
 
 def batches(jobs: Iterable[tuple[Move, Window]], most: int) -> Iterator[tuple[Move, Window, list[int]]]:
-    """Jobs that stand one behind another and differ in the last event alone. The first ones are small, so that something is
-    known early."""
+    """Jobs that stand one behind another and differ in the last event alone. The first ones are small, so that
+    something is known early."""
     room = 1
     for (before, window), group in itertools.groupby(jobs, key=lambda job: (job[0][:-1], job[1])):
         while batch := [move[-1] for move, _ in itertools.islice(group, room)]:

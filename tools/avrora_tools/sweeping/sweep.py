@@ -45,7 +45,12 @@ class Sweep:
     """One sweep."""
 
     def __init__(
-        self, tails: ProcessTails, scenario: MovedScenario, check: Check, program: Program | None, sharing: Sharing | None
+        self,
+        tails: ProcessTails,
+        scenario: MovedScenario,
+        check: Check,
+        program: Program | None,
+        sharing: Sharing | None,
     ) -> None:
         self.tails, self.scenario, self.check = tails, scenario, check
         self.program, self.sharing = program, sharing
@@ -142,8 +147,8 @@ class Sweep:
         return self.check.late(self.tails.output(finding.first().move(), until=cycles))
 
     def parting(self, finding: Finding) -> str | None:
-        """Where the earliest failing run parts from a near one that passes: a handler or a clock that comes between two uses
-        where the other side is tried first."""
+        """Where the earliest failing run parts from a near one that passes: a handler or a clock that comes between two
+        uses where the other side is tried first."""
         if self.sharing is None:
             return None
         ran = [cell for cell in self.cells if cell in self.results.ran]
@@ -159,7 +164,9 @@ class Sweep:
 
     def thing_in_use(self, finding: Finding) -> str | None:
         """What is used by the code that the arrivals of a finding interrupt, and by handlers too."""
-        places: Sequence[int] = [place.address for cell in finding.failing if (place := cell.place()) and not place.asleep]
+        places: Sequence[int] = [
+            place.address for cell in finding.failing if (place := cell.place()) and not place.asleep
+        ]
         things = dict.fromkeys(self.between[address] for address in places if address in self.between)
         if not things or self.sharing is None:
             return None

@@ -31,8 +31,8 @@ class Compare(Enum):
 
 @dataclass(frozen=True)
 class Late:
-    """What a run lacks at its end and writes later: the node that writes the last of it, and in which cycle; and what is wrong
-    beside the unmoved run where both go on to the scenario's end."""
+    """What a run lacks at its end and writes later: the node that writes the last of it, and in which cycle; and what
+    is wrong beside the unmoved run where both go on to the scenario's end."""
 
     node: int
     cycle: int
@@ -41,15 +41,17 @@ class Late:
 
 @dataclass(frozen=True)
 class SerialCheck:
-    """Each node writes to USART0 what it writes in the unmoved run, whenever that is, and stops nowhere where it does not stop
-    there."""
+    """Each node writes to USART0 what it writes in the unmoved run, whenever that is, and stops nowhere where it does
+    not stop there."""
 
     head: bytes  # the rows before the runs of the sweep begin
     good: dict[int, bytes]
     nodes: Collection[int]
     compare: Compare = Compare.BYTES
     drop: re.Pattern[bytes] | None = None  # what may differ
-    good_at_last: Callable[[], Mapping[int, bytes]] | None = None  # what the unmoved run writes up to the scenario's end
+    good_at_last: Callable[
+        [], Mapping[int, bytes]
+    ] | None = None  # what the unmoved run writes up to the scenario's end
     good_stops: Mapping[int, str] = field(default_factory=dict)
     good_before: Mapping[int, bytes] = field(default_factory=dict)  # what it writes before the first move
 
@@ -77,7 +79,8 @@ class SerialCheck:
         return different_parts(parts(self.compare, good), parts(self.compare, got))
 
     def compares_nothing(self) -> bool:
-        """Whether the unmoved run writes nothing that a move could change, which is what comes from the first move on."""
+        """Whether the unmoved run writes nothing that a move could change, which is what comes from the first move
+        on."""
         return all(
             self.without_dropped(self.good.get(node, b"")) == self.without_dropped(self.good_before.get(node, b""))
             for node in self.nodes
@@ -92,7 +95,9 @@ class SerialCheck:
             if node in waiting and self.has_all(node, bytes(texts[node])):
                 waiting.remove(node)
                 if not waiting:
-                    return Late(node, cycle, self.failure_beside(self.good_at_last(), output) if self.good_at_last else None)
+                    return Late(
+                        node, cycle, self.failure_beside(self.good_at_last(), output) if self.good_at_last else None
+                    )
         return None
 
     def has_all(self, node: int, got: bytes) -> bool:
@@ -144,7 +149,9 @@ class CaseCheck:
         try:
             outcome = expectations.check(self.case, iter([self.head + output]), False, "the run")
         except expectations.NoRoom as fault:  # this run has it, and others have not
-            return f"{fault.place}: between the rows that were found about it there is no room for what is never to come"
+            return (
+                f"{fault.place}: between the rows that were found about it there is no room for what is never to come"
+            )
         return first_lines(outcome.failure) if outcome.failure else None
 
 
@@ -186,7 +193,9 @@ class PredicateCheck:
         except (Exception, SystemExit) as fault:  # whatever the user's function does
             raise BadInput(f"check() of the predicate: {type(fault).__name__}: {fault}") from fault
         if said is not None and not (isinstance(said, str) and said.strip()):
-            raise BadInput(f"check() of the predicate returned {said!r}: it must be None, or a text that says what is wrong")
+            raise BadInput(
+                f"check() of the predicate returned {said!r}: it must be None, or a text that says what is wrong"
+            )
         return said
 
 
