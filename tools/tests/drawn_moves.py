@@ -1,5 +1,5 @@
-"""Draws firmware that turns interrupts off and on in all ways that come to mind, makes every move of a byte's arrival over it, and
-compares whole traces with the classes of a sweep: no class may have two.
+"""Draws firmware that turns interrupts off and on in all ways that come to mind, makes every move of a byte's arrival
+over it, and compares whole traces with the classes of a sweep: no class may have two.
 
     drawn_moves.py [COUNT] [SEED]    so many programs (40), drawn by a seed (1); PROGRAM in AVRORA_PROGRAM
 
@@ -20,7 +20,15 @@ from avrora_tools.commands import sweep as command
 from classes_against_moves import compare
 from firmware import compiled, scenario
 
-FLAGS = [["-O0"], ["-Os"], ["-O2"], ["-Os", "-flto"], ["-O3"], ["-Os", "-mcall-prologues"], ["-O1", "-fno-omit-frame-pointer"]]
+FLAGS = [
+    ["-O0"],
+    ["-Os"],
+    ["-O2"],
+    ["-Os", "-flto"],
+    ["-O3"],
+    ["-Os", "-mcall-prologues"],
+    ["-O1", "-fno-omit-frame-pointer"],
+]
 FIRST, MOVES, AFTER = 280_000, 150, 5_000
 
 HEAD = """#include "serial.h"
@@ -28,7 +36,8 @@ HEAD = """#include "serial.h"
 volatile uint16_t count, other;
 volatile uint8_t k, got, ring[8], at;
 volatile uint8_t *volatile sreg = &SREG, *volatile port = &UDR0, *volatile state = &UCSR0A, *volatile place = ring;
-static void __attribute__((noinline)) frame(uint8_t n) { volatile uint8_t local[11]; local[n % 11] = n; k += local[n % 11]; }
+static void __attribute__((noinline)) frame(uint8_t n) { volatile uint8_t local[11]; local[n % 11] = n;
+    k += local[n % 11]; }
 """
 
 # What main does over and over, what the handlers do, and what goes before.
@@ -52,15 +61,27 @@ STEPS = [
     "cli(); if (!got) { sleep_enable(); sei(); sleep_cpu(); sleep_disable(); } sei();",
     "put('x');",
     "if (got) { put(got); got = 0; }",
-    'asm volatile("in r24,0x3f\\n push r24\\n in r30,0x3d\\n in r31,0x3e\\n ldd r25,Z+1\\n ori r25,0x80\\n std Z+1,r25\\n'
+    'asm volatile("in r24,0x3f\\n push r24\\n in r30,0x3d\\n in r31,0x3e\\n ldd r25,Z+1\\n ori r25,0x80\\n std '
+    'Z+1,r25\\n'
     ' cli\\n pop r24\\n out 0x3f,r24\\n nop\\n nop\\n nop\\n cli\\n nop\\n sei" ::: "r24", "r25", "r30", "r31");',
-    'asm volatile("cli\\n in r24,0x3f\\n mov r20,r24\\n ori r20,0x80\\n nop\\n out 0x3f,r20\\n nop\\n out 0x3f,r24\\n nop\\n sei"'
+    'asm volatile("cli\\n in r24,0x3f\\n mov r20,r24\\n ori r20,0x80\\n nop\\n out 0x3f,r20\\n nop\\n out '
+    '0x3f,r24\\n nop\\n sei"'
     ' ::: "r20", "r24");',
-    'asm volatile("cli\\n lds r24,0x5f\\n push r24\\n rcall 1f\\n rjmp 2f\\n 1: nop\\n ret\\n 2: pop r24\\n sts 0x5f,r24\\n nop\\n sei" ::: "r24");',
-    'asm volatile("cli\\n ldi r30,0x18\\n ldi r31,0\\n in r24,0x3f\\n ldi r20,0x80\\n st Z,r20\\n out 0x3f,r24\\n nop\\n nop\\n sei"'
+    'asm volatile("cli\\n lds r24,0x5f\\n push r24\\n rcall 1f\\n rjmp 2f\\n 1: nop\\n ret\\n 2: pop r24\\n sts '
+    '0x5f,r24\\n nop\\n sei" ::: "r24");',
+    'asm volatile("cli\\n ldi r30,0x18\\n ldi r31,0\\n in r24,0x3f\\n ldi r20,0x80\\n st Z,r20\\n out 0x3f,r24\\n '
+    'nop\\n nop\\n sei"'
     ' ::: "r20", "r24", "r30", "r31");',
 ]
-HANDLER_STEPS = ["k += 2;", "*place = k;", "ring[at++ & 7] = k;", "count++;", "frame(1);", "sei(); k++; other++;", "*sreg |= 0x80; k++;"]
+HANDLER_STEPS = [
+    "k += 2;",
+    "*place = k;",
+    "ring[at++ & 7] = k;",
+    "count++;",
+    "frame(1);",
+    "sei(); k++; other++;",
+    "*sreg |= 0x80; k++;",
+]
 HANDLER_STEPS += ["sei(); k++; cli();", "if (k & 4) put('t');", "k = SREG;"]
 TIMERS = {
     "TIMER0_COMP_vect": "OCR0 = {0}; TCCR0 = _BV(WGM01) | _BV(CS01); TIMSK |= _BV(OCIE0);",
@@ -81,7 +102,9 @@ def source(draw: random.Random) -> str:
         steps = draw.sample(HANDLER_STEPS, draw.randint(0, 3))
         if name.startswith("USART"):
             steps.insert(draw.choice([0, len(steps)]), "got = UDR0;")
-            steps = [step for step in steps if "sei" not in step and "sreg" not in step or steps.index("got = UDR0;") == 0]
+            steps = [
+                step for step in steps if "sei" not in step and "sreg" not in step or steps.index("got = UDR0;") == 0
+            ]
         attribute = ", ISR_NOBLOCK" if draw.random() < 0.2 and not name.startswith("USART") else ""
         lines.append(f"ISR({name}{attribute}) {{ {' '.join(steps)} }}")
     steps = [draw.choice(STEPS) for _ in range(draw.randint(2, 6))]
@@ -100,7 +123,16 @@ def mixed(draw: random.Random, folder: Path) -> tuple[int, str]:
     toml = scenario("moved.hex", folder / "moved.toml", at=span, hex_=draw.choice(["41", "4142", "FF"]))
     parser = Parser()
     command.configure(parser)
-    words = ["--start", f"0={span}..{span + MOVES - 1}", "--until", str(span + AFTER), "--jobs", "2", "--expect", str(folder / "any.expect")]
+    words = [
+        "--start",
+        f"0={span}..{span + MOVES - 1}",
+        "--until",
+        str(span + AFTER),
+        "--jobs",
+        "2",
+        "--expect",
+        str(folder / "any.expect"),
+    ]
     (folder / "any.expect").write_text("never * 0 serial 00\n", encoding="utf-8")
     said = io.StringIO()
     with command.prepared(parser.parse_args([*words, str(toml)])) as sweep, contextlib.redirect_stdout(said):

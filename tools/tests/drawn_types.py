@@ -1,5 +1,5 @@
-"""Draws types of C and fills variables of them with bytes by chance, and compares the values that `inspect` tells with those that
-avr-gdb prints of the same memory.
+"""Draws types of C and fills variables of them with bytes by chance, and compares the values that `inspect` tells with
+those that avr-gdb prints of the same memory.
 
     drawn_types.py [COUNT] [SEED]    so many types (500), drawn by a seed (1)
 
@@ -19,8 +19,25 @@ from elftools.elf.elffile import ELFFile
 from avrora_tools.variables import DATA_SPACE, variables_of
 
 # Types by their names in C, and how wide a bit-field may be.
-INTEGERS = {"uint8_t": 8, "int8_t": 8, "uint16_t": 16, "int16_t": 16, "uint32_t": 32, "int32_t": 32, "uint64_t": 64, "int64_t": 64}
-INTEGERS |= {"unsigned char": 8, "signed char": 8, "int": 16, "unsigned": 16, "long": 32, "unsigned long long": 64, "_Bool": 1}
+INTEGERS = {
+    "uint8_t": 8,
+    "int8_t": 8,
+    "uint16_t": 16,
+    "int16_t": 16,
+    "uint32_t": 32,
+    "int32_t": 32,
+    "uint64_t": 64,
+    "int64_t": 64,
+}
+INTEGERS |= {
+    "unsigned char": 8,
+    "signed char": 8,
+    "int": 16,
+    "unsigned": 16,
+    "long": 32,
+    "unsigned long long": 64,
+    "_Bool": 1,
+}
 OTHERS = {"__int24": None, "__uint24": None, "float": None, "double": None, "char": None}
 WIDEST = 56  # of a bit-field: gdb reads none that lies in nine bytes
 
@@ -55,7 +72,12 @@ class Drawn:
             return self.element.declared(f"{what}[{self.count}]")
         if self.kind == "pointer":
             return f"{self.name} *{what}"
-        if self.kind == "structure" and self.members and not self.name.startswith("struct S") and not self.name.startswith("union S"):
+        if (
+            self.kind == "structure"
+            and self.members
+            and not self.name.startswith("struct S")
+            and not self.name.startswith("union S")
+        ):
             return f"{self.body()} {what}"
         return f"{self.name} {what}"
 
@@ -105,7 +127,9 @@ class Drawer:
             name = self.random.choice(list(FIXED))
             return Drawn("fixed", name)
         name = self.random.choice([*INTEGERS, *OTHERS])
-        return Drawn("leaf", self.renamed(self.random.choice(["", "", "volatile ", "const "]) + name) if name != "char" else name)
+        return Drawn(
+            "leaf", self.renamed(self.random.choice(["", "", "volatile ", "const "]) + name) if name != "char" else name
+        )
 
     def renamed(self, name: str) -> str:
         if self.random.random() < 0.2:
@@ -116,7 +140,19 @@ class Drawer:
 
     def enumeration(self) -> Drawn:
         pool = self.random.choice(
-            [[0, 1, 2, 3], [0], [0, 1], [1, 2, 4, 8, 16], [-3, -1, 0, 5], [0, 6, 8], [1, 3, 200], [-30000, 30000], [70000, 1], [255], [1, 1, 2]]
+            [
+                [0, 1, 2, 3],
+                [0],
+                [0, 1],
+                [1, 2, 4, 8, 16],
+                [-3, -1, 0, 5],
+                [0, 6, 8],
+                [1, 3, 200],
+                [-30000, 30000],
+                [70000, 1],
+                [255],
+                [1, 1, 2],
+            ]
         )
         name = self.fresh("e")
         packed = " __attribute__((packed))" * (self.random.random() < 0.4)
@@ -165,7 +201,11 @@ def text(type_: Drawn, path: str, values: dict[str, str]) -> str:
         parts = [text(type_.element, f"{path}[{i}]", values) for i in range(type_.count)]
         return "{" + ", ".join(folded(parts)) + "}"
     if type_.kind == "structure":
-        return "{" + ", ".join(f"{name} {text(member, f'{path}.{name}', values)}" for name, member, _ in type_.members) + "}"
+        return (
+            "{"
+            + ", ".join(f"{name} {text(member, f'{path}.{name}', values)}" for name, member, _ in type_.members)
+            + "}"
+        )
     said = values[as_integer(type_, path) if type_.kind == "fixed" else path]
     if type_.kind == "pointer":
         address = int(re.search(r"0x([0-9a-f]+)", said)[1], 16) & 0xFFFF
@@ -220,7 +260,15 @@ def batch(count: int, seed: int, folder: Path) -> list[str]:
     drawer = Drawer(seed)
     types = {f"v{number}": drawer.type() for number in range(count)}
     lines = [f'{type_.declared(name)} __attribute__((section(".data")));' for name, type_ in types.items()]
-    source = "\n".join(["#include <stdint.h>", "int64_t whole; uint64_t natural; int32_t w; uint32_t n; int16_t i; uint16_t u; int8_t c;", *drawer.declarations, *lines, "int main(void) { for (;;); }"])
+    source = "\n".join(
+        [
+            "#include <stdint.h>",
+            "int64_t whole; uint64_t natural; int32_t w; uint32_t n; int16_t i; uint16_t u; int8_t c;",
+            *drawer.declarations,
+            *lines,
+            "int main(void) { for (;;); }",
+        ]
+    )
     (folder / "drawn.c").write_text(source)
     subprocess.run(
         ["avr-gcc", "-mmcu=atmega128", "-w", "-gdwarf-2", "-Os", "drawn.c", "-o", "drawn.elf"], cwd=folder, check=True
@@ -233,7 +281,10 @@ def batch(count: int, seed: int, folder: Path) -> list[str]:
     subprocess.run(["avr-objcopy", "--update-section", ".data=data", "drawn.elf"], cwd=folder, check=True)
     values = printed_by_gdb([leaf for name, type_ in types.items() for leaf in leaves(type_, name)], folder)
     memory = Filled(data, at)
-    told = {one.name: one.type.shown(memory.read(one.address, one.type.size), memory) for one in variables_of(str(folder / "drawn.elf"))}
+    told = {
+        one.name: one.type.shown(memory.read(one.address, one.type.size), memory)
+        for one in variables_of(str(folder / "drawn.elf"))
+    }
     wanted = {name: text(type_, name, values) for name, type_ in types.items()}
     return [
         f"seed {seed}: {types[name].declared(name)}\n  inspect: {told.get(name)}\n  gdb:     {wanted[name]}"
@@ -246,7 +297,11 @@ def printed_by_gdb(expressions: list[str], folder: Path) -> dict[str, str]:
     script = "".join(f'printf "\\n{expression}="\noutput {expression}\n' for expression in expressions)
     (folder / "script").write_text("set print symbol off\nset print repeats 0\n" + script)
     done = subprocess.run(
-        ["avr-gdb", "-batch", "-nx", "-x", "script", "drawn.elf"], cwd=folder, capture_output=True, text=True, check=True
+        ["avr-gdb", "-batch", "-nx", "-x", "script", "drawn.elf"],
+        cwd=folder,
+        capture_output=True,
+        text=True,
+        check=True,
     )
     return dict(line.partition("=")[::2] for line in done.stdout.splitlines() if line)
 

@@ -1,5 +1,5 @@
-"""A second matcher of `expect`, written after tools/README.md ("Cases of `expect`") and not after the tool, and cases and traces by
-chance on which the two are compared.
+"""A second matcher of `expect`, written after tools/README.md ("Cases of `expect`") and not after the tool, and cases
+and traces by chance on which the two are compared.
 
     second_matcher.py [COUNT] [SEED]    so many cases (20,000), drawn by a seed (1)
 
@@ -50,12 +50,22 @@ def part_matches(word, text, base):
         return word == text
     if re.fullmatch(r"[0-9A-F_]*\.\.[0-9A-F_]*|[0-9_]+\+-[0-9_]+", word):
         digits = "[0-9]" if base == 10 else "[0-9A-F]"
-        return bool(re.fullmatch(rf"({digits}|_)*(\.\.|\+-)({digits}|_)*", word)) and in_range(word, int(text, base), base)
+        return bool(re.fullmatch(rf"({digits}|_)*(\.\.|\+-)({digits}|_)*", word)) and in_range(
+            word, int(text, base), base
+        )
     return word == text
 
 
 # Whether the parts behind the kind are hexadecimal digits, decimal ones, or words.
-BASES = {"serial": [16], "sent": [16], "heard": [10, 16, 10], "enter": [16, 16], "end": [10, None], "stop": [16], "instr": [16]}
+BASES = {
+    "serial": [16],
+    "sent": [16],
+    "heard": [10, 16, 10],
+    "enter": [16, 16],
+    "end": [10, None],
+    "stop": [16],
+    "instr": [16],
+}
 
 
 def row_matches(pattern, row, base_cycle):
@@ -84,8 +94,8 @@ def row_matches(pattern, row, base_cycle):
 
 
 def verdict(case, trace):
-    """Whether the rows that are expected in order came, and the numbers of the other lines that are not met; None for those
-    where the order is not met, as then it is open between which rows something was not to come."""
+    """Whether the rows that are expected in order came, and the numbers of the other lines that are not met; None for
+    those where the order is not met, as then it is open between which rows something was not to come."""
     rows = trace.splitlines()
     nodes, kinds, seen = None, None, []
     lines = [(number, line.split("#")[0].strip()) for number, line in enumerate(case.splitlines(), 1)]
@@ -177,7 +187,10 @@ def drawn_trace(draw):
                 sent[node] = cycle
                 rows.append(f"{cycle} {node} sent {byte}")
             elif kind == "heard":
-                rows.append(f"{cycle} {node} heard " + draw.choice(["0 00 0", f"1 {byte} {draw.randint(0, 255)}", f"2 {byte} 0"]))
+                rows.append(
+                    f"{cycle} {node} heard "
+                    + draw.choice(["0 00 0", f"1 {byte} {draw.randint(0, 255)}", f"2 {byte} 0"])
+                )
             elif kind == "stop" and draw.random() < 0.1:
                 stopped.add(node)
                 rows.append(f"{cycle} {node} stop 0102 " + draw.choice(["break", "reserved opcode", "adc"]))
@@ -187,7 +200,10 @@ def drawn_trace(draw):
                 rows.append(f"{cycle} {node} enter 00{draw.choice(['18', '1E', '24'])} 00{byte}")
     cycle += draw.randint(1, 20)
     states = {node: "stopped" if node in stopped else draw.choice(["asleep", "running"]) for node in range(nodes)}
-    return "".join(f"{row}\n" for row in rows + [f"{cycle} {node} end {draw.randint(0, cycle)} {states[node]}" for node in range(nodes)])
+    return "".join(
+        f"{row}\n"
+        for row in rows + [f"{cycle} {node} end {draw.randint(0, cycle)} {states[node]}" for node in range(nodes)]
+    )
 
 
 def drawn_pattern(draw, rows, relative):
@@ -210,7 +226,9 @@ def drawn_pattern(draw, rows, relative):
         else:
             found.append(text)
     if relative and draw.random() < 0.3:
-        found[0] = "+" + draw.choice(["*", "0..", f"..{draw.randint(0, 400)}", f"{draw.randint(0, 60)}..", "10"]).replace("*", "1..")
+        found[0] = "+" + draw.choice(
+            ["*", "0..", f"..{draw.randint(0, 400)}", f"{draw.randint(0, 60)}..", "10"]
+        ).replace("*", "1..")
     if draw.random() < 0.5:
         found = [*found[: draw.randint(3, len(found))], "*"]
     return " ".join(found)
@@ -223,7 +241,13 @@ def drawn_range(draw, text, base):
         high = min(high, 255)
         words = [f"{low:02X}..{high:02X}", f"{low:02X}..", f"..{high:02X}", f"{{{text},{draw.randrange(256):02X}}}"]
     else:
-        words = [f"{low}..{high}", f"{low}..", f"..{high}", f"{value}+-{off}", f"{{{value},{value + 1 if value > 3 else value}}}"]
+        words = [
+            f"{low}..{high}",
+            f"{low}..",
+            f"..{high}",
+            f"{value}+-{off}",
+            f"{{{value},{value + 1 if value > 3 else value}}}",
+        ]
     return draw.choice(words)
 
 
@@ -233,9 +257,13 @@ def drawn_case(draw, trace):
     if draw.random() < 0.2:
         lines.append("only " + draw.choice(["serial", "sent serial", "0", "0-1 serial stop", "heard sent serial end"]))
     for _ in range(draw.randint(1, 4)):
-        kind = draw.choice(["row", "row", "row", "next", "never", "never", "count", "within", "text", "lines", "matches"])
+        kind = draw.choice(
+            ["row", "row", "row", "next", "never", "never", "count", "within", "text", "lines", "matches"]
+        )
         node = draw.choice(rows).split()[1]
-        span = draw.choice(["", f"within {drawn_range(draw, str(draw.randint(0, 600)), 10)}: ".replace("{", "0..").replace("}", "")])
+        span = draw.choice(
+            ["", f"within {drawn_range(draw, str(draw.randint(0, 600)), 10)}: ".replace("{", "0..").replace("}", "")]
+        )
         span = "" if "," in span else span
         if kind == "row":
             lines.append(drawn_pattern(draw, rows, True))
@@ -246,7 +274,9 @@ def drawn_case(draw, trace):
         elif kind == "within":
             lines.append(f"{span or 'within 0..300: '}never {drawn_pattern(draw, rows, False)}")
         elif kind == "count":
-            lines.append(f"{span}count {draw.choice(list(SIGNS))} {draw.randint(0, 6)}: {drawn_pattern(draw, rows, False)}")
+            lines.append(
+                f"{span}count {draw.choice(list(SIGNS))} {draw.randint(0, 6)}: {drawn_pattern(draw, rows, False)}"
+            )
         elif kind == "text":
             lines.append(f"{span}text {node} '{draw.choice(['A', 'AB', 'r', 'BA'])}'")
         elif kind == "matches":

@@ -1,5 +1,6 @@
-"""Calls that `profile --callers` counts, against the CALL and RCALL rows of the same trace, by the program that AVRORA_PROGRAM
-names: of firmware whose interrupts come between a call and what is called, and of firmware that is drawn anew."""
+"""Calls that `profile --callers` counts, against the CALL and RCALL rows of the same trace, by the program that
+AVRORA_PROGRAM names: of firmware whose interrupts come between a call and what is called, and of firmware that is drawn
+anew."""
 import random
 import re
 import subprocess
@@ -20,13 +21,16 @@ CYCLES = 20_000
 def traced(elf, first=0):
     """The trace of a program, with all instructions of so many cycles."""
     toml = elf.with_suffix(".toml")
-    toml.write_text(f'cycles = {first + CYCLES}\nwindow = [{first}, {first + CYCLES}]\n[[node]]\nimage = "{elf.stem}.hex"\n')
+    toml.write_text(
+        f'cycles = {first + CYCLES}\nwindow = [{first}, {first + CYCLES}]\n[[node]]\nimage = "{elf.stem}.hex"\n'
+    )
     done = subprocess.run([PROGRAM, "run", "--plain", toml.name], cwd=elf.parent, capture_output=True, check=True)
     return done.stdout
 
 
 def calls_of_rows(trace):
-    """How often each instruction called what its text names; the last row of a window may be a call that comes to nothing."""
+    """How often each instruction called what its text names; the last row of a window may be a call that comes to
+    nothing."""
     rows = re.findall(r"^\d+ 0 instr (....) (r?call) (\S+)$", trace.decode(), re.M)
     found = Counter()
     for word, name, target in rows:
@@ -49,7 +53,11 @@ def differences(trace):
 def called_at_last(trace):
     """Whether what the last call calls has a row."""
     events = [event for _, _, event in traces.Trace([trace], "t", traces.Form.WHOLE)]
-    last = max(i for i, event in enumerate(events) if isinstance(event, Instr) and event.instruction.split()[0] in ("call", "rcall"))
+    last = max(
+        i
+        for i, event in enumerate(events)
+        if isinstance(event, Instr) and event.instruction.split()[0] in ("call", "rcall")
+    )
     rows = calls_of_rows(trace)
     target = next(target for address, target in rows if address == events[last].address)
     return any(isinstance(event, Instr) and event.address == target for event in events[last + 1 :])
@@ -70,7 +78,10 @@ def test_the_report_has_all_calls(tmp_path):
     status, out, err = run_tool("profile", "--callers", "-e", str(elf), str(path))
     assert (status, err) == (0, "")
     count = sum(count for (_, target), count in calls_of_rows(path.read_bytes()).items())
-    told = [int(number.replace(",", "")) for number in re.findall(r"^ *([\d,]+) +.*\b(?:main|g|f)\b.* (?:g|f|main)$", out, re.M)]
+    told = [
+        int(number.replace(",", ""))
+        for number in re.findall(r"^ *([\d,]+) +.*\b(?:main|g|f)\b.* (?:g|f|main)$", out, re.M)
+    ]
     assert abs(sum(told) - count) <= 1, out
 
 
@@ -81,7 +92,9 @@ def drawn(random_):
     lines += [f"__attribute__((noinline)) void f{i}(uint8_t n);" for i in range(count)]
     for i in range(count):
         calls = "".join(
-            f" f{random_.randint(i + 1, count - 1)}(n + {random_.randint(0, 3)});" for _ in range(random_.randint(0, 3)) if i + 1 < count
+            f" f{random_.randint(i + 1, count - 1)}(n + {random_.randint(0, 3)});"
+            for _ in range(random_.randint(0, 3))
+            if i + 1 < count
         )
         lines.append(f'void f{i}(uint8_t n) {{ k += n;{calls} k ^= {i}; asm volatile("" ::: "memory"); }}')
     for timer, vector in ((0, "TIMER0_COMP_vect"), (2, "TIMER2_COMP_vect")):
@@ -89,7 +102,9 @@ def drawn(random_):
         lines.append(f"ISR({vector}{random_.choice(['', ', ISR_NOBLOCK' * (not calls)])}) {{ k++;{calls} }}")
     lines.append("int main(void) {")
     lines.append(f" OCR0 = {random_.randint(150, 255)}; OCR2 = {random_.randint(180, 255)};")
-    lines.append(" TCCR0 = _BV(WGM01) | _BV(CS01); TCCR2 = _BV(WGM21) | _BV(CS21); TIMSK = _BV(OCIE0) | _BV(OCIE2); sei();")
+    lines.append(
+        " TCCR0 = _BV(WGM01) | _BV(CS01); TCCR2 = _BV(WGM21) | _BV(CS21); TIMSK = _BV(OCIE0) | _BV(OCIE2); sei();"
+    )
     lines.append(" for (;;) f0(k); }")
     return "\n".join(lines) + "\n"
 

@@ -12,7 +12,9 @@ from test_check_script import check, place, pytestmark  # noqa: F401
 def test_all_sources_of_a_folder_make_one_image(place):  # noqa: F811
     sources = place / "mine" / "node.src"
     sources.mkdir()
-    (sources / "main.c").write_text('#include "part.h"\n#include "radio.h"\nint main(void) { radio_init(); return part(); }\n')
+    (sources / "main.c").write_text(
+        '#include "part.h"\n#include "radio.h"\nint main(void) { radio_init(); return part(); }\n'
+    )
     (sources / "part.c").write_text('#include "part.h"\nint part(void) { return 7; }\n')
     (sources / "part.h").write_text("int part(void);\n")
     assert check(place)[::2] == (0, "")
@@ -25,7 +27,10 @@ def test_all_sources_of_a_folder_make_one_image(place):  # noqa: F811
     "prepared, why",
     [
         (lambda sources: shutil.rmtree(sources) or sources.mkdir(), "./node.src: there is no source"),
-        (lambda sources: (sources.parent / "node.c").write_text("int main(void) { return 1; }"), "./node.c makes an image of this name too"),
+        (
+            lambda sources: (sources.parent / "node.c").write_text("int main(void) { return 1; }"),
+            "./node.c makes an image of this name too",
+        ),
     ],
 )
 def test_a_folder_of_sources_that_says_nothing_or_two_things_is_refused(place, prepared, why):  # noqa: F811
@@ -45,6 +50,10 @@ def test_the_header_is_that_of_the_named_home(place, tmp_path):  # noqa: F811
     shutil.copy(f"{TOP}/examples/ci/check.sh", elsewhere)
     (place / "mine" / "good.c").write_text('#include "radio.h"\nint main(void) { radio_init(); return 0; }\n')
     done = subprocess.run(
-        ["sh", elsewhere / "check.sh", "mine", "out"], cwd=place, env={"PATH": "/usr/bin:/bin", "AVRORA_HOME": TOP}, capture_output=True, check=False
+        ["sh", elsewhere / "check.sh", "mine", "out"],
+        cwd=place,
+        env={"PATH": "/usr/bin:/bin", "AVRORA_HOME": TOP},
+        capture_output=True,
+        check=False,
     )
     assert done.returncode == 0, done.stderr

@@ -39,7 +39,9 @@ class Console(unittest.TestCase):
         self.assertEqual(self.typed(b"a\r\rb\n\rc"), ["a", "", "b", "", "c"])
         self.assertEqual(self.console(trace="7 0 serial 0A\n"), "           7  0 |\n")
         # what ends a line that silence has ended is no empty line
-        self.assertEqual(self.console("--idle", "5", trace="1 0 serial 41\n90 1 serial 42\n99 0 serial 0A\n").count("\n"), 2)
+        self.assertEqual(
+            self.console("--idle", "5", trace="1 0 serial 41\n90 1 serial 42\n99 0 serial 0A\n").count("\n"), 2
+        )
 
     def test_what_is_escaped_is_told_from_what_was_written(self):
         self.assertEqual(self.typed(b"\\x41 \xC3\n"), ["\\\\x41 \\xC3"])

@@ -5,7 +5,16 @@ from dataclasses import astuple
 
 import pytest
 
-from avrora_tools.budgets import Currents, account, duty_cycle, listening_cycle, milliampere_hours, sent, table_of, whole
+from avrora_tools.budgets import (
+    Currents,
+    account,
+    duty_cycle,
+    listening_cycle,
+    milliampere_hours,
+    sent,
+    table_of,
+    whole,
+)
 from avrora_tools.errors import BadInput
 from avrora_tools.listening import ZERO, Byte, Pin, Radio, both, inverted
 from avrora_tools.profiles import MonitorReader
@@ -13,8 +22,8 @@ from avrora_tools.scenarios import Scenario
 from firmware import PROGRAM, compiled, needs_compiler, needs_program
 from support import TOP, run_tool
 
-# 1,000 cycles: node 0 awake for 300 of them (290 by two instructions, 10 by a vector), 200 without an owner, 2 bytes sent;
-# node 1 sleeps from the first cycle on and stops in cycle 400.
+# 1,000 cycles: node 0 awake for 300 of them (290 by two instructions, 10 by a vector), 200 without an owner, 2 bytes
+# sent; node 1 sleeps from the first cycle on and stops in cycle 400.
 REPORT = """0 lead 200
 0 at 0050 10 90
 0 at 0052 100 200
@@ -51,7 +60,8 @@ def test_the_bytes_that_were_sent_are_what_the_charge_has_beside_the_cycles():
 def test_the_account_of_a_node():
     table = table_of(CURRENTS, "c")
     zero, one = (account(node, table.common, 256, table.hz, Radio(node.total() - node.stopped)) for node in nodes())
-    # 300 ms at 8 mA; 500 asleep and 200 unknown at 2 mA at least, at 8 at most; 512 ms sending, the other 488 listening.
+    # 300 ms at 8 mA; 500 asleep and 200 unknown at 2 mA at least, at 8 at most; 512 ms sending, the other 488
+    # listening.
     assert astuple(zero) == pytest.approx((2.4, 1.4, 10.24, 4.88, 0, 1.2))
     assert (zero.least, zero.most) == pytest.approx((18.92, 20.12))
     # until its stop in 400: 1 ms awake, 399 asleep, all of it listening
@@ -120,7 +130,15 @@ def test_the_table_and_the_picture(inputs, tmp_path):
     assert status == 0 and "node 1 stopped" in err
     first, _, zero, one, network = out.splitlines()
     assert first == "1,000 cycles, 1 s at 1,000 Hz"
-    assert zero.split() == ["0", "30.00..50.00%", "48.80%", "2", "18.920..20.120", "0.005256..0.005589", "454.08..482.88"]
+    assert zero.split() == [
+        "0",
+        "30.00..50.00%",
+        "48.80%",
+        "2",
+        "18.920..20.120",
+        "0.005256..0.005589",
+        "454.08..482.88",
+    ]
     assert one.split() == ["1", "0.25%", "100.00%", "0", "4.806", "0.001335", "115.34"]
     name, duty, listens, sent, current = network.split()[:5]
     assert (name, listens, sent, current) == ("network", "74.40%", "2", "23.726..24.926")
@@ -149,7 +167,10 @@ def test_the_report_of_a_span_is_whole_by_the_window_that_is_named(inputs, tmp_p
     for words, cycles in (((), "400"), (("--window", "0..999"), "999")):
         status, out, err = run_tool("energy", *inputs, *words)
         assert (status, out) == (2, "")
-        assert f"node 0 do not add up to the {cycles} cycles of the window, but to 1,000" in err and "--window FROM..TO" in err
+        assert (
+            f"node 0 do not add up to the {cycles} cycles of the window, but to 1,000" in err
+            and "--window FROM..TO" in err
+        )
 
 
 def test_the_report_of_the_whole_run_needs_no_window(inputs, tmp_path):
@@ -161,7 +182,9 @@ def test_the_report_of_the_whole_run_needs_no_window(inputs, tmp_path):
 
 def test_a_report_of_no_cycles_says_how_one_of_the_whole_run_is_made(inputs, tmp_path):
     (tmp_path / "s.toml").write_text(SCENARIO.replace("window = [0, 1_000]", ""))
-    (tmp_path / "r.profile").write_text("".join(f"{k} {kind} 0\n" for k in (0, 1) for kind in ("lead", "asleep", "stopped", "charge")))
+    (tmp_path / "r.profile").write_text(
+        "".join(f"{k} {kind} 0\n" for k in (0, 1) for kind in ("lead", "asleep", "stopped", "charge"))
+    )
     for words in (("energy", *inputs), ("profile", "-s", *inputs[1:])):
         status, out, err = run_tool(*words)
         assert (status, out) == (2, "") and "`avrora monitor FILE 0 1000` is of all its cycles" in err
@@ -205,7 +228,9 @@ def energy(folder, low, high, flags, cycles=400_000, begin=0, more=()):
     toml = folder / "slot.toml"
     toml.write_text(f'cycles = {cycles}\nbyte_time = 256\nnode = [{{ image = "slot.hex" }}]\n')
     (folder / "c.toml").write_text(CURRENTS + "off = 1")
-    report = subprocess.run([PROGRAM, "monitor", "slot.toml", str(begin), str(cycles)], cwd=folder, capture_output=True, check=True)
+    report = subprocess.run(
+        [PROGRAM, "monitor", "slot.toml", str(begin), str(cycles)], cwd=folder, capture_output=True, check=True
+    )
     (folder / "r.profile").write_bytes(report.stdout)
     words = ("--window", f"{begin}..{cycles}") if begin else ()
     status, out, err = run_tool("energy", *words, *more, str(folder / "c.toml"), str(toml), str(folder / "r.profile"))
@@ -229,10 +254,16 @@ def test_it_is_the_cycles_between_the_writes(tmp_path):
     cycles = 20_000
     listens, elf = energy(tmp_path, "PORTB &= 0xFE;", "PORTB |= 1;", ["-Os"], cycles)
     (tmp_path / "w.toml").write_text(f'cycles = {cycles}\nwindow = [0, {cycles}]\nnode = [{{ image = "slot.hex" }}]\n')
-    rows = subprocess.run([PROGRAM, "run", "--plain", "w.toml"], cwd=tmp_path, capture_output=True, text=True, check=True).stdout
-    events = [(int(c), name) for c, name in re.findall(r"^(\d+) 0 instr .... (sbi 0x17|cbi 0x18|sbi 0x18), 0$", rows, re.M)]
+    rows = subprocess.run(
+        [PROGRAM, "run", "--plain", "w.toml"], cwd=tmp_path, capture_output=True, text=True, check=True
+    ).stdout
+    events = [
+        (int(c), name) for c, name in re.findall(r"^(\d+) 0 instr .... (sbi 0x17|cbi 0x18|sbi 0x18), 0$", rows, re.M)
+    ]
     selected = sum(
-        (events[i + 1][0] if i + 1 < len(events) else cycles) - at for i, (at, name) in enumerate(events) if name != "sbi 0x18"
+        (events[i + 1][0] if i + 1 < len(events) else cycles) - at
+        for i, (at, name) in enumerate(events)
+        if name != "sbi 0x18"
     )
     assert listens == [pytest.approx(100 * selected / cycles, abs=0.005)]
 

@@ -1,5 +1,5 @@
-"""Variables, call chains and the room of the stack. Expected values are those that a program's source gives its variables; call
-chains are compared with the calls, returns and entries of a trace."""
+"""Variables, call chains and the room of the stack. Expected values are those that a program's source gives its
+variables; call chains are compared with the calls, returns and entries of a trace."""
 import os
 import re
 import shutil
@@ -9,7 +9,18 @@ import pytest
 
 from avrora_tools.stacks import lowest_used
 from avrora_tools.states import DATA_END, State
-from avrora_tools.variables import Array, Base, Enumeration, Member, Pointer, Renamed, Structure, place_in, taken_together, text_of
+from avrora_tools.variables import (
+    Array,
+    Base,
+    Enumeration,
+    Member,
+    Pointer,
+    Renamed,
+    Structure,
+    place_in,
+    taken_together,
+    text_of,
+)
 from firmware import compiled, scenario
 from support import SEED, needs_module, run_tool
 
@@ -78,7 +89,11 @@ class NoMemory:
         (Array(CHAR, 3), "000000", "{0 x 3}"),
         (Array(Array(INT16, 2), 2), "0100020003000400", "{{1, 2}, {3, 4}}"),
         (RECORD, "07FFFF", "{kind 7, value -1}"),
-        (Structure("flags", 1, (Member("low", 0, UINT8, 3, 0), Member("high", 0, UINT8, 5, 3))), "AC", "{low 4, high 21}"),
+        (
+            Structure("flags", 1, (Member("low", 0, UINT8, 3, 0), Member("high", 0, UINT8, 5, 3))),
+            "AC",
+            "{low 4, high 21}",
+        ),
     ],
 )
 def test_values(type_, data, text):
@@ -137,7 +152,8 @@ static uint8_t *volatile inside = &table[1][1];
 volatile uint8_t sink;
 void __attribute__((noinline)) leaf(void) { for (uint8_t i = 0; i < 40; i++) sink += i; }
 void __attribute__((noinline)) frame(uint8_t n) { volatile uint8_t local[20]; local[n] = n; leaf(); sink += local[n]; }
-void __attribute__((noinline)) outer(uint8_t n) { static uint8_t calls = 3; calls++; frame(n); handler(); sink += calls + n; }
+void __attribute__((noinline)) outer(uint8_t n) { static uint8_t calls = 3; calls++; frame(n); handler();
+  sink += calls + n; }
 ISR(TIMER1_COMPA_vect) { frame(3); }
 ISR(TIMER0_COMP_vect) { sink++; }
 int main(void)
@@ -159,8 +175,12 @@ def built(tmp_path_factory):
     (folder / "p.c").write_text(SOURCE)
 
     def build(*flags):
-        subprocess.run(["avr-gcc", "-mmcu=atmega128", "-Os", "-gdwarf-2", *flags, "p.c", "-o", "p.elf"], cwd=folder, check=True)
-        subprocess.run(["avr-objcopy", "-j", ".text", "-j", ".data", "-O", "ihex", "p.elf", "p.hex"], cwd=folder, check=True)
+        subprocess.run(
+            ["avr-gcc", "-mmcu=atmega128", "-Os", "-gdwarf-2", *flags, "p.c", "-o", "p.elf"], cwd=folder, check=True
+        )
+        subprocess.run(
+            ["avr-objcopy", "-j", ".text", "-j", ".data", "-O", "ihex", "p.elf", "p.hex"], cwd=folder, check=True
+        )
         return folder / "p.elf"
 
     return build
@@ -189,7 +209,10 @@ def test_variables_of_a_program(built):
 
     elf = built()
     node = State.of_text(run(elf, "save", scenario_of(elf, 2_000).name, "1"), "s").nodes[0]
-    lines = {line.split(" = ")[0].split()[-1]: line.split(" = ")[1] for line in View(Program(str(elf))).global_lines(node, ["*"])}
+    lines = {
+        line.split(" = ")[0].split()[-1]: line.split(" = ")[1]
+        for line in View(Program(str(elf))).global_lines(node, ["*"])
+    }
     items = r"\{kind 7, value -300, next 0\}, \{kind 9, value 1234, next 0x\w{4} &items\[0\]\.kind\}"
     assert re.fullmatch(rf"\{{{items}\}}", lines["items"])
     assert lines["greeting"] == '"ok\\n"'
@@ -207,8 +230,8 @@ PHASES = 40
 
 
 def stack_of(trace, first):
-    """The return addresses on the stack at the end of a trace that begins in cycle `first`, the inner one first; those that
-    were pushed before are not known."""
+    """The return addresses on the stack at the end of a trace that begins in cycle `first`, the inner one first; those
+    that were pushed before are not known."""
     stack = []
     rows = [line.split(" ", 3) for line in trace.splitlines()]
     rows = [row for row in rows if row[2] in ("instr", "enter") and int(row[0]) >= first]
@@ -226,7 +249,9 @@ def stack_of(trace, first):
 
 @needs_program
 @needs_compiler
-@pytest.mark.parametrize("flags, least", [([], 32), (["-O0"], 32), (["-mcall-prologues"], 20)], ids=["-Os", "-O0", "-mcall-prologues"])
+@pytest.mark.parametrize(
+    "flags, least", [([], 32), (["-O0"], 32), (["-mcall-prologues"], 20)], ids=["-Os", "-O0", "-mcall-prologues"]
+)
 def test_call_chains_are_those_of_the_trace(built, flags, least):
     """At the end of the first epoch, for many phases of the timers: no function is wrong, and most chains are whole."""
     from avrora_tools.inspection import View
@@ -242,7 +267,9 @@ def test_call_chains_are_those_of_the_trace(built, flags, least):
         chain = unwinder.chain(State.of_text(state, "s").nodes[0])
         found = [frame.word for frame in chain.frames[1:]]
         both = min(len(found), len(wanted))
-        assert found[:both] == wanted[:both], f"{at}: {[f'{word:04X}' for word in found]}, {[f'{word:04X}' for word in wanted]}"
+        assert (
+            found[:both] == wanted[:both]
+        ), f"{at}: {[f'{word:04X}' for word in found]}, {[f'{word:04X}' for word in wanted]}"
         whole += len(found) >= len(wanted) and not chain.end
         depths.add(len(found))
     assert whole >= least and max(depths) >= 2
@@ -257,9 +284,13 @@ def test_the_tool_shows_them(built):
     words = ("inspect", "-s", str(elf.with_name("p.toml")), "-e", str(elf))
     status, out, err = run_tool(*words, "-g", "state", "-g", "*.calls", str(state))
     assert (status, err) == (0, "")
-    assert re.search(r"^  01\w\w state state = BUSY$", out, re.M) or re.search(r"^  01\w\w enum state = BUSY$", out, re.M)
+    assert re.search(r"^  01\w\w state state = BUSY$", out, re.M) or re.search(
+        r"^  01\w\w enum state = BUSY$", out, re.M
+    )
     assert re.search(r"^  01\w\w uint8_t outer\.calls = \d+$", out, re.M)
-    assert re.search(r"^  stack low  reached 10\w\w at least; [\d,]+ bytes left above the variables, which end at 01\w\w$", out, re.M)
+    assert re.search(
+        r"^  stack low  reached 10\w\w at least; [\d,]+ bytes left above the variables, which end at 01\w\w$", out, re.M
+    )
     assert run_tool("inspect", "-g", "state", str(state))[0] == 2  # no program
     assert run_tool("inspect", "-e", str(elf), "-g", "stat", str(state))[0] == 2  # no such variable
 
@@ -287,7 +318,8 @@ def test_a_chain_goes_on_behind_calls_that_do_not_return(tmp_path, flag):
 DEEP = """
 #include <stdint.h>
 volatile uint8_t depth, first[%d], big[%d];
-void __attribute__((noinline)) down(uint8_t n) { depth = n; if (n) down(n - 1); else for (;;) depth++; asm volatile(""); }
+void __attribute__((noinline)) down(uint8_t n) { depth = n; if (n) down(n - 1); else for (;;) depth++;
+  asm volatile(""); }
 int main(void) { first[0] = 1; down(%d); for (;;); }
 """
 
@@ -305,7 +337,9 @@ def deep(tmp_path, first, big, depth, flag="-O0"):
 @needs_compiler
 def test_equal_lines_of_a_chain_are_one(tmp_path):
     out, _ = deep(tmp_path, 1, 1, 44)
-    assert re.search(r"^  called by  [0-9A-F]{4} down\+\S+ deep.c:4, 44 times\n  called by  [0-9A-F]{4} main\+", out, re.M)
+    assert re.search(
+        r"^  called by  [0-9A-F]{4} down\+\S+ deep.c:4, 44 times\n  called by  [0-9A-F]{4} main\+", out, re.M
+    )
 
 
 @needs_program
@@ -313,7 +347,9 @@ def test_equal_lines_of_a_chain_are_one(tmp_path):
 def test_a_stack_within_the_variables_is_an_overflow(tmp_path):
     out, node = deep(tmp_path, 100, 3_700, 200)
     end = 0x100 + 1 + 100 + 3_700
-    told = re.search(r"^  stack      OVERFLOW: SP lies in `big`, ([\d,]+) bytes below the end of the variables, (....)$", out, re.M)
+    told = re.search(
+        r"^  stack      OVERFLOW: SP lies in `big`, ([\d,]+) bytes below the end of the variables, (....)$", out, re.M
+    )
     assert told and int(told[1].replace(",", "")) == end - node["SP"] - 1 and int(told[2], 16) == end
     assert "bytes left above" not in out and "nothing is left above them" in out
 
@@ -329,7 +365,9 @@ def test_a_program_that_is_not_that_of_the_state_is_refused_or_warned_of(tmp_pat
     (tmp_path / "other.c").write_text("int main(void) { for (;;); }")
     other = compiled(tmp_path / "other.c", tmp_path, "-Os")
     status, out, err = run_tool("inspect", "-e", str(other), state)
-    assert (status, out) == (2, "") and re.search(r"another program than that of node 0 in .*, where it has no instruction", err)
+    assert (status, out) == (2, "") and re.search(
+        r"another program than that of node 0 in .*, where it has no instruction", err
+    )
 
 
 @needs_program
@@ -337,7 +375,8 @@ def test_a_program_that_is_not_that_of_the_state_is_refused_or_warned_of(tmp_pat
 def test_statics_of_inlined_functions_have_the_name_of_theirs(tmp_path):
     (tmp_path / "inlined.c").write_text(
         "#include <stdint.h>\nvolatile uint8_t sink;\n"
-        "static inline __attribute__((always_inline)) uint8_t next(void) { static uint8_t count = 7; return ++count; }\n"
+        "static inline __attribute__((always_inline)) uint8_t next(void) { static uint8_t count = 7; return ++count; "
+        "}\n"
         "int main(void) { sink = next(); sink = next(); for (;;); }\n"
     )
     elf = compiled(tmp_path / "inlined.c", tmp_path, "-Os")

@@ -1,4 +1,5 @@
-"""Classes of arrivals, and the flag I, by rows that were written by hand after the instruction set manual and docs/MACHINE.md."""
+"""Classes of arrivals, and the flag I, by rows that were written by hand after the instruction set manual and
+docs/MACHINE.md."""
 import pytest
 
 from avrora_tools.sweeping.arrivals import Start, Watch, classes
@@ -52,7 +53,15 @@ def test_with_interrupts_on_each_boundary_is_a_point():
 def test_with_interrupts_off_nothing_is_a_point_but_the_port_and_pointers():
     off = Start(0, True)
     assert found(CODE, 9, 14, off) == [(9, 14, None, None, None)]
-    for text in ("in r24, 0x0C", "out 0x0A, r24", "sbis 0x0B, 7", "lds r24, 0x002B", "sts 0x0095, r24", "ld r24, X", "std Z+1, r24"):
+    for text in (
+        "in r24, 0x0C",
+        "out 0x0A, r24",
+        "sbis 0x0B, 7",
+        "lds r24, 0x002B",
+        "sts 0x0095, r24",
+        "ld r24, X",
+        "std Z+1, r24",
+    ):
         assert found(CODE.replace("13 0053 rjmp .-6", f"13 0053 {text}"), 9, 14, off)[0] == (9, 12, 13, 0x53, False)
     for text in ("in r24, 0x0D", "sts 0x012B, r24", "lds r24, 0x0C2A", "sbi 0x1B, 2", "ldi r24, 0x0B"):
         assert found(CODE.replace("13 0053 rjmp .-6", f"13 0053 {text}"), 9, 14, off) == [(9, 14, None, None, None)]
@@ -171,7 +180,9 @@ def test_an_entry_with_a_higher_vector_would_wait():
 
 
 def test_a_class_knows_the_handler_that_is_interrupted():
-    text = HANDLER.replace("18 0060 nop", "18 0060 bset 7").replace("19 0061 reti", "19 0061 nop\n20 0062 nop\n21 0063 reti")
+    text = HANDLER.replace("18 0060 nop", "18 0060 bset 7").replace(
+        "19 0061 reti", "19 0061 nop\n20 0062 nop\n21 0063 reti"
+    )
     text = text.replace("23 0051", "25 0051").replace("24 0052", "26 0052")
     found_classes = classes(rows(text), Start(0), 15, 20, 100).classes
     assert [(one.point.cycle, one.point.place.handlers) for one in found_classes] == [(20, (0x18,)), (21, (0x18,))]
@@ -195,7 +206,9 @@ def test_a_sleep_with_interrupts_off_is_never_ended():
 
 
 def test_a_sleep_to_the_end_of_the_rows():
-    assert found("10 0050 nop\n11 0051 sleep", 20, 23, Start(0), 100) == [(x, x, x + 1, 0x52, True) for x in range(20, 24)]
+    assert found("10 0050 nop\n11 0051 sleep", 20, 23, Start(0), 100) == [
+        (x, x, x + 1, 0x52, True) for x in range(20, 24)
+    ]
 
 
 def test_a_span_that_begins_in_a_sleep_of_the_state():
@@ -217,7 +230,9 @@ def test_a_contradiction_makes_each_cycle_a_class():
     with pytest.raises(Contradiction):
         list(Watch(Start(0)).points(rows(text), 200))
     doubt = classes(rows(text), Start(0), 10, 15, 200).doubt
-    assert doubt.startswith("node 0 enters TIMER1_COMPA_vect in cycle 13, where its flag I is clear by all that the rows tell")
+    assert doubt.startswith(
+        "node 0 enters TIMER1_COMPA_vect in cycle 13, where its flag I is clear by all that the rows tell"
+    )
     assert [one[:3] for one in found(text, 10, 15)] == [(x, x, x + 1) for x in range(10, 16)]
 
 
@@ -246,9 +261,21 @@ class AtSp(dict):
     "listing, doubt",
     [
         (["0000 ldi r28, 0xFF", "0001 ldi r29, 0x10", "0002 out 0x3E, r29", "0003 out 0x3D, r28"], None),
-        (["0000 ldi r28, 0x5F", "0001 eor r1, r1", "0002 out 0x3E, r1", "0003 out 0x3D, r28"], "high byte becomes 0 at 0002"),
+        (
+            ["0000 ldi r28, 0x5F", "0001 eor r1, r1", "0002 out 0x3E, r1", "0003 out 0x3D, r28"],
+            "high byte becomes 0 at 0002",
+        ),
         (["0000 ldi r28, 0x5F", "0001 out 0x3D, r28", "0002 nop"], "low byte alone is written, at 0001"),
-        (["0000 in r28, 0x3D", "0001 in r29, 0x3E", "0002 sbiw r28, 0x04", "0003 out 0x3E, r29", "0004 out 0x3D, r28"], None),
+        (
+            [
+                "0000 in r28, 0x3D",
+                "0001 in r29, 0x3E",
+                "0002 sbiw r28, 0x04",
+                "0003 out 0x3E, r29",
+                "0004 out 0x3D, r28",
+            ],
+            None,
+        ),
         (["0000 ldi r29, 0x00", "0001 lds r29, 0x0100", "0002 out 0x3E, r29", "0004 out 0x3D, r28"], None),
     ],
 )

@@ -41,7 +41,9 @@ def test_a_guard_that_writes_back_sreg_by_a_pointer_hides_no_torn_read(folder):
     status, out, err = sweep(folder, "torn_guard")
     assert (status, err) == (1, "")
     assert re.search(r"^1\. 8 of 8 arrivals while .*: node 0 wrote '!k', not 'k'$", out, re.M)
-    assert re.search(r"^interrupts are off at the store through a pointer at [0-9A-F]{4}, which may write SREG", out, re.M)
+    assert re.search(
+        r"^interrupts are off at the store through a pointer at [0-9A-F]{4}, which may write SREG", out, re.M
+    )
 
 
 @pytest.mark.parametrize("name", ["torn_guard", "sreg_copy"])
@@ -117,7 +119,10 @@ def test_a_never_without_room_is_the_verdict_of_its_run(folder):
     assert (status, err) == (1, "")
     failing = int(re.search(r"^(\d+) of \d+ classes fail", out, re.M)[1])
     assert 4 < failing < 126
-    assert "line 1: this row was never to come" in out and "gap.expect, line 3: between the rows that were found about it" in out
+    assert (
+        "line 1: this row was never to come" in out
+        and "gap.expect, line 3: between the rows that were found about it" in out
+    )
 
 
 def left_over():
@@ -147,5 +152,8 @@ def test_what_ends_a_sweep_is_told_and_leaves_no_folder(folder):
     before = left_over()
     for _ in range(5):
         status, _, err = sweep(folder, "torn_guard", "--check", str(folder / "late.py"))
-        assert (status, err) == (2, "avrora-tools sweep: check() of the predicate: ZeroDivisionError: division by zero\n")
+        assert (status, err) == (
+            2,
+            "avrora-tools sweep: check() of the predicate: ZeroDivisionError: division by zero\n",
+        )
     assert left_over() <= before

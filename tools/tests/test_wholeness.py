@@ -31,19 +31,35 @@ def rows(*texts):
     [
         # an instruction takes at most four cycles, an entry eight, a sleep any
         (("10 0 instr 0000 ret", "14 0 instr 0001 nop"), None, None),
-        (("10 0 instr 0000 ret", "15 0 instr 0001 nop"), None, "line 2: rows are missing: node 0 executed something between"),
+        (
+            ("10 0 instr 0000 ret", "15 0 instr 0001 nop"),
+            None,
+            "line 2: rows are missing: node 0 executed something between",
+        ),
         (("10 0 enter 001E 0001", "18 0 instr 001E nop"), None, None),
         (("10 0 enter 001E 0001", "19 0 instr 001E nop"), None, "line 2: rows are missing: node 0"),
         (("10 0 instr 0000 sleep", "900 0 enter 001E 0001"), None, None),
         # the first row of a node that does not sleep comes at once
         (("10 0 instr 0000 nop", "11 0 instr 0001 sleep", "17 1 instr 0000 sleep"), None, None),
-        (("10 0 instr 0000 nop", "11 0 instr 0001 sleep", "18 1 instr 0000 sleep"), None, "line 3: rows are missing: node 1"),
+        (
+            ("10 0 instr 0000 nop", "11 0 instr 0001 sleep", "18 1 instr 0000 sleep"),
+            None,
+            "line 3: rows are missing: node 1",
+        ),
         (("10 0 instr 0000 nop", "11 0 instr 0001 sleep", "18 1 enter 001E 0001"), None, None),
-        (("10 0 instr 0000 sleep",), (2, 20), "line 1: rows are missing: node 0 executed something between cycle 2 and this"),
+        (
+            ("10 0 instr 0000 sleep",),
+            (2, 20),
+            "line 1: rows are missing: node 0 executed something between cycle 2 and this",
+        ),
         (("10 0 instr 0000 sleep",), (3, 20), None),
         # a window goes on to its end, and a stop ends it for a node
         (("10 0 instr 0000 nop",), (5, 14), None),
-        (("10 0 instr 0000 nop",), (5, 15), "t: rows are missing: the window goes on to cycle 15, and the rows of node 0 end"),
+        (
+            ("10 0 instr 0000 nop",),
+            (5, 15),
+            "t: rows are missing: the window goes on to cycle 15, and the rows of node 0 end",
+        ),
         (("10 0 instr 0000 nop", "11 0 stop 0001 break"), (5, 90), None),
         (("90 0 stop 0001 break",), (5, 20), None),
         # at reset each node executes something
@@ -62,14 +78,16 @@ def rows(*texts):
     ],
 )
 def test_what_is_missing(texts, window, why):
-    text = rows(*texts).replace("90 0 stop 0001 break\n9000 0 end 9 running", "90 0 stop 0001 break\n9000 0 end 9 stopped")
+    text = rows(*texts).replace(
+        "90 0 stop 0001 break\n9000 0 end 9 running", "90 0 stop 0001 break\n9000 0 end 9 stopped"
+    )
     text = text.replace("11 0 stop 0001 break\n9000 0 end 9 running", "11 0 stop 0001 break\n9000 0 end 9 stopped")
     said = read(text, window)
     assert said is None if why is None else why in (said or "")
 
 
 def test_a_clash_of_two_others():
-    text = "100 0 sent 72\n100 1 sent 01\n300 2 heard 2 73 0\n9000 0 end 9 running\n9000 1 end 9 running\n9000 2 end 9 running\n"
+    text = "100 0 sent 72\n100 1 sent 01\n300 2 heard 2 73 0\n" + END + "9000 2 end 9 running\n"
     assert read(text) is None
 
 
@@ -97,7 +115,10 @@ def test_links_tells_where_no_row_shows_that_the_front_is_missing():
     """These last rows are those of a run whose nodes slept through the window, too."""
     with scratch("t.trace", tail("relay", 59)) as trace:
         status, _, err = run_tool("links", f"{DATA}/relay.toml", trace)
-    assert status == 0 and "no row of the window [3130, 3165] and none before it: all nodes sleep through it, or the trace " in err
+    assert (
+        status == 0
+        and "no row of the window [3130, 3165] and none before it: all nodes sleep through it, or the trace " in err
+    )
 
 
 def test_links_tells_that_a_trace_may_be_that_of_resume():
