@@ -10,9 +10,10 @@ from typing import NamedTuple
 
 from avrora_tools import cli, files
 from avrora_tools.errors import BadInput
-from avrora_tools.events import KINDS, End, Stop
-from avrora_tools.fields import NUMBER, Span, cover, span_of, whole
-from avrora_tools.patterns import LIMITS, Pattern
+from avrora_tools.events import KINDS, End, Sent, Stop
+from avrora_tools.fields import EVERY, NUMBER, Span, cover, joined, span_of, whole
+from avrora_tools.patterns import ANY_ROW, LIMITS, Pattern
+from avrora_tools.scenarios import BYTE_TIME
 
 COMPARISONS: dict[str, Callable[[int, int], bool]] = {
     "==": operator.eq,
@@ -180,8 +181,9 @@ def refuse_certain(name: str, statements: list[Statement], only: Only) -> None:
     for statement in statements:
         why = None
         if isinstance(statement, Expected):
-            why = why_out_of_order(statement, above) or why_certain(statement.pattern, above, only)
-            why = None if why and statement.most is not None and not why.startswith("no such") else why
+            why = why_out_of_order(statement, above)
+            if not why and (statement.most is None or statement.pattern.covers(ANY_ROW)):
+                why = why_certain(statement.pattern, above, only)
             above.append(statement)
         elif isinstance(statement, Never):
             is_last = statement.span is None and not any(
@@ -227,11 +229,10 @@ def why_count_is_certain(count: Count, only: Only, nodes: int | None) -> str | N
     known."""
     looked_at = (only.nodes or frozenset(range(cli.MAX_NODES))) & frozenset(range(nodes or cli.MAX_NODES))
     seen_kinds = count.pattern.kinds & (only.kinds or count.pattern.kinds)
-    least, most = 0, None
+    least = 0
     if End.kind in seen_kinds and (not count.span or cover([count.span], [LIMITS])):
         least = len(count.pattern.certain_nodes() & looked_at & frozenset(range(nodes or 1)))
-    if seen_kinds <= {End.kind, Stop.kind}:  # of each a node has one at most
-        most = len(seen_kinds) * len(count.pattern.nodes & looked_at)
+    most = most_rows(count, seen_kinds, len(count.pattern.nodes & looked_at))
     outcomes = {
         COMPARISONS[count.comparison](number, count.wanted)
         for number in {
@@ -247,6 +248,20 @@ def why_count_is_certain(count: Count, only: Only, nodes: int | None) -> str | N
         return None
     what = f"at least {least}" if most is None else f"{least}" if least == most else f"{least} to {most}"
     return f"each trace has {what} such rows, so it {'cannot fail' if True in outcomes else 'cannot be met'}"
+
+
+def most_rows(count: Count, kinds: frozenset[str], nodes: int) -> int | None:
+    """How many rows of some kinds a count can have at most; None where there is no end of them. A node stops and ends
+    once, and has one row of a rank in a cycle."""
+    if kinds <= {End.kind, Stop.kind}:
+        return len(kinds) * nodes
+    cycles = 0
+    for span in joined([both for one in count.pattern.cycles if (both := one.both(count.span or EVERY))]):
+        if span.last is None:
+            return None
+        cycles += span.last - span.first + 1
+    ranks = {KINDS[kind].rank: -(-cycles // BYTE_TIME.start) if kind == Sent.kind else cycles for kind in kinds}
+    return nodes * sum(ranks.values())
 
 
 def without_comment(line: str) -> str:

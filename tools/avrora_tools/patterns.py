@@ -275,4 +275,4 @@ class Pattern:
         return ""
 
 
-ANY_END = Pattern("* * end *")
+ANY_END, ANY_ROW = Pattern("* * end *"), Pattern("*")
