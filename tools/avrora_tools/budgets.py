@@ -7,24 +7,30 @@ from dataclasses import dataclass, fields
 from avrora_tools import toml
 from avrora_tools.cli import CLOCK, node_set
 from avrora_tools.errors import BadInput
+from avrora_tools.listening import Radio
 from avrora_tools.profiles import ASLEEP_CHARGE, BUSY_CHARGE, SEND_CHARGE, Spent
 
 SECONDS_AN_HOUR, HOURS_A_DAY = 3_600, 24
 
+OFF = "off"  # the current that a table may leave out
+
 
 @dataclass(frozen=True)
 class Currents:
-    """Milliamperes: of the processor awake and asleep, of the radio while a byte is on the air and else."""
+    """Milliamperes: of the processor awake and asleep, of the radio while a byte is on the air, while it is else
+    selected, and while it is not."""
 
     awake: float
     asleep: float
     sending: float
     listening: float
+    off: float = 0.0
 
 
 @dataclass(frozen=True)
 class Table:
-    """The currents of all nodes, of some by their numbers, and the clock in cycles a second; a battery in mA h, if any."""
+    """The currents of all nodes, of some by their numbers, and the clock in cycles a second; a battery in mA h, if
+    any."""
 
     common: Currents
     by_node: Mapping[int, Currents]
@@ -37,18 +43,20 @@ class Table:
 
 @dataclass(frozen=True)
 class Account:
-    """The charge of a node over a span, in mA s. What the processor drew in cycles without an owner is not known: `unknown`
-    is the difference between awake and asleep all the time, and `asleep` has the lower of the two."""
+    """The charge of a node over a span, in mA s. What the processor drew in cycles without an owner is not known:
+    `unknown` has the difference between awake and asleep all the time, and `asleep` the lower of the two; so of cycles
+    in which it is not known whether the radio was selected."""
 
     awake: float
     asleep: float
     sending: float
     listening: float
+    off: float
     unknown: float
 
     @property
     def least(self) -> float:
-        return self.awake + self.asleep + self.sending + self.listening
+        return self.awake + self.asleep + self.sending + self.listening + self.off
 
     @property
     def most(self) -> float:
@@ -60,19 +68,36 @@ def sent(node: Spent) -> int:
     return (node.charge - BUSY_CHARGE * node.busy() - ASLEEP_CHARGE * node.asleep) // SEND_CHARGE
 
 
-def account(node: Spent, currents: Currents, byte_time: int, hz: float) -> Account:
+def account(node: Spent, currents: Currents, byte_time: int, hz: float, radio: Radio) -> Account:
     """The charge of a node. From its stop on a node draws nothing here."""
     seconds = 1 / hz
-    running = node.total() - node.stopped
-    on_air = min(sent(node) * byte_time, running)
+    on_air, listening, off = shares(node, byte_time, radio)
     lower, higher = sorted((currents.awake, currents.asleep))
+    least, most = sorted((currents.off, currents.listening))
     return Account(
         node.busy() * currents.awake * seconds,
         (node.asleep * currents.asleep + node.lead * lower) * seconds,
         on_air * currents.sending * seconds,
-        (running - on_air) * currents.listening * seconds,
-        node.lead * (higher - lower) * seconds,
+        listening * currents.listening * seconds,
+        (off * currents.off + radio.unknown * least) * seconds,
+        (node.lead * (higher - lower) + radio.unknown * (most - least)) * seconds,
     )
+
+
+def shares(node: Spent, byte_time: int, radio: Radio) -> tuple[int, int, int]:
+    """In how many cycles a node's radio sent, was else selected, and was not; of the rest it is not known. A byte is on
+    its way also where the radio is no longer selected."""
+    running = node.total() - node.stopped
+    on_air = min(sent(node) * byte_time, running)
+    listening = max(0, radio.selected - on_air)
+    return on_air, listening, max(0, running - on_air - listening - radio.unknown)
+
+
+def listening_cycle(node: Spent, byte_time: int, radio: Radio) -> tuple[float, float]:
+    """Which part of its time a node's radio listened: at least and at most."""
+    running = node.total() - node.stopped
+    listening = shares(node, byte_time, radio)[1]
+    return (listening / running, (listening + radio.unknown) / running) if running else (0.0, 0.0)
 
 
 def duty_cycle(node: Spent) -> tuple[float, float]:
@@ -95,7 +120,7 @@ def table_of(text: str, name: str) -> Table:
     names = [part.name for part in fields(Currents)]
     if unknown := set(document) - {*names, "hz", "battery", "node"}:
         raise BadInput(f"{name}: a table of currents has no key {sorted(unknown)[0]}")
-    common = Currents(*(current(document, key, name) for key in names))
+    common = Currents(*(current(document, key, name) for key in names if key != OFF or key in document))
     by_node: dict[int, Currents] = {}
     tables = document.get("node", {})
     if not isinstance(tables, dict) or not all(isinstance(table, dict) for table in tables.values()):
@@ -122,7 +147,9 @@ def nodes_of(key: str, name: str) -> set[int]:
 def current(table: Mapping[str, object], key: str, name: str) -> float:
     value = table.get(key)
     if isinstance(value, bool) or not isinstance(value, (int, float)) or not 0 <= value < 1e12:
-        raise BadInput(f"{name}: {key} is to be a number of at least 0" + ("" if key in table else ", and is not there"))
+        raise BadInput(
+            f"{name}: {key} is to be a number of at least 0" + ("" if key in table else ", and is not there")
+        )
     return float(value)
 
 

@@ -1,5 +1,5 @@
-"""What differs between two traces, node by node: the first row that is not the same, and of the rows behind it, kind by kind,
-what is the same but at another time, what is gone and what is new.
+"""What differs between two traces, node by node: the first row that is not the same, and of the rows behind it, kind by
+kind, what is the same but at another time, what is gone and what is new.
 
 Both traces are read once, side by side. What is kept of them is what one is ahead of the other.
 """
@@ -163,8 +163,8 @@ def is_same(one: Row, two: Row, with_cycles: bool) -> bool:
 
 
 def differences(first: Iterable[Row], second: Iterable[Row], with_cycles: bool = True) -> dict[int, NodeDifference]:
-    """What differs between two traces, by node; a node whose rows are the same is there too. Without cycles rows that only
-    come in other cycles are the same, as long as their order within the node is."""
+    """What differs between two traces, by node; a node whose rows are the same is there too. Without cycles rows that
+    only come in other cycles are the same, as long as their order within the node is."""
     nodes: dict[int, NodeDifference] = defaultdict(NodeDifference)
     for side, row in side_by_side(first, second):
         nodes[row.node].feed(side, row, with_cycles)

@@ -97,6 +97,20 @@ class Drawing:
         gap = min(DEFAULT_TIME, self.gap or DEFAULT_TIME)
         self.byte_time = trace.scenario.byte_time if trace.scenario else gap
 
+    def closed(self, hearer: int) -> list[tuple[int, int, int]]:
+        """The spans of what is drawn in which a link to a node is not open: the first cycle, the one behind the last,
+        and the sender."""
+        found = []
+        for link in self.scenario.links if self.scenario else ():
+            if link.hearer != hearer or link.spans is None:
+                continue
+            begun = self.first
+            for first, end in [*link.spans, (self.last_cycle, self.last_cycle)]:
+                if begun < min(first, self.last_cycle):
+                    found.append((begun, min(first, self.last_cycle), link.sender))
+                begun = max(begun, end)
+        return sorted(found)
+
     def read(self, cycle: int, node: int, event: Event) -> None:
         on_air = self.hearing.row(cycle, node, event) if self.hearing else ()
         if isinstance(event, Sent):
@@ -186,7 +200,8 @@ def flat(events: Iterable[Drawn], kind: str) -> list[Any]:
 
 
 class Thinning(NamedTuple):
-    """Which events are left out: those of the kinds that lie less than `step` cycles behind the last one that is kept."""
+    """Which events are left out: those of the kinds that lie less than `step` cycles behind the last one that is
+    kept."""
 
     kinds: tuple[str, ...] = ()
     step: int = 0
@@ -201,7 +216,15 @@ class Thinning(NamedTuple):
         return f"thinned to one in {self.step:,} cycles: {words}" if self.step else ""
 
 
-WORDS = {"quiet": "samples of nothing", "enter": "interrupts", "asleep": "sleep", "heard": "heard", "serial": "USART0", "sent": "sent", "clash": "clashes"}
+WORDS = {
+    "quiet": "samples of nothing",
+    "enter": "interrupts",
+    "asleep": "sleep",
+    "heard": "heard",
+    "serial": "USART0",
+    "sent": "sent",
+    "clash": "clashes",
+}
 
 # In which order kinds are thinned: clashes last, stops never.
 THINNED = (

@@ -2,7 +2,7 @@
 import collections
 from collections.abc import Sequence
 
-from avrora_tools import traces
+from avrora_tools import states, traces
 from avrora_tools.errors import BadInput
 from avrora_tools.events import NOTHING, Event, Heard, Sent, Stop
 from avrora_tools.scenarios import Air, OnAir, Scenario, answer
@@ -37,7 +37,8 @@ class Hearing:
         if cycle >= self.known_from and answer(on_air, cycle) != (event.status, event.byte, event.age):
             status, byte, age = answer(on_air, cycle)
             raise BadInput(
-                f"{self.name}: not the trace of this scenario: in cycle {cycle} node {node} heard {event.rest}, and its "
+                f"{self.name}: not the trace of this scenario: in cycle {cycle} node {node} heard {event.rest}, and "
+                "its "
                 f"sends give {status} {byte:02X} {age}"
             )
         return on_air
@@ -97,7 +98,7 @@ class Samples:
     def refuse_rest(self, trace: traces.Trace, cycle: int) -> None:
         """Raises BadInput where what a sample heard may have been sent before the trace begins: where it may be that of
         `resume`, from a state that is not named, of an epoch's end before its first row."""
-        epoch = (trace.first_row or 0) // traces.EPOCH * traces.EPOCH
+        epoch = (trace.first_row or 0) // states.EPOCH * states.EPOCH
         if epoch and not self.has_state and epoch > cycle - self.life:
             raise BadInput(
                 f"{trace.name}: in cycle {cycle} a sample hears what no row sent, and the first row is of cycle "

@@ -1,5 +1,5 @@
-"""Instructions: the texts that the simulator prints for them (docs/FORMATS.md, "Instruction texts"), from their words and by
-their form. The encodings are those of the AVR Instruction Set Manual."""
+"""Instructions: the texts that the simulator prints for them (docs/FORMATS.md, "Instruction texts"), from their words
+and by their form. The encodings are those of the AVR Instruction Set Manual."""
 import re
 from collections.abc import Callable
 from functools import lru_cache
@@ -7,8 +7,11 @@ from typing import NamedTuple
 
 WORDS = 0x10000  # of program memory
 
-SLEEP = "sleep"
+SLEEP, RETI = "sleep", "reti"
 CALLS = ("call", "rcall", "icall")
+
+# Instructions whose first operand is a register that they leave as it is.
+KEEPS_FIRST = frozenset("cp cpc cpi cpse sbrc sbrs bst push".split())
 
 
 class Operand(NamedTuple):
@@ -221,6 +224,14 @@ class Encoding:
             "0x[0-9A-F]{4}" if part == SECOND else OPERANDS[part].texts if part in OPERANDS else re.escape(part)
             for part in parts
         )
+
+    def texts_of(self, operand: str) -> list[str]:
+        """All texts of an operand, which is of one field or none."""
+        letters = [letter for letter in operand if letter in self.fields]
+        if not letters:
+            return [operand]
+        count = 1 << len(self.fields[letters[0]])
+        return [operand.replace(letters[0], OPERANDS[letters[0]].shown(bits)) for bits in range(count)]
 
     def texts(self) -> str:
         """A regular expression of all its texts."""

@@ -48,7 +48,8 @@ def usage() -> str:
             "  --version    tells which version this is",
             f"  --traceback  tells where in the tool an error came up; as {TRACEBACK_VARIABLE}=1 does",
             "",
-            "Exit status: 0 all is well, 1 a check is not met, 2 bad input or bad words, 3 the tool could not do its work.",
+            "Exit status: 0 all is well, 1 a check is not met, 2 bad input or bad words, 3 the tool could not do its "
+            "work.",
         ]
     )
 
@@ -122,7 +123,9 @@ def ended_by(fault: BaseException) -> int:
         say("out of memory")
     else:
         first = (str(fault).splitlines() or [""])[0]
-        say(f"a fault of this tool: {type(fault).__name__}: {printable(first)}; --traceback before its name tells where")
+        say(
+            f"a fault of this tool: {type(fault).__name__}: {printable(first)}; --traceback before its name tells where"
+        )
     return Status.CANNOT_WORK
 
 

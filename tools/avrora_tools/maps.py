@@ -1,4 +1,5 @@
-"""The map of a network: where its nodes are drawn, and how well each link does, as SVG; and what is odd about who hears whom."""
+"""The map of a network: where its nodes are drawn, and how well each link does, as SVG; and what is odd about who hears
+whom."""
 import html
 import math
 from collections.abc import Callable, Iterable, Mapping, Sequence
@@ -45,8 +46,8 @@ def parts(count: int, links: Iterable[Ends]) -> list[list[int]]:
 
 
 def deaf_leaves(count: int, links: Iterable[Ends]) -> tuple[int, list[int]] | None:
-    """The middle of a star, and its leaves, where no leaf hears another: three nodes or more, of which all links lead to or
-    from one."""
+    """The middle of a star, and its leaves, where no leaf hears another: three nodes or more, of which all links lead
+    to or from one."""
     ends = set(links)
     if count < 3 or not ends:
         return None
@@ -66,7 +67,8 @@ def oddities(count: int, links: Sequence[Ends]) -> list[str]:
         found.append(f"{len(groups)} parts that no link joins: {'; '.join(numbers(part) for part in groups)}")
     if star := deaf_leaves(count, links):
         found.append(
-            f"{listed(star[1])} do not hear each other, and clash at node {star[0]} unless they send at times that lie apart"
+            f"{listed(star[1])} do not hear each other, and clash at node {star[0]} unless they send at times that "
+            "lie apart"
         )
     return found
 
@@ -110,8 +112,8 @@ def places_of(text: str, name: str, count: int) -> list[Point]:
 
 
 def shape_places(shape: str, count: int, seed: int) -> list[Point]:
-    """Where the nodes of a shape of mknet lie: in rows, in a square as the seed draws them, on a line, or on a circle, in a
-    star about node 0."""
+    """Where the nodes of a shape of mknet lie: in rows, in a square as the seed draws them, on a line, or on a circle,
+    in a star about node 0."""
     name, _, value = shape.partition(":")
     if name in ("grid", "torus"):
         return [(float(node % int(value)), float(node // int(value))) for node in range(count)]
@@ -131,14 +133,18 @@ def places_text(places: Sequence[Point]) -> str:
 
 
 def is_coordinate(value: object) -> bool:
-    return isinstance(value, (int, float)) and not isinstance(value, bool) and math.isfinite(value) and abs(value) <= 1e9
+    return (
+        isinstance(value, (int, float)) and not isinstance(value, bool) and math.isfinite(value) and abs(value) <= 1e9
+    )
 
 
 def laid_out(count: int, links: Iterable[Ends]) -> list[Point]:
-    """Places for the nodes: linked ones draw each other near and all push each other away, from a circle on. The same network
-    always gets the same places."""
+    """Places for the nodes: linked ones draw each other near and all push each other away, from a circle on. The same
+    network always gets the same places."""
     pairs = sorted({(min(ends), max(ends)) for ends in links})
-    places = [(math.cos(2 * math.pi * k / count), math.sin(2 * math.pi * k / count) * (1 + 0.01 * k)) for k in range(count)]
+    places = [
+        (math.cos(2 * math.pi * k / count), math.sin(2 * math.pi * k / count) * (1 + 0.01 * k)) for k in range(count)
+    ]
     apart = 2 / math.sqrt(count)  # how far nodes would like to be
     for round_ in range(ROUNDS if count > 2 else 0):
         moves = [[0.0, 0.0] for _ in range(count)]
@@ -178,12 +184,13 @@ UNUSED, ALONE = "#b8b8b8", "#d11"
 
 @dataclass(frozen=True)
 class Quality:
-    """What became of the bytes that were sent while the link was open."""
+    """What became of the bytes that were sent, some of them while the link was closed."""
 
     sent: int
     clean: int
     clashed: int
     unheard: int
+    closed: int = 0
 
     @property
     def share(self) -> float | None:
@@ -201,7 +208,8 @@ def drawn(places: Sequence[Point], links: Mapping[Ends, Quality]) -> str:
     used = sorted({colour(quality.share) for quality in links.values()})
     markers = {one: f"tip{number}" for number, one in enumerate(used)}
     out = [
-        f'<svg xmlns="http://www.w3.org/2000/svg" viewBox="0 0 {SIZE} {SIZE + LEGEND}" width="{SIZE}" height="{SIZE + LEGEND}" '
+        f'<svg xmlns="http://www.w3.org/2000/svg" viewBox="0 0 {SIZE} {SIZE + LEGEND}" width="{SIZE}" '
+        f'height="{SIZE + LEGEND}" '
         'font-family="DejaVu Sans,sans-serif" font-size="11"><rect width="100%" height="100%" fill="#fff"/><defs>'
     ]
     for one, name in markers.items():
@@ -242,6 +250,7 @@ def link_shape(at: Sequence[Point], ends: Ends, quality: Quality, markers: Mappi
     dashes = ' stroke-dasharray="5 4"' if is_lone else ""
     share = "nothing sent" if quality.share is None else f"{100 * quality.share:.1f}% of {quality.sent:,} bytes clean"
     more = f", {quality.clashed:,} clashed, {quality.unheard:,} unheard" if quality.sent else ""
+    more += f", {quality.closed:,} while it was closed" if quality.closed else ""
     title = html.escape(f"{ends[0]} to {ends[1]}: {share}{more}{', one direction' if is_lone else ''}")
     return (
         f'<path d="M{start[0]:.1f} {start[1]:.1f}Q{bend_x:.1f} {bend_y:.1f} {end[0]:.1f} {end[1]:.1f}" fill="none" '

@@ -1,6 +1,8 @@
 """A trace as a picture: SVG for papers."""
 import html
 import re
+from collections.abc import Iterator
+from fractions import Fraction
 
 from avrora_tools import cli, drawings
 from avrora_tools.drawings import Drawing, Lane
@@ -11,17 +13,18 @@ STYLE = """.sent{fill:#3b6fb6}.heard{stroke:#1a8f3c;stroke-width:1.3}.clash{stro
 .quiet{stroke:#bbb;stroke-width:.7}
 .serial{fill:#a06a00}.asleep{fill:#dcdcec}.enter{stroke:#7a3fa0;stroke-width:.8}.stopped{fill:#e4e4e4}.stop{fill:#000}
 .grid{stroke:#e6e6e6}.line{stroke:#f0f0f0}.way{stroke:#d11;stroke-width:.6;opacity:.45}
-.hop{stroke:#1a8f3c;stroke-width:.5;opacity:.4}text{fill:#222}"""
+.hop{stroke:#1a8f3c;stroke-width:.5;opacity:.4}.closed{fill:#e0704f}text{fill:#222}"""
 
 # The colours of the classes.
 COLOURS = dict(re.findall(r"\.(\w+){(?:fill|stroke):([^;}]+)", STYLE))
 
 MAX_TITLED = 20_000  # events that each have a text of their own to hover
-MARGIN = 92  # left of the cycles, in pixels
+LEAST_MARGIN, MOST_MARGIN = 92, 260  # left of the cycles, in pixels
 RIGHT = 12
 TOP = 30
-BOTTOM = 36
-TICKS = 10
+BOTTOM, LEGEND_ROW = 36, 14
+MOST_TICKS = 10
+LETTER = 6.4  # at most, of the font of the picture
 
 
 class Picture:
@@ -32,8 +35,12 @@ class Picture:
         self.nodes = sorted(drawing.lanes)
         self.row = {node: number for number, node in enumerate(self.nodes)}
         self.step = 12 if len(self.nodes) > 32 else 18 if len(self.nodes) > 12 else 26
-        self.height = TOP + self.step * len(self.nodes) + BOTTOM
-        self.scale = (width - MARGIN - RIGHT) / max(1, drawing.last_cycle - drawing.first)
+        longest = max((len(drawing.name(node)) for node in self.nodes), default=0)
+        self.margin = int(min(MOST_MARGIN, max(LEAST_MARGIN, LETTER * longest + 8)))
+        self.legend = self.legend_rows()
+        self.height = TOP + self.step * len(self.nodes) + BOTTOM + LEGEND_ROW * (len(self.legend) - 1)
+        self.bottom = TOP + self.step * len(self.nodes)
+        self.scale = (width - self.margin - RIGHT) / max(1, drawing.last_cycle - drawing.first)
         self.count = sum(lane.count(*drawings.FIELDS) for lane in drawing.lanes.values())
         self.titled = self.count <= MAX_TITLED
         self.out: list[str] = []
@@ -51,21 +58,22 @@ class Picture:
         self.draw_legend()
         return "\n".join(self.out) + "\n</svg>\n"
 
-    def x(self, cycle: int) -> float:
+    def x(self, cycle: float) -> float:
         return round(
-            MARGIN + (min(max(cycle, self.drawing.first), self.drawing.last_cycle) - self.drawing.first) * self.scale, 2
+            self.margin
+            + (min(max(cycle, self.drawing.first), self.drawing.last_cycle) - self.drawing.first) * self.scale,
+            2,
         )
 
     def y(self, node: int) -> int:
         return TOP + self.row[node] * self.step
 
     def draw_grid(self) -> None:
-        step = tick_step((self.drawing.last_cycle - self.drawing.first) / TICKS)
-        for cycle in range(-(-self.drawing.first // step) * step, self.drawing.last_cycle, step):
-            label = f"{1000 * cycle / self.hz:.2f} ms" if self.hz else f"{cycle:,}"
+        first, last = self.drawing.first, self.drawing.last_cycle
+        for cycle, label in ticks(first, last, self.hz, self.width - self.margin - RIGHT):
             x = self.x(cycle)
             self.out.append(
-                f'<line class="grid" x1="{x}" x2="{x}" y1="{TOP - 6}" y2="{self.height - BOTTOM + 4}"/>'
+                f'<line class="grid" x1="{x}" x2="{x}" y1="{TOP - 6}" y2="{self.bottom + 4}"/>'
                 f'<text x="{x}" y="{TOP - 12}" text-anchor="middle">{label}</text>'
             )
         first, end = self.drawing.window
@@ -79,9 +87,9 @@ class Picture:
     def draw_lane(self, node: int) -> None:
         lane, y, high = self.drawing.lanes[node], self.y(node), self.step - 3
         self.out.append(
-            f'<text x="{MARGIN - 6}" y="{y + high / 2 + 3.5}" text-anchor="end">'
-            f"{html.escape(self.drawing.name(node))}</text>"
-            f'<line class="line" x1="{MARGIN}" x2="{self.width - RIGHT}" y1="{y + high + 1}" y2="{y + high + 1}"/>'
+            f'<text x="{self.margin - 6}" y="{y + high / 2 + 3.5}" text-anchor="end">'
+            f"{html.escape(shortened(self.drawing.name(node), int((self.margin - 8) / LETTER)))}</text>"
+            f'<line class="line" x1="{self.margin}" x2="{self.width - RIGHT}" y1="{y + high + 1}" y2="{y + high + 1}"/>'
         )
         for cycle, _ in lane.stop:
             self.out.append(
@@ -93,6 +101,13 @@ class Picture:
                 f'<rect class="asleep" x="{self.x(cycle)}" y="{y}" width="{max(.3, cycles * self.scale):.2f}" '
                 f'height="{high}"',
                 f"node {node} asleep from {cycle:,} to {cycle + cycles:,}",
+            )
+        for first, end, sender in self.drawing.closed(node):
+            self.add(
+                f'<rect class="closed" x="{self.x(first)}" y="{y + high - 1.5}" '
+                f'width="{self.x(end) - self.x(first):.2f}" '
+                'height="1.5"',
+                f"the link from node {sender} to node {node} is closed from {first:,} to {end:,}",
             )
         (self.draw_each if self.titled else self.draw_paths)(node, lane, y, high)
         for cycle, cause in lane.stop:
@@ -173,33 +188,87 @@ class Picture:
     def line(self, name: str, x: float, y: float, end_x: float, end_y: float) -> None:
         self.out.append(f'<line class="{name}" x1="{x}" y1="{y:.1f}" x2="{end_x}" y2="{end_y:.1f}"/>')
 
+    def legend_rows(self) -> list[list[tuple[str, str]]]:
+        """The signs and words of the legend, in as many rows as there is room for them, the cycles that are drawn
+        last."""
+        entries = [
+            entry
+            for entry in SIGNS
+            if "closed" not in entry[0] or any(self.drawing.closed(node) for node in self.nodes)
+        ]
+        entries.append(("", f"cycles {self.drawing.first:,} to {self.drawing.last_cycle:,}"))
+        rows: list[list[tuple[str, str]]] = [[]]
+        room = float(self.width - self.margin - RIGHT)
+        left = room
+        for entry in entries:
+            if rows[-1] and legend_width(entry[1]) > left:
+                rows.append([])
+                left = room
+            rows[-1].append(entry)
+            left -= legend_width(entry[1])
+        return rows
+
     def draw_legend(self) -> None:
-        y = self.height - 12
-        signs = (
-            ('<rect class="sent" x="{x}" y="{top}" width="16" height="8"/>', "a byte on the air", 140),
-            ('<line class="heard" x1="{x}" x2="{x}" y1="{top}" y2="{y}"/>', "heard", 80),
-            ('<line class="clash" x1="{x}" x2="{x}" y1="{top}" y2="{y}"/>', "a clash", 85),
-            ('<circle class="serial" cx="{x}" cy="{middle}" r="2.4"/>', "USART0", 85),
-            ('<path class="stop" d="M{x} {top}l8 4l-8 4z"/>', "stopped", 90),
-            ('<rect class="asleep" x="{x}" y="{top}" width="16" height="8"/>', "asleep, in the window", 0),
-        )
-        x = MARGIN
-        for sign, words, width in signs:
-            self.out.append(
-                sign.format(x=x, y=y, top=y - 8, middle=y - 4) + f'<text x="{x + 21}" y="{y}">{words}</text>'
-            )
-            x += width
-        self.out.append(
-            f'<text x="{self.width - RIGHT}" y="{y}" text-anchor="end">'
-            f"cycles {self.drawing.first:,} to {self.drawing.last_cycle:,}</text>"
-        )
+        y = self.bottom + BOTTOM - 12
+        for row in self.legend:
+            x = float(self.margin)
+            for sign, words in row:
+                at = f"{x:g}"
+                shape = sign.format(x=at, y=y, top=y - 8, middle=y - 4)
+                place = f'x="{x + 21:g}"' if sign else f'x="{self.width - RIGHT}" text-anchor="end"'
+                self.out.append(f'{shape}<text {place} y="{y}">{words}</text>')
+                x += legend_width(words)
+            y += LEGEND_ROW
 
 
-def tick_step(least: float) -> int:
-    """The least of 1, 2, 5, 10, 20, 50, .. that is no less than `least`."""
-    step = 1
+SIGNS = (
+    ('<rect class="sent" x="{x}" y="{top}" width="16" height="8"/>', "a byte on the air"),
+    ('<line class="heard" x1="{x}" x2="{x}" y1="{top}" y2="{y}"/>', "heard"),
+    ('<line class="clash" x1="{x}" x2="{x}" y1="{top}" y2="{y}"/>', "a clash"),
+    ('<circle class="serial" cx="{x}" cy="{middle}" r="2.4"/>', "USART0"),
+    ('<path class="stop" d="M{x} {top}l8 4l-8 4z"/>', "stopped"),
+    ('<rect class="asleep" x="{x}" y="{top}" width="16" height="8"/>', "asleep, in the window"),
+    ('<rect class="closed" x="{x}" y="{middle}" width="16" height="1.5"/>', "a link to it is closed"),
+)
+
+
+def legend_width(words: str) -> float:
+    """The room that a sign and its words take."""
+    return 21 + LETTER * len(words) + 12
+
+
+def shortened(text: str, most: int) -> str:
+    return text if len(text) <= most else f"{text[: most - 1]}\u2026"
+
+
+def ticks(first: int, end: int, hz: int | None, width: float) -> list[tuple[float, str]]:
+    """The ticks of an axis of so many pixels: the cycle and the label of each, at round cycles, or by a clock at round
+    times, so far apart that no label stands over another."""
+    for most in range(MOST_TICKS, 0, -1):
+        found = list(round_ticks(first, end, hz, most))
+        apart = width * (found[1][0] - found[0][0]) / max(1, end - first) if len(found) > 1 else width
+        if LETTER * max((len(label) for _, label in found), default=0) + LETTER < apart:
+            return found
+    return found[:1]
+
+
+def round_ticks(first: int, end: int, hz: int | None, most: int) -> Iterator[tuple[float, str]]:
+    """At most one tick more than so many."""
+    scale = Fraction(hz, 1000) if hz else Fraction(1)  # cycles of a unit: a millisecond, or a cycle
+    step, digits = round_step(Fraction(end - first) / scale / most, may_be_part=hz is not None)
+    number = -(-Fraction(first) / scale // step)
+    while (at := number * step) * scale < end:
+        yield float(at * scale), f"{float(at):.{digits}f} ms" if hz else f"{int(at):,}"
+        number += 1
+
+
+def round_step(least: Fraction, may_be_part: bool) -> tuple[Fraction, int]:
+    """The least of 1, 2, 5, 10, 20, 50, .. that is no less than `least`, or of parts of 1 such as 0.5 too; and how many
+    digits such a number has behind its point."""
+    power = -6 if may_be_part else 0
     while True:
         for factor in (1, 2, 5):
-            if step * factor >= least:
-                return step * factor
-        step *= 10
+            step = factor * Fraction(10) ** power
+            if step >= least:
+                return step, max(0, -power)
+        power += 1

@@ -11,7 +11,7 @@ from typing import NamedTuple
 from avrora_tools import files, programs
 from avrora_tools.errors import BadInput
 from avrora_tools.events import Enter, Event, Instr, Sent, Stop
-from avrora_tools.instructions import CALLS, SLEEP
+from avrora_tools.instructions import CALLS, RETI, SLEEP
 from avrora_tools.scenarios import Scenario
 from avrora_tools.traces import Trace
 
@@ -73,6 +73,9 @@ class TraceReader:
         self.owners: dict[int, Owner] = {}
         self.calls: collections.Counter[Call] = collections.Counter()
         self.calling: dict[int, int | str] = {}  # by node what called, until the callee's first row
+        # By node the calls of whose callee an interrupt came first: the callee's word, and what called.
+        self.interrupted: dict[int, list[tuple[int, int | str]]] = collections.defaultdict(list)
+        self.returned: set[int] = set()  # nodes whose last row is RETI
         self.sends: collections.Counter[int] = collections.Counter()
         self.early_sends: collections.Counter[int] = collections.Counter()
         self.late_sends: collections.Counter[int] = collections.Counter()
@@ -89,6 +92,8 @@ class TraceReader:
             self.go_on(cycle)
             self.own(node, Owner(cycle, event))
             spent.vector[event.vector].count += 1
+            if (caller := self.calling.get(node)) is not None:
+                self.interrupted[node].append((event.back, caller))
             self.calling[node] = programs.vector_name(event.vector)
         elif isinstance(event, Stop):
             if self.end is None:
@@ -144,12 +149,25 @@ class TraceReader:
 
     def note_call(self, node: int, event: Instr) -> None:
         caller = self.calling.pop(node, None)
+        if node in self.returned:
+            self.returned.discard(node)
+            caller = self.called_before(node, event.address)
         if isinstance(caller, str) and event.address in programs.VECTORS:
             self.calling[node] = caller  # the jump at the vector
         elif caller is not None:
             self.calls[node, caller, event.address] += 1
         if event.instruction.partition(" ")[0] in CALLS:
             self.calling[node] = event.address
+        elif event.instruction == RETI and self.interrupted[node]:
+            self.returned.add(node)
+
+    def called_before(self, node: int, word: int) -> int | str | None:
+        """What called the code at a word, before the interrupt that has returned there."""
+        waiting = self.interrupted[node]
+        for place in reversed(range(len(waiting))):
+            if waiting[place][0] == word:
+                return waiting.pop(place)[1]
+        return None
 
     def bound(self, limit: int | None) -> int:
         """Sets the window's bounds to what they are known to be once all rows are read; `limit` is the trace's."""
@@ -202,8 +220,8 @@ LONGEST_LINE = 80
 class MonitorReader:
     """Reads what `avrora monitor` wrote: of each node of a scenario, in their order, all its lines.
 
-    The cycles are those of `window`; without one those of the scenario's window, or all of its cycles, where there are so many.
-    """
+    The cycles are those of `window`; without one those of the scenario's window, or all of its cycles, where there are
+    so many."""
 
     def __init__(self, name: str, scenario: Scenario, window: tuple[int, int] | None = None) -> None:
         self.name, self.scenario, self.window = name, scenario, window
@@ -264,7 +282,8 @@ class MonitorReader:
             rest = spent.charge - BUSY_CHARGE * spent.busy() - ASLEEP_CHARGE * spent.asleep
             if spent.total() != cycles:
                 raise BadInput(
-                    f"{self.name}: the lines of node {node} do not add up to the {cycles:,} cycles of the window, but to "
+                    f"{self.name}: the lines of node {node} do not add up to the {cycles:,} cycles of the window, "
+                    "but to "
                     f"{spent.total():,}: of `avrora monitor FILE FROM TO` --window FROM..TO says the window"
                 )
             if rest < 0 or rest % SEND_CHARGE:
@@ -274,10 +293,14 @@ class MonitorReader:
 
     def cycles(self) -> int:
         """How many cycles each node is to have."""
-        if self.window is None and all(spent.total() == self.scenario.cycles for spent in self.spent):
-            return self.scenario.cycles
-        first, end = self.window or self.scenario.window
+        first, end = self.span()
         return end - first
+
+    def span(self) -> tuple[int, int]:
+        """The cycles that the report is of: the first, and the one behind the last."""
+        if self.window is None and all(spent.total() == self.scenario.cycles for spent in self.spent):
+            return 0, self.scenario.cycles
+        return self.window or self.scenario.window
 
 
 def text_lines(blocks: Iterable[bytes], name: str) -> Iterator[str]:
@@ -296,4 +319,3 @@ def text_lines(blocks: Iterable[bytes], name: str) -> Iterator[str]:
 def is_monitor(beginning: bytes) -> bool:
     """Whether a text begins as what a monitor writes."""
     return bool(re.match(rb"\d+ lead ", beginning))
-

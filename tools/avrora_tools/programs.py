@@ -46,6 +46,16 @@ def vector_name(word: int) -> str:
     return f"{VECTORS[word]}_vect" if word in VECTORS else f"vector {word:04X}"
 
 
+HANDLER = re.compile(r"__vector_([0-9]+)")
+HANDLERS = frozenset(f"{name}_vect" for name in INTERRUPTS)
+
+
+def source_name(symbol: str) -> str:
+    """The name of a function as its source has it: TIMER1_COMPA_vect for __vector_12."""
+    match = HANDLER.fullmatch(symbol)
+    return vector_name(2 * int(match[1])) if match and 2 * int(match[1]) in VECTORS else symbol
+
+
 class Program:
     """A linked program for the AVR."""
 
@@ -107,6 +117,11 @@ class Program:
         line = self.line_at(word)
         return f"{name} {line}" if line else name
 
+    def has_instruction(self, word: int) -> bool:
+        """Whether an instruction of a function begins at a word."""
+        function = self.function_at(word)
+        return function is not None and word in self.instructions(function)
+
     def instructions(self, function: Function) -> Iterator[int]:
         """The word addresses of a function's instructions."""
         word = function.first
@@ -154,7 +169,7 @@ def functions_of(elf: Any, end: int) -> list[Function]:
         word = symbol["st_value"] // 2
         best[word] = max(best.get(word, rank), rank)
     words = sorted(word for word in best if word < end)
-    return [Function(word, after, best[word][-1]) for word, after in zip(words, words[1:] + [end])]
+    return [Function(word, after, source_name(best[word][-1])) for word, after in zip(words, words[1:] + [end])]
 
 
 def line_places(elf: Any) -> list[tuple[int, SourceLine | None]]:
@@ -222,7 +237,8 @@ class Programs:
             nodes = {node for node, image in enumerate(scenario.images) if stem(image) == stem(program.path)}
             if not nodes:
                 raise BadInput(
-                    f"{program.name}: no node has the image {stem(program.name)}.hex; say which: -e NODES={program.name}"
+                    f"{program.name}: no node has the image {stem(program.name)}.hex; say which: -e "
+                    f"NODES={program.name}"
                 )
         if nodes is None:
             self.others = program
@@ -262,7 +278,8 @@ class Programs:
         text = program.instruction_at(event.address)
         if text != event.instruction:
             raise BadInput(
-                f"{program.name}: another program than that of the trace: node {node} executed `{event.instruction}` at "
+                f"{program.name}: another program than that of the trace: node {node} executed `{event.instruction}` "
+                "at "
                 f"{event.address:04X}, where it has `{text}` (--force takes it all the same)"
             )
 
@@ -287,5 +304,7 @@ def add_programs(parser: argparse.ArgumentParser) -> None:
         metavar="[NODES=]ELF",
         help="the program of all nodes, of NODES such as 0,2-4, or with -s of the nodes with an image of its name",
     )
-    parser.add_argument("--force", action="store_true", help="take a program that is not that of the image or the trace")
+    parser.add_argument(
+        "--force", action="store_true", help="take a program that is not that of the image or the trace"
+    )
     cli.add_scenario(parser)

@@ -35,7 +35,8 @@ NEEDED = {"node": ["image"], "link": ["from", "to"], "input": ["node", "at", "he
 
 
 class Fault(NamedTuple):
-    """A fault of a scenario: its cause, its place in words, the line it stands in (0 where none does), what is wrong."""
+    """A fault of a scenario: its cause, its place in words, the line it stands in (0 where none does), what is
+    wrong."""
 
     cause: str
     place: str
@@ -116,7 +117,9 @@ def looked_through(text: str) -> tuple[dict[str, Any], list[Fault]]:
     try:
         document = toml.loads(text)
     except toml.NotToml as fault:
-        return {}, [Fault("NotToml", f"column {fault.column}" if fault.column else "", fault.line, printable(fault.why))]
+        return {}, [
+            Fault("NotToml", f"column {fault.column}" if fault.column else "", fault.line, printable(fault.why))
+        ]
     check = Check(document, {})
     check.all()
     if check.found:  # the lines are sought where one is told
@@ -288,7 +291,9 @@ class Check:
         for number, table in self.tables("input"):
             self.once(first, (table.get("node"),), number, "TwiceScripted", "input", f"of node {table.get('node')}")
 
-    def once(self, first: dict[Any, int], what: tuple[Any, ...], number: int, cause: str, name: str, words: str) -> None:
+    def once(
+        self, first: dict[Any, int], what: tuple[Any, ...], number: int, cause: str, name: str, words: str
+    ) -> None:
         if not all(type(node) is int for node in what):
             return
         if what in first:

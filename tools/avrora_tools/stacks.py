@@ -5,12 +5,11 @@ from typing import Any
 
 from avrora_tools import files
 from avrora_tools.errors import BadInput
-from avrora_tools.programs import Program
+from avrora_tools.programs import HANDLERS, Program
 from avrora_tools.states import DATA_END, SRAM_FIRST, Node
 from avrora_tools.variables import DATA_SPACE, reader
 
-MOST_FRAMES = 64
-HANDLER_PREFIX = "__vector_"
+MOST_FRAMES = (DATA_END - SRAM_FIRST) // 2  # more there is no room for
 
 # DWARF's numbers of registers on the AVR: r28 of the frame pointer Y, the stack pointer, the return address.
 Y_LOW, Y_HIGH, STACK_POINTER, RETURN_ADDRESS = 28, 29, 32, 36
@@ -65,21 +64,23 @@ class Unwinder:
         stack, y = node["SP"], node["r28"] | node["r29"] << 8
         while len(frames) < MOST_FRAMES:
             at = frames[-1]
-            function = self.program.function_at(at.word)
+            # What called is looked up by its call, as the next word may be that of another function, where the call
+            # does not return; what was interrupted, and the first one, by the next instruction.
+            is_caller = not at.interrupted and len(frames) > 1
+            word = at.word - 1 if is_caller else at.word
+            function = self.program.function_at(word)
             if function is None:
                 return Chain(frames, "no function is there")
             if function.name == "main":
                 return Chain(frames, "")
-            # What called is looked up by its last instruction; what was interrupted, and the first one, by the next.
-            word = at.word if at.interrupted or len(frames) == 1 else at.word - 1
-            found = self.frame(word, stack, y)
+            found = self.frame(word, stack, y, is_caller)
             if found is None:
                 return Chain(frames, "nothing says how its frame is laid out")
             frame, saved = found
             if not SRAM_FIRST <= frame < DATA_END or frame <= stack:
                 return Chain(frames, f"its frame would end at {frame & 0xFFFF:04X}, where no stack is")
             back = node.data[frame - 1] << 8 | node.data[frame]
-            is_handler = function.name.startswith(HANDLER_PREFIX)
+            is_handler = function.name in HANDLERS
             if not is_handler and not self.returns_to(back, function.first):
                 return Chain(frames, f"{back:04X}, which is to be where it returns to, stands behind no call of it")
             y = byte_at(node, saved.get(Y_LOW), y & 0xFF) | byte_at(node, saved.get(Y_HIGH), y >> 8) << 8
@@ -87,10 +88,10 @@ class Unwinder:
             frames.append(Frame(back, is_handler))
         return Chain(frames, "more functions than are followed")
 
-    def frame(self, word: int, stack: int, y: int) -> tuple[int, dict[int, int]] | None:
-        """The address of the low byte of a frame's return address, and by register where it was saved. In front of a return
-        the frame is told by the pops that are left, else by the rules."""
-        pops = self.pops_before_return(word)
+    def frame(self, word: int, stack: int, y: int, is_call: bool) -> tuple[int, dict[int, int]] | None:
+        """The address of the low byte of a frame's return address, and by register where it was saved. In front of a
+        return the frame is told by the pops that are left, else by the rules."""
+        pops = None if is_call else self.pops_before_return(word)
         if pops is not None:
             return stack + pops + 2, {}
         rule = self.rule_at(word)
@@ -107,7 +108,9 @@ class Unwinder:
             return 0
         codes = [self.opcode(at) for at in range(function.first, word)]
         by_in = sum(a in (IN_R0_SREG, IN_R0_RAMPZ) and b == PUSH_R0 for a, b in zip(codes, codes[1:]))
-        by_lds = sum(a == LDS_R0 and at in SREG_AND_RAMPZ and b == PUSH_R0 for a, at, b in zip(codes, codes[1:], codes[2:]))
+        by_lds = sum(
+            a == LDS_R0 and at in SREG_AND_RAMPZ and b == PUSH_R0 for a, at, b in zip(codes, codes[1:], codes[2:])
+        )
         return by_in + by_lds
 
     def rule_at(self, word: int) -> FrameRule | None:
@@ -169,7 +172,11 @@ def rules_of(entry: Any) -> Iterator[FrameRule]:
         cfa = row["cfa"]
         if cfa.reg is None:
             continue
-        saved = {register: row[register].arg for register in (Y_LOW, Y_HIGH) if register in row and row[register].type == "OFFSET"}
+        saved = {
+            register: row[register].arg
+            for register in (Y_LOW, Y_HIGH)
+            if register in row and row[register].type == "OFFSET"
+        }
         yield FrameRule(row["pc"] // 2, cfa.reg, cfa.offset, saved)
 
 
@@ -185,6 +192,6 @@ def data_end(path: str) -> int | None:
 
 
 def lowest_used(data: Sequence[int], end_of_variables: int) -> int | None:
-    """The lowest address above the variables whose byte is not 0. All memory is 0 at reset, so the stack, or a heap, has
-    reached it; zeros that were pushed below it do not show."""
+    """The lowest address above the variables whose byte is not 0. All memory is 0 at reset, so the stack, or a heap,
+    has reached it; zeros that were pushed below it do not show."""
     return next((at for at in range(end_of_variables, DATA_END) if data[at]), None)

@@ -7,6 +7,8 @@ from avrora_tools.errors import BadInput
 
 TITLE = "avrora state 1"
 
+EPOCH = 262_144  # cycles; states are those between two epochs
+
 SRAM_FIRST, DATA_END = 0x100, 0x1100
 IO_FIRST, IO_BYTES = 0x20, 0xE0
 
@@ -14,7 +16,11 @@ IO_FIRST, IO_BYTES = 0x20, 0xE0
 STOPS = """reserved opcode,undefined operands,spm,break,sleep mode,pwm mode,external timer clock,compare output,forced
 compare,input capture enable,prescaler control,usart mode,spi slave,external memory,watchdog enable,eeprom
 access,adc,comparator interrupt,twi,external interrupt,clock division,asynchronous timer,moved
-vectors,usart1,reserved address,address past 0x10FF""".replace("\n", " ").split(",")
+vectors,usart1,reserved address,address past 0x10FF""".replace(
+    "\n", " "
+).split(
+    ","
+)
 
 # The registers that keep a byte themselves, by data address.
 KEPT = """22 DDRE 23 PORTE 26 ADCSRA 27 ADMUX 28 ACSR 31 DDRD 32 PORTD 34 DDRC 35 PORTC 37 DDRB 38 PORTB 3A DDRA
@@ -28,7 +34,17 @@ IO_NAMES = {int(at, 16): name for at, name in zip(KEPT[::2], KEPT[1::2])}
 CORE = [f"r{n}:2" for n in range(32)]
 CORE += ["SREG:2", "SP:4", "PC:4", "RAMPZ", "cycles left", "owed", "asleep", "stop", "instructions"]
 TIMER8 = ["TCCR{}:2", "TCNT{}:2", "OCR{}:2", "TCNT{} blocked", "TOV{}", "OCF{}"]
-TIMER16 = ["TCCR{}B:2", "TCNT{}:4", "OCR{}A:4", "OCR{}B:4", "OCR{}C:4", "ICR{}:4", "TEMP{}:2", "TCNT{} blocked", "TOV{}"]
+TIMER16 = [
+    "TCCR{}B:2",
+    "TCNT{}:4",
+    "OCR{}A:4",
+    "OCR{}B:4",
+    "OCR{}C:4",
+    "ICR{}:4",
+    "TEMP{}:2",
+    "TCNT{} blocked",
+    "TOV{}",
+]
 TIMER16 += ["OCF{}A", "OCF{}B", "OCF{}C", "ICF{}"]
 IN_ORDER = ((0, TIMER8), (2, TIMER8), (1, TIMER16), (3, TIMER16))
 TIMERS = [name.format(n) for n, names in IN_ORDER for name in names]

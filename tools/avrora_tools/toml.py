@@ -1,8 +1,7 @@
 """TOML as the simulator reads it, which is version 1.1, by Python's reader of version 1.0.
 
-What version 1.1 has more is written as version 1.0 has it before it is read: line ends, comments and a last comma in inline
-tables, `\\e` and `\\xHH` in texts, times without seconds.
-"""
+What version 1.1 has more is written as version 1.0 has it before it is read: line ends, comments and a last comma in
+inline tables, `\\e` and `\\xHH` in texts, times without seconds. """
 import bisect
 import contextlib
 import enum
@@ -29,8 +28,8 @@ LEAP_SECOND = re.compile(r"(\d\d:\d\d:)60(?!\d)")
 PLACE = re.compile(r"(.*) \(at line (\d+), column (\d+)\)", re.DOTALL)
 CONTROL = re.compile(r"[\x00-\x08\x0a-\x1f\x7f]")
 
-# What `plain` reads of a line: the name of an array of tables, a text, an array of whole numbers or of arrays of them. So many
-# digits fit in 64 bits.
+# What `plain` reads of a line: the name of an array of tables, a text, an array of whole numbers or of arrays of them.
+# So many digits fit in 64 bits.
 MOST_DIGITS = 18
 HEAD = re.compile(r"\[\[([A-Za-z_]+)\]\]")
 PLAIN_TEXT = re.compile(r'"([ !#-\[\]-~]*)"')
@@ -60,7 +59,8 @@ def loads(text: str) -> dict[str, Any]:
     found = plain(text)
     if found is not None:
         return found
-    # What version 1.0 takes says the same in 1.1, and nearly all texts are of it. A key of too many parts has as many dots.
+    # What version 1.0 takes says the same in 1.1, and nearly all texts are of it. A key of too many parts has as many
+    # dots.
     if text.count(".") < MAX_KEYS:
         with contextlib.suppress(ValueError, OverflowError, RecursionError):
             document = tomllib.loads(text, parse_float=float_of)
@@ -82,8 +82,9 @@ def loads(text: str) -> dict[str, Any]:
 
 
 def plain(text: str) -> dict[str, Any] | None:
-    """The document of a text as programs write scenarios: a key and its value a line, at the top and in arrays of tables. None of
-    any other text, which may be TOML or not. It takes a fifth of the time that a reader of all TOML takes."""
+    """The document of a text as programs write scenarios: a key and its value a line, at the top and in arrays of
+    tables. None of any other text, which may be TOML or not. It takes a fifth of the time that a reader of all TOML
+    takes."""
     document: dict[str, Any] = {}
     table = document
     arrays: dict[str, list[dict[str, Any]]] = {}

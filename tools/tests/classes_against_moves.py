@@ -2,9 +2,10 @@
 
     classes_against_moves.py WORDS    the words of `avrora-tools sweep`; PROGRAM in AVRORA_PROGRAM
 
-Instructions are traced from the span on for 20,000 cycles; all other rows, and the count of instructions in the end rows, are
-those of the whole run. Also told: how many traces there are in all (classes are split needlessly where there are fewer), and
-that a class fails with all of its moves or with none. Status: 1 where a class has two traces or two verdicts."""
+Instructions are traced from the span on for 20,000 cycles; all other rows, and the count of instructions in the end
+rows, are those of the whole run. Also told: how many traces there are in all (classes are split needlessly where there
+are fewer), and that a class fails with all of its moves or with none. Status: 1 where a class has two traces or two
+verdicts."""
 import hashlib
 import re
 import sys
@@ -40,7 +41,8 @@ def compare(sweep: Sweep) -> int:
     different = len(set().union(*traces.values()))
     fail = sum(True in of_class for of_class in verdicts.values())
     print(
-        f"{len(moves)} moves, {failing} fail; {len(traces)} classes, {fail} fail; {different} different traces; {mixed} classes "
+        f"{len(moves)} moves, {failing} fail; {len(traces)} classes, {fail} fail; {different} different traces; "
+        f"{mixed} classes "
         f"with two traces, {split} with two verdicts; {time.monotonic() - begun:.0f} s",
         flush=True,
     )

@@ -1,8 +1,8 @@
 #!/usr/bin/env python3
-"""Damages traces, states, cases, scenarios and campaigns, and feeds them to the tools: each ends with status 0, 1 or 2, and
-no other exception comes up than those that the command makes a line of.
+"""Damages traces, states, cases, scenarios and campaigns, and feeds them to the tools: each ends with status 0, 1 or 2,
+and no other exception comes up than those that the command makes a line of.
 
-    tools/tests/fuzz.py [COUNT] [SEED] [FIRST]     the inputs from number FIRST (else 0) on and below COUNT (else 100,000);
+    tools/tests/fuzz.py [COUNT] [SEED] [FIRST]   the inputs from number FIRST (else 0) on, below COUNT (else 100,000);
                                                    the same SEED makes the same ones
 
 Exit status: 0 none was found, 1 inputs were found that end a tool otherwise; each is told, and kept in a file.
@@ -25,7 +25,27 @@ from avrora_tools.errors import Status, ToolError  # noqa: E402
 COUNT, SEED, FIRST = 100_000, 1, 0
 
 # Bytes that mean something to one of the readers.
-TELLING = [b"\n", b" ", b"0", b"9", b"-", b"..", b"*", b"{", b"}", b"[", b"]", b'"', b"'", b"=", b"#", b"\\", b"\xff", b"\x00", b"\r"]
+TELLING = [
+    b"\n",
+    b" ",
+    b"0",
+    b"9",
+    b"-",
+    b"..",
+    b"*",
+    b"{",
+    b"}",
+    b"[",
+    b"]",
+    b'"',
+    b"'",
+    b"=",
+    b"#",
+    b"\\",
+    b"\xff",
+    b"\x00",
+    b"\r",
+]
 
 STATE_LINES = [
     "avrora state 1",
@@ -119,10 +139,14 @@ def damaged(draw, content):
             content[at:at] = content[min(at, end) : max(at, end)][:200]
         elif how == 4:
             lines = bytes(content).splitlines(keepends=True)
-            draw.shuffle(lines) if draw.random() < 0.2 else lines.insert(draw.randrange(len(lines) + 1), draw.choice(lines or [b"\n"]))
+            draw.shuffle(lines) if draw.random() < 0.2 else lines.insert(
+                draw.randrange(len(lines) + 1), draw.choice(lines or [b"\n"])
+            )
             content = bytearray(b"".join(lines))
         else:
-            content[at : at + 1] = str(draw.choice([0, 1, 63, 64, 255, 256, 2**31, 2**40, 2**63, 10**25])).encode()
+            content[at : at + 1] = str(
+                draw.choice([0, 1, 63, 64, 255, 256, 2**31, 2**40, 2**63, 10**25])
+            ).encode()
     return bytes(content)
 
 

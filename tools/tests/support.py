@@ -2,6 +2,7 @@
 import contextlib
 import importlib
 import os
+import random
 import shutil
 import socket
 import subprocess
@@ -24,6 +25,9 @@ LOOPBACK = "127.0.0.1"
 
 sys.dont_write_bytecode = True
 
+# By which tests draw anew each time; AVRORA_SEED names the one of a failure, which tells it.
+SEED = int(os.environ.get("AVRORA_SEED") or random.randrange(1_000_000))
+
 # How the tools are run: by the interpreter of these tests, from the checkout.
 TOOL = [sys.executable, "-B", TOOLS]
 
@@ -36,9 +40,8 @@ NOBODY = 65_534  # a user who may read what all may
 def run_tool(*words, stdin="", env=None, out=None, by_nobody=False):
     """Runs a tool as a process of its own; its status, output and errors.
 
-    The process is a fork of this one, which starts at once; a new interpreter where the environment says what it imports.
-    `out` is a file that its output goes to instead, or CLOSED; by root it may run `by_nobody`.
-    """
+    The process is a fork of this one, which starts at once; a new interpreter where the environment says what it
+    imports. `out` is a file that its output goes to instead, or CLOSED; by root it may run `by_nobody`. """
     content = stdin if isinstance(stdin, bytes) else stdin.encode()
     if "PYTHONPATH" in (env or {}):
         done = subprocess.run(
@@ -51,7 +54,9 @@ def run_tool(*words, stdin="", env=None, out=None, by_nobody=False):
         source.seek(0)
         child = os.fork()
         if child == 0:
-            be_tool(words, [source, caught if out in (None, CLOSED) else out, errors], env or {}, out == CLOSED, by_nobody)
+            be_tool(
+                words, [source, caught if out in (None, CLOSED) else out, errors], env or {}, out == CLOSED, by_nobody
+            )
         status = os.waitstatus_to_exitcode(os.waitpid(child, 0)[1])
         caught.seek(0)
         errors.seek(0)
@@ -123,7 +128,9 @@ def with_disk(path, options, words):
 def may_mount():
     with tempfile.TemporaryDirectory() as path:
         try:
-            return subprocess.run(with_disk(path, "size=16k", ["true"]), capture_output=True, check=False).returncode == 0
+            return (
+                subprocess.run(with_disk(path, "size=16k", ["true"]), capture_output=True, check=False).returncode == 0
+            )
         except OSError:
             return False
 

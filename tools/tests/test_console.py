@@ -28,6 +28,28 @@ class Console(unittest.TestCase):
             "         600  0 | \\x07\n",
         )
 
+    def typed(self, text, *words, step=10):
+        """What is shown of bytes that node 0 writes."""
+        trace = "".join(f"{step * (i + 1)} 0 serial {byte:02X}\n" for i, byte in enumerate(text))
+        return [line[18:] for line in self.console(*words, trace=trace).splitlines()]
+
+    def test_empty_lines_are_shown(self):
+        self.assertEqual(self.typed(b"a\n\nb\n"), ["a", "", "b"])
+        self.assertEqual(self.typed(b"\r\na\r\n\r\nb"), ["", "a", "", "b"])
+        self.assertEqual(self.typed(b"a\r\rb\n\rc"), ["a", "", "b", "", "c"])
+        self.assertEqual(self.console(trace="7 0 serial 0A\n"), "           7  0 |\n")
+        # what ends a line that silence has ended is no empty line
+        self.assertEqual(
+            self.console("--idle", "5", trace="1 0 serial 41\n90 1 serial 42\n99 0 serial 0A\n").count("\n"), 2
+        )
+
+    def test_what_is_escaped_is_told_from_what_was_written(self):
+        self.assertEqual(self.typed(b"\\x41 \xC3\n"), ["\\\\x41 \\xC3"])
+        self.assertEqual(self.typed(b"\xC3\n"), ["\\xC3"])
+
+    def test_spaces_at_the_end_stay(self):
+        self.assertEqual(self.typed(b"a  \n"), ["a  "])
+
     def test_nodes(self):
         self.assertEqual(self.console("-n", "1"), "         200  1 | X\n         700  1 ! stop 0102 reserved opcode\n")
 

@@ -10,7 +10,10 @@ from support import run_tool, scratch
 
 
 def rows(text):
-    return [Row(int(c), int(n), kind, rest) for c, n, kind, rest in (line.split(" ", 3) for line in text.strip().splitlines())]
+    return [
+        Row(int(c), int(n), kind, rest)
+        for c, n, kind, rest in (line.split(" ", 3) for line in text.strip().splitlines())
+    ]
 
 
 BEFORE = """

@@ -24,7 +24,10 @@ USES = {
     "links": (["@relay.toml", "@relay.trace"], 0),
     "mknet": (["line", "relay.hex*5"], 0),
     "profile": (["-s", "@relay.toml", "@relay.trace"], 0),
-    "sweep": (["--start", "0=5..6", "--until", "9000", "--compare", "bytes", "@relay.toml"], None),  # it needs the simulator
+    "sweep": (
+        ["--start", "0=5..6", "--until", "9000", "--compare", "bytes", "@relay.toml"],
+        None,
+    ),  # it needs the simulator
     "timeline": (["-s", "@relay.toml", "@relay.trace"], 0),
     "vcd": (["-s", "@relay.toml", "@relay.trace"], 0),
     "why": (["@relay.toml"], 0),
@@ -34,7 +37,12 @@ USES = {
 # Another file than these is no input: it is written, or run.
 NO_INPUTS = ("@avrora",)
 
-ONES = [(tool, place) for tool, (words, _) in USES.items() for place, word in enumerate(words) if word[0] == "@" and word not in NO_INPUTS]
+ONES = [
+    (tool, place)
+    for tool, (words, _) in USES.items()
+    for place, word in enumerate(words)
+    if word[0] == "@" and word not in NO_INPUTS
+]
 TOML = [(tool, place) for tool, place in ONES if USES[tool][0][place].endswith((".toml", ".campaign"))]
 
 STATE = "\n".join(

@@ -1,17 +1,29 @@
 """Charge by a table of currents. The report and the sums are worked out by hand from docs/FORMATS.md, "Profiles"."""
 import re
+import subprocess
 from dataclasses import astuple
 
 import pytest
 
-from avrora_tools.budgets import Currents, account, duty_cycle, milliampere_hours, sent, table_of, whole
+from avrora_tools.budgets import (
+    Currents,
+    account,
+    duty_cycle,
+    listening_cycle,
+    milliampere_hours,
+    sent,
+    table_of,
+    whole,
+)
 from avrora_tools.errors import BadInput
+from avrora_tools.listening import ZERO, Byte, Pin, Radio, both, inverted
 from avrora_tools.profiles import MonitorReader
 from avrora_tools.scenarios import Scenario
+from firmware import PROGRAM, compiled, needs_compiler, needs_program
 from support import TOP, run_tool
 
-# 1,000 cycles: node 0 awake for 300 of them (290 by two instructions, 10 by a vector), 200 without an owner, 2 bytes sent;
-# node 1 sleeps from the first cycle on and stops in cycle 400.
+# 1,000 cycles: node 0 awake for 300 of them (290 by two instructions, 10 by a vector), 200 without an owner, 2 bytes
+# sent; node 1 sleeps from the first cycle on and stops in cycle 400.
 REPORT = """0 lead 200
 0 at 0050 10 90
 0 at 0052 100 200
@@ -47,14 +59,26 @@ def test_the_bytes_that_were_sent_are_what_the_charge_has_beside_the_cycles():
 
 def test_the_account_of_a_node():
     table = table_of(CURRENTS, "c")
-    zero, one = (account(node, table.common, 256, table.hz) for node in nodes())
-    # 300 ms at 8 mA; 500 asleep and 200 unknown at 2 mA at least, at 8 at most; 512 ms sending, the other 488 listening.
-    assert astuple(zero) == pytest.approx((2.4, 1.4, 10.24, 4.88, 1.2))
+    zero, one = (account(node, table.common, 256, table.hz, Radio(node.total() - node.stopped)) for node in nodes())
+    # 300 ms at 8 mA; 500 asleep and 200 unknown at 2 mA at least, at 8 at most; 512 ms sending, the other 488
+    # listening.
+    assert astuple(zero) == pytest.approx((2.4, 1.4, 10.24, 4.88, 0, 1.2))
     assert (zero.least, zero.most) == pytest.approx((18.92, 20.12))
     # until its stop in 400: 1 ms awake, 399 asleep, all of it listening
-    assert astuple(one) == pytest.approx((0.008, 0.798, 0, 4.0, 0))
+    assert astuple(one) == pytest.approx((0.008, 0.798, 0, 4.0, 0, 0))
     assert whole([zero, one]).most == pytest.approx(20.12 + 4.806)
     assert milliampere_hours(7_200) == 2.0
+
+
+def test_a_radio_that_is_not_selected_does_not_listen():
+    """600 cycles of 1,000 selected, of which 512 are those of sends; of 100 more it is not known."""
+    table = table_of(CURRENTS + "off = 1\n", "c")
+    node = next(iter(nodes()))
+    found = account(node, table.common, 256, table.hz, Radio(600, 100))
+    assert (found.sending, found.listening, found.off) == pytest.approx((10.24, 0.88, 0.3 + 0.1))
+    assert found.unknown == pytest.approx(1.2 + 0.9)
+    assert listening_cycle(node, 256, Radio(600, 100)) == pytest.approx((0.088, 0.188))
+    assert account(node, table.common, 256, table.hz, Radio(0)).listening == 0
 
 
 def test_the_duty_cycle_has_the_lead_as_a_span_and_no_stop():
@@ -102,18 +126,26 @@ def inputs(tmp_path):
 
 def test_the_table_and_the_picture(inputs, tmp_path):
     picture = tmp_path / "bars.svg"
-    status, out, err = run_tool("energy", *inputs, "--svg", str(picture))
+    status, out, err = run_tool("energy", "--always-listening", *inputs, "--svg", str(picture))
     assert status == 0 and "node 1 stopped" in err
     first, _, zero, one, network = out.splitlines()
     assert first == "1,000 cycles, 1 s at 1,000 Hz"
-    assert zero.split() == ["0", "30.00..50.00%", "2", "18.920..20.120", "0.005256..0.005589", "454.08..482.88"]
-    assert one.split() == ["1", "0.25%", "0", "4.806", "0.001335", "115.34"]
-    name, duty, sent, current = network.split()[:4]
-    assert (name, sent, current) == ("network", "2", "23.726..24.926")
+    assert zero.split() == [
+        "0",
+        "30.00..50.00%",
+        "48.80%",
+        "2",
+        "18.920..20.120",
+        "0.005256..0.005589",
+        "454.08..482.88",
+    ]
+    assert one.split() == ["1", "0.25%", "100.00%", "0", "4.806", "0.001335", "115.34"]
+    name, duty, listens, sent, current = network.split()[:5]
+    assert (name, listens, sent, current) == ("network", "74.40%", "2", "23.726..24.926")
     assert [float(part) for part in duty.rstrip("%").split("..")] == pytest.approx([15.125, 25.125], abs=0.006)
     text = picture.read_text()
-    assert text.startswith("<svg") and text.count("<title>node 0, ") == 5 and "18.920..20.120 mA" in text
-    widths = dict(re.findall(r'width="([\d.]+)" height="16" fill="(#\w+)"', text)[i][::-1] for i in range(5))
+    assert text.startswith("<svg") and text.count("<title>node 0, ") == 6 and "18.920..20.120 mA" in text
+    widths = dict(re.findall(r'width="([\d.]+)" height="16" fill="(#\w+)"', text)[i][::-1] for i in range(6))
     assert float(widths["#c0392b"]) / float(widths["#3b6fb6"]) == pytest.approx(2.4 / 10.24, rel=0.01)
 
 
@@ -124,30 +156,35 @@ def test_the_report_of_another_scenario_is_refused(inputs, tmp_path):
 
 
 def test_the_report_comes_from_the_standard_input_too(inputs):
-    assert run_tool("energy", *inputs[:2], stdin=REPORT)[0] == 0
+    assert run_tool("energy", "--always-listening", *inputs[:2], stdin=REPORT)[0] == 0
     assert run_tool("energy", *inputs[:2], stdin="")[0] == 2
 
 
 def test_the_report_of_a_span_is_whole_by_the_window_that_is_named(inputs, tmp_path):
     """The report has 1,000 cycles a node; the scenario has 2,000, and its window 400."""
     (tmp_path / "s.toml").write_text(SCENARIO.replace("= 1_000", "= 2_000", 1).replace("[0, 1_000]", "[600, 1_000]"))
-    assert run_tool("energy", *inputs, "--window", "0..1_000")[0] == 0
+    assert run_tool("energy", "--always-listening", *inputs, "--window", "0..1_000")[0] == 0
     for words, cycles in (((), "400"), (("--window", "0..999"), "999")):
         status, out, err = run_tool("energy", *inputs, *words)
         assert (status, out) == (2, "")
-        assert f"node 0 do not add up to the {cycles} cycles of the window, but to 1,000" in err and "--window FROM..TO" in err
+        assert (
+            f"node 0 do not add up to the {cycles} cycles of the window, but to 1,000" in err
+            and "--window FROM..TO" in err
+        )
 
 
 def test_the_report_of_the_whole_run_needs_no_window(inputs, tmp_path):
     for window in ("", "window = [600, 1_000]"):
         (tmp_path / "s.toml").write_text(SCENARIO.replace("window = [0, 1_000]", window))
-        assert run_tool("energy", *inputs)[0] == 0
+        assert run_tool("energy", "--always-listening", *inputs)[0] == 0
         assert run_tool("profile", "-s", *inputs[1:])[0] == 0
 
 
 def test_a_report_of_no_cycles_says_how_one_of_the_whole_run_is_made(inputs, tmp_path):
     (tmp_path / "s.toml").write_text(SCENARIO.replace("window = [0, 1_000]", ""))
-    (tmp_path / "r.profile").write_text("".join(f"{k} {kind} 0\n" for k in (0, 1) for kind in ("lead", "asleep", "stopped", "charge")))
+    (tmp_path / "r.profile").write_text(
+        "".join(f"{k} {kind} 0\n" for k in (0, 1) for kind in ("lead", "asleep", "stopped", "charge"))
+    )
     for words in (("energy", *inputs), ("profile", "-s", *inputs[1:])):
         status, out, err = run_tool(*words)
         assert (status, out) == (2, "") and "`avrora monitor FILE 0 1000` is of all its cycles" in err
@@ -163,3 +200,113 @@ def test_the_table_to_begin_with():
     with open(f"{TOP}/examples/currents.toml", encoding="utf-8") as file:
         table = table_of(file.read(), "currents.toml")
     assert table.common == Currents(8, 3.2, 12, 7) and table.of(0).listening == 5.5 and table.battery == 2_500
+
+
+# ---- whether a radio is selected
+
+SLOT = """
+#include <avr/io.h>
+#include <util/delay_basic.h>
+volatile uint8_t table[2] = { 0xFE, 0x01 };
+int main(void)
+{
+    DDRB |= 1;
+    for (;;) {
+        %s
+        _delay_loop_2(100);
+        %s
+        _delay_loop_2(900);
+    }
+}
+"""
+
+
+def energy(folder, low, high, flags, cycles=400_000, begin=0, more=()):
+    """The line of a node whose radio is selected for a tenth of its time, and the cycles that its rows tell."""
+    (folder / "slot.c").write_text(SLOT % (low, high))
+    elf = compiled(folder / "slot.c", folder, *flags)
+    toml = folder / "slot.toml"
+    toml.write_text(f'cycles = {cycles}\nbyte_time = 256\nnode = [{{ image = "slot.hex" }}]\n')
+    (folder / "c.toml").write_text(CURRENTS + "off = 1")
+    report = subprocess.run(
+        [PROGRAM, "monitor", "slot.toml", str(begin), str(cycles)], cwd=folder, capture_output=True, check=True
+    )
+    (folder / "r.profile").write_bytes(report.stdout)
+    words = ("--window", f"{begin}..{cycles}") if begin else ()
+    status, out, err = run_tool("energy", *words, *more, str(folder / "c.toml"), str(toml), str(folder / "r.profile"))
+    assert (status, err) == (0, ""), err
+    return [float(part) for part in out.splitlines()[2].split()[2].rstrip("%").split("..")], elf
+
+
+@needs_program
+@needs_compiler
+@pytest.mark.parametrize("flags", [["-O0"], ["-Os"], ["-O2"]], ids=" ".join)
+@pytest.mark.parametrize("begin", [0, 270_000])
+def test_a_node_that_listens_in_slots(tmp_path, flags, begin):
+    """Loops of 4 cycles a time: 400 of about 4,000."""
+    listens, _ = energy(tmp_path, "PORTB &= 0xFE;", "PORTB |= 1;", flags, begin=begin)
+    assert len(listens) == 1 and listens[0] == pytest.approx(10, abs=0.5)
+
+
+@needs_program
+@needs_compiler
+def test_it_is_the_cycles_between_the_writes(tmp_path):
+    cycles = 20_000
+    listens, elf = energy(tmp_path, "PORTB &= 0xFE;", "PORTB |= 1;", ["-Os"], cycles)
+    (tmp_path / "w.toml").write_text(f'cycles = {cycles}\nwindow = [0, {cycles}]\nnode = [{{ image = "slot.hex" }}]\n')
+    rows = subprocess.run(
+        [PROGRAM, "run", "--plain", "w.toml"], cwd=tmp_path, capture_output=True, text=True, check=True
+    ).stdout
+    events = [
+        (int(c), name) for c, name in re.findall(r"^(\d+) 0 instr .... (sbi 0x17|cbi 0x18|sbi 0x18), 0$", rows, re.M)
+    ]
+    selected = sum(
+        (events[i + 1][0] if i + 1 < len(events) else cycles) - at
+        for i, (at, name) in enumerate(events)
+        if name != "sbi 0x18"
+    )
+    assert listens == [pytest.approx(100 * selected / cycles, abs=0.005)]
+
+
+@needs_program
+@needs_compiler
+def test_what_is_not_known_is_a_span_and_what_is_never_selected_is_off(tmp_path):
+    least, most = energy(tmp_path, "PORTB = table[0];", "PORTB |= 1;", ["-Os"])[0]
+    assert (least, most) == (pytest.approx(0, abs=0.5), pytest.approx(10, abs=0.6))
+    assert energy(tmp_path, "PORTB |= 1;", "", ["-Os"])[0] == [pytest.approx(0, abs=0.1)]
+    assert energy(tmp_path, "DDRB = 0;", "", ["-Os"])[0] == [pytest.approx(0, abs=0.1)]
+    assert energy(tmp_path, "PORTB &= 0xFE;", "", ["-O0"])[0] == [pytest.approx(100, abs=0.1)]
+    assert energy(tmp_path, "PORTB |= 1;", "", ["-Os"], more=["--always-listening"])[0] == [100]
+
+
+@pytest.mark.parametrize(
+    "texts, selected",
+    [
+        (["sbi 0x17, 0"], True),
+        (["sbi 0x17, 1"], False),
+        (["sbi 0x17, 0", "sbi 0x18, 0"], False),
+        (["sbi 0x17, 0", "sbi 0x18, 0", "cbi 0x18, 0"], True),
+        (["ldi r24, 0x07", "out 0x17, r24"], True),
+        (["in r24, 0x17", "ori r24, 0x01", "out 0x17, r24"], True),
+        (["sbi 0x17, 0", "lds r24, 0x0100", "out 0x18, r24"], None),
+        (["sbi 0x17, 0", "lds r24, 0x0100", "andi r24, 0xFE", "sts 0x0038, r24"], True),
+        (["sbi 0x17, 0", "lds r24, 0x0100", "ori r24, 0x01", "sts 0x0038, r24"], False),
+        (["ldi r30, 0x37", "ldi r31, 0x00", "ldd r24, Z+0", "ori r24, 0x01", "st Z+, r24"], True),
+        (["ldi r26, 0x38", "ldi r27, 0x00", "ldi r24, 0x01", "st -X, r24"], True),
+        (["ldi r24, 0x37", "ldi r25, 0x00", "movw r30, r24", "ldi r18, 0xFF", "std Z+0, r18"], True),
+        (["sbi 0x17, 0", "ldi r24, 0xFE", "com r24", "eor r25, r25", "or r25, r24", "out 0x18, r25"], False),
+        (["ldi r24, 0x01", "mul r24, r24", "out 0x17, r0"], None),
+        (["ldi r24, 0x01", "inc r24", "out 0x17, r24"], None),
+        (["ldi r24, 0x01", "cpi r24, 0x01", "out 0x17, r24"], True),
+    ],
+)
+def test_what_instructions_do_to_the_pin(texts, selected):
+    pin = Pin()
+    for text in texts:
+        pin.execute(0, text)
+    assert pin.is_selected() is selected
+
+
+def test_bits_of_which_some_are_known():
+    assert both(Byte(0x0F, 0x05), Byte(0xF0, 0x50)) == Byte(0xAA, 0)
+    assert inverted(Byte(0x0F, 0x05)) == Byte(0x0F, 0x0A) and inverted(ZERO) == Byte(0xFF, 0xFF)

@@ -117,7 +117,8 @@ class Links(unittest.TestCase):
         self.assertEqual(found, [("1", "2", "5"), ("6", "2", "5"), ("9", "10", "13"), ("14", "10", "13")] * 2)
 
     def test_losses_of_packet(self):
-        # Sensors 1 and 2 send four packets of seven bytes each; the sink hears all, the other sensor never listens then.
+        # Sensors 1 and 2 send four packets of seven bytes each; the sink hears all, the other sensor never listens
+        # then.
         out = run_tool("links", "--losses", f"{DATA}/packet.toml", f"{DATA}/packet.trace")[1]
         self.assertEqual(
             [line.split() for line in out.splitlines()[1:3]],
@@ -142,12 +143,16 @@ class Links(unittest.TestCase):
 
     def test_cut_off(self):
         status, _, err = self.links(TRACE[:-3])
-        self.assertEqual((status, err), (2, "avrora-tools links: standard input, line 15: the trace is cut off in this line\n"))
+        self.assertEqual(
+            (status, err), (2, "avrora-tools links: standard input, line 15: the trace is cut off in this line\n")
+        )
 
     def test_no_scenario(self):
         with scratch("net.toml", "cycles = 1\n") as path:
             status, _, err = run_tool("links", path, f"{DATA}/relay.trace")
-        self.assertEqual((status, err), (2, f"avrora-tools links: {path}: scenario refused: NoNodes: no table [[node]]\n"))
+        self.assertEqual(
+            (status, err), (2, f"avrora-tools links: {path}: scenario refused: NoNodes: no table [[node]]\n")
+        )
 
     def test_from_a_pipe(self):
         self.assertEqual(run_tool("links", f"{DATA}/relay.toml", stdin=data("relay.trace"))[0], 0)
@@ -196,7 +201,8 @@ class Rest(unittest.TestCase):
             self.assertIn("name the state (--state)", err)
             status, _, _ = run_tool("links", scenario, stdin=REST.partition("\n")[2])
             self.assertEqual(status, 0)
-            # A byte is heard for 1,000 cycles behind a latency of 100: one that is sent before the epoch not from 263,244 on.
+            # A byte is heard for 1,000 cycles behind a latency of 100: one that is sent before the epoch not from
+            # 263,244 on.
             late = REST.partition("\n")[2].replace("263300 2 heard 1 41 6", "263244 2 heard 1 41 3")
             status, out, _ = run_tool("links", scenario, stdin=late)
             self.assertEqual((status, "263244 node 2 heard 1 41 3" in out), (1, True))

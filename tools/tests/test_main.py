@@ -42,7 +42,9 @@ class Ends(unittest.TestCase):
     def test_large_files(self):
         for tool, words in (("why", []), ("annotate", ["-s"])):
             status, out, err = run_tool(tool, *words, "/dev/zero")
-            self.assertEqual((status, out, err), (2, "", f"avrora-tools {tool}: /dev/zero: more than 16,777,216 bytes\n"))
+            self.assertEqual(
+                (status, out, err), (2, "", f"avrora-tools {tool}: /dev/zero: more than 16,777,216 bytes\n")
+            )
 
     def test_closed_pipe(self):
         rows = [f"{cycle} 0 serial 0A\n" for cycle in range(20_000)]
@@ -98,7 +100,9 @@ class Ends(unittest.TestCase):
 
     def test_a_fault_of_a_tool(self):
         """A line, and the traceback on request alone."""
-        with scratch("tomllib.py", "def loads(*_, **__): raise ZeroDivisionError('one\\ntwo')\nTOMLDecodeError = OSError\n") as path:
+        with scratch(
+            "tomllib.py", "def loads(*_, **__): raise ZeroDivisionError('one\\ntwo')\nTOMLDecodeError = OSError\n"
+        ) as path:
             env = {"PYTHONPATH": os.path.dirname(path)}
             status, out, err = run_tool("why", f"{DATA}/relay.toml", env=env)
             self.assertEqual((status, out), (3, ""))
@@ -143,7 +147,11 @@ class Command(unittest.TestCase):
 
     def test_no_python(self):
         done = subprocess.run(
-            [f"{TOP}/avrora-tools"], env={**os.environ, "PYTHON": "/nowhere"}, capture_output=True, text=True, check=False
+            [f"{TOP}/avrora-tools"],
+            env={**os.environ, "PYTHON": "/nowhere"},
+            capture_output=True,
+            text=True,
+            check=False,
         )
         self.assertEqual(done.returncode, 3)
         self.assertIn("no Python of version 3.11 or later", done.stderr)

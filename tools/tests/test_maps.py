@@ -27,7 +27,9 @@ BOTH = [(0, 1), (1, 0), (1, 2), (2, 1)]
 
 
 def test_odd_networks():
-    assert oddities(3, BOTH) == ["nodes 0, 2 do not hear each other, and clash at node 1 unless they send at times that lie apart"]
+    assert oddities(3, BOTH) == [
+        "nodes 0, 2 do not hear each other, and clash at node 1 unless they send at times that lie apart"
+    ]
     assert oddities(2, [(0, 1), (1, 0)]) == []
     assert oddities(3, [*BOTH, (0, 2), (2, 0)]) == []
     assert oddities(4, [(0, 1), (1, 0), (1, 2)]) == [
@@ -84,18 +86,36 @@ def test_places_of_shapes():
     assert places_of(text, "p", 5) == [pytest.approx(place, abs=1e-4) for place in shape_places("geo:0.5", 5, 7)]
 
 
-@pytest.mark.parametrize("text", ["0 = [1, 2]", "0 = [1, 2]\n1 = [1]", "0 = [1, 2]\n1 = [1, true]", "0 = [1, 2]\n1 = [1, nan]", "0 = [0, 0]\n1 = [1, 1]\n2 = [2, 2]", "0 ="])
+@pytest.mark.parametrize(
+    "text",
+    [
+        "0 = [1, 2]",
+        "0 = [1, 2]\n1 = [1]",
+        "0 = [1, 2]\n1 = [1, true]",
+        "0 = [1, 2]\n1 = [1, nan]",
+        "0 = [0, 0]\n1 = [1, 1]\n2 = [2, 2]",
+        "0 =",
+    ],
+)
 def test_what_says_no_places_is_refused(text):
     with pytest.raises(BadInput):
         places_of(text, "p", 2)
 
 
 def test_colours_go_from_red_to_green():
-    assert [colour(share) for share in (0.0, 0.5, 1.0, None)] == ["hsl(0,75%,42%)", "hsl(60,75%,42%)", "hsl(120,75%,42%)", "#b8b8b8"]
+    assert [colour(share) for share in (0.0, 0.5, 1.0, None)] == [
+        "hsl(0,75%,42%)",
+        "hsl(60,75%,42%)",
+        "hsl(120,75%,42%)",
+        "#b8b8b8",
+    ]
 
 
 def test_the_picture():
-    text = drawn([(0, 0), (1, 0), (1, 1)], {(0, 1): Quality(10, 5, 3, 2), (1, 0): Quality(0, 0, 0, 0), (1, 2): Quality(4, 4, 0, 0)})
+    text = drawn(
+        [(0, 0), (1, 0), (1, 1)],
+        {(0, 1): Quality(10, 5, 3, 2), (1, 0): Quality(0, 0, 0, 0), (1, 2): Quality(4, 4, 0, 0)},
+    )
     root = xml.etree.ElementTree.fromstring(text)
     titles = {title.text for title in root.iter("{http://www.w3.org/2000/svg}title")}
     assert "0 to 1: 50.0% of 10 bytes clean, 3 clashed, 2 unheard" in titles
@@ -135,3 +155,11 @@ def test_mknet_warns_and_writes_places(tmp_path):
     assert places_of(places.read_text(), "p", 4)[0] == (0, 0)
     assert "nothing reaches" in run_tool("mknet", "geo:0.01", "a.hex*5")[2]
     assert run_tool("mknet", "ring", "a.hex*5")[2] == ""
+
+
+def test_what_was_sent_while_a_link_was_closed_did_not_come_through():
+    half = Quality(10, 5, 0, 0, 5)
+    assert half.share == 0.5
+    assert "0 to 1: 50.0% of 10 bytes clean, 0 clashed, 0 unheard, 5 while it was closed" in drawn(
+        [(0, 0), (1, 1)], {(0, 1): half}
+    )

@@ -201,7 +201,10 @@ class Window(unittest.TestCase):
         with scratch("avrora", "#!/bin/sh\necho hello\n") as avrora:
             os.chmod(avrora, 0o755)
             status, out, err = run_tool("window", "--avrora", avrora, f"{DATA}/relay.toml", "5", "6")
-        self.assertEqual((status, out, err), (3, "", "avrora-tools window: what the simulator wrote, line 1: no row of a trace: hello\n"))
+        self.assertEqual(
+            (status, out, err),
+            (3, "", "avrora-tools window: what the simulator wrote, line 1: no row of a trace: hello\n"),
+        )
 
     def test_no_simulator(self):
         status, _, err = run_tool("window", "--avrora", "/nowhere", f"{DATA}/relay.toml", "5", "6")

@@ -1,5 +1,6 @@
 """Timelines and waves."""
 import contextlib
+import itertools
 import json
 import os
 import random
@@ -10,6 +11,7 @@ import unittest
 import unittest.mock
 import xml.etree.ElementTree as tree
 
+from avrora_tools import pictures
 from avrora_tools.commands import timeline
 from support import DATA, LONG, data, needs_program, run_tool, scratch
 
@@ -128,8 +130,12 @@ class Page(unittest.TestCase):
         self.assertEqual(status, 0)
         self.assertLess(len(out), 1_500_000)
         drawn = data_of(out)
-        self.assertRegex(drawn["thinned"], "^thinned to one in [0-9,]+ cycles: samples of nothing, interrupts, sleep, heard")
-        self.assertEqual(err, f"avrora-tools timeline: {drawn['thinned']}; --from, --to and --nodes draw less, and all of it\n")
+        self.assertRegex(
+            drawn["thinned"], "^thinned to one in [0-9,]+ cycles: samples of nothing, interrupts, sleep, heard"
+        )
+        self.assertEqual(
+            err, f"avrora-tools timeline: {drawn['thinned']}; --from, --to and --nodes draw less, and all of it\n"
+        )
         clashes = [int(row.split()[0]) for row in rows if " heard 2 " in row]
         self.assertEqual(cycles(drawn["nodes"][0]["clash"], 3), clashes)
         self.assertGreater(len(drawn["nodes"][0]["heard"]), 4 * 500)  # what a pixel can show is there
@@ -207,9 +213,7 @@ document.body.innerHTML = `<pre>${said}|${ways}|${Math.round(from)}|${ink > 1000
     def ended(self, words, env):
         """The status and the output of a command; below 0 where it did not end in time."""
         with tempfile.TemporaryFile() as said:
-            browser = subprocess.Popen(
-                words, env=env, stdin=subprocess.DEVNULL, stdout=said, stderr=subprocess.DEVNULL
-            )
+            browser = subprocess.Popen(words, env=env, stdin=subprocess.DEVNULL, stdout=said, stderr=subprocess.DEVNULL)
             with contextlib.suppress(subprocess.TimeoutExpired):
                 browser.wait(BROWSER)
             browser.kill()
@@ -254,6 +258,103 @@ class Picture(unittest.TestCase):
         self.assertEqual(status, 0)
         self.assertLess(len(out), 200_000)
         self.assertEqual(len(tree.fromstring(out).findall(f"{SVG}path")), 3 + 1)
+
+
+class Axis(unittest.TestCase):
+    def test_with_a_clock_ticks_stand_at_round_times(self):
+        found = pictures.ticks(405_000, 411_000, 7_372_800, 1_000)
+        self.assertEqual(
+            [label for _, label in found],
+            ["55.0 ms", "55.1 ms", "55.2 ms", "55.3 ms", "55.4 ms", "55.5 ms", "55.6 ms", "55.7 ms"],
+        )
+        self.assertEqual(found[0][0], 55.0 * 7_372.8)
+        self.assertEqual(
+            [label for _, label in pictures.ticks(0, 40, 1_000_000, 1_000)][:3], ["0.000 ms", "0.005 ms", "0.010 ms"]
+        )
+        self.assertEqual([label for _, label in pictures.ticks(0, 40, 1_000, 1_000)][:3], ["0 ms", "5 ms", "10 ms"])
+
+    def test_without_one_at_round_cycles(self):
+        self.assertEqual([cycle for cycle, _ in pictures.ticks(12, 100, None, 1_000)], [20, 30, 40, 50, 60, 70, 80, 90])
+
+    def test_no_label_stands_over_another(self):
+        for hz in (None, 1, 32_768, 7_372_800):
+            for first, end in ((0, 1), (0, 35_000), (999_999_999_000, 999_999_999_990), (0, 2**40), (5, 7)):
+                for width in (60, 300, 1_096, 4_000):
+                    found = pictures.ticks(first, end, hz, width)
+                    places = [(cycle - first) * width / (end - first) for cycle, _ in found]
+                    for (one, label), (other, after) in itertools.pairwise(zip(places, (label for _, label in found))):
+                        self.assertLess(
+                            one + pictures.LETTER * len(label) / 2, other - pictures.LETTER * len(after) / 2
+                        )
+
+    def test_the_legend_has_room(self):
+        for width in (300, 700, 1_200):
+            root = tree.fromstring(page_of("flood", "--svg", "--width", str(width)))
+            height = float(root.get("height"))
+            rows = {}
+            for text in root.iter(f"{SVG}text"):
+                y, x, size = float(text.get("y")), float(text.get("x")), pictures.LETTER * len(text.text)
+                self.assertLess(y, height)
+                if text.get("text-anchor") != "middle":
+                    rows.setdefault(y, []).append((x - size, x) if text.get("text-anchor") == "end" else (x, x + size))
+            for spans in rows.values():
+                for (_, end), (begin, _) in itertools.pairwise(sorted(spans)):
+                    self.assertLess(end, begin + 1)
+
+    def test_a_long_name_is_shortened(self):
+        self.assertEqual(pictures.shortened("0 sensor", 6), "0 sen\u2026")
+
+
+CLOSED = """version = 3
+cycles = 9_000
+byte_time = 512
+latency = 10
+node = [{ image = "a.hex" }, { image = "b.hex" }]
+link = [{ from = 0, to = 1, open = [[2_000, 4_000], [5_000, 6_000]] }, { from = 1, to = 0 }]
+"""
+
+
+class Closed(unittest.TestCase):
+    """Spans in which a link is not open, and an --out whose name says what it is to be."""
+
+    def setUp(self):
+        folder = tempfile.TemporaryDirectory()
+        self.addCleanup(folder.cleanup)
+        self.scenario, self.trace, self.out = (f"{folder.name}/{name}" for name in ("s.toml", "s.trace", "out.svg"))
+        for path, text in (
+            (self.scenario, CLOSED),
+            (self.trace, "100 0 sent 41\n9000 0 end 1 running\n9000 1 end 1 running\n"),
+        ):
+            with open(path, "w", encoding="utf-8") as file:
+                file.write(text)
+
+    def test_in_the_page(self):
+        drawn = data_of(run_tool("timeline", "-s", self.scenario, self.trace)[1])
+        self.assertEqual(
+            [node["closed"] for node in drawn["nodes"]], [[], [[0, 2_000, 0], [4_000, 5_000, 0], [6_000, 9_000, 0]]]
+        )
+        part = data_of(run_tool("timeline", "-s", self.scenario, "--from", "4_500", "--to", "7_000", self.trace)[1])
+        self.assertEqual(
+            part["nodes"][1]["closed"] if len(part["nodes"]) > 1 else [[4_500, 5_000, 0], [6_000, 7_000, 0]],
+            [[4_500, 5_000, 0], [6_000, 7_000, 0]],
+        )
+
+    def test_in_the_picture(self):
+        root = tree.fromstring(run_tool("timeline", "--svg", "-s", self.scenario, self.trace)[1])
+        titles = [
+            shape.find(f"{SVG}title").text
+            for shape in root.iter(f"{SVG}rect")
+            if shape.get("class") == "closed" and len(shape)
+        ]
+        self.assertEqual(titles[1], "the link from node 0 to node 1 is closed from 4,000 to 5,000")
+        self.assertEqual(len(titles), 3)
+
+    def test_the_name_of_the_file_says_what_is_written(self):
+        self.assertEqual(run_tool("timeline", "-s", self.scenario, "-o", self.out, self.trace), (0, "", ""))
+        self.assertEqual(tree.parse(self.out).getroot().tag, f"{SVG}svg")
+        status, out, err = run_tool("timeline", "--svg", "-o", self.out.replace(".svg", ".html"), self.trace)
+        self.assertEqual((status, out), (2, ""))
+        self.assertIn("--svg writes a picture, and ", err)
 
 
 def changes(dump):

@@ -31,8 +31,8 @@ class Programs(unittest.TestCase):
                 (0xB0, "__bad_interrupt"),
                 (0xB4, "put"),
                 (0xD4, "transfer"),
-                (0xDE, "__vector_18"),
-                (0x130, "__vector_15"),
+                (0xDE, "USART0_RX_vect"),
+                (0x130, "TIMER0_COMP_vect"),
                 (0x1DC, "main"),
                 (0x210, "_exit"),
                 (0x212, "__stop_program"),
@@ -45,7 +45,7 @@ class Programs(unittest.TestCase):
             (0x1E * 2, "__vectors+0x3C"),
             (0xB4, "put relay.c:21"),
             (0xD8, "transfer+0x4 relay.c:29"),
-            (0x130, "__vector_15 relay.c:52"),
+            (0x130, "TIMER0_COMP_vect relay.c:52"),
             (0x20A, "main+0x2E relay.c:71"),
             (0x214, "?"),
         ):
@@ -157,16 +157,16 @@ class Annotate(unittest.TestCase):
             [
                 "TIMER0_COMP_vect, from main+0x2C relay.c:71",
                 "__vectors+0x3C",
-                "__vector_15 relay.c:52",
-                "__vector_15+0x2 relay.c:52",
+                "TIMER0_COMP_vect relay.c:52",
+                "TIMER0_COMP_vect+0x2 relay.c:52",
             ],
         )
 
     @pyelftools
     def test_stop(self):
-        out = run_tool("annotate", "-e", f"1={ELF}", stdin="5 0 stop 006C reserved opcode\n5 1 stop 006C reserved opcode\n")[
-            1
-        ]
+        out = run_tool(
+            "annotate", "-e", f"1={ELF}", stdin="5 0 stop 006C reserved opcode\n5 1 stop 006C reserved opcode\n"
+        )[1]
         self.assertEqual(
             out.splitlines(),
             ["5 0 stop 006C reserved opcode", f"{'5 1 stop 006C reserved opcode':<44} ; transfer+0x4 relay.c:29"],
@@ -260,8 +260,12 @@ class Profile(unittest.TestCase):
     def test_cut_off(self):
         """Without its end rows a trace is none, but where it is said to be what `head` wrote: up to its end."""
         self.refused("no end row of node 0", "--window", "1100..1140", trace=ROWS)
-        self.refused("no end row of node 0", "--window", "1100..1140", trace="".join(ROWS.splitlines(keepends=True)[:3]))
-        self.assertEqual(self.profile("--head", "1", "--window", "1100..1140", trace=ROWS)[1], "0 13 9 8 10 625".split())
+        self.refused(
+            "no end row of node 0", "--window", "1100..1140", trace="".join(ROWS.splitlines(keepends=True)[:3])
+        )
+        self.assertEqual(
+            self.profile("--head", "1", "--window", "1100..1140", trace=ROWS)[1], "0 13 9 8 10 625".split()
+        )
         self.refused("an end row, which", "--head", "1", trace=WINDOW)
 
     # The same rows as a whole trace, and as the tool window makes them of a run of 2,000 cycles.
@@ -269,7 +273,9 @@ class Profile(unittest.TestCase):
     PART = f"{ROWS}1160 0 end 3 stopped\n"
 
     def of_scenario(self, first, end, trace):
-        with scratch("net.toml", self.SCENARIO.format(first, end).replace("cycles", "byte_time = 256\ncycles")) as scenario:
+        with scratch(
+            "net.toml", self.SCENARIO.format(first, end).replace("cycles", "byte_time = 256\ncycles")
+        ) as scenario:
             return self.profile("-s", scenario, trace=trace)[1]
 
     def test_window_of_the_scenario(self):
@@ -295,7 +301,8 @@ class Profile(unittest.TestCase):
     def test_stopped_before(self):
         trace = f"{ROWS}1210 1 instr 0000 nop\n2000 0 end 3 stopped\n2000 1 end 1 running\n"
         self.assertEqual(
-            self.profile("--window", "1200..1240", trace=trace)[1:3], ["0 0 0 40 0 0".split(), "1 30 0 0 10 240".split()]
+            self.profile("--window", "1200..1240", trace=trace)[1:3],
+            ["0 0 0 40 0 0".split(), "1 30 0 0 10 240".split()],
         )
 
     def test_drawn_rows(self):
@@ -345,18 +352,31 @@ class Profile(unittest.TestCase):
                 ("0 charge 625\n", "0 charge 626\n", "do not add up"),
             ):
                 self.refused(why, *words, trace=self.MONITOR.replace(old, new))
-            self.refused("the scenario has 1 nodes", *words, trace=self.MONITOR + self.MONITOR.replace("\n0", "\n1").replace("0 lead", "1 lead", 1))
+            self.refused(
+                "the scenario has 1 nodes",
+                *words,
+                trace=self.MONITOR + self.MONITOR.replace("\n0", "\n1").replace("0 lead", "1 lead", 1),
+            )
         self.refused("its scenario (-s) tells whether it is whole", trace=self.MONITOR)
-        with scratch("net.toml", self.SCENARIO.format(1105, 1135)) as scenario:  # the report is of more cycles than the window
+        with scratch(
+            "net.toml", self.SCENARIO.format(1105, 1135)
+        ) as scenario:  # the report is of more cycles than the window
             self.refused("do not add up to the 30 cycles", "-s", scenario, trace=self.MONITOR)
-            self.assertEqual(self.profile("-s", scenario, "--window", "1100..1140", trace=self.MONITOR), self.profile("--window", "1100..1140"))
+            self.assertEqual(
+                self.profile("-s", scenario, "--window", "1100..1140", trace=self.MONITOR),
+                self.profile("--window", "1100..1140"),
+            )
 
     def test_no_instructions(self):
         """In a trace, and in what a monitor writes of a scenario without a window."""
-        self.refused("no instruction is traced: run the scenario with a window", trace="5 0 sent 41\n9 0 end 1 running\n")
+        self.refused(
+            "no instruction is traced: run the scenario with a window", trace="5 0 sent 41\n9 0 end 1 running\n"
+        )
         with scratch("net.toml", self.SCENARIO.format(0, 0)) as scenario:
             monitor = "0 lead 0\n0 asleep 0\n0 stopped 0\n0 charge 0\n"
-            self.refused("a report of no cycles: the scenario has no window. `avrora monitor", "-s", scenario, trace=monitor)
+            self.refused(
+                "a report of no cycles: the scenario has no window. `avrora monitor", "-s", scenario, trace=monitor
+            )
 
     @pyelftools
     def test_relay(self):
@@ -364,12 +384,12 @@ class Profile(unittest.TestCase):
         # handler's head.
         lines = self.profile("-s", f"{DATA}/relay.toml", "-e", ELF, "--callers", "--lines", trace=data("relay.trace"))
         for line in (
-            "90 51.43 55 __vector_15",
+            "90 51.43 55 TIMER0_COMP_vect",
             "15 8.57 5 __vectors",
             "40 22.86 5 (entering interrupts)",
             "30 17.14 (before the first row)",
             "90 51.43 55 relay.c:52",
-            "5 TIMER0_COMP_vect > __vector_15",
+            "5 (interrupt) > TIMER0_COMP_vect",
             "3 29 0 0 6 232",
         ):
             self.assertIn(line.split(), lines)
@@ -380,7 +400,7 @@ class Profile(unittest.TestCase):
         lines = self.profile("-s", f"{DATA}/relay.toml", "-e", ELF, "--coverage", trace=data("relay.trace"))
         self.assertIn("1 35 3 __vectors".split(), lines)
         self.assertIn("0 13 0 put".split(), lines)
-        self.assertIn("11 76 14 __vector_15".split(), lines)
+        self.assertIn("11 76 14 TIMER0_COMP_vect".split(), lines)
 
     @pyelftools
     def test_calls(self):
@@ -396,5 +416,8 @@ class Profile(unittest.TestCase):
         self.assertEqual(
             lines[lines.index(["calls"]) + 1 :],
             [["calls"]]
-            + [line.split() for line in ("1 USART0_RX_vect > __vector_18", "1 __vector_18 > put", "1 main > transfer")],
+            + [
+                line.split()
+                for line in ("1 (interrupt) > USART0_RX_vect", "1 USART0_RX_vect > put", "1 main > transfer")
+            ],
         )

@@ -1,4 +1,5 @@
-"""Properties over drawn traces, patterns and texts of TOML: what is written is read back, what is changed is refused or read."""
+"""Properties over drawn traces, patterns and texts of TOML: what is written is read back, what is changed is refused or
+read."""
 import tomllib
 import unittest
 
@@ -18,7 +19,9 @@ NODES, LIMIT = 3, 100_000
 
 
 if given:
-    SETTINGS = settings(deadline=None, derandomize=True, database=None, max_examples=60, suppress_health_check=list(HealthCheck))
+    SETTINGS = settings(
+        deadline=None, derandomize=True, database=None, max_examples=60, suppress_health_check=list(HealthCheck)
+    )
 
     BYTES = draws.integers(0, 255).map("{:02X}".format)
     HEARD = draws.one_of(
@@ -70,7 +73,12 @@ if given:
             last = content.rindex(b"\n", 0, len(content) - 1) + 1  # of the row of the last node
             at = data.draw(draws.integers(0, last - 1))
             cut = content[:at]
-            if rows and cut.endswith(b"\n") and b" end " in cut and not any(f" {NODES - 1} " in row for row in rows[:-NODES]):
+            if (
+                rows
+                and cut.endswith(b"\n")
+                and b" end " in cut
+                and not any(f" {NODES - 1} " in row for row in rows[:-NODES])
+            ):
                 return  # as good as a trace of fewer nodes
             self.assertRaises(BadInput, read, cut)
 
@@ -91,7 +99,9 @@ if given:
         @SETTINGS
         @given(drawn_traces())
         def test_a_row_matches_itself(self, rows):
-            for row, (cycle, node, event) in zip(rows, traces.Trace(["".join(f"{it}\n" for it in rows).encode()], "t", traces.Form.WHOLE)):
+            for row, (cycle, node, event) in zip(
+                rows, traces.Trace(["".join(f"{it}\n" for it in rows).encode()], "t", traces.Form.WHOLE)
+            ):
                 self.assertTrue(Pattern(row).matches(cycle, node, event, 0))
                 for kind in ("serial", "heard", "instr", "end"):
                     self.assertEqual(Pattern(f"* * {kind} *").matches(cycle, node, event, 0), event.kind == kind)
@@ -130,7 +140,8 @@ if given:
                 draws.times().map(lambda it: it.replace(fold=0)),
             ),
             lambda values: draws.one_of(
-                draws.lists(values, max_size=3), draws.dictionaries(draws.from_regex("[a-z]{1,3}", fullmatch=True), values, max_size=3)
+                draws.lists(values, max_size=3),
+                draws.dictionaries(draws.from_regex("[a-z]{1,3}", fullmatch=True), values, max_size=3),
             ),
             max_leaves=8,
         )
@@ -155,7 +166,9 @@ if given:
 
         # Lines as programs write them, and others that are nearly so.
         PARTS = draws.sampled_from(
-            "a b_2 é 3 [[ ]] [[a]] [[b_2]] [ ] = \" \\ # , 0 01 7 -1 1_0 ٣ 999999999999999999 1234567890123456789 true \n \t".split(" ")
+            'a b_2 é 3 [[ ]] [[a]] [[b_2]] [ ] = " \\ # , 0 01 7 -1 1_0 ٣ 999999999999999999 1234567890123456789 true \n \t'.split(
+                " "
+            )
             + [" ", " = ", '"x y"', "[1, 2]", "[[1, 2], [3, 4]]", "[01]", "[1, ]", "a = 1\n", "[[b_2]]\n", 'c = "d"\n']
         )
 

@@ -4,7 +4,8 @@ import tomllib
 import pytest
 
 from avrora_tools.errors import BadInput, BadWords
-from avrora_tools.sweeping.events import EPOCH, InputByte, LinkLatency, Moved, Span, moved_scenario, parsed_event, stretches
+from avrora_tools.states import EPOCH
+from avrora_tools.sweeping.events import InputByte, LinkLatency, Moved, Span, moved_scenario, parsed_event, stretches
 from avrora_tools.sweeping.simulation import scenario_text
 
 DOCUMENT = tomllib.loads(
@@ -75,13 +76,27 @@ def input_of(every, hex_):
 @pytest.mark.parametrize(
     "document, moved, said",
     [
-        (DOCUMENT, byte(1, 1, 605_000, 606_000), r"byte 2 moves with it, 10,000 behind, and byte 0 stays, 5,000 before: an input has one"),
-        (DOCUMENT, byte(1, 2, 615_000, 618_000), r"byte 1 stays, 5,000 before, and byte 0, 10,000 before that: an input has one"),
-        (input_of(65_535, "0102"), byte(1, 1, 665_536, 665_540), r"byte 0 stays in cycle 600,000, and an input has at most 65,535 cycles"),
+        (
+            DOCUMENT,
+            byte(1, 1, 605_000, 606_000),
+            r"byte 2 moves with it, 10,000 behind, and byte 0 stays, 5,000 before: an input has one",
+        ),
+        (
+            DOCUMENT,
+            byte(1, 2, 615_000, 618_000),
+            r"byte 1 stays, 5,000 before, and byte 0, 10,000 before that: an input has one",
+        ),
+        (
+            input_of(65_535, "0102"),
+            byte(1, 1, 665_536, 665_540),
+            r"byte 0 stays in cycle 600,000, and an input has at most 65,535 cycles",
+        ),
     ],
 )
 def test_a_refusal_names_the_byte_that_hinders_and_the_ways_out(document, moved, said):
-    with pytest.raises(BadInput, match=f"{said}.* Move it alone \\(--alone, from cycle 262,144 on\\), or the first byte, or"):
+    with pytest.raises(
+        BadInput, match=f"{said}.* Move it alone \\(--alone, from cycle 262,144 on\\), or the first byte, or"
+    ):
         moved_scenario(document, [moved], None)
     alone_ = Moved(InputByte(moved.event.node, moved.event.index, True), moved.span)
     assert moved_scenario(document, [alone_], None).begins == 2 * EPOCH
@@ -98,14 +113,18 @@ def test_a_byte_where_it_is_stays_there():
 
 def test_a_byte_alone_beside_one_that_is_not():
     """What the other one cannot is told before any run, and in words of its own."""
-    document = DOCUMENT | {"input": [{"node": 0, "at": 600_000, "every": 10_000, "hex": "010203"}, DOCUMENT["input"][1]]}
+    document = DOCUMENT | {
+        "input": [{"node": 0, "at": 600_000, "every": 10_000, "hex": "010203"}, DOCUMENT["input"][1]]
+    }
     with pytest.raises(BadInput, match="^byte 1 of node 0's input .* byte 2 moves with it"):
         moved_scenario(document, [byte(0, 1, 605_000, 606_000), alone(1, 1, 605_000, 606_000)], None)
     early = DOCUMENT | {"input": [{"node": 0, "at": 500_000, "every": 30_000, "hex": "0102"}, DOCUMENT["input"][1]]}
     scenario = moved_scenario(early, [byte(0, 1, 560_000, 560_009), alone(1, 1, 605_000, 606_000)], None)
     assert scenario.begins == 2 * EPOCH
     assert script(scenario, (560_001, None), node=0) == {"node": 0, "at": 560_001, "every": 30_000, "hex": "02"}
-    with pytest.raises(BadWords, match="^two bytes of one node cannot both move: one of a node does, with those behind it or alone$"):
+    with pytest.raises(
+        BadWords, match="^two bytes of one node cannot both move: one of a node does, with those behind it or alone$"
+    ):
         moved_scenario(DOCUMENT, [byte(1, 0, 600_000, 600_009), alone(1, 1, 610_000, 610_009)], None)
 
 
@@ -153,7 +172,15 @@ def test_words(kind, text, event, span):
 
 @pytest.mark.parametrize(
     "kind, text",
-    [("input", "3=1..2"), ("start", "3:1=1..2"), ("latency", "0=1..2"), ("input", "0:0=9..1"), ("input", "0:0=1"), ("start", "x=1..2"), ("start", "0=1..5/0")],
+    [
+        ("input", "3=1..2"),
+        ("start", "3:1=1..2"),
+        ("latency", "0=1..2"),
+        ("input", "0:0=9..1"),
+        ("input", "0:0=1"),
+        ("start", "x=1..2"),
+        ("start", "0=1..5/0"),
+    ],
 )
 def test_bad_words(kind, text):
     with pytest.raises(BadWords):

@@ -1,7 +1,8 @@
-"""Sweeps of examples/races by the program that AVRORA_PROGRAM names: each race is found, at its line, and its fix is clean.
+"""Sweeps of examples/races by the program that AVRORA_PROGRAM names: each race is found, at its line, and its fix is
+clean.
 
-How many arrivals fail follows from the instructions: an arrival in a cycle of one is noticed at the next, so as many fail as
-the instructions between the first and the last use take cycles, each time that the code is passed."""
+How many arrivals fail follows from the instructions: an arrival in a cycle of one is noticed at the next, so as many
+fail as the instructions between the first and the last use take cycles, each time that the code is passed."""
 import os
 import re
 import shutil
@@ -23,7 +24,9 @@ pytestmark = needs_program
 
 def marked_lines(source):
     """The lines of a source that say where its race is."""
-    return [n for n, line in enumerate((RACES / source).read_text().splitlines(), 1) if re.search(r"the race|to here", line)]
+    return [
+        n for n, line in enumerate((RACES / source).read_text().splitlines(), 1) if re.search(r"the race|to here", line)
+    ]
 
 
 @pytest.fixture(scope="module")
@@ -58,12 +61,13 @@ SWEEPS = [
     ("wake", ["--start", "0=514_150..514_250", "--until", "530_000"], 4, 1),
     # LDS two, SUBI one.
     ("ring", ["--start", "0=271_200..271_400", "--until", "300_000", "--compare", "any-order"], 3, 1),
-    # The read of the low half is the one instruction that SEI owes: a tick within the nine cycles from CLI on comes behind it.
+    # The read of the low half is the one instruction that SEI owes: a tick within the nine cycles from CLI on comes
+    # behind it.
     ("ticks", ["--start", "0=384_100..384_250", "--until", "397_000", "--check", "ticks_check.py"], 11, 1),
     # From the read of TCNT1L to the write of TIFR five cycles, each 1,024.
     ("late", ["--start", "0=270_200..271_400", "--until", "300_000"], 5, 2),
     # As torn, of two visits 253 cycles apart.
-    ("data", ["--start", "0=291_100..291_500", "--until", "320_000"], 2, 2),
+    ("data", ["--start", "0=291_100..291_500", "--until", "320_000", "--expect", "data.expect"], 2, 2),
     # From the read of `queued` that makes the place (in cycle 443,346) to the end of `queued++` (443,366).
     ("alarm", ["--input", "2:1=443_300..443_420", "--until", "660_000", "--compare", "lines"], 20, 1),
 ]
@@ -83,7 +87,9 @@ def test_a_race_is_found(swept):
     _, out, each, visits = swept
     assert re.findall(r"^\d+\. ([\d,]+) of", out, re.M) == [str(each * visits)]
     moves = re.search(r"moves: (.*)", out)[1]
-    stretches = [[int(end.replace(",", "")) for end in part.split(" to ")] for part in re.split(r", (?=\d+,\d+ to)", moves)]
+    stretches = [
+        [int(end.replace(",", "")) for end in part.split(" to ")] for part in re.split(r", (?=\d+,\d+ to)", moves)
+    ]
     assert [last - first + 1 for first, last in stretches] == [each] * visits
 
 
@@ -121,10 +127,21 @@ def test_a_clean_first_look_proves_nothing(races):
 
 
 def test_the_earliest_failure_is_written_as_a_scenario_that_fails(races, tmp_path):
-    words = ["--input", "2:1=443_340..443_350", "--until", "660_000", "--compare", "lines", "--out", str(tmp_path / "failed.toml")]
+    words = [
+        "--input",
+        "2:1=443_340..443_350",
+        "--until",
+        "660_000",
+        "--compare",
+        "lines",
+        "--out",
+        str(tmp_path / "failed.toml"),
+    ]
     status, out, _ = sweep(races, "alarm.toml", *words)
     assert status == 1
-    assert re.search(r"^4433\d\d 2 enter 0024 0084$", rows_of_earliest(out, races), re.M)  # between the two reads, in the window
+    assert re.search(
+        r"^4433\d\d 2 enter 0024 0084$", rows_of_earliest(out, races), re.M
+    )  # between the two reads, in the window
     notes = (tmp_path / "failed.toml").read_text().splitlines()[:2]
     assert re.fullmatch(r"# The run of a sweep with byte 1 of node 2's input at 443,34\d\.", notes[0])
     assert notes[1] == "# It begins in the state beside it: avrora resume failed.toml failed.toml.state"
@@ -139,7 +156,16 @@ def rows_of_earliest(out, folder):
 @pytest.mark.parametrize("is_beside", [True, False])
 def test_the_earliest_failure_of_a_byte_alone_names_its_moves(races, tmp_path, is_beside):
     folder = races if is_beside else tmp_path
-    words = [str(races / "alarm.toml"), "--input", "2:1=443_340..443_350", "--alone", "--until", "660_000", "--compare", "lines"]
+    words = [
+        str(races / "alarm.toml"),
+        "--input",
+        "2:1=443_340..443_350",
+        "--alone",
+        "--until",
+        "660_000",
+        "--compare",
+        "lines",
+    ]
     status, out, _ = sweep(folder, *words, "--out", str(tmp_path / "it is alone.toml"))
     assert status == 1
     assert ("earliest: (cd " in out) != is_beside

@@ -1,4 +1,5 @@
-"""The reader of traces: which rows are those of a trace, of each form; what a trace is refused for; mutants of the reader."""
+"""The reader of traces: which rows are those of a trace, of each form; what a trace is refused for; mutants of the
+reader."""
 import gzip
 import unittest
 
@@ -159,7 +160,9 @@ class Order(Refusals):
         rows = good.splitlines(keepends=True)
         for first in range(4):
             for second in range(first + 1):
-                self.refused(rows[first] + rows[second], "t, line 2: a node's rows of cycle 5 are out of order", Form.ROWS)
+                self.refused(
+                    rows[first] + rows[second], "t, line 2: a node's rows of cycle 5 are out of order", Form.ROWS
+                )
         self.refused("5 0 instr 0000 nop\n5 0 enter 001E 0001\n", "out of order", Form.ROWS)
         self.refused("5 0 instr 0000 nop\n5 0 stop 0000 break\n", "out of order", Form.ROWS)
 
@@ -179,7 +182,9 @@ class Order(Refusals):
     def test_behind_a_stop(self):
         self.refused("5 0 stop 0000 break\n5 0 serial 41\n", "t, line 2: node 0 stopped before", Form.ROWS)
         self.refused("5 0 stop 0000 break\n6 0 stop 0000 break\n", "t, line 2: node 0 stopped before", Form.ROWS)
-        self.refused("4 0 serial 41\n5 0 stop 0000 break\n6 0 serial 41\n", "t, line 3: node 0 stopped before", Form.ROWS)
+        self.refused(
+            "4 0 serial 41\n5 0 stop 0000 break\n6 0 serial 41\n", "t, line 3: node 0 stopped before", Form.ROWS
+        )
         self.assertEqual(len(lines("5 0 stop 0000 break\n6 1 sent 41\n", Form.ROWS)), 2)
 
 
@@ -236,7 +241,11 @@ class AgainstAScenario(Refusals):
         self.assertEqual(len(lines(f"99 1 sent 41\n{self.END}", scenario=scenario_of())), 3)
 
     def test_nodes(self):
-        self.refused(f"5 2 sent 41\n{self.END}", "line 1: the scenario has 2 nodes, so it is not its trace", scenario=scenario_of())
+        self.refused(
+            f"5 2 sent 41\n{self.END}",
+            "line 1: the scenario has 2 nodes, so it is not its trace",
+            scenario=scenario_of(),
+        )
         self.refused(self.END, "no end row of node 2", scenario=scenario_of(3))
         self.refused(f"{self.END}100 2 end 1 running\n", "the scenario has 2 nodes", scenario=scenario_of())
 
@@ -277,7 +286,12 @@ class AgainstAState(Refusals):
         state = state_of(False, False)
         end = self.END.format("running")
         self.assertEqual(len(lines(f"262144 0 sent 41\n{end}", Form.ENDED, state=state)), 3)
-        self.refused(f"262143 0 sent 41\n{end}", "line 1: a row before cycle 262,144, of which the state is", Form.ENDED, state=state)
+        self.refused(
+            f"262143 0 sent 41\n{end}",
+            "line 1: a row before cycle 262,144, of which the state is",
+            Form.ENDED,
+            state=state,
+        )
         self.refused(f"262144 2 sent 41\n{end}", "the state has 2 nodes", Form.ENDED, state=state)
         self.refused(end, "no end row of node 2", Form.ENDED, state=state_of(False, False, False))
 
@@ -285,7 +299,9 @@ class AgainstAState(Refusals):
         state = state_of(False, True)
         self.assertEqual(len(lines(self.END.format("stopped"), Form.ENDED, state=state)), 2)
         self.refused(self.END.format("running"), "node 1 stopped before", Form.ENDED, state=state)
-        self.refused(f"262145 1 sent 41\n{self.END.format('stopped')}", "node 1 stopped before", Form.ENDED, state=state)
+        self.refused(
+            f"262145 1 sent 41\n{self.END.format('stopped')}", "node 1 stopped before", Form.ENDED, state=state
+        )
         self.refused(self.END.format("stopped"), "node 1 did not stop before", Form.ENDED, state=state_of(False, False))
 
 

@@ -3,10 +3,9 @@
 
     tools/tests/times.py [ROWS]     of a trace of about so many rows (else 1,000,000), which it makes itself
 
-It makes a network of 16 nodes of which all listen, in cycles of their own, and the trace of it that the rules of the air
-give. Seconds are those of the processor, of which the least of three runs is told, so other work on the machine counts
-little.
-"""
+It makes a network of 16 nodes of which all listen, in cycles of their own, and the trace of it that the rules of the
+air give. Seconds are those of the processor, of which the least of three runs is told, so other work on the machine
+counts little. """
 import heapq
 import os
 import random
@@ -98,7 +97,11 @@ def main(rows):
         for name, words in commands.items():
             seconds, mebibytes = measured(words)
             of = 2 * million if name == "diff" else million
-            print(f"{name:15} {seconds / of:6.2f} s a million rows, {of / seconds * 1e6:11,.0f} rows a second, {mebibytes:4.0f} MiB", flush=True)
+            print(
+                f"{name:15} {seconds / of:6.2f} s a million rows, {of / seconds * 1e6:11,.0f} rows a second, "
+                f"{mebibytes:4.0f} MiB",
+                flush=True,
+            )
 
 
 if __name__ == "__main__":

@@ -9,11 +9,17 @@ from avrora_tools.events import Serial, Stop
 SUMMARY = "what each node wrote to USART0"
 
 DESCRIPTION = """Shows what each node writes to USART0, as a serial monitor does: a line with the cycle of its first
-byte and the node's number. A line ends with LF or CR, and where the node stops or is silent for long. Stops are shown
-too. It takes any rows of a trace, also while they are made."""
+byte and the node's number. A line ends with LF, CR or CR LF, and where the node stops or is silent for long; an empty
+line is shown as one. Bytes that are no visible ASCII are shown as \\xHH, and a backslash as two. Stops are shown too.
+It takes any rows of a trace, also while they are made."""
 
 BYTES_A_LINE = 16  # with --hex
-LINE_ENDS = b"\r\n"
+CR, LF, BACKSLASH = b"\r\n\\"
+
+
+# How each byte is shown; a backslash as two, so that what is shown of other bytes is not taken for what was written.
+SHOWN = [chr(byte) if 0x20 <= byte < 0x7F else f"\\x{byte:02X}" for byte in range(256)]
+SHOWN[BACKSLASH] *= 2
 
 
 class Line:
@@ -32,18 +38,31 @@ class Console:
         self.hz: int | None = arguments.hz
         self.hex: bool = arguments.hex
         self.lines: dict[int, Line] = {}
+        self.last: dict[int, int] = {}  # by node its last byte
+        self.silent: set[int] = set()  # nodes whose last line was ended by their silence, and not by them
 
     def write(self, cycle: int, node: int, byte: int) -> None:
         for silent in [other for other, line in self.lines.items() if cycle - line.last > self.idle]:
             self.end(silent)
-        if byte in LINE_ENDS and not self.hex:
-            self.end(node)
+            self.silent.add(silent)
+        before, self.last[node] = self.last.get(node), byte
+        if byte in (CR, LF) and not self.hex:
+            self.end_line(cycle, node, byte == LF and before == CR)
             return
+        self.silent.discard(node)
         line = self.lines.setdefault(node, Line(cycle))
         line.last = cycle
         line.bytes.append(byte)
         if self.hex and len(line.bytes) == BYTES_A_LINE:
             self.end(node)
+
+    def end_line(self, cycle: int, node: int, is_ended: bool) -> None:
+        """A node ends its line, which is an empty one where it has no bytes and was not ended before."""
+        if node in self.lines:
+            self.end(node)
+        elif not is_ended and node not in self.silent:
+            self.show(cycle, node, "|", "")
+        self.silent.discard(node)
 
     def end(self, node: int) -> None:
         line = self.lines.pop(node, None)
@@ -55,12 +74,12 @@ class Console:
             self.end(node)
 
     def show(self, cycle: int, node: int, sign: str, text: str) -> None:
-        print(f"{cli.shown_cycle(cycle, self.hz)} {node:>2} {sign} {text}", flush=sys.stdout.isatty())
+        print(f"{cli.shown_cycle(cycle, self.hz)} {node:>2} {sign}{' ' * bool(text)}{text}", flush=sys.stdout.isatty())
 
     def text(self, data: bytearray) -> str:
         if self.hex:
             return data.hex(" ").upper()
-        return "".join(chr(byte) if 0x20 <= byte < 0x7F else f"\\x{byte:02X}" for byte in data)
+        return "".join(SHOWN[byte] for byte in data)
 
 
 def configure(parser: argparse.ArgumentParser) -> None:

@@ -11,11 +11,11 @@ from avrora_tools.traces import Row
 
 SUMMARY = "what differs between two traces: first rows, and what is later, gone or new"
 
-DESCRIPTION = """Compares two traces node by node. Of each node that differs it shows the first row that is not the same,
-with the rows about it: `-` before those of the first trace, `+` before those of the second. Of the rows behind it, it tells
-by kind how many are the same but in other cycles, by how much, and which are gone or new. Rows of a kind are compared in
-their order, without their cycles (of a sample without its age too); where they are not the same the next ones that are are
-sought among 64.
+DESCRIPTION = """Compares two traces node by node. Of each node that differs it shows the first row that is not the
+same, with the rows about it: `-` before those of the first trace, `+` before those of the second. Of the rows behind
+it, it tells by kind how many are the same but in other cycles, by how much, and which are gone or new. Rows of a kind
+are compared in their order, without their cycles (of a sample without its age too); where they are not the same the
+next ones that are are sought among 64.
 
 Status 0: no row differs; 1: one does; 2: bad words, a file that is no trace, or two that can have no such row."""
 
@@ -56,7 +56,9 @@ def refuse_unseen(arguments: argparse.Namespace, came: set[tuple[int, str]]) -> 
     if missing:
         raise BadInput(f"neither trace has a row of node {missing[0]}")
     if arguments.kinds <= TRACED and not any(kind in TRACED for _, kind in came):
-        raise BadInput(f"neither trace has a window, and {' and '.join(sorted(arguments.kinds))} rows stand in one alone")
+        raise BadInput(
+            f"neither trace has a window, and {' and '.join(sorted(arguments.kinds))} rows stand in one alone"
+        )
 
 
 def print_node(number: int, node: NodeDifference, notes: Notes) -> None:
@@ -86,7 +88,10 @@ def counts(alignment: Alignment) -> Iterator[str]:
         yield f"{alignment.unmoved:,} the same"
     if alignment.moved:
         yield f"{alignment.moved:,} the same but {shift_text(*alignment.shifts)}"
-    for word, count, rows in (("gone", alignment.gone_count, alignment.gone), ("new", alignment.new_count, alignment.new)):
+    for word, count, rows in (
+        ("gone", alignment.gone_count, alignment.gone),
+        ("new", alignment.new_count, alignment.new),
+    ):
         if count:
             told = ", ".join(f"{row.rest} in {row.cycle}" for row in rows)
             yield f"{count:,} {word} ({told}{', ..' if count > len(rows) else ''})"
@@ -113,8 +118,12 @@ def kinds(text: str) -> set[str]:
 def configure(parser: argparse.ArgumentParser) -> None:
     cli.describe(parser, DESCRIPTION, "diff -e relay.elf before.trace after.trace")
     cli.add_nodes(parser)
-    parser.add_argument("-k", "--kinds", type=kinds, default=set(events.KINDS), help="these kinds of rows alone, such as serial,sent")
-    parser.add_argument("--without-cycles", action="store_true", help="rows that only come in other cycles do not differ")
+    parser.add_argument(
+        "-k", "--kinds", type=kinds, default=set(events.KINDS), help="these kinds of rows alone, such as serial,sent"
+    )
+    parser.add_argument(
+        "--without-cycles", action="store_true", help="rows that only come in other cycles do not differ"
+    )
     programs.add_programs(parser)
     parser.add_argument("first", metavar="A", help="a trace: a file, .gz too, or - for the standard input")
     parser.add_argument("second", metavar="B", help="another")

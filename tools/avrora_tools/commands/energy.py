@@ -1,34 +1,57 @@
 """Charge and duty cycle of each node, by what `avrora monitor` wrote and a table of currents."""
 import argparse
 import html
+import os
 
-from avrora_tools import cli, files, profiles, scenarios, traces
-from avrora_tools.budgets import HOURS_A_DAY, Account, Table, account, duty_cycle, milliampere_hours, sent, table_of, whole
+from avrora_tools import cli, files, profiles, scenarios, toml, traces
+from avrora_tools.budgets import (
+    HOURS_A_DAY,
+    Account,
+    Table,
+    account,
+    duty_cycle,
+    listening_cycle,
+    milliampere_hours,
+    sent,
+)
+from avrora_tools.budgets import table_of, whole
 from avrora_tools.errors import BadInput, Status
+from avrora_tools.listening import Radio, Selection
 from avrora_tools.profiles import Spent
+from avrora_tools.sweeping.simulation import Simulator
 from avrora_tools.terminal import warn
 
 SUMMARY = "charge and duty cycle of each node, by a table of currents"
 
-DESCRIPTION = """Tells the charge that each node draws and its duty cycle, by what `avrora monitor` wrote of a scenario and
-a TOML file of currents in mA:
+DESCRIPTION = """Tells the charge that each node draws and its duty cycle, by what `avrora monitor` wrote of a scenario
+and a TOML file of currents in mA:
 
   awake = 8.0        # of the processor
   asleep = 3.2
   sending = 12.0     # of the radio, while a byte is on the air
-  listening = 7.0    # of the radio, all other time
+  listening = 7.0    # of the radio, all other time in which it is selected (PB0 an output, and low)
+  off = 0.001        # of the radio, while it is not; 0, where it is absent
   hz = 7_372_800     # cycles a second; this, where it is absent
   battery = 2_500    # mA h; then it is told how many days it lasts
   [node.'1-4']       # other currents of some nodes
   listening = 0.5
 
-`avrora monitor FILE 0 END`, where END are the `cycles` of the scenario in digits alone (no _), writes of the whole run; of
-other cycles than these and the scenario's window --window says which. examples/currents.toml is a table to begin with. Cycles
-without an owner (`lead`: the window began within a sleep or an instruction) may be awake or asleep, so what depends on them
-is told as a span. A byte that is sent counts for a whole byte time. From its stop on a node draws nothing. Means and
+`avrora monitor FILE 0 END`, where END are the `cycles` of the scenario in digits alone (no _), writes of the whole run;
+of other cycles than these and the scenario's window --window says which. examples/currents.toml is a table to begin
+with. Cycles without an owner (`lead`: the window began within a sleep or an instruction) may be awake or asleep, so
+what depends on them is told as a span. No report tells when a radio was selected, so the tool runs the scenario again
+and follows the writes to PB0; where it cannot tell, what depends on it is a span too. --always-listening takes each
+radio for selected. A byte that is sent counts for a whole byte time. From its stop on a node draws nothing. Means and
 days are those of the window of the report."""
 
-PARTS = {"awake": "#c0392b", "asleep": "#a9b8d0", "sending": "#3b6fb6", "listening": "#7bbf8a", "unknown": "#e0e0e0"}
+PARTS = {
+    "awake": "#c0392b",
+    "asleep": "#a9b8d0",
+    "sending": "#3b6fb6",
+    "listening": "#7bbf8a",
+    "off": "#c8c8a0",
+    "unknown": "#e0e0e0",
+}
 
 
 def run(arguments: argparse.Namespace) -> int:
@@ -36,11 +59,13 @@ def run(arguments: argparse.Namespace) -> int:
     scenario = scenarios.Scenario.load(arguments.scenario)
     name = files.shown(arguments.report)
     lines = profiles.text_lines(traces.file_blocks(arguments.report), name)
-    nodes = list(profiles.MonitorReader(name, scenario, arguments.window).read(lines).values())
+    reader = profiles.MonitorReader(name, scenario, arguments.window)
+    nodes = list(reader.read(lines).values())
     if unknown := sorted(set(table.by_node) - set(range(len(nodes)))):
         raise BadInput(f"{files.shown(arguments.currents)}: there is no node {unknown[0]}")
-    accounts = [account(node, table.of(k), scenario.byte_time, table.hz) for k, node in enumerate(nodes)]
-    print_table(nodes, accounts, table)
+    radios = radios_of(arguments, scenario, reader.span(), nodes)
+    accounts = [account(node, table.of(k), scenario.byte_time, table.hz, radios[k]) for k, node in enumerate(nodes)]
+    print_table(nodes, accounts, radios, scenario.byte_time, table)
     if stopped := [k for k, node in enumerate(nodes) if node.stopped]:
         warn(f"node {stopped[0]} stopped, and draws nothing from then on")
     if arguments.svg:
@@ -48,24 +73,51 @@ def run(arguments: argparse.Namespace) -> int:
     return Status.GOOD
 
 
-def print_table(nodes: list[Spent], accounts: list[Account], table: Table) -> None:
+def radios_of(
+    arguments: argparse.Namespace, scenario: scenarios.Scenario, span: tuple[int, int], nodes: list[Spent]
+) -> list[Radio]:
+    """For how long each radio was selected: by running the scenario again, or with --always-listening all the time."""
+    if arguments.always_listening:
+        return [Radio(node.total() - node.stopped) for node in nodes]
+    folder = os.path.dirname(os.path.abspath(arguments.scenario))
+    simulator = Simulator(cli.simulator(arguments.avrora), folder, arguments.timeout)
+    document = toml.loads(files.read_text(arguments.scenario))
+    return Selection(simulator, scenario, document, span).radios(nodes)
+
+
+def mean(parts: list[tuple[float, float]]) -> tuple[float, float]:
+    return sum(low for low, _ in parts) / len(parts), sum(high for _, high in parts) / len(parts)
+
+
+def print_table(nodes: list[Spent], accounts: list[Account], radios: list[Radio], byte_time: int, table: Table) -> None:
     seconds = nodes[0].total() / table.hz
     print(f"{nodes[0].total():,} cycles, {seconds:.6g} s at {table.hz:,.0f} Hz")
-    print(f"{'node':>7} {'awake':>15} {'sent':>7} {'mA':>15} {'mA h':>21} {'mA h a day':>15}" + " days" * bool(table.battery))
-    rows = [(str(k), duty_cycle(node), sent(node), one) for k, (node, one) in enumerate(zip(nodes, accounts))]
-    duties = [row[1] for row in rows]
-    mean = sum(low for low, _ in duties) / len(rows), sum(high for _, high in duties) / len(rows)
-    rows.append(("network", mean, sum(map(sent, nodes)), whole(accounts)))
-    for name, duty, count, one in rows:
+    print(
+        f"{'node':>7} {'awake':>15} {'listens':>15} {'sent':>7} {'mA':>15} {'mA h':>21} {'mA h a day':>15}"
+        + " days" * bool(table.battery)
+    )
+    duties = [duty_cycle(node) for node in nodes]
+    listens = [listening_cycle(node, byte_time, radio) for node, radio in zip(nodes, radios)]
+    rows = [(str(k), duties[k], listens[k], sent(node), accounts[k]) for k, node in enumerate(nodes)]
+    rows.append(("network", mean(duties), mean(listens), sum(map(sent, nodes)), whole(accounts)))
+    for name, duty, listening, count, one in rows:
         least, most = one.least / seconds, one.most / seconds
         days = ""
         if table.battery and name != "network":
-            days = f" {between(table.battery / (most * HOURS_A_DAY), table.battery / (least * HOURS_A_DAY), '.0f')}" if least else " -"
+            days = (
+                f" {between(table.battery / (most * HOURS_A_DAY), table.battery / (least * HOURS_A_DAY), '.0f')}"
+                if least
+                else " -"
+            )
         print(
-            f"{name:>7} {between(100 * duty[0], 100 * duty[1], '.2f') + '%':>15} {count:>7,} {between(least, most, '.3f'):>15} "
+            f"{name:>7} {percent(duty):>15} {percent(listening):>15} {count:>7,} {between(least, most, '.3f'):>15} "
             f"{between(milliampere_hours(one.least), milliampere_hours(one.most), '.4g'):>21} "
             f"{between(least * HOURS_A_DAY, most * HOURS_A_DAY, '.2f'):>15}{days}"
         )
+
+
+def percent(part: tuple[float, float]) -> str:
+    return between(100 * part[0], 100 * part[1], ".2f") + "%"
 
 
 def between(least: float, most: float, form: str) -> str:
@@ -88,7 +140,10 @@ def picture(accounts: list[Account], seconds: float, width: int = 900) -> str:
     ]
     for place, (part, colour) in enumerate(PARTS.items()):
         x = LEFT + 120 * place
-        out.append(f'<rect x="{x}" y="10" width="12" height="12" fill="{colour}"/><text x="{x + 17}" y="20">{html.escape(part)}</text>')
+        out.append(
+            f'<rect x="{x}" y="10" width="12" height="12" fill="{colour}"/><text x="{x + 17}" '
+            f'y="20">{html.escape(part)}</text>'
+        )
     for k, one in enumerate(accounts):
         along, y = float(LEFT), TOP + k * (BAR + GAP)
         out.append(f'<text x="{LEFT - 8}" y="{y + BAR - 4}" text-anchor="end">node {k}</text>')
@@ -96,17 +151,42 @@ def picture(accounts: list[Account], seconds: float, width: int = 900) -> str:
             long = getattr(one, part) * scale
             title = f"node {k}, {part}: {getattr(one, part) / seconds:.4g} mA"
             out.append(
-                f'<rect x="{along:.1f}" y="{y}" width="{long:.1f}" height="{BAR}" fill="{colour}"><title>{title}</title></rect>'
+                f'<rect x="{along:.1f}" y="{y}" width="{long:.1f}" height="{BAR}" '
+                f'fill="{colour}"><title>{title}</title></rect>'
             )
             along += long
-        out.append(f'<text x="{along + 6:.1f}" y="{y + BAR - 4}">{between(one.least / seconds, one.most / seconds, ".3f")} mA</text>')
+        out.append(
+            f'<text x="{along + 6:.1f}" y="{y + BAR - 4}">{between(one.least / seconds, one.most / seconds, ".3f")} '
+            "mA</text>"
+        )
     return "\n".join(out) + "\n</svg>\n"
 
 
 def configure(parser: argparse.ArgumentParser) -> None:
     cli.describe(parser, DESCRIPTION, "energy currents.toml packet.toml packet.profile")
+    cli.add_simulator(parser)
+    parser.add_argument(
+        "--always-listening", action="store_true", help="each radio is selected all the time: nothing is run"
+    )
+    parser.add_argument(
+        "--timeout", type=cli.positive, default=600, metavar="S", help="seconds that a run may take (%(default)s)"
+    )
     parser.add_argument("--svg", metavar="FILE", help="a picture too: a bar for each node")
-    parser.add_argument("--window", type=cli.window, metavar="A..B", help="the FROM and TO of the report, where it is neither of the whole run nor of the scenario's window; digits may be grouped by _")
+    parser.add_argument(
+        "--window",
+        type=cli.window,
+        metavar="A..B",
+        help="the FROM and TO of the report, where it is neither of the whole run nor of the scenario's window; "
+        "digits may be grouped by _",
+    )
     parser.add_argument("currents", metavar="CURRENTS", help="the currents, a TOML file")
-    parser.add_argument("scenario", metavar="SCENARIO", help="whose report it is: its byte time says how long a byte is sent")
-    parser.add_argument("report", nargs="?", default="-", metavar="REPORT", help="what `avrora monitor` wrote; - or none: the standard input")
+    parser.add_argument(
+        "scenario", metavar="SCENARIO", help="whose report it is: its byte time says how long a byte is sent"
+    )
+    parser.add_argument(
+        "report",
+        nargs="?",
+        default="-",
+        metavar="REPORT",
+        help="what `avrora monitor` wrote; - or none: the standard input",
+    )

@@ -8,6 +8,7 @@ from typing import Any, NamedTuple
 from avrora_tools import cli, expectations, files, terminal, traces
 from avrora_tools.errors import BadWords, Status, ToolError
 from avrora_tools.expectations import Case, Outcome
+from avrora_tools.wholeness import Lacking
 
 SUMMARY = "checks traces against cases: regression tests"
 
@@ -41,7 +42,9 @@ class Result(NamedTuple):
 def configure(parser: argparse.ArgumentParser) -> None:
     cli.describe(parser, DESCRIPTION, "expect --junit report.xml tests/*.expect")
     cli.add_simulator(parser)
-    parser.add_argument("--trace", metavar="FILE", help="check this trace (- the standard input), whatever the case names")
+    parser.add_argument(
+        "--trace", metavar="FILE", help="check this trace (- the standard input), whatever the case names"
+    )
     parser.add_argument("--junit", metavar="FILE", help="write a report in JUnit's XML too (needs python3-junit.xml)")
     parser.add_argument("--save", action="store_true", help="write the golden traces anew")
     parser.add_argument("--jobs", type=cli.positive, default=1, metavar="N", help="cases at once (%(default)s)")
@@ -83,7 +86,8 @@ def checked(case: Case, arguments: argparse.Namespace, avrora: str | None) -> Re
     try:
         if arguments.trace:
             name = files.shown(arguments.trace)
-            outcome = expectations.check(case, traces.file_blocks(arguments.trace), arguments.save, name)
+            blocks = traces.file_blocks(arguments.trace)
+            outcome = expectations.check(case, blocks, arguments.save, name, lacking=Lacking())
         else:
             outcome = expectations.run_case(case, avrora or "", arguments.save, arguments.timeout)
     except ToolError as fault:
@@ -112,7 +116,8 @@ def junit_module() -> Any:
 
 
 def junit(results: Iterable[Result], junit_xml: Any) -> str:
-    """The report of all cases for a server of builds: what is not met is a failure, what could not be checked an error."""
+    """The report of all cases for a server of builds: what is not met is a failure, what could not be checked an
+    error."""
     found = []
     for result in results:
         name, failure = files.shown(result.case.path), result.outcome.failure

@@ -3,12 +3,13 @@ import argparse
 import collections
 from typing import NamedTuple
 
-from avrora_tools import cli, files, maps, scenarios, traces
+from avrora_tools import cli, files, maps, scenarios, terminal, traces
 from avrora_tools.errors import BadInput, Status
 from avrora_tools.events import CLASH, NOTHING, ONE_BYTE, Heard, Sent
 from avrora_tools.hearing import Samples, shown
 from avrora_tools.scenarios import OnAir, Scenario
-from avrora_tools.states import State
+from avrora_tools.states import EPOCH, State
+from avrora_tools.wholeness import Lacking
 
 SUMMARY = "who heard whom, who clashed with whom; checks each sample"
 
@@ -23,6 +24,7 @@ docs/AIR.md with the scenario's latencies and spans, and that each node sends a 
 whole, with an end row of each node of the scenario; or with --state that of `avrora resume` from that state, which
 knows what was on the air. Status 0: all samples are as they should be; 1: one is not; 2: no scenario, no whole
 trace of it, or one without any sample, of which nothing can be checked."""
+
 
 class Flight(NamedTuple):
     """A byte on the air, and by whom it was heard: a dictionary from the hearer to ONE_BYTE or CLASH. A byte that was
@@ -133,8 +135,7 @@ def draw_map(arguments: argparse.Namespace, reader: Reader) -> None:
     links: dict[maps.Ends, maps.Quality] = {}
     for link in reader.scenario.links:
         ends = link.sender, link.hearer
-        sent = counts[ends, "sent"] - counts[ends, "closed"]
-        links[ends] = maps.Quality(sent, *(counts[ends, fate] for fate in ("clean", "clashed", "unheard")))
+        links[ends] = maps.Quality(*(counts[ends, fate] for fate in ("sent", "clean", "clashed", "unheard", "closed")))
     count = len(reader.scenario.images)
     if arguments.places:
         places = maps.places_of(files.read_text(arguments.places), files.shown(arguments.places), count)
@@ -150,7 +151,9 @@ def configure(parser: argparse.ArgumentParser) -> None:
     parser.add_argument("--clashes", action="store_true", help="tell each clash, with the sends that clashed")
     parser.add_argument("--losses", action="store_true", help="links alone that lost a byte")
     parser.add_argument("--map", metavar="FILE", help="draw the network, with the quality of each link, as SVG")
-    parser.add_argument("--places", metavar="FILE", help="where the map has the nodes: a TOML file of lines NODE = [x, y]")
+    parser.add_argument(
+        "--places", metavar="FILE", help="where the map has the nodes: a TOML file of lines NODE = [x, y]"
+    )
     parser.add_argument("--state", metavar="STATE", help="the state from which `avrora resume` wrote the trace")
     parser.add_argument("scenario", metavar="SCENARIO")
     cli.add_trace(parser)
@@ -163,8 +166,9 @@ def run(arguments: argparse.Namespace) -> int:
         raise BadInput(f"{arguments.state}: {len(state.nodes)} nodes, and the scenario has {len(scenario.images)}")
     form = traces.Form.ENDED if state else traces.Form.WHOLE
     # That a node sends too early is told here, and no reason to refuse the trace.
+    lacking = None if state else Lacking(scenario.window, looks_at_samples=False)  # samples are looked at below
     trace = traces.read(
-        arguments.trace, form, scenario=scenario, state=state, least_gap=scenarios.BYTE_TIME.start
+        arguments.trace, form, scenario=scenario, state=state, least_gap=scenarios.BYTE_TIME.start, lacking=lacking
     )
     reader = Reader(scenario, state, arguments.clashes)
     reader.read(trace)
@@ -172,6 +176,12 @@ def run(arguments: argparse.Namespace) -> int:
     print_nodes(reader)
     if arguments.map:
         draw_map(arguments, reader)
+    if not state and (trace.first_row or 0) >= EPOCH:
+        terminal.warn(
+            f"{trace.name}: its first row is of cycle {trace.first_row:,}: where it is the trace of `avrora resume`, "
+            "--state names "
+            "the state, without which what was sent before is not known"
+        )
     total, sends = sum(reader.samples.values()), sum(reader.sends.values())
     if not total and not reader.faults:
         raise BadInput(f"{trace.name}: no node samples the air, so nothing tells whether what they hear is right")

@@ -11,13 +11,13 @@ from avrora_tools.scenarios import Scenario
 
 SUMMARY = "cycles by function, line and caller; coverage"
 
-DESCRIPTION = """Tells where the cycles of the window went: reads a trace with its end rows, also one of `avrora resume` and
-of the tool window, or with --head the beginning of one; or what `avrora monitor` writes, with its scenario (-s), which
-tells whether it is whole. A row's cycles are those up to the node's next one. Asleep is a node behind its SLEEP until an
-interrupt wakes it. The window is that of --window or of the scenario (-s), as far as the trace goes; else, and where
-the trace is of another window than the scenario's (as the tool window makes it), it goes from the first instruction or
-entry row to the last, or to the trace's end.
-Charge is in units: 8 for each busy cycle, 1 for each asleep, 512 for each byte sent in the window."""
+DESCRIPTION = """Tells where the cycles of the window went: reads a trace with its end rows, also one of `avrora resume`
+and of the tool window, or with --head the beginning of one; or what `avrora monitor` writes, with its scenario (-s),
+which tells whether it is whole. A row's cycles are those up to the node's next one. Asleep is a node behind its SLEEP
+until an interrupt wakes it. The window is that of --window or of the scenario (-s), as far as the trace goes; else, and
+where the trace is of another window than the scenario's (as the tool window makes it), it goes from the first
+instruction or entry row to the last, or to the trace's end. Charge is in units: 8 for each busy cycle, 1 for each
+asleep, 512 for each byte sent in the window."""
 
 # Names what an instruction of a node belongs to.
 Namer = Callable[[int, int], str]
@@ -58,10 +58,15 @@ def print_flat(title: str, spent: Mapping[int, Spent], name_of: Namer) -> None:
             print(f"{taken:>12,} {100 * taken / total:>6.2f} {count:>10}  {name}")
 
 
+INTERRUPT = "(interrupt)"  # what calls the handler that has its name
+
+
 def print_callers(calls: Mapping[Call, int], name_of: Namer) -> None:
     by_name: collections.Counter[tuple[str, str]] = collections.Counter()
     for (node, caller, callee), count in calls.items():
-        by_name[caller if isinstance(caller, str) else name_of(node, caller), name_of(node, callee)] += count
+        called = name_of(node, callee)
+        by = name_of(node, caller) if isinstance(caller, int) else INTERRUPT if caller == called else caller
+        by_name[by, called] += count
     print(f"\ncalls\n{'calls':>12}")
     for (by, called), count in sorted(by_name.items(), key=lambda item: (-item[1], item[0])):
         print(f"{count:>12,}  {by} > {called}")
@@ -104,7 +109,12 @@ def configure(parser: argparse.ArgumentParser) -> None:
     cli.describe(parser, DESCRIPTION, "profile --callers -s relay.toml -e relay.elf relay.trace")
     programs.add_programs(parser)
     cli.add_nodes(parser)
-    parser.add_argument("--window", type=cli.window, metavar="A..B", help="the cycles that are counted; of a monitor's report its FROM and TO")
+    parser.add_argument(
+        "--window",
+        type=cli.window,
+        metavar="A..B",
+        help="the cycles that are counted; of a monitor's report its FROM and TO",
+    )
     parser.add_argument("--by-node", action="store_true", help="a table for each node too")
     parser.add_argument("--lines", action="store_true", help="by source line too")
     parser.add_argument("--callers", action="store_true", help="who called whom too")

@@ -18,26 +18,35 @@ from avrora_tools.sweeping.plans import Cell
 from avrora_tools.sweeping.sharing import Sharing, objects_of
 from avrora_tools.sweeping.simulation import ProcessTails, Simulator, scenario_text
 from avrora_tools.sweeping.sweep import Options, Results, Sweep
-from avrora_tools.sweeping.rows import written
-from avrora_tools.sweeping.verdicts import CaseCheck, Check, Compare, PredicateCheck, SerialCheck, nodes_of, predicate_of
+from avrora_tools.sweeping.rows import stops, written, written_before
+from avrora_tools.sweeping.verdicts import (
+    CaseCheck,
+    Check,
+    Compare,
+    PredicateCheck,
+    SerialCheck,
+    nodes_of,
+    predicate_of,
+)
 from avrora_tools.terminal import Progress
 
 SUMMARY = "moves an event cycle by cycle, and tells which moves break a run and where"
 
-DESCRIPTION = """Moves an event of a scenario through a span of cycles and checks each run. What moves, with its span A..B:
+DESCRIPTION = """Moves an event of a scenario through a span of cycles and checks each run. What moves, with its span
+A..B:
   --input N:I=A..B       byte I of node N's input, with the bytes behind it, or alone with --alone
   --start N=A..B         the first byte of node N's input, by which its program starts
   --latency F-T=A..B     the latency of the link from node F to node T
 Two of them make a grid; A..B/STEP takes each STEP-th value alone.
 
 Cycles in which a byte's arrival makes one and the same execution are one class, and one run of each class is made. All
-classes are run, unless --quick, --runs, --stop, --per-place or a step says otherwise; then it is told how many were not.
---quick is a first look: a clean one proves nothing.
+classes are run, unless --quick, --runs, --stop, --per-place or a step says otherwise; then it is told how many were
+not. --quick is a first look: a clean one proves nothing.
 
-Each run is checked at its end, which is the deadline of all that is checked: the scenario's `cycles`, or --until. Unless
---expect or --check says otherwise each node is to write to USART0 what it writes in the run that is not moved.
-With -e, of the program of the node whose byte moves, functions, lines and what handlers share with main have their names,
-and it is told where a failing run parts from one that passes.
+Each run is checked at its end, which is the deadline of all that is checked: the scenario's `cycles`, or --until.
+Unless --expect or --check says otherwise each node is to write to USART0 what it writes in the run that is not moved.
+With -e, of the program of the node whose byte moves, functions, lines and what handlers share with main have their
+names, and it is told where a failing run parts from one that passes.
 
 Status 0: no run fails; 1: one does; 2: the words or the files are bad."""
 
@@ -47,7 +56,9 @@ BEFORE, BEHIND = 200, 2_000  # cycles of the window of the earliest failing run,
 
 
 def run(arguments: argparse.Namespace) -> int:
-    options = Options(arguments.quick, arguments.grid, arguments.all, arguments.per_place, arguments.stop, arguments.runs)
+    options = Options(
+        arguments.quick, arguments.grid, arguments.all, arguments.per_place, arguments.stop, arguments.runs
+    )
     with prepared(arguments) as sweep:
         print_plan(sweep)
         results = run_all(sweep, options)
@@ -58,6 +69,13 @@ def run(arguments: argparse.Namespace) -> int:
         if found and arguments.out:
             command = write_earliest(arguments.out, sweep, found[0].first())
             print(f"earliest: {shown_command(sweep.tails.simulator, command)}")
+        if compares_nothing(sweep) and not results.failures:
+            raise BadInput(
+                "nothing was compared: neither the run that is not moved nor a moved one writes anything to USART0 "
+                f"from cycle {first_move(sweep.scenario):,} "
+                f"on{', except what --drop leaves out' * bool(arguments.drop)}; "
+                "--expect or --check checks what is not written"
+            )
     return Status.NOT_MET if results.failures else Status.GOOD
 
 
@@ -91,7 +109,11 @@ def tails_of(
     if arguments.alone:
         raise BadWords("--alone is of runs of this machine")
     tails = ClusterTails(simulator, scenario, state)
-    tails.connect(arguments.scheduler, shipping.program(arguments.avrora))
+    try:
+        tails.connect(arguments.scheduler, shipping.program(arguments.avrora))
+    except BaseException as fault:
+        tails.__exit__(type(fault), fault, None)
+        raise
     return tails
 
 
@@ -145,19 +167,34 @@ def check_of(arguments: argparse.Namespace, tails: ProcessTails, scenario: Moved
     if arguments.expect:
         return CaseCheck(tails.head, cases.read_case(arguments.expect))
     nodes = nodes_of(len(scenario.document["node"]), arguments.nodes)
-    good = written(reference(arguments, tails, scenario, scenario.until))
-    try:
-        re.compile(arguments.drop)
-    except re.error as fault:
-        raise BadWords(f"--drop: {fault}") from None
+    rows = reference(arguments, tails, scenario, scenario.until)
     return SerialCheck(
         tails.head,
-        good,
+        written(rows),
         nodes,
         Compare(arguments.compare),
-        os.fsencode(arguments.drop),
+        dropped(arguments.drop),
         lambda: written(reference(arguments, tails, scenario, scenario.document["cycles"])),
+        stops(rows),
+        written_before(rows, first_move(scenario)),
     )
+
+
+def first_move(scenario: MovedScenario) -> int:
+    """The first cycle in which something moves."""
+    return min(m.span.first if isinstance(m.event, InputByte) else 0 for m in scenario.moved)
+
+
+def compares_nothing(sweep: Sweep) -> bool:
+    return isinstance(sweep.check, SerialCheck) and sweep.check.compares_nothing()
+
+
+def dropped(pattern: str) -> re.Pattern[bytes] | None:
+    """What is left out of serial output."""
+    try:
+        return re.compile(os.fsencode(pattern)) if pattern else None
+    except re.error as fault:
+        raise BadWords(f"--drop: {fault}; what nodes write are bytes, and \\xHH is one") from None
 
 
 def reference(
@@ -167,7 +204,8 @@ def reference(
     unmoved = scenario.unmoved() if not arguments.base else base_move(arguments.base, scenario)
     if any(v >= scenario.until for v, m in zip(unmoved, scenario.moved) if isinstance(m.event, InputByte)):
         raise BadInput(
-            f"the run that is not moved has its event behind cycle {scenario.until:,}, in which the runs end: --base names a "
+            f"the run that is not moved has its event behind cycle {scenario.until:,}, in which the runs end: --base "
+            "names a "
             "value for another run to compare with"
         )
     comes_later = all(
@@ -177,7 +215,8 @@ def reference(
         return tails.head, tails.output(unmoved, until=until)
     if arguments.state or arguments.base:
         raise BadInput(
-            f"the run that is not moved has its event before cycle {scenario.begins:,}, in which the runs begin: --base names "
+            f"the run that is not moved has its event before cycle {scenario.begins:,}, in which the runs begin: "
+            "--base names "
             "a value for another run to compare with"
         )
     path = tails.written({**scenario.document, "cycles": until, "window": [0, 0]})
@@ -197,6 +236,20 @@ def print_plan(sweep: Sweep) -> None:
     events = " and ".join(f"{m.event} from {m.span.first:,} to {m.span.last:,}" for m in sweep.scenario.moved)
     moves = sum(len(cell.arrivals.moves) for cell in sweep.cells)
     print(f"{events}: {moves:,} moves, {len(sweep.cells):,} classes; each run ends at {sweep.scenario.until:,}")
+    if compares_nothing(sweep):
+        print(
+            "the run that is not moved writes nothing from there on: only what is written too much, and stops, can "
+            "be told"
+        )
+    for doubt in sweep.doubts:
+        print(f"{doubt}: each move is a class")
+    if sweep.stores:
+        more = f" and {len(sweep.stores) - 1:,} more" if len(sweep.stores) > 1 else ""
+        print(
+            f"interrupts are off at the store through a pointer at {sweep.shown_address(sweep.stores[0])}{more}, "
+            "which may write "
+            "SREG: behind it they count as on, which makes more classes"
+        )
     if sweep.sharing and sweep.sharing.things:
         print(f"used by handlers and by main: {', '.join(sweep.sharing.things)}")
 
@@ -219,7 +272,8 @@ def run_all(sweep: Sweep, options: Options) -> Results:
 def print_totals(sweep: Sweep, results: Results, options: Options) -> None:
     speed = results.runs / results.seconds if results.seconds else 0
     print(
-        f"{len(results.failures):,} of {len(results.ran):,} classes fail; {results.runs:,} runs in {results.seconds:.1f} s "
+        f"{len(results.failures):,} of {len(results.ran):,} classes fail; {results.runs:,} runs in "
+        f"{results.seconds:.1f} s "
         f"({speed:.0f} a second)"
     )
     if missed := sweep.classes_not_run():
@@ -242,7 +296,9 @@ def print_finding(sweep: Sweep, number: int, finding: Finding) -> None:
     if len(texts) > MOST_TEXTS:
         print(f"   and {len(texts) - MOST_TEXTS:,} other failures")
     stretches = grouping.spans(finding.failing)
-    told = ", ".join(f"{first:,}" if first == last else f"{first:,} to {last:,}" for first, last in stretches[:MOST_SPANS])
+    told = ", ".join(
+        f"{first:,}" if first == last else f"{first:,} to {last:,}" for first, last in stretches[:MOST_SPANS]
+    )
     more = len(stretches) - MOST_SPANS
     print(f"   moves: {told}" + (f" and {more:,} more stretches" if more > 0 else ""))
     if late := sweep.late(finding):
@@ -259,12 +315,16 @@ def shown_move(move: Move) -> str:
 
 
 def write_earliest(path: str, sweep: Sweep, cell: Cell) -> list[str]:
-    """Writes the scenario of a failing run with a window about where its byte is noticed; a state and moves too where it needs
-    them. Returns the words by which the simulator runs it."""
+    """Writes the scenario of a failing run with a window about where its byte is noticed; a state and moves too where
+    it needs them. Returns the words by which the simulator runs it."""
     move, point, scenario = cell.move(), cell.arrivals.point, sweep.scenario
     at = point.cycle if point else move[-1] if isinstance(scenario.moved[-1].event, InputByte) else 0
     window = max(scenario.begins, at - BEFORE), min(scenario.until, at + BEHIND)
-    whole = None if sweep.tails.begins_in_given_state or is_alone(scenario.moved[-1].event) else scenario.whole_scenario(move, window)
+    whole = (
+        None
+        if sweep.tails.begins_in_given_state or is_alone(scenario.moved[-1].event)
+        else scenario.whole_scenario(move, window)
+    )
     told = (*move[:-1], None) if is_alone(scenario.moved[-1].event) else move
     document = whole or scenario.scenario(told, window)
     words, note = ["run", path], ""
@@ -275,7 +335,10 @@ def write_earliest(path: str, sweep: Sweep, cell: Cell) -> list[str]:
     if is_alone(scenario.moved[-1].event):
         files.write_whole(f"{path}.moves", scenario.line(move[-1]))
         words = ["sweep", path, f"{path}.state", f"{path}.moves"]
-        note = f"What arrives at node {sweep.node} is said by the moves beside it, and not here; it begins in the state beside it:\n# "
+        note = (
+            f"What arrives at node {sweep.node} is said by the moves beside it, and not here; it begins in the state "
+            "beside it:\n# "
+        )
     events = " and ".join(f"{m.event} at {value:,}" for m, value in zip(scenario.moved, move))
     command = shlex.join(["avrora", words[0], *(os.path.basename(word) for word in words[1:])])
     notes = f"# The run of a sweep with {events}.\n# {note}{files.printable(command)}\n"
@@ -296,7 +359,9 @@ def shown_command(simulator: Simulator, words: Sequence[str]) -> str:
 class AddMoved(argparse.Action):
     """Collects what moves, in the order of the command line."""
 
-    def __call__(self, parser: object, namespace: argparse.Namespace, values: object, option: str | None = None) -> None:
+    def __call__(
+        self, parser: object, namespace: argparse.Namespace, values: object, option: str | None = None
+    ) -> None:
         namespace.moved = [*(namespace.moved or []), ((option or "").lstrip("-"), values)]
 
 
@@ -305,8 +370,14 @@ def configure(parser: argparse.ArgumentParser) -> None:
     parser.set_defaults(moved=None)
     for option, form in (("--input", "N:I=A..B"), ("--start", "N=A..B"), ("--latency", "F-T=A..B")):
         parser.add_argument(option, action=AddMoved, metavar=form, help="what moves, and its span")
-    parser.add_argument("--alone", action="store_true", help="the bytes behind the one that moves stay where they are, so it moves between its neighbours")
-    parser.add_argument("--until", type=cli.positive, metavar="CYCLE", help="where each run ends: the deadline of all that is checked")
+    parser.add_argument(
+        "--alone",
+        action="store_true",
+        help="the bytes behind the one that moves stay where they are, so it moves between its neighbours",
+    )
+    parser.add_argument(
+        "--until", type=cli.positive, metavar="CYCLE", help="where each run ends: the deadline of all that is checked"
+    )
     parser.add_argument("--state", metavar="STATE", help="go on from this state of the scenario")
     parser.add_argument("--expect", metavar="CASE", help="check each run by this case of `expect`")
     parser.add_argument("--check", metavar="FILE", help="check each run by the function check(run) of this Python file")
@@ -316,23 +387,40 @@ def configure(parser: argparse.ArgumentParser) -> None:
         default=Compare.BYTES.value,
         help="how serial output is compared: byte for byte, or with bytes or lines in any order (%(default)s)",
     )
-    parser.add_argument("--drop", default="", metavar="PATTERN", help="leave what matches out of the serial output first")
+    parser.add_argument(
+        "--drop", default="", metavar="PATTERN", help="leave what matches out of the serial output first"
+    )
     cli.add_nodes(parser)
-    parser.add_argument("--base", type=cli.natural, action="append", metavar="VALUE", help="compare with the run of this move")
+    parser.add_argument(
+        "--base", type=cli.natural, action="append", metavar="VALUE", help="compare with the run of this move"
+    )
     parser.add_argument("-e", "--elf", metavar="ELF", help="the program of the node whose byte moves")
     parser.add_argument("--force", action="store_true", help="take an ELF file that is not that of the node's image")
-    parser.add_argument("--out", metavar="FILE", help="write the earliest failing scenario, with a window about the arrival, and FILE.state and FILE.moves where it needs them")
+    parser.add_argument(
+        "--out",
+        metavar="FILE",
+        help="write the earliest failing scenario, with a window about the arrival, and FILE.state and FILE.moves "
+        "where it needs them",
+    )
     parser.add_argument("--all", action="store_true", help="run each move, and not one of each class")
     parser.add_argument("--quick", action="store_true", help="a first look: not all classes are run")
-    parser.add_argument("--grid", type=cli.positive, default=64, metavar="N", help="--quick runs each N-th class at least (%(default)s)")
-    parser.add_argument("--per-place", type=cli.positive, metavar="N", help="run N classes of each interrupted instruction at most")
+    parser.add_argument(
+        "--grid", type=cli.positive, default=64, metavar="N", help="--quick runs each N-th class at least (%(default)s)"
+    )
+    parser.add_argument(
+        "--per-place", type=cli.positive, metavar="N", help="run N classes of each interrupted instruction at most"
+    )
     parser.add_argument("--stop", action="store_true", help="end at the first failure")
     parser.add_argument("--runs", type=cli.positive, metavar="N", help="end after N runs")
-    parser.add_argument("--jobs", type=cli.positive, default=processors(), metavar="N", help="runs at a time (%(default)s)")
+    parser.add_argument(
+        "--jobs", type=cli.positive, default=processors(), metavar="N", help="runs at a time (%(default)s)"
+    )
     parser.add_argument(
         "--scheduler", metavar="ADDRESS", help="run on the workers of a scheduler of dask, as tcp://HOST:8786"
     )
-    parser.add_argument("--timeout", type=cli.positive, default=60, metavar="S", help="seconds that a run may take (%(default)s)")
+    parser.add_argument(
+        "--timeout", type=cli.positive, default=60, metavar="S", help="seconds that a run may take (%(default)s)"
+    )
     cli.add_simulator(parser)
     parser.add_argument("scenario", metavar="SCENARIO")
 

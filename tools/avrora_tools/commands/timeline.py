@@ -44,7 +44,7 @@ def content(drawing: Drawing, hz: int | None, thinning: drawings.Thinning | None
     scenario = drawing.scenario
     links = [[link.sender, link.hearer, link.latency] for link in scenario.links] if scenario else []
     nodes = [
-        {"node": node, "name": drawing.name(node), "state": lane.state}
+        {"node": node, "name": drawing.name(node), "state": lane.state, "closed": drawing.closed(node)}
         | {kind: drawings.flat(thinning.of(kind, lane), kind) if thinning else [] for kind in drawings.FIELDS}
         for node, lane in sorted(drawing.lanes.items())
     ]
@@ -68,10 +68,12 @@ def configure(parser: argparse.ArgumentParser) -> None:
     parser.add_argument("--from", dest="first", type=cli.natural, default=0, metavar="CYCLE", help="from this cycle on")
     parser.add_argument("--to", dest="end", type=cli.positive, metavar="CYCLE", help="before this cycle")
     cli.add_nodes(parser)
-    parser.add_argument("--svg", action="store_true", help="a picture, and no page")
+    parser.add_argument("--svg", action="store_true", help="a picture, and no page; as --out FILE.svg does")
     parser.add_argument("--width", type=cli.positive, default=1200, help="of the picture, in pixels (%(default)s)")
     parser.add_argument(
-        "--quiet", action="store_true", help="show samples that heard nothing in the picture too (the page has a switch)"
+        "--quiet",
+        action="store_true",
+        help="show samples that heard nothing in the picture too (the page has a switch)",
     )
     cli.add_clock(parser)
     cli.add_head(parser)
@@ -81,12 +83,16 @@ def configure(parser: argparse.ArgumentParser) -> None:
 def run(arguments: argparse.Namespace) -> int:
     if arguments.end is not None and arguments.end <= arguments.first:
         raise BadWords(f"--from {arguments.first} --to {arguments.end}: the end is not behind the beginning")
+    name = arguments.out.lower()
+    is_picture = arguments.svg or name.endswith(".svg")
+    if is_picture and name.endswith((".html", ".htm")):
+        raise BadWords(f"--svg writes a picture, and {files.shown(arguments.out)} is the name of a page")
     scenario = Scenario.load(arguments.scenario) if arguments.scenario else None
     trace = traces.read(arguments.trace, traces.form_of(arguments), scenario=scenario, epochs=arguments.head)
     drawing = Drawing(trace, arguments.first, arguments.end, arguments.nodes)
     if not drawing.lanes:
         raise BadInput("the trace has no row of these nodes")
-    if arguments.svg:
+    if is_picture:
         text = pictures.Picture(drawing, arguments.hz, arguments.width, arguments.quiet).text()
     else:
         text = page(drawing, arguments.hz, os.path.basename(files.shown(arguments.trace)))

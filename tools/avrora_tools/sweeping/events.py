@@ -8,8 +8,8 @@ from dataclasses import dataclass, field
 from typing import Any
 
 from avrora_tools.errors import BadInput, BadWords
+from avrora_tools.states import EPOCH
 
-EPOCH = 262_144  # cycles; states are those between two epochs
 DEFAULT_LATENCY = 3_072
 DEFAULT_EVERY = 7_680  # cycles from one byte of an input to the next
 EVERY = range(1, 65_536)
@@ -100,7 +100,8 @@ class Script:
         return " ".join([str(self.node), *stretches(coming or [(LAST_CYCLE, 0)])]) + "\n"
 
     def table(self, first: int, value: int | None) -> dict[str, Any]:
-        """The input from byte `first` on, with the byte at `value`, or never. Raises BadInput where no input says that."""
+        """The input from byte `first` on, with the byte at `value`, or never. Raises BadInput where no input says
+        that."""
         here = {"node": self.node, "every": self.every, "at": self.nominal(first)}
         if value is not None and self.is_alone and self.index < len(self.bytes_) - 1:
             raise BadInput(f"no input says that byte {self.index} of node {self.node} moves alone")
@@ -113,16 +114,20 @@ class Script:
         apart = value - self.nominal(first)
         if first == self.index - 1 and self.index == len(self.bytes_) - 1 and apart in EVERY:
             return here | {"every": apart, "hex": self.bytes_[first:].hex()}
-        raise BadInput(f"byte {self.index} of node {self.node}'s input cannot come in cycle {value:,}: {self.hindrance(value)}")
+        raise BadInput(
+            f"byte {self.index} of node {self.node}'s input cannot come in cycle {value:,}: {self.hindrance(value)}"
+        )
 
     def hindrance(self, value: int) -> str:
-        """Why no input has the byte at `value` behind those that stay, and those behind it as far behind it as they are."""
+        """Why no input has the byte at `value` behind those that stay, and those behind it as far behind it as they
+        are."""
         before, at = self.index - 1, self.nominal(self.index - 1)
         apart = value - at
         if apart < 1:
             return f"byte {before} stays in cycle {at:,}, and it does not pass that"
         way_out = (
-            f"Move it alone (--alone, from cycle {EPOCH:,} on), or the first byte, or let the bytes before come in an epoch of "
+            f"Move it alone (--alone, from cycle {EPOCH:,} on), or the first byte, or let the bytes before come in "
+            "an epoch of "
             f"{EPOCH:,} cycles before the span's"
         )
         if apart not in EVERY:
@@ -132,7 +137,8 @@ class Script:
         if self.index < len(self.bytes_) - 1:
             behind = f"byte {self.index + 1} moves with it, {self.every:,} behind"
             return f"{behind}, and byte {before} stays, {apart:,} before: {one}. {way_out}"
-        return f"byte {before} stays, {apart:,} before, and byte {before - 1}, {self.every:,} before that: {one}. {way_out}"
+        farther = f"byte {before - 1}, {self.every:,} before that"
+        return f"byte {before} stays, {apart:,} before, and {farther}: {one}. {way_out}"
 
 
 def stretches(coming: Sequence[tuple[int, int]]) -> list[str]:
@@ -159,7 +165,9 @@ class MovedScenario:
     begins: int = 0
     scripts: Mapping[int, Script] = field(default_factory=dict)  # by the event's place
 
-    def scenario(self, move: Sequence[int | None], window: tuple[int, int] = (0, 0), until: int | None = None) -> Document:
+    def scenario(
+        self, move: Sequence[int | None], window: tuple[int, int] = (0, 0), until: int | None = None
+    ) -> Document:
         """The scenario of a move, for a run that begins at `begins`. A byte whose value is None never comes."""
         return self.changed(move, window, until or self.until, self.begins)
 
@@ -225,7 +233,9 @@ def script_of(document: Document, event: InputByte) -> Script:
             bytes_ = bytes.fromhex(table["hex"])
             if event.index >= len(bytes_):
                 raise BadInput(f"the input of node {event.node} has {len(bytes_)} bytes, and no byte {event.index}")
-            return Script(event.node, table["at"], table.get("every", DEFAULT_EVERY), bytes_, event.index, event.is_alone)
+            return Script(
+                event.node, table["at"], table.get("every", DEFAULT_EVERY), bytes_, event.index, event.is_alone
+            )
     raise BadInput(f"the scenario has no input of node {event.node}")
 
 
@@ -260,7 +270,8 @@ def is_alone(event: Event) -> bool:
 
 
 def check_alone(script: Script, span: Span, begins: int) -> None:
-    """Raises BadInput where a byte that moves alone would not stay between its neighbours, or where no state comes before."""
+    """Raises BadInput where a byte that moves alone would not stay between its neighbours, or where no state comes
+    before."""
     if not begins:
         raise BadInput(f"a byte moves alone behind a state, and none is before cycle {EPOCH:,}")
     stays = None
@@ -270,7 +281,8 @@ def check_alone(script: Script, span: Span, begins: int) -> None:
         stays = script.index + 1
     if stays is not None:
         raise BadInput(
-            f"byte {stays} of node {script.node}'s input stays in cycle {script.nominal(stays):,}, and byte {script.index} does "
+            f"byte {stays} of node {script.node}'s input stays in cycle {script.nominal(stays):,}, and byte "
+            f"{script.index} does "
             f"not pass it, but goes from {span.first:,} to {span.last:,}"
         )
 
@@ -280,13 +292,16 @@ def check_span(document: Document, moved: Moved, until: int) -> None:
     if isinstance(moved.event, LinkLatency):
         latency_of(document, moved.event)
         if span.first not in LATENCY or span.last not in LATENCY:
-            raise BadInput(f"a latency is {LATENCY.start:,} to {LATENCY.stop - 1:,} cycles, not {span.first:,}..{span.last:,}")
+            raise BadInput(
+                f"a latency is {LATENCY.start:,} to {LATENCY.stop - 1:,} cycles, not {span.first:,}..{span.last:,}"
+            )
     elif span.last >= until:
         raise BadInput(f"the span reaches cycle {span.last:,}, and each run ends at {until:,}")
 
 
 def first_epoch(moved: Sequence[Moved], scripts: Mapping[int, Script]) -> int:
-    """The last end of an epoch before which nothing comes that moves, and at which an input can say what is still to come."""
+    """The last end of an epoch before which nothing comes that moves, and at which an input can say what is still to
+    come."""
     if any(isinstance(m.event, LinkLatency) for m in moved):
         return 0  # a latency counts from the first byte on
     begins = min(m.span.first for m in moved) // EPOCH * EPOCH

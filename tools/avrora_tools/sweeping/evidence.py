@@ -1,4 +1,5 @@
-"""Where a failing run parts from the nearest run that passes: which use of what, in which line, came in another order."""
+"""Where a failing run parts from the nearest run that passes: which use of what, in which line, came in another
+order."""
 from collections.abc import Mapping, Sequence
 from dataclasses import dataclass
 
@@ -47,7 +48,8 @@ def parting(
     place = first_difference(one, two)
     if place is None:
         return None
-    # The step that one of the two lacks stands between two uses by the code that it interrupts, or that it is a part of.
+    # The step that one of the two lacks stands between two uses by the code that it interrupts, or that it is a part
+    # of.
     depth = one[place].depth if place < len(one) else 0
     uses = [(i, step) for i, step in enumerate(one) if isinstance(step.what, Use) and step.depth == depth]
     behind = next((step for i, step in reversed(uses) if i < place), None)

@@ -1,4 +1,5 @@
-"""What failed, grouped by what the arrival interrupted: neighbours that fail, and visits of one place, are one finding."""
+"""What failed, grouped by what the arrival interrupted: neighbours that fail, and visits of one place, are one
+finding."""
 from collections import Counter
 from collections.abc import Mapping, Sequence
 from dataclasses import dataclass
@@ -61,7 +62,8 @@ class Spots:
 
 
 def findings(cells: Sequence[Cell], failures: Mapping[Cell, str], spots: Spots) -> list[Finding]:
-    """The findings of the cells that were run, in the order of their first moves. `cells` stand in the order of moves."""
+    """The findings of the cells that were run, in the order of their first moves. `cells` stand in the order of
+    moves."""
     found: list[Finding] = []
     stretch: Finding | None = None
     for cell in cells:
@@ -113,7 +115,9 @@ def counted(texts: Sequence[str]) -> list[tuple[str, int]]:
 def lines_of(spots: set[Spot | None]) -> list[str]:
     """The spots of a finding in words, lines of one function taken together."""
     lines: dict[tuple[str, tuple[int, ...], bool], list[str]] = {}
-    for spot in sorted((spot for spot in spots if spot), key=lambda it: (it.function, it.handlers, it.asleep, line_key(it.line))):
+    for spot in sorted(
+        (spot for spot in spots if spot), key=lambda it: (it.function, it.handlers, it.asleep, line_key(it.line))
+    ):
         lines.setdefault((spot.function, spot.handlers, spot.asleep), []).append(spot.line or "")
     texts = [str(Spot(key[0], joined(group), key[1], key[2])) for key, group in lines.items()]
     return texts + ["nothing that a trace shows"] * (None in spots)

@@ -1,8 +1,7 @@
 """In which order a run uses what handlers and main share, enters handlers, and meets the clocks of timers.
 
-Two runs in which this order is the same read the same values from memory. A timer's clock counts as a use of the timer's
-registers: where it comes between two of them or not can be all the difference.
-"""
+Two runs in which this order is the same read the same values from memory. A timer's clock counts as a use of the
+timer's registers: where it comes between two of them or not can be all the difference. """
 from collections.abc import Iterable, Iterator, Sequence
 from dataclasses import dataclass
 
@@ -11,7 +10,12 @@ from avrora_tools.sweeping.sharing import Sharing
 from avrora_tools.traces import Row
 
 # By what a timer's clock select divides the processor's clock, from 1 on (0: the timer is halted).
-DIVIDERS = {0: (1, 8, 32, 64, 128, 256, 1024), 1: (1, 8, 64, 256, 1024), 2: (1, 8, 64, 256, 1024), 3: (1, 8, 64, 256, 1024)}
+DIVIDERS = {
+    0: (1, 8, 32, 64, 128, 256, 1024),
+    1: (1, 8, 64, 256, 1024),
+    2: (1, 8, 64, 256, 1024),
+    3: (1, 8, 64, 256, 1024),
+}
 CONTROL = {0: "TCCR", 1: "TCCRB", 2: "TCCR", 3: "TCCRB"}
 CLOCK_SELECT = 7
 
@@ -34,7 +38,8 @@ class Use:
 
 @dataclass(frozen=True)
 class Clock:
-    """A timer's clock has come since the timer's registers were used last; where clocks are counted, how often so far."""
+    """A timer's clock has come since the timer's registers were used last; where clocks are counted, how often so
+    far."""
 
     timer: int
     count: int = 0
@@ -42,8 +47,8 @@ class Clock:
 
 @dataclass(frozen=True)
 class Step:
-    """One of these, with the row's cycle, the address of its instruction or to return to, and how many handlers the node was
-    in before it."""
+    """One of these, with the row's cycle, the address of its instruction or to return to, and how many handlers the
+    node was in before it."""
 
     what: Enter | Use | Clock
     cycle: int
@@ -64,8 +69,9 @@ def dividers(node: Node) -> dict[int, int]:
 def steps(
     rows: Iterable[Row], sharing: Sharing, clocks: dict[int, int], counted_from: int | None = None
 ) -> Iterator[Step]:
-    """The steps of the order, of the rows of one node. With a cycle to count from the slow clocks are counted, so that two
-    orders differ also where a clock has come before the first of two uses in the one, and behind the last in the other."""
+    """The steps of the order, of the rows of one node. With a cycle to count from the slow clocks are counted, so that
+    two orders differ also where a clock has come before the first of two uses in the one, and behind the last in the
+    other."""
     slow = {timer for timer, divider in clocks.items() if divider >= SLOW and counted_from is not None}
     last_use: dict[int, int] = {timer: counted_from or 0 for timer in slow}
     depth = 0

@@ -27,8 +27,9 @@ class Cell:
 
 
 def in_rounds(cells: Sequence[Cell], between: Mapping[int, str], per_place: int | None = None) -> list[Cell]:
-    """All cells, in rounds of one of each place; in each round those go first in which a handler comes between two uses of
-    what it shares with main. Of one place those are taken that lie far apart: the first, the last, the middle, and so on."""
+    """All cells, in rounds of one of each place; in each round those go first in which a handler comes between two uses
+    of what it shares with main. Of one place those are taken that lie far apart: the first, the last, the middle, and
+    so on."""
     places: dict[Place | None, list[Cell]] = defaultdict(list)
     for cell in cells:
         places[cell.place()].append(cell)
@@ -48,9 +49,10 @@ def spread(count: int) -> list[int]:
 
 @dataclass
 class FirstLook:
-    """Runs each --grid-th class, and the first visits of places between two uses of what is shared; then it halves between
-    two neighbours, as long as the order of uses differs between them. It finds what changes that order and is seen from the
-    points that it starts with, and no more: where the order goes there and back between two of them it sees nothing."""
+    """Runs each --grid-th class, and the first visits of places between two uses of what is shared; then it halves
+    between two neighbours, as long as the order of uses differs between them. It finds what changes that order and is
+    seen from the points that it starts with, and no more: where the order goes there and back between two of them it
+    sees nothing."""
 
     cells: Sequence[Cell]  # those of one value of the events before
     between: Mapping[int, str]
@@ -59,8 +61,8 @@ class FirstLook:
     orders: dict[tuple[int, Window], int] = field(default_factory=dict)  # of a cell in a window: which order it has
 
     def rounds(self) -> Iterator[list[tuple[int, Window]]]:
-        """The jobs of each round: the place of a cell, and the window in which its order is to be told to `orders` before
-        the next round is asked for."""
+        """The jobs of each round: the place of a cell, and the window in which its order is to be told to `orders`
+        before the next round is asked for."""
         visits: dict[Place, int] = defaultdict(int)
         urgent = []
         for i, cell in enumerate(self.cells):

@@ -1,18 +1,16 @@
 """What handlers and main-level code both use, by the listing of the image and the symbols of the ELF file.
 
-Seen are LDS, STS, IN, OUT, SBI and CBI, and LD, ST through a pointer whose constants stand before it in the same function.
-Pointers that are passed on and calls through pointers are not seen. So this orders runs and names things in reports; which
-runs there are does not depend on it.
-"""
+Seen are LDS, STS, IN, OUT, SBI and CBI, and LD, ST through a pointer whose constants stand before it in the same
+function. Pointers that are passed on and calls through pointers are not seen. So this orders runs and names things in
+reports; which runs there are does not depend on it. """
 import re
 from collections import defaultdict
 from collections.abc import Iterable, Sequence
 from dataclasses import dataclass
 
-from avrora_tools.programs import Program, vector_name
+from avrora_tools.programs import HANDLERS, Program
 
 SLEEP = "sleep"
-HANDLER = re.compile(r"__vector_(\d+)")
 
 FIRST_SRAM = 0x100
 IO_TO_DATA = 0x20  # what IN and OUT call A is the data address A + 0x20
@@ -20,8 +18,8 @@ IO_TO_DATA = 0x20  # what IN and OUT call A is the data address A + 0x20
 # Registers that all code uses: UDR0 has its own rules, SP and SREG are saved and restored.
 IGNORED = {0x2C, 0x5D, 0x5E, 0x5F}
 
-# The registers of the timers that their clocks change or look at, by data address: counters, compare and control registers,
-# and the flags in TIFR and ETIFR.
+# The registers of the timers that their clocks change or look at, by data address: counters, compare and control
+# registers, and the flags in TIFR and ETIFR.
 TIMER_REGISTERS = {
     0: {0x51, 0x52, 0x53, 0x56},
     1: {*range(0x46, 0x50), 0x56, 0x78, 0x79, 0x7A, 0x7C},
@@ -66,7 +64,7 @@ class Sharing:
         self.timer_uses: dict[int, set[int]] = defaultdict(set)  # by an instruction's address: whose registers it uses
         self.calls: dict[str, set[str]] = defaultdict(set)
         self.read_listing(listing)
-        handlers = {f.name for f in program.functions if HANDLER.fullmatch(f.name)}
+        handlers = {f.name for f in program.functions if f.name in HANDLERS}
         self.of_handlers, self.of_main = self.reached(handlers), self.reached({"main"})
         self.things = [thing for thing, uses in self.uses.items() if thing != SLEEP and self.is_shared(uses)]
         self.between = self.addresses_between()
@@ -131,9 +129,9 @@ class Sharing:
 
     def users(self, thing: str) -> list[str]:
         """The handlers that use a thing, or call what does, by the names of their interrupts."""
-        handlers = sorted({f.name for f in self.program.functions if HANDLER.fullmatch(f.name)})
+        handlers = sorted({f.name for f in self.program.functions if f.name in HANDLERS})
         using = {use.function for use in self.uses[thing]}
-        return [handler_name(name) for name in handlers if self.reached({name}) & using]
+        return [name for name in handlers if self.reached({name}) & using]
 
 
 def target(address: int, text: str) -> int:
@@ -141,7 +139,9 @@ def target(address: int, text: str) -> int:
     return int(text, 16) if text.startswith("0x") else address + 1 + int(text[1:]) // 2
 
 
-def data_address(name: str, operands: list[str], constants: dict[str, tuple[str, int, str]], function: str) -> int | None:
+def data_address(
+    name: str, operands: list[str], constants: dict[str, tuple[str, int, str]], function: str
+) -> int | None:
     """The data address that an instruction uses, as far as its text and the constants before it tell."""
     if name in ("lds", "in"):
         return int(operands[1], 16) + (IO_TO_DATA if name == "in" else 0)
@@ -161,16 +161,10 @@ def data_address(name: str, operands: list[str], constants: dict[str, tuple[str,
     return base + int(pointer[2] or 0)
 
 
-def handler_name(function: str) -> str:
-    """A handler as its source names it: USART0_RX_vect for __vector_18."""
-    match = HANDLER.fullmatch(function)
-    return vector_name(2 * int(match[1])) if match else function
-
-
-REGISTER_NAMES = """20 PINF 21 PINE 29 UBRR0L 2A UCSR0B 2B UCSR0A 2D SPCR 2E SPSR 2F SPDR 30 PIND 33 PINC 36 PINB 39 PINA
-43 OCR2 44 TCNT2 45 TCCR2 4E TCCR1B 4F TCCR1A 51 OCR0 52 TCNT0 53 TCCR0 56 TIFR 57 TIMSK 5B RAMPZ 7A TCCR1C 7C ETIFR
-7D ETIMSK 8A TCCR3B 8B TCCR3A 8C TCCR3C 90 UBRR0H 95 UCSR0C 22 DDRE 23 PORTE 31 DDRD 32 PORTD 34 DDRC 35 PORTC 37 DDRB
-38 PORTB 3A DDRA 3B PORTA 55 MCUCR 61 DDRF 62 PORTF 64 DDRG 65 PORTG""".split()
+REGISTER_NAMES = """20 PINF 21 PINE 29 UBRR0L 2A UCSR0B 2B UCSR0A 2D SPCR 2E SPSR 2F SPDR 30 PIND 33 PINC 36 PINB 39
+PINA 43 OCR2 44 TCNT2 45 TCCR2 4E TCCR1B 4F TCCR1A 51 OCR0 52 TCNT0 53 TCCR0 56 TIFR 57 TIMSK 5B RAMPZ 7A TCCR1C 7C
+ETIFR 7D ETIMSK 8A TCCR3B 8B TCCR3A 8C TCCR3C 90 UBRR0H 95 UCSR0C 22 DDRE 23 PORTE 31 DDRD 32 PORTD 34 DDRC 35 PORTC 37
+DDRB 38 PORTB 3A DDRA 3B PORTA 55 MCUCR 61 DDRF 62 PORTF 64 DDRG 65 PORTG""".split()
 REGISTERS = {int(at, 16): name for at, name in zip(REGISTER_NAMES[::2], REGISTER_NAMES[1::2])}
 
 

@@ -1,5 +1,5 @@
-"""Runs the moves of a sweep. `Tails` is all that the rest of a sweep knows of it. Runs that go on from one state, and in which
-bytes of one node arrive otherwise, are made by one process, some of them at a time."""
+"""Runs the moves of a sweep. `Tails` is all that the rest of a sweep knows of it. Runs that go on from one state, and
+in which bytes of one node arrive otherwise, are made by one process, some of them at a time."""
 import itertools
 import json
 import os
@@ -14,8 +14,11 @@ from types import TracebackType
 from typing import Protocol
 
 from avrora_tools.errors import BadInput, CannotWork
+from avrora_tools.expectations import REFUSALS
+from avrora_tools.files import printable
 from avrora_tools.groups import Groups
-from avrora_tools.sweeping.events import EPOCH, Document, InputByte, Move, MovedScenario
+from avrora_tools.states import EPOCH
+from avrora_tools.sweeping.events import Document, InputByte, Move, MovedScenario
 
 Window = tuple[int, int]
 NO_WINDOW = (0, 0)
@@ -27,7 +30,8 @@ class Tails(Protocol):
     """Runs that all begin in one state (or at reset), each with its events moved."""
 
     def outputs(self, jobs: Iterable[tuple[Move, Window]]) -> Iterator[bytes]:
-        """The rows of each run, from where runs begin on, in the order of the jobs; jobs are taken as they are needed."""
+        """The rows of each run, from where runs begin on, in the order of the jobs; jobs are taken as they are
+        needed."""
 
     def output(self, move: Sequence[int | None], window: Window = NO_WINDOW, until: int | None = None) -> bytes:
         """The rows of one run; a byte whose value is None never comes."""
@@ -41,7 +45,8 @@ class Simulator:
         self.groups = Groups()
 
     def call(self, *words: str, runs: int = 1) -> bytes:
-        """What the program writes, which makes so many runs. Raises BadInput with what it says where it refuses its input."""
+        """What the program writes, which makes so many runs. Raises BadInput with what it says where it refuses its
+        input, and CannotWork where it fails or is killed."""
         streams = {"stdin": subprocess.DEVNULL, "stdout": subprocess.PIPE, "stderr": subprocess.PIPE}
         try:
             with self.groups.started([self.program, *words], cwd=self.folder, **streams) as process:
@@ -49,14 +54,21 @@ class Simulator:
         except subprocess.TimeoutExpired:
             raise CannotWork(f"a run took more than {self.timeout:g} seconds (--timeout)") from None
         if process.returncode:
-            said = errors.decode(errors="replace").strip() or f"status {process.returncode}"
-            raise BadInput(f"{' '.join(words[:1])}: {said}")
+            said = printable(errors.decode(errors="replace").strip())
+            if process.returncode in REFUSALS:
+                raise BadInput(f"{words[0]}: {said}")
+            raise CannotWork(f"avrora {words[0]}: {ending(process.returncode)}{f': {said}' if said else ''}")
         return output
 
 
+def ending(status: int) -> str:
+    """How a call ended that did not end well."""
+    return f"killed by signal {-status}" if status < 0 else f"status {status}"
+
+
 class ProcessTails:
-    """Runs are made by processes, some at a time, and never by more ahead than that of what is asked for: a run each, or some
-    where they go on from a state and a byte moves."""
+    """Runs are made by processes, some at a time, and never by more ahead than that of what is asked for: a run each,
+    or some where they go on from a state and a byte moves."""
 
     def __init__(self, simulator: Simulator, scenario: MovedScenario, jobs: int, state: bytes | None = None) -> None:
         """`state` is that of the cycle in which the runs begin; without it the simulator makes it."""
@@ -66,8 +78,13 @@ class ProcessTails:
         self.state_path: str | None = None
         self.head = b""  # the rows before the state, where they are known
         self.begins_in_given_state = state is not None
+        self.threads: ThreadPoolExecutor | None = None  # of the runs that are asked for, while there are any
         if state is None and scenario.begins:
-            state = self.saved()
+            try:
+                state = self.saved()
+            except BaseException:
+                self.folder.cleanup()
+                raise
         if state is not None:
             self.state_path = os.path.join(self.folder.name, "state")
             with open(self.state_path, "wb") as file:
@@ -77,7 +94,10 @@ class ProcessTails:
     def __enter__(self) -> "ProcessTails":
         return self
 
-    def __exit__(self, kind: type[BaseException] | None, fault: BaseException | None, trace: TracebackType | None) -> None:
+    def __exit__(
+        self, kind: type[BaseException] | None, fault: BaseException | None, trace: TracebackType | None
+    ) -> None:
+        self.end_runs()  # also where something else went wrong, and nobody closes what runs are asked by
         self.folder.cleanup()
 
     def saved(self) -> bytes:
@@ -122,17 +142,23 @@ class ProcessTails:
 
     def outputs(self, jobs: Iterable[tuple[Move, Window]]) -> Iterator[bytes]:
         waiting: deque[Future[list[bytes]]] = deque()
-        with ThreadPoolExecutor(self.jobs) as pool:
-            try:
-                for before, window, values in batches(jobs, MOST_IN_BATCH if self.sweeps else 1):
-                    waiting.append(pool.submit(self.batch, before, window, values))
-                    if len(waiting) > self.jobs:
-                        yield from waiting.popleft().result()
-                while waiting:
+        threads = self.threads = ThreadPoolExecutor(self.jobs)
+        try:
+            for before, window, values in batches(jobs, MOST_IN_BATCH if self.sweeps else 1):
+                waiting.append(threads.submit(self.batch, before, window, values))
+                if len(waiting) > self.jobs:
                     yield from waiting.popleft().result()
-            finally:
-                pool.shutdown(wait=False, cancel_futures=True)
-                self.simulator.groups.end_all()  # of runs that nobody asks for any more
+            while waiting:
+                yield from waiting.popleft().result()
+        finally:
+            self.end_runs()
+
+    def end_runs(self) -> None:
+        """Ends all runs that nobody asks for any more, and waits for their threads."""
+        if self.threads:
+            with self.simulator.groups.ended():
+                self.threads.shutdown(wait=True, cancel_futures=True)
+            self.threads = None
 
     def batch(self, before: Move, window: Window, values: list[int]) -> list[bytes]:
         if self.sweeps:
@@ -141,8 +167,8 @@ class ProcessTails:
 
 
 def batches(jobs: Iterable[tuple[Move, Window]], most: int) -> Iterator[tuple[Move, Window, list[int]]]:
-    """Jobs that stand one behind another and differ in the last event alone. The first ones are small, so that something is
-    known early."""
+    """Jobs that stand one behind another and differ in the last event alone. The first ones are small, so that
+    something is known early."""
     room = 1
     for (before, window), group in itertools.groupby(jobs, key=lambda job: (job[0][:-1], job[1])):
         while batch := [move[-1] for move, _ in itertools.islice(group, room)]:

@@ -4,10 +4,11 @@ from collections.abc import Iterator, Mapping, Sequence
 from dataclasses import dataclass, field
 
 from avrora_tools.programs import Program
-from avrora_tools.states import State
+from avrora_tools.states import EPOCH, State
 from avrora_tools.sweeping import evidence
 from avrora_tools.sweeping.cells import CellMaker
-from avrora_tools.sweeping.events import EPOCH, InputByte, Move, MovedScenario
+from avrora_tools.sweeping.doubts import stack_doubt
+from avrora_tools.sweeping.events import InputByte, Move, MovedScenario
 from avrora_tools.sweeping.findings import Finding, Spots, findings
 from avrora_tools.sweeping.ordering import Clock, Enter, dividers, steps
 from avrora_tools.sweeping.plans import Cell, FirstLook, in_rounds
@@ -44,7 +45,12 @@ class Sweep:
     """One sweep."""
 
     def __init__(
-        self, tails: ProcessTails, scenario: MovedScenario, check: Check, program: Program | None, sharing: Sharing | None
+        self,
+        tails: ProcessTails,
+        scenario: MovedScenario,
+        check: Check,
+        program: Program | None,
+        sharing: Sharing | None,
     ) -> None:
         self.tails, self.scenario, self.check = tails, scenario, check
         self.program, self.sharing = program, sharing
@@ -52,9 +58,20 @@ class Sweep:
         self.node = last.node if isinstance(last, InputByte) else last.hearer
         state = State.of_text(tails.state.decode(), "the state") if tails.state else None
         self.state = state
-        self.cells = list(CellMaker(tails, scenario, state).cells())
+        maker = CellMaker(tails, scenario, state, self.doubt() if isinstance(last, InputByte) else None)
+        self.cells = list(maker.cells())
+        self.doubts = list(maker.doubts)  # why each move is a class, where traces tell too little
+        self.stores = sorted(maker.stores)
         self.between: Mapping[int, str] = sharing.between if sharing else {}
         self.results = Results()
+
+    def doubt(self) -> str | None:
+        """Why traces of the node may not tell which arrivals make one execution."""
+        listing = self.tails.simulator.call("disasm", self.scenario.document["node"][self.node]["image"])
+        return stack_doubt(self.state.nodes[self.node] if self.state else None, listing.decode().splitlines())
+
+    def shown_address(self, address: int) -> str:
+        return self.program.place(address) if self.program else f"{address:04X}"
 
     def run(self, options: Options) -> Iterator[Results]:
         """Makes the runs, and tells after each what has come of them."""
@@ -130,8 +147,8 @@ class Sweep:
         return self.check.late(self.tails.output(finding.first().move(), until=cycles))
 
     def parting(self, finding: Finding) -> str | None:
-        """Where the earliest failing run parts from a near one that passes: a handler or a clock that comes between two uses
-        where the other side is tried first."""
+        """Where the earliest failing run parts from a near one that passes: a handler or a clock that comes between two
+        uses where the other side is tried first."""
         if self.sharing is None:
             return None
         ran = [cell for cell in self.cells if cell in self.results.ran]
@@ -147,7 +164,9 @@ class Sweep:
 
     def thing_in_use(self, finding: Finding) -> str | None:
         """What is used by the code that the arrivals of a finding interrupt, and by handlers too."""
-        places: Sequence[int] = [place.address for cell in finding.failing if (place := cell.place()) and not place.asleep]
+        places: Sequence[int] = [
+            place.address for cell in finding.failing if (place := cell.place()) and not place.asleep
+        ]
         things = dict.fromkeys(self.between[address] for address in places if address in self.between)
         if not things or self.sharing is None:
             return None
