@@ -8,11 +8,10 @@ import difflib
 import os
 import subprocess
 import tempfile
-import threading
 from collections.abc import Callable, Iterable, Iterator
 from typing import IO, BinaryIO, NamedTuple, Protocol, cast
 
-from avrora_tools import files, groups, traces
+from avrora_tools import expressions, files, groups, traces
 from avrora_tools.cases import (
     COMPARISONS,
     Case,
@@ -239,8 +238,9 @@ class Writes:
 
     SHOWN = 200  # bytes of what was written, for the report
 
-    def __init__(self, text: Text) -> None:
-        self.text = text
+    def __init__(self, text: Text, name: str) -> None:
+        """`name` is what messages call the case."""
+        self.text, self.name = text, name
         self.written = bytearray()
         self.found = False
 
@@ -256,12 +256,18 @@ class Writes:
 
     def finish(self) -> list[Report]:
         text = self.text
-        if self.found or text.expression and text.expression.search(self.written):
+        if self.found or text.expression and self.matches(text.expression):
             return []
-        wanted = printed(text.expression.pattern if text.expression else text.text)
+        wanted = printed(text.expression or text.text)
         what = "did not write what matches" if text.expression else "did not write"
         details = [f"- {wanted}", "what it wrote ends with:", f"+ {printed(bytes(self.written[-self.SHOWN :]))}"]
         return [Report(text, f"node {text.node} {what}{within(text.span)}:", details)]
+
+    def matches(self, expression: bytes) -> bool:
+        try:
+            return expressions.has(expression, self.written)
+        except expressions.TooLong:
+            raise CannotWork(f"{self.name}, line {self.text.line}: {expressions.TOO_LONG}") from None
 
 
 def printed(data: bytes) -> str:
@@ -469,7 +475,7 @@ def watchers_of(
         elif isinstance(statement, Never) and statement.span:
             watchers.append(NeverWithin(statement, statement.span, near))
         elif isinstance(statement, Text):
-            writers.append(Writes(statement))
+            writers.append(Writes(statement, files.shown(case.path)))
         elif isinstance(statement, Lines):
             writers.append(WrittenLines(statement))
     return watchers, writers
@@ -529,10 +535,9 @@ def window_of(case: Case) -> range | None:
     return None
 
 
-def run_case(case: Case, avrora: str, save: bool = False, timeout: float | None = None) -> Outcome:
+def run_case(case: Case, avrora: str, save: bool = False) -> Outcome:
     """Makes the trace of the case, by the simulator `avrora` in the case's folder, and checks it as it comes. Raises
-    BadInput where the case names no source or no trace, and where the run is refused; CannotWork where it fails, or takes
-    more than `timeout` seconds."""
+    BadInput where the case names no source or no trace, and where the run is refused; CannotWork where it fails."""
     if case.source is None:
         raise BadInput(f"{files.shown(case.path)}: no run, node or trace says where the rows come from")
     if case.source[0] == "trace":
@@ -542,24 +547,15 @@ def run_case(case: Case, avrora: str, save: bool = False, timeout: float | None 
     with tempfile.TemporaryFile() as errors:
         streams = {"stdin": subprocess.DEVNULL, "stdout": subprocess.PIPE, "stderr": errors}
         with RUNS.started(words, cwd=case.folder, **streams) as process:
-            return checked_run(case, process, errors, save, timeout)
+            return checked_run(case, process, errors, save)
 
 
-def checked_run(
-    case: Case, process: subprocess.Popen[bytes], errors: IO[bytes], save: bool, timeout: float | None
-) -> Outcome:
-    words = f"avrora {' '.join(case.source or ())}"
-    late = threading.Event()
-
-    def end_late() -> None:
-        late.set()
-        groups.end(process)
+def checked_run(case: Case, process: subprocess.Popen[bytes], errors: IO[bytes], save: bool) -> Outcome:
+    words = f"avrora {files.printable(' '.join(case.source or ()))}"
 
     def ended(came: bool) -> None:
         """Raises what is due where the run ended otherwise than well."""
         status = process.wait()
-        if late.is_set():
-            raise CannotWork(f"{files.shown(case.path)}: {words}: it took more than {timeout:g} seconds")
         if status:
             errors.seek(0)
             said = files.printable(errors.read(4096).decode(errors="replace").strip())
@@ -567,13 +563,4 @@ def checked_run(
             raise fault(f"{files.shown(case.path)}: {words}: status {status}: {said}")
 
     assert process.stdout
-    timer = threading.Timer(timeout, end_late) if timeout else None
-    if timer:
-        timer.daemon = True
-        timer.start()
-    try:
-        return check(case, traces.blocks_of(cast(BinaryIO, process.stdout)), save, words, ended, window_of(case))
-    finally:
-        if timer:
-            timer.cancel()
-
+    return check(case, traces.blocks_of(cast(BinaryIO, process.stdout)), save, words, ended, window_of(case))
