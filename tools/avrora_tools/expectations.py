@@ -11,7 +11,7 @@ import tempfile
 from collections.abc import Callable, Iterable, Iterator
 from typing import IO, BinaryIO, NamedTuple, Protocol, cast
 
-from avrora_tools import expressions, files, groups, traces
+from avrora_tools import expressions, files, groups, showing, traces
 from avrora_tools.cases import (
     COMPARISONS,
     Case,
@@ -409,7 +409,7 @@ def check(
         if not reports:
             refuse_gaps(case, extent, gaps)
         reports.sort(key=lambda report: report.statement.line)
-        failures = [report.text(files.shown(case.path)) for report in reports]
+        failures = [showing.printable_lines(report.text(files.shown(case.path))) for report in reports]
         if failures:
             raise Unmet
     status = Status.NOT_MET if failures else Status.GOOD

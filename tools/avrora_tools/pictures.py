@@ -1,8 +1,7 @@
 """A trace as a picture: SVG for papers."""
-import html
 import re
 
-from avrora_tools import cli, drawings
+from avrora_tools import cli, drawings, showing
 from avrora_tools.drawings import Drawing, Lane
 
 
@@ -80,7 +79,7 @@ class Picture:
         lane, y, high = self.drawing.lanes[node], self.y(node), self.step - 3
         self.out.append(
             f'<text x="{MARGIN - 6}" y="{y + high / 2 + 3.5}" text-anchor="end">'
-            f"{html.escape(self.drawing.name(node))}</text>"
+            f"{showing.markup(self.drawing.name(node))}</text>"
             f'<line class="line" x1="{MARGIN}" x2="{self.width - RIGHT}" y1="{y + high + 1}" y2="{y + high + 1}"/>'
         )
         for cycle, _ in lane.stop:
@@ -102,7 +101,7 @@ class Picture:
             )
 
     def add(self, tag: str, title: str) -> None:
-        self.out.append(f"{tag}><title>{html.escape(title)}</title></{tag[1:].split()[0]}>")
+        self.out.append(f"{tag}><title>{showing.markup(title)}</title></{tag[1:].split()[0]}>")
 
     def draw_each(self, node: int, lane: Lane, y: int, high: int) -> None:
         """Each event as a shape of its own, which says on hovering what it is."""

@@ -141,7 +141,7 @@ def functions_of(elf: Any, end: int) -> list[Function]:
         word = symbol["st_value"] // 2
         best[word] = max(best.get(word, rank), rank)
     words = sorted(word for word in best if word < end)
-    return [Function(word, after, best[word][-1]) for word, after in zip(words, words[1:] + [end])]
+    return [Function(word, after, files.printable(best[word][-1])) for word, after in zip(words, words[1:] + [end])]
 
 
 def lines_of(elf: Any) -> list[tuple[int, str | None]]:
@@ -155,12 +155,12 @@ def lines_of(elf: Any) -> list[tuple[int, str | None]]:
         if program is None:
             continue
         base = 0 if program["version"] >= 5 else 1
-        files = program["file_entry"]
+        entries = program["file_entry"]
         for entry in program.get_entries():
             state = entry.state
             if state is None:
                 continue
-            name = os.path.basename(files[state.file - base].name.decode("utf-8", "replace"))
+            name = files.printable(os.path.basename(entries[state.file - base].name.decode("utf-8", "replace")))
             if not state.end_sequence:
                 found[state.address // 2] = f"{name}:{state.line}"
             else:

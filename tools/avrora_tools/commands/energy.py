@@ -1,8 +1,7 @@
 """Charge and duty cycle of each node, by what `avrora monitor` wrote and a table of currents."""
 import argparse
-import html
 
-from avrora_tools import cli, files, profiles, scenarios, traces
+from avrora_tools import cli, files, profiles, scenarios, showing, traces
 from avrora_tools.budgets import HOURS_A_DAY, Account, Table, account, duty_cycle, milliampere_hours, sent, table_of, whole
 from avrora_tools.errors import BadInput, Status
 from avrora_tools.profiles import Spent
@@ -88,7 +87,7 @@ def picture(accounts: list[Account], seconds: float, width: int = 900) -> str:
     ]
     for place, (part, colour) in enumerate(PARTS.items()):
         x = LEFT + 120 * place
-        out.append(f'<rect x="{x}" y="10" width="12" height="12" fill="{colour}"/><text x="{x + 17}" y="20">{html.escape(part)}</text>')
+        out.append(f'<rect x="{x}" y="10" width="12" height="12" fill="{colour}"/><text x="{x + 17}" y="20">{showing.markup(part)}</text>')
     for k, one in enumerate(accounts):
         along, y = float(LEFT), TOP + k * (BAR + GAP)
         out.append(f'<text x="{LEFT - 8}" y="{y + BAR - 4}" text-anchor="end">node {k}</text>')

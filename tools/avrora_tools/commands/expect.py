@@ -5,7 +5,7 @@ import time
 from collections.abc import Iterable, Iterator
 from typing import Any, NamedTuple
 
-from avrora_tools import cli, expectations, files, processes, terminal, traces
+from avrora_tools import cli, expectations, files, processes, showing, terminal, traces
 from avrora_tools.errors import BadWords, Status, ToolError
 from avrora_tools.expectations import Case, Outcome
 
@@ -102,7 +102,7 @@ def tell(number: int, result: Result) -> None:
         print(f"ok {number} - {name} # {outcome.rows} rows, {outcome.expectations} expectations", flush=True)
         return
     print(f"not ok {number} - {name}\n  ---\n  message: |")
-    for line in outcome.failure.splitlines():
+    for line in showing.printable_lines(outcome.failure).split("\n"):
         print(f"    {line}")
     print("  ...", flush=True)
 
@@ -120,11 +120,11 @@ def junit(results: Iterable[Result], junit_xml: Any) -> str:
     """The report of all cases for a server of builds: what is not met is a failure, what could not be checked an error."""
     found = []
     for result in results:
-        name, failure = files.shown(result.case.path), result.outcome.failure
+        name, failure = files.shown(result.case.path), showing.printable_lines(result.outcome.failure or "")
         one = junit_xml.TestCase(name, classname="avrora", elapsed_sec=round(result.seconds, 3))
         if failure:
             add = one.add_failure_info if result.outcome.status == Status.NOT_MET else one.add_error_info
-            add(message=failure.splitlines()[0], output=failure)
+            add(message=failure.split("\n")[0], output=failure)
         found.append(one)
     text: str = junit_xml.to_xml_report_string([junit_xml.TestSuite("avrora", found)])
     return text

@@ -3,7 +3,7 @@ import argparse
 import re
 from collections.abc import Iterator, Sequence
 
-from avrora_tools import cli, scenarios, states
+from avrora_tools import cli, files, scenarios, states
 from avrora_tools.errors import BadInput, BadWords, Status
 from avrora_tools.inspection import View
 from avrora_tools.programs import Program, Programs, add_programs
@@ -151,7 +151,7 @@ def views_of(nodes: Sequence[int], all_programs: Programs, patterns: Sequence[st
     by_program = {program: View(program) for program in of_nodes.values() if program}
     for pattern in patterns:
         if not any(view.has(pattern) for view in by_program.values()):
-            raise BadInput(f"-g {pattern}: no program of these nodes has such a variable")
+            raise BadInput(f"-g {files.printable(pattern)}: no program of these nodes has such a variable")
     return {k: by_program[program] if program else None for k, program in of_nodes.items()}
 
 
@@ -230,7 +230,7 @@ def run(arguments: argparse.Namespace) -> int:
     count = max(len(state.nodes), len(other.nodes) if other else 0)
     nodes = sorted(arguments.nodes if arguments.nodes is not None else range(count))
     if nodes and nodes[-1] >= count:
-        raise BadInput(f"{arguments.state}: there is no node {nodes[-1]}, as there are {count}")
+        raise BadInput(f"{files.shown(arguments.state)}: there is no node {nodes[-1]}, as there are {count}")
     if arguments.globals and (other or not arguments.elf):
         raise BadWords("-g tells variables of one state, and needs their program (-e)")
     if other:
