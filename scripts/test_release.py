@@ -688,7 +688,7 @@ class Running(OfARepository):
         self.assertEqual(ran([script, mine, "again"], self.place)[0], 1)
         self.assertIn("<failure ", (self.place / "again/junit.xml").read_text(encoding="utf-8"))
         self.assertEqual(ran([script, "my firmware", "my firmware/out"], self.place), (2, "", "check.sh: my firmware/out lies in my firmware, which is copied there\n"))
-        self.assertEqual(ran([script], self.place), (2, "", "usage: check.sh FOLDER [OUT]\n"))
+        self.assertEqual(ran([script], self.place), (2, "", "usage: check.sh [--timeout SECONDS] FOLDER [OUT]\n"))
 
 
 def main():

@@ -1,49 +1,164 @@
 #!/bin/sh
-# Builds the firmware of a folder, checks it, and leaves what came of it as JUnit: check.sh FOLDER [OUT]
+# Builds the firmware of a folder, checks it, and leaves what came of it as JUnit: check.sh [--timeout SECONDS] FOLDER [OUT]
 #
 # FOLDER is copied to OUT (./build where absent). There each NAME.c becomes NAME.hex, and the cases, all NAME.expect, are run;
-# `avrora-tools expect --help` says what is in them. The report is OUT/junit.xml. To try it with an example:
+# `avrora-tools expect --help` says what is in them. The report is OUT/junit.xml, and OUT/SHA256SUMS has the sums of all that
+# was built and checked. Each compilation and each case may take SECONDS (600). To try it with an example:
 #
 #   mkdir mine && cp relay.c relay.toml relay.expect mine && ci/check.sh mine
+#
+# FOLDER may be anybody's: nothing of it is run, and nothing is written but in OUT. Links, pipes and devices are left out, and
+# so is .git. OUT must be new, empty, or of an earlier call, which is removed. SECURITY.md says what a compiler may still read.
 #
 # AVRORA_HOME names the unpacked archive, where this script does not lie in it. Without one avrora-tools is looked for on the
 # PATH, where the package puts it. From Debian: gcc-avr, avr-libc, python3, python3-junit.xml.
 # Exit status: 0 every case is met, 1 one is not or a source is refused, 2 no case or bad words, 3 something is not there.
 set -eu
+unset CDPATH
 
-here=$(cd "$(dirname "$0")" && pwd)
-home=$(cd "${AVRORA_HOME:-$here/../..}" && pwd)
+say() {
+    printf 'check.sh: %s\n' "$1" >&2
+}
+
+end() {
+    say "$2"
+    exit "$1"
+}
+
+usage() {
+    echo "usage: check.sh [--timeout SECONDS] FOLDER [OUT]" >&2
+    exit 2
+}
+
+# An absolute name, as no name of a stranger's begins.
+absolute() {
+    case $1 in
+        /*) printf '%s\n' "$1" ;;
+        *) printf '%s\n' "$PWD/$1" ;;
+    esac
+}
+
+# Whether a link is on the way to OUT, from here or, of another absolute name, at its end.
+has_link() {
+    part=${1%/}
+    case $part in
+        "$PWD"/*) part=${part#"$PWD"/} ;;
+        /*) [ -L "$part" ] && return ;;
+    esac
+    while [ "$part" ] && [ "${part#/}" = "$part" ]; do
+        [ -L "$part" ] && return
+        case $part in
+            */*) part=${part%/*} ;;
+            *) part= ;;
+        esac
+    done
+    return 1
+}
+
+# Programs are looked for where the environment says so by whole names, and never in a folder that is checked.
+path=
+rest=$PATH:
+while [ "$rest" ]; do
+    case $rest in
+        /*) path=$path${path:+:}${rest%%:*} ;;
+    esac
+    rest=${rest#*:}
+done
+PATH=$path
+
+seconds=600
+if [ "${1-}" = --timeout ]; then
+    [ $# -ge 2 ] || usage
+    seconds=$2
+    shift 2
+fi
+case $seconds in
+    *[!0-9]* | "" | 0* | ???????*) usage ;;
+esac
+
+here=$(cd -- "$(dirname -- "$0")" && pwd)
+home=$(cd -- "$(absolute "${AVRORA_HOME:-$here/../..}")" && pwd)
 if [ -x "$home/avrora-tools" ]; then
     PATH=$home:$PATH
 fi
-for it in avr-gcc avr-objcopy avrora-tools; do
-    command -v "$it" >/dev/null || {
-        echo "check.sh: there is no $it" >&2
-        exit 3
-    }
+for it in avr-gcc avr-objcopy avrora-tools timeout sha256sum tar find; do
+    command -v "$it" >/dev/null || end 3 "there is no $it"
 done
-
-if [ $# -lt 1 ] || [ ! -d "$1" ]; then
-    echo "usage: check.sh FOLDER [OUT]" >&2
-    exit 2
+if [ -f "$home/SHA256SUMS" ]; then
+    (cd -- "$home" && grep -E '  (avrora|avrora-tools|(bin|libexec)/.*)$' SHA256SUMS | sha256sum -c --quiet --strict >&2) ||
+        end 3 "the programs in $home are not those of its SHA256SUMS"
 fi
-folder=$1
-out=${2:-build}
-mkdir -p "$out"
-case $(cd "$out" && pwd)/ in
-    "$(cd "$folder" && pwd)/"*)
-        echo "check.sh: $out lies in $folder, which is copied there" >&2
-        exit 2
-        ;;
-esac
-cp -R "$folder/." "$out"
-chmod -R u+w "$out"
-cd "$out"
-
-for source in *.c; do
-    name=${source%.c}
-    avr-gcc -mmcu=atmega128 -Os -gdwarf-2 -Wall -I . -I "$here/.." -o "$name.elf" "$source"
-    avr-objcopy -j .text -j .data -O ihex "$name.elf" "$name.hex"
+headers=
+for it in "$here/.." "$home/examples" "$home/include"; do
+    if [ -f "$it/radio.h" ]; then
+        headers=$(cd -- "$it" && pwd)
+        break
+    fi
 done
 
-exec avrora-tools expect --junit junit.xml ./*.expect
+if [ $# -lt 1 ] || [ $# -gt 2 ] || [ ! -d "$1" ]; then
+    usage
+fi
+folder=$(absolute "$1")
+out=${2:-build}
+if has_link "$out"; then
+    end 2 "$out: a link, and what is written follows none"
+fi
+out=$(absolute "$out")
+mkdir -p -- "$out"
+case $(cd -- "$out" && pwd -P)/ in
+    "$(cd -- "$folder" && pwd -P)/"*) end 2 "${2:-build} lies in $1, which is copied there" ;;
+esac
+if [ -f "$out/.check.sh" ]; then
+    find "$out" -mindepth 1 -delete
+elif [ "$(find "$out" -mindepth 1 -maxdepth 1 | head -c 1)" ]; then
+    end 2 "${2:-build}: it is not empty, and of no earlier call"
+fi
+: >"$out/.check.sh"
+
+cd -- "$folder"
+left=$(find . -name .git -prune -o ! -type f ! -type d -printf x | wc -c)
+[ "$left" -eq 0 ] || say "left out: $left links, pipes or devices"
+find . -mindepth 1 \( -name .git -o -path ./.check.sh \) -prune -o \( -type f -o -type d \) -print0 |
+    tar --create --null --no-recursion --hard-dereference --mode=u=rwX,go=rX --files-from=- |
+    tar --extract --no-same-owner --directory="$out"
+cd -- "$out"
+
+# What a tool says of a source has parts of the source: shown without what a terminal or a log would take for its own.
+limited() {
+    if (
+        # shellcheck disable=SC3045 # dash and bash have it
+        ulimit -v 4194304
+        ulimit -f 2097152
+        exec timeout -k 5 "$seconds" "$@"
+    ) >.check.sh 2>&1; then
+        status=0
+    else
+        status=$?
+    fi
+    cat -v .check.sh | sed 's/^/| /' >&2
+    : >.check.sh
+    case $status in
+        0) ;;
+        124 | 137) end 1 "it took more than $seconds seconds" ;;
+        *) exit 1 ;;
+    esac
+}
+
+# A name begins with ./, so that none is an option or a file of options. A header is the first one included, so that no
+# precompiled one is taken, which has code in it. No object is taken for one of link-time optimization, which has options.
+for source in ./*.c; do
+    [ -f "$source" ] || continue
+    name=${source%.c}
+    limited avr-gcc -mmcu=atmega128 -Os -gdwarf-2 -Wall -fno-lto -fno-use-linker-plugin -include /dev/null -I . \
+        ${headers:+-I "$headers"} -o "$name.elf" "$source"
+    limited avr-objcopy -j .text -j .data -O ihex "$name.elf" "$name.hex"
+done
+
+set -- ./*.expect
+[ -f "$1" ] || end 2 "there is no case"
+find . -type f ! -path ./.check.sh ! -path ./SHA256SUMS -print0 | LC_ALL=C sort -z | xargs -0 sha256sum >.check.sh
+rm -rf -- SHA256SUMS
+mv -- .check.sh SHA256SUMS
+: >.check.sh
+exec avrora-tools expect --timeout "$seconds" --junit ./junit.xml "$@"
