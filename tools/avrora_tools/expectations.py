@@ -5,6 +5,7 @@ A trace is read once, row by row, to its end; what is kept of it is a few rows f
 import collections
 import contextlib
 import difflib
+import io
 import os
 import subprocess
 import tempfile
@@ -28,6 +29,7 @@ from avrora_tools.errors import BadInput, CannotWork, Status, ToolError
 from avrora_tools.events import TRACED, Serial, event_of
 from avrora_tools.patterns import EVERY, Extent, Span
 from avrora_tools.scenarios import BYTE_TIME, MAX_WINDOW, Scenario
+from avrora_tools.writing import Folder
 
 __all__ = ["Case", "Golden", "Outcome", "RUNS", "check", "read_case", "run_case"]
 
@@ -296,14 +298,15 @@ class WrittenLines:
 class GoldenTrace:
     """The rows of a file, all of them and no others."""
 
-    def __init__(self, golden: Golden, stack: contextlib.ExitStack) -> None:
-        self.golden = golden
+    def __init__(self, golden: Golden, folder: str, stack: contextlib.ExitStack) -> None:
+        """`folder` is that of the case."""
+        self.golden, self.folder = golden, folder
         self.name = files.shown(golden.path)
         try:
-            self.file = stack.enter_context(open(golden.path, encoding="ascii", errors="replace", newline="\n"))
-        except (OSError, ValueError) as fault:
-            why = getattr(fault, "strerror", None) or fault
-            raise BadInput(f"cannot read {self.name}: {why} (--save writes it)") from None
+            content = stack.enter_context(files.opened_named(golden.path))
+        except BadInput as fault:
+            raise BadInput(f"{fault} (--save writes it)") from None
+        self.file = stack.enter_context(io.TextIOWrapper(content, encoding="ascii", errors="replace", newline="\n"))
         self.number = 0
         self.before: collections.deque[str] = collections.deque(maxlen=CONTEXT)
         self.report: Report | None = None
@@ -324,7 +327,8 @@ class GoldenTrace:
         parts = line.rstrip("\n").split(" ", 2 if self.golden.with_cycles else 1)
         is_number = all(part.isdigit() for part in parts[:-1])
         if not line.endswith("\n") or len(parts) != 2 + self.golden.with_cycles or not is_number or not event_of(parts[-1]):
-            raise BadInput(f"{self.name}, line {self.number}: no row: {files.printable(line[:60].rstrip())}")
+            with files.untold(self.golden.path, self.folder):
+                raise BadInput(f"{self.name}, line {self.number}: no row: {files.printable(line[:60].rstrip())}")
         return line.rstrip("\n")
 
     def feed(self, row: traces.TraceRow) -> None:
@@ -360,12 +364,15 @@ class GoldenTrace:
 
 
 class SavedTrace:
-    """Writes the rows to the file of a golden trace."""
+    """Writes the rows to the file of a golden trace, below the folder of its case."""
 
-    def __init__(self, golden: Golden, stack: contextlib.ExitStack) -> None:
+    def __init__(self, golden: Golden, folder: str, stack: contextlib.ExitStack) -> None:
         self.golden = golden
+        above, name = os.path.split(os.path.relpath(golden.path, folder))
         try:
-            self.file: IO[str] = stack.enter_context(files.whole_file(golden.path))
+            with Folder.named(folder) as place:
+                inner = stack.enter_context(place.below(above))
+            self.file: IO[str] = stack.enter_context(inner.file(name))
         except OSError as fault:
             raise CannotWork(f"cannot write {files.shown(golden.path)}: {fault.strerror}") from None
 
@@ -467,9 +474,9 @@ def watchers_of(
     for statement in case.statements:
         if isinstance(statement, Golden):
             if save:
-                watchers.append(SavedTrace(statement, stack))
+                watchers.append(SavedTrace(statement, case.folder, stack))
             else:
-                watchers.append(GoldenTrace(statement, stack))
+                watchers.append(GoldenTrace(statement, case.folder, stack))
         elif isinstance(statement, Count):
             watchers.append(Counter(statement))
         elif isinstance(statement, Never) and statement.span:
@@ -524,6 +531,17 @@ def why_impossible(statement: Statement, extent: Extent) -> str:
     return ""
 
 
+def refuse_endless(case: Case) -> None:
+    """Raises BadInput where the simulator would read what may have no end: a device or a pipe that a file names."""
+    what, *words = case.source or ("trace",)
+    paths = words[:1]
+    if what == "run":
+        with contextlib.suppress(ToolError):  # whether it is a scenario the simulator says
+            paths += Scenario.of_text(files.read_named_text(os.path.join(case.folder, words[0])), "").images
+    for path in paths:
+        files.refuse_endless(os.path.join(case.folder, path))
+
+
 def window_of(case: Case) -> range | None:
     """The cycles in which a run of the case traces instructions; None where only its rows can tell."""
     what, *words = case.source or ("trace",)
@@ -542,7 +560,9 @@ def run_case(case: Case, avrora: str, save: bool = False) -> Outcome:
         raise BadInput(f"{files.shown(case.path)}: no run, node or trace says where the rows come from")
     if case.source[0] == "trace":
         path = os.path.join(case.folder, case.source[1])
-        return check(case, traces.file_blocks(path), save, files.shown(path))
+        with files.untold(path, case.folder):
+            return check(case, traces.file_blocks(path, is_named_by_file=True), save, files.shown(path))
+    refuse_endless(case)
     words = [avrora, *case.source]
     with tempfile.TemporaryFile() as errors:
         streams = {"stdin": subprocess.DEVNULL, "stdout": subprocess.PIPE, "stderr": errors}

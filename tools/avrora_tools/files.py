@@ -3,6 +3,7 @@ import contextlib
 import errno
 import gzip
 import os
+import re
 import stat
 import sys
 import zlib
@@ -14,12 +15,14 @@ from avrora_tools.showing import STANDARD_STREAM, printable, shown
 from avrora_tools.writing import whole_file, write_whole
 
 __all__ = [
-    "LARGEST_TEXT", "STANDARD_STREAM", "opened", "opened_named", "printable", "read_bytes", "read_named", "read_named_text",
-    "read_text", "readable", "shown", "whole_file", "write_whole",
+    "LARGEST_TEXT", "STANDARD_STREAM", "is_below", "opened", "opened_named", "printable", "read_bytes", "read_named",
+    "read_named_text", "read_text", "readable", "refuse_endless", "shown", "untold", "whole_file", "write_whole",
 ]  # fmt: skip
 
 # More bytes than a small file has: a scenario, a case, a campaign.
 LARGEST_TEXT = 16 * 1024 * 1024
+
+ENDLESS = "a device or a pipe, and no file"
 
 # What keeps a tool from a file that may be as good as any.
 NOT_OF_THE_FILE = (errno.EACCES, errno.EPERM, errno.EIO, errno.ENOMEM, errno.EMFILE, errno.ENFILE, errno.ESTALE)
@@ -57,12 +60,37 @@ def opened_named(name: str) -> Iterator[BinaryIO]:
         file: BinaryIO = open(name, "rb", opener=without_waiting)
     with file:
         if not stat.S_ISREG(os.fstat(file.fileno()).st_mode):
-            raise BadInput(f"cannot read {shown(name)}: a device or a pipe, and no file")
+            raise BadInput(f"cannot read {shown(name)}: {ENDLESS}")
         if not name.endswith(".gz"):
             yield file
             return
         with gzip.GzipFile(fileobj=file) as unpacked:
             yield cast(BinaryIO, unpacked)
+
+
+def is_below(path: str, folder: str) -> bool:
+    """Whether a file lies in a folder, wherever links lead."""
+    return os.path.realpath(path).startswith(os.path.join(os.path.realpath(folder), ""))
+
+
+@contextlib.contextmanager
+def untold(path: str, folder: str) -> Iterator[None]:
+    """What is said of a file that lies outside of a folder has no text of the file: the file that names it may be a
+    stranger's, who reads the log."""
+    try:
+        yield
+    except BadInput as fault:
+        place = re.match(re.escape(shown(path)) + r"(?:, line \d+)?", str(fault))
+        if not place or is_below(path, folder):
+            raise
+        where = f"it lies outside of {shown(folder)}, so none of its text is told"
+        raise BadInput(f"{place[0]}: not what it is to be; {where}") from None
+
+
+def refuse_endless(name: str) -> None:
+    """Raises BadInput where a file that another file names is a device or a pipe."""
+    if os.path.exists(name) and not os.path.isfile(name) and not os.path.isdir(name):
+        raise BadInput(f"cannot read {shown(name)}: {ENDLESS}")
 
 
 def without_waiting(name: str, flags: int) -> int:
