@@ -12,6 +12,7 @@ import secrets
 import shutil
 import stat
 import sys
+import time
 from collections.abc import Iterator
 from types import TracebackType
 from typing import IO, Any, cast
@@ -21,6 +22,8 @@ from avrora_tools.showing import STANDARD_STREAM, printable, shown
 
 ENTERED = os.O_PATH | os.O_DIRECTORY | os.O_CLOEXEC
 NO_LINK = os.O_NOFOLLOW | os.O_CLOEXEC
+
+READER_SECONDS = 10  # that a pipe may be without one, when it is written to
 
 # Names of the process's own files, which are links wherever they lead.
 STREAMS = {"/dev/stdin": 0, "/dev/stdout": 1, "/dev/stderr": 2}
@@ -264,13 +267,25 @@ def whole_file(path: str, binary: bool = False, lasting: bool = True) -> Iterato
     with folder:
         found = folder.status(name)
         if found and (stat.S_ISFIFO(found.st_mode) or stat.S_ISCHR(found.st_mode) or stat.S_ISBLK(found.st_mode)):
-            with renamed(path):
-                number = os.open(name, os.O_WRONLY | NO_LINK, dir_fd=folder.descriptor)
-            with stream(number, binary) as file:
+            with stream(opened_as_it_is(folder, name, path), binary) as file:
                 yield file
             return
         with folder.file(name, binary, lasting) as file:
             yield file
+
+
+def opened_as_it_is(folder: Folder, name: str, path: str) -> int:
+    """The descriptor of a device or a pipe, to write to. A pipe that nobody begins to read is waited for a while."""
+    end = time.monotonic() + READER_SECONDS
+    while True:
+        try:
+            number = os.open(name, os.O_WRONLY | os.O_NONBLOCK | NO_LINK, dir_fd=folder.descriptor)
+            os.set_blocking(number, True)
+            return number
+        except OSError as fault:
+            if fault.errno != errno.ENXIO or time.monotonic() > end:
+                raise OSError(fault.errno, fault.strerror, path) from None
+        time.sleep(0.05)
 
 
 def write_whole(path: str, content: str | bytes, lasting: bool = True) -> None:

@@ -106,6 +106,13 @@ class TestFiles:
         reader.join()
         assert found == ["c"] and stat.S_ISFIFO(os.stat("pipe").st_mode)
 
+    def test_a_pipe_that_nobody_reads(self, place, monkeypatch):
+        monkeypatch.setattr(writing, "READER_SECONDS", 0.1)
+        os.mkfifo("pipe")
+        with pytest.raises(OSError) as fault:
+            files.write_whole("pipe", "c")
+        assert fault.value.filename == "pipe"
+
     @pytest.mark.parametrize("path", ["/dev/fd/{}", "/proc/self/fd/{}"])
     def test_an_open_file(self, place, path):
         """It is written where it stands, as a shell's `>>` has it."""
