@@ -4,6 +4,7 @@ import os
 import re
 import resource
 import signal
+from collections.abc import Iterable
 
 from avrora_tools import calling
 
@@ -22,16 +23,21 @@ class TooLong(Exception):
 def has(expression: bytes, text: bytes | bytearray, seconds: float = SECONDS) -> bool:
     """Whether a regular expression as Python has them, in which ^ and $ are the ends of lines, matches in a text. Raises TooLong
     where that is not known in time. The expression is known to be one."""
+    return has_each(expression, (text,), seconds)
+
+
+def has_each(expression: bytes, texts: Iterable[bytes | bytearray], seconds: float = SECONDS) -> bool:
+    """Whether it matches in each of some texts, as `has` tells it of one."""
     process = os.fork()
     if process == 0:
-        os._exit(searched(expression, text, seconds))
+        os._exit(searched(expression, texts, seconds))
     child = calling.ended(process, seconds)
     if child.is_late or child.status not in (FOUND, MISSING):
         raise TooLong
     return child.status == FOUND
 
 
-def searched(expression: bytes, text: bytes | bytearray, seconds: float) -> int:
+def searched(expression: bytes, texts: Iterable[bytes | bytearray], seconds: float) -> int:
     """The status of the process that searches. It ends by itself too, should its parent be killed."""
     try:
         signal.signal(signal.SIGTERM, signal.SIG_DFL)
@@ -41,6 +47,7 @@ def searched(expression: bytes, text: bytes | bytearray, seconds: float) -> int:
             memory = int(file.read().split()[0]) * resource.getpagesize() + MEMORY
         resource.setrlimit(resource.RLIMIT_AS, (memory, resource.RLIM_INFINITY))
         resource.setrlimit(resource.RLIMIT_CORE, (0, resource.RLIM_INFINITY))
-        return FOUND if re.search(expression, text, re.MULTILINE) else MISSING
+        pattern = re.compile(expression, re.MULTILINE)
+        return FOUND if all(map(pattern.search, texts)) else MISSING
     except BaseException:  # whatever it was, its parent has no answer
         return FAILED

@@ -33,6 +33,9 @@ class TestExpressions:
     def test_answers(self, expression, text, wanted):
         assert expressions.has(expression, text) == wanted
 
+    def test_many_texts(self):
+        assert expressions.has_each(b"a", (b"ba", b"a")) and not expressions.has_each(b"a", iter([b"ba", b"b"]))
+
     @pytest.mark.parametrize("expression, text", ENDLESS)
     def test_one_that_does_not_end(self, expression, text):
         start = time.monotonic()
