@@ -48,7 +48,7 @@ SECONDS = 60  # that no call takes, on a busy machine
 CALLS = [
     "expect @a.expect", "expect --junit @junit.xml @a.expect", "expect --save @a.expect", "expect --trace @net.trace @a.expect",
     "expect --jobs 2 --timeout 60 @a.expect @a.expect", "why @net.toml", "timeline -s @net.toml -o @out.html @net.trace",
-    "timeline --svg -o @out/a.svg @net.trace", "vcd -s @net.toml @net.trace", "annotate -e @relay.elf @relay.trace",
+    "timeline --svg -o @out.svg @net.trace", "timeline --svg -o @out/a.svg @net.trace", "vcd -s @net.toml @net.trace", "annotate -e @relay.elf @relay.trace",
     "profile --callers --lines --coverage --force -e @relay.elf @relay.trace", "profile -s @relay.toml -e @relay.elf @relay.trace",
     "vcd -s @relay.toml --force -e 0=@relay.elf @relay.trace", "inspect -g * -e @relay.elf @net.state", "links --map @out.svg @net.toml @net.trace",
     "console @net.trace", "diff -e @relay.elf @net.trace @relay.trace", "mknet --places @build line a.hex*3", "window @net.toml 0 100",
@@ -135,7 +135,7 @@ def faults(world, words, status, out, errors):
 
 
 def looked_at(seed, number, tell):
-    """Makes a repository, and calls some tools on it; how many findings there are."""
+    """Makes a repository, and calls a tool on it; how many findings there are."""
     found = 0
     with tempfile.TemporaryDirectory(prefix="avrora-fuzz-", ignore_cleanup_errors=True) as place:
         with open(f"{place}/avrora", "w", encoding="utf-8") as file:
@@ -144,12 +144,11 @@ def looked_at(seed, number, tell):
         world = repositories.World(place, f"{seed} {number}")
         if not os.path.lexists(f"{world.repo}/net.state"):
             world.write(f"{world.repo}/net.state", STATE)
-        for _ in range(2):
-            folder, words = words_of(world)
-            status, out, errors = call(world, folder, words)
-            for fault in faults(world, words, status, out, errors):
-                found += 1
-                tell(f"repository {number} of seed {seed}, in {folder}: {' '.join(words)}: {fault}")
+        folder, words = words_of(world)
+        status, out, errors = call(world, folder, words)
+        for fault in faults(world, words, status, out, errors):
+            found += 1
+            tell(f"repository {number} of seed {seed}, in {folder}: {' '.join(words)}: {fault}")
         for folder, folders, _ in os.walk(place):
             for name in folders:
                 if not os.path.islink(f"{folder}/{name}"):

@@ -107,7 +107,7 @@ class World:
                 shell = "" if name.endswith(".py") else f"#!{sys.executable} -IS\n"
                 self.write(f"{self.repo}/{name}", f"{shell}open({self.ran!r} + '/{name}', 'w').close()\n", 0o755)
         image = f"{self.name()}.hex"
-        if draw.random() < 0.7 and "/" not in image:
+        if draw.random() < 0.9:
             self.write(f"{self.repo}/{image}", ":00000001FF\n")
         else:
             self.odd(image)
@@ -133,9 +133,9 @@ class World:
     def case(self):
         draw = self.draw
         place = draw.choice([f"{self.home}/.netrc", "../home/.netrc", "golden.rows", "out", "../home/new.rows", f"{self.home}/.bashrc", "deep/golden.rows", "/dev/zero"])
-        source = draw.choice(["run net.toml", "trace net.trace", f"trace {place}", f"run {place}", f"node {place} 100", "trace relay.trace"])
+        source = draw.choice(["run net.toml", "run net.toml", "trace net.trace", "trace net.trace", "trace net.trace", f"trace {place}", f"run {place}", f"node {place} 100", "trace relay.trace"])
         lines = [source]
-        lines += draw.sample([f"golden {place}", "* 0 sent AA", "text 4 'relay'", r"text 4 'a\x1b[31m'", "text 0 matches 'a\u202e'", "count == 9: * 0 sent *", "\x1b[31m", f"{self.name()}"], 2)
+        lines += draw.sample([f"golden {place}", f"golden {place}", "* 0 sent AA", "* 0 sent AA", "never * * stop *", "text 4 'relay'", r"text 4 'a\x1b[31m'", "text 0 matches 'a\u202e'", "count == 9: * 0 sent *", "\x1b[31m", f"{self.name()}"], 2)
         return "\n".join(lines) + "\n"
 
     def elf(self):
@@ -154,18 +154,19 @@ class World:
     def campaign(self, image):
         draw = self.draw
         self.has_campaign = True
-        results = draw.choice([None, None, None, "res", "../home", "../home/work", f"{self.home}/work", "deep/../../home", "out", "runs/..", "."])
+        results = draw.choice([None, None, None, None, None, "res", "res", "res", "../home", "../home/work", f"{self.home}/work", "deep/../../home", "out", "runs/..", "."])
         lines = [f"results = {quoted(results)}"] if results else []
-        lines += [f"name = {quoted(self.name())}"] if draw.random() < 0.3 else []
+        lines += [f"name = {quoted(self.name())}"] if draw.random() < 0.1 else []
         lines += ["attempts = 1", 'traces = "all"', "[[run]]", 'scenario = "net.toml"', 'expect = "b.expect"']
-        if draw.random() < 0.3:
+        if draw.random() < 0.1:
             lines += [f"name = {quoted(self.name())}"]
         if draw.random() < 0.2:
-            lines[-2] = f'draw = "{draw.choice(["draw.py", "../repo/draw.py"])}"'
-            self.write(f"{self.repo}/draw.py", f"open({self.ran!r} + '/draw', 'w').close()\ndef draw(number):\n    return {{}}\nCOUNT = 2\n")
+            lines[lines.index('scenario = "net.toml"')] = f'draw = "{draw.choice(["draw.py", "../repo/draw.py"])}"'
+            self.write(f"{self.repo}/draw.py", f"open({self.ran!r} + '/draw', 'w').close()\ndef draw(number):\n    return {{}}\n")
+            lines += ["vary = { number = [1, 2] }"]
         else:
             lines += ["[run.vary]", f"latency = [20, {draw.choice(['21', '22'])}]"]
-            if draw.random() < 0.3:
+            if draw.random() < 0.1:
                 lines += [f'"node.0.image" = [{quoted(image)}, {quoted(self.name())}]']
         self.write(f"{self.repo}/c.campaign", "\n".join(lines) + "\n")
         self.write(f"{self.repo}/b.expect", "within 0..29: never * 0 sent *\n* 0 sent AA\n")
