@@ -34,6 +34,7 @@ TOP = Path(__file__).resolve().parent.parent
 # How many bytes the reader of a document has time for.
 MOST_BYTES = {
     "README.md": 9000,
+    "SECURITY.md": 6000,
     "docs/PROOFS.md": 17000,
     "docs/SPEED.md": 7000,
     "docs/RELEASE.md": 5000,
@@ -108,7 +109,7 @@ def words():
 
 def documents():
     """The documents by path, each with its text."""
-    paths = [it for it in tracked() if it in ("README.md", "CHANGELOG.md") or re.fullmatch(r"(docs|tools)/[^/]*\.md", it)]
+    paths = [it for it in tracked() if it in ("README.md", "SECURITY.md", "CHANGELOG.md") or re.fullmatch(r"(docs|tools)/[^/]*\.md", it)]
     return {path: (TOP / path).read_text(encoding="utf-8") for path in paths}
 
 

@@ -298,7 +298,7 @@ class Contents(OfARepository):
         self.assertIn("examples/ci/check.sh", scripts)
         run = {it.name.partition("/")[2] for it in members if it.isfile() and it.mode != 0o644}
         self.assertEqual(run, {"bin/avrora", "bin/avrora-tools", "libexec/avrora/avrora_program", *scripts})
-        self.assertEqual(sorted(it.name for it in self.top.iterdir()), ["CHANGELOG.md", "PROVED", "README.md", "SHA256SUMS", "avrora", "avrora-tools", "bin", "docs", "examples", "include", "libexec", "share", "tools"])
+        self.assertEqual(sorted(it.name for it in self.top.iterdir()), ["CHANGELOG.md", "PROVED", "README.md", "SECURITY.md", "SHA256SUMS", "avrora", "avrora-tools", "bin", "docs", "examples", "include", "libexec", "share", "tools"])
         self.assertEqual((self.top / "include/radio.h").read_bytes(), (TOP / "examples/radio.h").read_bytes())
 
     def test_sums(self):

@@ -21,7 +21,7 @@ SHARED, DOCUMENTS = "usr/share/avrora", "usr/share/doc/avrora"
 LEFT_OUT = ("avrora", "avrora-tools", archives.SUMS)
 
 # What the documents of the package are called beside those that every package has.
-LINKED = ("README.md", "docs", "examples", "tools", "PROVED", "UNPROVED")
+LINKED = ("README.md", "SECURITY.md", "docs", "examples", "tools", "PROVED", "UNPROVED")
 
 # What lintian says of the package that is meant so, each with the reason.
 OVERRIDES = """\

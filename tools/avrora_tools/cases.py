@@ -8,7 +8,7 @@ import re
 from collections.abc import Callable, Iterator
 from typing import NamedTuple
 
-from avrora_tools import cli, files
+from avrora_tools import cli, expressions, files
 from avrora_tools.errors import BadInput
 from avrora_tools.events import KINDS, End, Sent, Stop
 from avrora_tools.fields import EVERY, NUMBER, Span, cover, joined, span_of, whole
@@ -67,7 +67,7 @@ class Text(NamedTuple):
     node: int
     text: bytes
     span: Span | None
-    expression: re.Pattern[bytes] | None = None
+    expression: bytes | None = None
 
 
 class Lines(NamedTuple):
@@ -364,14 +364,18 @@ def read_text(line: str, number: int, span: Span | None) -> Text | Lines:
     return Text(number, node_of(match[1]), value.encode("latin-1"), span)
 
 
-def expression_of(text: str) -> re.Pattern[bytes]:
+def expression_of(text: str) -> bytes:
     """A regular expression as Python has them; ^ and $ are the ends of lines."""
     try:
-        found = re.compile(text.encode("latin-1"), re.MULTILINE)
+        found = text.encode("latin-1")
+        re.compile(found, re.MULTILINE)
     except (re.error, UnicodeEncodeError, OverflowError) as fault:
         raise ValueError(f"no regular expression: {fault}") from None
-    if found.search(b"") and all(found.search(text) for text in probes(found.pattern)):
-        raise ValueError("the expression matches nothing at all, so that each text has it")
+    try:
+        if expressions.has(found, b"") and expressions.has_each(found, probes(found)):
+            raise ValueError("the expression matches nothing at all, so that each text has it")
+    except expressions.TooLong:
+        raise ValueError(expressions.TOO_LONG) from None
     return found
 
 

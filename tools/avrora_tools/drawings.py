@@ -1,15 +1,16 @@
 """What is drawn of a trace, node by node, and how it is thinned where it is too much for a page."""
 import json
-import os
 from array import array
 from collections.abc import Iterable, Iterator
 from typing import Any, NamedTuple
 
+from avrora_tools import programs
 from avrora_tools.errors import BadInput
 from avrora_tools.events import CLASH, NOTHING, End, Enter, Event, Heard, Instr, Sent, Serial, Stop
 from avrora_tools.hearing import Hearing
 from avrora_tools.instructions import SLEEP
 from avrora_tools.scenarios import DEFAULT_TIME
+from avrora_tools.showing import printable
 from avrora_tools.traces import LAST_LIMIT, Trace
 
 MAX_WAYS = 250  # lines from sends to where they were heard
@@ -180,7 +181,7 @@ class Drawing:
     def name(self, node: int) -> str:
         if not self.scenario:
             return str(node)
-        return f"{node} {os.path.splitext(os.path.basename(self.scenario.images[node]))[0]}"
+        return f"{node} {printable(programs.stem(self.scenario.images[node]))}"
 
 
 def flat(events: Iterable[Drawn], kind: str) -> list[Any]:

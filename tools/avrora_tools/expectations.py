@@ -5,14 +5,14 @@ A trace is read once, row by row, to its end; what is kept of it is a few rows f
 import collections
 import contextlib
 import difflib
+import io
 import os
 import subprocess
 import tempfile
-import threading
 from collections.abc import Callable, Iterable, Iterator
 from typing import IO, BinaryIO, NamedTuple, Protocol, cast
 
-from avrora_tools import files, groups, traces
+from avrora_tools import expressions, files, groups, showing, traces
 from avrora_tools.cases import (
     COMPARISONS,
     Case,
@@ -33,6 +33,7 @@ from avrora_tools.fields import EVERY, Span, cover
 from avrora_tools.patterns import Extent, Place
 from avrora_tools.scenarios import BYTE_TIME, MAX_WINDOW, Scenario
 from avrora_tools.wholeness import Lacking
+from avrora_tools.writing import Folder
 
 __all__ = ["Case", "Golden", "Outcome", "RUNS", "check", "read_case", "run_case"]
 
@@ -263,8 +264,9 @@ class Writes:
 
     SHOWN = 200  # bytes of what was written, for the report
 
-    def __init__(self, text: Text) -> None:
-        self.text = text
+    def __init__(self, text: Text, name: str) -> None:
+        """`name` is what messages call the case."""
+        self.text, self.name = text, name
         self.written = bytearray()
         self.found = False
 
@@ -280,12 +282,18 @@ class Writes:
 
     def finish(self) -> list[Report]:
         text = self.text
-        if self.found or text.expression and text.expression.search(self.written):
+        if self.found or text.expression and self.matches(text.expression):
             return []
-        wanted = printed(text.expression.pattern if text.expression else text.text)
+        wanted = printed(text.expression or text.text)
         what = "did not write what matches" if text.expression else "did not write"
         details = [f"- {wanted}", "what it wrote ends with:", f"+ {printed(bytes(self.written[-self.SHOWN :]))}"]
         return [Report(text, f"node {text.node} {what}{within(text.span)}:", details)]
+
+    def matches(self, expression: bytes) -> bool:
+        try:
+            return expressions.has(expression, self.written)
+        except expressions.TooLong:
+            raise CannotWork(f"{self.name}, line {self.text.line}: {expressions.TOO_LONG}") from None
 
 
 def printed(data: bytes) -> str:
@@ -316,14 +324,15 @@ class WrittenLines:
 class GoldenTrace:
     """The rows of a file, all of them and no others."""
 
-    def __init__(self, golden: Golden, stack: contextlib.ExitStack) -> None:
-        self.golden = golden
+    def __init__(self, golden: Golden, folder: str, stack: contextlib.ExitStack) -> None:
+        """`folder` is that of the case."""
+        self.golden, self.folder = golden, folder
         self.name = files.shown(golden.path)
         try:
-            self.file = stack.enter_context(open(golden.path, encoding="ascii", errors="replace", newline="\n"))
-        except (OSError, ValueError) as fault:
-            why = getattr(fault, "strerror", None) or fault
-            raise BadInput(f"cannot read {self.name}: {why} (--save writes it)") from None
+            content = stack.enter_context(files.opened_named(golden.path))
+        except BadInput as fault:
+            raise BadInput(f"{fault} (--save writes it)") from None
+        self.file = stack.enter_context(io.TextIOWrapper(content, encoding="ascii", errors="replace", newline="\n"))
         self.number = 0
         self.before: collections.deque[str] = collections.deque(maxlen=CONTEXT)
         self.report: Report | None = None
@@ -349,7 +358,8 @@ class GoldenTrace:
             or not is_number
             or not event_of(parts[-1])
         ):
-            raise BadInput(f"{self.name}, line {self.number}: no row: {files.printable(line[:60].rstrip())}")
+            with files.untold(self.golden.path, self.folder):
+                raise BadInput(f"{self.name}, line {self.number}: no row: {files.printable(line[:60].rstrip())}")
         return line.rstrip("\n")
 
     def feed(self, row: traces.TraceRow) -> None:
@@ -385,12 +395,15 @@ class GoldenTrace:
 
 
 class SavedTrace:
-    """Writes the rows to the file of a golden trace."""
+    """Writes the rows to the file of a golden trace, below the folder of its case."""
 
-    def __init__(self, golden: Golden, stack: contextlib.ExitStack) -> None:
+    def __init__(self, golden: Golden, folder: str, stack: contextlib.ExitStack) -> None:
         self.golden = golden
+        above, name = os.path.split(os.path.relpath(golden.path, folder))
         try:
-            self.file: IO[str] = stack.enter_context(files.whole_file(golden.path))
+            with Folder.named(folder) as place:
+                inner = stack.enter_context(place.below(above))
+            self.file: IO[str] = stack.enter_context(inner.file(name))
         except OSError as fault:
             raise CannotWork(f"cannot write {files.shown(golden.path)}: {fault.strerror}") from None
 
@@ -436,7 +449,7 @@ def check(
         if not reports:
             refuse_gaps(case, extent, gaps)
         reports.sort(key=lambda report: report.statement.line)
-        failures = [report.text(files.shown(case.path)) for report in reports]
+        failures = [showing.printable_lines(report.text(files.shown(case.path))) for report in reports]
         if failures:
             raise Unmet
     status = Status.NOT_MET if failures else Status.GOOD
@@ -494,15 +507,15 @@ def watchers_of(
     for statement in case.statements:
         if isinstance(statement, Golden):
             if save:
-                watchers.append(SavedTrace(statement, stack))
+                watchers.append(SavedTrace(statement, case.folder, stack))
             else:
-                watchers.append(GoldenTrace(statement, stack))
+                watchers.append(GoldenTrace(statement, case.folder, stack))
         elif isinstance(statement, Count):
             watchers.append(Counter(statement))
         elif isinstance(statement, Never) and statement.span:
             watchers.append(NeverWithin(statement, statement.span, near))
         elif isinstance(statement, Text):
-            writers.append(Writes(statement))
+            writers.append(Writes(statement, files.shown(case.path)))
         elif isinstance(statement, Lines):
             writers.append(WrittenLines(statement))
     return watchers, writers
@@ -571,6 +584,17 @@ def why_impossible(statement: Statement, extent: Extent, only: Only) -> str:
     return ""
 
 
+def refuse_endless(case: Case) -> None:
+    """Raises BadInput where the simulator would read what may have no end: a device or a pipe that a file names."""
+    what, *words = case.source or ("trace",)
+    paths = words[:1]
+    if what == "run":
+        with contextlib.suppress(ToolError):  # whether it is a scenario the simulator says
+            paths += Scenario.of_text(files.read_named_text(os.path.join(case.folder, words[0])), "").images
+    for path in paths:
+        files.refuse_endless(os.path.join(case.folder, path))
+
+
 def window_of(case: Case) -> range | None:
     """The cycles in which a run of the case traces instructions; None where only its rows can tell."""
     what, *words = case.source or ("trace",)
@@ -582,37 +606,30 @@ def window_of(case: Case) -> range | None:
     return None
 
 
-def run_case(case: Case, avrora: str, save: bool = False, timeout: float | None = None) -> Outcome:
+def run_case(case: Case, avrora: str, save: bool = False) -> Outcome:
     """Makes the trace of the case, by the simulator `avrora` in the case's folder, and checks it as it comes. Raises
-    BadInput where the case names no source or no trace, and where the run is refused; CannotWork where it fails, or
-    takes more than `timeout` seconds."""
+    BadInput where the case names no source or no trace, and where the run is refused; CannotWork where it fails."""
     if case.source is None:
         raise BadInput(f"{files.shown(case.path)}: no run, node or trace says where the rows come from")
     if case.source[0] == "trace":
         path = os.path.join(case.folder, case.source[1])
-        return check(case, traces.file_blocks(path), save, files.shown(path), lacking=Lacking())
+        with files.untold(path, case.folder):
+            rows = traces.file_blocks(path, is_named_by_file=True)
+            return check(case, rows, save, files.shown(path), lacking=Lacking())
+    refuse_endless(case)
     words = [avrora, *case.source]
     with tempfile.TemporaryFile() as errors:
         streams = {"stdin": subprocess.DEVNULL, "stdout": subprocess.PIPE, "stderr": errors}
         with RUNS.started(words, cwd=case.folder, **streams) as process:
-            return checked_run(case, process, errors, save, timeout)
+            return checked_run(case, process, errors, save)
 
 
-def checked_run(
-    case: Case, process: subprocess.Popen[bytes], errors: IO[bytes], save: bool, timeout: float | None
-) -> Outcome:
-    words = f"avrora {' '.join(case.source or ())}"
-    late = threading.Event()
-
-    def end_late() -> None:
-        late.set()
-        groups.end(process)
+def checked_run(case: Case, process: subprocess.Popen[bytes], errors: IO[bytes], save: bool) -> Outcome:
+    words = f"avrora {files.printable(' '.join(case.source or ()))}"
 
     def ended(came: bool) -> None:
         """Raises what is due where the run ended otherwise than well."""
         status = process.wait()
-        if late.is_set():
-            raise CannotWork(f"{files.shown(case.path)}: {words}: it took more than {timeout:g} seconds")
         if status:
             errors.seek(0)
             said = files.printable(errors.read(4096).decode(errors="replace").strip())
@@ -620,12 +637,4 @@ def checked_run(
             raise fault(f"{files.shown(case.path)}: {words}: status {status}: {said}")
 
     assert process.stdout
-    timer = threading.Timer(timeout, end_late) if timeout else None
-    if timer:
-        timer.daemon = True
-        timer.start()
-    try:
-        return check(case, traces.blocks_of(cast(BinaryIO, process.stdout)), save, words, ended, window_of(case))
-    finally:
-        if timer:
-            timer.cancel()
+    return check(case, traces.blocks_of(cast(BinaryIO, process.stdout)), save, words, ended, window_of(case))

@@ -16,7 +16,7 @@ LENGTHS = {END: 0, SEGMENT: 2, LINEAR: 2, START_SEGMENT: 4, START_LINEAR: 4}
 
 def load(name: str) -> bytes:
     """The program memory that the image in the file `name` gives. Raises BadInput with the simulator's cause."""
-    return flash_of(files.read_bytes(name, MAX_BYTES), files.shown(name))
+    return flash_of(files.read_named(name, MAX_BYTES), files.shown(name))
 
 
 def flash_of(content: bytes, name: str) -> bytes:

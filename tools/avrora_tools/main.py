@@ -16,7 +16,7 @@ from typing import NoReturn
 import avrora_tools
 from avrora_tools import commands
 from avrora_tools.errors import BadWords, Status, ToolError
-from avrora_tools.files import printable
+from avrora_tools.showing import printable
 from avrora_tools.terminal import Speaker, say
 from avrora_tools.cli import Parser
 

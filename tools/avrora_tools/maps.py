@@ -1,11 +1,10 @@
 """The map of a network: where its nodes are drawn, and how well each link does, as SVG; and what is odd about who hears
 whom."""
-import html
 import math
 from collections.abc import Callable, Iterable, Mapping, Sequence
 from dataclasses import dataclass
 
-from avrora_tools import networks, toml
+from avrora_tools import networks, showing, toml
 from avrora_tools.errors import BadInput
 
 Ends = tuple[int, int]  # the node that is heard, the one that hears
@@ -251,7 +250,7 @@ def link_shape(at: Sequence[Point], ends: Ends, quality: Quality, markers: Mappi
     share = "nothing sent" if quality.share is None else f"{100 * quality.share:.1f}% of {quality.sent:,} bytes clean"
     more = f", {quality.clashed:,} clashed, {quality.unheard:,} unheard" if quality.sent else ""
     more += f", {quality.closed:,} while it was closed" if quality.closed else ""
-    title = html.escape(f"{ends[0]} to {ends[1]}: {share}{more}{', one direction' if is_lone else ''}")
+    title = showing.markup(f"{ends[0]} to {ends[1]}: {share}{more}{', one direction' if is_lone else ''}")
     return (
         f'<path d="M{start[0]:.1f} {start[1]:.1f}Q{bend_x:.1f} {bend_y:.1f} {end[0]:.1f} {end[1]:.1f}" fill="none" '
         f'stroke="{one}" stroke-width="1.6"{dashes} marker-end="url(#{markers[one]})"><title>{title}</title></path>'

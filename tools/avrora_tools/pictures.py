@@ -1,10 +1,9 @@
 """A trace as a picture: SVG for papers."""
-import html
 import re
 from collections.abc import Iterator
 from fractions import Fraction
 
-from avrora_tools import cli, drawings
+from avrora_tools import cli, drawings, showing
 from avrora_tools.drawings import Drawing, Lane
 
 
@@ -88,7 +87,7 @@ class Picture:
         lane, y, high = self.drawing.lanes[node], self.y(node), self.step - 3
         self.out.append(
             f'<text x="{self.margin - 6}" y="{y + high / 2 + 3.5}" text-anchor="end">'
-            f"{html.escape(shortened(self.drawing.name(node), int((self.margin - 8) / LETTER)))}</text>"
+            f"{showing.markup(shortened(self.drawing.name(node), int((self.margin - 8) / LETTER)))}</text>"
             f'<line class="line" x1="{self.margin}" x2="{self.width - RIGHT}" y1="{y + high + 1}" y2="{y + high + 1}"/>'
         )
         for cycle, _ in lane.stop:
@@ -117,7 +116,7 @@ class Picture:
             )
 
     def add(self, tag: str, title: str) -> None:
-        self.out.append(f"{tag}><title>{html.escape(title)}</title></{tag[1:].split()[0]}>")
+        self.out.append(f"{tag}><title>{showing.markup(title)}</title></{tag[1:].split()[0]}>")
 
     def draw_each(self, node: int, lane: Lane, y: int, high: int) -> None:
         """Each event as a shape of its own, which says on hovering what it is."""

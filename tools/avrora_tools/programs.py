@@ -169,7 +169,10 @@ def functions_of(elf: Any, end: int) -> list[Function]:
         word = symbol["st_value"] // 2
         best[word] = max(best.get(word, rank), rank)
     words = sorted(word for word in best if word < end)
-    return [Function(word, after, source_name(best[word][-1])) for word, after in zip(words, words[1:] + [end])]
+    return [
+        Function(word, after, source_name(files.printable(best[word][-1])))
+        for word, after in zip(words, words[1:] + [end])
+    ]
 
 
 def line_places(elf: Any) -> list[tuple[int, SourceLine | None]]:

@@ -102,7 +102,7 @@ class Scenario:
 def described(fault: Fault) -> str:
     """One line on a fault: its cause, its line and place, what is wrong."""
     where = [f"line {fault.line}"] * bool(fault.line) + [fault.place] * bool(fault.place)
-    return f"{fault.cause}, {', '.join(where)}: {fault.text}" if where else f"{fault.cause}: {fault.text}"
+    return printable(f"{fault.cause}, {', '.join(where)}: {fault.text}" if where else f"{fault.cause}: {fault.text}")
 
 
 def faults(text: str) -> list[Fault]:

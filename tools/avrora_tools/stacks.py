@@ -163,7 +163,7 @@ def frame_rules(path: str) -> list[FrameRule]:
             entries = dwarf.CFI_entries() if dwarf and dwarf.has_CFI() else []
             found = [rule for entry in entries if hasattr(entry, "cie") for rule in rules_of(entry)]
         except Exception as fault:  # whatever a broken file leads the library to
-            raise BadInput(f"{files.shown(path)}: no ELF file: {fault or type(fault).__name__}") from None
+            raise BadInput(f"{files.shown(path)}: no ELF file: {files.printable(str(fault)) or type(fault).__name__}") from None
     return sorted(found, key=lambda rule: rule.first)
 
 
@@ -187,7 +187,7 @@ def data_end(path: str) -> int | None:
             table = reader()(file).get_section_by_name(".symtab")
             ends = [symbol["st_value"] for symbol in (table.iter_symbols() if table else ()) if symbol.name == "_end"]
         except Exception as fault:  # whatever a broken file leads the library to
-            raise BadInput(f"{files.shown(path)}: no ELF file: {fault or type(fault).__name__}") from None
+            raise BadInput(f"{files.shown(path)}: no ELF file: {files.printable(str(fault)) or type(fault).__name__}") from None
     return ends[0] - DATA_SPACE if ends and SRAM_FIRST <= ends[0] - DATA_SPACE <= DATA_END else None
 
 

@@ -5,7 +5,7 @@ import time
 from typing import ClassVar
 
 from avrora_tools.errors import CannotWork
-from avrora_tools.files import printable
+from avrora_tools.showing import printable, printable_lines
 
 
 class Speaker:
@@ -17,7 +17,7 @@ class Speaker:
 def say(text: str) -> None:
     """Writes a line to the standard error; where that is closed nobody hears it."""
     try:
-        sys.stderr.write(f"{Speaker.name}: {text}\n")
+        sys.stderr.write(f"{Speaker.name}: {printable_lines(text)}\n")
         sys.stderr.flush()
     except (OSError, ValueError, AttributeError):
         pass

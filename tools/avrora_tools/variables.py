@@ -21,6 +21,8 @@ SIGNED_FIXED, UNSIGNED_FIXED = 0x0D, 0x0E
 # many bits the fraction has.
 FLOATS = {4: ("<f", 9, 23), 8: ("<d", 17, 52)}
 
+QUALIFIERS = ("DW_TAG_const_type", "DW_TAG_volatile_type")
+
 MOST_ELEMENTS = 24  # of an array that are shown, runs of one value taken together
 MOST_DEPTH = 8
 
@@ -300,7 +302,7 @@ def variables_of(path: str) -> list[Variable]:
         except BadInput:
             raise
         except Exception as fault:  # whatever a broken file leads the library to
-            raise BadInput(f"{files.shown(path)}: no ELF file: {fault or type(fault).__name__}") from None
+            raise BadInput(f"{files.shown(path)}: no ELF file: {files.printable(str(fault)) or type(fault).__name__}") from None
     return [one for _, one in sorted(found.items())]
 
 
@@ -327,18 +329,25 @@ class Unit:
         for child in entry.iter_children():
             if child.tag == "DW_TAG_variable":
                 if (address := address_of(child)) is not None and (name := self.attribute(child, "DW_AT_name")):
-                    yield Variable(prefix + name.decode("utf-8", "replace"), address, self.type_of(child))
+                    yield Variable(prefix + text_in(name), address, self.type_of(child))
             elif child.tag in ("DW_TAG_subprogram", "DW_TAG_inlined_subroutine", "DW_TAG_lexical_block"):
                 name = self.attribute(child, "DW_AT_name") if child.tag != "DW_TAG_lexical_block" else None
-                yield from self.within(child, f"{name.decode('utf-8', 'replace')}." if name else prefix)
+                yield from self.within(child, f"{text_in(name)}." if name else prefix)
 
     def attribute(self, entry: Any, name: str) -> Any:
         """An attribute of an entry, or of the one that it stands for."""
-        while entry is not None:
-            if name in entry.attributes:
-                return entry.attributes[name].value
+        found = self.holder(entry, name)
+        return None if found is None else found.attributes[name].value
+
+    def holder(self, entry: Any, name: str) -> Any:
+        """The entry that has an attribute: this one, or one that it stands for. None where none has it, or they go round."""
+        seen: set[int] = set()
+        while entry is not None and name not in entry.attributes:
+            if entry.offset in seen:
+                return None
+            seen.add(entry.offset)
             entry = self.origin(entry)
-        return None
+        return entry
 
     def origin(self, entry: Any) -> Any:
         for name in ("DW_AT_abstract_origin", "DW_AT_specification"):
@@ -348,8 +357,7 @@ class Unit:
 
     def type_of(self, entry: Any) -> Type:
         """The type that an entry has."""
-        while entry is not None and "DW_AT_type" not in entry.attributes:
-            entry = self.origin(entry)
+        entry = self.holder(entry, "DW_AT_type")
         if entry is None:
             return Opaque("void", 0)
         return self.type(entry.get_DIE_from_attribute("DW_AT_type"))
@@ -362,7 +370,7 @@ class Unit:
         return known
 
     def made(self, entry: Any) -> Type:
-        name = (self.attribute(entry, "DW_AT_name") or b"").decode("utf-8", "replace")
+        name = text_in(self.attribute(entry, "DW_AT_name") or b"")
         size = int(self.attribute(entry, "DW_AT_byte_size") or 0)
         makers: dict[str, Callable[[], Type]] = {
             "DW_TAG_base_type": lambda: Base(name, size, int(self.attribute(entry, "DW_AT_encoding")), name == "char"),
@@ -390,9 +398,7 @@ class Unit:
         target = entry.get_DIE_from_attribute("DW_AT_type")
         is_code = target.tag == "DW_TAG_subroutine_type"
         # A structure may have a pointer to itself, so only the name of the target is looked at.
-        name = (
-            "function" if is_code else (self.attribute(named(target), "DW_AT_name") or b"..").decode("utf-8", "replace")
-        )
+        name = "function" if is_code else text_in(self.attribute(named(target), "DW_AT_name") or b"..")
         return Pointer(f"{name} *", is_code)
 
     def array(self, entry: Any) -> Type:
@@ -415,7 +421,7 @@ class Unit:
 
     def member(self, entry: Any) -> Member:
         type_ = self.type_of(entry)
-        name = (self.attribute(entry, "DW_AT_name") or b"(unnamed)").decode("utf-8", "replace")
+        name = text_in(self.attribute(entry, "DW_AT_name") or b"(unnamed)")
         bits = self.attribute(entry, "DW_AT_bit_size")
         if bits is None:
             return Member(name, member_offset(entry), type_)
@@ -437,10 +443,17 @@ def signed_value(attribute: Any) -> int:
 
 
 def named(entry: Any) -> Any:
-    """The entry behind qualifiers."""
-    while entry.tag in ("DW_TAG_const_type", "DW_TAG_volatile_type") and "DW_AT_type" in entry.attributes:
+    """The entry behind qualifiers, or one of them where they go round."""
+    seen: set[int] = set()
+    while entry.tag in QUALIFIERS and "DW_AT_type" in entry.attributes and entry.offset not in seen:
+        seen.add(entry.offset)
         entry = entry.get_DIE_from_attribute("DW_AT_type")
     return entry
+
+
+def text_in(name: bytes) -> str:
+    """A name of the file."""
+    return files.printable(name.decode("utf-8", "replace"))
 
 
 def address_of(entry: Any) -> int | None:
@@ -456,9 +469,7 @@ def address_of(entry: Any) -> int | None:
 def enumerators(entry: Any) -> Iterator[tuple[int, str]]:
     for child in entry.iter_children():
         if child.tag == "DW_TAG_enumerator":
-            yield int(child.attributes["DW_AT_const_value"].value), child.attributes["DW_AT_name"].value.decode(
-                "utf-8", "replace"
-            )
+            yield int(child.attributes["DW_AT_const_value"].value), text_in(child.attributes["DW_AT_name"].value)
 
 
 def member_offset(entry: Any) -> int:

@@ -653,7 +653,7 @@ class Command(unittest.TestCase):
                 for jobs in ("1", "2"):
                     status, out, _ = run_tool("expect", "--timeout", "1", "--jobs", jobs, "--avrora", avrora, case)
                     self.assertEqual(status, 3)
-                    self.assertIn("avrora run net: it took more than 1 seconds", out)
+                    self.assertIn("a.expect: it took more than 1 seconds", out)
 
     def test_an_interrupt_ends_what_runs(self):
         """SIGINT to the tool alone, once it reads: the run, which tells its number then, is not of the terminal's

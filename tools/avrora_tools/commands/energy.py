@@ -1,9 +1,8 @@
 """Charge and duty cycle of each node, by what `avrora monitor` wrote and a table of currents."""
 import argparse
-import html
 import os
 
-from avrora_tools import cli, files, profiles, scenarios, toml, traces
+from avrora_tools import cli, files, profiles, scenarios, showing, toml, traces
 from avrora_tools.budgets import (
     HOURS_A_DAY,
     Account,
@@ -142,7 +141,7 @@ def picture(accounts: list[Account], seconds: float, width: int = 900) -> str:
         x = LEFT + 120 * place
         out.append(
             f'<rect x="{x}" y="10" width="12" height="12" fill="{colour}"/><text x="{x + 17}" '
-            f'y="20">{html.escape(part)}</text>'
+            f'y="20">{showing.markup(part)}</text>'
         )
     for k, one in enumerate(accounts):
         along, y = float(LEFT), TOP + k * (BAR + GAP)

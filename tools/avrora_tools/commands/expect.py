@@ -1,11 +1,11 @@
 """Checks traces against cases: regression tests of firmware and networks."""
 import argparse
-import concurrent.futures
+import functools
 import time
 from collections.abc import Iterable, Iterator
 from typing import Any, NamedTuple
 
-from avrora_tools import cli, expectations, files, terminal, traces
+from avrora_tools import cli, expectations, files, processes, showing, terminal, traces
 from avrora_tools.errors import BadWords, Status, ToolError
 from avrora_tools.expectations import Case, Outcome
 from avrora_tools.wholeness import Lacking
@@ -48,7 +48,7 @@ def configure(parser: argparse.ArgumentParser) -> None:
     parser.add_argument("--junit", metavar="FILE", help="write a report in JUnit's XML too (needs python3-junit.xml)")
     parser.add_argument("--save", action="store_true", help="write the golden traces anew")
     parser.add_argument("--jobs", type=cli.positive, default=1, metavar="N", help="cases at once (%(default)s)")
-    parser.add_argument("--timeout", type=cli.positive, metavar="SECONDS", help="that a run of the simulator may take")
+    parser.add_argument("--timeout", type=cli.positive, metavar="SECONDS", help="that a case may take: its run, and its check")
     parser.add_argument("case", nargs="+", metavar="CASE")
 
 
@@ -70,18 +70,23 @@ def run(arguments: argparse.Namespace) -> int:
 
 def results_of(cases: list[Case], arguments: argparse.Namespace, avrora: str | None) -> Iterator[Result]:
     """What came of the cases, in their order."""
-    if arguments.jobs == 1:
-        yield from (checked(case, arguments, avrora) for case in cases)
+    works = [functools.partial(checked, case, arguments, avrora) for case in cases]
+    if arguments.jobs == 1 and not arguments.timeout:
+        yield from (Result(case, *work()) for case, work in zip(cases, works))
         return
-    executor = concurrent.futures.ThreadPoolExecutor(arguments.jobs)
-    try:
-        yield from executor.map(lambda case: checked(case, arguments, avrora), cases)
-    finally:
-        executor.shutdown(wait=False, cancel_futures=True)
-        expectations.RUNS.end_all()
+    tasks = processes.in_order(works, arguments.jobs, arguments.timeout, expectations.RUNS.end_all)
+    for case, task in zip(cases, tasks):
+        try:
+            outcome, seconds = task.answer()
+        except processes.Late:
+            seconds = float(arguments.timeout)
+            failure = f"{files.shown(case.path)}: it took more than {arguments.timeout} seconds"
+            outcome = Outcome(failure, 0, len(case.statements), Status.CANNOT_WORK)
+        yield Result(case, outcome, seconds)
 
 
-def checked(case: Case, arguments: argparse.Namespace, avrora: str | None) -> Result:
+def checked(case: Case, arguments: argparse.Namespace, avrora: str | None) -> tuple[Outcome, float]:
+    """What came of a case, and the seconds that it took."""
     start = time.monotonic()
     try:
         if arguments.trace:
@@ -89,10 +94,10 @@ def checked(case: Case, arguments: argparse.Namespace, avrora: str | None) -> Re
             blocks = traces.file_blocks(arguments.trace)
             outcome = expectations.check(case, blocks, arguments.save, name, lacking=Lacking())
         else:
-            outcome = expectations.run_case(case, avrora or "", arguments.save, arguments.timeout)
+            outcome = expectations.run_case(case, avrora or "", arguments.save)
     except ToolError as fault:
         outcome = Outcome(str(fault), 0, len(case.statements), fault.status)
-    return Result(case, outcome, time.monotonic() - start)
+    return outcome, time.monotonic() - start
 
 
 def tell(number: int, result: Result) -> None:
@@ -101,7 +106,7 @@ def tell(number: int, result: Result) -> None:
         print(f"ok {number} - {name} # {outcome.rows} rows, {outcome.expectations} expectations", flush=True)
         return
     print(f"not ok {number} - {name}\n  ---\n  message: |")
-    for line in outcome.failure.splitlines():
+    for line in showing.printable_lines(outcome.failure).split("\n"):
         print(f"    {line}")
     print("  ...", flush=True)
 
@@ -120,11 +125,11 @@ def junit(results: Iterable[Result], junit_xml: Any) -> str:
     error."""
     found = []
     for result in results:
-        name, failure = files.shown(result.case.path), result.outcome.failure
+        name, failure = files.shown(result.case.path), showing.printable_lines(result.outcome.failure or "")
         one = junit_xml.TestCase(name, classname="avrora", elapsed_sec=round(result.seconds, 3))
         if failure:
             add = one.add_failure_info if result.outcome.status == Status.NOT_MET else one.add_error_info
-            add(message=failure.splitlines()[0], output=failure)
+            add(message=failure.split("\n")[0], output=failure)
         found.append(one)
     text: str = junit_xml.to_xml_report_string([junit_xml.TestSuite("avrora", found)])
     return text

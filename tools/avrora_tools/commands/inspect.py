@@ -151,7 +151,7 @@ def views_of(nodes: Sequence[int], all_programs: Programs, patterns: Sequence[st
     by_program = {program: View(program) for program in of_nodes.values() if program}
     for pattern in patterns:
         if not any(view.has(pattern) for view in by_program.values()):
-            raise BadInput(f"-g {pattern}: no program of these nodes has such a variable")
+            raise BadInput(f"-g {files.printable(pattern)}: no program of these nodes has such a variable")
     return {k: by_program[program] if program else None for k, program in of_nodes.items()}
 
 
@@ -254,7 +254,7 @@ def run(arguments: argparse.Namespace) -> int:
     count = max(len(state.nodes), len(other.nodes) if other else 0)
     nodes = sorted(arguments.nodes if arguments.nodes is not None else range(count))
     if nodes and nodes[-1] >= count:
-        raise BadInput(f"{arguments.state}: there is no node {nodes[-1]}, as there are {count}")
+        raise BadInput(f"{files.shown(arguments.state)}: there is no node {nodes[-1]}, as there are {count}")
     for one, path in ((state, arguments.state), (other, arguments.other)):
         if one and not arguments.force:
             check_programs(one, path, nodes, all_programs, has_scenario=scenario is not None)

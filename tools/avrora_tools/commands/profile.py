@@ -81,7 +81,7 @@ def print_coverage(spent: Mapping[int, Spent], all_programs: programs.Programs) 
             for word, share in one.at.items()
             if share.count
         }
-        print(f"\ninstructions of {program.path} that ran\n{'ran':>7} {'of':>6} {'%':>5}")
+        print(f"\ninstructions of {program.name} that ran\n{'ran':>7} {'of':>6} {'%':>5}")
         for function in program.functions:
             words = list(program.instructions(function))
             ran = len(hit.intersection(words))

@@ -1,12 +1,10 @@
 """Draws a trace: a page to zoom into, or a picture."""
 import argparse
-import html
 import importlib.resources
-import json
 import os
 
 import avrora_tools
-from avrora_tools import cli, drawings, files, pictures, programs, terminal, traces
+from avrora_tools import cli, drawings, files, pictures, programs, showing, terminal, traces
 from avrora_tools.drawings import Drawing
 from avrora_tools.errors import BadInput, BadWords
 from avrora_tools.scenarios import Scenario
@@ -28,15 +26,11 @@ LARGEST_PAGE = 5_000_000  # bytes
 def page(drawing: Drawing, hz: int | None, name: str) -> str:
     """The page: timeline.html with the data in its place, thinned to what a page may have."""
     template = importlib.resources.files(avrora_tools).joinpath("timeline.html").read_text("utf-8")
-    template = template.replace("/*TITLE*/", html.escape(name))
-    thinning = drawings.least_thinning(drawing, LARGEST_PAGE - len(template) - len(in_json(content(drawing, hz))))
+    template = template.replace("/*TITLE*/", showing.markup(name))
+    thinning = drawings.least_thinning(drawing, LARGEST_PAGE - len(template) - len(showing.script_data(content(drawing, hz))))
     if thinning.step:
         terminal.warn(f"{thinning}; --from, --to and --nodes draw less, and all of it")
-    return template.replace("/*DATA*/null", in_json(content(drawing, hz, thinning)).replace("</", "<\\/"))
-
-
-def in_json(value: object) -> str:
-    return json.dumps(value, separators=(",", ":"))
+    return template.replace("/*DATA*/null", showing.script_data(content(drawing, hz, thinning)))
 
 
 def content(drawing: Drawing, hz: int | None, thinning: drawings.Thinning | None = None) -> dict[str, object]:

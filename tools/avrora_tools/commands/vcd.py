@@ -2,12 +2,11 @@
 import argparse
 import heapq
 import itertools
-import re
 import sys
 from collections.abc import Mapping, Sequence
 from typing import Final
 
-from avrora_tools import cli, programs, traces
+from avrora_tools import cli, programs, showing, traces
 from avrora_tools.errors import BadInput
 from avrora_tools.events import CLASH, Enter, Event, Heard, Instr, Sent, Serial, Stop
 from avrora_tools.hearing import Hearing
@@ -46,7 +45,6 @@ VARIABLES: Final[Mapping[str, int | str]] = {
     "vector": "string",
     "stopped": 1,
 }
-NO_NAME = re.compile("[^!-~]")  # what the name of a scope does not have
 KNOWN_FROM_THE_START = ("sent", "clash", "stopped")
 OF_THE_WINDOW = ("pc", "asleep")  # unknown again behind it
 
@@ -68,7 +66,7 @@ class Writer:
         note = "" if self.picoseconds else "$comment one unit of time is one cycle $end\n"
         sys.stdout.write(f"{note}$timescale {unit} $end\n$scope module network $end\n")
         for node in nodes:
-            sys.stdout.write(f"$scope module node{node}{NO_NAME.sub('_', names[node])} $end\n")
+            sys.stdout.write(f"$scope module node{node}{showing.vcd_word(names[node]) if names[node] else ''} $end\n")
             for name, width in VARIABLES.items():
                 code = self.codes[node, name] = code_of(len(self.codes))
                 kind = f"{width} 1" if isinstance(width, str) else f"wire {width}"
@@ -103,7 +101,7 @@ class Writer:
         elif code in self.values and self.values[code] == value:
             return
         elif width == "string":
-            sys.stdout.write(f"s{str(value).replace(' ', '_')} {code}\n")
+            sys.stdout.write(f"s{showing.vcd_word(str(value))} {code}\n")
         elif width == 1:
             sys.stdout.write(f"{'x' if value is None else value}{code}\n")
         else:

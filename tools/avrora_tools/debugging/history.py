@@ -17,8 +17,7 @@ from avrora_tools import files, toml
 from avrora_tools.commands.window import windowed
 from avrora_tools.errors import BadInput, CannotWork
 from avrora_tools.scenarios import MAX_WINDOW, Scenario
-from avrora_tools.states import State
-from avrora_tools.traces import EPOCH
+from avrora_tools.states import EPOCH, State
 
 # So many cycles are traced at once: few for steps, more to look for a breakpoint.
 STEP_SPAN, SEARCH_SPAN = 1_000, MAX_WINDOW

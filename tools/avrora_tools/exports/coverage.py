@@ -4,7 +4,6 @@ import os
 from collections.abc import Iterator, Mapping
 
 from avrora_tools import programs
-from avrora_tools.exports.walking import shown_function
 
 
 class Covered:
@@ -31,7 +30,7 @@ def written(covered: Covered) -> Iterator[str]:
                     continue
                 own[at.path][at.line] = max(own[at.path][at.line], counts[word])
                 if word == function.first:
-                    name = shown_function(str(function.name))
+                    name = str(function.name)
                     before = functions[at.path].get(name, (at.line, 0))
                     functions[at.path][name] = before[0], before[1] + counts[word]
         for path, its_lines in own.items():

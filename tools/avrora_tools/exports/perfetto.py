@@ -138,7 +138,7 @@ class Timeline:
     def names_of(self, node: int) -> list[str]:
         """The functions that have not returned, also those that interrupts left."""
         assert self.stacks
-        stacks: list[Stack] = [*self.stacks.interrupted[node], self.stacks.stacks[node]]
+        stacks: list[Stack] = [*self.stacks.left[node], self.stacks.stacks[node]]
         return [frame.name for stack in stacks for frame in stack.frames]
 
     def moved(self, cycle: int, node: int, now: list[str]) -> Iterator[Json]:

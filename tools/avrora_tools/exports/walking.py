@@ -7,7 +7,6 @@ from avrora_tools.events import Enter, Event, Instr
 from avrora_tools.instructions import CALLS, SLEEP
 from avrora_tools.profiles import Owner, TraceReader
 from avrora_tools.scenarios import Scenario
-from avrora_tools.stacks import HANDLER_PREFIX
 
 RETURN, RETURN_FROM_INTERRUPT = "ret", "reti"
 
@@ -28,19 +27,13 @@ class Functions:
         """The function that a word of a node's program lies in; its digits where there is none."""
         program = self.programs.of(node)
         function = program.function_at(word) if program else None
-        return shown_function(str(function.name)) if function else f"{word:04X}"
+        return str(function.name) if function else f"{word:04X}"
 
     def begins(self, node: int, word: int) -> bool:
         """Whether a function begins there. Compilers also call the next word, to make room on the stack."""
         program = self.programs.of(node)
         function = program.function_at(word) if program else None
         return function is None or function.first == word
-
-
-def shown_function(name: str) -> str:
-    """What a function is called: `__vector_12` by its interrupt."""
-    number = name.removeprefix(HANDLER_PREFIX)
-    return programs.vector_name(2 * int(number)) if number != name and number.isdecimal() else name
 
 
 @dataclass
@@ -107,7 +100,7 @@ class StackReader(TraceReader):
         self.functions = functions
         self.costs: dict[int, NodeCosts] = collections.defaultdict(NodeCosts)
         self.stacks: dict[int, Stack] = collections.defaultdict(Stack)
-        self.interrupted: dict[int, list[Stack]] = collections.defaultdict(list)
+        self.left: dict[int, list[Stack]] = collections.defaultdict(list)
         self.at: dict[
             int, tuple[Active, int]
         ] = {}  # by node the innermost function at its last row, and the row's word
@@ -125,7 +118,7 @@ class StackReader(TraceReader):
             elif mnemonic in (RETURN, RETURN_FROM_INTERRUPT):
                 stack.ended = mnemonic
         elif isinstance(event, Enter):
-            self.interrupted[node].append(self.stacks[node])
+            self.left[node].append(self.stacks[node])
             root = Active((programs.vector_name(event.vector),), None)
             self.stacks[node] = Stack([root], entering=True)
             self.at[node] = root, event.vector
@@ -134,7 +127,7 @@ class StackReader(TraceReader):
         """The innermost function at the row of an instruction, which follows the node's last row."""
         stack, name = self.stacks[node], self.functions.name(node, word)
         if stack.ended:
-            stack = self.returned(node, stack)
+            stack = self.behind_return(node, stack)
         call, stack.call = stack.call, None
         if stack.entering:
             stack.entering = word in programs.VECTORS  # the jump that stands at the vector
@@ -148,13 +141,13 @@ class StackReader(TraceReader):
             self.go_over(node, stack, name)
         return stack.frames[-1]
 
-    def returned(self, node: int, stack: Stack) -> Stack:
+    def behind_return(self, node: int, stack: Stack) -> Stack:
         """The stack behind a RET or RETI."""
         ended, stack.ended = stack.ended, ""
-        if ended == RETURN_FROM_INTERRUPT and self.interrupted[node]:
+        if ended == RETURN_FROM_INTERRUPT and self.left[node]:
             while stack.frames:
                 self.pop(node, stack)
-            self.stacks[node] = self.interrupted[node].pop()
+            self.stacks[node] = self.left[node].pop()
             return self.stacks[node]
         if stack.frames:
             self.pop(node, stack)
@@ -203,6 +196,6 @@ class StackReader(TraceReader):
         """Also lets all functions return that did not, so that what they took is their callers' too."""
         super().finish(limit)
         for node, stack in self.stacks.items():
-            for left in (stack, *self.interrupted[node]):
-                while left.frames:
-                    self.pop(node, left)
+            for one in (stack, *self.left[node]):
+                while one.frames:
+                    self.pop(node, one)

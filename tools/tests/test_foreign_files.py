@@ -1,0 +1,78 @@
+"""What a case may name: it is read to an end, none of a secret is told, and nothing is written elsewhere."""
+import os
+import shutil
+
+import pytest
+
+from support import DATA, run_tool
+
+SECRET = "token-hunter2 is the secret of this machine\nmore hunter2\n"
+
+
+@pytest.fixture
+def place(tmp_path):
+    """A folder with a trace, beside one with a secret, which stays as it is."""
+    for name in ("mine", "secret"):
+        (tmp_path / name).mkdir()
+    (tmp_path / "secret" / "file").write_text(SECRET)
+    (tmp_path / "secret" / "rows").write_text("1 0 sent 41\n" + SECRET)
+    shutil.copy(f"{DATA}/relay.trace", tmp_path / "mine")
+    os.symlink("../secret/file", tmp_path / "mine" / "link")
+    os.symlink("../secret/new", tmp_path / "mine" / "dangling")
+    os.symlink("../secret", tmp_path / "mine" / "folder")
+    os.mkfifo(tmp_path / "mine" / "pipe")
+    yield tmp_path / "mine"
+    assert (tmp_path / "secret" / "file").read_text() == SECRET
+    assert sorted(os.listdir(tmp_path / "secret")) == ["file", "rows"]
+
+
+def expect(place, case, *words):
+    (place / "a.expect").write_text(case)
+    status, out, err = run_tool("expect", *words, f"{place}/a.expect")
+    assert "hunter2" not in out + err and not err
+    return status, out
+
+
+@pytest.mark.parametrize("name", ["@/secret/file", "../secret/file", "link", "folder/file", "folder/rows", "@/secret/rows"])
+def test_secrets_are_not_told(place, name):
+    name = name.replace("@", str(place.parent))
+    for case in (f"trace {name}\n* * sent *\n", f"trace relay.trace\ngolden {name}\n", f"trace relay.trace\ngolden {name} without cycles\n"):
+        status, out = expect(place, case)
+        assert status == 2 and "line" in out and "none of its text is told" in out, case
+
+
+def test_what_lies_here_is_told(place):
+    (place / "sub").mkdir()
+    (place / "sub" / "rows").write_text("a fault\n")
+    for case in ("trace sub/rows\n* * sent *\n", "trace relay.trace\ngolden sub/rows\n"):
+        status, out = expect(place, case)
+        assert status == 2 and "a fault" in out
+
+
+@pytest.mark.parametrize("name", ["pipe", "/dev/zero"])
+def test_what_has_no_end(place, name):
+    simulator = place / "avrora"
+    simulator.write_text("#!/bin/sh\nexec cat $2\n")
+    simulator.chmod(0o755)
+    (place / "net.toml").write_text(f"cycles = 9\nnode = [{{ image = '{name}' }}]\n")
+    for source in (f"trace {name}", f"trace relay.trace\ngolden {name}", f"run {name}", f"node {name} 10", "run net.toml"):
+        case = source + ("\n" if "golden" in source else "\n* 0 sent *\n")
+        status, out = expect(place, case, "--timeout", "60", "--avrora", str(simulator))
+        assert status == 2 and "a device or a pipe, and no file" in out, source
+
+
+@pytest.mark.parametrize("name", ["@/secret/new", "@/secret/file", "../secret/new", "../b.rows", "folder/new", "link", "dangling", "folder", "sub/../../secret/new", "pipe"])
+def test_golden_traces_are_saved_here_alone(place, name):
+    name = name.replace("@", str(place.parent))
+    status, out = expect(place, f"trace relay.trace\ngolden {name}\n", "--save")
+    assert status == 2 and ("leads out of" in out or "a link" in out or "no file" in out)
+    assert sorted(os.listdir(place)) == ["a.expect", "dangling", "folder", "link", "pipe", "relay.trace"]
+    assert not (place.parent / "b.rows").exists()
+
+
+@pytest.mark.parametrize("name", ["a.rows", "sub/a.rows", "sub/../a.rows", "./a.rows", "@/mine/a.rows"])
+def test_golden_traces_are_saved_here(place, name):
+    (place / "sub").mkdir()
+    name = name.replace("@", str(place.parent))
+    assert expect(place, f"trace relay.trace\ngolden {name}\n", "--save")[0] == 0
+    assert expect(place, f"trace relay.trace\ngolden {name}\n")[0] == 0
