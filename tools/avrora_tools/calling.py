@@ -6,11 +6,17 @@ from collections.abc import Sequence
 from typing import IO, NamedTuple
 
 
-# How the C library of the program gets its memory, where the user does not say: in one piece that grows by a mebibyte and stays.
-# A short run takes a tenth less than with pieces of their own for larger objects and for threads, a long one as much.
+# How the C library of the program gets its memory, where the user does not say: in one piece that grows by a mebibyte
+# and stays. A short run takes a tenth less than with pieces of their own for larger objects and for threads, a long one
+# as much.
 MEMORY = ":".join(
     f"glibc.malloc.{name}={value}"
-    for name, value in {"mmap_threshold": 1 << 25, "trim_threshold": 1 << 25, "top_pad": 1 << 20, "arena_max": 1}.items()
+    for name, value in {
+        "mmap_threshold": 1 << 25,
+        "trim_threshold": 1 << 25,
+        "top_pad": 1 << 20,
+        "arena_max": 1,
+    }.items()
 )
 
 
@@ -22,7 +28,8 @@ class Ended(NamedTuple):
 
 
 class Child(NamedTuple):
-    """A child that ended: its status, the seconds of processors that it took, and whether it took too long and was killed."""
+    """A child that ended: its status, the seconds of processors that it took, and whether it took too long and was
+    killed."""
 
     status: int
     processor: float
@@ -47,8 +54,8 @@ class Caller:
         os.close(self.errors)
 
     def call(self, program: str, words: Sequence[str], place: str, output: IO[bytes], seconds: float) -> Ended:
-        """Runs the program in the folder `place`, with its output to a file. Raises TooLong, and OSError where it cannot be
-        started."""
+        """Runs the program in the folder `place`, with its output to a file. Raises TooLong, and OSError where it
+        cannot be started."""
         before = os.open(".", os.O_PATH | os.O_DIRECTORY)
         try:
             os.chdir(place)

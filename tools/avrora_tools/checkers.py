@@ -1,4 +1,5 @@
-"""The version of the code that decides what comes of a run: a hash of all modules of this package that it goes through."""
+"""The version of the code that decides what comes of a run: a hash of all modules of this package that it goes
+through."""
 import functools
 import hashlib
 import importlib.util
@@ -48,7 +49,8 @@ def source_of(name: str) -> bytes | None:
     return pkgutil.get_data(PACKAGE, str(Path(spec.origin).relative_to(Path(avrora_tools.__file__).parent)))
 
 
-# An import of this package: a line, or more in brackets. One within a text is as good as any: it makes the version that of more.
+# An import of this package: a line, or more in brackets. One within a text is as good as any: it makes the version that
+# of more.
 IMPORT = re.compile(
     rf"^[ \t]*(?:from[ \t]+({PACKAGE}[\w.]*)[ \t]+import[ \t]+(\([^)]*\)|.*)|import[ \t]+({PACKAGE}.*))$", re.MULTILINE
 )

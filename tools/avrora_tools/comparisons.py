@@ -1,8 +1,7 @@
 """What a campaign compares a run with beside its cases: what the same scenario comes to in another way.
 
-Each way says what differs, or None, and how much it compared: rows of the trace, or samples. It raises ToolError where the
-tools refuse what the simulator took, or wrote.
-"""
+Each way says what differs, or None, and how much it compared: rows of the trace, or samples. It raises ToolError where
+the tools refuse what the simulator took, or wrote. """
 import contextlib
 import dataclasses
 import functools
@@ -23,9 +22,10 @@ MOST_SAID = 4_000  # characters of what `links` finds
 
 @dataclasses.dataclass
 class Place:
-    """A folder with a scenario in a file, which has this `text`, and the trace of its run. `call` runs the simulator there with
-    these words, its output goes to a file; None where it ended with status 0, else what to tell of its end. The file `output` is
-    for the output of such calls. Both files are read without buffers, so that what another process writes to them is seen."""
+    """A folder with a scenario in a file, which has this `text`, and the trace of its run. `call` runs the simulator
+    there with these words, its output goes to a file; None where it ended with status 0, else what to tell of its end.
+    The file `output` is for the output of such calls. Both files are read without buffers, so that what another process
+    writes to them is seen. """
 
     folder: str
     scenario: str
@@ -53,8 +53,8 @@ def plain(place: Place) -> Found:
 
 
 def resumed(place: Place) -> Found:
-    """Cut at the end of an epoch that the scenario's text decides: `head`, and then `resume` from what `save` wrote. A run
-    that ends within its first epoch has nothing to compare."""
+    """Cut at the end of an epoch that the scenario's text decides: `head`, and then `resume` from what `save` wrote. A
+    run that ends within its first epoch has nothing to compare."""
     ends = (place.read.cycles - 1) // states.EPOCH
     if ends < 1:
         return Found(None, 0)
@@ -64,9 +64,7 @@ def resumed(place: Place) -> Found:
     if said:
         return Found(f"save {epoch}: {said}", 0)
     return with_calls(
-        place,
-        f"head {epoch} and then resume",
-        [["head", place.scenario, epoch], ["resume", place.scenario, STATE]],
+        place, f"head {epoch} and then resume", [["head", place.scenario, epoch], ["resume", place.scenario, STATE]]
     )
 
 

@@ -238,8 +238,12 @@ class Selection:
             with open(path, "w", encoding="utf-8") as file:
                 file.write(scenario_text(document))
             epochs = begin // EPOCH
+            if self.state:
+                with open(state, "wb") as saved:
+                    saved.write(self.state)
             if epochs and begin % EPOCH == 0:
-                self.state = self.simulator.call("save", path, str(epochs))
+                words = ("1", state) if self.state else (str(epochs),)
+                self.state = self.simulator.call("save", path, *words)
                 for pin, node in zip(self.pins, State.of_text(self.state.decode(), "the state").nodes):
                     pin.count_to(begin)
                     pin.set_to(node)

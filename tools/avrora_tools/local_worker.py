@@ -1,5 +1,5 @@
-"""A worker of a campaign as a process: it takes batches from the process that started it, which is the client on this machine or a
-worker of dask, and ends with it, however that ends."""
+"""A worker of a campaign as a process: it takes batches from the process that started it, which is the client on this
+machine or a worker of dask, and ends with it, however that ends."""
 import os
 import queue
 import signal

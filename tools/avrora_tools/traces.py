@@ -278,13 +278,8 @@ class Trace:
             raise self.fault(f"an end row of another cycle than {self.limit}", line)
         if self.form is not Form.ROWS and node != len(self.ended):
             raise self.fault(f"no end row of node {len(self.ended)} stands before", line)
-        if (
-            has_stopped
-            and event.state != STOPPED
-            or self.is_from_reset()
-            and not has_stopped
-            and event.state == STOPPED
-        ):
+        goes_on = has_stopped and event.state != STOPPED
+        if goes_on or self.is_from_reset() and not has_stopped and event.state == STOPPED:
             raise self.fault(f"node {node} {'stopped' if has_stopped else 'did not stop'} before", line)
         if event.instructions > cycle:
             raise self.fault("more instructions than cycles", line)

@@ -49,7 +49,10 @@ def main() -> int:
         environment["PYTHONPATH"] = os.pathsep.join(filter(None, [folder, os.environ.get("PYTHONPATH", "")]))
         words = [sys.executable, "-B", "-m", "pytest", "-q", "-p", "no:cacheprovider", *sys.argv[1:]]
         status = subprocess.run(words, cwd=TOOLS, env=environment, check=False).returncode
-        for step in (["combine", "-q"], ["report", "--skip-covered", f"--fail-under={LEAST}"]):
+        for step in (
+            ["combine", "-q"],
+            ["report", "--skip-covered", f"--include={TOOLS}/avrora_tools/*", f"--fail-under={LEAST}"],
+        ):
             words = [sys.executable, "-m", "coverage", step[0], f"--rcfile={config}", *step[1:]]
             done = subprocess.run(words, cwd=TOOLS, env=os.environ, check=False).returncode
             status = status or done and 1

@@ -125,7 +125,7 @@ MUTANTS = [
         "self.nodes.clear()\n        self.texts.clear()",
         "self.nodes.clear()",
     ),
-    Mutant("a node that stopped runs", "traces", "has_stopped and event.state != STOPPED or", "False or"),
+    Mutant("a node that stopped runs", "traces", "goes_on = has_stopped and event.state != STOPPED", "goes_on = False"),
     Mutant("a node that runs stopped", "traces", "and not has_stopped and event.state == STOPPED", "and False"),
     Mutant(
         "as many instructions as cycles are too many",

@@ -49,10 +49,9 @@ def part_matches(word, text, base):
     if base is None or not re.fullmatch("[0-9A-F]+", text) or base == 10 and not text.isdigit():
         return word == text
     if re.fullmatch(r"[0-9A-F_]*\.\.[0-9A-F_]*|[0-9_]+\+-[0-9_]+", word):
-        digits = "[0-9]" if base == 10 else "[0-9A-F]"
-        return bool(re.fullmatch(rf"({digits}|_)*(\.\.|\+-)({digits}|_)*", word)) and in_range(
-            word, int(text, base), base
-        )
+        # spelled as rows have it: hexadecimal numbers have so many digits
+        end = "[0-9_]*" if base == 10 else f"(?:[0-9A-F]{{{len(text)}}})?"
+        return bool(re.fullmatch(rf"{end}(\.\.|\+-){end}", word)) and in_range(word, int(text, base), base)
     return word == text
 
 

@@ -5,11 +5,14 @@ import subprocess
 import pytest
 
 from support import TOP, needs_module
-from test_check_script import check, place, pytestmark  # noqa: F401
+import test_check_script
+from test_check_script import check
+
+place, pytestmark = test_check_script.place, test_check_script.pytestmark
 
 
 @needs_module("junit_xml", "python3-junit.xml")
-def test_all_sources_of_a_folder_make_one_image(place):  # noqa: F811
+def test_all_sources_of_a_folder_make_one_image(place):
     sources = place / "mine" / "node.src"
     sources.mkdir()
     (sources / "main.c").write_text(
@@ -33,7 +36,7 @@ def test_all_sources_of_a_folder_make_one_image(place):  # noqa: F811
         ),
     ],
 )
-def test_a_folder_of_sources_that_says_nothing_or_two_things_is_refused(place, prepared, why):  # noqa: F811
+def test_a_folder_of_sources_that_says_nothing_or_two_things_is_refused(place, prepared, why):
     sources = place / "mine" / "node.src"
     sources.mkdir()
     (sources / "main.c").write_text("int main(void) { return 0; }\n")
@@ -43,7 +46,7 @@ def test_a_folder_of_sources_that_says_nothing_or_two_things_is_refused(place, p
 
 
 @needs_module("junit_xml", "python3-junit.xml")
-def test_the_header_is_that_of_the_named_home(place, tmp_path):  # noqa: F811
+def test_the_header_is_that_of_the_named_home(place, tmp_path):
     """Where the script is not in the archive whose programs it uses."""
     elsewhere = tmp_path / "ci"
     elsewhere.mkdir()

@@ -18,7 +18,7 @@ USES = {
     "campaign": (["--list", "@relay.campaign"], 0),
     "console": (["@relay.trace"], 0),
     "diff": (["@relay.trace", "@flood.trace"], 1),
-    "energy": (["@currents.toml", "@energy.toml", "@energy.profile"], 0),
+    "energy": (["--always-listening", "@currents.toml", "@energy.toml", "@energy.profile"], 0),
     "expect": (["--trace", "@relay.trace", "@relay.expect"], 0),
     "inspect": (["@net.state"], 0),
     "links": (["@relay.toml", "@relay.trace"], 0),

@@ -407,7 +407,10 @@ class Refused(unittest.TestCase):
             ("count > 128: * * {stop,end} *", "each trace has 1 to 128 such rows, so it cannot be met"),
             ("count == 1: * 0 end *", "each trace has 1 such rows, so it cannot fail"),
             ("next *", "line 1: each trace has such a row"),
-            ("10 0 sent *\nnext 3: 0.. * {sent,serial,heard,stop,end,instr,enter} *", "line 2: each trace has such a row"),
+            (
+                "10 0 sent *\nnext 3: 0.. * {sent,serial,heard,stop,end,instr,enter} *",
+                "line 2: each trace has such a row",
+            ),
             ("count <= 1: 10 0 sent *", "each trace has 0 to 1 such rows, so it cannot fail"),
             ("within 10..265: count > 1: * 0 sent *", "each trace has 0 to 1 such rows, so it cannot be met"),
             ("count < 9: 10..11 0..1 {serial,sent} *", "each trace has 0 to 6 such rows, so it cannot fail"),

@@ -1,4 +1,5 @@
-"""The package, installed by pip into a fresh virtual environment: its command runs each tool, by each Python that is here."""
+"""The package, installed by pip into a fresh virtual environment: its command runs each tool, by each Python that is
+here."""
 import os
 import re
 import shutil
@@ -13,7 +14,9 @@ from support import DATA, LONG, TOOLS, run_tool
 NEWER = [f"python3.{minor}" for minor in range(sys.version_info.minor + 1, sys.version_info.minor + 5)]
 
 # What is said where nothing is there to build a package with.
-NO_BUILDER = re.compile("No module named pip|No matching distribution|Could not find a version|Connection|resolve", re.I)
+NO_BUILDER = re.compile(
+    "No module named pip|No matching distribution|Could not find a version|Connection|resolve", re.I
+)
 
 
 def ended(*words, **options):
@@ -24,7 +27,10 @@ def ended(*words, **options):
 
 def pythons():
     """This Python, and newer ones that run."""
-    return [sys.executable, *(name for name in NEWER if shutil.which(name) and ended(name, "--version").returncode == 0)]
+    return [
+        sys.executable,
+        *(name for name in NEWER if shutil.which(name) and ended(name, "--version").returncode == 0),
+    ]
 
 
 @pytest.fixture(scope="module")
@@ -34,7 +40,9 @@ def package(tmp_path_factory):
     shutil.copytree(TOOLS, f"{folder}/tools", ignore=shutil.ignore_patterns("__pycache__", "tests", ".*"))
     pip = [sys.executable, "-m", "pip", "wheel", "--no-input", "--no-deps", "-w", f"{folder}/wheels"]
     has_builder = ended(sys.executable, "-c", "import setuptools, wheel").returncode == 0
-    done = ended(*pip, *(["--no-build-isolation", "--no-index"] if has_builder else ["--retries", "0"]), f"{folder}/tools")
+    done = ended(
+        *pip, *(["--no-build-isolation", "--no-index"] if has_builder else ["--retries", "0"]), f"{folder}/tools"
+    )
     if done.returncode and not has_builder and NO_BUILDER.search(done.stderr + done.stdout):
         pytest.skip("needs pip, and setuptools and wheel or a network (Debian's python3-pip, python3-wheel)")
     assert done.returncode == 0, done.stderr
@@ -55,7 +63,9 @@ def command(request, package, tmp_path_factory):
 
 def used(command, *words):
     """How a tool ends; in a folder of its own, so that nothing of the checkout is imported."""
-    done = ended(command, *words, cwd="/", env={name: value for name, value in os.environ.items() if name != "PYTHONPATH"})
+    done = ended(
+        command, *words, cwd="/", env={name: value for name, value in os.environ.items() if name != "PYTHONPATH"}
+    )
     return done.returncode, done.stdout, done.stderr
 
 

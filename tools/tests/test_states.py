@@ -90,8 +90,8 @@ class Shown(unittest.TestCase):
 
     @needs_module("elftools", "python3-pyelftools")
     def test_symbols(self):
-        self.assertIn("PC 006A transfer", self.inspect("-e", ELF, "-", stdin=state(BUSY)))
-        out = self.inspect("-e", f"1={ELF}", "-", stdin=state(BUSY, STOPPED))
+        self.assertIn("PC 006A transfer", self.inspect("--force", "-e", ELF, "-", stdin=state(BUSY)))
+        out = self.inspect("--force", "-e", f"1={ELF}", "-", stdin=state(BUSY, STOPPED))
         self.assertIn("PC 006A, SP", out)
         self.assertIn("PC 0000 __vectors, SP", out)
 

@@ -1,4 +1,5 @@
-"""sweep on workers that are sent batches: the order of what they answer, workers that go or are sick, and a real cluster."""
+"""sweep on workers that are sent batches: the order of what they answer, workers that go or are sick, and a real
+cluster."""
 import gzip
 import os
 import re
@@ -30,8 +31,9 @@ RUNS = 40
 
 
 class Pool:
-    """Workers that answer a run by its latency; the last batch that was sent is answered first. `faults` has, by a worker's
-    name, what it does with its first batch: nothing but go, be sick behind one answer, or answer as it is told."""
+    """Workers that answer a run by its latency; the last batch that was sent is answered first. `faults` has, by a
+    worker's name, what it does with its first batch: nothing but go, be sick behind one answer, or answer as it is
+    told."""
 
     def __init__(self, names, faults=None):
         self.there = [pools.Worker(name) for name in names]
@@ -70,7 +72,11 @@ class Pool:
             return fault
         document = tomllib.loads(text)
         assert [node["image"] for node in document["node"]] == ["image0.hex", "image1.hex", "image0.hex"]
-        return {**runs.answer(runs.PASSED), "trace": gzip.compress(b"%d" % document["link"][0]["latency"]), "seconds": 0.1}
+        return {
+            **runs.answer(runs.PASSED),
+            "trace": gzip.compress(b"%d" % document["link"][0]["latency"]),
+            "seconds": 0.1,
+        }
 
     def set_aside(self, worker):
         self.there.remove(worker)
@@ -142,7 +148,16 @@ class OnDask(test_cluster.Cluster):
     def swept(self, *words):
         """What a sweep says, without how long it took."""
         shutil.copytree(Path(TOP) / "examples/races", f"{self.path}/races", dirs_exist_ok=True)
-        words = [*TOOL, "sweep", *words, f"{self.path}/races/wake.toml", "--start", "0=514_180..514_239", "--until", "530_000"]
+        words = [
+            *TOOL,
+            "sweep",
+            *words,
+            f"{self.path}/races/wake.toml",
+            "--start",
+            "0=514_180..514_239",
+            "--until",
+            "530_000",
+        ]
         ran = subprocess.run(words, capture_output=True, text=True, timeout=LONG, check=False)
         self.assertEqual((ran.returncode, ran.stderr), (1, ""))
         return re.sub(r"[\d.]+ s\b|\(\d+ a second\)", "", ran.stdout)

@@ -6,7 +6,7 @@ import pytest
 from avrora_tools.errors import BadInput
 from avrora_tools.programs import Function
 from avrora_tools.sweeping.arrivals import ArrivalClass, Place, Point
-from avrora_tools.sweeping.evidence import described, neighbours
+from avrora_tools.sweeping.evidence import neighbours
 from avrora_tools.sweeping.findings import Spots, findings, joined, lines_of, spans
 from avrora_tools.sweeping.ordering import Clock, Enter, Use, first_difference, steps
 from avrora_tools.sweeping.plans import Cell, FirstLook, in_rounds, spread
