@@ -7,9 +7,13 @@ own by their names, which are all that it has where there are any.
 An answer is a dictionary: `outcome` is one of the words below, `message` says why, `counts` has how many rows of each
 kind the trace has, `hash` is that of the trace, both None where there is no whole trace; `compared` has how much of it was
 compared in each way; `seconds` is the time of the run and its checks, `processor` what the simulator took of processors in it,
-in seconds, `trace` the trace in gzip's format or None, `again`
-whether another attempt can come to something else, and `trouble` whether it was the worker that failed. All of it is of
+in seconds, `trace` the trace in gzip's format or None, `again` whether another attempt can come to something else,
+`trouble` whether it was the worker that failed, and `late` whether the run took more time than it may. All of it is of
 Python's own kinds, so a client reads it whatever the worker has.
+
+A worker trusts its own disk no further than it must. A trace that lacks its end rows is trouble of the worker. Before it
+answers that a run failed or is refused, and at the end of each batch, it compares all that it was sent with what its disk
+has: where that differs it is sick, and what it found since its last comparison is no answer.
 """
 import contextlib
 import dataclasses
@@ -17,13 +21,14 @@ import gzip
 import hashlib
 import io
 import os
+import re
 import shutil
 import tempfile
 import time
 from collections.abc import Iterator, Sequence
-from typing import Any, BinaryIO, cast
+from typing import Any, BinaryIO, NamedTuple, cast
 
-from avrora_tools import calling, cases, comparisons, expectations
+from avrora_tools import calling, cases, cli, comparisons, expectations
 from avrora_tools.errors import ToolError
 from avrora_tools.events import CLASH, ONE_BYTE
 
@@ -72,6 +77,13 @@ PROOF_TRACE = (
     + "40 0 end 21 running\n"
 )
 PROOF_SECONDS = 300  # a busy machine is no sick one
+
+# A worker gives back what it has not begun of a batch that took so long: others may have nothing to do.
+SECONDS_A_BATCH = 10.0
+
+# As many bytes as the end rows of all nodes have.
+TAIL = 8_192
+END_ROW = re.compile(rb"([0-9]+) ([0-9]+) end [0-9]+ (?:running|asleep|stopped)")
 
 
 @dataclasses.dataclass(frozen=True)
@@ -136,6 +148,8 @@ class Bench:
         self.output: io.FileIO
         self.files = contextlib.ExitStack()
         self.caller = calling.Caller()
+        content = {**shipment.files, PROOF_NAME: PROOF_IMAGE.encode()}
+        self.sums = {name: hashlib.sha256(content).digest() for name, content in content.items()}
 
     def prove(self) -> str | None:
         """Unpacks what is not there, and runs a known scenario. None where it came out as it should, else why not."""
@@ -173,35 +187,72 @@ class Bench:
                 os.chmod(path, 0o755 if name == PROGRAM else 0o644)
 
     def run_batch(self, jobs: Sequence[Job]) -> dict[str, Any]:
-        """The answers to jobs, in order; to the first of them alone where the worker became sick, and then why."""
+        """The answers to jobs, in order. To the first of them alone where the worker became sick, and then why; or where
+        the batch takes long, as others may have nothing to do."""
         answers: list[Answer] = []
+        sick = None
+        begun = time.monotonic()
         for job in jobs:
             try:
                 answers.append(self.run(job))
-            except Sick as sick:
-                return {"answers": answers, "sick": str(sick)}
-        return {"answers": answers, "sick": None}
+            except Sick as fault:
+                sick = str(fault)
+                break
+            if time.monotonic() - begun > SECONDS_A_BATCH:
+                break
+        changed = self.changed()
+        return {"answers": [] if changed else answers, "sick": changed or sick}
+
+    def changed(self) -> str | None:
+        """Which file of the shipment the disk has not as it was sent, in words, or None."""
+        for name, expected in self.sums.items():
+            try:
+                with open(f"{self.folder}/{name}", "rb") as file:
+                    found = hashlib.file_digest(file, "sha256").digest()
+            except OSError as fault:
+                return described(fault)
+            if found != expected:
+                return f"its disk has {name} otherwise than it was sent"
+        return None
 
     def run(self, job: Job) -> Answer:
         """Runs a job. Raises Sick where it is the worker that cannot."""
         start, used = time.monotonic(), self.caller.processor
         try:
             comparisons.empty(self.trace)
-            found = self.judged(job, self.folder_for(job))
+            place = self.folder_for(job)
+            found = self.judged(job, place)
+            if found["outcome"] in (FAILED, REFUSED) or job[2]:
+                self.confirm(job, place)
             keeps = self.shipment.traces
             if keeps == "all" or keeps == "failed" and found["outcome"] in (FAILED, BROKEN):
                 found["trace"] = packed(self.trace)
         except OSError as fault:
             found = answer(BROKEN, described(fault), again=True, trouble=True)
+        except ToolError as fault:  # of a case that the client has read
+            found = answer(BROKEN, str(fault), again=True, trouble=True)
         except MemoryError:
             found = answer(BROKEN, "the worker is out of memory", again=True, trouble=True)
         if found["trouble"]:
-            reason = self.prove()
+            reason = self.changed() or self.prove()
             if reason:
                 raise Sick(reason)
         found["seconds"] = round(time.monotonic() - start, 4)
         found["processor"] = round(self.caller.processor - used, 4)
         return found
+
+    def confirm(self, job: Job, place: str) -> None:
+        """Raises Sick where the disk has not what the simulator was to read in this run."""
+        scenario, _, images = job
+        wanted = {SCENARIO: scenario.encode(errors="surrogateescape"), **images}
+        for name, content in wanted.items():
+            with named(f"{place}/{name}"), open(f"{place}/{name}", "rb") as file:
+                if file.read(len(content) + 1) != content:
+                    raise Sick(f"its disk has {name} otherwise than it was written")
+        if not images:  # all that it read else is in the shipment, and compared with each batch
+            reason = self.changed()
+            if reason:
+                raise Sick(reason)
 
     def folder_for(self, job: Job) -> str:
         """Where the simulator finds the images of a job, which it seeks from the folder that it works in."""
@@ -231,7 +282,8 @@ class Bench:
         try:
             status, said = self.call(place, words, output, self.shipment.timeout)
         except calling.TooLong:
-            raise NoAnswer(answer(BROKEN, f"took more than {self.shipment.timeout} s", again=True)) from None
+            late = answer(BROKEN, f"took more than {self.shipment.timeout} s", again=True)
+            raise NoAnswer({**late, "late": True}) from None
         trouble = status in WORKER_FAULTS
         if trouble or status < 0 or status in MEMORY_FAULTS:
             raise NoAnswer(answer(BROKEN, f"status {status}: {said}", again=True, trouble=trouble))
@@ -254,17 +306,22 @@ class Bench:
     def checked(self, index: int, scenario: str, place: str) -> Answer:
         """Shows all cases the trace of a scenario, and compares it in all ways; the first failure of each is told."""
         check = self.shipment.checks[index]
+        statuses: list[int] = []  # of the calls by which the run is compared
 
         def call(words: Sequence[str], output: io.FileIO) -> str | None:
             status, said = self.said_at_end(place, words, output)
+            statuses.append(status)
             return f"status {status}: {said}" if status else None
 
         compares = comparisons.Place(place, SCENARIO, scenario, self.trace, self.output, call)
         if index not in self.cases:
             self.cases[index] = [self.case(shipped) for shipped in check.cases]
         window: range | None = None
+        ends: Ends | None = None
         with contextlib.suppress(ToolError):  # whether it is a scenario the simulator says
             window = range(*compares.read.window)
+            ends = Ends(compares.read.cycles, len(compares.read.images))
+        self.demand_whole(self.trace, ends, "its trace")
         failures = []
         for shipped, case in zip(check.cases, self.cases[index]):
             self.trace.seek(0)
@@ -278,17 +335,27 @@ class Bench:
                 failures.append(failure)
         compared = {}
         for way in check.ways:
+            statuses.clear()
             try:
                 found = comparisons.WAYS[way](compares)
             except ToolError as fault:
                 found = comparisons.Found(f"{way}: {fault}", 0)
             compared[way] = found.compared
+            if statuses and not any(statuses):
+                self.demand_whole(self.output, ends, f"what was compared by {way}")
             if found.difference:
                 failures.append(found.difference)
         judged = answer(FAILED if failures else PASSED, "\n".join(failures))
         judged["hash"], judged["counts"] = looked_through(self.trace)
         judged["compared"] = compared
         return judged
+
+    @staticmethod
+    def demand_whole(output: io.FileIO, ends: "Ends | None", what: str) -> None:
+        """Raises NoAnswer where an output has not the end rows: the worker lost a part of it."""
+        if not is_whole(output, ends):
+            message = f"{what} is not whole: the rows of its end are not there"
+            raise NoAnswer(answer(BROKEN, message, again=True, trouble=True))
 
     def case(self, shipped: ShippedCase) -> cases.Case:
         """A case of the shipment, by the names that its reader knows."""
@@ -315,7 +382,28 @@ def answer(outcome: str, message: str = "", again: bool = False, trouble: bool =
         "trace": None,
         "again": again,
         "trouble": trouble,
+        "late": False,
     }
+
+
+class Ends(NamedTuple):
+    """The end rows of a trace: in which cycle they stand, and of how many nodes."""
+
+    cycle: int
+    nodes: int
+
+
+def is_whole(trace: io.FileIO, ends: Ends | None) -> bool:
+    """Whether a trace ends with a row for the end of each node, in order; where these are not known, of all up to one."""
+    size = os.fstat(trace.fileno()).st_size
+    start = max(0, size - TAIL)
+    *rows, rest = os.pread(trace.fileno(), size - start, start).split(b"\n")
+    found = [END_ROW.fullmatch(row) for row in rows[-cli.MAX_NODES :]]
+    numbers = [(int(match[1]), int(match[2])) for match in found if match]
+    if rest or not found or not found[-1]:
+        return False
+    cycle, last = ends and (ends.cycle, ends.nodes - 1) or numbers[-1]
+    return numbers[-last - 1 :] == [(cycle, node) for node in range(last + 1)] and all(found[-last - 1 :])
 
 
 @contextlib.contextmanager
