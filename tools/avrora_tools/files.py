@@ -1,34 +1,25 @@
-"""Files: how messages call them, reading them, and writing them whole or not at all."""
+"""Files: how messages call them (`showing`), reading them, and writing them (`writing`)."""
 import contextlib
 import errno
 import gzip
 import os
-import re
+import stat
 import sys
-import tempfile
 import zlib
 from collections.abc import Iterator
-from typing import IO, Any, BinaryIO, cast
+from typing import BinaryIO, cast
 
 from avrora_tools.errors import BadInput, CannotWork
+from avrora_tools.showing import STANDARD_STREAM, printable, shown
+from avrora_tools.writing import whole_file, write_whole
+
+__all__ = [
+    "LARGEST_TEXT", "STANDARD_STREAM", "opened", "opened_named", "printable", "read_bytes", "read_named", "read_named_text",
+    "read_text", "readable", "shown", "whole_file", "write_whole",
+]  # fmt: skip
 
 # More bytes than a small file has: a scenario, a case, a campaign.
 LARGEST_TEXT = 16 * 1024 * 1024
-
-# The name that stands for the standard input, or the standard output.
-STANDARD_STREAM = "-"
-
-
-def shown(name: str) -> str:
-    """How messages call the file `name`: on one line, and in characters that any encoding of a terminal takes."""
-    return "standard input" if name == STANDARD_STREAM else printable(name)
-
-
-def printable(text: str) -> str:
-    """A text with bytes that are no UTF-8, and characters that move the cursor, as `\\x` and their digits."""
-    text = os.fsencode(text).decode("utf-8", "backslashreplace")
-    return re.sub(r"[\x00-\x1f\x7f-\x9f\u2028\u2029]", lambda match: f"\\x{ord(match[0]):02X}", text)
-
 
 # What keeps a tool from a file that may be as good as any.
 NOT_OF_THE_FILE = (errno.EACCES, errno.EPERM, errno.EIO, errno.ENOMEM, errno.EMFILE, errno.ENFILE, errno.ESTALE)
@@ -58,9 +49,40 @@ def opened(name: str) -> Iterator[BinaryIO]:
         yield file
 
 
+@contextlib.contextmanager
+def opened_named(name: str) -> Iterator[BinaryIO]:
+    """A file that another file names, and not the user, as `opened` has it. Raises BadInput also where it is a device or a
+    pipe, which may have no end; it is not waited for."""
+    with readable(name):
+        file: BinaryIO = open(name, "rb", opener=without_waiting)
+    with file:
+        if not stat.S_ISREG(os.fstat(file.fileno()).st_mode):
+            raise BadInput(f"cannot read {shown(name)}: a device or a pipe, and no file")
+        if not name.endswith(".gz"):
+            yield file
+            return
+        with gzip.GzipFile(fileobj=file) as unpacked:
+            yield cast(BinaryIO, unpacked)
+
+
+def without_waiting(name: str, flags: int) -> int:
+    return os.open(name, flags | os.O_NONBLOCK | os.O_NOCTTY)
+
+
 def read_bytes(name: str, most: int = LARGEST_TEXT) -> bytes:
     """The content of the file `name`. Raises BadInput where it cannot be read or has more than `most` bytes."""
-    with opened(name) as file, readable(name):
+    with opened(name) as file:
+        return at_most(file, name, most)
+
+
+def read_named(name: str, most: int = LARGEST_TEXT) -> bytes:
+    """The content of a file that another file names. Raises BadInput also where it is a device or a pipe."""
+    with opened_named(name) as file:
+        return at_most(file, name, most)
+
+
+def at_most(file: BinaryIO, name: str, most: int) -> bytes:
+    with readable(name):
         content = file.read(most + 1)
     if len(content) > most:
         raise BadInput(f"{shown(name)}: more than {most:,} bytes")
@@ -69,60 +91,16 @@ def read_bytes(name: str, most: int = LARGEST_TEXT) -> bytes:
 
 def read_text(name: str) -> str:
     """The text of the small file `name` in UTF-8. Raises BadInput where it cannot be read or is no text."""
+    return in_utf8(read_bytes(name), name)
+
+
+def read_named_text(name: str) -> str:
+    """The text of a small file that another file names, as `read_text` has it."""
+    return in_utf8(read_named(name), name)
+
+
+def in_utf8(content: bytes, name: str) -> str:
     try:
-        return read_bytes(name).decode()
+        return content.decode()
     except UnicodeDecodeError:
         raise BadInput(f"{shown(name)}: no text in UTF-8") from None
-
-
-def open_to_write(file: str | int, binary: bool) -> IO[Any]:
-    """A file, by its name or its number, to write bytes to, or text."""
-    return cast(
-        IO[Any], open(file, "wb") if binary else open(file, "w", encoding="utf-8", errors="surrogateescape")
-    )
-
-
-@contextlib.contextmanager
-def whole_file(path: str, binary: bool = False, lasting: bool = True) -> Iterator[IO[Any]]:
-    """A file to write to, which becomes `path` only once all is written.
-
-    A `lasting` one is on the disk then, so that the name has all its content also where the machine loses its power. A device
-    or a pipe is written to as it comes, and stays what it is; so does a link, whose file is written.
-    """
-    if os.path.exists(path) and not os.path.isfile(path):
-        with open_to_write(path, binary) as file:
-            yield file
-        return
-    path = os.path.realpath(path)
-    folder = os.path.dirname(path)
-    try:
-        handle, name = tempfile.mkstemp(dir=folder, prefix=f".{os.path.basename(path)}."[:100])
-    except OSError as fault:  # which names the file that was to become `path`
-        raise OSError(fault.errno, fault.strerror, path) from None
-    try:
-        with open_to_write(handle, binary) as file:
-            yield file
-            if lasting:
-                file.flush()
-                os.fsync(file.fileno())
-        mask = os.umask(0)
-        os.umask(mask)
-        os.chmod(name, 0o666 & ~mask)
-        os.replace(name, path)
-    except BaseException:
-        with contextlib.suppress(FileNotFoundError):
-            os.unlink(name)
-        raise
-
-
-def write_whole(path: str, content: str | bytes, lasting: bool = True) -> None:
-    """Writes a text, or bytes, to `path`, whole or not at all; to the standard output where `path` is `-`."""
-    if path == STANDARD_STREAM:
-        if isinstance(content, bytes):
-            sys.stdout.flush()
-            sys.stdout.buffer.write(content)
-        else:
-            sys.stdout.write(content)
-        return
-    with whole_file(path, isinstance(content, bytes), lasting) as file:
-        file.write(content)

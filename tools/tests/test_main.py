@@ -198,15 +198,15 @@ class WholeFiles(unittest.TestCase):
         self.assertEqual((status, err), (3, "avrora-tools timeline: /nowhere/page.html: No such file or directory\n"))
 
     def test_what_is_no_file_stays(self):
-        """A device or a pipe is written to, and is not replaced; nor is a link."""
+        """A device or a pipe is written to, and is not replaced; a link is refused."""
         with scratch("target", "before") as path:
             folder = os.path.dirname(path)
             link, pipe = f"{folder}/link", f"{folder}/pipe"
             os.symlink("target", link)
-            files.write_whole(link, "after")
-            self.assertTrue(os.path.islink(link))
+            status, _, err = run_tool("timeline", "-o", link, f"{DATA}/relay.trace")
+            self.assertEqual((status, err), (2, f"avrora-tools timeline: {link}: a link, and what is written follows none\n"))
             with open(path, encoding="utf-8") as file:
-                self.assertEqual(file.read(), "after")
+                self.assertEqual(file.read(), "before")
             os.mkfifo(pipe)
             with open(os.open(pipe, os.O_RDONLY | os.O_NONBLOCK), "rb") as reader:
                 files.write_whole(pipe, b"through")
