@@ -5,7 +5,6 @@ one in a hundred of those that passed. Where two differ a third one decides, or 
 wrong is set aside, and what it came to by itself is begun again.
 """
 import collections
-import dataclasses
 import itertools
 import math
 import random
@@ -14,10 +13,10 @@ from collections.abc import Callable, Iterable, Iterator
 from typing import Any
 
 from avrora_tools import pools, runs
+from avrora_tools.attempts import OWN, Attempt, Batch, Own, described, first_line, verdict
 from avrora_tools.errors import BadInput, CannotWork
 from avrora_tools.files import printable
 from avrora_tools.pools import Pool, Worker
-from avrora_tools.variants import Run
 from avrora_tools.watching import Progress, Tally
 
 BATCH_SECONDS = 2.0  # that a worker is to take for a batch
@@ -45,33 +44,6 @@ OTHER_SECONDS = 20.0  # that a run waits for another worker than the one it is t
 WEIGHT_OF_LAST = 0.3
 
 
-@dataclasses.dataclass(eq=False, slots=True)
-class Attempt:
-    """A run that is to have a result: for which time it is begun, where not to, and whether it is to be alone in its batch.
-    Some batches can have it at once: `copies` are under way, and the first answer settles it. `opinions` has the answers that
-    are compared, and `tried` on which worker it came to what before."""
-
-    run: Run
-    digest: str
-    number: int = 1
-    avoid: tuple[Worker, ...] = ()
-    is_alone: bool = False
-    copies: int = 0
-    is_settled: bool = False
-    since: float = 0.0  # that it waits to be begun again
-    opinions: list[tuple[Worker, runs.Answer]] | None = None
-    tried: list[tuple[str, str]] | None = None
-    failed_on: tuple[Worker, ...] = ()
-
-
-@dataclasses.dataclass(eq=False, slots=True)
-class Batch:
-    worker: Worker
-    attempts: list[Attempt]
-    sent: float
-    is_elsewhere: bool = False  # was begun on another worker as well
-
-
 # Saves what came of a run: the answer, on which host, and on which other one it came to the same.
 Save = Callable[[Attempt, runs.Answer, str, str | None], None]
 
@@ -87,14 +59,6 @@ Wanted = Callable[[], Iterator[Attempt | None] | None]
 
 def nothing_known(_: str) -> "collections.Counter[str]":
     return collections.Counter()
-
-
-def verdict(answer: runs.Answer) -> tuple[Any, ...]:
-    """What two answers to one run have in common where both are right."""
-    outcome = answer["outcome"]
-    if answer["hash"] is None:
-        return outcome, answer["message"] if outcome == runs.REFUSED else None
-    return outcome, answer["hash"], tuple(answer["counts"] or ()), tuple(sorted((answer["compared"] or {}).items()))
 
 
 class Driver:
@@ -119,9 +83,8 @@ class Driver:
         self.again: collections.deque[Attempt] = collections.deque()
         self.under_way: dict[int, Batch] = {}
         self.runs_under_way = 0
-        # All that proved themselves, by how many batches they have.
-        self.workers: dict[Worker, None] = {}
-        self.rooms: list[dict[Worker, None]] = [{} for _ in range(BATCHES_A_WORKER)]
+        self.workers: dict[Worker, None] = {}  # all that proved themselves
+        self.rooms: list[dict[Worker, None]] = [{} for _ in range(BATCHES_A_WORKER)]  # of these, by how many batches they have
         self.machines: collections.Counter[str] = collections.Counter()
         self.liars: collections.Counter[str] = collections.Counter()  # by their machines
         self.troubles: collections.Counter[Worker] = collections.Counter()
@@ -193,7 +156,7 @@ class Driver:
                 batch = self.batch(worker, wanted)
                 if batch:  # else there may be one for another worker, which this one is to avoid
                     self.send(worker, batch)
-        if self.is_at_end and not self.again and self.rooms[0]:
+        if self.is_at_end and self.rooms[0]:
             self.begin_elsewhere()
 
     def by_time(self) -> int:
@@ -263,17 +226,15 @@ class Driver:
             ticket = next(self.tickets)
             self.under_way[ticket] = Batch(worker, good, self.clock())
             self.runs_under_way += len(good)
-            self.move(worker, +1)
             self.pool.send(worker, ticket, jobs)
+            self.place(worker)
 
-    def move(self, worker: Worker, by: int) -> None:
-        """A worker has one batch more, or less."""
-        has = len(worker.tickets)
-        for number in (has, has + by):
-            if number < BATCHES_A_WORKER:
-                self.rooms[number].pop(worker, None)
-        if worker in self.workers and has + by < BATCHES_A_WORKER:
-            self.rooms[has + by][worker] = None
+    def place(self, worker: Worker) -> None:
+        """Notes how many batches a worker has."""
+        for room in self.rooms:
+            room.pop(worker, None)
+        if worker in self.workers and len(worker.tickets) < BATCHES_A_WORKER:
+            self.rooms[len(worker.tickets)][worker] = None
 
     def begin_elsewhere(self) -> None:
         """Where a worker has nothing to do, and nothing else is left, it gets what another one has had for long."""
@@ -312,7 +273,7 @@ class Driver:
         self.workers[worker] = None
         self.machines[worker.machine] += 1
         self.until_sample[worker] = random.randint(1, self.sample) if self.sample else 0
-        self.rooms[0][worker] = None
+        self.place(worker)
         self.tally(worker)
         self.progress.note(f"the worker {worker.name} proved itself")
 
@@ -370,8 +331,12 @@ class Driver:
         self.tell_aside(worker, reason)
 
     def look(self) -> None:
-        """Sets those aside whose answers are overdue: a worker gives back what it does not come to."""
+        """Sets those aside whose answers are overdue: a worker gives back what it does not come to. What waits in vain for a
+        second opinion is made here."""
         now = self.clock()
+        if self.is_at_end:
+            for attempt in [it for it in self.again if it.opinions and not it.is_settled and now - it.since > OTHER_SECONDS]:
+                self.decide(attempt)
         overdue = runs.SECONDS_A_BATCH + self.longest + GRACE_SECONDS
         for batch in list(self.under_way.values()):
             behind = BATCHES_A_WORKER if len(batch.worker.tickets) > 1 else 1
@@ -386,7 +351,7 @@ class Driver:
         attempts = self.taken(event.ticket)
         if batch is None:
             return
-        self.move_back(worker)
+        self.place(worker)
         now = self.clock()
         self.learn(event.answers, now - batch.sent)
         if event.sick is not None and worker in self.workers:
@@ -396,14 +361,6 @@ class Driver:
         self.give_back(attempts[len(event.answers) :])
         if self.troubles[worker] >= MOST_TROUBLES and worker in self.workers:
             self.set_aside(worker, f"{MOST_TROUBLES} runs failed on it one after another by no fault of theirs")
-
-    def move_back(self, worker: Worker) -> None:
-        """The pool has taken a ticket from the worker."""
-        if worker in self.workers:
-            for room in self.rooms:
-                room.pop(worker, None)
-            if len(worker.tickets) < BATCHES_A_WORKER:
-                self.rooms[len(worker.tickets)][worker] = None
 
     def learn(self, answers: Iterable[runs.Answer], seconds: float) -> None:
         """How long runs take. The clock of a worker may run wild, so it is believed no further than this one."""
@@ -471,8 +428,8 @@ class Driver:
         if len(same) > 1:
             self.agreed(attempt, answer, same)
             return
-        others = [it for it in self.workers if all(it is not known for known, _ in opinions)] if len(opinions) > 1 else [None]
-        if others and len(opinions) < MOST_OPINIONS:
+        is_other = len(opinions) == 1 or any(all(it is not known for known, _ in opinions) for it in self.workers)
+        if is_other and len(opinions) < MOST_OPINIONS:
             if not attempt.copies:
                 self.put_again(attempt, worker)
         else:
@@ -548,24 +505,3 @@ class Driver:
         if tally.blamed >= MOST_BLAMED and tally.blamed * BLAMED_OF > tally.runs and worker in self.workers:
             late = f", {tally.timeouts} of them late" if tally.timeouts else ""
             self.set_aside(worker, f"{tally.blamed} runs came to no answer on it and to one elsewhere{late}")
-
-
-@dataclasses.dataclass(frozen=True)
-class Own:
-    """This process as one that was asked."""
-
-    name: str
-
-
-OWN = Own("this process")
-
-
-def first_line(text: str) -> str:
-    return text.partition("\n")[0]
-
-
-def described(answer: runs.Answer) -> str:
-    """An answer in a few words."""
-    if answer["hash"]:
-        return f"{answer['outcome']}, trace {answer['hash'][:16]}"
-    return f"{answer['outcome']}, {first_line(answer['message'])}".rstrip(", ")

@@ -187,7 +187,7 @@ class Report:
         with files.whole_file(path, binary=True) as file, pyarrow.parquet.ParquetWriter(file, schema) as writer:
             for group in grouped(self.rows(), ROWS_A_GROUP):
                 for row in group:
-                    for column in ("parameters", "compared"):
+                    for column in ("parameters", "compared", "tried"):
                         row[column] = json.dumps(row[column])
                 writer.write_table(pyarrow.Table.from_pylist(group, schema=schema))
 
@@ -219,14 +219,11 @@ def xml_text(text: str) -> str:
     return re.sub("[^\t\n\r\x20-\ud7ff\ue000-\ufffd\U00010000-\U0010ffff]", "?", text)
 
 
-def write_summaries(report: Report, folder: str) -> None:
-    """The table, the lines of JSON and the JUnit report in the folder of results."""
+def summaries(report: Report) -> dict[str, Callable[[IO[str]], None]]:
+    """By the name of a file beside the results what writes it: the table, the lines of JSON, the JUnit report."""
     where = runs.OUTCOMES if report.outcomes().total() <= MOST_IN_SUMMARIES else runs.OUTCOMES[1:]
-    written: dict[str, Callable[[IO[str], Sequence[str]], None]] = {
-        "summary.txt": report.write_table,
-        "summary.jsonl": report.write_lines,
-        "junit.xml": report.write_junit,
+    return {
+        "summary.txt": lambda out: report.write_table(out, where),
+        "summary.jsonl": lambda out: report.write_lines(out, where),
+        "junit.xml": lambda out: report.write_junit(out, where),
     }
-    for name, write in written.items():
-        with files.whole_file(f"{folder}/{name}", lasting=False) as file:
-            write(file, where)

@@ -6,16 +6,12 @@ index, so that a campaign of a million runs costs no more to begin than one of t
 """
 import copy
 import dataclasses
-import functools
 import hashlib
-import importlib.util
 import json
 import math
 import os
 import re
-import sys
 from collections.abc import Callable, Sequence
-from pathlib import Path
 from typing import Any
 
 from avrora_tools import campaign_keys, checkers, networks, scenarios, toml
@@ -28,9 +24,6 @@ Ship = Callable[[str], str]
 
 # Of an axis with few values each is tried before the first run, so that a bad one is told at once.
 FEW_VALUES = 64
-
-# Networks that a function drew last, at least as many as are under way from their digest to a worker.
-DRAWN_KEPT = 512
 
 
 @dataclasses.dataclass(frozen=True, slots=True)
@@ -99,6 +92,35 @@ class Group:
         values.reverse()
         parts = [self.name, *(f"{axis.key}={shown(value)}" for axis, value in zip(self.axes, values))]
         return Run(number, " ".join(parts), tuple(values), self)
+
+    def index_of(self, name: str) -> int | None:
+        """The index of the run of this name."""
+        places = self.places_of(name.removeprefix(self.name), 0) if name.startswith(self.name) else None
+        index = 0
+        for axis, place in zip(self.axes, places or ()):
+            index = index * len(axis.values) + place
+        return None if places is None else index
+
+    def places_of(self, text: str, first: int) -> list[int] | None:
+        """The places of the values of the axes from the `first` on that a part of a name has."""
+        if first == len(self.axes):
+            return [] if not text else None
+        axis = self.axes[first]
+        head = f" {axis.key}="
+        if not text.startswith(head):
+            return None
+        rest = text[len(head) :]
+        if isinstance(axis.values, range):
+            number = re.match("-?[0-9]+", rest)
+            found = [(int(number[0]), number[0])] if number and int(number[0]) in axis.values else []
+            choices = [(axis.values.index(value), text) for value, text in found if str(value) == text]
+        else:
+            choices = [(place, shown(value)) for place, value in enumerate(axis.values) if rest.startswith(shown(value))]
+        for place, value in choices:
+            others = self.places_of(rest[len(value) :], first + 1)
+            if others is not None:
+                return [place, *others]
+        return None
 
     def scenario(self, values: Sequence[Any]) -> str:
         raise NotImplementedError
@@ -202,75 +224,6 @@ class NetworkGroup(Group):
 
     def base(self) -> Any:
         return [checkers.version(checkers.NETWORKS), sorted(self.images.items()), sorted(self.table.items())]
-
-
-class DrawnGroup(Group):
-    """Networks with images of their own, which a function of the user draws, each by its number."""
-
-    def __init__(self, place: str, name: str, axes: Sequence[Axis], check: int, path: str) -> None:
-        super().__init__(place, name, axes, check)
-        if [axis.key for axis in axes] != [NUMBER]:
-            raise BadInput(f"{place}: of what is drawn vary has {NUMBER}, and nothing else")
-        self.path = path
-        self.draw = drawing_function(place, path)
-        self.made = functools.lru_cache(DRAWN_KEPT)(self.make)
-        self.made(axes[0].values[0])
-
-    def make(self, number: Any) -> tuple[str, dict[str, bytes]]:
-        try:
-            text, images = self.draw(number)
-            found = str(text), {str(name): bytes(content) for name, content in images.items()}
-        except Exception as fault:  # of a function of the user
-            raise BadInput(f"{self.place}: draw({number}) ended with {type(fault).__name__}: {fault}") from None
-        for name in found[1]:
-            if not re.fullmatch(r"[A-Za-z0-9_-][A-Za-z0-9_.-]{0,99}", name):
-                raise BadInput(f"{self.place}: draw({number}) has an image {printable(name)}, which is no plain name")
-        return found
-
-    def scenario(self, values: Sequence[Any]) -> str:
-        return self.made(values[0])[0]
-
-    shipped = scenario
-
-    def own_images(self, values: Sequence[Any]) -> dict[str, bytes]:
-        return self.made(values[0])[1]
-
-    def recipe(self, values: Sequence[Any]) -> str:
-        try:
-            text, images = self.made(values[0])
-        except BadInput as fault:
-            return json.dumps(str(fault))
-        contents = [[name, hashlib.sha256(content).hexdigest()] for name, content in sorted(images.items())]
-        return json.dumps([text, contents])
-
-    def base(self) -> Any:
-        """What decides what the function draws: Python, and the modules and images of its folder."""
-        folder = Path(self.path).resolve().parent
-        found = [(it.name, it.read_bytes()) for it in sorted(folder.iterdir()) if it.suffix in (".py", ".hex")]
-        return [sys.version, [[name, hashlib.sha256(content).hexdigest()] for name, content in found]]
-
-
-NUMBER = "number"
-
-
-def drawing_function(place: str, path: str) -> Callable[[Any], Any]:
-    """The function `draw` of a Python file, which finds the modules of its folder."""
-    spec = importlib.util.spec_from_file_location("campaign_draw", path)
-    try:
-        if not spec or not spec.loader:
-            raise ImportError("no name of a Python file")
-        module = importlib.util.module_from_spec(spec)
-        sys.path.insert(0, os.path.dirname(os.path.abspath(path)))
-        try:
-            spec.loader.exec_module(module)
-        finally:
-            del sys.path[0]
-    except (Exception, SystemExit) as fault:  # of a file of the user
-        raise BadInput(f"{place}: {printable(path)} cannot be loaded: {type(fault).__name__}: {fault}") from None
-    draw = getattr(module, "draw", None)
-    if not callable(draw):
-        raise BadInput(f"{place}: {printable(path)} has no function draw")
-    return draw  # type: ignore[no-any-return]
 
 
 def shown(value: Any) -> str:
