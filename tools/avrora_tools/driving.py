@@ -334,7 +334,7 @@ class Driver:
         """Sets those aside whose answers are overdue: a worker gives back what it does not come to. What waits in vain for a
         second opinion is made here."""
         now = self.clock()
-        if self.is_at_end:
+        if self.is_at_end or self.left() <= len(self.again):
             for attempt in [it for it in self.again if it.opinions and not it.is_settled and now - it.since > OTHER_SECONDS]:
                 self.decide(attempt)
         overdue = runs.SECONDS_A_BATCH + self.longest + GRACE_SECONDS

@@ -95,7 +95,8 @@ class Store:
         self.sitting = 0
         self.went_by = ("", "", "")
         self.sittings: dict[tuple[str, str, str], int] = {}  # that were taken over from other files
-        self.hosts: dict[str, int] = {}
+        self.hosts: dict[str, int] = {}  # the keys of their names
+        self.new_hosts: dict[str, int] = {}
         self.runs = folder.entered("runs", make=True)
         try:
             with reported(self.path):
@@ -165,16 +166,14 @@ class Store:
         self.note(**about)
 
     def host(self, name: str) -> int:
-        """The key of a host, which is noted where it is new."""
-        if name not in self.hosts:
-            self.patiently(
-                lambda: self.transaction(
-                    lambda: self.database.execute("INSERT OR IGNORE INTO host (name) VALUES (?)", (name,))
-                )
-            )
-            found = self.database.execute("SELECT id FROM host WHERE name = ?", (name,)).fetchone()
-            self.hosts[name] = int(found[0])
-        return self.hosts[name]
+        """The key of a host. One that is new is written with the results that wait."""
+        key = self.hosts.get(name)
+        if key is None:
+            if not self.hosts:
+                self.hosts = {str(known): int(id_) for known, id_ in self.database.execute("SELECT name, id FROM host")}
+            key = self.hosts.setdefault(name, max(self.hosts.values(), default=0) + 1)
+            self.new_hosts[name] = key
+        return key
 
     def commit(self, if_due: bool = False) -> None:
         """Writes what waits. Where that is only due it may wait on, for a file that another program has."""
@@ -195,10 +194,12 @@ class Store:
             self.next_commit = now + COMMIT_SECONDS
             return
         self.waiting.clear()
+        self.new_hosts.clear()
         self.locked_since = None
         self.next_commit = time.monotonic() + COMMIT_SECONDS
 
     def write_waiting(self) -> None:
+        self.database.executemany("INSERT OR IGNORE INTO host (name, id) VALUES (?, ?)", self.new_hosts.items())
         self.database.executemany(INSERT.format(table="run"), self.waiting.values())
 
     def close(self) -> None:

@@ -24,13 +24,10 @@ def folder_of_state() -> str:
     return os.path.join(base, "avrora-tools")
 
 
+@functools.cache
 def key() -> bytes:
     """The key of this user, which is made where there is none."""
-    return key_in(folder_of_state())
-
-
-@functools.cache
-def key_in(path: str) -> bytes:
+    path = folder_of_state()
     made = secrets.token_bytes(KEY_BYTES)
     with contextlib.suppress(OSError):
         os.makedirs(path, 0o700, exist_ok=True)

@@ -90,8 +90,10 @@ class Group:
             index, place = divmod(index, len(axis.values))
             values.append(axis.values[place])
         values.reverse()
-        parts = [self.name, *(f"{axis.key}={shown(value)}" for axis, value in zip(self.axes, values))]
-        return Run(number, " ".join(parts), tuple(values), self)
+        name = self.name
+        for axis, value in zip(self.axes, values):
+            name += f" {axis.key}={value if type(value) is int else shown(value)}"
+        return Run(number, name, tuple(values), self)
 
     def index_of(self, name: str) -> int | None:
         """The index of the run of this name."""
