@@ -5,13 +5,14 @@ import ast
 import operator
 import os
 import re
-from collections.abc import Callable
+from collections.abc import Callable, Iterator
 from typing import NamedTuple
 
 from avrora_tools import cli, files
 from avrora_tools.errors import BadInput
-from avrora_tools.events import KINDS
-from avrora_tools.patterns import NUMBER, Pattern, Span, span_of, whole
+from avrora_tools.events import KINDS, End, Stop
+from avrora_tools.fields import NUMBER, Span, cover, span_of, whole
+from avrora_tools.patterns import LIMITS, Pattern
 
 COMPARISONS: dict[str, Callable[[int, int], bool]] = {
     "==": operator.eq,
@@ -135,8 +136,7 @@ def read_case(path: str) -> Case:
     for statement in statements:
         refuse_unseen(name, statement, only or Only())
     refuse_between(name, statements)
-    if only is None:
-        refuse_any_row(name, statements)
+    refuse_certain(name, statements, only or Only())
     return Case(path, folder, source, (only or Only()).nodes, (only or Only()).kinds, statements)
 
 
@@ -172,22 +172,71 @@ def refuse_between(name: str, statements: list[Statement]) -> None:
             nevers = []
 
 
-# The comparisons that say that there is a row.
-AT_LEAST_ONE = ((">=", 1), (">", 0), ("!=", 0))
+def refuse_certain(name: str, statements: list[Statement], only: Only) -> None:
+    """Raises BadInput where an expectation is met by each trace, or by none: each has an end row of each of its nodes, in their
+    order, and nothing behind them."""
+    above: list[Expected] = []
+    for statement in statements:
+        why = None
+        if isinstance(statement, Expected):
+            why = why_out_of_order(statement, above) or why_certain(statement.pattern, above, only)
+            why = None if why and statement.most is not None and not why.startswith("no such") else why
+            above.append(statement)
+        elif isinstance(statement, Never):
+            is_last = statement.span is None and not any(isinstance(it, Expected) and it.line > statement.line for it in statements)
+            if is_last or statement.span and cover([statement.span], [LIMITS]):
+                why = why_certain(statement.pattern, above if is_last else [], only)
+        elif isinstance(statement, Count):
+            why = why_count_is_certain(statement, only, None)
+        if why:
+            raise BadInput(f"{name}, line {statement.line}: {why}")
 
 
-def refuse_any_row(name: str, statements: list[Statement]) -> None:
-    """Raises BadInput where the first row that is expected, or that is counted at all, may be any: each trace has one."""
-    found: list[Expected | Count] = []
-    found += [statement for statement in statements if isinstance(statement, Expected)][:1]
-    found += [
-        statement
-        for statement in statements
-        if isinstance(statement, Count) and not statement.span and (statement.comparison, statement.wanted) in AT_LEAST_ONE
-    ]
-    for statement in found:
-        if statement.pattern.is_any_row:
-            raise BadInput(f"{name}, line {statement.line}: each trace has such a row")
+def why_certain(pattern: Pattern, above: list[Expected], only: Only) -> str | None:
+    """Why each trace has a row behind those that are expected above."""
+    if only.kinds is not None and End.kind not in only.kinds:
+        return None
+    nodes = pattern.certain_nodes() & (only.nodes or pattern.nodes)
+    for node in {*(nodes & pattern.named), *sorted(nodes)[:1]}:  # those that a trace has, unless it is refused
+        if not any(End.kind in it.pattern.kinds and max(it.pattern.nodes) >= node for it in above):
+            return "each trace has such a row" + " behind those above" * bool(above)
+    return None
+
+
+def why_out_of_order(statement: Expected, above: list[Expected]) -> str | None:
+    """Why no row can come behind one that is expected above."""
+    for other in above:
+        if other.pattern.kinds == {End.kind}:
+            if End.kind not in statement.pattern.kinds:
+                return f"no such row comes behind an end row, which line {other.line} expects"
+            if statement.pattern.kinds == {End.kind} and max(statement.pattern.nodes) <= min(other.pattern.nodes):
+                return f"no such row comes behind that of line {other.line}, as end rows come in the order of nodes"
+        if not other.pattern.is_relative and not statement.pattern.is_relative:
+            first = min(span.first for span in other.pattern.cycles)
+            lasts = [span.last for span in statement.pattern.cycles]
+            if None not in lasts and max(last for last in lasts if last is not None) < first:
+                return f"no such row comes behind that of line {other.line}, whose cycle is {first} at least"
+    return None
+
+
+def why_count_is_certain(count: Count, only: Only, nodes: int | None) -> str | None:
+    """Why a comparison holds of the rows of each trace, or of none; of those with so many nodes where they are known."""
+    looked_at = (only.nodes or frozenset(range(cli.MAX_NODES))) & frozenset(range(nodes or cli.MAX_NODES))
+    seen_kinds = count.pattern.kinds & (only.kinds or count.pattern.kinds)
+    least, most = 0, None
+    if End.kind in seen_kinds and (not count.span or cover([count.span], [LIMITS])):
+        least = len(count.pattern.certain_nodes() & looked_at & frozenset(range(nodes or 1)))
+    if seen_kinds <= {End.kind, Stop.kind}:  # of each a node has one at most
+        most = len(seen_kinds) * len(count.pattern.nodes & looked_at)
+    outcomes = {
+        COMPARISONS[count.comparison](number, count.wanted)
+        for number in {least, max(least, count.wanted - 1), max(least, count.wanted), max(least, count.wanted + 1), most or 0}
+        if number >= least and (most is None or number <= most)
+    }
+    if len(outcomes) == 2:
+        return None
+    what = f"at least {least}" if most is None else f"{least}" if least == most else f"{least} to {most}"
+    return f"each trace has {what} such rows, so it {'cannot fail' if True in outcomes else 'cannot be met'}"
 
 
 def without_comment(line: str) -> str:
@@ -296,9 +345,17 @@ def expression_of(text: str) -> re.Pattern[bytes]:
         found = re.compile(text.encode("latin-1"), re.MULTILINE)
     except (re.error, UnicodeEncodeError, OverflowError) as fault:
         raise ValueError(f"no regular expression: {fault}") from None
-    if found.search(b""):
+    if found.search(b"") and all(found.search(text) for text in probes(found.pattern)):
         raise ValueError("the expression matches nothing at all, so that each text has it")
     return found
+
+
+def probes(expression: bytes) -> Iterator[bytes]:
+    """Texts of which an expression that can fail most likely does not match one: single bytes, and what stands in it."""
+    yield from (bytes([byte]) for byte in range(256))
+    parts = re.findall(rb"[A-Za-z0-9 _:=,;<>-]+", expression)
+    for part in [*parts, b"".join(parts), b" ".join(parts)]:
+        yield from (part, b"a" + part, part + b"\n", b"a" + part + b"\n")
 
 
 def node_of(digits: str) -> int:

@@ -12,7 +12,7 @@ import itertools
 from collections.abc import Callable, Iterator, Mapping, Sequence
 from typing import NamedTuple
 
-from avrora_tools import hearing, scenarios, traces
+from avrora_tools import hearing, scenarios, states, traces
 
 BLOCK = 1 << 16  # bytes
 
@@ -55,7 +55,7 @@ def plain(place: Place) -> Found:
 def resumed(place: Place) -> Found:
     """Cut at the end of an epoch that the scenario's text decides: `head`, and then `resume` from what `save` wrote. A run
     that ends within its first epoch has nothing to compare."""
-    ends = (place.read.cycles - 1) // traces.EPOCH
+    ends = (place.read.cycles - 1) // states.EPOCH
     if ends < 1:
         return Found(None, 0)
     epoch = str(1 + int.from_bytes(hashlib.sha256(place.text.encode()).digest()[:8], "big") % ends)

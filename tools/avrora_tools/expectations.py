@@ -21,14 +21,18 @@ from avrora_tools.cases import (
     Golden,
     Lines,
     Never,
+    Only,
     Statement,
     Text,
     read_case,
+    why_count_is_certain,
 )
 from avrora_tools.errors import BadInput, CannotWork, Status, ToolError
-from avrora_tools.events import TRACED, Serial, event_of
-from avrora_tools.patterns import EVERY, Extent, Span
+from avrora_tools.events import KINDS, TRACED, Serial, event_of
+from avrora_tools.fields import EVERY, Span, cover
+from avrora_tools.patterns import Extent, Place
 from avrora_tools.scenarios import BYTE_TIME, MAX_WINDOW, Scenario
+from avrora_tools.wholeness import Lacking
 
 __all__ = ["Case", "Golden", "Outcome", "RUNS", "check", "read_case", "run_case"]
 
@@ -49,6 +53,14 @@ class Outcome(NamedTuple):
     rows: int
     expectations: int
     status: Status = Status.GOOD
+
+
+class NoRoom(BadInput):
+    """A row that is never to come has no room between those that were found about it: so in this trace, and not in each."""
+
+    def __init__(self, path: str, line: int, why: str) -> None:
+        super().__init__(f"{path}, line {line}: {why}, where the rows about it were found")
+        self.place = f"{path}, line {line}"
 
 
 class Unmet(Exception):
@@ -92,12 +104,17 @@ class Near(NamedTuple):
 
 
 class Gap(NamedTuple):
-    """Where a row was looked for that is never to come: from the cycle of the row found above it to that of the one found
-    below it, None where it is the trace's end."""
+    """Where a row was looked for that is never to come: between the row found above it and the one found below it, None where
+    these are the trace's ends; and what was expected below."""
 
     never: Never
-    first: int
-    last: int | None
+    above: traces.TraceRow | None
+    below: traces.TraceRow | None
+    expected: Expected | None
+
+    @property
+    def base(self) -> int:
+        return self.above[0] if self.above else 0
 
 
 class Watcher(Protocol):
@@ -138,7 +155,7 @@ class Sequence:
         expected = self.expected
         if expected:
             if expected.pattern.matches(cycle, node, event, self.base):
-                self.gaps += [Gap(never, self.base, cycle) for never in self.nevers]
+                self.gaps += [Gap(never, self.found, row, expected) for never in self.nevers]
                 self.base, self.found = cycle, row
                 self.begin(self.step + 1)
                 return
@@ -160,7 +177,7 @@ class Sequence:
                 report.details.append(f"so {behind} more, expected behind it, {'was' if behind == 1 else 'were'} not looked for")
             self.reports.append(report)
         else:
-            self.gaps += [Gap(never, self.base, None) for never in self.nevers]
+            self.gaps += [Gap(never, self.found, None, None) for never in self.nevers]
         return self.reports + list(self.unwanted.values())
 
     def missing(self, expected: Expected, what: str) -> Report:
@@ -382,14 +399,15 @@ def check(
     name: str = "the trace",
     ended: Ended | None = None,
     window: range | None = None,
+    lacking: Lacking | None = None,
 ) -> Outcome:
     """Whether a trace, a file or an iterable of bytes, meets the case: all that is not met, or none. With `save` golden
     traces are written anew, whatever they were, unless another expectation is not met. `ended` is called behind the
     last row; `window` has the cycles in which the run traced instructions, where they are known otherwise than by its
-    rows. Raises BadInput where the trace is not whole, or can never meet what is expected."""
+    rows; `lacking` finds rows that are missing, where no simulator has just made them. Raises BadInput where the trace is not whole, or can never meet what is expected."""
     blocks = traces.blocks_of(cast(BinaryIO, source)) if hasattr(source, "read") else iter(source)
     # A case may expect what a scenario's byte time allows and another's does not.
-    trace = traces.Trace(blocks, name, traces.Form.WHOLE, least_gap=BYTE_TIME.start)
+    trace = traces.Trace(blocks, name, traces.Form.WHOLE, least_gap=BYTE_TIME.start, lacking=lacking)
     looked = 0
     gaps: list[Gap] = []
     failures: list[str] = []
@@ -493,22 +511,42 @@ def refuse_impossible(case: Case, extent: Extent) -> None:
         if kind in TRACED and extent.window is None:
             raise BadInput(f"{name}: `only` names {kind}: {extent.why_not(kind)}")
     for statement in case.statements:
-        if why := why_impossible(statement, extent):
+        if why := why_impossible(statement, extent, Only(case.nodes, case.kinds)):
             raise BadInput(f"{name}, line {statement.line}: {why}")
 
 
 def refuse_gaps(case: Case, extent: Extent, gaps: list[Gap]) -> None:
-    """Raises BadInput where the rows that were found leave no room between them for one that was never to come."""
-    for never, first, last in gaps:
-        if why := never.pattern.why_not(extent, Span(first, extent.limit if last is None else last), first):
-            where = f"{files.shown(case.path)}, line {never.line}"
-            raise BadInput(f"{where}: {why}, where the rows about it were found")
+    """Raises NoRoom where the rows that were found leave no room between them for one that was never to come."""
+    for gap in gaps:
+        if why := why_no_room(case, extent, gap):
+            raise NoRoom(files.shown(case.path), gap.never.line, why)
 
 
-def why_impossible(statement: Statement, extent: Extent) -> str:
-    """Why no row can meet a statement, whatever its place; "" where one may."""
+def why_no_room(case: Case, extent: Extent, gap: Gap) -> str:
+    pattern, span = gap.never.pattern, Span(gap.base, gap.below[0] if gap.below else extent.limit)
+    if why := pattern.why_not(extent, span, gap.base):
+        return why
+    kinds = case.kinds or KINDS.keys()
+    if not pattern.has_room(extent, place_of(gap.above), place_of(gap.below), gap.base, list(kinds)):
+        return "no such row can stand between two others"
+    if gap.expected and gap.expected.most is None:
+        other = gap.expected.pattern
+        cycles = [both for one in pattern.spans(gap.base) if (both := one.both(span))]
+        if other.nodes >= pattern.nodes and other.covers_events(pattern) and cover(other.spans(gap.base), cycles):
+            return f"such a row is the one that line {gap.expected.line} expects"
+    return ""
+
+
+def place_of(row: traces.TraceRow | None) -> Place | None:
+    return Place(row[0], row[1], row[2].rank) if row else None
+
+
+def why_impossible(statement: Statement, extent: Extent, only: Only) -> str:
+    """Why no row can meet a statement, whatever its place, or why each trace meets it; "" where neither is so."""
     if isinstance(statement, Expected):
         return statement.pattern.why_not(extent)
+    if isinstance(statement, Count) and (why := why_count_is_certain(statement, only, extent.nodes)):
+        return why
     if isinstance(statement, (Never, Count)):
         return statement.pattern.why_not(extent, statement.span or EVERY)
     if isinstance(statement, (Text, Lines)) and statement.node >= extent.nodes:
@@ -537,7 +575,7 @@ def run_case(case: Case, avrora: str, save: bool = False, timeout: float | None 
         raise BadInput(f"{files.shown(case.path)}: no run, node or trace says where the rows come from")
     if case.source[0] == "trace":
         path = os.path.join(case.folder, case.source[1])
-        return check(case, traces.file_blocks(path), save, files.shown(path))
+        return check(case, traces.file_blocks(path), save, files.shown(path), lacking=Lacking())
     words = [avrora, *case.source]
     with tempfile.TemporaryFile() as errors:
         streams = {"stdin": subprocess.DEVNULL, "stdout": subprocess.PIPE, "stderr": errors}

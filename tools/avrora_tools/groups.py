@@ -15,6 +15,7 @@ class Groups:
 
     def __init__(self) -> None:
         self.running: set[subprocess.Popen[bytes]] = set()
+        self.takes_no_more = False  # what is started is ended at once
 
     @contextlib.contextmanager
     def started(self, words: Sequence[str], **options: Any) -> Iterator[subprocess.Popen[bytes]]:
@@ -27,10 +28,22 @@ class Groups:
         with process:
             self.running.add(process)
             try:
+                if self.takes_no_more:
+                    end(process)
                 yield process
             finally:
                 end(process)
                 self.running.discard(process)
+
+    @contextlib.contextmanager
+    def ended(self) -> Iterator[None]:
+        """Ends all groups, and each that another thread starts within the block, which waits for these threads."""
+        self.takes_no_more = True
+        self.end_all()
+        try:
+            yield
+        finally:
+            self.takes_no_more = False
 
     def end_all(self) -> None:
         """Ends all groups, also those of other threads, which the terminal's signals do not reach."""

@@ -2,7 +2,7 @@
 import collections
 from collections.abc import Sequence
 
-from avrora_tools import traces
+from avrora_tools import states, traces
 from avrora_tools.errors import BadInput
 from avrora_tools.events import NOTHING, Event, Heard, Sent, Stop
 from avrora_tools.scenarios import Air, OnAir, Scenario, answer
@@ -97,7 +97,7 @@ class Samples:
     def refuse_rest(self, trace: traces.Trace, cycle: int) -> None:
         """Raises BadInput where what a sample heard may have been sent before the trace begins: where it may be that of
         `resume`, from a state that is not named, of an epoch's end before its first row."""
-        epoch = (trace.first_row or 0) // traces.EPOCH * traces.EPOCH
+        epoch = (trace.first_row or 0) // states.EPOCH * states.EPOCH
         if epoch and not self.has_state and epoch > cycle - self.life:
             raise BadInput(
                 f"{trace.name}: in cycle {cycle} a sample hears what no row sent, and the first row is of cycle "

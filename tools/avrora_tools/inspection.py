@@ -1,11 +1,22 @@
 """What a program's ELF file tells of a node's memory: its variables, its call chain, and the room that its stack has left."""
 import fnmatch
-from collections.abc import Iterator, Sequence
+import itertools
+from collections.abc import Iterable, Iterator, Sequence
 
 from avrora_tools.programs import Program, vector_name
-from avrora_tools.stacks import HANDLER_PREFIX, Unwinder, data_end, lowest_used
-from avrora_tools.states import DATA_END, Node
+from avrora_tools.stacks import HANDLER_PREFIX, Frame, Unwinder, data_end, lowest_used
+from avrora_tools.states import DATA_END, SRAM_FIRST, Node
 from avrora_tools.variables import Variable, place_in, variables_of
+
+
+MOST_CALLERS, LAST_CALLERS = 40, 10  # lines of callers that are shown: the inner ones, and the outer ones
+
+
+def folded(lines: Iterable[tuple[str, str]]) -> Iterator[tuple[str, str]]:
+    """Equal lines one behind another as one."""
+    for (name, text), group in itertools.groupby(lines):
+        count = sum(1 for _ in group)
+        yield name, f"{text}, {count:,} times" if count > 1 else text
 
 
 class View:
@@ -25,20 +36,39 @@ class View:
     def rows(self, node: Node) -> Iterator[tuple[str, str]]:
         """The call chain and the room of the stack, as a name and a text each."""
         chain = self.unwinder.chain(node)
-        for number, frame in enumerate(chain.frames[1:]):
-            word = "interrupts" if frame.interrupted else "called by"
-            # A caller is shown where it calls.
-            at = frame.word if frame.interrupted else frame.word - 1
-            yield word, f"{frame.word:04X} {self.program.place(at)}"
+        lines = list(folded(self.caller(frame) for frame in chain.frames[1:]))
+        yield from lines[:MOST_CALLERS]
+        if len(lines) > MOST_CALLERS + LAST_CALLERS:
+            yield "", f"and {len(lines) - MOST_CALLERS - LAST_CALLERS:,} more lines"
+        yield from lines[max(MOST_CALLERS, len(lines) - LAST_CALLERS) :]
         if chain.end:
             yield "", f"and no further: {chain.end}"
         if self.end_of_variables is not None:
+            if overflow := self.overflow(node["SP"], self.end_of_variables):
+                yield "stack", overflow
             yield "stack low", self.lowest(node, self.end_of_variables)
+
+    def caller(self, frame: Frame) -> tuple[str, str]:
+        """A function that has not returned; what called is shown where it calls."""
+        at = frame.word if frame.interrupted else frame.word - 1
+        return "interrupts" if frame.interrupted else "called by", f"{frame.word:04X} {self.program.place(at)}"
+
+    def overflow(self, stack: int, end: int) -> str | None:
+        """What a stack lies in that has grown into the variables, or below them. At reset it is nowhere yet."""
+        if stack == 0 or stack + 1 >= end:
+            return None
+        if stack < SRAM_FIRST:
+            return f"OVERFLOW: SP {stack:04X} lies in the registers, {end - stack - 1:,} bytes below the end of the variables"
+        name = next((one.name for one in self.variables() if one.address <= stack + 1 < one.end), None)
+        where = f"`{name}`" if name else "the variables"
+        return f"OVERFLOW: SP lies in {where}, {end - stack - 1:,} bytes below the end of the variables, {end:04X}"
 
     def lowest(self, node: Node, end: int) -> str:
         low = lowest_used(node.data, end)
         if low is None:
             return f"nothing above the variables, which end at {end:04X}, was ever written but 0: {DATA_END - end:,} bytes left"
+        if low == end:
+            return f"reached {low:04X}, where the variables end: nothing is left above them"
         return f"reached {low:04X} at least; {low - end:,} bytes left above the variables, which end at {end:04X}"
 
     def has(self, pattern: str) -> bool:

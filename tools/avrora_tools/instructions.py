@@ -7,7 +7,7 @@ from typing import NamedTuple
 
 WORDS = 0x10000  # of program memory
 
-SLEEP = "sleep"
+SLEEP, RETI = "sleep", "reti"
 CALLS = ("call", "rcall", "icall")
 
 
@@ -221,6 +221,14 @@ class Encoding:
             "0x[0-9A-F]{4}" if part == SECOND else OPERANDS[part].texts if part in OPERANDS else re.escape(part)
             for part in parts
         )
+
+    def texts_of(self, operand: str) -> list[str]:
+        """All texts of an operand, which is of one field or none."""
+        letters = [letter for letter in operand if letter in self.fields]
+        if not letters:
+            return [operand]
+        count = 1 << len(self.fields[letters[0]])
+        return [operand.replace(letters[0], OPERANDS[letters[0]].shown(bits)) for bits in range(count)]
 
     def texts(self) -> str:
         """A regular expression of all its texts."""

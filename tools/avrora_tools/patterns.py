@@ -1,62 +1,22 @@
-"""Patterns of rows, as cases of `expect` have them: a row with `*`, ranges, tolerances and sets as parts.
+"""Patterns of rows, as cases of `expect` have them: a row with `*`, ranges, tolerances and sets as parts. A pattern is a set of
+rows: what it says is judged by which rows are in it, and not by how it is spelled.
 
 One that no row of a trace can match is refused when it is read.
 """
 import re
-from collections.abc import Callable
+from collections.abc import Sequence
 from typing import NamedTuple
 
 from avrora_tools.cli import MAX_NODES
-from avrora_tools.events import (
-    FINAL_STATES,
-    FIRST_VECTOR,
-    KINDS,
-    LAST_VECTOR,
-    MAX_AGE,
-    MAX_INSTRUCTIONS,
-    TRACED,
-    End,
-    Event,
-)
-from avrora_tools.instructions import TABLE
+from avrora_tools.events import KINDS, TRACED, End, Event
+from avrora_tools.fields import ANY, EVERY, SHAPES, Field, Span, Taken, cover, members, span_of
 from avrora_tools.scenarios import MAX_CYCLES
-from avrora_tools.states import STOPS
 
-ANY = "*"
+
+
 MOST_KNOWN = 50_000  # events whose match is kept
 LAST_CYCLE = max(MAX_CYCLES.values())
-NUMBER = "[0-9]+(?:_[0-9]+)*"
-
-# Whether a part of a row is one that a pattern allows.
-Test = Callable[[str], bool]
-
-
-class Span(NamedTuple):
-    """Whole numbers from the first to the last; without a last one they do not end."""
-
-    first: int
-    last: int | None
-
-    def has(self, number: int) -> bool:
-        return self.first <= number and (self.last is None or number <= self.last)
-
-    def meets(self, first: int, last: int) -> bool:
-        return self.first <= last and (self.last is None or self.last >= first)
-
-    def both(self, other: "Span") -> "Span | None":
-        """The numbers that are in both; None where none is."""
-        lasts = [span.last for span in (self, other) if span.last is not None]
-        common = Span(max(self.first, other.first), min(lasts, default=None))
-        return None if common.last is not None and common.last < common.first else common
-
-    def later(self, by: int) -> "Span":
-        return Span(self.first + by, None if self.last is None else self.last + by)
-
-    def __str__(self) -> str:
-        return f"{self.first}..{'' if self.last is None else self.last}"
-
-
-EVERY = Span(0, None)
+LIMITS = Span(1, LAST_CYCLE)  # the cycles in which traces end
 
 
 class Extent(NamedTuple):
@@ -89,110 +49,6 @@ class Extent(NamedTuple):
         return f"{kind} rows stand in the window alone, which the trace has in cycles {self.window}"
 
 
-def whole(text: str, base: int = 10) -> int:
-    """A number as it stands in a pattern: decimal digits may be grouped by _."""
-    if base == 10 and len(text) > 1 and text[0] == "0":
-        raise ValueError(f"{text} has leading zeros, and no number of a row has them")
-    return int(text.replace("_", "") if base == 10 else text, base)
-
-
-def span_of(word: str) -> Span:
-    """The numbers that A..B, ..B, A.., C+-D or C stand for."""
-    match = re.fullmatch(f"({NUMBER})?\\.\\.({NUMBER})?", word)
-    if match and word != "..":
-        span = Span(whole(match[1] or "0"), whole(match[2]) if match[2] else None)
-    else:
-        match = re.fullmatch(rf"({NUMBER})(?:\+-({NUMBER}))?", word)
-        if not match:
-            raise ValueError(f"{word} is no A..B, ..B, A.., C+-D")
-        middle, off = whole(match[1]), whole(match[2] or "0")
-        span = Span(max(0, middle - off), middle + off)
-    if span.last is not None and span.last < span.first:
-        raise ValueError(f"{word} has no number in it: the lower one comes first")
-    return span
-
-
-def members(word: str) -> list[str] | None:
-    """The words of a set {X,Y}; None where the word is none."""
-    if not (word[0] == "{" and word[-1] == "}"):
-        return None
-    found = word[1:-1].split(",")
-    if not all(found):
-        raise ValueError(f"{word} is no set such as {{X,Y}}")
-    return found
-
-
-class Numbers(NamedTuple):
-    """A part of a row that is a number: decimal, or of so many hexadecimal digits."""
-
-    first: int
-    last: int
-    digits: int = 0
-
-    def read(self, text: str) -> int:
-        """A number in a pattern, spelled as a row has it."""
-        if self.digits:
-            if not re.fullmatch(f"[0-9A-F]{{{self.digits}}}", text):
-                raise ValueError(f"{text} is not {self.digits} upper-case hexadecimal digits")
-            return int(text, 16)
-        if not re.fullmatch(NUMBER, text):
-            raise ValueError(f"{text} is no number")
-        return whole(text)
-
-    def span(self, word: str) -> Span:
-        if not self.digits:
-            return span_of(word)
-        first, dots, last = word.partition("..")
-        if not dots:
-            return Span(self.read(word), self.read(word))
-        if word == "..":
-            raise ValueError(f"{word} is no A..B, ..B, A..")
-        span = Span(self.read(first) if first else 0, self.read(last) if last else None)
-        if span.last is not None and span.last < span.first:
-            raise ValueError(f"{word} has no number in it: the lower one comes first")
-        return span
-
-    def test(self, word: str) -> Test | None:
-        if word == ANY:
-            return None
-        span = self.span(word)
-        if not span.meets(self.first, self.last):
-            low, high = (f"{n:0{self.digits}X}" if self.digits else f"{n:,}" for n in (self.first, self.last))
-            raise ValueError(f"{word} is not {low} to {high}" if low != high else f"{word} is not {low}")
-        base = 16 if self.digits else 10
-        return lambda text: span.has(int(text, base))
-
-
-class Words(NamedTuple):
-    """A part of a row that is one of some words, by a regular expression."""
-
-    form: str
-
-    def test(self, word: str) -> Test | None:
-        if word == ANY:
-            return None
-        if not re.fullmatch(self.form, word):
-            raise ValueError(f"{word} cannot stand there")
-        return lambda text: text == word
-
-
-Field = Numbers | Words
-
-BYTE, ADDRESS = Numbers(0, 0xFF, 2), Numbers(0, 0xFFFF, 4)
-ZERO, ONE, TWO = (Numbers(n, n) for n in range(3))
-
-# The parts that stand behind the kind of a row, in each way that they may.
-SHAPES: dict[str, list[list[Field]]] = {
-    "instr": [[ADDRESS, *map(Words, encoding.words())] for encoding in TABLE],
-    "enter": [[Numbers(FIRST_VECTOR, LAST_VECTOR, 4), ADDRESS]],
-    "serial": [[BYTE]],
-    "sent": [[BYTE]],
-    "heard": [[ZERO, Numbers(0, 0, 2), ZERO], [ONE, BYTE, Numbers(0, MAX_AGE)], [TWO, BYTE, ZERO]],
-    "stop": [[ADDRESS, *map(Words, cause.split())] for cause in STOPS],
-    "end": [[Numbers(0, MAX_INSTRUCTIONS), Words("|".join(FINAL_STATES))]],
-}
-
-
 class Refused(ValueError):
     """Why no row of a shape matches a pattern, and at which of its parts behind the kind."""
 
@@ -201,36 +57,47 @@ class Refused(ValueError):
         self.place = place
 
 
-def test_of_set(field: Field, words: list[str]) -> Test | None:
-    """The test of a part that is one of some words, of which the part can be one at least."""
-    tests: list[Test] = []
+class Shape(NamedTuple):
+    """What a pattern takes of the rows of one shape: its number in SHAPES, and what it takes of each part."""
+
+    number: int
+    parts: list[Taken]
+
+
+def taken_of(field: Field, words: list[str]) -> Taken:
+    """What some words take of a part, of which the part can be one at least."""
+    found: list[Taken] = []
     refusal = ValueError("a set of nothing")
     for word in words:
         try:
-            test = field.test(word)
+            found.append(field.taken(word))
         except ValueError as fault:
             refusal = fault
-            continue
-        if test is None:
-            return None
-        tests.append(test)
-    if not tests:
+    if not found:
         raise refusal
-    return lambda text: any(test(text) for test in tests)
+    return found[0] if len(found) == 1 else field.union(found)
 
 
-def tests_of(shape: list[Field], words: list[str], is_open: bool) -> list[Test | None]:
-    """The tests of the words of a pattern as parts of a shape. Raises Refused where no row matches them."""
-    tests: list[Test | None] = []
+def parts_of(shape: list[Field], words: list[str], is_open: bool) -> list[Taken]:
+    """What the words of a pattern take of the parts of a shape. Raises Refused where no row matches them."""
+    found: list[Taken] = []
     for place, (field, word) in enumerate(zip(shape, words)):
         try:
-            tests.append(test_of_set(field, members(word) or [word]))
+            found.append(taken_of(field, members(word) or [word]))
         except ValueError as fault:
             raise Refused(str(fault), place) from None
     if len(words) > len(shape) or len(words) < len(shape) and not is_open:
         parts = f"{len(shape)} part{'s' * (len(shape) != 1)} stand{'s' * (len(shape) == 1)} behind the kind"
         raise Refused(f"{parts}, and not {len(words)}; a last * stands for any number of them", len(words))
-    return tests
+    return found + [field.taken(ANY) for field in shape[len(words) :]]
+
+
+class Place(NamedTuple):
+    """Where a row stands: its cycle, its node, and its rank among the rows of a node's cycle. Places rise in a trace."""
+
+    cycle: int
+    node: int
+    rank: int
 
 
 class Pattern:
@@ -275,29 +142,28 @@ class Pattern:
         if word == ANY:
             return everything
         spans = [span_of(one) for one in members(word) or [word]]
-        found = frozenset(node for node in everything if any(span.has(node) for span in spans))
-        if not found:
+        if any(span.first >= MAX_NODES for span in spans):
             raise ValueError(f"{word}: nodes are 0 to {MAX_NODES - 1}")
-        return found
+        return frozenset(node for node in everything if any(span.has(node) for span in spans))
 
-    def read_shapes(self, word: str, rest: list[str]) -> dict[str, list[list[Test | None]]]:
+    def read_shapes(self, word: str, rest: list[str]) -> dict[str, list[Shape]]:
         """By kind what the parts behind it may be. Each word of a set must be one that some row has."""
         for place, part in enumerate(rest):
             for one in members(part) or []:
                 self.shapes_of(word, [*rest[:place], one, *rest[place + 1 :]])
         return self.shapes_of(word, rest)
 
-    def shapes_of(self, word: str, rest: list[str]) -> dict[str, list[list[Test | None]]]:
+    def shapes_of(self, word: str, rest: list[str]) -> dict[str, list[Shape]]:
         kinds = list(KINDS) if word == ANY else members(word) or [word]
-        found: dict[str, list[list[Test | None]]] = {}
+        found: dict[str, list[Shape]] = {}
         refusals: list[tuple[int, str]] = []
         for kind in kinds:
             if kind not in KINDS:
                 raise ValueError(f"no row has the kind {kind}")
-            for shape in SHAPES[kind]:
+            for number, shape in enumerate(SHAPES[kind]):
                 try:
-                    tests = tests_of(shape, rest, self.is_open)
-                    found.setdefault(kind, []).append(tests)
+                    parts = parts_of(shape, rest, self.is_open)
+                    found.setdefault(kind, []).append(Shape(number, parts))
                 except Refused as fault:
                     refusals.append((fault.place, f"{kind}: {fault}"))
             if kind not in found and word != ANY:
@@ -322,32 +188,64 @@ class Pattern:
     def says(self, event: Event) -> bool:
         words = event.text.split()[1:]
         return any(
-            all(test is None or test(word) for test, word in zip(tests, words)) and len(tests) <= len(words)
-            for tests in self.shapes.get(event.kind, ())
+            len(shape.parts) == len(words) and all(part.has(word) for part, word in zip(shape.parts, words))
+            for shape in self.shapes.get(event.kind, ())
         )
 
     def is_kin(self, node: int, event: Event) -> bool:
         """Whether a row has the node and the kind of this one, as far as the pattern names them."""
         return node in self.nodes and event.kind in self.kinds
 
-    @property
-    def is_any_rest(self) -> bool:
-        """Whether it says nothing of what stands behind the kind."""
-        return self.is_open and all(word == ANY for word in self.rest[1:])
-
-    @property
-    def is_any_row(self) -> bool:
-        return self.is_any_rest and self.kinds == set(KINDS) and len(self.nodes) == MAX_NODES and self.is_any_cycle
-
-    @property
-    def is_any_cycle(self) -> bool:
-        return self.cycles == [EVERY] and not self.is_relative
-
     def covers(self, other: "Pattern") -> bool:
-        """Whether each row that the other one matches is matched by this one, as far as their texts tell."""
-        says_all = self.is_any_rest and self.kinds >= other.kinds
-        says_all = says_all or (self.rest, self.is_open) == (other.rest, other.is_open)
-        return says_all and self.is_any_cycle and self.nodes >= other.nodes
+        """Whether each row that the other one matches is matched by this one, both with one row found before them."""
+        if not self.nodes >= other.nodes or not self.covers_events(other):
+            return False
+        if self.is_relative == other.is_relative:
+            return cover(self.cycles, other.cycles)
+        return cover(self.cycles, [EVERY])
+
+    def covers_events(self, other: "Pattern") -> bool:
+        """Whether what rows of the other one say is what rows of this one may say."""
+        return all(
+            any(
+                mine.number == shape.number
+                and all(
+                    field.covers(part, whole_part)
+                    for field, part, whole_part in zip(SHAPES[kind][shape.number], mine.parts, shape.parts)
+                )
+                for mine in self.shapes.get(kind, ())
+            )
+            for kind, shapes in other.shapes.items()
+            for shape in shapes
+        )
+
+    def certain_nodes(self) -> frozenset[int]:
+        """The nodes whose end rows are matched by it in each trace, whatever they say."""
+        is_certain = self.covers_events(ANY_END) and cover(self.cycles, [EVERY if self.is_relative else LIMITS])
+        return self.nodes if is_certain else frozenset()
+
+    def spans(self, base: int) -> list[Span]:
+        """The cycles that may be, where a row of the cycle `base` was found before."""
+        return [span.later(base) for span in self.cycles] if self.is_relative else self.cycles
+
+    def has_room(self, extent: "Extent", after: Place | None, before: Place | None, base: int, kinds: Sequence[str]) -> bool:
+        """Whether a row of these kinds that it matches may stand behind a place and before another; None where these are the
+        ends of the trace."""
+        low, high = after or Place(0, -1, 0), before or Place(extent.limit, MAX_NODES, 0)
+        nodes = [node for node in self.nodes if node < extent.nodes]
+        for kind in self.kinds.intersection(kinds):
+            room, rank = extent.of(kind), KINDS[kind].rank
+            for span in self.spans(base):
+                both = span.both(Span(low.cycle, high.cycle))
+                both = both.both(room) if both and room else None
+                if both is None or both.last is None:
+                    continue
+                if max(both.first, low.cycle + 1) <= min(both.last, high.cycle - 1):
+                    return True
+                places = [Place(cycle, node, rank) for cycle in {both.first, both.last} for node in nodes]
+                if any(low < place < high for place in places):
+                    return True
+        return False
 
     def why_not(self, extent: Extent, within: Span = EVERY, base: int | None = None) -> str:
         """Why no row of a trace in the cycles `within` matches, or none of a node, a kind or a span of cycles that the
@@ -358,7 +256,7 @@ class Pattern:
             return f"the trace has no node {node}, but nodes 0 to {extent.nodes - 1}"
         spans = self.cycles
         if self.is_relative:
-            spans = [EVERY] if base is None else [span.later(base) for span in self.cycles]
+            spans = [EVERY] if base is None else self.spans(base)
         for span in spans:
             if not span.both(within):
                 return f"cycles {span} are not within {within}"
@@ -370,3 +268,6 @@ class Pattern:
             if not any(extent.allows(kind, span, within) for kind in self.kinds):
                 return extent.why_not(min(self.kinds, key=lambda kind: (kind in TRACED, kind))) + behind
         return ""
+
+
+ANY_END = Pattern("* * end *")

@@ -11,7 +11,7 @@ from typing import NamedTuple
 from avrora_tools import files, programs
 from avrora_tools.errors import BadInput
 from avrora_tools.events import Enter, Event, Instr, Sent, Stop
-from avrora_tools.instructions import CALLS, SLEEP
+from avrora_tools.instructions import CALLS, RETI, SLEEP
 from avrora_tools.scenarios import Scenario
 from avrora_tools.traces import Trace
 
@@ -73,6 +73,9 @@ class TraceReader:
         self.owners: dict[int, Owner] = {}
         self.calls: collections.Counter[Call] = collections.Counter()
         self.calling: dict[int, int | str] = {}  # by node what called, until the callee's first row
+        # By node the calls of whose callee an interrupt came first: the callee's word, and what called.
+        self.interrupted: dict[int, list[tuple[int, int | str]]] = collections.defaultdict(list)
+        self.returned: set[int] = set()  # nodes whose last row is RETI
         self.sends: collections.Counter[int] = collections.Counter()
         self.early_sends: collections.Counter[int] = collections.Counter()
         self.late_sends: collections.Counter[int] = collections.Counter()
@@ -89,6 +92,8 @@ class TraceReader:
             self.go_on(cycle)
             self.own(node, Owner(cycle, event))
             spent.vector[event.vector].count += 1
+            if (caller := self.calling.get(node)) is not None:
+                self.interrupted[node].append((event.back, caller))
             self.calling[node] = programs.vector_name(event.vector)
         elif isinstance(event, Stop):
             if self.end is None:
@@ -140,12 +145,25 @@ class TraceReader:
 
     def note_call(self, node: int, event: Instr) -> None:
         caller = self.calling.pop(node, None)
+        if node in self.returned:
+            self.returned.discard(node)
+            caller = self.called_before(node, event.address)
         if isinstance(caller, str) and event.address in programs.VECTORS:
             self.calling[node] = caller  # the jump at the vector
         elif caller is not None:
             self.calls[node, caller, event.address] += 1
         if event.instruction.partition(" ")[0] in CALLS:
             self.calling[node] = event.address
+        elif event.instruction == RETI and self.interrupted[node]:
+            self.returned.add(node)
+
+    def called_before(self, node: int, word: int) -> int | str | None:
+        """What called the code at a word, before the interrupt that has returned there."""
+        waiting = self.interrupted[node]
+        for place in reversed(range(len(waiting))):
+            if waiting[place][0] == word:
+                return waiting.pop(place)[1]
+        return None
 
     def bound(self, limit: int | None) -> int:
         """Sets the window's bounds to what they are known to be once all rows are read; `limit` is the trace's."""

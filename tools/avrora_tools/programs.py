@@ -94,6 +94,11 @@ class Program:
         line = self.line_at(word)
         return f"{name} {line}" if line else name
 
+    def has_instruction(self, word: int) -> bool:
+        """Whether an instruction of a function begins at a word."""
+        function = self.function_at(word)
+        return function is not None and word in self.instructions(function)
+
     def instructions(self, function: Function) -> Iterator[int]:
         """The word addresses of a function's instructions."""
         word = function.first

@@ -9,7 +9,7 @@ from avrora_tools.programs import Program
 from avrora_tools.states import DATA_END, SRAM_FIRST, Node
 from avrora_tools.variables import DATA_SPACE, reader
 
-MOST_FRAMES = 64
+MOST_FRAMES = (DATA_END - SRAM_FIRST) // 2  # more there is no room for
 HANDLER_PREFIX = "__vector_"
 
 # DWARF's numbers of registers on the AVR: r28 of the frame pointer Y, the stack pointer, the return address.
@@ -65,14 +65,16 @@ class Unwinder:
         stack, y = node["SP"], node["r28"] | node["r29"] << 8
         while len(frames) < MOST_FRAMES:
             at = frames[-1]
-            function = self.program.function_at(at.word)
+            # What called is looked up by its call, as the next word may be that of another function, where the call does not
+            # return; what was interrupted, and the first one, by the next instruction.
+            is_caller = not at.interrupted and len(frames) > 1
+            word = at.word - 1 if is_caller else at.word
+            function = self.program.function_at(word)
             if function is None:
                 return Chain(frames, "no function is there")
             if function.name == "main":
                 return Chain(frames, "")
-            # What called is looked up by its last instruction; what was interrupted, and the first one, by the next.
-            word = at.word if at.interrupted or len(frames) == 1 else at.word - 1
-            found = self.frame(word, stack, y)
+            found = self.frame(word, stack, y, is_caller)
             if found is None:
                 return Chain(frames, "nothing says how its frame is laid out")
             frame, saved = found
@@ -87,10 +89,10 @@ class Unwinder:
             frames.append(Frame(back, is_handler))
         return Chain(frames, "more functions than are followed")
 
-    def frame(self, word: int, stack: int, y: int) -> tuple[int, dict[int, int]] | None:
+    def frame(self, word: int, stack: int, y: int, is_call: bool) -> tuple[int, dict[int, int]] | None:
         """The address of the low byte of a frame's return address, and by register where it was saved. In front of a return
         the frame is told by the pops that are left, else by the rules."""
-        pops = self.pops_before_return(word)
+        pops = None if is_call else self.pops_before_return(word)
         if pops is not None:
             return stack + pops + 2, {}
         rule = self.rule_at(word)

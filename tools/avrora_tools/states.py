@@ -7,6 +7,8 @@ from avrora_tools.errors import BadInput
 
 TITLE = "avrora state 1"
 
+EPOCH = 262_144  # cycles; states are those between two epochs
+
 SRAM_FIRST, DATA_END = 0x100, 0x1100
 IO_FIRST, IO_BYTES = 0x20, 0xE0
 

@@ -12,12 +12,10 @@ from typing import BinaryIO, NamedTuple
 from avrora_tools import files, terminal
 from avrora_tools.cli import MAX_NODES
 from avrora_tools.errors import BadInput
-from avrora_tools.events import KINDS, STOPPED, Care, End, Event, Events, Sent, Stop, event_of
+from avrora_tools.events import KINDS, NOTHING, STOPPED, Care, End, Event, Events, Heard, Sent, Stop, event_of
 from avrora_tools.scenarios import BYTE_TIME, MAX_CYCLES, MAX_WINDOW, Scenario
-from avrora_tools.states import State
-
-# An epoch has so many cycles: `head` and `save` end with one, and states are of its end.
-EPOCH = 262_144
+from avrora_tools.states import EPOCH, State
+from avrora_tools.wholeness import Lacking
 
 # A row: its cycle, its node, and what it says.
 TraceRow = tuple[int, int, Event]
@@ -56,18 +54,20 @@ class Texts(dict[str, Said]):
 
     def __init__(self, nodes: dict[str, int]) -> None:
         self.nodes, self.events = nodes, SEEN
+        self.tells_hearing = False  # whether what was heard is looked at
 
     def __missing__(self, text: str) -> Said:
         digits, _, event = text.partition(" ")
-        said = said_of(self.nodes[digits], self.events[event])
+        said = said_of(self.nodes[digits], self.events[event], self.tells_hearing)
         if len(self) >= self.MOST:
             self.clear()
         self[text] = said
         return said
 
 
-def said_of(node: int, event: Event) -> Said:
-    return node << RANK_BITS | event.rank, int(event.care), node, event
+def said_of(node: int, event: Event, tells_hearing: bool = False) -> Said:
+    is_told = tells_hearing and isinstance(event, Heard) and event.status != NOTHING
+    return node << RANK_BITS | event.rank, int(Care.MORE if is_told else event.care), node, event
 
 
 class Trace:
@@ -87,10 +87,12 @@ class Trace:
         state: State | None = None,
         epochs: int | None = None,
         least_gap: int | None = None,
+        lacking: Lacking | None = None,
     ) -> None:
         """`blocks` are the bytes of the trace, and `name` stands in messages. A `scenario` is the one that was run, a
         `state` the one from which `resume` ran on, `epochs` how many of them `head` wrote; `least_gap` is the least
-        distance of two sends of one node, where it is not the byte time of the scenario."""
+        distance of two sends of one node, where it is not the byte time of the scenario; `lacking` finds rows that are
+        missing, where the trace may be a part of one."""
         self.blocks, self.name, self.form = blocks, name, form
         self.scenario, self.state, self.epochs = scenario, state, epochs
         self.first = state.cycle if state else 0  # no row stands before it
@@ -108,13 +110,15 @@ class Trace:
         self.nodes = {str(node): node for node in range(self.most_nodes)}
         self.texts = Texts(self.nodes)
         self.stopped: set[int] = set()
+        self.lacking = lacking
+        self.texts.tells_hearing = lacking is not None and lacking.sends is not None
         self.remaining: Iterator[str] = iter(())  # what is left of the lines of the block
         for node, one in enumerate(state.nodes if state else ()):
             if one.stop():
                 self.note_stop(node)
 
     def __iter__(self) -> Iterator[TraceRow]:
-        texts, bound, traced = self.texts, self.bound, int(Care.TRACED)
+        texts, bound, traced, lacking = self.texts, self.bound, int(Care.TRACED), self.lacking
         # Of the row before: its cycle, the digits of that, and how many they are; its place in the cycle.
         cycle, digits, length, before = -1, " ", 0, -1
         window_end = -1
@@ -144,10 +148,13 @@ class Trace:
                 if care:
                     if care != traced:
                         self.note(line, cycle, node, event)
-                    elif cycle < window_end:
-                        self.last_traced = cycle
                     else:
-                        window_end = self.window_end_of(line, cycle)
+                        if cycle < window_end:
+                            self.last_traced = cycle
+                        else:
+                            window_end = self.window_end_of(line, cycle)
+                        if lacking:
+                            self.look_behind(lacking, line, cycle, node, event)
                 yield cycle, node, event
         self.finish()
 
@@ -180,6 +187,10 @@ class Trace:
 
     def fault(self, why: str, line: str) -> BadInput:
         return BadInput(f"{self.name}, line {self.number()}: {why}: {files.printable(line[:60])}")
+
+    def look_behind(self, lacking: Lacking, line: str, cycle: int, node: int, event: Event) -> None:
+        if why := lacking.before(cycle, node, event):
+            raise self.fault(f"rows are missing: {why}", line)
 
     def no_row(self, line: str) -> BadInput:
         parts = line[:LONGEST_ROW].split(" ", 3)
@@ -241,6 +252,8 @@ class Trace:
 
     def note(self, line: str, cycle: int, node: int, event: Event) -> None:
         """A row that says more than what happened."""
+        if self.lacking:
+            self.look_behind(self.lacking, line, cycle, node, event)
         if isinstance(event, Sent):
             if cycle - self.last_sent.get(node, -NEVER) < self.least_gap:
                 raise self.fault(f"node {node} sent less than {self.least_gap} cycles before", line)
@@ -301,6 +314,10 @@ class Trace:
                 f"{self.name}: it ends in cycle {self.limit:,}, and the scenario in cycle {self.scenario.cycles:,}: not its "
                 "trace"
             )
+        if self.lacking and (why := self.lacking.at_end(self.limit or 0, len(self.ended))):
+            raise BadInput(f"{self.name}: rows are missing: {why}")
+        if self.lacking and (doubt := self.lacking.doubt(self.first_row or 0)):
+            terminal.warn(f"{self.name}: {doubt}")
 
     def finish_of_scenario(self, scenario: Scenario) -> None:
         """The trace of a scenario, or of a window that the tool window made of it, ends and is traced where that is."""
@@ -378,6 +395,7 @@ def read(
     epochs: int | None = None,
     least_gap: int | None = None,
     prints: bool = False,
+    lacking: Lacking | None = None,
 ) -> Trace:
     """The trace in the file `name`, or in the standard input."""
     return Trace(
@@ -388,6 +406,7 @@ def read(
         state=state,
         epochs=epochs,
         least_gap=least_gap,
+        lacking=lacking,
     )
 
 

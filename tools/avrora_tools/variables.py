@@ -1,4 +1,5 @@
 """The variables of a program by their names, types and values, from the DWARF of its ELF file and a node's memory."""
+import math
 import struct
 from collections.abc import Callable, Iterator, Sequence
 from dataclasses import dataclass
@@ -14,6 +15,11 @@ DATA_SPACE = 0x800000  # where avr-gcc's ELF files put the data space
 # DWARF: the operation that gives an address, and how a base type is encoded.
 OP_ADDR = 0x03
 BOOLEAN, FLOAT, SIGNED, SIGNED_CHAR, UNSIGNED, UNSIGNED_CHAR = 0x02, 0x04, 0x05, 0x06, 0x07, 0x08
+SIGNED_FIXED, UNSIGNED_FIXED = 0x0D, 0x0E
+
+# Of floating-point numbers by their bytes: how `struct` reads them, how many digits tell one from the next, and how many bits
+# the fraction has.
+FLOATS = {4: ("<f", 9, 23), 8: ("<d", 17, 52)}
 
 MOST_ELEMENTS = 24  # of an array that are shown, runs of one value taken together
 MOST_DEPTH = 8
@@ -53,18 +59,41 @@ class Base:
     encoding: int
     is_text: bool = False  # plain `char`, and not a number of eight bits
 
-    def number(self, data: bytes) -> int:
-        return int.from_bytes(data, "little", signed=self.encoding in (SIGNED, SIGNED_CHAR))
+    @property
+    def is_signed(self) -> bool:
+        return self.encoding in (SIGNED, SIGNED_CHAR, SIGNED_FIXED)
 
     def shown(self, data: bytes, memory: Memory, depth: int = 0) -> str:
-        if self.encoding == FLOAT and self.size == 4:
-            return f"{struct.unpack('<f', data)[0]:g}"
-        value = self.number(data)
+        if self.encoding == FLOAT and self.size in FLOATS:
+            return float_text(data)
+        value = int.from_bytes(data, "little", signed=self.is_signed)
+        if self.encoding in (SIGNED_FIXED, UNSIGNED_FIXED):
+            return f"{value / (1 << self.fraction_bits()):.10g} (raw {value})"
         if self.encoding == BOOLEAN:
             return {0: "false", 1: "true"}.get(value, str(value))
+        if self.encoding not in (SIGNED, SIGNED_CHAR, UNSIGNED, UNSIGNED_CHAR):
+            return data.hex(" ").upper()
         if self.is_text and 0x20 <= value <= 0x7E:
             return f"{value} {chr(value)!r}"
         return str(value)
+
+    def fraction_bits(self) -> int:
+        """How many bits of a fixed-point number are its fraction, as avr-gcc has them."""
+        bits = 8 * self.size - self.is_signed
+        if "_Accum" not in self.name:
+            return bits
+        whole = 16 if "long long" in self.name else bits // 2 if not self.is_signed else (bits + 1) // 2
+        return bits - whole
+
+
+def float_text(data: bytes) -> str:
+    """A floating-point number, with as many digits as tell it from others; of no number its bits."""
+    form, digits, bits = FLOATS[len(data)]
+    value: float = struct.unpack(form, data)[0]
+    if math.isnan(value):
+        number = int.from_bytes(data, "little")
+        return f"{'-' * (number >> 8 * len(data) - 1)}nan(0x{number & (1 << bits) - 1:x})"
+    return f"{value:.{digits}g}"
 
 
 @dataclass(frozen=True)
@@ -73,9 +102,23 @@ class Enumeration:
     size: int
     values: tuple[tuple[int, str], ...]
 
+    @property
+    def is_signed(self) -> bool:
+        return any(value < 0 for value, _ in self.values)
+
+    def is_of_flags(self) -> bool:
+        """Whether each value is a single bit, or 0."""
+        return all(value >= 0 and value & value - 1 == 0 for value, _ in self.values)
+
     def shown(self, data: bytes, memory: Memory, depth: int = 0) -> str:
-        value = int.from_bytes(data, "little")
-        return dict(self.values).get(value, str(value))
+        value = int.from_bytes(data, "little", signed=self.is_signed)
+        names = {number: name for number, name in reversed(self.values)}
+        if value in names or not self.is_of_flags():
+            return names.get(value, str(value))
+        parts = [name for number, name in names.items() if value & number][::-1]
+        if rest := value & ~sum(names):
+            parts.append(f"unknown: 0x{rest:x}")
+        return f"({' | '.join(parts)})" if parts else "0"
 
 
 @dataclass(frozen=True)
@@ -101,7 +144,12 @@ class Array:
 
     @property
     def name(self) -> str:
-        return f"{self.element.name}[{self.count}]"
+        """The type of the innermost elements, and the counts as C has them, the outermost first."""
+        counts, element = [self.count], self.element
+        while isinstance(element, Array):
+            counts.append(element.count)
+            element = element.element
+        return element.name + "".join(f"[{count}]" for count in counts)
 
     @property
     def size(self) -> int:
@@ -139,7 +187,7 @@ def taken_together(parts: Sequence[str]) -> list[str]:
 
 @dataclass(frozen=True)
 class Member:
-    """A member of a structure; of one of some bits their number, and how far they lie from the lowest."""
+    """A member of a structure; of one of some bits their number, and how far they lie from the lowest bit of its first byte."""
 
     name: str
     at: int
@@ -162,10 +210,13 @@ class Structure:
         return "{" + ", ".join(f"{one.name} {self.member(one, data, memory, depth)}" for one in self.members) + "}"
 
     def member(self, one: Member, data: bytes, memory: Memory, depth: int) -> str:
-        part = data[one.at : one.at + one.type.size]
+        size = one.type.size
         if one.bits is None:
-            return one.type.shown(part, memory, depth + 1)
-        return str(int.from_bytes(part, "little") >> one.low_bit & (1 << one.bits) - 1)
+            return one.type.shown(data[one.at : one.at + size], memory, depth + 1)
+        value = int.from_bytes(data[one.at :], "little") >> one.low_bit & (1 << one.bits) - 1
+        if is_signed(one.type) and value >> one.bits - 1:
+            value |= -1 << one.bits
+        return one.type.shown((value & (1 << 8 * size) - 1).to_bytes(size, "little"), memory, depth + 1)
 
 
 @dataclass(frozen=True)
@@ -181,6 +232,13 @@ class Renamed:
 
     def shown(self, data: bytes, memory: Memory, depth: int = 0) -> str:
         return self.type.shown(data, memory, depth)
+
+
+def is_signed(type_: Type) -> bool:
+    """Whether the highest bit of a number is its sign."""
+    while isinstance(type_, Renamed):
+        type_ = type_.type
+    return isinstance(type_, (Base, Enumeration)) and type_.is_signed
 
 
 @dataclass(frozen=True)
@@ -263,7 +321,7 @@ class Unit:
                 if (address := address_of(child)) is not None and (name := self.attribute(child, "DW_AT_name")):
                     yield Variable(prefix + name.decode("utf-8", "replace"), address, self.type_of(child))
             elif child.tag in ("DW_TAG_subprogram", "DW_TAG_inlined_subroutine", "DW_TAG_lexical_block"):
-                name = self.attribute(child, "DW_AT_name") if child.tag == "DW_TAG_subprogram" else None
+                name = self.attribute(child, "DW_AT_name") if child.tag != "DW_TAG_lexical_block" else None
                 yield from self.within(child, f"{name.decode('utf-8', 'replace')}." if name else prefix)
 
     def attribute(self, entry: Any, name: str) -> Any:
@@ -349,9 +407,19 @@ class Unit:
         bits = self.attribute(entry, "DW_AT_bit_size")
         if bits is None:
             return Member(name, member_offset(entry), type_)
-        # DWARF 2 counts bits from the highest of the storage unit.
-        low_bit = 8 * type_.size - int(self.attribute(entry, "DW_AT_bit_offset") or 0) - int(bits)
-        return Member(name, member_offset(entry), type_, int(bits), low_bit)
+        at = member_offset(entry)
+        if (from_lowest := self.attribute(entry, "DW_AT_data_bit_offset")) is not None:
+            return Member(name, at, type_, int(bits), int(from_lowest) - 8 * at)
+        # DWARF 2 counts bits from the highest of the storage unit; below 0 where they go on behind it.
+        size = int(self.attribute(entry, "DW_AT_byte_size") or type_.size)
+        return Member(name, at, type_, int(bits), 8 * size - signed_value(entry.attributes["DW_AT_bit_offset"]) - int(bits))
+
+
+def signed_value(attribute: Any) -> int:
+    """A number of DWARF that may be below 0, also in a form of so many bytes."""
+    bits = {"DW_FORM_data1": 8, "DW_FORM_data2": 16, "DW_FORM_data4": 32, "DW_FORM_data8": 64}.get(attribute.form)
+    value = int(attribute.value)
+    return value - (1 << bits) if bits and value >> bits - 1 else value
 
 
 def named(entry: Any) -> Any:

@@ -75,7 +75,7 @@ MUTANTS = [
     Mutant("a window of a cycle less", "traces", "return cycle + MAX_WINDOW", "return cycle + MAX_WINDOW - 1"),
     Mutant("the window's end is in it", "traces", "if not first <= cycle < end:", "if not first <= cycle <= end:"),
     Mutant("the window's first cycle is not in it", "traces", "if not first <= cycle < end:", "if not first < cycle < end:"),
-    Mutant("rows of the window behind its end", "traces", "elif cycle < window_end", "elif cycle <= window_end"),
+    Mutant("rows of the window behind its end", "traces", "if cycle < window_end", "if cycle <= window_end"),
     Mutant("the trace of a scenario has a node more", "traces", "self.most_nodes = len(scenario.images)", "self.most_nodes = 1 + len(scenario.images)"),
     # the end
     Mutant("a missing end row", "traces", "if len(self.ended) < wanted", "if not self.ended"),

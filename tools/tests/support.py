@@ -2,6 +2,7 @@
 import contextlib
 import importlib
 import os
+import random
 import shutil
 import socket
 import subprocess
@@ -23,6 +24,9 @@ LONG = 600
 LOOPBACK = "127.0.0.1"
 
 sys.dont_write_bytecode = True
+
+# By which tests draw anew each time; AVRORA_SEED names the one of a failure, which tells it.
+SEED = int(os.environ.get("AVRORA_SEED") or random.randrange(1_000_000))
 
 # How the tools are run: by the interpreter of these tests, from the checkout.
 TOOL = [sys.executable, "-B", TOOLS]

@@ -12,7 +12,7 @@ from campaign_runs import folder, run_campaign
 from support import DATA, run_tool
 from avrora_tools import comparisons, runs
 from avrora_tools.errors import BadInput
-from avrora_tools.traces import EPOCH
+from avrora_tools.states import EPOCH
 
 # Stands for the simulator: a run of two epochs and a part, of four rows. The latency says what is wrong: 20 with `run
 # --plain`, 30 with `resume`, 40 with `save`, 50 with the status of `run --plain`, 60 with the samples.

@@ -61,19 +61,19 @@ class Met(unittest.TestCase):
 
     def test_rows_in_order(self):
         self.met("10 0 sent 72", "40 1 serial 72", "70 1 serial 65")
-        self.fails("70 1 serial 65", "10 0 sent 72")
+        self.fails("70 1 serial 65", "* 0 sent 72")
         self.fails("10 0 sent 72", "10 0 sent 72")  # a row is found once
 
     def test_parts(self):
-        self.met("* 0 sent *", "30 1 heard 1 72 *", "* 1 *", "80 1 stop 0102 reserved opcode")
+        self.met("* 0 sent *", "30 1 heard 1 72 *", "..90 1 *", "80 1 stop 0102 reserved opcode")
         self.met("5..15 * sent {71,72}", "..30 1 heard 1 72 11+-1", "40.. 1 heard *")
         self.met("10..1_0 0 sent 72")
         self.fails("11.. 0 sent 72")
         self.fails("* 0 sent {71,73}")
         self.fails("30 1 heard 1 72 10+-1")
-        self.met("* 1 stop 0102 {reserved,undefined} *", "* * {end,stop} *", "* * end * stopped")
+        self.met("* 1 stop 0102 {reserved,undefined} *", "* * end * stopped")
         self.fails("* 0 sent 73..7F")
-        self.met("{10,20} 0 *", "* 0 *", "*")
+        self.met("{10,20} 0 *", "20.. 0 *")
         self.met("only stop", "*", "count == 1: *", "count > 0: *")
         self.fails("only sent", "* * *", "*", "*", "*")
 
@@ -107,7 +107,7 @@ class Met(unittest.TestCase):
         self.unmet(
             "10 0 sent 72",
             "never * 1 stop *",
-            "* 0 end *",
+            "99 0 end *",
             says="line 2: this row was never to come:\n- * 1 stop *\n"
             "but it did:\n  50 1 sent 65\n  60 1 heard 1 65 12\n  70 1 serial 65\n> 80 1 stop 0102 reserved opcode\n"
             "  99 0 end 12 running\n  99 1 end 7 stopped",
@@ -294,7 +294,7 @@ class Refused(unittest.TestCase):
             ("never * * heard 3 *", "heard: 3 is not 0"),
             ("never * 0 sent {41,aa}", "sent: aa is not 2 upper-case"),
             ("never * * stop * {reserved,nothing} *", "stop: nothing cannot stand there"),
-            ("never * * enter 0046 *", "enter: 0046 is not 0002 to 0044"),
+            ("never * * enter 0046 *", "enter: 0046 is not 0012 to 003A"),
             ("never * * instr 006E sbis 0x0b, *", "instr: 0x0b, cannot stand there"),
             ("never * * instr 006E sbis", "instr: 4 parts stand behind the kind, and not 2"),
             ("never * * instr 006e *", "instr: 006e is not 4 upper-case"),
@@ -317,14 +317,57 @@ class Refused(unittest.TestCase):
             ("10 0 sent *\nnever + 0 sent *", "a + stands before a number of cycles"),
             ("*", "line 1: each trace has such a row"),
             ("text 0 'a'\n0.. 0..63 *", "line 2: each trace has such a row"),
-            ("count > 0: *", "each trace has such a row"),
-            ("count != 0: * * *", "each trace has such a row"),
+            ("count > 0: *", "each trace has at least 1 such rows, so it cannot fail"),
+            ("count != 0: * * *", "so it cannot fail"),
             ("only sent\nnever * * {sent,stop} *", "rows stop are none of those of `only`"),
             ("within 0..50: never 60.. * sent *", "cycles 60.. are not within 0..50"),
             ("within 0..50: count == 0: {10,60} * sent *", "cycles 60..60 are not within 0..50"),
             ("10 0 sent *\nnever * * stop *\nnext 20 0 heard *", "line 2: line 3 expects the next row, so that none can come between"),
             ("never * 1 serial *\nnever * * stop *\nnext 2: * * serial *", "line 1: such a row is the one that line 3 expects"),
             ("never 5.. 1 sent 41\n* {0,1} *", "line 1: such a row is the one that line 2 expects"),
+            # what is the same in another spelling
+            ("never * 1 serial 72\n* * serial {72,73}", "line 1: such a row is the one that line 2 expects"),
+            ("never * 1 serial 72\n* * serial 60..7F", "line 1: such a row is the one that line 2 expects"),
+            ("never * 1 serial 72\n+0.. * serial *", "line 1: such a row is the one that line 2 expects"),
+            ("never * 1 serial {60..70,72}\n0.. 0..1 {serial,sent} {5F..71,72}", "line 1: such a row is the one that line 2"),
+            ("10 0 sent *\nnever +5..9 1 serial 72\n+..40 * serial 72", "line 2: such a row is the one that line 3 expects"),
+            ("never * * end 5 stopped\n* * end * {stopped,asleep}", "line 1: such a row is the one that line 2 expects"),
+            ("never * * instr 0000 ld r24, X+\n* * instr * {ld,st} *", "line 1: such a row is the one that line 2 expects"),
+            ("never * * instr * inc r1\n* * instr * inc {r0,r1,r2}", "line 1: such a row is the one that line 2 expects"),
+            # what no row has
+            ("never * * enter 002A *", "enter: 002A is none of 16 from 0012 to 003A"),
+            ("never * * enter 0013 *", "enter: 0013 is none of 16 from 0012 to 003A"),
+            ("never * * enter {0012,0017} *", "enter: 0017 is none of 16"),
+            ("never * * instr * spm", "instr: spm cannot stand there"),
+            ("never * * instr * break", "instr: break cannot stand there"),
+            ("never * * instr * ld r26, X+", "instr: "),
+            ("never * * instr * st -Z, r31", "instr: "),
+            ("never * * instr * lds r24, 0x1100", "instr: 0x1100 cannot stand there"),
+            ("never * * instr * rjmp .+4096", "instr: .+4096 cannot stand there"),
+            ("never * * instr * {nop,spm} *", "instr: spm cannot stand there"),
+            ("never * {0,70} sent *", "nodes are 0 to 63"),
+            ("never * 64..70 sent *", "nodes are 0 to 63"),
+            # what each trace has, and what none has
+            ("* * end *", "line 1: each trace has such a row"),
+            ("* 0 * *", "line 1: each trace has such a row"),
+            ("..9_999_999_999_999 {0,1} {end,sent} *", "line 1: each trace has such a row"),
+            ("* 0 end * {stopped,asleep,running}", "line 1: each trace has such a row"),
+            ("* 0 end 0.. {stopped,asleep,running}", "line 1: each trace has such a row"),
+            ("10 0 sent *\n+0.. * end *", "line 2: each trace has such a row behind those above"),
+            ("only end\n* * *", "line 2: each trace has such a row"),
+            ("10 0 sent *\nnever * * end *", "line 2: each trace has such a row behind those above"),
+            ("within 0..: never * 0 end *", "each trace has such a row"),
+            ("99 0 end *\n* * sent *", "line 2: no such row comes behind an end row, which line 1 expects"),
+            ("99 1 end *\n99 0 end *", "line 2: no such row comes behind that of line 1, as end rows come in the order of nodes"),
+            ("70 * sent *\n..69 * sent *", "line 2: no such row comes behind that of line 1, whose cycle is 70 at least"),
+            ("count >= 1: * 0 * *", "each trace has at least 1 such rows, so it cannot fail"),
+            ("count == 0: * * {end,sent} *", "each trace has at least 1 such rows, so it cannot be met"),
+            ("count <= 64: * * stop *", "each trace has 0 to 64 such rows, so it cannot fail"),
+            ("count > 128: * * {stop,end} *", "each trace has 1 to 128 such rows, so it cannot be met"),
+            ("count == 1: * 0 end *", "each trace has 1 such rows, so it cannot fail"),
+            ("text 1 matches '(?=a*)'", "matches nothing at all"),
+            ("text 1 matches '$'", "matches nothing at all"),
+            ("text 1 matches '(?!x)'", "matches nothing at all"),
         ):
             with self.subTest(line), scratch("case.expect", f"{line}\n") as path:
                 with self.assertRaises(BadInput) as refusal:
@@ -354,6 +397,9 @@ class Refused(unittest.TestCase):
             ("* * instr *", "the trace has no window"),
             ("only instr sent\nnever * * sent 41", "`only` names instr: the trace has no window"),
             ("only instr\ncount == 0: * *", "`only` names instr: the trace has no window"),
+            ("count == 2: * * end *", "line 1: each trace has 2 such rows, so it cannot fail"),
+            ("count > 1: * * *", "line 1: each trace has at least 2 such rows, so it cannot fail"),
+            ("count <= 2: * * stop *", "line 1: each trace has 0 to 2 such rows, so it cannot fail"),
         ):
             with self.subTest(line), self.assertRaises(BadInput) as refusal:
                 outcome(line)
@@ -377,7 +423,13 @@ class Refused(unittest.TestCase):
             ("10 0 sent *\nnever +89.. * stop *", "line 2: the trace ends in cycle 99, and not within 10..99"),
             ("never +11.. * stop *\n10 0 sent *", "line 1: cycles 11.. are not within 0..10"),
             ("never * * end *\n50 1 sent *", "line 1: the trace ends in cycle 99, and not within 0..50"),
-            ("* 1 end *\nnever * * stop *", "line 2: the trace ends in cycle 99, and not within 99..99"),
+            ("99 1 end *\nnever * * stop *", "line 2: the trace ends in cycle 99, and not within 99..99"),
+            ("99 1 end *\nnever * * end *", "line 2: no such row can stand between two others"),
+            ("99 1 end 7 *\nnever * 0 end 5 *", "line 2: no such row can stand between two others"),
+            ("40 1 serial *\nnever 40 0 sent *", "line 2: no such row can stand between two others"),
+            ("40 1 serial *\nnever 40 1 instr *", "line 2: the trace has no window"),
+            ("10 0 sent *\nnever 10..30 0 {sent,heard} *\n30.. 1 *\nnever +5..9 1 sent 41\n+..30 1 {sent,heard} *", "line 4: such a row"),
+            ("10 0 sent *\nnever 20..30 1 heard 1 72 *\n+1..50 1 heard * {72,73} *", "line 2: such a row is the one that line 3"),
         ):
             with self.subTest(lines), self.assertRaises(BadInput) as refusal:
                 outcome(lines)
@@ -392,6 +444,30 @@ class Refused(unittest.TestCase):
         # What is not met is told first: it may be why the rows stand elsewhere.
         self.assertIn("== 1 rows", outcome("10 0 sent *\nnever 51.. * stop *\n50 1 sent *\ncount == 1: * * serial *").failure)
         self.assertIn("did not come", outcome("10 0 sent 71\nnever 5 * stop *\n50 1 sent *").failure)
+
+    def test_what_can_fail_is_taken(self):
+        """Although it looks like what cannot."""
+        for lines in (
+            "* * end * {stopped,asleep}",
+            "* 1 end 7 *",
+            "99 0 end *\n99 1 end *",
+            "only 1\ncount == 5: * 1 *",
+            "count == 1: * * end * stopped",
+            "count == 1: * * stop *",
+            "10 0 sent *\nnext 9: * * end *",
+            "only sent\n* * *",
+            "never * 1 serial 72..73\n* 1 serial 72",
+            "never +5.. 1 serial 65\n+..49 1 serial 65",
+            "never * 1 serial 65\n..40 1 serial *",
+            "never * * instr * inc r1\n* * instr * inc r2",
+            "text 1 matches '\\A(?!.*ERROR)'",
+            "text 1 matches '\\A\\Z'",
+            "text 1 matches '^(?=re)'",
+        ):
+            with self.subTest(lines), scratch("case.expect", lines) as path:
+                expectations.read_case(path)
+        for lines, is_met in (("\\A(?!.*ERROR)", True), ("\\A(?!.*re)", False), ("\\A\\Z", False)):
+            self.assertEqual(outcome(f"text 1 matches '{lines}'").failure is None, is_met)
 
     WINDOW = "30 0 enter 001E 0081\n39 0 instr 001E nop\n40 1 sent 41\n99 0 end 12 running\n99 1 end 7 running\n"
 

@@ -10,11 +10,16 @@ import pytest
 from avrora_tools.stacks import lowest_used
 from avrora_tools.states import DATA_END, State
 from avrora_tools.variables import Array, Base, Enumeration, Member, Pointer, Renamed, Structure, place_in, taken_together, text_of
-from support import run_tool
+from firmware import compiled, scenario
+from support import SEED, needs_module, run_tool
+
+import drawn_types
 
 PROGRAM = os.environ.get("AVRORA_PROGRAM")
 needs_program = pytest.mark.skipif(not PROGRAM, reason="AVRORA_PROGRAM names no program")
 needs_compiler = pytest.mark.skipif(not shutil.which("avr-gcc"), reason="avr-gcc is not installed")
+
+needs_gdb = pytest.mark.skipif(not shutil.which("avr-gdb"), reason="avr-gdb is not installed (Debian's gdb-avr)")
 
 UINT8 = Renamed("uint8_t", Base("unsigned char", 1, 0x08))
 INT16 = Base("int", 2, 0x05)
@@ -42,8 +47,28 @@ class NoMemory:
         (CHAR, "07", "7"),
         (Base("_Bool", 1, 0x02), "01", "true"),
         (Base("float", 4, 0x04), "0000C03F", "1.5"),
+        (Base("float", 4, 0x04), "CDCCCC3D", "0.100000001"),  # as many digits as tell it from its neighbours
+        (Base("float", 4, 0x04), "000080FF", "-inf"),
+        (Base("float", 4, 0x04), "0000C0FF", "-nan(0x400000)"),
+        (Base("double", 8, 0x04), "333333333333D33F", "0.29999999999999999"),
+        (Base("_Accum", 4, 0x0D), "00C00000", "1.5 (raw 49152)"),
+        (Base("short _Fract", 1, 0x0D), "C0", "-0.5 (raw -64)"),
+        (Base("unsigned long _Accum", 8, 0x0E), "0000008002000000", "2.5 (raw 10737418240)"),
+        (Base("long long _Accum", 8, 0x0D), "000000000000FEFF", "-4 (raw -562949953421312)"),
+        (Base("complex", 8, 0x03), "0000803F00000040", "00 00 80 3F 00 00 00 40"),
+        (Enumeration("enum", 2, ((-3, "LOW"), (0, "FIRST"))), "FDFF", "LOW"),
+        (Enumeration("enum", 2, ((-3, "LOW"), (0, "FIRST"))), "FEFF", "-2"),
+        (Enumeration("enum", 1, ((1, "A"), (2, "B"), (4, "C"))), "05", "(A | C)"),
+        (Enumeration("enum", 1, ((1, "A"), (2, "B"))), "0A", "(B | unknown: 0x8)"),
+        (Enumeration("enum", 1, ((0, "A"), (3, "B"))), "02", "2"),
+        (Enumeration("enum", 2, ((1, "A"), (1, "ALSO"))), "0100", "A"),
+        # bits 5 to 10 of two bytes; one with a sign; one that is an enumeration
+        (Structure("s", 2, (Member("a", 0, UINT8, 5, 0), Member("b", 0, UINT8, 6, 5))), "B105", "{a 17, b 45}"),
+        (Structure("s", 2, (Member("d", 0, INT16, 3, 2),)), "1800", "{d -2}"),
+        (Structure("s", 1, (Member("e", 0, Enumeration("e", 2, ((2, "TWO"),)), 2, 1),)), "04", "{e TWO}"),
+        (Structure("s", 9, (Member("f", 0, Base("long long", 8, 0x05), 64, 3),)), "F8FFFFFFFFFFFFFF07", "{f -1}"),
         (Enumeration("enum", 2, ((0, "FIRST"), (1, "SECOND"))), "0100", "SECOND"),
-        (Enumeration("enum", 2, ((0, "FIRST"),)), "0900", "9"),
+        (Enumeration("enum", 2, ((0, "FIRST"),)), "0900", "(unknown: 0x9)"),
         (Pointer("uint8_t *", False), "0401", "0x0104 &queue[1].value"),
         (Pointer("uint8_t *", False), "0002", "0x0200"),
         (Pointer("function *", True), "8000", "0x0080 send"),
@@ -58,6 +83,17 @@ class NoMemory:
 )
 def test_values(type_, data, text):
     assert type_.shown(bytes.fromhex(data), NoMemory()) == text
+
+
+def test_the_name_of_an_array_of_arrays():
+    assert Array(Array(INT16, 3), 2).name == "int[2][3]"
+
+
+@needs_gdb
+@needs_compiler
+@needs_module("elftools", "python3-pyelftools")
+def test_drawn_types_are_told_as_gdb_tells_them(tmp_path):
+    assert drawn_types.differences(120, SEED, tmp_path) == []
 
 
 def test_places_in_a_variable():
@@ -218,10 +254,93 @@ def test_the_tool_shows_them(built):
     elf = built()
     state = elf.with_name("p.state")
     state.write_text(run(elf, "save", scenario_of(elf, 2_000).name, "1"))
-    status, out, err = run_tool("inspect", "-e", str(elf), "-g", "state", "-g", "*.calls", str(state))
+    words = ("inspect", "-s", str(elf.with_name("p.toml")), "-e", str(elf))
+    status, out, err = run_tool(*words, "-g", "state", "-g", "*.calls", str(state))
     assert (status, err) == (0, "")
     assert re.search(r"^  01\w\w state state = BUSY$", out, re.M) or re.search(r"^  01\w\w enum state = BUSY$", out, re.M)
     assert re.search(r"^  01\w\w uint8_t outer\.calls = \d+$", out, re.M)
     assert re.search(r"^  stack low  reached 10\w\w at least; [\d,]+ bytes left above the variables, which end at 01\w\w$", out, re.M)
     assert run_tool("inspect", "-g", "state", str(state))[0] == 2  # no program
     assert run_tool("inspect", "-e", str(elf), "-g", "stat", str(state))[0] == 2  # no such variable
+
+
+def state_of(elf, path=None):
+    """The state of a program at the end of the first epoch; its file, and the scenario's."""
+    toml = scenario(elf.with_suffix(".hex").name, path or elf.with_suffix(".toml"))
+    state = elf.with_suffix(".state")
+    state.write_text(run(elf, "save", toml.name, "1"))
+    return str(state), str(toml)
+
+
+@needs_program
+@needs_compiler
+@pytest.mark.parametrize("flag", ["-O0", "-Os"])
+def test_a_chain_goes_on_behind_calls_that_do_not_return(tmp_path, flag):
+    elf = compiled("panic.c", tmp_path, flag)
+    state, toml = state_of(elf)
+    status, out, err = run_tool("inspect", "-s", toml, "-e", str(elf), state)
+    assert (status, err) == (0, "")
+    assert re.findall(r"^  called by  [0-9A-F]{4} (\w+)\+", out, re.M) == ["check", "b", "a", "main"]
+    assert "no further" not in out
+
+
+DEEP = """
+#include <stdint.h>
+volatile uint8_t depth, first[%d], big[%d];
+void __attribute__((noinline)) down(uint8_t n) { depth = n; if (n) down(n - 1); else for (;;) depth++; asm volatile(""); }
+int main(void) { first[0] = 1; down(%d); for (;;); }
+"""
+
+
+def deep(tmp_path, first, big, depth, flag="-O0"):
+    (tmp_path / "deep.c").write_text(DEEP % (first, big, depth))
+    elf = compiled(tmp_path / "deep.c", tmp_path, flag)
+    state, toml = state_of(elf)
+    status, out, err = run_tool("inspect", "-s", toml, "-e", str(elf), state)
+    assert (status, err) == (0, "")
+    return out, State.load(state).nodes[0]
+
+
+@needs_program
+@needs_compiler
+def test_equal_lines_of_a_chain_are_one(tmp_path):
+    out, _ = deep(tmp_path, 1, 1, 44)
+    assert re.search(r"^  called by  [0-9A-F]{4} down\+\S+ deep.c:4, 44 times\n  called by  [0-9A-F]{4} main\+", out, re.M)
+
+
+@needs_program
+@needs_compiler
+def test_a_stack_within_the_variables_is_an_overflow(tmp_path):
+    out, node = deep(tmp_path, 100, 3_700, 200)
+    end = 0x100 + 1 + 100 + 3_700
+    told = re.search(r"^  stack      OVERFLOW: SP lies in `big`, ([\d,]+) bytes below the end of the variables, (....)$", out, re.M)
+    assert told and int(told[1].replace(",", "")) == end - node["SP"] - 1 and int(told[2], 16) == end
+    assert "bytes left above" not in out and "nothing is left above them" in out
+
+
+@needs_program
+@needs_compiler
+def test_a_program_that_is_not_that_of_the_state_is_refused_or_warned_of(tmp_path):
+    elf = compiled("panic.c", tmp_path, "-O0")
+    state, _ = state_of(elf)
+    status, _, err = run_tool("inspect", "-e", str(elf), state)
+    assert status == 0 and "nothing tells whether this is the program that was run: -s compares it" in err
+    assert run_tool("inspect", "--force", "-e", str(elf), state)[::2] == (0, "")
+    (tmp_path / "other.c").write_text("int main(void) { for (;;); }")
+    other = compiled(tmp_path / "other.c", tmp_path, "-Os")
+    status, out, err = run_tool("inspect", "-e", str(other), state)
+    assert (status, out) == (2, "") and re.search(r"another program than that of node 0 in .*, where it has no instruction", err)
+
+
+@needs_program
+@needs_compiler
+def test_statics_of_inlined_functions_have_the_name_of_theirs(tmp_path):
+    (tmp_path / "inlined.c").write_text(
+        "#include <stdint.h>\nvolatile uint8_t sink;\n"
+        "static inline __attribute__((always_inline)) uint8_t next(void) { static uint8_t count = 7; return ++count; }\n"
+        "int main(void) { sink = next(); sink = next(); for (;;); }\n"
+    )
+    elf = compiled(tmp_path / "inlined.c", tmp_path, "-Os")
+    state, toml = state_of(elf)
+    out = run_tool("inspect", "-s", toml, "-e", str(elf), "-g", "*count*", state)[1]
+    assert re.findall(r"^  01\w\w (.*)$", out, re.M) == ["uint8_t next.count = 9"]

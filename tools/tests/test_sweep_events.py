@@ -4,7 +4,8 @@ import tomllib
 import pytest
 
 from avrora_tools.errors import BadInput, BadWords
-from avrora_tools.sweeping.events import EPOCH, InputByte, LinkLatency, Moved, Span, moved_scenario, parsed_event, stretches
+from avrora_tools.states import EPOCH
+from avrora_tools.sweeping.events import InputByte, LinkLatency, Moved, Span, moved_scenario, parsed_event, stretches
 from avrora_tools.sweeping.simulation import scenario_text
 
 DOCUMENT = tomllib.loads(

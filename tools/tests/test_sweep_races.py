@@ -63,7 +63,7 @@ SWEEPS = [
     # From the read of TCNT1L to the write of TIFR five cycles, each 1,024.
     ("late", ["--start", "0=270_200..271_400", "--until", "300_000"], 5, 2),
     # As torn, of two visits 253 cycles apart.
-    ("data", ["--start", "0=291_100..291_500", "--until", "320_000"], 2, 2),
+    ("data", ["--start", "0=291_100..291_500", "--until", "320_000", "--expect", "data.expect"], 2, 2),
     # From the read of `queued` that makes the place (in cycle 443,346) to the end of `queued++` (443,366).
     ("alarm", ["--input", "2:1=443_300..443_420", "--until", "660_000", "--compare", "lines"], 20, 1),
 ]

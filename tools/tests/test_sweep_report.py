@@ -1,4 +1,6 @@
 """The order of runs, the checks, and how failures are grouped; by hand."""
+import re
+
 import pytest
 
 from avrora_tools.errors import BadInput
@@ -200,7 +202,7 @@ def serial(*writes):
 GOOD = {0: b"ab\ncd\n"}
 
 
-def wrong(text, compare=Compare.BYTES, head=b"", drop=b""):
+def wrong(text, compare=Compare.BYTES, head=b"", drop=re.compile(b"")):
     return SerialCheck(head, GOOD, [0], compare, drop).failure((0,), serial(*((100 + i, byte) for i, byte in enumerate(text))))
 
 
@@ -210,7 +212,7 @@ def test_serial_output_byte_for_byte():
     assert wrong(b"ab\ncd\ne") == "node 0 wrote 'e' too much"
     assert wrong(b"ab\ncx\n") == "node 0 wrote 'x\\n', not 'd\\n'"
     assert wrong(b"cd\n", head=serial((1, 97), (2, 98), (3, 10))) is None
-    assert wrong(b"ab\nXcd\n", drop=b"X") is None
+    assert wrong(b"ab\nXcd\n", drop=re.compile(b"X")) is None
 
 
 def test_serial_output_in_any_order():

@@ -8,6 +8,7 @@ from typing import Any, NamedTuple
 from avrora_tools import cli, expectations, files, terminal, traces
 from avrora_tools.errors import BadWords, Status, ToolError
 from avrora_tools.expectations import Case, Outcome
+from avrora_tools.wholeness import Lacking
 
 SUMMARY = "checks traces against cases: regression tests"
 
@@ -83,7 +84,8 @@ def checked(case: Case, arguments: argparse.Namespace, avrora: str | None) -> Re
     try:
         if arguments.trace:
             name = files.shown(arguments.trace)
-            outcome = expectations.check(case, traces.file_blocks(arguments.trace), arguments.save, name)
+            blocks = traces.file_blocks(arguments.trace)
+            outcome = expectations.check(case, blocks, arguments.save, name, lacking=Lacking())
         else:
             outcome = expectations.run_case(case, avrora or "", arguments.save, arguments.timeout)
     except ToolError as fault:

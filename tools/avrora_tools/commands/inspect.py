@@ -3,7 +3,7 @@ import argparse
 import re
 from collections.abc import Iterator, Sequence
 
-from avrora_tools import cli, scenarios, states
+from avrora_tools import cli, files, scenarios, states, terminal
 from avrora_tools.errors import BadInput, BadWords, Status
 from avrora_tools.inspection import View
 from avrora_tools.programs import Program, Programs, add_programs
@@ -222,6 +222,24 @@ def span_of(text: str) -> Span:
     return first, end
 
 
+def check_programs(state: State, path: str, nodes: Sequence[int], all_programs: Programs, has_scenario: bool) -> None:
+    """Raises BadInput where a node is at what is no instruction of its program; warns where nothing else tells whose it is."""
+    unsure: dict[str, None] = {}
+    for k in nodes:
+        program = all_programs.of(k) if k < len(state.nodes) else None
+        if program is None:
+            continue
+        word = state.nodes[k]["PC"]
+        if not program.has_instruction(word):
+            raise BadInput(
+                f"{program.name}: another program than that of node {k} in {files.shown(path)}, which is at {word:04X}, where "
+                "it has no instruction (--force takes it all the same)"
+            )
+        unsure[program.name] = None
+    for name in unsure if not has_scenario else ():
+        terminal.warn(f"{name}: nothing tells whether this is the program that was run: -s compares it with the scenario's image")
+
+
 def run(arguments: argparse.Namespace) -> int:
     state = State.load(arguments.state)
     scenario = scenarios.Scenario.load(arguments.scenario) if arguments.scenario else None
@@ -231,6 +249,9 @@ def run(arguments: argparse.Namespace) -> int:
     nodes = sorted(arguments.nodes if arguments.nodes is not None else range(count))
     if nodes and nodes[-1] >= count:
         raise BadInput(f"{arguments.state}: there is no node {nodes[-1]}, as there are {count}")
+    for one, path in ((state, arguments.state), (other, arguments.other)):
+        if one and not arguments.force:
+            check_programs(one, path, nodes, all_programs, has_scenario=scenario is not None)
     if arguments.globals and (other or not arguments.elf):
         raise BadWords("-g tells variables of one state, and needs their program (-e)")
     if other:

@@ -3,12 +3,13 @@ import argparse
 import collections
 from typing import NamedTuple
 
-from avrora_tools import cli, files, maps, scenarios, traces
+from avrora_tools import cli, files, maps, scenarios, terminal, traces
 from avrora_tools.errors import BadInput, Status
 from avrora_tools.events import CLASH, NOTHING, ONE_BYTE, Heard, Sent
 from avrora_tools.hearing import Samples, shown
 from avrora_tools.scenarios import OnAir, Scenario
-from avrora_tools.states import State
+from avrora_tools.states import EPOCH, State
+from avrora_tools.wholeness import Lacking
 
 SUMMARY = "who heard whom, who clashed with whom; checks each sample"
 
@@ -163,8 +164,9 @@ def run(arguments: argparse.Namespace) -> int:
         raise BadInput(f"{arguments.state}: {len(state.nodes)} nodes, and the scenario has {len(scenario.images)}")
     form = traces.Form.ENDED if state else traces.Form.WHOLE
     # That a node sends too early is told here, and no reason to refuse the trace.
+    lacking = None if state else Lacking(scenario.window, looks_at_samples=False)  # samples are looked at below
     trace = traces.read(
-        arguments.trace, form, scenario=scenario, state=state, least_gap=scenarios.BYTE_TIME.start
+        arguments.trace, form, scenario=scenario, state=state, least_gap=scenarios.BYTE_TIME.start, lacking=lacking
     )
     reader = Reader(scenario, state, arguments.clashes)
     reader.read(trace)
@@ -172,6 +174,11 @@ def run(arguments: argparse.Namespace) -> int:
     print_nodes(reader)
     if arguments.map:
         draw_map(arguments, reader)
+    if not state and (trace.first_row or 0) >= EPOCH:
+        terminal.warn(
+            f"{trace.name}: its first row is of cycle {trace.first_row:,}: where it is the trace of `avrora resume`, --state names "
+            "the state, without which what was sent before is not known"
+        )
     total, sends = sum(reader.samples.values()), sum(reader.sends.values())
     if not total and not reader.faults:
         raise BadInput(f"{trace.name}: no node samples the air, so nothing tells whether what they hear is right")

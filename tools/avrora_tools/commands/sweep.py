@@ -18,7 +18,7 @@ from avrora_tools.sweeping.plans import Cell
 from avrora_tools.sweeping.sharing import Sharing, objects_of
 from avrora_tools.sweeping.simulation import ProcessTails, Simulator, scenario_text
 from avrora_tools.sweeping.sweep import Options, Results, Sweep
-from avrora_tools.sweeping.rows import written
+from avrora_tools.sweeping.rows import stops, written, written_before
 from avrora_tools.sweeping.verdicts import CaseCheck, Check, Compare, PredicateCheck, SerialCheck, nodes_of, predicate_of
 from avrora_tools.terminal import Progress
 
@@ -58,6 +58,12 @@ def run(arguments: argparse.Namespace) -> int:
         if found and arguments.out:
             command = write_earliest(arguments.out, sweep, found[0].first())
             print(f"earliest: {shown_command(sweep.tails.simulator, command)}")
+        if compares_nothing(sweep) and not results.failures:
+            raise BadInput(
+                "nothing was compared: neither the run that is not moved nor a moved one writes anything to USART0 "
+                f"from cycle {first_move(sweep.scenario):,} on{', except what --drop leaves out' * bool(arguments.drop)}; "
+                "--expect or --check checks what is not written"
+            )
     return Status.NOT_MET if results.failures else Status.GOOD
 
 
@@ -91,7 +97,11 @@ def tails_of(
     if arguments.alone:
         raise BadWords("--alone is of runs of this machine")
     tails = ClusterTails(simulator, scenario, state)
-    tails.connect(arguments.scheduler, shipping.program(arguments.avrora))
+    try:
+        tails.connect(arguments.scheduler, shipping.program(arguments.avrora))
+    except BaseException as fault:
+        tails.__exit__(type(fault), fault, None)
+        raise
     return tails
 
 
@@ -145,19 +155,34 @@ def check_of(arguments: argparse.Namespace, tails: ProcessTails, scenario: Moved
     if arguments.expect:
         return CaseCheck(tails.head, cases.read_case(arguments.expect))
     nodes = nodes_of(len(scenario.document["node"]), arguments.nodes)
-    good = written(reference(arguments, tails, scenario, scenario.until))
-    try:
-        re.compile(arguments.drop)
-    except re.error as fault:
-        raise BadWords(f"--drop: {fault}") from None
+    rows = reference(arguments, tails, scenario, scenario.until)
     return SerialCheck(
         tails.head,
-        good,
+        written(rows),
         nodes,
         Compare(arguments.compare),
-        os.fsencode(arguments.drop),
+        dropped(arguments.drop),
         lambda: written(reference(arguments, tails, scenario, scenario.document["cycles"])),
+        stops(rows),
+        written_before(rows, first_move(scenario)),
     )
+
+
+def first_move(scenario: MovedScenario) -> int:
+    """The first cycle in which something moves."""
+    return min(m.span.first if isinstance(m.event, InputByte) else 0 for m in scenario.moved)
+
+
+def compares_nothing(sweep: Sweep) -> bool:
+    return isinstance(sweep.check, SerialCheck) and sweep.check.compares_nothing()
+
+
+def dropped(pattern: str) -> re.Pattern[bytes] | None:
+    """What is left out of serial output."""
+    try:
+        return re.compile(os.fsencode(pattern)) if pattern else None
+    except re.error as fault:
+        raise BadWords(f"--drop: {fault}; what nodes write are bytes, and \\xHH is one") from None
 
 
 def reference(
@@ -197,6 +222,16 @@ def print_plan(sweep: Sweep) -> None:
     events = " and ".join(f"{m.event} from {m.span.first:,} to {m.span.last:,}" for m in sweep.scenario.moved)
     moves = sum(len(cell.arrivals.moves) for cell in sweep.cells)
     print(f"{events}: {moves:,} moves, {len(sweep.cells):,} classes; each run ends at {sweep.scenario.until:,}")
+    if compares_nothing(sweep):
+        print("the run that is not moved writes nothing from there on: only what is written too much, and stops, can be told")
+    for doubt in sweep.doubts:
+        print(f"{doubt}: each move is a class")
+    if sweep.stores:
+        more = f" and {len(sweep.stores) - 1:,} more" if len(sweep.stores) > 1 else ""
+        print(
+            f"interrupts are off at the store through a pointer at {sweep.shown_address(sweep.stores[0])}{more}, which may write "
+            "SREG: behind it they count as on, which makes more classes"
+        )
     if sweep.sharing and sweep.sharing.things:
         print(f"used by handlers and by main: {', '.join(sweep.sharing.things)}")
 

@@ -4,13 +4,14 @@ Up to the byte's arrival each run is the run in which it never comes, so one tra
 stand the points at which an arrival can be noticed: a boundary at which the interrupt USART0 RX could be entered, each cycle
 of a sleep, and an instruction that reads or writes a register of the port. Bytes that arrive between the same two points
 make one execution, cycle for cycle. Where it is not known whether a point is one it counts as one, which makes more classes
-and never fewer. (Not looked for: a program whose stack lies over the registers, or that writes SREG through a pointer.)
+and never fewer. What the rows cannot tell (a stack over the registers) makes each cycle a point, and is told.
 """
 import re
 from collections.abc import Iterable, Iterator, Sequence
 from dataclasses import dataclass
 
-from avrora_tools.sweeping.interrupts import Contradiction, InterruptFlag, Known
+from avrora_tools.programs import vector_name
+from avrora_tools.sweeping.interrupts import Contradiction, InterruptFlag
 from avrora_tools.traces import Row
 
 USART0_RX = 0x24
@@ -19,6 +20,7 @@ USART0_RX = 0x24
 # that may reach them through a pointer.
 NAMES_PORT = re.compile(r"(?:in|out|sbi|cbi|sbis|sbic) .*\b0x0[ABC]\b|(?:lds|sts) .*\b0x(?:002[ABC]|0095)\b")
 POINTER_ACCESS = re.compile(r"(?:ld|ldd|st|std) ")
+POINTER_STORES = ("st ", "std ")
 
 
 @dataclass(frozen=True)
@@ -50,28 +52,26 @@ class ArrivalClass:
 
 @dataclass(frozen=True)
 class Start:
-    """What is known of a node as its rows begin: the cycle, the flag I, and where it sleeps, if it does."""
+    """What is known of a node as its rows begin: the cycle, whether the flag I is certainly clear, and where it sleeps, if it
+    does."""
 
     cycle: int
-    interrupts: Known = None
+    is_clear: bool = False
     asleep_at: int | None = None
 
 
-def points(rows: Iterable[Row], start: Start, end: int) -> Iterator[Point]:
-    """The points below `end`, of a node's `instr`, `enter` and `stop` rows."""
-    return Watch(start).points(rows, end)
-
-
 class Watch:
-    """Goes through the rows of a node."""
+    """Goes through the `instr`, `enter` and `stop` rows of a node."""
 
     def __init__(self, start: Start) -> None:
-        self.flag = InterruptFlag(start.interrupts)
+        self.flag = InterruptFlag(start.is_clear)
         self.handlers: list[int] = []
         self.asleep_at = start.asleep_at  # the address to return to from the sleep
         self.next = start.cycle + 1  # the first cycle of the sleep that is no point yet
+        self.stores: set[int] = set()  # the addresses of those through pointers with I clear
 
     def points(self, rows: Iterable[Row], end: int) -> Iterator[Point]:
+        """The points below `end`."""
         for row in rows:
             yield from self.sleep_until(row.cycle)
             if row.kind == "enter":
@@ -88,7 +88,7 @@ class Watch:
 
     def sleep_until(self, cycle: int) -> Iterator[Point]:
         """Each cycle of a sleep that an interrupt could end."""
-        if self.asleep_at is not None and self.flag.is_set is not False:
+        if self.asleep_at is not None and not self.flag.is_clear:
             place = Place(self.asleep_at, tuple(self.handlers), True)
             yield from (Point(c, place) for c in range(self.next, cycle))
             self.next = cycle
@@ -97,7 +97,7 @@ class Watch:
         vector, back = int(row.rest[:4], 16), int(row.rest[5:], 16)
         slept, self.asleep_at = self.asleep_at is not None, None
         if not self.flag.may_enter():
-            raise Contradiction
+            raise Contradiction(row)
         if vector >= USART0_RX:  # one with a lower vector goes first, also where the byte has come
             yield Point(row.cycle, Place(back, tuple(self.handlers), slept))
         self.flag.enter()
@@ -108,6 +108,8 @@ class Watch:
         self.asleep_at = None
         if self.flag.may_enter() or NAMES_PORT.match(text) or POINTER_ACCESS.match(text):
             yield Point(row.cycle, self.place(address))
+        if self.flag.is_clear and text.startswith(POINTER_STORES):
+            self.stores.add(address)
         self.flag.execute(text)
         if text == "reti" and self.handlers:
             self.handlers.pop()
@@ -115,13 +117,30 @@ class Watch:
             self.asleep_at, self.next = address + 1, row.cycle + 1
 
 
-def classes(rows: Sequence[Row], start: Start, first: int, last: int, end: int) -> list[ArrivalClass]:
-    """The classes of the arrivals from `first` to `last`, in their order; `end` is the cycle behind the rows. An arrival in
-    the cycle of a point is noticed at the next one, as the processor comes first in each cycle."""
+@dataclass(frozen=True)
+class Classes:
+    """The classes of the arrivals of a span, in their order; why each arrival is one, where the rows do not tell more; and the
+    addresses of stores through pointers with I clear, behind which I counts as set."""
+
+    classes: list[ArrivalClass]
+    doubt: str | None = None
+    stores: frozenset[int] = frozenset()
+
+
+def classes(rows: Sequence[Row], start: Start, first: int, last: int, end: int, doubt: str | None = None) -> Classes:
+    """The classes of the arrivals from `first` to `last`; `end` is the cycle behind the rows. An arrival in the cycle of a
+    point is noticed at the next one, as the processor comes first in each cycle. A `doubt` of what the rows tell makes each
+    arrival a class."""
+    found: list[Point] = []
+    watch = Watch(start)
     try:
-        found = list(points(rows, start, end))
-    except Contradiction:  # take nothing for known, and go by the points alone
-        found = list(points_without_flag(rows, start, end))
+        found = [] if doubt else list(watch.points(rows, end))
+    except Contradiction as fault:
+        row = fault.row
+        doubt = f"node {row.node} enters {vector_name(int(row.rest[:4], 16))} in cycle {row.cycle:,}, where its flag I is clear by "
+        doubt += "all that the rows tell: SREG, or a copy of it, is written in a way that they do not show"
+    if doubt:
+        found = list(all_points(rows, start, end))
     result, begun = [], first
     for point in found:
         until = min(point.cycle, last + 1)
@@ -130,11 +149,11 @@ def classes(rows: Sequence[Row], start: Start, first: int, last: int, end: int) 
             begun = until
     if begun <= last:
         result.append(ArrivalClass(range(begun, last + 1)))
-    return result
+    return Classes(result, doubt, frozenset(watch.stores) if not doubt else frozenset())
 
 
-def points_without_flag(rows: Sequence[Row], start: Start, end: int) -> Iterator[Point]:
-    """Each boundary of an instruction, and each cycle between two: whatever the flag is, no point is missed."""
+def all_points(rows: Sequence[Row], start: Start, end: int) -> Iterator[Point]:
+    """Each cycle: whatever the flag is, no point is missed."""
     cycle = start.cycle
     address = start.asleep_at or 0
     for row in rows:

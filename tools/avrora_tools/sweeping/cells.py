@@ -20,8 +20,11 @@ INTERRUPTS = 1 << 7  # the flag I in SREG
 class CellMaker:
     """Makes the cells from traces of runs in which the byte that moves last never comes."""
 
-    def __init__(self, tails: Tails, scenario: MovedScenario, state: State | None) -> None:
-        self.tails, self.scenario, self.state = tails, scenario, state
+    def __init__(self, tails: Tails, scenario: MovedScenario, state: State | None, doubt: str | None = None) -> None:
+        """With a `doubt` of what traces tell, each arrival is a class."""
+        self.tails, self.scenario, self.state, self.doubt = tails, scenario, state, doubt
+        self.doubts: dict[str, None] = {}  # why each arrival is a class, where it is
+        self.stores: set[int] = set()  # through pointers, behind which the flag I counts as set
         *self.before, self.last = scenario.moved
 
     def cells(self) -> Iterator[Cell]:
@@ -36,7 +39,11 @@ class CellMaker:
         if not isinstance(self.last.event, InputByte):
             return [ArrivalClass(range(value, value + 1)) for value in span.values()]
         rows, start, end = self.rows(before, self.last.event.node)
-        found = classes(rows, start, span.first, span.last, end)
+        result = classes(rows, start, span.first, span.last, end, self.doubt)
+        found = result.classes
+        self.stores |= result.stores
+        if result.doubt:
+            self.doubts[result.doubt] = None
         script = self.scenario.scripts[len(self.before)]
         if script.index < len(script.bytes_) - 1 and not script.is_alone:  # the bytes behind move too, and tell all moves apart
             found = [ArrivalClass(range(x, x + 1), one.point) for one in found for x in one.moves]
@@ -62,9 +69,9 @@ class CellMaker:
     def start(self, begin: int, node: int) -> Start:
         """What is known of a node as its rows begin: at reset and in a state all is."""
         if begin == 0:
-            return Start(0, False)
+            return Start(0, True)
         if self.state is None or begin != self.state.cycle:
             return Start(begin)
         it = self.state.nodes[node]
         asleep_at = it["PC"] if it["asleep"] and not it.stop() else None
-        return Start(begin, bool(it["SREG"] & INTERRUPTS), asleep_at)
+        return Start(begin, not it["SREG"] & INTERRUPTS, asleep_at)

@@ -8,8 +8,8 @@ from dataclasses import dataclass, field
 from typing import Any
 
 from avrora_tools.errors import BadInput, BadWords
+from avrora_tools.states import EPOCH
 
-EPOCH = 262_144  # cycles; states are those between two epochs
 DEFAULT_LATENCY = 3_072
 DEFAULT_EVERY = 7_680  # cycles from one byte of an input to the next
 EVERY = range(1, 65_536)

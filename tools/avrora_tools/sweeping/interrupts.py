@@ -1,21 +1,20 @@
-"""What the rows of one node tell of its interrupt flag I: whether it is set, clear, or not known.
+"""What the rows of one node tell of its interrupt flag I: whether it is certainly clear.
 
-A trace shows no registers. The flag follows from SEI, CLI, RETI and entries, and from copies of SREG that a program keeps in
-a register or on the stack and writes back. Whatever is not certain is not known.
+A trace shows no registers. That I is clear follows from CLI and entries, and from copies of SREG that a program keeps in a
+register or on the stack and writes back. A store through a pointer may write SREG, a register or what lies on the stack, so
+behind it nothing of these is certain; a store to an address at which stacks lie is one to the stack. Whatever is not certain
+counts as set.
 """
 import re
-from typing import Optional
 
 from avrora_tools.traces import Row
-
-Known = Optional[bool]  # None: not known
 
 SREG_IO, SREG_DATA = "0x3F", "0x005F"
 STACK_POINTER = {"0x3D", "0x3E", "0x005D", "0x005E"}
 
 PAIRS = {"X": ("r26", "r27"), "Y": ("r28", "r29"), "Z": ("r30", "r31")}
 
-# Instructions that change no general register (but a pointer that is counted up or down).
+# Instructions that change no general register (except a pointer that is counted up or down).
 KEEPS_REGISTERS = frozenset(
     """st std sts out sbi cbi cp cpi cpc cpse sbrs sbrc sbis sbic brbs brbc rjmp jmp ijmp nop sleep wdr bset bclr bst push
     call rcall icall ret reti""".split()
@@ -23,71 +22,85 @@ KEEPS_REGISTERS = frozenset(
 TO_R0_R1 = frozenset("mul muls mulsu fmul fmuls fmulsu".split())
 TO_PAIR = frozenset("movw adiw sbiw".split())
 CALLS = frozenset("call rcall icall".split())
+STORES = frozenset(("st", "std"))
+
+REGISTERS_END = 0x20  # data addresses below are the general registers
+STACKS_BEGIN = 0xF00  # and those from here on may be the stack
 
 COUNTED_POINTER = re.compile(r"(?:-([XYZ])|([XYZ])\+)(?:$|,)")
 
 
 class Contradiction(Exception):
-    """The rows show an interrupt where none could be entered: what was concluded of the flag is wrong."""
+    """A row shows an interrupt where none could be entered: what was concluded of the flag is wrong."""
+
+    def __init__(self, row: Row) -> None:
+        super().__init__()
+        self.row = row
 
 
 class InterruptFlag:
     """The flag I of a node, row by row."""
 
-    def __init__(self, is_set: Known) -> None:
-        self.is_set = is_set
-        self.owed = False  # an instruction comes before the next entry
-        self.copies: dict[str, bool] = {}  # general registers that certainly hold SREG with I as it says
-        self.stack: list[Known] = []  # the bytes pushed last, of which each may be such a copy
+    def __init__(self, is_clear: bool) -> None:
+        self.is_clear = is_clear  # certainly
+        self.owed = False  # an instruction comes before the next entry, if I is set at all
+        self.copies: set[str] = set()  # general registers that certainly hold SREG with I clear
+        self.stack: list[bool] = []  # of the bytes pushed last: whether each certainly is such a copy
 
     def may_enter(self) -> bool:
         """Whether an interrupt that is due may be entered as the next row begins."""
-        return self.is_set is not False and not self.owed
+        return not self.is_clear and not self.owed
 
     def enter(self) -> None:
         """An interrupt is entered."""
-        if not self.may_enter():
-            raise Contradiction
-        self.stack += [None, None]
-        self.is_set, self.owed = False, False
+        self.stack += [False, False]
+        self.is_clear, self.owed = True, False
 
     def execute(self, text: str) -> None:
-        """An instruction is executed."""
+        """An instruction is executed. One that turns I on owes another, and so do SEI and RETI."""
         name, _, rest = text.partition(" ")
         operands = rest.split(", ") if rest else []
-        before, self.owed = self.is_set, False
+        before, self.owed = self.is_clear, False
         if text == "bset 7" or name == "reti":
-            self.is_set, self.owed = True, True
+            self.is_clear, self.owed = False, True
         elif text == "bclr 7":
-            self.is_set = False
+            self.is_clear = True
         elif name in ("out", "sts") and operands[0] in (SREG_IO, SREG_DATA):
-            self.is_set = self.copies.get(operands[1])
-            self.owed = self.is_set is True and before is False
+            self.is_clear, self.owed = operands[1] in self.copies, before
+        elif name in STORES:
+            self.is_clear, self.owed = False, before
+            self.copies.clear()
+            self.forget_stack()
+        elif name == "sts" and int(operands[0], 16) >= STACKS_BEGIN:
+            self.forget_stack()
         self.move_stack(name, operands)
         self.change_registers(name, operands, before)
 
+    def forget_stack(self) -> None:
+        """No byte that was pushed is certain to be what it was."""
+        self.stack = [False] * len(self.stack)
+
     def move_stack(self, name: str, operands: list[str]) -> None:
         if name == "push":
-            self.stack.append(self.copies.get(operands[0]))
+            self.stack.append(operands[0] in self.copies)
         elif name in CALLS:
-            self.stack += [None, None]
+            self.stack += [False, False]
         elif name in ("ret", "reti"):
             del self.stack[-2:]
         elif name in ("out", "sts") and operands[0] in STACK_POINTER:
             self.stack.clear()
 
-    def change_registers(self, name: str, operands: list[str], flag: Known) -> None:
-        copy: Known = None
+    def change_registers(self, name: str, operands: list[str], is_clear: bool) -> None:
+        is_copy = False
         if name == "in" and operands[1] == SREG_IO or name == "lds" and operands[1] == SREG_DATA:
-            copy = flag
+            is_copy = is_clear
         elif name == "pop":
-            copy = self.stack.pop() if self.stack else None
+            is_copy = self.stack.pop() if self.stack else False
         elif name == "mov":
-            copy = self.copies.get(operands[1])
-        for register in changed_registers(name, operands):
-            self.copies.pop(register, None)
-        if copy is not None:
-            self.copies[operands[0]] = copy
+            is_copy = operands[1] in self.copies
+        self.copies -= changed_registers(name, operands)
+        if is_copy:
+            self.copies.add(operands[0])
 
 
 def changed_registers(name: str, operands: list[str]) -> set[str]:
@@ -102,14 +115,8 @@ def changed_registers(name: str, operands: list[str]) -> set[str]:
         found.update((operands[0], f"r{int(operands[0][1:]) + 1}"))
     elif name in ("lpm", "elpm") and not operands:
         found.add("r0")
+    elif name == "sts" and int(operands[0], 16) < REGISTERS_END:
+        found.add(f"r{int(operands[0], 16)}")
     elif name not in KEEPS_REGISTERS:
         found.update(operands[:1])
     return found
-
-
-def row_flag(flag: InterruptFlag, row: Row) -> None:
-    """Goes over one `instr` or `enter` row."""
-    if row.kind == "enter":
-        flag.enter()
-    else:
-        flag.execute(row.rest[5:])

@@ -14,8 +14,11 @@ from types import TracebackType
 from typing import Protocol
 
 from avrora_tools.errors import BadInput, CannotWork
+from avrora_tools.expectations import REFUSALS
+from avrora_tools.files import printable
 from avrora_tools.groups import Groups
-from avrora_tools.sweeping.events import EPOCH, Document, InputByte, Move, MovedScenario
+from avrora_tools.states import EPOCH
+from avrora_tools.sweeping.events import Document, InputByte, Move, MovedScenario
 
 Window = tuple[int, int]
 NO_WINDOW = (0, 0)
@@ -41,7 +44,8 @@ class Simulator:
         self.groups = Groups()
 
     def call(self, *words: str, runs: int = 1) -> bytes:
-        """What the program writes, which makes so many runs. Raises BadInput with what it says where it refuses its input."""
+        """What the program writes, which makes so many runs. Raises BadInput with what it says where it refuses its input, and
+        CannotWork where it fails or is killed."""
         streams = {"stdin": subprocess.DEVNULL, "stdout": subprocess.PIPE, "stderr": subprocess.PIPE}
         try:
             with self.groups.started([self.program, *words], cwd=self.folder, **streams) as process:
@@ -49,9 +53,16 @@ class Simulator:
         except subprocess.TimeoutExpired:
             raise CannotWork(f"a run took more than {self.timeout:g} seconds (--timeout)") from None
         if process.returncode:
-            said = errors.decode(errors="replace").strip() or f"status {process.returncode}"
-            raise BadInput(f"{' '.join(words[:1])}: {said}")
+            said = printable(errors.decode(errors="replace").strip())
+            if process.returncode in REFUSALS:
+                raise BadInput(f"{words[0]}: {said}")
+            raise CannotWork(f"avrora {words[0]}: {ending(process.returncode)}{f': {said}' if said else ''}")
         return output
+
+
+def ending(status: int) -> str:
+    """How a call ended that did not end well."""
+    return f"killed by signal {-status}" if status < 0 else f"status {status}"
 
 
 class ProcessTails:
@@ -66,8 +77,13 @@ class ProcessTails:
         self.state_path: str | None = None
         self.head = b""  # the rows before the state, where they are known
         self.begins_in_given_state = state is not None
+        self.threads: ThreadPoolExecutor | None = None  # of the runs that are asked for, while there are any
         if state is None and scenario.begins:
-            state = self.saved()
+            try:
+                state = self.saved()
+            except BaseException:
+                self.folder.cleanup()
+                raise
         if state is not None:
             self.state_path = os.path.join(self.folder.name, "state")
             with open(self.state_path, "wb") as file:
@@ -78,6 +94,7 @@ class ProcessTails:
         return self
 
     def __exit__(self, kind: type[BaseException] | None, fault: BaseException | None, trace: TracebackType | None) -> None:
+        self.end_runs()  # also where something else went wrong, and nobody closes what runs are asked by
         self.folder.cleanup()
 
     def saved(self) -> bytes:
@@ -122,17 +139,23 @@ class ProcessTails:
 
     def outputs(self, jobs: Iterable[tuple[Move, Window]]) -> Iterator[bytes]:
         waiting: deque[Future[list[bytes]]] = deque()
-        with ThreadPoolExecutor(self.jobs) as pool:
-            try:
-                for before, window, values in batches(jobs, MOST_IN_BATCH if self.sweeps else 1):
-                    waiting.append(pool.submit(self.batch, before, window, values))
-                    if len(waiting) > self.jobs:
-                        yield from waiting.popleft().result()
-                while waiting:
+        threads = self.threads = ThreadPoolExecutor(self.jobs)
+        try:
+            for before, window, values in batches(jobs, MOST_IN_BATCH if self.sweeps else 1):
+                waiting.append(threads.submit(self.batch, before, window, values))
+                if len(waiting) > self.jobs:
                     yield from waiting.popleft().result()
-            finally:
-                pool.shutdown(wait=False, cancel_futures=True)
-                self.simulator.groups.end_all()  # of runs that nobody asks for any more
+            while waiting:
+                yield from waiting.popleft().result()
+        finally:
+            self.end_runs()
+
+    def end_runs(self) -> None:
+        """Ends all runs that nobody asks for any more, and waits for their threads."""
+        if self.threads:
+            with self.simulator.groups.ended():
+                self.threads.shutdown(wait=True, cancel_futures=True)
+            self.threads = None
 
     def batch(self, before: Move, window: Window, values: list[int]) -> list[bytes]:
         if self.sweeps:

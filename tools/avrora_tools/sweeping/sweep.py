@@ -4,10 +4,11 @@ from collections.abc import Iterator, Mapping, Sequence
 from dataclasses import dataclass, field
 
 from avrora_tools.programs import Program
-from avrora_tools.states import State
+from avrora_tools.states import EPOCH, State
 from avrora_tools.sweeping import evidence
 from avrora_tools.sweeping.cells import CellMaker
-from avrora_tools.sweeping.events import EPOCH, InputByte, Move, MovedScenario
+from avrora_tools.sweeping.doubts import stack_doubt
+from avrora_tools.sweeping.events import InputByte, Move, MovedScenario
 from avrora_tools.sweeping.findings import Finding, Spots, findings
 from avrora_tools.sweeping.ordering import Clock, Enter, dividers, steps
 from avrora_tools.sweeping.plans import Cell, FirstLook, in_rounds
@@ -52,9 +53,20 @@ class Sweep:
         self.node = last.node if isinstance(last, InputByte) else last.hearer
         state = State.of_text(tails.state.decode(), "the state") if tails.state else None
         self.state = state
-        self.cells = list(CellMaker(tails, scenario, state).cells())
+        maker = CellMaker(tails, scenario, state, self.doubt() if isinstance(last, InputByte) else None)
+        self.cells = list(maker.cells())
+        self.doubts = list(maker.doubts)  # why each move is a class, where traces tell too little
+        self.stores = sorted(maker.stores)
         self.between: Mapping[int, str] = sharing.between if sharing else {}
         self.results = Results()
+
+    def doubt(self) -> str | None:
+        """Why traces of the node may not tell which arrivals make one execution."""
+        listing = self.tails.simulator.call("disasm", self.scenario.document["node"][self.node]["image"])
+        return stack_doubt(self.state.nodes[self.node] if self.state else None, listing.decode().splitlines())
+
+    def shown_address(self, address: int) -> str:
+        return self.program.place(address) if self.program else f"{address:04X}"
 
     def run(self, options: Options) -> Iterator[Results]:
         """Makes the runs, and tells after each what has come of them."""

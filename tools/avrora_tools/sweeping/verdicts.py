@@ -10,7 +10,7 @@ from typing import Protocol
 from avrora_tools import cases, expectations, files
 from avrora_tools.errors import BadInput
 from avrora_tools.sweeping.events import Move
-from avrora_tools.sweeping.rows import all_rows, writes, written
+from avrora_tools.sweeping.rows import all_rows, stops, writes, written
 from avrora_tools.traces import Row
 
 SHOWN = 60  # bytes of a text in a report
@@ -41,16 +41,23 @@ class Late:
 
 @dataclass(frozen=True)
 class SerialCheck:
-    """Each node writes to USART0 what it writes in the unmoved run, whenever that is."""
+    """Each node writes to USART0 what it writes in the unmoved run, whenever that is, and stops nowhere where it does not stop
+    there."""
 
     head: bytes  # the rows before the runs of the sweep begin
     good: dict[int, bytes]
     nodes: Collection[int]
     compare: Compare = Compare.BYTES
-    drop: bytes = b""  # a pattern of what may differ
+    drop: re.Pattern[bytes] | None = None  # what may differ
     good_at_last: Callable[[], Mapping[int, bytes]] | None = None  # what the unmoved run writes up to the scenario's end
+    good_stops: Mapping[int, str] = field(default_factory=dict)
+    good_before: Mapping[int, bytes] = field(default_factory=dict)  # what it writes before the first move
 
     def failure(self, move: Move, output: bytes) -> str | None:
+        stopped = stops((self.head, output))
+        for node in self.nodes:
+            if node in stopped and stopped[node] != self.good_stops.get(node):
+                return f"node {node} stopped by {stopped[node]}, and not so in the unmoved run"
         return self.failure_beside(self.good, output)
 
     def failure_beside(self, good: Mapping[int, bytes], output: bytes) -> str | None:
@@ -60,11 +67,21 @@ class SerialCheck:
                 return f"node {node} {wrong}"
         return None
 
+    def without_dropped(self, text: bytes) -> bytes:
+        return self.drop.sub(b"", text) if self.drop else text
+
     def difference(self, good: bytes, got: bytes) -> str | None:
-        good, got = (re.sub(self.drop, b"", text) if self.drop else text for text in (good, got))
+        good, got = map(self.without_dropped, (good, got))
         if self.compare is Compare.BYTES:
             return None if got == good else different_bytes(good, got)
         return different_parts(parts(self.compare, good), parts(self.compare, got))
+
+    def compares_nothing(self) -> bool:
+        """Whether the unmoved run writes nothing that a move could change, which is what comes from the first move on."""
+        return all(
+            self.without_dropped(self.good.get(node, b"")) == self.without_dropped(self.good_before.get(node, b""))
+            for node in self.nodes
+        )
 
     def late(self, output: bytes) -> Late | None:
         """Of a run that went on to the scenario's end: how what was missing came; None where something still is."""
@@ -124,7 +141,10 @@ class CaseCheck:
     case: cases.Case
 
     def failure(self, move: Move, output: bytes) -> str | None:
-        outcome = expectations.check(self.case, iter([self.head + output]), False, "the run")
+        try:
+            outcome = expectations.check(self.case, iter([self.head + output]), False, "the run")
+        except expectations.NoRoom as fault:  # this run has it, and others have not
+            return f"{fault.place}: between the rows that were found about it there is no room for what is never to come"
         return first_lines(outcome.failure) if outcome.failure else None
 
 
@@ -163,10 +183,10 @@ class PredicateCheck:
         moved = tuple(move[place] for place in self.events)
         try:
             said = self.predicate(Run(moved, list(all_rows(output)), written((self.head, output))))
-        except Exception as fault:  # whatever the user's function does
+        except (Exception, SystemExit) as fault:  # whatever the user's function does
             raise BadInput(f"check() of the predicate: {type(fault).__name__}: {fault}") from fault
-        if said is not None and not isinstance(said, str):
-            raise BadInput(f"check() of the predicate returned {said!r}: it is to be None, or a text that says what is wrong")
+        if said is not None and not (isinstance(said, str) and said.strip()):
+            raise BadInput(f"check() of the predicate returned {said!r}: it must be None, or a text that says what is wrong")
         return said
 
 
@@ -178,7 +198,7 @@ def predicate_of(path: str) -> Callable[[Run], str | None]:
     module = importlib.util.module_from_spec(spec)
     try:
         spec.loader.exec_module(module)
-    except Exception as fault:  # whatever the user's file does
+    except (Exception, SystemExit) as fault:  # whatever the user's file does
         raise BadInput(f"{files.shown(path)}: {type(fault).__name__}: {fault}") from None
     if not callable(getattr(module, "check", None)):
         raise BadInput(f"{files.shown(path)}: no function check(run)")
