@@ -250,7 +250,10 @@ def groups_of(place: str, table: Table, folder: str, files: Files, checks: list[
     elif "scenario" in table:
         path = os.path.join(folder, table["scenario"])
         scenario = parsed(read_named_text(path), path)
-        yield ScenarioGroup(place, name or stem(path), axes, check(shipped), scenario, os.path.dirname(path), ship)
+        group = ScenarioGroup(place, name or stem(path), axes, check(shipped), scenario, os.path.dirname(path), ship)
+        if ways:  # each is made and compared by itself
+            group.moved = None
+        yield group
     elif not read:
         raise BadInput(f"{place}: a run has a scenario, a network, draw, or cases whose sources are run")
     else:

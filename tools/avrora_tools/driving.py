@@ -216,8 +216,8 @@ class Driver:
         jobs, good = [], []
         for attempt in batch:
             try:
-                run = attempt.run
-                jobs.append((run.shipped(), run.group.check, run.images()))
+                # A second opinion is of a run by itself, whatever was made together with others.
+                jobs.append(attempt.run.job(bool(attempt.opinions) or attempt.number > 1))
                 good.append(attempt)
                 attempt.copies += 1
             except BadInput as fault:  # values that make no network
@@ -452,7 +452,7 @@ class Driver:
         """Workers differ, and there is no other one: this process makes the run itself."""
         assert attempt.opinions
         run = attempt.run
-        own = self.arbiter((run.shipped(), run.group.check, run.images())) if self.arbiter else None
+        own = self.arbiter(run.job(True)) if self.arbiter else None
         same = [worker for worker, other in attempt.opinions if own and verdict(other) == verdict(own)]
         for worker, other in attempt.opinions:
             if worker not in same:

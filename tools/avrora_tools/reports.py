@@ -4,13 +4,14 @@ import contextlib
 import itertools
 import json
 import operator
-import re
 import sqlite3
 from collections.abc import Callable, Iterable, Iterator, Sequence
 from typing import IO, Any
 
 from avrora_tools import comparisons, files, results, runs, terminal
 from avrora_tools.errors import BadWords
+from avrora_tools.showing import printable, printable_lines
+from avrora_tools.writing import Folder
 
 HEAD = ("name", "outcome", *runs.COUNTS, "seconds", "attempts", "host")
 LEFT = ("name", "outcome", "host")  # the columns whose text begins at the left
@@ -35,7 +36,7 @@ class Report:
         self.databases, self.top, self.reverse = databases, top, reverse
         self.by = by
         if by is not None and by not in results.COLUMNS and not any(map(self.has_parameter, databases)):
-            raise BadWords(f"no column and no parameter is called {files.printable(by)}")
+            raise BadWords(f"no column and no parameter is called {printable(by)}")
 
     def has_parameter(self, database: sqlite3.Connection) -> bool:
         row = database.execute("SELECT 1 FROM run WHERE json_type(parameters, ?) IS NOT NULL LIMIT 1", (self.path(),))
@@ -47,7 +48,7 @@ class Report:
 
     @property
     def name(self) -> str:
-        return self.about("name") or "campaign"
+        return printable(self.about("name") or "campaign")
 
     def about(self, key: str) -> str | None:
         found = self.databases[0].execute("SELECT value FROM about WHERE key = ?", (key,)).fetchone()
@@ -130,7 +131,7 @@ class Report:
         out.write(line_of(dict(zip(HEAD, ("run", *HEAD[1:]))), widths))
         for row in self.rows(where):
             out.write(line_of(row, widths))
-            for part in row["message"].splitlines()[:MESSAGE_LINES]:
+            for part in printable_lines(row["message"]).split("\n")[:MESSAGE_LINES] if row["message"] else ():
                 out.write(f"    {part}\n")
         out.write("\n" + "".join(f"{line}\n" for line in (self.closing_line(), *self.compared())))
 
@@ -164,12 +165,12 @@ class Report:
         with element(writer, "testsuites", {}), element(writer, "testsuite", suite):
             for row in self.rows(where):
                 words = {"name": row["name"], "classname": self.name, "time": f"{row['seconds']:.4f}"}
-                with element(writer, "testcase", {key: xml_text(value) for key, value in words.items()}):
+                with element(writer, "testcase", {key: printable(value) for key, value in words.items()}):
                     if row["outcome"] != runs.PASSED:
                         kind = "error" if row["outcome"] == runs.BROKEN else "failure"
-                        text = xml_text(row["message"])
+                        text = printable_lines(row["message"])
                         with element(writer, kind, {"type": row["outcome"], "message": text.partition("\n")[0]}):
-                            writer.characters(f"{text}\non {xml_text(row['host'])}")
+                            writer.characters(f"{text}\non {printable(row['host'])}")
                 writer.ignorableWhitespace("\n")
         writer.endDocument()
 
@@ -202,7 +203,7 @@ def line_of(row: dict[str, Any], widths: dict[str, int]) -> str:
     cells = []
     for column in HEAD:
         value = row[column]
-        text = "-" if value is None else f"{value:.2f}" if isinstance(value, float) else str(value)
+        text = "-" if value is None else f"{value:.2f}" if isinstance(value, float) else printable(str(value))
         cells.append(text.ljust(widths[column]) if column in LEFT else text.rjust(widths[column]))
     return "  ".join(cells).rstrip() + "\n"
 
@@ -214,16 +215,18 @@ def element(writer: Any, name: str, attributes: dict[str, str]) -> Iterator[None
     writer.endElement(name)
 
 
-def xml_text(text: str) -> str:
-    """A text without the characters that XML cannot have."""
-    return re.sub("[^\t\n\r\x20-\ud7ff\ue000-\ufffd\U00010000-\U0010ffff]", "?", text)
-
-
-def summaries(report: Report) -> dict[str, Callable[[IO[str]], None]]:
-    """By the name of a file beside the results what writes it: the table, the lines of JSON, the JUnit report."""
+def write_summaries(report: Report, folder: str | Folder) -> None:
+    """The table, the lines of JSON and the JUnit report in the folder of results."""
+    if isinstance(folder, str):
+        with Folder.named(folder) as opened:
+            write_summaries(report, opened)
+        return
     where = runs.OUTCOMES if report.outcomes().total() <= MOST_IN_SUMMARIES else runs.OUTCOMES[1:]
-    return {
-        "summary.txt": lambda out: report.write_table(out, where),
-        "summary.jsonl": lambda out: report.write_lines(out, where),
-        "junit.xml": lambda out: report.write_junit(out, where),
+    written: dict[str, Callable[[IO[str], Sequence[str]], None]] = {
+        "summary.txt": report.write_table,
+        "summary.jsonl": report.write_lines,
+        "junit.xml": report.write_junit,
     }
+    for name, write in written.items():
+        with folder.file(name, lasting=False) as file:
+            write(file, where)

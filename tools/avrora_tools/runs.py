@@ -1,8 +1,9 @@
 """Where a run of a campaign takes place: in a process of this machine, or in one of a machine that a worker of dask is on.
 
 A worker gets the simulator, the images and the cases once, as a shipment, and then batches of jobs. A job is the text of
-a scenario, whose images are names of files of the shipment, the index of the check by which it is judged, and images of its
-own by their names, which are all that it has where there are any.
+a scenario, whose images are names of files of the shipment, the index of the check by which it is judged, images of its
+own by their names, which are all that it has where there are any, and moves, or None: what arrives at a node in place of the
+scenario's input, and from the end of which epoch on. Jobs that differ in their moves alone are made by one process.
 
 An answer is a dictionary: `outcome` is one of the words below, `message` says why, `counts` has how many rows of each
 kind the trace has, `hash` is that of the trace, both None where there is no whole trace; `compared` has how much of it was
@@ -20,6 +21,7 @@ import dataclasses
 import gzip
 import hashlib
 import io
+import itertools
 import os
 import re
 import shutil
@@ -36,6 +38,8 @@ PROGRAM = "avrora"  # the simulator's name in a shipment
 
 # The files of a run, and the folder of the scenario and the images of one with images of its own.
 SCENARIO, TRACE, OUTPUT, OWN = "scenario.toml", "trace", "output", "own"
+MOVES, SWEPT_STATE = "moves", "swept.state"  # of runs that one process makes
+WORDS_OF_ONE_STRETCH = 4  # of a line of moves
 
 # All expectations are met; one is not; the scenario or an image is refused; the run came to no answer.
 PASSED, FAILED, REFUSED, BROKEN = "passed", "failed", "refused", "broken"
@@ -57,7 +61,8 @@ TELLING = (b" sent ", b" heard %d " % ONE_BYTE, b" heard %d " % CLASH, b" serial
 
 BLOCK = 1 << 16  # bytes that are looked at together
 
-Job = tuple[str, int, dict[str, bytes]]
+Moves = tuple[int, str]  # epochs before the first byte, and a line of what `avrora sweep` reads
+Job = tuple[str, int, dict[str, bytes], Moves | None]
 Answer = dict[str, Any]
 
 # What a worker runs before it gets a job. By the manual LDI takes one cycle and RJMP, here to itself, two: LDI in cycle 0,
@@ -121,6 +126,7 @@ class Shipment:
     timeout: int
     traces: str
     words: tuple[str, ...] = ("run", SCENARIO)
+    kinds: tuple[bytes, ...] = ()  # of the rows of a trace those are handed back that have one of these in them
 
 
 class Sick(Exception):
@@ -143,6 +149,8 @@ class Bench:
         self.folder = ""
         self.cases: dict[int, list[cases.Case]] = {}
         self.images: dict[str, bytes] = {}  # that are in the folder of a run's own
+        self.head: tuple[tuple[str, int], bytes] = (("", 0), b"")  # of a scenario's first epochs: their rows
+        self.state_name = SWEPT_STATE
         # For the trace of a run and for what it is compared with. They stay open, as many runs are as short as that takes.
         self.trace: io.FileIO
         self.output: io.FileIO
@@ -192,9 +200,10 @@ class Bench:
         answers: list[Answer] = []
         sick = None
         begun = time.monotonic()
-        for job in jobs:
+        for _, alike in itertools.groupby(jobs, lambda job: (job[:2], job[3] and job[3][0]) if job[3] else id(job)):
+            group = list(alike)
             try:
-                answers.append(self.run(job))
+                answers += self.swept(group) if group[0][3] else [self.run(group[0])]
             except Sick as fault:
                 sick = str(fault)
                 break
@@ -215,18 +224,23 @@ class Bench:
                 return f"its disk has {name} otherwise than it was sent"
         return None
 
-    def run(self, job: Job) -> Answer:
-        """Runs a job. Raises Sick where it is the worker that cannot."""
+    def run(self, job: Job, rows: bytes | None = None) -> Answer:
+        """Runs a job, or judges the rows that a process wrote for it beside others. Raises Sick where it is the worker that
+        cannot."""
         start, used = time.monotonic(), self.caller.processor
         try:
             comparisons.empty(self.trace)
             place = self.folder_for(job)
-            found = self.judged(job, place)
+            if rows is None:
+                found = self.judged(job, place)
+            else:
+                self.trace.write(rows)
+                found = self.checked_swept(job, place)
             if found["outcome"] in (FAILED, REFUSED) or job[2]:
                 self.confirm(job, place)
             keeps = self.shipment.traces
             if keeps == "all" or keeps == "failed" and found["outcome"] in (FAILED, BROKEN):
-                found["trace"] = packed(self.trace)
+                found["trace"] = packed(self.trace, self.shipment.kinds)
         except OSError as fault:
             found = answer(BROKEN, described(fault), again=True, trouble=True)
         except ToolError as fault:  # of a case that the client has read
@@ -241,9 +255,88 @@ class Bench:
         found["processor"] = round(self.caller.processor - used, 4)
         return found
 
+    def swept(self, jobs: Sequence[Job]) -> list[Answer]:
+        """Runs jobs that differ in their moves alone, by one process. Where that does not end well each is run by itself."""
+        start, used = time.monotonic(), self.caller.processor
+        try:
+            rows = self.swept_rows(jobs)
+        except (OSError, NoAnswer):
+            rows = None
+        if rows is None or len(rows) != len(jobs):
+            return [self.by_itself(job) for job in jobs]
+        share = (time.monotonic() - start) / len(jobs), (self.caller.processor - used) / len(jobs)
+        answers = []
+        for job, piece in zip(jobs, rows):
+            found = self.run(job, piece)
+            found["seconds"] = round(found["seconds"] + share[0], 4)
+            found["processor"] = round(found["processor"] + share[1], 4)
+            answers.append(found)
+        return answers
+
+    def swept_rows(self, jobs: Sequence[Job]) -> list[bytes] | None:
+        """The rows of each of such jobs, behind those that all have; None where the simulator refuses something."""
+        scenario, _, _, moves = jobs[0]
+        assert moves is not None
+        head = self.head_of(scenario, moves[0])
+        if head is None:
+            return None
+        with named(f"{self.folder}/{MOVES}"), open(f"{self.folder}/{MOVES}", "w", encoding="ascii") as file:
+            file.writelines(job[3][1] for job in jobs if job[3])
+        comparisons.empty(self.output)
+        status, _ = self.said_at_end(self.folder, ["sweep", SCENARIO, self.state_name, MOVES], self.output)
+        if status:
+            return None
+        self.output.seek(0)
+        pieces = swept_pieces(self.output.readall())
+        return pieces and [head + piece for piece in pieces]
+
+    def head_of(self, scenario: str, epochs: int) -> bytes | None:
+        """The rows before the epoch in which the first byte arrives, and the state there, which stay for the jobs behind; None
+        where the simulator refuses that."""
+        if self.shipment.words[0] == "resume":  # the state is in the shipment
+            self.write_scenario(self.folder, scenario)
+            self.state_name = self.shipment.words[-1]
+            return b""
+        key = (scenario, epochs)
+        if self.head[0] != key:
+            self.write_scenario(self.folder, scenario)
+            self.head = (("", 0), b"")
+            with open(f"{self.folder}/{SWEPT_STATE}", "wb", buffering=0) as state:
+                if self.said_at_end(self.folder, ["save", SCENARIO, str(epochs)], state)[0]:
+                    return None
+            comparisons.empty(self.output)
+            if self.said_at_end(self.folder, ["head", SCENARIO, str(epochs)], self.output)[0]:
+                return None
+            self.output.seek(0)
+            self.head = (key, self.output.readall())
+        else:
+            self.write_scenario(self.folder, scenario)
+        self.state_name = SWEPT_STATE
+        return self.head[1]
+
+    def by_itself(self, job: Job) -> Answer:
+        """Runs a job by a process of its own, with its moves as its scenario's input where that can say them."""
+        scenario, check, images, moves = job
+        if moves and len(moves[1].split()) == WORDS_OF_ONE_STRETCH:
+            return self.run((with_moves(scenario, moves[1]), check, images, None))
+        try:
+            rows = self.swept_rows([job])
+        except NoAnswer as end:
+            return end.answer
+        if rows is None or len(rows) != 1:
+            return answer(BROKEN, "the simulator refuses what arrives, or writes no whole trace", again=True)
+        return self.run(job, rows[0])
+
+    def checked_swept(self, job: Job, place: str) -> Answer:
+        """What the checks say of rows that are in the trace already."""
+        try:
+            return self.checked(job[1], job[0], place)
+        except NoAnswer as end:
+            return end.answer
+
     def confirm(self, job: Job, place: str) -> None:
         """Raises Sick where the disk has not what the simulator was to read in this run."""
-        scenario, _, images = job
+        scenario, _, images, _ = job
         wanted = {SCENARIO: scenario.encode(errors="surrogateescape"), **images}
         for name, content in wanted.items():
             with named(f"{place}/{name}"), open(f"{place}/{name}", "rb") as file:
@@ -256,7 +349,7 @@ class Bench:
 
     def folder_for(self, job: Job) -> str:
         """Where the simulator finds the images of a job, which it seeks from the folder that it works in."""
-        _, _, images = job
+        images = job[2]
         if not images:
             return self.folder
         place = f"{self.folder}/{OWN}"
@@ -291,7 +384,7 @@ class Bench:
 
     def judged(self, job: Job, place: str) -> Answer:
         """What came of the simulator and of the checks."""
-        scenario, check, _ = job
+        scenario, check = job[:2]
         self.write_scenario(place, scenario)
         try:
             status, said = self.said_at_end(place, self.shipment.words, self.trace)
@@ -419,13 +512,32 @@ def described(fault: OSError) -> str:
     return f"{fault.filename}: {fault.strerror}" if fault.filename else str(fault.strerror or fault)
 
 
-def packed(trace: io.FileIO) -> bytes:
-    """A file in gzip's format, without a time in it."""
+def packed(trace: io.FileIO, kinds: Sequence[bytes] = ()) -> bytes:
+    """A file in gzip's format, without a time in it; of its rows those with one of these in them."""
     trace.seek(0)
     out = io.BytesIO()
-    with gzip.GzipFile(fileobj=out, mode="wb", mtime=0) as file:
-        shutil.copyfileobj(trace, file)
+    with gzip.GzipFile(fileobj=out, mode="wb", mtime=0, compresslevel=1 if kinds else 6) as file:
+        if kinds:
+            rows = trace.readall().splitlines(keepends=True)
+            file.writelines(row for row in rows if any(kind in row for kind in kinds))
+        else:
+            shutil.copyfileobj(trace, file)
     return out.getvalue()
+
+
+def swept_pieces(output: bytes) -> list[bytes]:
+    """The rows of each run, of those of some: a run ends with its end rows, which are behind all others."""
+    ends = [match.end() for match in re.finditer(rb"^\d+ \d+ end [^\n]*\n(?!\d+ [1-9]\d* end )", output, re.MULTILINE)]
+    return [output[first:end] for first, end in zip([0, *ends], ends)] if ends and ends[-1] == len(output) else []
+
+
+def with_moves(scenario: str, line: str) -> str:
+    """A scenario in which what a line of moves says arrives at its node. The line has one stretch."""
+    node, at, every, digits = line.split()
+    table = f"[[input]]\nnode = {node}\nat = {at}\nevery = {every}\nhex = \"{digits}\"\n"
+    parts = re.split(r"(?m)^(?=\[\[)", scenario)
+    kept = [part for part in parts if not (part.startswith("[[input]]") and re.search(rf"(?m)^node = {node}$", part))]
+    return "".join([*kept, "\n", table])
 
 
 def looked_through(trace: io.FileIO) -> tuple[str, list[int]]:

@@ -18,9 +18,12 @@ from avrora_tools import campaign_keys, checkers, networks, scenarios, toml
 from avrora_tools.campaign_keys import Table, unknown
 from avrora_tools.errors import BadInput
 from avrora_tools.files import printable
+from avrora_tools.states import EPOCH
 
 # The name in the shipment of a file, which is then in it. Raises BadInput where the file cannot be read.
 Ship = Callable[[str], str]
+
+DEFAULT_EVERY = 7_680  # cycles from one byte of an input to the next
 
 # Of an axis with few values each is tried before the first run, so that a bad one is told at once.
 FEW_VALUES = 64
@@ -66,6 +69,13 @@ class Run:
     def images(self) -> dict[str, bytes]:
         """The images of this run alone, by the names that its scenario has for them; others are in the shipment."""
         return self.group.own_images(self.values)
+
+    def job(self, is_alone: bool = False) -> tuple[str, int, dict[str, bytes], tuple[int, str] | None]:
+        """The run for a worker (`runs.Job`). With `is_alone` it is not one of those that a process makes together."""
+        group = self.group
+        moves = None if is_alone else group.moves(self.values)
+        text = group.shipped(self.values) if moves is None else group.unmoved
+        return text, group.check, group.own_images(self.values), moves
 
     def recipe(self) -> str:
         """All that the scenario is made of, the content of its images too, as a text."""
@@ -133,6 +143,13 @@ class Group:
     def own_images(self, values: Sequence[Any]) -> dict[str, bytes]:
         return {}
 
+    unmoved = ""  # the scenario of all runs that differ in what arrives at a node
+
+    def moves(self, values: Sequence[Any]) -> tuple[int, str] | None:
+        """What arrives at the node that alone differs from run to run, and how many epochs end before any of it; None where
+        that is not all that differs."""
+        return None
+
     def recipe(self, values: Sequence[Any]) -> str:
         raise NotImplementedError
 
@@ -164,6 +181,9 @@ class ScenarioGroup(Group):
             if re.fullmatch(r"node\..*\.image", axis.key):
                 names = [value for value in axis.values if isinstance(value, str)]
                 self.images[index] = {value: shipped_image(value, folder, ship) for value in names}
+        self.moved = moved_of(network, axes)
+        if self.moved:
+            self.unmoved = self.shipped([axis.values[0] for axis in axes])
 
     def scenario(self, values: Sequence[Any]) -> str:
         return self.template.filled([value_text(value) for value in values])
@@ -176,6 +196,13 @@ class ScenarioGroup(Group):
         return self.shipped_template.filled(texts)
 
     recipe = shipped
+
+    def moves(self, values: Sequence[Any]) -> tuple[int, str] | None:
+        if self.moved is None:
+            return None
+        node, epochs, script = self.moved
+        at, every, digits = (values[it.axis] if isinstance(it, Slot) else it for it in script)
+        return epochs, f"{node} {at} {every} {digits}\n"
 
     def base(self) -> Any:
         return [self.shipped_template.pieces, sorted(self.images.items())]
@@ -233,6 +260,41 @@ def shown(value: Any) -> str:
     if isinstance(value, str):
         return value
     return str(value) if type(value) is int else json.dumps(value, separators=(",", ":"), default=str)
+
+
+def moved_of(network: Table, axes: Sequence[Axis]) -> tuple[int, int, list[Any]] | None:
+    """Where a scenario with slots differs in one node's input alone: that node, how many epochs end before any of its bytes,
+    and its script: the cycle of the first byte, the cycles to the next, and the bytes."""
+    tables = [table for table in network.get("input", ()) if any(isinstance(value, Slot) for value in table.values())]
+    if len(tables) != 1 or len({axis.key.rsplit(".", 1)[0] for axis in axes}) != 1 or not axes[0].key.startswith("input."):
+        return None
+    table = tables[0]
+    script = [table.get("at"), table.get("every", DEFAULT_EVERY), table.get("hex")]
+    allowed: list[Callable[[Any], bool]] = [is_cycle, is_every, is_hex]
+    values = [axes[it.axis].values if isinstance(it, Slot) else [it] for it in script]
+    if isinstance(table.get("node"), Slot) or not all(all(map(fits, of)) for fits, of in zip(allowed, map(ends_of, values))):
+        return None
+    cycles, epochs = network.get("cycles"), min(ends_of(values[0])) // EPOCH
+    if type(cycles) is not int or epochs < 1 or epochs * EPOCH >= cycles:
+        return None
+    return table["node"], epochs, script
+
+
+def ends_of(values: Sequence[Any]) -> Sequence[Any]:
+    """What all values of a range lie between, or all of a list."""
+    return (values[0], values[-1]) if isinstance(values, range) else values
+
+
+def is_cycle(value: Any) -> bool:
+    return type(value) is int and 0 <= value <= 2**40
+
+
+def is_every(value: Any) -> bool:
+    return type(value) is int and 1 <= value <= 65_535
+
+
+def is_hex(value: Any) -> bool:
+    return isinstance(value, str) and bool(re.fullmatch("([0-9A-Fa-f]{2})+", value)) and len(value) < 20_000
 
 
 def shipped_image(image: Any, folder: str, ship: Ship) -> Any:

@@ -84,7 +84,7 @@ class FakePool:
         for worker in [worker for worker in self.workers if worker.tickets and not events]:
             ticket, jobs = worker.tickets.popitem(last=False)
             self.batches[worker.name] += 1
-            numbers = [int(text) for text, _, _ in jobs]
+            numbers = [int(text) for text, *_ in jobs]
             if worker.name in self.sick and self.batches[worker.name] > 1:
                 events.append(pools.Done(worker, ticket, [], "the disk is full"))
             elif set(numbers) & set(self.killers):
@@ -120,11 +120,8 @@ class Run:
         self.number, self.name, self.group = number, f"run {number}", self
         self.check = 0
 
-    def shipped(self):
-        return str(self.number)
-
-    def images(self):
-        return {}
+    def job(self, is_alone=False):
+        return str(self.number), 0, {}, None
 
 
 class Sharing(unittest.TestCase):

@@ -11,7 +11,6 @@ from types import FrameType
 from avrora_tools import campaigns, cli, coverage, files, reports, results, runs, shipping, sittings, stored, terminal, watching
 from avrora_tools.campaigns import Campaign, Shard
 from avrora_tools.errors import BadInput, BadWords, Status
-from avrora_tools.writing import Folder
 
 SUMMARY = "many runs, and what came of them"
 
@@ -70,18 +69,11 @@ def run_all(campaign: Campaign, words: sittings.Words, arguments: argparse.Names
             sitting.progress.say(f"{line}; these runs were made again")
         store.drop_unbelieved()
         report = reports.Report([store.database])
-        write_summaries(report, store.folder)
+        reports.write_summaries(report, store.folder)
         report.print_table(sys.stdout, store.folder.path_of("summary.txt"))
         status = status_of(report)
         sitting.progress.note(f"the sitting ends with status {int(status)}: {report.closing_line()}")
     return status
-
-
-def write_summaries(report: reports.Report, folder: Folder) -> None:
-    """The table, the lines of JSON and the JUnit report in the folder of results."""
-    for name, write in reports.summaries(report).items():
-        with folder.file(name, lasting=False) as file:
-            write(file)
 
 
 def status_of(report: reports.Report) -> Status:
@@ -174,7 +166,7 @@ def merge(arguments: argparse.Namespace) -> int:
         count = coverage.merge(campaign, store, paths, arguments.adopt, terminal.say)
         store.note(**coverage.about_whole(campaign, store, paths))
         report = reports.Report([store.database])
-        write_summaries(report, store.folder)
+        reports.write_summaries(report, store.folder)
         terminal.say(f"{count:,} results of {len(paths):,} files are taken over")
         report.print_table(sys.stdout, store.folder.path_of("summary.txt"))
         return status_of(report)
