@@ -74,12 +74,13 @@ class Driver:
         distrust: Distrust = nothing_known,
         arbiter: Arbiter | None = None,
         longest: float = 600.0,
-        sample: int = SAMPLE,
+        sample: int | None = None,
         clock: Callable[[], float] = time.monotonic,
     ) -> None:
         """`longest` is what one run may take, with all that it is compared with."""
         self.pool, self.attempts, self.progress, self.save = pool, attempts, progress, save
-        self.distrust, self.arbiter, self.longest, self.sample, self.clock = distrust, arbiter, longest, sample, clock
+        self.distrust, self.arbiter, self.longest, self.clock = distrust, arbiter, longest, clock
+        self.sample = SAMPLE if sample is None else sample
         self.again: collections.deque[Attempt] = collections.deque()
         self.under_way: dict[int, Batch] = {}
         self.runs_under_way = 0

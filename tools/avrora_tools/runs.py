@@ -200,7 +200,8 @@ class Bench:
         answers: list[Answer] = []
         sick = None
         begun = time.monotonic()
-        for _, alike in itertools.groupby(jobs, lambda job: (job[:2], job[3] and job[3][0]) if job[3] else id(job)):
+        places = itertools.count()
+        for _, alike in itertools.groupby(jobs, lambda job: (*job[:2], job[3][0]) if job[3] else next(places)):
             group = list(alike)
             try:
                 answers += self.swept(group) if group[0][3] else [self.run(group[0])]
