@@ -10,7 +10,6 @@ import math
 import random
 import time
 from collections.abc import Callable, Iterable, Iterator
-from typing import Any
 
 from avrora_tools import pools, runs
 from avrora_tools.attempts import OWN, Attempt, Batch, Own, described, first_line, verdict
@@ -96,7 +95,8 @@ class Driver:
         self.seconds_a_run = 0.0
         self.next_look = 0.0
         self.is_at_end = False
-        self.named: set[Any] = set()  # workers of which it was told that they are slow
+        self.named: set[Worker] = set()  # workers of which it was told that they are slow
+        self.doubted: set[Worker] = set()  # that came to something else than others
 
     # ---- the loop
 
@@ -358,7 +358,10 @@ class Driver:
         if event.sick is not None and worker in self.workers:
             self.set_aside(worker, event.sick)
         for attempt, answer in zip(attempts, event.answers):
-            self.judge(attempt, answer, worker)
+            if worker in self.doubted:  # of what it said of others no more is believed
+                self.give_back([attempt])
+            else:
+                self.judge(attempt, answer, worker)
         self.give_back(attempts[len(event.answers) :])
         if self.troubles[worker] >= MOST_TROUBLES and worker in self.workers:
             self.set_aside(worker, f"{MOST_TROUBLES} runs failed on it one after another by no fault of theirs")
@@ -479,6 +482,7 @@ class Driver:
                 self.doubt(other, f"two others of {worker.machine} came to wrong answers")
 
     def doubt(self, worker: Worker, reason: str) -> None:
+        self.doubted.add(worker)
         if worker in self.workers:
             self.set_aside(worker, reason)
         dropped = self.distrust(worker.name)
