@@ -507,6 +507,7 @@ class Driver:
         """A run came to no answer on a worker, and to one elsewhere."""
         tally = self.tally(worker)
         tally.blamed += 1
-        if tally.blamed >= MOST_BLAMED and tally.blamed * BLAMED_OF > tally.runs and worker in self.workers:
+        is_bad = tally.blamed >= MOST_BLAMED and tally.blamed * BLAMED_OF > tally.runs
+        if is_bad and worker in self.workers and len(self.workers) > 1:
             late = f", {tally.timeouts} of them late" if tally.timeouts else ""
             self.set_aside(worker, f"{tally.blamed} runs came to no answer on it and to one elsewhere{late}")

@@ -27,17 +27,20 @@ if os.environ.get("CAMPAIGN_ONE"):
 if sickness:
     count = len(os.listdir(f"{{place}}/counts"))
     open(f"{{place}}/counts/{{os.getpid()}}", "w").close()
+    if count < int(os.environ.get("CAMPAIGN_AFTER", 0)):
+        sickness = ""
+every = int(os.environ.get("CAMPAIGN_EVERY", 3))
 time.sleep(0.02)
 sent, instructions = "AA", 10
-if sickness == "lie" and count % 3 == 0:
+if sickness == "lie" and count % every == 0:
     sent = "AB"
-if sickness == "quiet lie" and count % 3 == 0:
+if sickness == "quiet lie" and count % every == 0:
     instructions = 11
-if sickness == "hang" and count % 3 == 0:
+if sickness == "hang" and count % every == 0:
     time.sleep(3600)
 if sickness == "memory":
     sys.exit(6)
-if sickness == "refuse" and count % 3 == 0:
+if sickness == "refuse" and count % every == 0:
     sys.exit(sys.stderr.write("avrora: scenario.toml: scenario refused: OutOfRange\\n") and 4)
 if sickness == "image":
     for name in os.listdir("."):
@@ -65,8 +68,8 @@ SICKNESSES = {
     "no ends": "is set aside: 3 runs failed on it one after another by no fault of theirs",
     "lie": "is set aside: it came to failed",
     "quiet lie": "is set aside: it came to passed, trace",
-    "hang": "is set aside: 3 runs came to no answer on it and to one elsewhere, [0-9]+ of them late",
-    "memory": "is set aside: 3 runs came to no answer on it and to one elsewhere",
+    "hang": "is set aside: [0-9]+ runs came to no answer on it and to one elsewhere, [0-9]+ of them late",
+    "memory": "is set aside: [0-9]+ runs came to no answer on it and to one elsewhere",
     "refuse": "is set aside: it came to refused",
     "image": "is set aside: its disk has [0-9a-f]{64}.hex otherwise than it was sent",
     "freeze": "has had [0-9]+ runs for [0-9]+ s; they are begun elsewhere too",
@@ -75,7 +78,7 @@ SICKNESSES = {
 COUNT = 40
 FIRST = 100
 CAMPAIGN = f"""attempts = 3
-timeout = 2
+timeout = TIMEOUT
 [[run]]
 scenario = "net.toml"
 expect = "net.expect"
@@ -83,6 +86,12 @@ expect = "net.expect"
 latency = {{ from = {FIRST}, to = {FIRST + COUNT - 1} }}
 """
 CASE = "* 0 sent AA\n"
+
+
+def campaign(sickness):
+    """A run that hangs is waited for; any other may take as long as a busy machine makes it."""
+    return CAMPAIGN.replace("TIMEOUT", "10" if sickness == "hang" else "600")
+
 
 
 @contextlib.contextmanager
