@@ -84,7 +84,7 @@ class Folder:
     def run(self, which, runs, *words):
         """Runs a campaign anew; the processor times of the client, of its children, and of the program, in seconds."""
         used = self.path / "used"
-        words = [sys.executable, "-B", "-c", CLIENT, TOOLS, used, "--anew", "--avrora", self.program, *words]
+        words = [sys.executable, "-B", "-c", CLIENT, TOOLS, used, "--anew", "--run-code", "--avrora", self.program, *words]
         words.append(self.campaign(which, runs))
         done = subprocess.run(words, stdout=subprocess.PIPE, stderr=subprocess.STDOUT, text=True, check=False)
         if done.returncode:

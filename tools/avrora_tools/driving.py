@@ -206,8 +206,10 @@ class Driver:
     def may_have(self, worker: Worker, attempt: Attempt) -> bool:
         """Whether a worker may get a run that is begun again: no worker that it is to avoid, and of another machine where
         there is one, as long as there is hope of that."""
-        if not attempt.avoid or len(self.workers) == 1:
+        if not attempt.avoid:
             return True
+        if len(self.workers) == 1:  # nobody confirms himself where others may yet come
+            return not attempt.opinions or not self.pool.unproved()
         if worker in attempt.avoid:
             return self.clock() - attempt.since > OTHER_SECONDS and not attempt.opinions
         machines = {it.machine for it in attempt.avoid if it in self.workers}
@@ -432,7 +434,9 @@ class Driver:
         if len(same) > 1:
             self.agreed(attempt, answer, same)
             return
-        is_other = len(opinions) == 1 or any(all(it is not known for known, _ in opinions) for it in self.workers)
+        is_other = any(all(it is not known for known, _ in opinions) for it in self.workers) or bool(self.pool.unproved())
+        if len(opinions) == 1 and not self.arbiter:
+            is_other = True  # the same one, where there is no other
         if is_other and len(opinions) < MOST_OPINIONS:
             if not attempt.copies:
                 self.put_again(attempt, worker)

@@ -33,8 +33,11 @@ def main() -> None:
     lock = threading.Lock()
 
     def send(message: Any) -> None:
-        with lock:
-            connection.send(message)
+        try:
+            with lock:
+                connection.send(message)
+        except OSError:  # nobody is there who listens
+            os.killpg(0, signal.SIGKILL)
 
     def listen() -> None:
         """Takes what comes at once, so that nobody waits for this worker; and ends it, and the simulator that it runs,

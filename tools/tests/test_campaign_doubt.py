@@ -94,6 +94,29 @@ def test_no_failure_is_told_of_one_worker_alone():
     assert not wrong(found)
 
 
+class Late(Answering):
+    """The worker that lies proves itself first, and the others some runs later."""
+
+    def __init__(self, names, *words):
+        super().__init__(names, *words)
+        self.late, self.events = self.events[:-1], self.events[-1:]
+
+    def unproved(self):
+        return [event.worker.name for event in self.late]
+
+    def wait(self, seconds):
+        found = super().wait(seconds)
+        if self.waits == 20:
+            found, self.late = found + self.late, []
+        return found
+
+
+def test_nobody_confirms_himself():
+    found, said = driven(Late("abd", {"d": -1}, runs.FAILED), 400, arbiter=lambda job: pytest.fail("there are others"))
+    assert not wrong(found)
+    assert any(text.startswith("the worker d is set aside: it came to failed") for text in said)
+
+
 def test_two_that_differ_and_nobody_else():
     """It is no verdict."""
     found, _ = driven(Answering("ab", {"b": 0}, runs.FAILED), 3)
