@@ -465,6 +465,11 @@ class Driver:
         for worker, other in attempt.opinions:
             if worker not in same:
                 self.note_try(attempt, worker, described(other))
+        if own is not None and not same and len(attempt.opinions) == 1 and own["outcome"] in runs.FINAL:
+            ((worker, other),) = attempt.opinions  # one against this process, which the user chose
+            self.settle(attempt, own, None, OWN)
+            self.was_wrong(worker, attempt, other, own)
+            return
         if own is None or not same:
             said = "; ".join(f"{worker.name}: {described(other)}" for worker, other in attempt.opinions)
             broken = runs.answer(runs.BROKEN, f"it came out otherwise each time: {said}")
@@ -499,7 +504,7 @@ class Driver:
     def settle(self, attempt: Attempt, answer: runs.Answer, worker: Worker | None, second: "Worker | Own | None") -> None:
         attempt.is_settled = True
         self.progress.count(answer["outcome"])
-        name = worker.name if worker else ""
+        name = worker.name if worker else second.name if second else ""
         self.save(attempt, answer, name, second.name if second else None)
         if answer["outcome"] != runs.PASSED:
             self.progress.not_passed(attempt.run.name, answer, name)

@@ -201,7 +201,7 @@ class Bench:
         sick = None
         begun = time.monotonic()
         places = itertools.count()
-        for _, alike in itertools.groupby(jobs, lambda job: (*job[:2], job[3][0]) if job[3] else next(places)):
+        for _, alike in itertools.groupby(jobs, lambda job: repr(job[:2]) + str(job[3][0]) if job[3] else str(next(places))):
             group = list(alike)
             try:
                 answers += self.swept(group) if group[0][3] else [self.run(group[0])]

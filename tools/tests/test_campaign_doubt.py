@@ -119,7 +119,7 @@ def test_nobody_confirms_himself():
 
 def test_two_that_differ_and_nobody_else():
     """It is no verdict."""
-    found, _ = driven(Answering("ab", {"b": 0}, runs.FAILED), 3)
+    found, _ = driven(Answering("ab", {"b": 0}, runs.FAILED), 30)
     assert {outcome for outcome, *_ in found.values()} == {runs.PASSED, runs.BROKEN}
 
 
