@@ -151,7 +151,7 @@ class TheReport(unittest.TestCase):
             suite = xml.etree.ElementTree.parse(f"{path}/junit.xml").getroot().find("testsuite")
             self.assertEqual((suite.get("tests"), suite.get("failures"), suite.get("errors")), ("3", "1", "1"))
             failed, broken, passed = suite.findall("testcase")
-            self.assertEqual(failed.find("failure").get("message"), "first <&?")
+            self.assertEqual(failed.find("failure").get("message"), "first <&\\x01")
             self.assertIn("second\non host", broken.find("error").text)
             self.assertEqual((passed.get("name"), len(passed)), ("net latency=40", 0))
 
